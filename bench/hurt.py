@@ -449,6 +449,13 @@ def long_path_carried(size, _prints):
     return module([carried("p", [instance(functions), import_instance("c:d/" + "a" * (size // 2), 0)])])
 
 
+def long_path_twice(size, _prints):
+    """two sections of one interface under a path of a quarter of the bytes, with functions in the rest"""
+    functions = [FUNC] + [export_func(f"f{k}", 0) for k in range(size // 48)]
+    out = [instance(functions), import_instance("c:d/" + "a" * (size // 4), 0)]
+    return module([carried("p", out), carried("q", out)])
+
+
 def collide_carried(size, _prints):
     """two sections of functions whose names collide in a table that is hashed without a key"""
     part = carried("p", [FUNC] + [import_func(x, 0) for x in colliding(size)])
@@ -472,7 +479,7 @@ SHAPES = [
     *((make, BOTH) for make in (collide_types, collide_functions, collide_imports, collide_paths, collide_fields)),
     *((make, (PRINT,)) for make in (components_nested, instances_nested, counts, customs, empty_sections)),
     *((make, (BOUND,)) for make in (same_world, imports_twice, worlds_apart, growing, grown_package, grown_versions, same_interface, inline_twice,
-                                    long_path_carried, collide_carried)),
+                                    long_path_carried, long_path_twice, collide_carried)),
     *((make, (STRIP,)) for make in (towers_twice, pairs_merged, other_sections)),
 ]
 # What no program can do in linear time, and why.

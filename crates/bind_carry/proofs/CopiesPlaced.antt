@@ -1,13 +1,13 @@
 -- Where copies of types stand, under the numbers that all types have.
-use Rattle.std.proofs.Common.{◌≡◌, ◌⊎◌, inl, inr, refl, sym, ap, subst, ◌∙◌, ℕ, zero, suc, ◌+◌, ◌≤◌, ◌<◌, arith, true, List, [], ◌∷◌, ◌++◌, length, map, Option, Some, None, slice_get, unwrap_or, append_assoc}
-use Rattle.std.proofs.lemmas.List.{length_push as length_behind}
-use Rattle.std.specs.List.{AllZip}
-use Rattle.wit_model.specs.declared.model.{TypeDef.TypeDef, TypeOwner.TypeOwner}
-use Rattle.bind_copy.specs.Copies.{number_under, IsTypeUnder}
+use Rattle.base_lemmas.proofs.{Lists.mapped_get as mapped_at, Numbers.equal_or_past}
+use Rattle.bind_carry.specs.{Fates.AreCopied, Fates.IsCopiedType, Fates.copied_types, Fates.copies, Fates.numbers_by, Fates.stood, First.flag_under}
+use Rattle.bind_carry.specs.{Numbers.copied_count, Numbers.numbers_of, Renumbered.is_copied, TooLong.copies_of, declared.fate.Fate.Fate}
+use Rattle.bind_copy.specs.Copies.{IsTypeUnder, number_under}
 use Rattle.bind_union.proofs.Lists.{no_true}
-use Rattle.bind_carry.specs.{Fates.copied_types, Fates.copies, Fates.numbers_by, Fates.AreCopied, Fates.IsCopiedType, First.flag_under, Renumbered.is_copied}
-use Rattle.bind_carry.specs.declared.fate.Fate.{Fate}
-use Rattle.base_lemmas.proofs.Numbers.{equal_or_past}
+use Rattle.std.proofs.Common.{Bool, List, None, Option, Some, [], ap, append_assoc, arith, false, inl, inr, length, map, refl, slice_get, subst, suc, sym, true, unwrap_or, zero, ℕ, ◌++◌, ◌+◌, ◌<◌, ◌∙◌, ◌∷◌, ◌≡◌, ◌≤◌, ◌⊎◌}
+use Rattle.std.proofs.lemmas.List.{length-append, length-map, length_push as length_behind}
+use Rattle.std.specs.{List.AllZip, Option.option_map_or}
+use Rattle.wit_model.specs.declared.model.{TypeDef.TypeDef, TypeOwner.TypeOwner}
 use Rattle.bind_carry.specs.declared.fate.Fate.TheVariants as fate
 
 -- ---- lists
@@ -84,54 +84,74 @@ pub copy_placed : (own : List TypeDef) (numbers : List ℕ) (types : List TypeDe
 copy_placed own numbers types fates old new rest is n home t at_f at_t =
     subst (λ l. IsPlaced numbers home t l (number_under numbers n)) (sym whole)
     (subst (λ ns. IsPlaced numbers home t ((own ++ old) ++ (is.more ++ rest)) (number_under ns n)) (sym is.numbers_are)
-    (placed numbers types fates is.more is.copied (length own + length old) (own ++ old) rest (sym (both_lengths own)) n home t at_f at_t))
+    (placed numbers types fates is.more is.copied (length own + length old) (own ++ old) rest (sym (length-append own old)) n home t at_f at_t))
   where
     whole : own ++ (new ++ rest) ≡ (own ++ old) ++ (is.more ++ rest)
     whole = ap (λ l. own ++ (l ++ rest)) is.behind ∙ (ap (λ l. own ++ l) (append_assoc old is.more rest) ∙ sym (append_assoc own old (is.more ++ rest)))
 
-    both_lengths : (xs : List TypeDef) → length (xs ++ old) ≡ length xs + length old
-    both_lengths [] = omega arith
-    both_lengths (x ∷ xs) = let r = both_lengths xs in omega (arith, r)
-
 -- ---- numbers
+
+-- each of so many has a number
+pub numbers_long : (first : ℕ) (bs : List Bool) (ns : List ℕ) → length bs ≡ length ns → length bs ≡ length (numbers_of first bs ns)
+numbers_long first [] ns long = refl
+numbers_long first (b ∷ bs) [] long = absurd (omega (arith, long))
+numbers_long first (true ∷ bs) (n ∷ ns) long = let r = numbers_long (first + 1) bs ns (omega (arith, long)) in omega (arith, r)
+numbers_long first (false ∷ bs) (n ∷ ns) long = let r = numbers_long first bs ns (omega (arith, long)) in omega (arith, r)
+
+-- what isn't copied keeps the number that it had
+pub uncopied_under : (first : ℕ) (flags : List Bool) (others : List ℕ) (n : ℕ) → length flags ≡ length others → flag_under flags n ≡ false
+    → number_under (numbers_of first flags others) n ≡ number_under others n
+uncopied_under first [] [] n long h = refl
+uncopied_under first [] (o ∷ os) n long h = absurd (omega (arith, long))
+uncopied_under first (b ∷ bs) [] n long h = absurd (omega (arith, long))
+uncopied_under first (true ∷ bs) (o ∷ os) zero long h = let wrong : ⊥ = cc in absurd wrong
+uncopied_under first (true ∷ bs) (o ∷ os) (suc n) long h = uncopied_under (first + 1) bs os n (omega (arith, long)) h
+uncopied_under first (false ∷ bs) (o ∷ os) zero long h = refl
+uncopied_under first (false ∷ bs) (o ∷ os) (suc n) long h = uncopied_under first bs os n (omega (arith, long)) h
+
+-- copies are numbered from the first on
+pub copied_behind : (first : ℕ) (flags : List Bool) (others : List ℕ) (n : ℕ) → length flags ≡ length others → flag_under flags n ≡ true → first ≤ number_under (numbers_of first flags others) n
+copied_behind first [] others n long h = no_true h
+copied_behind first (b ∷ bs) [] n long h = absurd (omega (arith, long))
+copied_behind first (true ∷ bs) (o ∷ os) zero long h = omega arith
+copied_behind first (true ∷ bs) (o ∷ os) (suc n) long h = let r = copied_behind (first + 1) bs os n (omega (arith, long)) h in omega (arith, r)
+copied_behind first (false ∷ bs) (o ∷ os) zero long h = no_true h
+copied_behind first (false ∷ bs) (o ∷ os) (suc n) long h = copied_behind first bs os n (omega (arith, long)) h
+
+-- each number from the first on, as far as those go whose flags are set, is one's
+pub kept_from : (start : ℕ) (flags : List Bool) (others : List ℕ) (n : ℕ) → length flags ≡ length others → start ≤ n → n < start + copied_count flags
+    → (m : ℕ) × (flag_under flags m ≡ true) × (number_under (numbers_of start flags others) m ≡ n)
+kept_from start [] others n long low high = absurd (omega (arith, low, high))
+kept_from start (b ∷ bs) [] n long low high = absurd (omega (arith, long))
+kept_from start (false ∷ bs) (o ∷ os) n long low high = let r = kept_from start bs os n (omega (arith, long)) low high in (suc r.0, r.1, r.2)
+kept_from start (true ∷ bs) (o ∷ os) n long low high = go (equal_or_past start n low) (λ l. kept_from (start + 1) bs os n (omega (arith, long)) l (omega (arith, high)))
+  where
+    go : (start ≡ n) ⊎ (start + 1 ≤ n) → (start + 1 ≤ n → (m : ℕ) × (flag_under bs m ≡ true) × (number_under (numbers_of (start + 1) bs os) m ≡ n))
+        → (m : ℕ) × (flag_under (true ∷ bs) m ≡ true) × (number_under (numbers_of start (true ∷ bs) (o ∷ os)) m ≡ n)
+    go (inl e) rest = (zero, refl, e)
+    go (inr l) rest = let r = rest l in (suc r.0, r.1, r.2)
+
+-- ---- numbers of types
+
+-- each has a flag, and what it stands for
+each_flagged : (fates : List Fate) → length (map copies fates) ≡ length (map stood fates)
+each_flagged fates = length-map fates copies ∙ sym (length-map fates stood)
 
 -- as many numbers as fates
 pub numbers_by_long : (first : ℕ) (fates : List Fate) → length (numbers_by first fates) ≡ length fates
-numbers_by_long first [] = refl
-numbers_by_long first (fate.Left ∷ fs) = ap suc (numbers_by_long first fs)
-numbers_by_long first (fate.Stands k ∷ fs) = ap suc (numbers_by_long first fs)
-numbers_by_long first (fate.Copied home ∷ fs) = ap suc (numbers_by_long (first + 1) fs)
+numbers_by_long first fates = sym (numbers_long first (map copies fates) (map stood fates) (each_flagged fates)) ∙ length-map fates copies
 
 -- a type that stands for one has its number
 pub stands_under : (first : ℕ) (fates : List Fate) (n k : ℕ) → slice_get fates n ≡ Some (fate.Stands k) → number_under (numbers_by first fates) n ≡ k
-stands_under first [] n k e = nothing_there (fate.Stands k) e
-stands_under first (fate.Left ∷ fs) zero k e = let wrong : ⊥ = cc in absurd wrong
-stands_under first (fate.Left ∷ fs) (suc n) k e = stands_under first fs n k e
-stands_under first (fate.Stands m ∷ fs) zero k e = let same : m ≡ k = cc in same
-stands_under first (fate.Stands m ∷ fs) (suc n) k e = stands_under first fs n k e
-stands_under first (fate.Copied home ∷ fs) zero k e = let wrong : ⊥ = cc in absurd wrong
-stands_under first (fate.Copied home ∷ fs) (suc n) k e = stands_under (first + 1) fs n k e
+stands_under first fates n k e =
+    uncopied_under first (map copies fates) (map stood fates) n (each_flagged fates) (flag_is_copied fates n ∙ ap (λ o. option_map_or copies o false) e)
+    ∙ ap (λ o. unwrap_or o 0) (mapped_at stood fates n (fate.Stands k) e)
 
 -- a copy's number is the first or past it
 pub copied_past : (first : ℕ) (fates : List Fate) (n : ℕ) → is_copied fates n ≡ true → first ≤ number_under (numbers_by first fates) n
-copied_past first [] n h = no_true h
-copied_past first (fate.Left ∷ fs) zero h = no_true h
-copied_past first (fate.Left ∷ fs) (suc n) h = copied_past first fs n h
-copied_past first (fate.Stands k ∷ fs) zero h = no_true h
-copied_past first (fate.Stands k ∷ fs) (suc n) h = copied_past first fs n h
-copied_past first (fate.Copied home ∷ fs) zero h = omega arith
-copied_past first (fate.Copied home ∷ fs) (suc n) h = let r = copied_past (first + 1) fs n h in omega (arith, r)
+copied_past first fates n h = copied_behind first (map copies fates) (map stood fates) n (each_flagged fates) (flag_is_copied fates n ∙ h)
 
 -- each number from the first copy on, as far as copies go, is a copy's
-pub copied_from : (first : ℕ) (types : List TypeDef) (fates : List Fate) (n : ℕ) → first ≤ n → n < first + length (copied_types types fates) → (m : ℕ) × (is_copied fates m ≡ true)
-    × (number_under (numbers_by first fates) m ≡ n)
-copied_from first [] fates n low high = absurd (omega (arith, low, high))
-copied_from first (t ∷ ts) [] n low high = absurd (omega (arith, low, high))
-copied_from first (t ∷ ts) (fate.Left ∷ fs) n low high = let r = copied_from first ts fs n low high in (suc r.0, r.1, r.2)
-copied_from first (t ∷ ts) (fate.Stands k ∷ fs) n low high = let r = copied_from first ts fs n low high in (suc r.0, r.1, r.2)
-copied_from first (t ∷ ts) (fate.Copied home ∷ fs) n low high = go (equal_or_past first n low) (λ l. copied_from (first + 1) ts fs n l (omega (arith, high)))
-  where
-    go : (first ≡ n) ⊎ (first + 1 ≤ n) → (first + 1 ≤ n → (m : ℕ) × (is_copied fs m ≡ true) × (number_under (numbers_by (first + 1) fs) m ≡ n))
-        → (m : ℕ) × (is_copied (fate.Copied home ∷ fs) m ≡ true) × (number_under (numbers_by first (fate.Copied home ∷ fs)) m ≡ n)
-    go (inl e) rest = (zero, refl, e)
-    go (inr l) rest = let r = rest l in (suc r.0, r.1, r.2)
+pub copied_from : (first : ℕ) (fates : List Fate) (n : ℕ) → first ≤ n → n < first + copies_of fates → (m : ℕ) × (is_copied fates m ≡ true) × (number_under (numbers_by first fates) m ≡ n)
+copied_from first fates n low high =
+    let r = kept_from first (map copies fates) (map stood fates) n (each_flagged fates) low high in (r.0, sym (flag_is_copied fates r.0) ∙ r.1, r.2)

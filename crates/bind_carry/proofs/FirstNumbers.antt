@@ -1,48 +1,47 @@
 -- Worlds that are carried by path have numbers of their own, and packages stand in packages of their names.
-use Rattle.std.proofs.Common.{rules as std_rules, ◌≡◌, ◌⊎◌, inl, inr, refl, sym, ap, subst, ◌∙◌, ℕ, zero, suc, ◌+◌, ◌<◌, arith, Bool, true, false, not, ◌&&◌, ◌||◌, List, [], ◌∷◌, ◌++◌, length, map, Option, Some, None, is_some, option_map, slice_get, unwrap_or}
-use Rattle.std.proofs.lemmas.{List.length-map, Option.slice_get_within, List.Folds.list_all-map}
-use Rattle.std.specs.{Prelude.String, HashMap.get_by_text, List.list_all, List.Contains}
-use Rattle.std.specs.declared.alloc.Global.{Global}
-use Rattle.indexmap.specs.IndexMap.{values}
-use Rattle.wit_model.specs.declared.model.{Interface.Interface, InterfaceId.InterfaceId, Resolve.Resolve, TypeDef.TypeDef, TypeId.TypeId, WorldId.WorldId}
-use Rattle.wit_model.specs.{Lookup.interface_at, Lookup.interface_path, Lookup.type_at, Parts.same_owner}
-use Rattle.wit_model.specs.{Meaning.InterfaceSense, Uses.has, Valid.IsValid, Valid.as_interface, Valid.is_place, Valid.numbers_in_range, Valid.order_of_types}
-use Rattle.wit_model.specs.{Meant.interface_meaning, Meant.type_meaning_at, Text.Text, Text.optional_text, Text.text_of}
-use Rattle.wit_model.specs.Rules.{are_in_order, function_in_range, in_list, interface_type_numbers, is_named_of, package_number, passes}
-use Rattle.wit_model.proofs.{OnePath.found-in, OnePath.interface-passes, PartsLemmas.owner_same as owner_equal}
+use Rattle.base_lemmas.proofs.{Bools.left_of as first_true, Bools.right_of as second_true, Elements.all_two, Lists.within_there, Options.there as some_of}
+pub use Rattle.bind_carry.proofs.CopiesPlaced.{uncopied_under}
+use Rattle.bind_carry.proofs.CopiesPlaced.{copied_behind, flag_is_copied, numbers_by_long, stands_under}
+use Rattle.bind_carry.proofs.FirstInterfaces.{adds_interface, copy_stands, excluded, final_stands, first_types, home_number, named_carried, owned_copied}
+use Rattle.bind_carry.proofs.{FirstInterfaces.parts_of, FirstInterfaces.stood_how, KeptPlaced.kept_placed, Marking.AreWorldsBelow}
+use Rattle.bind_carry.proofs.{Marking.are_chosen, PassedTypes.carried_within, Ranges.shown_below}
+use Rattle.bind_carry.specs.{Fates.AreCopied, Fates.copies, Fates.is_carried, Fates.numbers_by, Fates.stood, First.first_fates, First.flag_under}
+use Rattle.bind_carry.specs.{InRange.IsInRange, Listed.given_interface, Listed.type_named, Marked.AreChosen, MatchedSame.AreMatchedAt, MatchedSame.IsMatchedAt}
+use Rattle.bind_carry.specs.{MatchedSame.NoneOfPath, Numbers.interface_number, Numbers.numbers_of, Numbers.world_number, Renumbered.first_of}
+use Rattle.bind_carry.specs.{Renumbered.is_copied, Renumbered.is_matched, Which.AreMatchedAll, Which.IsNumbered, Whole.IsInterfaceCarried, Whole.home_under}
+use Rattle.bind_carry.specs.{Whole.kept, declared.fate.Fate.Fate, declared.plan.Carried.Carried}
 use Rattle.bind_copy.specs.Copies.{number_under}
-use Rattle.bind_union.specs.{Carried.carries_owner, Carried.IsInterface, Carried.IsType, Carried.Renumbering, Carried.Rises, Merged.BeginsWith}
-use Rattle.bind_union.specs.Matching.{type_names, AreMatched, IsMatch}
-use Rattle.bind_union.proofs.{Listed.found_by_text, Listed.under_text, Lists.no_true, MatchedStand.matched_stand, MatchedStand.numbers_rise, Homes.apart}
-use Rattle.bind_union.proofs.Namesakes.{found_same, home_listed, listed_type, matches_are_namesakes, meaning_under, number_listed, numbers_are as numbers_are_of, under_contains, IsListedType}
-use Rattle.bind_carry.specs.{Fates.is_carried, Fates.numbers_by, Fates.AreCopied, MatchedSame.AreMatchedAt, MatchedSame.IsMatchedAt, MatchedSame.NoneOfPath}
-use Rattle.bind_carry.specs.{First.first_fates, First.flag_under, Renumbered.first_of, Renumbered.is_copied, Renumbered.is_matched}
-use Rattle.bind_carry.specs.{Listed.given_interface, Listed.type_named, Marked.AreChosen, Numbers.interface_number, Numbers.numbers_of, Numbers.world_number}
-use Rattle.bind_carry.specs.declared.{fate.Fate.Fate, plan.Carried.Carried}
-use Rattle.bind_carry.proofs.CopiesPlaced.{stands_under}
-use Rattle.bind_carry.proofs.FirstInterfaces.{excluded, final_stands, first_types, named_carried, owned_copied, stood_how}
-use Rattle.base_lemmas.proofs.{Bools.left_of as first_true, Bools.right_of as second_true, Elements.all_two}
+use Rattle.bind_match.specs.declared.matches.Matches.{Matches}
+use Rattle.bind_union.proofs.{Homes.apart, Listed.found_by_text, Listed.under_text, Lists.no_true, MatchedStand.matched_stand, MatchedStand.numbers_rise}
+use Rattle.bind_union.proofs.Namesakes.{IsListedType, found_same, home_listed, listed_type, matches_are_namesakes, meaning_under, number_listed}
+use Rattle.bind_union.proofs.Namesakes.{numbers_are as numbers_are_of, under_contains}
+use Rattle.bind_union.specs.{Carried.IsInterface, Carried.IsType, Carried.Renumbering, Carried.Rises, Carried.carries_owner, Matching.AreMatched}
+use Rattle.bind_union.specs.{Matching.IsMatch, Matching.type_names, Merged.BeginsWith}
+use Rattle.indexmap.specs.IndexMap.{values}
+use Rattle.std.proofs.Common.{Bool, List, None, Option, Some, [], ap, arith, false, inl, inr, is_some, length, map, not, option_map, refl, rules as std_rules, slice_get, subst, suc, sym, true, unwrap_or, zero, ℕ, ◌&&◌, ◌++◌, ◌<◌, ◌||◌, ◌∙◌, ◌∷◌, ◌≡◌, ◌⊎◌}
+use Rattle.std.proofs.lemmas.{Bool.or_left, List.length-map, List.Folds.list_all-map, Option.slice_get_within}
+use Rattle.std.specs.{HashMap.get_by_text, List.AllZip, List.Contains, List.list_all, Prelude.String, declared.alloc.Global.Global}
+use Rattle.wit_model.proofs.{OnePath.found-in, OnePath.interface-passes, OnePath.path-once, PartsLemmas.owner_same as owner_equal}
+use Rattle.wit_model.specs.{Lookup.interface_at, Lookup.interface_path, Lookup.type_at, Meaning.InterfaceSense, Meant.interface_meaning, Meant.type_meaning_at}
+use Rattle.wit_model.specs.{Parts.same_owner, Rules.are_in_order, Rules.function_in_range, Rules.in_list, Rules.interface_type_numbers, Rules.is_named_of}
+use Rattle.wit_model.specs.{Rules.package_number, Rules.passes, Text.Text, Text.optional_text, Text.text_of, Uses.has, Valid.IsValid, Valid.as_interface}
+use Rattle.wit_model.specs.{Valid.is_place, Valid.numbers_in_range, Valid.order_of_types, declared.model.Interface.Interface}
+use Rattle.wit_model.specs.declared.model.{InterfaceId.InterfaceId, Resolve.Resolve, TypeDef.TypeDef, TypeId.TypeId, WorldId.WorldId}
 
 -- ---- What own interfaces of equal path and sense give: types of the same names, and what stands for what by path.
 
 -- ---- own numbers
-
--- what isn't copied keeps the number that it had
-pub uncopied_under : (first : ℕ) (flags : List Bool) (others : List ℕ) (n : ℕ) → length flags ≡ length others → flag_under flags n ≡ false
-    → number_under (numbers_of first flags others) n ≡ number_under others n
-uncopied_under first [] [] n long h = refl
-uncopied_under first [] (o ∷ os) n long h = absurd (omega (arith, long))
-uncopied_under first (b ∷ bs) [] n long h = absurd (omega (arith, long))
-uncopied_under first (true ∷ bs) (o ∷ os) zero long h = let wrong : ⊥ = cc in absurd wrong
-uncopied_under first (true ∷ bs) (o ∷ os) (suc n) long h = uncopied_under (first + 1) bs os n (omega (arith, long)) h
-uncopied_under first (false ∷ bs) (o ∷ os) zero long h = refl
-uncopied_under first (false ∷ bs) (o ∷ os) (suc n) long h = uncopied_under first bs os n (omega (arith, long)) h
 
 -- the own number of what is matched
 pub matched_under : (matched : List (Option InterfaceId)) (n : ℕ) (id : InterfaceId) → given_interface (slice_get matched n) ≡ Some id → number_under (map interface_number matched) n ≡ id.0
 matched_under [] n id h = let wrong : ⊥ = cc in absurd wrong
 matched_under (m ∷ ms) zero id h = ap interface_number h
 matched_under (m ∷ ms) (suc n) id h = matched_under ms n id h
+
+pub flag_within : (flags : List Bool) (n : ℕ) → flag_under flags n ≡ true → n < length flags
+flag_within [] n h = no_true h
+flag_within (b ∷ bs) zero h = omega arith
+flag_within (b ∷ bs) (suc n) h = let r = flag_within bs n h in omega (arith, r)
 
 -- ---- types of the same names
 
@@ -237,7 +236,110 @@ module _ (own other : Resolve) (valid_own : IsValid own) (valid_other : IsValid 
         → f.carries_type n ≡ true → IsType other merged f n
     types_hold more rest is types_are = first_types own other valid_other matched c numbers chosen names merged more rest is types_are type_stands
 
--- ---- what the page is for
+  -- ---- interfaces
+
+  module _ (merged : Resolve) (types_begin : BeginsWith own.types.items merged.types.items) (interfaces_begin : BeginsWith own.interfaces.items merged.interfaces.items)
+      (count : length c.copied_interfaces.items ≡ length other.interfaces.items)
+      (more rest : List Interface) (copies : AllZip (IsInterfaceCarried c numbers) (kept c.copied_interfaces.items other.interfaces.items) more)
+      (interfaces_here : merged.interfaces.items ≡ own.interfaces.items ++ (more ++ rest)) where
+    copy_interface : (n : ℕ) (i : Interface) → interface_at other n ≡ Some i → flag_under c.copied_interfaces.items n ≡ true → IsInterface other merged f n
+    copy_interface n i at set =
+        let place = kept_placed (IsInterfaceCarried c numbers) c.copied_interfaces.items (map interface_number matched) other.interfaces.items more copies
+        (long ∙ sym (length-map matched interface_number)) (length own.interfaces.items) own.interfaces.items rest refl n i set at in
+        let carried = or_left (flag_under c.copied_interfaces.items n) (is_matched matched n) set in
+        copy_stands other merged valid_other f numbers refl n i place.image (home_under c.packages.items i.«package») at
+        (ap (λ l. slice_get l (f.interfaces n)) interfaces_here ∙ (ap (slice_get (own.interfaces.items ++ (more ++ rest))) (ap (λ l. number_under l n) interfaces_are) ∙ place.at_image)) place.is
+        (λ h. ap package_number place.is.in_package ∙ home_number c.packages.items i.«package») (types_carried n i carried at) (types_copied n i set at)
+        ((parts_of own other valid_other matched c numbers chosen names (adds_interface own other valid_other matched c numbers chosen names n set)).of_interfaces n i at carried)
+
+    -- each interface that is carried stands under its new number
+    pub interfaces_hold : (n : ℕ) → f.carries_interface n ≡ true → IsInterface other merged f n
+    interfaces_hold n h = go (flag_under c.copied_interfaces.items n) refl
+      where
+        go : (b : Bool) → flag_under c.copied_interfaces.items n ≡ b → IsInterface other merged f n
+        go true e =
+            let less = flag_within c.copied_interfaces.items n e in
+            let i = within_there other.interfaces.items n (omega (arith, less, count)) in
+            copy_interface n i.0 i.1 e
+        go false e = interface_stands merged types_begin interfaces_begin n (sym (ap (λ b. b || is_matched matched n) e) ∙ h)
+
+  -- ---- numbers
+
+  -- copies of interfaces stand behind what is carried before them, and behind own ones
+  pub interfaces_rise : Rises f.interfaces f.carries_interface f.copies_interface
+  interfaces_rise = subst (λ l. Rises (number_under l) f.carries_interface f.copies_interface) (sym interfaces_are)
+      (numbers_rise (length own.interfaces.items) c.copied_interfaces.items (map interface_number matched) f.carries_interface (length-map matched interface_number ∙ sym long) low)
+    where
+      low : (n : ℕ) → f.carries_interface n ≡ true → flag_under c.copied_interfaces.items n ≡ false
+          → number_under (numbers_of (length own.interfaces.items) c.copied_interfaces.items (map interface_number matched)) n < length own.interfaces.items
+      low n h e =
+          let k : is_matched matched n ≡ true = sym (ap (λ b. b || is_matched matched n) e) ∙ h in
+          let m = same n k in
+          let number = sym (ap (λ l. number_under l n) interfaces_are) ∙ interface_is n k in
+          subst (λ (x : ℕ). x < length own.interfaces.items) (sym number) (slice_get_within own.interfaces.items m.id.0 m.image m.at_image)
+
+  -- no two interfaces that are carried have one number
+  pub interfaces_once : (m n : ℕ) → f.carries_interface m ≡ true → f.carries_interface n ≡ true → f.interfaces m ≡ f.interfaces n → m ≡ n
+  interfaces_once m n h k e = go (f.copies_interface m) refl (f.copies_interface n) refl
+    where
+      carried : (x : ℕ) → f.copies_interface x ≡ true → f.carries_interface x ≡ true
+      carried x set = or_left (flag_under c.copied_interfaces.items x) (is_matched matched x) set
+
+      is_match_of : (x : ℕ) → f.carries_interface x ≡ true → f.copies_interface x ≡ false → is_matched matched x ≡ true
+      is_match_of x h e = sym (ap (λ b. b || is_matched matched x) e) ∙ h
+
+      number : (x : ℕ) (h : is_matched matched x ≡ true) → f.interfaces x ≡ (same x h).id.0
+      number x h = interface_is x h
+
+      both_matched : is_matched matched m ≡ true → is_matched matched n ≡ true → m ≡ n
+      both_matched p q =
+          let one = same m p in
+          let two = same n q in
+          let ids : one.id.0 ≡ two.id.0 = sym (number m p) ∙ (e ∙ number n q) in
+          let path = some_of (interface_path other m) one.has_path in
+          path-once other valid_other m n path.0 path.1 (sym two.path ∙ (ap (interface_path own) (sym ids) ∙ (one.path ∙ path.1)))
+
+      go : (x : Bool) → f.copies_interface m ≡ x → (y : Bool) → f.copies_interface n ≡ y → m ≡ n
+      go x p true q = apart f.interfaces f.carries_interface f.copies_interface interfaces_rise carried m n h q e
+      go true p false q = sym (apart f.interfaces f.carries_interface f.copies_interface interfaces_rise carried n m k p (sym e))
+      go false p false q = both_matched (is_match_of m h p) (is_match_of n k q)
+
+  -- an own interface that has the number of one that is carried has its path
+  pub own_path : (n : ℕ) → f.carries_interface n ≡ true → (j : ℕ) (d : Interface) → interface_at own j ≡ Some d → f.interfaces n ≡ j → interface_path own j ≡ interface_path other n
+  own_path n carried j d at_own number = go (flag_under c.copied_interfaces.items n) refl
+    where
+      go : (b : Bool) → flag_under c.copied_interfaces.items n ≡ b → interface_path own j ≡ interface_path other n
+      go true e =
+          let past = copied_behind (length own.interfaces.items) c.copied_interfaces.items (map interface_number matched) n (long ∙ sym (length-map matched interface_number)) e in
+          let here : number_under (numbers_of (length own.interfaces.items) c.copied_interfaces.items (map interface_number matched)) n ≡ j =
+          ap (λ l. number_under l n) (sym interfaces_are) ∙ number in
+          let within = slice_get_within own.interfaces.items j d at_own in
+          absurd (omega (arith, past, here, within))
+      go false e =
+          let k : is_matched matched n ≡ true = sym (ap (λ b. b || is_matched matched n) e) ∙ carried in
+          let is = interface_is n k in
+          ap (interface_path own) (sym number ∙ is) ∙ (same n k).path
+
+  -- copies of types stand behind what is carried before them, and behind own ones
+  pub types_rise : first ≡ length own.types.items → length numbers ≡ length other.types.items → Rises f.types f.carries_type f.copies_type
+  types_rise at_first types_count m n carried copied before = by
+      (numbers_rise first (map copies fates) (map stood fates) f.carries_type (length-map fates stood ∙ sym (length-map fates copies)) low m n carried (flag_is_copied fates n ∙ copied) (go before))
+    where
+      go : (m < n) ⊎ (is_copied fates m ≡ false) → (m < n) ⊎ (flag_under (map copies fates) m ≡ false)
+      go (inl less) = inl less
+      go (inr bare) = inr (flag_is_copied fates m ∙ bare)
+
+      low : (k : ℕ) → f.carries_type k ≡ true → flag_under (map copies fates) k ≡ false → number_under (numbers_by first fates) k < first
+      low k h e =
+          let less = carried_within fates k h in
+          let d = within_there other.types.items k (omega (arith, less, (sym (numbers_by_long first fates) ∙ (ap length (sym numbers_are) ∙ types_count)))) in
+          let small = type_low k d.0 d.1 h (sym (flag_is_copied fates k) ∙ e) in
+          subst (λ (x : ℕ). number_under (numbers_by first fates) k < x) (sym at_first) (subst (λ (x : ℕ). x < length own.types.items) (ap (λ l. number_under l k) numbers_are) small)
+
+      by : number_under (numbers_by first fates) m < number_under (numbers_by first fates) n → f.types m < f.types n
+      by less = subst (λ l. number_under l m < number_under l n) (sym numbers_are) less
+
+-- ---- worlds
 
 module _ (first : ℕ) (flags : List Bool) (matched : List (Option WorldId)) (worlds : List ℕ) (long : length flags ≡ length matched) (worlds_are : worlds ≡ numbers_of first flags (map world_number matched)) where
   -- copies stand one behind the other
@@ -251,3 +353,16 @@ module _ (first : ℕ) (flags : List Bool) (matched : List (Option WorldId)) (wo
   -- so no two have one number
   pub worlds_apart : (m n : ℕ) → flag_under flags m ≡ true → flag_under flags n ≡ true → number_under worlds m ≡ number_under worlds n → m ≡ n
   worlds_apart m n h k e = apart (number_under worlds) (flag_under flags) (flag_under flags) worlds_rise (λ x set. set) m n h k e
+
+-- ---- the whole
+
+pub chosen_so : (own other : Resolve) (m : Matches) (c : Carried) → IsInRange other → AreMatchedAll other m → IsNumbered own other m c
+    → AreChosen other m.interfaces.items c.copied_worlds.items c.copied_interfaces.items
+chosen_so own other m c range all is =
+    subst (AreChosen other m.interfaces.items c.copied_worlds.items) (sym is.copied_interfaces) (are_chosen other m.interfaces.items c.copied_worlds.items all.interfaces below)
+  where
+    below : AreWorldsBelow (length other.interfaces.items) other.worlds.items
+    below k w at = (
+      shown_below (length other.interfaces.items) (length other.types.items) w.imports.entries (range.imports k w at),
+      shown_below (length other.interfaces.items) (length other.types.items) w.exports.entries (range.exports k w at),
+    )

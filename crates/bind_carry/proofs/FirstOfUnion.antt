@@ -1,22 +1,20 @@
 -- What a union adds, once it is added, has all that is carried by path.
-use Rattle.std.proofs.Common.{rules as std_rules, ◌≡◌, ◌⊎◌, inl, inr, refl, sym, ap, subst, ◌∙◌, ℕ, zero, suc, ◌+◌, ◌<◌, arith, Bool, true, false, ◌==◌, cond, List, [], ◌∷◌, ◌++◌, length, map, Option, Some, None, is_none, option_map, slice_get, unwrap_or, append-nil}
-use Rattle.std.proofs.lemmas.{List.length-map, Option.slice_get_within as within_list}
-use Rattle.std.specs.{List.AllZip, Prelude.slice_set}
-use Rattle.wit_model.specs.declared.model.{Package.Package, PackageId.PackageId, PackageName.PackageName, Resolve.Resolve, TypeDef.TypeDef, World.World}
-use Rattle.wit_model.specs.{Lookup.package_at, Rules.same_package_name}
-use Rattle.bind_add.specs.Growth.{GainsNone, HaveGained}
-use Rattle.bind_add.specs.declared.added.Names.{Names}
+use Rattle.base_lemmas.proofs.{Lists.front_at, Lists.mapped_get as mapped_at, Lists.set_there, Numbers.differ, Numbers.equal}
+use Rattle.bind_add.proofs.Gains.{set_here}
+use Rattle.bind_add.specs.{Growth.GainsNone, Growth.HaveGained, declared.added.Names.Names}
+use Rattle.bind_carry.proofs.{CopiesPlaced.some_same, CopiesPlaced.uncopied_under, KeptPlaced.IsKeptAt, KeptPlaced.kept_placed}
+use Rattle.bind_carry.specs.{BoundGains.bound_fates, Fates.AreCopied, First.first_fates, First.flag_under, FirstPass.UnionsHaveTheFirst, Numbers.numbers_of}
+use Rattle.bind_carry.specs.{Numbers.package_number, Packaged.IsGained, Packaged.IsPackageCarried, Packaged.grown_packages, SecondPass.UnionsHaveTheSecond}
+use Rattle.bind_carry.specs.{Whole.kept, declared.plan.Carried.Carried}
 use Rattle.bind_copy.specs.Copies.{number_under}
 use Rattle.bind_match.specs.Matching.{own_package_of, package_from}
-use Rattle.bind_union.specs.Carried.{IsSameName}
 use Rattle.bind_union.proofs.Lists.{no_true}
-use Rattle.bind_carry.specs.{First.flag_under, First.first_fates, BoundGains.bound_fates, FirstPass.UnionsHaveTheFirst, SecondPass.UnionsHaveTheSecond}
-use Rattle.bind_carry.specs.{Numbers.numbers_of, Numbers.package_number, Packaged.IsPackageCarried, Packaged.grown_packages, Packaged.IsGained, Fates.AreCopied}
-use Rattle.bind_carry.specs.Whole.{kept}
-use Rattle.bind_carry.specs.declared.plan.Carried.{Carried}
-use Rattle.bind_carry.proofs.{FirstNumbers.uncopied_under, KeptPlaced.kept_placed, KeptPlaced.IsKeptAt}
-use Rattle.base_lemmas.proofs.{Lists.front_at, Lists.mapped_get as mapped_at}
-use Rattle.base_lemmas.proofs.Numbers.{equal, differ}
+use Rattle.bind_union.specs.Carried.{IsSameName}
+use Rattle.std.proofs.Common.{Bool, List, None, Option, Some, [], ap, append-nil, arith, cond, false, inl, inr, is_none, length, map, option_map, refl, rules as std_rules, slice_get, subst, suc, sym, true, unwrap_or, zero, ℕ, ◌++◌, ◌+◌, ◌<◌, ◌==◌, ◌∙◌, ◌∷◌, ◌≡◌, ◌⊎◌}
+use Rattle.std.proofs.lemmas.{List.length-map, Option.slice_get_within as within_list}
+use Rattle.std.specs.{List.AllZip, Prelude.slice_set}
+use Rattle.wit_model.specs.{Lookup.package_at, Rules.same_package_name, declared.model.Package.Package, declared.model.PackageId.PackageId}
+use Rattle.wit_model.specs.declared.model.{PackageName.PackageName, Resolve.Resolve, TypeDef.TypeDef, World.World}
 
 -- ---- Each package of the other stands in one of its name: in a new one, or in the own one that was found.
 
@@ -60,9 +58,6 @@ found_own own p id e =
 
 -- ---- own packages, grown or not
 
-not_both : true ≡ false → ⊥
-not_both h = cc
-
 -- one more that is of another package changes nothing
 later : (n : Names) (ns : List Names) (k : ℕ) → (n.«package».0 == k) ≡ false → GainsNone ns k → GainsNone (n ∷ ns) k
 later n ns k e none y g at same = search std_rules
@@ -83,9 +78,7 @@ pub grown_name : (ns : List Names) (own ps : List Package) → HaveGained ns own
 grown_name ns own ps h k q at = go (some_gains ns k)
   where
     go : ((i : ℕ) × (g : Names) × (slice_get ns i ≡ Some g) × (g.«package».0 ≡ k)) ⊎ GainsNone ns k → (x : Package) × (slice_get ps k ≡ Some x) × (x.name ≡ q.name)
-    go (inl found) =
-        let x = h.gained found.0 found.1 q found.2 (ap (slice_get own) found.3 ∙ at) in
-        (x.0, ap (slice_get ps) (sym found.3) ∙ x.1, x.2.name)
+    go (inl found) = let x = h.gained found.0 found.1 q found.2 (ap (slice_get own) found.3 ∙ at) in (x.0, ap (slice_get ps) (sym found.3) ∙ x.1, x.2.name)
     go (inr none) = (q, h.others k none ∙ at, refl)
 
 -- ---- packages of the other
@@ -123,70 +116,37 @@ module _ (own other merged : Resolve) (c : Carried) (ms : List (Option PackageId
         is = place.is;
       }
 
-  -- One that isn't has an own one of its name.
-  pub record IsOwnFound (n : ℕ) (p : Package) : Type 0 where
-    pub number : ℕ
-    pub number_is : number_under c.packages.items n ≡ number
-    pub found : IsFound p.name own.packages.items number
-    pub image : Package
-    pub at_image : package_at merged number ≡ Some image
-    pub same : image.name ≡ found.there.name
-
-  pub own_found : (n : ℕ) (p : Package) → package_at other n ≡ Some p → flag_under c.new_packages.items n ≡ false → IsOwnFound n p
-  own_found n p at bare =
-      let inside : n < length ms = (let w = within_list other.packages.items n p at in let q = ap length matched ∙ length-map other.packages.items (own_package_of own.packages.items) in
-      omega (arith, w, q)) in
-      let id = unflagged_found ms n inside (ap (λ l. flag_under l n) (sym flags) ∙ bare) in
-      let is : own_package_of own.packages.items p ≡ Some id.0 = found_same_id
-      (sym (mapped_at (own_package_of own.packages.items) other.packages.items n p at) ∙ (ap (λ l. slice_get l n) (sym matched) ∙ id.1)) in
-      let found = found_own own.packages.items p id.0 is in
-      let x = grown_name gains own.packages.items grown gained id.0.0 found.there found.at_there in
-      record {
-        number = id.0.0;
-        number_is = ap (λ l. number_under l n) numbers ∙ (uncopied_under (length own.packages.items) c.new_packages.items (map package_number ms) n long bare ∙ found_number ms n id.0 id.1);
-        found = found;
-        image = x.0;
-        at_image = ap (λ l. slice_get l id.0.0) here ∙ front_at grown more id.0.0 x.0 x.1;
-        same = x.2;
-      }
+  -- One that isn't has an own one of its name. So each stands under its new number.
+  pub packages_hold : (n : ℕ) (p : Package) → package_at other n ≡ Some p → (image : Package) × (package_at merged (number_under c.packages.items n) ≡ Some image) × IsSameName p.name image.name
+  packages_hold n p at = go (flag_under c.new_packages.items n) refl
     where
-      found_same_id : {X : Type 0} {a b : X} → ◌≡◌ {A = Option X} (Some a) (Some b) → a ≡ b
-      found_same_id {X} {a} {b} e = ap (λ (o : Option X). unwrap_or o a) e
-
-  pub packages_hold : (f : ℕ → ℕ) → f ≡ number_under c.packages.items → (n : ℕ) (p : Package) → package_at other n ≡ Some p → (image : Package) × (package_at merged (f n) ≡ Some image)
-      × IsSameName p.name image.name
-  packages_hold f by n p at = go (flag_under c.new_packages.items n) refl
-    where
-      place : package_at merged (f n) ≡ package_at merged (number_under c.packages.items n)
-      place = ap (λ g. package_at merged (g n)) by
-
-      go : (b : Bool) → flag_under c.new_packages.items n ≡ b → (image : Package) × (package_at merged (f n) ≡ Some image) × IsSameName p.name image.name
-      go true set = let x = new_package n p at set in (x.image, place ∙ x.at_image, x.is.name)
+      go : (b : Bool) → flag_under c.new_packages.items n ≡ b → (image : Package) × (package_at merged (number_under c.packages.items n) ≡ Some image) × IsSameName p.name image.name
+      go true set = let x = new_package n p at set in (x.image, x.at_image, x.is.name)
       go false bare =
-          let x = own_found n p at bare in
-          (x.image, place ∙ (ap (package_at merged) x.number_is ∙ x.at_image), subst (IsSameName p.name) (sym x.same) (same_parts p.name x.found.there.name x.found.same))
+          let inside : n < length ms = (let w = within_list other.packages.items n p at in let q = ap length matched ∙ length-map other.packages.items (own_package_of own.packages.items) in
+          omega (arith, w, q)) in
+          let id = unflagged_found ms n inside (ap (λ l. flag_under l n) (sym flags) ∙ bare) in
+          let is : own_package_of own.packages.items p ≡ Some id.0 = some_same _ _
+          (sym (mapped_at (own_package_of own.packages.items) other.packages.items n p at) ∙ (ap (λ l. slice_get l n) (sym matched) ∙ id.1)) in
+          let found = found_own own.packages.items p id.0 is in
+          let x = grown_name gains own.packages.items grown gained id.0.0 found.there found.at_there in
+          let number : number_under c.packages.items n ≡ id.0.0 = ap (λ l. number_under l n) numbers
+          ∙ (uncopied_under (length own.packages.items) c.new_packages.items (map package_number ms) n long bare ∙ found_number ms n id.0 id.1) in (
+            x.0,
+            ap (package_at merged) number ∙ (ap (λ l. slice_get l id.0.0) here ∙ front_at grown more id.0.0 x.0 x.1),
+            subst (IsSameName p.name) (sym x.2) (same_parts p.name found.there.name found.same),
+          )
 
 -- ---- what the page is for
-
-pub set_count : (ws : List World) (n : ℕ) (v : World) → length (slice_set ws n v) ≡ length ws
-set_count [] n v = refl
-set_count (w ∷ ws) zero v = refl
-set_count (w ∷ ws) (suc n) v = ap suc (set_count ws n v)
 
 pub unions_have_the_first : UnionsHaveTheFirst
 unions_have_the_first own other merged world other_world m w v added keys u a at all by_name same none = search std_rules
 
-set_at : (ws more : List World) (n : ℕ) (w v : World) → slice_get ws n ≡ Some w → slice_get (slice_set ws n v ++ more) n ≡ Some v
-set_at [] more n w v e = let wrong : ⊥ = cc in absurd wrong
-set_at (x ∷ xs) more zero w v e = refl
-set_at (x ∷ xs) more (suc n) w v e = set_at xs more n w v e
+pub set_at : (ws more : List World) (n : ℕ) (w v : World) → slice_get ws n ≡ Some w → slice_get (slice_set ws n v ++ more) n ≡ Some v
+set_at ws more n w v e = front_at (slice_set ws n v) more n v (set_here ws n v (within_list ws n w e))
 
 set_other : (ws more : List World) (n k : ℕ) (u v : World) → slice_get ws k ≡ Some u → (k ≡ n → ⊥) → slice_get (slice_set ws n v ++ more) k ≡ Some u
-set_other [] more n k u v e h = let wrong : ⊥ = cc in absurd wrong
-set_other (x ∷ xs) more zero zero u v e h = absurd (h refl)
-set_other (x ∷ xs) more zero (suc k) u v e h = front_at xs more k u e
-set_other (x ∷ xs) more (suc n) zero u v e h = e
-set_other (x ∷ xs) more (suc n) (suc k) u v e h = set_other xs more n k u v e (λ q. h (ap suc q))
+set_other ws more n k u v e h = front_at (slice_set ws n v) more k u (set_there ws n k v h ∙ e)
 
 -- and what the bound world gains
 pub unions_have_the_second : UnionsHaveTheSecond

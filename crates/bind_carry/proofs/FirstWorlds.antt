@@ -1,43 +1,37 @@
 -- Worlds that are copied: all that their items name is carried, so each is a copy as the laws on unions ask for it.
-use Rattle.std.proofs.Common.{rules as std_rules, ◌≡◌, refl, sym, ap, subst, ◌∙◌, ℕ, zero, suc, ◌+◌, ◌≤◌, arith, Bool, true, false, ◌&&◌, ◌||◌, not, ◌==◌, cond, List, [], ◌∷◌, ◌++◌, length, map, filter_map, Option, Some, None, is_some, slice_get, option_to_list, unwrap_or}
-use Rattle.std.proofs.lemmas.List.{length-map}
-use Rattle.std.proofs.lemmas.{List.Sums.sum_by-append, List.Sums.sum_by-cons, Bool.or_left, Bool.or_right, Map.Keys.any_passes_from_place as any_of_at}
-use Rattle.std.specs.{Prelude.count_by, Prelude.sum_by, Prelude.option_and_then, Prelude.String, Option.option_eq, Option.option_map_or}
-use Rattle.std.specs.List.{list_all, list_any}
-use Rattle.std.specs.declared.alloc.Global.{Global}
-use Rattle.wit_model.specs.declared.model.{Interface.Interface, InterfaceId.InterfaceId, World.World, WorldItem.WorldItem, WorldKey.WorldKey, Function.Function}
-use Rattle.wit_model.specs.declared.model.{Resolve.Resolve, TypeDef.TypeDef, TypeId.TypeId}
-use Rattle.wit_model.specs.{Lookup.interface_at, Lookup.package_at, Lookup.world_at, Lookup.type_at, Text.text_of, Uses.has, Uses.item_interface, Uses.items_of}
-use Rattle.wit_model.specs.Rules.{interface_is_listed, is_id, is_world_name, package_number, times_shown, entries_in_range, export_stands, import_stands, in_list, is_interface_key, item_in_range, key_in_range, passes}
-use Rattle.wit_model.specs.Valid.{IsValid, places, as_world, is_place, item_function, numbers_in_range, world_items, as_interface}
-use Rattle.wit_model.specs.Parts.{same_owner}
-use Rattle.wit_model.proofs.{OnePath.interface-passes, OnePath.found-in, PartsLemmas.owner_same as owner_equal, ValidLemmas.world_passes}
-use Rattle.bind_copy.specs.Copies.{number_under}
-use Rattle.bind_union.proofs.{Images.filter_map_none, Images.filter_map_some, Lists.no_true, WorldRules.by_entries}
-use Rattle.bind_carry.specs.{Fates.copies, Fates.numbers_by, Fates.stood, First.first_fates, First.flag_under, Numbers.interface_number, Numbers.numbers_of}
-use Rattle.bind_carry.specs.{Renumbered.first_of, Renumbered.is_matched, CarriedParts.is_function_carried, Listed.type_named, Whole.kept}
-use Rattle.bind_carry.specs.{FirstPass.FirstIsCopied, Marked.is_shown_in, Marked.is_shown_of, Marked.AreChosen, ReadyItems.IsItemReady, ReadyItems.IsKeyReady}
-use Rattle.bind_carry.proofs.{CopiesPlaced.flag_is_copied, CopiesPlaced.some_same, FirstCarried.chosen_so, FirstCarried.first_is_carried, Ranges.is_in_range}
-use Rattle.bind_carry.proofs.FirstNumbers.{named_of_path}
-use Rattle.bind_carry.proofs.FirstInterfaces.{adds_world, excluded, parts_of, world_owned_copied}
-use Rattle.base_lemmas.proofs.{Bools.left_of as first_true, Bools.right_of as second_true, Numbers.equal, Numbers.same-number, Elements.all_get as all_at}
-use Rattle.bind_union.specs.Carried.{Renumbering}
+use Rattle.base_lemmas.proofs.{Bools.left_of as first_true, Bools.right_of as second_true, Elements.all_get as all_at, Lists.within_there, Numbers.equal}
+use Rattle.base_lemmas.proofs.Numbers.{same-number}
+use Rattle.bind_carry.proofs.CopiesPlaced.{copied_behind, copied_past, numbers_by_long, some_same}
+use Rattle.bind_carry.proofs.FirstInterfaces.{adds_world, excluded, home_number, parts_of, world_owned_copied}
+use Rattle.bind_carry.proofs.FirstNumbers.{chosen_so, flag_within, interfaces_hold, interfaces_once, interfaces_rise, named_of_path, names, types_hold}
+use Rattle.bind_carry.proofs.{FirstNumbers.types_rise, FirstNumbers.worlds_apart, FirstOfUnion.packages_hold, Joined.items_join, KeptPlaced.kept_placed}
+use Rattle.bind_carry.proofs.{KeysGained.is_key_carried, KeysGained.keys_apart, PassedTypes.copied_carried, Ranges.is_in_range, Ready.fates_long}
+use Rattle.bind_carry.specs.{CarriedParts.is_function_carried, Fates.copies, Fates.numbers_by, First.first_fates, First.flag_under, FirstPass.FirstIsCarried}
+use Rattle.bind_carry.specs.{FirstPass.FirstIsCopied, FirstPass.FirstWorldsAreCopied, FirstPass.IsFirstPass, Listed.type_named, Marked.AreChosen}
+use Rattle.bind_carry.specs.{Marked.is_shown_in, Marked.is_shown_of, Numbers.interface_number, Numbers.world_number, ReadyItems.AreReady}
+use Rattle.bind_carry.specs.{ReadyItems.IsItemReady, ReadyItems.IsKeyReady, Renumbered.first_of, Renumbered.is_matched, Whole.IsWorldCarried, Whole.kept}
 use Rattle.bind_carry.specs.declared.{fate.Fate.Fate, plan.Carried.Carried}
+use Rattle.bind_copy.specs.Copies.{AreNewCopied, number_under}
+use Rattle.bind_match.specs.declared.matches.Matches.{Matches}
+use Rattle.bind_union.proofs.{Homes.apart, Images.filter_map_none, Images.filter_map_some, Lists.no_true, WorldRules.by_entries}
+use Rattle.bind_union.specs.{Carried.IsCarried, Carried.Renumbering, Joined.Joined, Merged.AreCopies, Merged.BeginsWith, Merged.IsWorldCopy}
+use Rattle.std.proofs.Common.{Bool, List, None, Option, Some, [], ap, append-nil, arith, cond, false, filter_map, is_some, length, map, not, option_to_list, refl, rules as std_rules, slice_get, subst, suc, sym, true, unwrap_or, zero, ℕ, ◌&&◌, ◌++◌, ◌+◌, ◌==◌, ◌||◌, ◌∙◌, ◌∷◌, ◌≡◌, ◌≤◌}
+use Rattle.std.proofs.lemmas.{Bool.and_from as both, Bool.or_left, Bool.or_right, List.length-map, List.Sums.sum_by-append, List.Sums.sum_by-cons}
+use Rattle.std.proofs.lemmas.Map.Keys.{any_passes_from_place as any_of_at}
+use Rattle.std.specs.{List.IsDistinct, List.list_all, List.list_any, Map.keys_of, Option.option_eq, Option.option_map_or, Prelude.String, Prelude.count_by}
+use Rattle.std.specs.{Prelude.option_and_then, Prelude.sum_by, declared.alloc.Global.Global}
+use Rattle.wit_model.proofs.{OnePath.found-in, OnePath.interface-passes, PartsLemmas.owner_same as owner_equal, ValidLemmas.world_passes}
+use Rattle.wit_model.specs.{Lookup.interface_at, Lookup.package_at, Lookup.type_at, Lookup.world_at, Parts.same_owner, Rules.entries_in_range}
+use Rattle.wit_model.specs.Rules.{export_stands, import_stands, in_list, interface_is_listed, is_id, is_interface_key, is_world_name, item_in_range}
+use Rattle.wit_model.specs.{Rules.key_in_range, Rules.package_number, Rules.passes, Rules.times_shown, Text.text_of, Uses.has, Uses.item_interface}
+use Rattle.wit_model.specs.{Uses.items_of, Valid.IsValid, Valid.as_interface, Valid.as_world, Valid.is_place, Valid.item_function, Valid.key_eq}
+use Rattle.wit_model.specs.{Valid.numbers_in_range, Valid.places, Valid.world_items, declared.model.Function.Function, declared.model.Interface.Interface}
+use Rattle.wit_model.specs.declared.model.{InterfaceId.InterfaceId, Resolve.Resolve, TypeDef.TypeDef, TypeId.TypeId, World.World, WorldItem.WorldItem}
+use Rattle.wit_model.specs.declared.model.WorldKey.{WorldKey}
 use Rattle.wit_model.specs.declared.model.WorldItem.TheVariants as item
 use Rattle.wit_model.specs.declared.model.WorldKey.TheVariants as key
 
 -- ---- What is copied by path stands behind own entries, and inline interfaces come with the world that shows them.
-
--- ---- numbers
-
--- copies are numbered from the first on
-pub copied_behind : (first : ℕ) (flags : List Bool) (others : List ℕ) (n : ℕ) → length flags ≡ length others → flag_under flags n ≡ true → first ≤ number_under (numbers_of first flags others) n
-copied_behind first [] others n long h = no_true h
-copied_behind first (b ∷ bs) [] n long h = absurd (omega (arith, long))
-copied_behind first (true ∷ bs) (o ∷ os) zero long h = omega arith
-copied_behind first (true ∷ bs) (o ∷ os) (suc n) long h = let r = copied_behind (first + 1) bs os n (omega (arith, long)) h in omega (arith, r)
-copied_behind first (false ∷ bs) (o ∷ os) zero long h = no_true h
-copied_behind first (false ∷ bs) (o ∷ os) (suc n) long h = copied_behind first bs os n (omega (arith, long)) h
 
 -- ---- how often worlds show an interface
 
@@ -159,55 +153,6 @@ module _ (r : Resolve) (valid : IsValid r) where
       → 1 ≤ times_shown m v → a ≡ b
   one_shows m i at none a b w v at_w at_v p q = grind (arith, inline_once, same-number, equal, sum_two)
 
--- ---- the whole
-
-pub first_is_copied : FirstIsCopied
-first_is_copied own other merged m c numbers valid_own valid_other p = record {
-  carried = first_is_carried own other merged m c numbers valid_own valid_other p;
-  new_types = types_behind;
-  new_interfaces = λ n h. subst (λ l. length own.interfaces.items ≤ number_under l n) (sym p.numbered.interfaces)
-      (copied_behind (length own.interfaces.items) c.copied_interfaces.items (map interface_number matched) n (long ∙ sym (length-map matched interface_number)) h);
-  inline_copied = inline_copied;
-  inline_shown = inline_shown;
-}
-  where
-    matched : List (Option InterfaceId)
-    matched = m.interfaces.items
-
-    long : length c.copied_interfaces.items ≡ length matched
-    long = p.numbered.interface_count ∙ sym p.all.interfaces
-
-    chosen : AreChosen other matched c.copied_worlds.items c.copied_interfaces.items
-    chosen = chosen_so own other m c (is_in_range other valid_other) p.all p.numbered
-
-    types_behind : (n : ℕ) → (first_of matched c (first_fates own other matched c) numbers).copies_type n ≡ true → length own.types.items ≤ number_under numbers n
-    types_behind n h =
-        let fates = first_fates own other matched c in
-        let first = length own.types.items + length {A = TypeDef} [] in
-        let behind = copied_behind first (map copies fates) (map stood fates) n (length-map fates copies ∙ sym (length-map fates stood)) (flag_is_copied fates n ∙ h) in
-        let here : number_under numbers n ≡ number_under (numbers_by first fates) n = ap (λ l. number_under l n) p.types.numbers_are in
-        omega (arith, behind, here)
-
-    inline_copied : (n : ℕ) (i : Interface) → (flag_under c.copied_interfaces.items n || is_matched matched n) ≡ true → interface_at other n ≡ Some i → i.name ≡ None
-        → flag_under c.copied_interfaces.items n ≡ true
-    inline_copied n i carried at none = go (flag_under c.copied_interfaces.items n) refl carried
-      where
-        go : (b : Bool) → flag_under c.copied_interfaces.items n ≡ b → (b || is_matched matched n) ≡ true → flag_under c.copied_interfaces.items n ≡ true
-        go true e k = e
-        go false e k =
-            let is = p.same n k in
-            let same : is.old ≡ i = some_same is.old i (sym is.found ∙ at) in
-            no_true (sym (ap is_some none) ∙ (ap (λ (x : Interface). is_some x.name) (sym same) ∙ named_of_path other n is.old is.found is.has_path))
-
-    inline_shown : (n : ℕ) (i : Interface) (k : ℕ) (w : World) → flag_under c.copied_interfaces.items n ≡ true → interface_at other n ≡ Some i → i.name ≡ None → world_at other k ≡ Some w
-        → has (filter_map item_interface (items_of w)) n ≡ true → flag_under c.copied_worlds.items k ≡ true
-    inline_shown n i k w set at none at_w shows =
-        let by = shown_by c.copied_worlds.items other.worlds.items n (sym (chosen.inline n i at (ap is_some none)) ∙ set) in
-        let one : by.place ≡ k = one_shows other valid_other n i at none by.place k by.world w by.at_place at_w (times_of by.world n by.shows) (some_count n (items_of w) shows) in
-        ap (flag_under c.copied_worlds.items) (sym one) ∙ by.set
-
--- ---- what the page is for
-
 -- ---- lists
 
 -- what a thing whose flag is set passes, some that is kept passes
@@ -236,14 +181,6 @@ module _ (own other : Resolve) (valid : IsValid other) (matched : List (Option I
   abbrev function_ready : Function → Bool
   function_ready = is_function_carried f.carries_type
 
-  -- What validity says of an entry.
-  record EntryFacts (e : WorldKey × WorldItem) : Type 0 where
-    range : (key_in_range other e.0 && item_in_range other e.1) ≡ true
-    key_named : (id : InterfaceId) → e.0 ≡ key.Interface id → passes (λ i. is_some i.name) (interface_at other id.0) ≡ true
-    type_owned : (id : TypeId) → e.1 ≡ item.Type_ id → passes (λ def. same_owner def.owner (as_world n)) (type_at other id.0) ≡ true
-    shown : (m : ℕ) → is_id m (item_interface e.1) ≡ true → is_shown m ≡ true
-    functions : list_all function_ready (option_to_list (item_function e.1)) ≡ true
-
   -- ---- interfaces
 
   named_ready : (m : ℕ) (i : Interface) → interface_at other m ≡ Some i → is_some i.name ≡ true → f.carries_interface m ≡ true
@@ -269,9 +206,6 @@ module _ (own other : Resolve) (valid : IsValid other) (matched : List (Option I
   item_ready (item.Interface id stability docs external_id) range owned shown functions = grind (arith, found-in, interface_ready, same-number)
   item_ready (item.Function g) range owned shown functions = first_true (function_ready g) true functions
   item_ready (item.Type_ id) range owned shown functions = search (std_rules, found-in, owner_equal, world_owned_copied, set)
-
-  entry_ready : (e : WorldKey × WorldItem) → EntryFacts e → IsKeyReady f e.0 × IsItemReady f e.1
-  entry_ready e facts = search (std_rules, key_ready, first_true, item_ready, second_true)
 
   -- ---- imports and exports
 
@@ -307,15 +241,21 @@ module _ (own other : Resolve) (valid : IsValid other) (matched : List (Option I
   export_owned : (k : WorldKey) (i : WorldItem) → export_stands other k i ≡ true → (id : TypeId) → i ≡ item.Type_ id → passes (λ def. same_owner def.owner (as_world n)) (type_at other id.0) ≡ true
   export_owned k i h id e = search std_rules
 
+  entry_ready : (es : List (WorldKey × WorldItem)) (k : ℕ) (e : WorldKey × WorldItem) → slice_get es k ≡ Some e → entries_in_range other es ≡ true → list_all item_passes es ≡ true
+      → ((m : ℕ) → is_shown_in es m ≡ true → is_shown m ≡ true) → ((id : InterfaceId) → e.0 ≡ key.Interface id → passes (λ i. is_some i.name) (interface_at other id.0) ≡ true)
+      → ((id : TypeId) → e.1 ≡ item.Type_ id → passes (λ def. same_owner def.owner (as_world n)) (type_at other id.0) ≡ true) → IsKeyReady f e.0 × IsItemReady f e.1
+  entry_ready es k e there in_range passed shows named owned =
+      let range = all_at (λ (x : WorldKey × WorldItem). key_in_range other x.0 && item_in_range other x.1) es k e in_range there in (
+        key_ready e.0 (first_true (key_in_range other e.0) (item_in_range other e.1) range) named,
+        item_ready e.1 (second_true (key_in_range other e.0) (item_in_range other e.1) range) owned
+            (λ m h. shows m (any_of_at (λ (x : WorldKey × WorldItem). is_id m (item_interface x.1)) es k e there h)) (all_at item_passes es k e passed there),
+      )
+
   pub import_ready : (k : ℕ) (e : WorldKey × WorldItem) → slice_get w.imports.entries k ≡ Some e → IsKeyReady f e.0 × IsItemReady f e.1
-  import_ready k e there = entry_ready e (record {
-    range = all_at (λ (x : WorldKey × WorldItem). key_in_range other x.0 && item_in_range other x.1) w.imports.entries k e
-        (first_true (entries_in_range other w.imports.entries) (entries_in_range other w.exports.entries) ranges) there;
-    key_named = import_named e.0 e.1 stands;
-    type_owned = import_owned e.0 e.1 stands;
-    shown = λ m h. or_left (is_shown_in w.imports.entries m) (is_shown_in w.exports.entries m) (any_of_at (λ (x : WorldKey × WorldItem). is_id m (item_interface x.1)) w.imports.entries k e there h);
-    functions = all_at item_passes w.imports.entries k e (first_true (list_all item_passes w.imports.entries) (list_all item_passes w.exports.entries) ready_functions) there;
-  })
+  import_ready k e there =
+      entry_ready w.imports.entries k e there (first_true (entries_in_range other w.imports.entries) (entries_in_range other w.exports.entries) ranges)
+      (first_true (list_all item_passes w.imports.entries) (list_all item_passes w.exports.entries) ready_functions)
+      (λ m. or_left (is_shown_in w.imports.entries m) (is_shown_in w.exports.entries m)) (import_named e.0 e.1 stands) (import_owned e.0 e.1 stands)
     where
       stands : import_stands other n e.0 e.1 ≡ true
       stands = all_at (λ (x : WorldKey × WorldItem). import_stands other n x.0 x.1) w.imports.entries k e
@@ -323,16 +263,179 @@ module _ (own other : Resolve) (valid : IsValid other) (matched : List (Option I
           (list_all (λ (x : WorldKey × WorldItem). export_stands other x.0 x.1) w.exports.entries) stand) there
 
   pub export_ready : (k : ℕ) (e : WorldKey × WorldItem) → slice_get w.exports.entries k ≡ Some e → IsKeyReady f e.0 × IsItemReady f e.1
-  export_ready k e there = entry_ready e (record {
-    range = all_at (λ (x : WorldKey × WorldItem). key_in_range other x.0 && item_in_range other x.1) w.exports.entries k e
-        (second_true (entries_in_range other w.imports.entries) (entries_in_range other w.exports.entries) ranges) there;
-    key_named = export_named e.0 e.1 stands;
-    type_owned = export_owned e.0 e.1 stands;
-    shown = λ m h. or_right (is_shown_in w.imports.entries m) (is_shown_in w.exports.entries m) (any_of_at (λ (x : WorldKey × WorldItem). is_id m (item_interface x.1)) w.exports.entries k e there h);
-    functions = all_at item_passes w.exports.entries k e (second_true (list_all item_passes w.imports.entries) (list_all item_passes w.exports.entries) ready_functions) there;
-  })
+  export_ready k e there =
+      entry_ready w.exports.entries k e there (second_true (entries_in_range other w.imports.entries) (entries_in_range other w.exports.entries) ranges)
+      (second_true (list_all item_passes w.imports.entries) (list_all item_passes w.exports.entries) ready_functions)
+      (λ m. or_right (is_shown_in w.imports.entries m) (is_shown_in w.exports.entries m)) (export_named e.0 e.1 stands) (export_owned e.0 e.1 stands)
     where
       stands : export_stands other e.0 e.1 ≡ true
       stands = all_at (λ (x : WorldKey × WorldItem). export_stands other x.0 x.1) w.exports.entries k e
           (second_true (list_all (λ (x : WorldKey × WorldItem). import_stands other n x.0 x.1) w.imports.entries)
           (list_all (λ (x : WorldKey × WorldItem). export_stands other x.0 x.1) w.exports.entries) stand) there
+
+-- ---- keys and items that are ready
+
+module _ (f : Renumbering) where
+  key_test : (k : WorldKey) → IsKeyReady f k → is_key_carried f.carries_interface k ≡ true
+  key_test x h = search std_rules
+
+  -- keys of entries that are ready are carried
+  pub keys_carried : (es : List (WorldKey × WorldItem)) → ((k : ℕ) (e : WorldKey × WorldItem) → slice_get es k ≡ Some e → IsKeyReady f e.0)
+      → list_all (is_key_carried f.carries_interface) (keys_of es) ≡ true
+  keys_carried [] ready = refl
+  keys_carried (e ∷ es) ready = both (is_key_carried f.carries_interface e.0) (list_all (is_key_carried f.carries_interface) (keys_of es)) (key_test e.0 (ready zero e refl))
+      (keys_carried es (λ k x at. ready (suc k) x at))
+
+  -- where nothing was there, all entries are new
+  pub all_new : (interfaces : List ℕ) (es : List (WorldKey × WorldItem)) → ((k : ℕ) (e : WorldKey × WorldItem) → slice_get es k ≡ Some e → IsKeyReady f e.0 × IsItemReady f e.1)
+      → AreReady f interfaces [] es
+  all_new interfaces es ready = search std_rules
+
+-- ---- the whole
+
+module _ (own other merged : Resolve) (m : Matches) (c : Carried) (numbers : List ℕ) (valid_own : IsValid own) (valid_other : IsValid other) (p : IsFirstPass own other merged m c numbers) where
+  abbrev matched : List (Option InterfaceId)
+  matched = m.interfaces.items
+
+  abbrev path_fates : List Fate
+  path_fates = first_fates own other matched c
+
+  abbrev by_path : Renumbering
+  by_path = first_of matched c path_fates numbers
+
+  abbrev start : ℕ
+  start = length own.types.items + length {A = TypeDef} []
+
+  chosen : AreChosen other matched c.copied_worlds.items c.copied_interfaces.items
+  chosen = chosen_so own other m c (is_in_range other valid_other) p.all p.numbered
+
+  long : length c.copied_interfaces.items ≡ length matched
+  long = p.numbered.interface_count ∙ sym p.all.interfaces
+
+  long_worlds : length c.copied_worlds.items ≡ length m.worlds.items
+  long_worlds = p.numbered.world_count ∙ sym p.all.worlds
+
+  -- what the first pass carries is carried
+  carried : IsCarried other merged by_path
+  carried = record {
+    packages = λ n old at. let x = packages_hold own other merged c m.packages.items p.by_name p.numbered.new_packages p.numbered.packages p.gains p.grown p.new_packages p.gained p.packages
+        p.packages_here n old at in record { image = x.0; at_image = x.1; name = x.2 };
+    types = types_hold own other valid_own valid_other matched c numbers chosen p.same p.none long p.numbered.interfaces start p.types.numbers_are merged types_begin interfaces_begin p.new_types
+        p.more_types p.types p.types_here;
+    interfaces = interfaces_hold own other valid_own valid_other matched c numbers chosen p.same p.none long p.numbered.interfaces start p.types.numbers_are merged types_begin interfaces_begin
+        p.numbered.interface_count p.new_interfaces p.more_interfaces p.interfaces p.interfaces_here;
+    copied_types = copied_carried path_fates;
+    copied_interfaces = λ n h. or_left (flag_under c.copied_interfaces.items n) (is_matched matched n) h;
+    types_rise = types_rise own other valid_own valid_other matched c numbers chosen p.same p.none long p.numbered.interfaces start p.types.numbers_are (omega arith)
+        types_count;
+    interfaces_rise = interfaces_rise own other valid_own valid_other matched c numbers chosen p.same p.none long p.numbered.interfaces start p.types.numbers_are;
+    worlds_apart = worlds_apart (length own.worlds.items) c.copied_worlds.items m.worlds.items c.worlds.items long_worlds p.numbered.worlds;
+  }
+    where
+      types_begin : BeginsWith own.types.items merged.types.items
+      types_begin = (p.new_types ++ p.more_types, p.types_here)
+
+      interfaces_begin : BeginsWith own.interfaces.items merged.interfaces.items
+      interfaces_begin = (p.new_interfaces ++ p.more_interfaces, p.interfaces_here)
+
+      types_count : length numbers ≡ length other.types.items
+      types_count = ap length p.types.numbers_are ∙ (numbers_by_long start path_fates ∙ fates_long own other m c)
+
+  -- its copies stand behind own entries, and inline interfaces come with the world that shows them
+  all_copied : AreCopies own other merged by_path
+  all_copied = record {
+    carried = carried;
+    new_types = types_behind;
+    new_interfaces = λ n h. subst (λ l. length own.interfaces.items ≤ number_under l n) (sym p.numbered.interfaces)
+        (copied_behind (length own.interfaces.items) c.copied_interfaces.items (map interface_number matched) n (long ∙ sym (length-map matched interface_number)) h);
+    inline_copied = inline_copied;
+    inline_shown = inline_shown;
+  }
+    where
+      types_behind : (n : ℕ) → by_path.copies_type n ≡ true → length own.types.items ≤ number_under numbers n
+      types_behind n h =
+          let behind = copied_past start path_fates n h in
+          let here : number_under numbers n ≡ number_under (numbers_by start path_fates) n = ap (λ l. number_under l n) p.types.numbers_are in
+          omega (arith, behind, here)
+
+      inline_copied : (n : ℕ) (i : Interface) → (flag_under c.copied_interfaces.items n || is_matched matched n) ≡ true → interface_at other n ≡ Some i → i.name ≡ None
+          → flag_under c.copied_interfaces.items n ≡ true
+      inline_copied n i carried at none = go (flag_under c.copied_interfaces.items n) refl carried
+        where
+          go : (b : Bool) → flag_under c.copied_interfaces.items n ≡ b → (b || is_matched matched n) ≡ true → flag_under c.copied_interfaces.items n ≡ true
+          go true e k = e
+          go false e k =
+              let is = p.same n k in
+              let same : is.old ≡ i = some_same is.old i (sym is.found ∙ at) in
+              no_true (sym (ap is_some none) ∙ (ap (λ (x : Interface). is_some x.name) (sym same) ∙ named_of_path other n is.old is.found is.has_path))
+
+      inline_shown : (n : ℕ) (i : Interface) (k : ℕ) (w : World) → flag_under c.copied_interfaces.items n ≡ true → interface_at other n ≡ Some i → i.name ≡ None → world_at other k ≡ Some w
+          → has (filter_map item_interface (items_of w)) n ≡ true → flag_under c.copied_worlds.items k ≡ true
+      inline_shown n i k w set at none at_w shows =
+          let by = shown_by c.copied_worlds.items other.worlds.items n (sym (chosen.inline n i at (ap is_some none)) ∙ set) in
+          let one : by.place ≡ k = one_shows other valid_other n i at none by.place k by.world w by.at_place at_w (times_of by.world n by.shows) (some_count n (items_of w) shows) in
+          ap (flag_under c.copied_worlds.items) (sym one) ∙ by.set
+
+  -- a world that is copied stands under its new number, entry by entry, behind own ones
+  module _ (n : ℕ) (w : World) (at : world_at other n ≡ Some w) (set : flag_under c.copied_worlds.items n ≡ true) where
+    types_named : (k : ℕ) (def : TypeDef) (a : ℕ) (s : String Global) → type_at other k ≡ Some def → def.name ≡ Some s → def.owner ≡ as_interface a → is_matched matched a ≡ true → (id : TypeId)
+        × (type_named own matched a (text_of s) ≡ Some id)
+    types_named = names own other valid_own valid_other matched c numbers chosen p.same p.none long p.numbered.interfaces start p.types.numbers_are
+
+    ready_imports : (k : ℕ) (e : WorldKey × WorldItem) → slice_get w.imports.entries k ≡ Some e → IsKeyReady by_path e.0 × IsItemReady by_path e.1
+    ready_imports = import_ready own other valid_other matched c numbers chosen types_named n w at set
+
+    ready_exports : (k : ℕ) (e : WorldKey × WorldItem) → slice_get w.exports.entries k ≡ Some e → IsKeyReady by_path e.0 × IsItemReady by_path e.1
+    ready_exports = export_ready own other valid_other matched c numbers chosen types_named n w at set
+
+    -- entries whose keys are carried are joined to none
+    entries_join : (es news : List (WorldKey × WorldItem)) → ((k : ℕ) (e : WorldKey × WorldItem) → slice_get es k ≡ Some e → IsKeyReady by_path e.0 × IsItemReady by_path e.1)
+        → IsDistinct key_eq (keys_of es) → AreNewCopied c.interfaces.items numbers [] es news → Joined by_path [] es news
+    entries_join es news ready apart copies = items_join by_path c.interfaces.items numbers (λ k h. refl) refl [] es news
+        (copies (keys_apart c.interfaces.items by_path.carries_interface
+        (interfaces_once own other valid_own valid_other matched c numbers chosen p.same p.none long p.numbered.interfaces start p.types.numbers_are) (keys_of es)
+        (keys_carried by_path es (λ k e there. (ready k e there).0)) apart))
+        (all_new by_path c.interfaces.items es ready)
+
+    world_copy : IsWorldCopy other merged by_path n
+    world_copy =
+        let place = kept_placed (IsWorldCarried c numbers) c.copied_worlds.items (map world_number m.worlds.items) other.worlds.items p.new_worlds p.worlds
+        (long_worlds ∙ sym (length-map m.worlds.items world_number)) (length own.worlds.items) p.own_worlds [] (sym p.own_count) n w set at in
+        record {
+          joined = record {
+            old = w;
+            found = at;
+            carries = set;
+            image = place.image;
+            at_image = ap (λ l. slice_get l (by_path.worlds n)) (p.worlds_here ∙ ap (λ l. p.own_worlds ++ l) (sym (append-nil p.new_worlds)))
+                ∙ (ap (slice_get (p.own_worlds ++ (p.new_worlds ++ []))) (ap (λ l. number_under l n) p.numbered.worlds) ∙ place.at_image);
+            new_imports = place.image.imports.entries;
+            imports = refl;
+            joined_imports = entries_join w.imports.entries place.image.imports.entries ready_imports (valid_other.distinct_keys.worlds n w at).0 place.is.imports;
+            new_exports = place.image.exports.entries;
+            exports = refl;
+            joined_exports = entries_join w.exports.entries place.image.exports.entries ready_exports (valid_other.distinct_keys.worlds n w at).1 place.is.exports;
+          };
+          name = place.is.name;
+          stability = place.is.stability;
+          in_package = ap package_number place.is.in_package ∙ home_number c.packages.items w.«package»;
+        }
+
+  worlds_copied : (n : ℕ) → flag_under c.copied_worlds.items n ≡ true → IsWorldCopy other merged by_path n × (length own.worlds.items ≤ number_under c.worlds.items n)
+  worlds_copied n set =
+      let less = flag_within c.copied_worlds.items n set in
+      let count = p.numbered.world_count in
+      let there = within_there other.worlds.items n (omega (arith, less, count)) in (
+        world_copy n there.0 there.1 set,
+        subst (λ l. length own.worlds.items ≤ number_under l n) (sym p.numbered.worlds)
+            (copied_behind (length own.worlds.items) c.copied_worlds.items (map world_number m.worlds.items) n (long_worlds ∙ sym (length-map m.worlds.items world_number)) set),
+      )
+
+pub first_is_carried : FirstIsCarried
+first_is_carried = carried
+
+pub first_is_copied : FirstIsCopied
+first_is_copied = all_copied
+
+pub first_worlds_are_copied : FirstWorldsAreCopied
+first_worlds_are_copied = worlds_copied

@@ -1,19 +1,22 @@
 -- Entries whose keys are new stand behind those that were there.
-use Rattle.std.proofs.Common.{rules as std_rules, ◌≡◌, refl, sym, ap, ◌∙◌, ℕ, Bool, true, false, not, ◌||◌, List, [], ◌∷◌, ◌++◌, append-nil, append_assoc, if◌then◌else◌}
-use Rattle.std.proofs.lemmas.{Bool.and_from as both}
-use Rattle.std.specs.List.{filter, list_all, list_any, AllByRecursion, AllZip, IsDistinct}
-use Rattle.std.specs.Map.{keys_of}
-use Rattle.indexmap.specs.IndexMap.{insert_all, insert_entry}
-use Rattle.wit_model.specs.{Valid.key_eq}
-use Rattle.wit_model.specs.declared.model.{WorldItem.WorldItem, WorldKey.WorldKey}
-use Rattle.bind_copy.specs.Copies.{become_one, is_key_under, is_new_under, IsEntryUnder, IsKeyUnder}
+use Rattle.base_lemmas.proofs.{Bools.left_of as first_true, Bools.right_of as second_true, Elements.contains-later}
+use Rattle.bind_copy.specs.Copies.{AreNewCopied, IsEntryUnder, IsKeyUnder, become_one, is_key_under, is_new_under}
 use Rattle.bind_union.proofs.Lists.{no_true}
-use Rattle.base_lemmas.proofs.Bools.{left_of as first_true, right_of as second_true}
+use Rattle.indexmap.specs.IndexMap.{insert_all, insert_entry}
+use Rattle.std.proofs.Common.{Bool, List, [], ap, append-nil, append_assoc, arith, cond, false, if◌then◌else◌, not, refl, rules as std_rules, sym, true, ℕ, ◌++◌, ◌||◌, ◌∙◌, ◌∷◌, ◌≡◌}
+use Rattle.std.proofs.lemmas.{Bool.and_from as both, Map.Made.IsDistinct-keys_filter}
+use Rattle.std.specs.{List.AllByRecursion, List.AllZip, List.Contains, List.IsDistinct, List.filter, List.list_all, List.list_any, Map.keys_of}
+use Rattle.wit_model.specs.{Valid.key_eq, declared.model.WorldItem.WorldItem, declared.model.WorldKey.WorldKey}
 
 -- what a filter leaves passes
 pub filter_passes : {X : Type 0} (p : X → Bool) (xs : List X) → list_all p (filter p xs) ≡ true
 filter_passes p [] = refl
 filter_passes p (x ∷ xs) = search (std_rules, both, filter_passes p xs)
+
+-- where all pass, it leaves all
+pub filter_whole : {A : Type 0} (p : A → Bool) (xs : List A) → ((x : A) → Contains xs x → p x ≡ true) → filter p xs ≡ xs
+filter_whole p [] each = refl
+filter_whole p (x ∷ xs) each = ap (λ b. cond b (x ∷ filter p xs) (filter p xs)) (each x (0, omega arith, refl)) ∙ ap (λ l. x ∷ l) (filter_whole p xs (λ y held. each y (contains-later x xs y held)))
 
 pub none_more : {X : Type 0} (p : X → Bool) (xs : List X) (y : X) → not (list_any p xs) ≡ true → p y ≡ false → not (list_any p (xs ++ y ∷ [])) ≡ true
 none_more p [] y h k = ap (λ b. not (b || false)) k
@@ -66,3 +69,9 @@ module _ (interfaces types : List ℕ) where
         append_assoc,
         all_behind (es ++ y ∷ []) ds ys zip.1 (still_new es d.0 y zip.0.0 ds (second_true (test es d) (list_all (test es) ds) new) distinct.0) distinct.1,
       )
+
+  -- so do copies of those whose keys are new
+  pub new_behind : (here olds news : List (WorldKey × WorldItem)) → IsDistinct (become_one interfaces) (keys_of olds) → AreNewCopied interfaces types here olds news
+      → insert_all key_eq here news ≡ here ++ news
+  new_behind here olds news apart copied =
+      all_behind here (filter (test here) olds) news (copied apart) (filter_passes (test here) olds) (IsDistinct-keys_filter (become_one interfaces) (test here) olds apart)

@@ -103,6 +103,5 @@ module _ {V : Type 0} (id_of : V → ℕ) (number : ℕ → ℕ) (copies left_ou
       go false q xs zip more =
           elim (ready.there zero e refl q) [
             | inl c ↦ names.met (text_of e.0) (id_of e.1) (named es) (named xs) c (more xs zip)
-            | inr l ↦
-                names.left (text_of e.0) (id_of e.1) (named es) (named xs) l (more xs zip)
+            | inr l ↦ names.left (text_of e.0) (id_of e.1) (named es) (named xs) l (more xs zip)
           ]

@@ -1,11 +1,11 @@
 -- Where copies of things stand whose flags are set, under the numbers that are given to them one behind the other.
-use Rattle.std.proofs.Common.{◌≡◌, sym, ap, subst, ◌∙◌, ℕ, zero, suc, ◌+◌, arith, Bool, true, false, List, [], ◌∷◌, ◌++◌, length, Some, slice_get, append_assoc}
-use Rattle.std.proofs.lemmas.List.{length_push as length_behind}
-use Rattle.std.specs.List.{AllZip}
+use Rattle.bind_carry.proofs.CopiesPlaced.{get_behind, nothing_there, some_same}
+use Rattle.bind_carry.specs.{First.flag_under, Numbers.numbers_of, Whole.KeptSoFar, Whole.kept}
 use Rattle.bind_copy.specs.Copies.{number_under}
 use Rattle.bind_union.proofs.Lists.{no_true}
-use Rattle.bind_carry.specs.{First.flag_under, Numbers.numbers_of, Whole.kept}
-use Rattle.bind_carry.proofs.CopiesPlaced.{get_behind, nothing_there, some_same}
+use Rattle.std.proofs.Common.{Bool, List, Some, [], ap, append-nil, append_assoc, arith, false, length, slice_get, subst, suc, sym, true, zero, ℕ, ◌++◌, ◌+◌, ◌∙◌, ◌∷◌, ◌≡◌}
+use Rattle.std.proofs.lemmas.List.{length_push as length_behind}
+use Rattle.std.specs.List.{AllZip}
 
 -- What a copy is, and that it stands at its place.
 pub record IsKeptAt {X Y : Type 0} (P : X → Y → Type 0) (old : X) (news : List Y) (place : ℕ) : Type 0 where
@@ -37,3 +37,8 @@ module _ {X Y : Type 0} (P : X → Y → Type 0) where
         at_image = ap (λ l. slice_get l (number_under (numbers_of (first + 1) bs os) n)) (sym (append_assoc before (y ∷ []) (ys ++ rest))) ∙ far.at_image;
         is = far.is;
       }
+
+module _ {X Y : Type 0} (P : X → Y → Type 0) (flags : List Bool) (xs : List X) where
+  -- things that are copied one after the other, where their flags are set, are all copied in the end
+  pub all_kept : (left_flags : List Bool) (left : List X) (done : List Y) → left_flags ≡ [] → KeptSoFar P flags xs left_flags left done → AllZip P (kept flags xs) done
+  all_kept left_flags left done ended so = subst (AllZip P (kept flags xs)) (append-nil done) (so [] (subst (λ l. AllZip P (kept l left) []) (sym ended) tt))

@@ -1,25 +1,22 @@
 -- Keys of the other's bound world stay apart under both numberings, and what is gained of them comes behind what was there.
-use Rattle.std.proofs.Common.{rules as std_rules, ◌≡◌, refl, sym, ap, subst, ◌∙◌, ℕ, false, ◌||◌, List, [], ◌∷◌, ◌++◌, append_assoc, if◌then◌else◌, Bool, true, ◌+◌, length, arith, Some, is_none, is_some}
-use Rattle.std.proofs.lemmas.{List.Elements.AllZip-push, Map.Made.IsDistinct-keys_filter, Bool.and_from as both}
-use Rattle.std.specs.List.{list_any, AllZip, IsDistinct, list_all, AllByRecursion, filter, Contains}
-use Rattle.std.specs.{Map.keys_of, Option.option_map_or}
-use Rattle.indexmap.specs.{IndexSet.insert_key, IndexMap.insert_all}
-use Rattle.wit_model.specs.declared.model.{WorldItem.WorldItem, WorldKey.WorldKey, Interface.Interface, InterfaceId.InterfaceId, Resolve.Resolve, World.World}
-use Rattle.wit_model.specs.declared.model.TypeDef.{TypeDef}
-use Rattle.wit_model.specs.{Valid.key_eq, Valid.IsValid, Lookup.interface_at, Lookup.world_at}
-use Rattle.bind_copy.specs.Copies.{become_one, IsKeyUnder, number_under, is_new_under}
-use Rattle.bind_copy.proofs.{Copied.at_middle, Gained.same_images}
-use Rattle.bind_carry.specs.{BoundGains.AreKeysUnder, InRange.IsInRange, Renumbered.is_matched, Shown.AreShownBelow, Union.IsUnionOf, Which.AreMatchedAll}
-use Rattle.bind_carry.specs.{First.flag_under, First.is_named_at, Marked.is_inline_at, Marked.AreChosen, MatchedSame.AreMatchedAt, MatchedSame.NoneOfPath}
-use Rattle.base_lemmas.proofs.{Bools.left_of as first_true, Bools.right_of as second_true, Options.nameless as none_of}
-use Rattle.base_lemmas.proofs.Elements.{contains-later}
+use Rattle.base_lemmas.proofs.{Bools.left_of as first_true, Bools.right_of as second_true, Elements.contains-later}
 use Rattle.bind_add.specs.declared.added.Added.{Added}
+use Rattle.bind_carry.proofs.{CopiesPlaced.uncopied_under, FirstInterfaces.excluded, FirstNumbers.chosen_so, FirstNumbers.interfaces_once}
+use Rattle.bind_carry.proofs.{InsertedBehind.new_behind, Ranges.is_in_range, Ranges.shown_below, Ready.interface_count, SecondInitial.gained_inline_alone}
+use Rattle.bind_carry.proofs.{SecondInitial.gained_long, WorldEntries.export_keyed, WorldEntries.import_keyed}
+use Rattle.bind_carry.specs.{BoundGains.AreKeysUnder, First.flag_under, First.is_named_at, InRange.IsInRange, Marked.AreChosen, Marked.is_inline_at}
+use Rattle.bind_carry.specs.{MatchedSame.AreMatchedAt, MatchedSame.NoneOfPath, Renumbered.is_matched, Shown.AreShownBelow, Union.IsUnionOf, Which.AreMatchedAll}
+use Rattle.bind_carry.specs.declared.plan.Carried.{Carried}
+use Rattle.bind_copy.proofs.{Copied.at_middle, Gained.same_images}
+use Rattle.bind_copy.specs.Copies.{IsKeyUnder, become_one, number_under}
 use Rattle.bind_match.specs.declared.matches.Matches.{Matches}
 use Rattle.bind_union.proofs.Lists.{no_true}
-use Rattle.bind_carry.specs.declared.plan.Carried.{Carried}
-use Rattle.bind_carry.proofs.{FirstCarried.chosen_so, FirstCarried.interfaces_once, Ready.interface_count, WorldEntries.export_keyed, WorldEntries.import_keyed}
-use Rattle.bind_carry.proofs.{FirstNumbers.uncopied_under, Ranges.is_in_range, Ranges.shown_below, FirstInterfaces.excluded}
-use Rattle.bind_carry.proofs.{InsertedBehind.all_behind, InsertedBehind.filter_passes, SecondInitial.gained_inline_alone, SecondInitial.gained_long}
+use Rattle.indexmap.specs.{IndexMap.insert_all, IndexSet.insert_key}
+use Rattle.std.proofs.Common.{Bool, List, Some, [], ap, append_assoc, arith, false, if◌then◌else◌, is_some, length, refl, rules as std_rules, subst, sym, true, ℕ, ◌++◌, ◌+◌, ◌||◌, ◌∙◌, ◌∷◌, ◌≡◌}
+use Rattle.std.proofs.lemmas.{Bool.and_from as both, Bool.false_from_ne_true, List.Elements.AllZip-push}
+use Rattle.std.specs.{List.AllByRecursion, List.AllZip, List.Contains, List.IsDistinct, List.list_all, List.list_any, Map.keys_of, Option.option_map_or}
+use Rattle.wit_model.specs.{Lookup.interface_at, Lookup.world_at, Valid.IsValid, Valid.key_eq, declared.model.Interface.Interface}
+use Rattle.wit_model.specs.declared.model.{InterfaceId.InterfaceId, Resolve.Resolve, TypeDef.TypeDef, World.World, WorldItem.WorldItem, WorldKey.WorldKey}
 use Rattle.wit_model.specs.declared.model.WorldKey.TheVariants as key
 
 -- ---- Keys that are put into a set one behind the other, under new numbers.
@@ -28,9 +25,6 @@ module _ (interfaces : List ℕ) where
   -- the keys in front of those that are left are in the set, in their order
   abbrev pub KeysSoFar : List (WorldKey × WorldItem) → List (WorldKey × WorldItem) → List WorldKey → Type 0
   KeysSoFar whole left done = IsDistinct (become_one interfaces) (keys_of whole) → (front : List WorldKey) × (front ++ keys_of left ≡ keys_of whole) × AllZip (IsKeyUnder interfaces) front done
-
-  pub no_keys : (whole : List (WorldKey × WorldItem)) → KeysSoFar whole whole []
-  no_keys whole apart = ([], refl, tt)
 
   absent : (front done rest : List WorldKey) (k n : WorldKey) → IsKeyUnder interfaces k n → AllZip (IsKeyUnder interfaces) front done → IsDistinct (become_one interfaces) (front ++ k ∷ rest)
       → list_any (key_eq n) done ≡ false
@@ -62,9 +56,6 @@ abbrev pub is_key_carried : (ℕ → Bool) → WorldKey → Bool
 is_key_carried carried (key.Name name) = true
 is_key_carried carried (key.Interface id) = carried id.0
 
-no_false : {A : Type 0} → true ≡ false → A
-no_false e = let wrong : ⊥ = cc in absurd wrong
-
 module _ (numbers : List ℕ) (carried : ℕ → Bool) (once : (m n : ℕ) → carried m ≡ true → carried n ≡ true → number_under numbers m ≡ number_under numbers n → m ≡ n) where
   one_apart : (k y : WorldKey) → is_key_carried carried k ≡ true → is_key_carried carried y ≡ true → key_eq k y ≡ false → become_one numbers k y ≡ false
   one_apart x y c d h = search std_rules
@@ -85,7 +76,7 @@ module _ (numbers : List ℕ) (carried : ℕ → Bool) (once : (m n : ℕ) → c
 -- ---- what the page is for
 
 -- keys of a list whose interfaces pass
-pub keys_pass : (p : ℕ → Bool) (es : List (WorldKey × WorldItem)) → ((e : WorldKey × WorldItem) → Contains es e → (id : InterfaceId) → e.0 ≡ key.Interface id → p id.0 ≡ true)
+keys_pass : (p : ℕ → Bool) (es : List (WorldKey × WorldItem)) → ((e : WorldKey × WorldItem) → Contains es e → (id : InterfaceId) → e.0 ≡ key.Interface id → p id.0 ≡ true)
     → list_all (is_key_carried p) (keys_of es) ≡ true
 keys_pass p [] each = refl
 keys_pass p (e ∷ es) each = both (is_key_carried p e.0) (list_all (is_key_carried p) (keys_of es)) (one e.0 (each e (0, omega arith, refl)))
@@ -94,6 +85,14 @@ keys_pass p (e ∷ es) each = both (is_key_carried p e.0) (list_all (is_key_carr
     one : (k : WorldKey) → ((id : InterfaceId) → k ≡ key.Interface id → p id.0 ≡ true) → is_key_carried p k ≡ true
     one (key.Name t) h = refl
     one (key.Interface id) h = h id refl
+
+-- so keys of entries stay apart where the interfaces among them have names
+pub entries_apart : (other : Resolve) (numbers : List ℕ) → ((j n : ℕ) → is_named_at other j ≡ true → is_named_at other n ≡ true → number_under numbers j ≡ number_under numbers n → j ≡ n)
+    → (es : List (WorldKey × WorldItem))
+    → ((e : WorldKey × WorldItem) → Contains es e → (id : InterfaceId) → e.0 ≡ key.Interface id → (i : Interface) × (interface_at other id.0 ≡ Some i) × (is_some i.name ≡ true))
+    → IsDistinct key_eq (keys_of es) → IsDistinct (become_one numbers) (keys_of es)
+entries_apart other numbers once es named distinct = keys_apart numbers (is_named_at other) once (keys_of es)
+    (keys_pass (is_named_at other) es (λ e held id is. let k = named e held id is in ap (λ o. option_map_or (λ (j : Interface). is_some j.name) o false) k.1 ∙ k.2)) distinct
 
 module _ (own other : Resolve) (valid_own : IsValid own) (valid_other : IsValid other) (world other_world : ℕ) (m : Matches) (w v : World) (added : Added) (keys : List WorldKey)
     (u : IsUnionOf own other world other_world m w v added keys)
@@ -129,18 +128,12 @@ module _ (own other : Resolve) (valid_own : IsValid own) (valid_other : IsValid 
 
   -- ---- interfaces with a name
 
-  named_there : (n : ℕ) (i : Interface) → interface_at other n ≡ Some i → is_some i.name ≡ true → is_named_at other n ≡ true
-  named_there n i there named = ap (λ o. option_map_or (λ (j : Interface). is_some j.name) o false) there ∙ named
+  not_inline : (n : ℕ) (i : Interface) → interface_at other n ≡ Some i → is_some i.name ≡ true → is_inline_at other n ≡ false
+  not_inline n i there named = search std_rules
 
   named_stays : (n : ℕ) (i : Interface) → interface_at other n ≡ Some i → is_some i.name ≡ true → flag_under u.second.copied n ≡ false
-  named_stays n i there named = go (flag_under u.second.copied n) refl
-    where
-      not_inline : is_inline_at other n ≡ false
-      not_inline = ap (λ o. option_map_or (λ (j : Interface). is_none j.name) o false) there ∙ none_of i.name named
-
-      go : (b : Bool) → flag_under u.second.copied n ≡ b → flag_under u.second.copied n ≡ false
-      go false e = e
-      go true e = no_true (sym not_inline ∙ gained_inline_alone other c.interfaces.items w v imports_shown exports_shown n (ap (λ (l : List Bool). flag_under l n) (sym u.second.copied_are) ∙ e))
+  named_stays n i there named = false_from_ne_true (flag_under u.second.copied n) (λ e. no_true (sym (not_inline n i there named)
+      ∙ gained_inline_alone other c.interfaces.items w v imports_shown exports_shown n (ap (λ (l : List Bool). flag_under l n) (sym u.second.copied_are) ∙ e)))
 
   -- one with a name has one number in both
   pub named_number : (n : ℕ) (i : Interface) → interface_at other n ≡ Some i → is_some i.name ≡ true → number_under in_gains n ≡ number_under by_path n
@@ -161,7 +154,7 @@ module _ (own other : Resolve) (valid_own : IsValid own) (valid_other : IsValid 
       let a = is_named j h in
       let b = is_named n k in
       interfaces_once own other valid_own valid_other m.interfaces.items c u.types chosen same none long u.numbered.interfaces (length own.types.items + length {A = TypeDef} [])
-      u.types_copied.numbers_are u.numbered.interface_count
+      u.types_copied.numbers_are
       j n (named_carried j a.0 a.1 a.2) (named_carried n b.0 b.1 b.2) e
 
   gained_once : (j n : ℕ) → is_named_at other j ≡ true → is_named_at other n ≡ true → number_under in_gains j ≡ number_under in_gains n → j ≡ n
@@ -175,45 +168,25 @@ module _ (own other : Resolve) (valid_own : IsValid own) (valid_other : IsValid 
   pub export_named : (e : WorldKey × WorldItem) → Contains v.exports.entries e → (id : InterfaceId) → e.0 ≡ key.Interface id → IsNamed id.0
   export_named e held id is = let k = export_keyed other valid_other other_world v at e held id is in (k.def, k.found, k.named)
 
-  import_keys : list_all (is_key_carried (is_named_at other)) (keys_of v.imports.entries) ≡ true
-  import_keys = keys_pass (is_named_at other) v.imports.entries (λ e held id is. let k = import_named e held id is in named_there id.0 k.0 k.1 k.2)
-
-  export_keys : list_all (is_key_carried (is_named_at other)) (keys_of v.exports.entries) ≡ true
-  export_keys = keys_pass (is_named_at other) v.exports.entries (λ e held id is. let k = export_named e held id is in named_there id.0 k.0 k.1 k.2)
-
   pub imports_apart : IsDistinct (become_one in_gains) (keys_of v.imports.entries)
-  imports_apart = keys_apart in_gains (is_named_at other) gained_once (keys_of v.imports.entries) import_keys (valid_other.distinct_keys.worlds other_world v at).0
+  imports_apart = entries_apart other in_gains gained_once v.imports.entries import_named (valid_other.distinct_keys.worlds other_world v at).0
 
   pub exports_apart : IsDistinct (become_one in_gains) (keys_of v.exports.entries)
-  exports_apart = keys_apart in_gains (is_named_at other) gained_once (keys_of v.exports.entries) export_keys (valid_other.distinct_keys.worlds other_world v at).1
+  exports_apart = entries_apart other in_gains gained_once v.exports.entries export_named (valid_other.distinct_keys.worlds other_world v at).1
 
   -- by path alone, of each world
   pub by_path_apart : (n : ℕ) (x : World) → world_at other n ≡ Some x → IsDistinct (become_one by_path) (keys_of x.imports.entries) × IsDistinct (become_one by_path) (keys_of x.exports.entries)
   by_path_apart n x there = (
-    keys_apart by_path (is_named_at other) once (keys_of x.imports.entries)
-        (keys_pass (is_named_at other) x.imports.entries (λ e held id is. let k = import_keyed other valid_other n x there e held id is in named_there id.0 k.def k.found k.named))
+    entries_apart other by_path once x.imports.entries (λ e held id is. let k = import_keyed other valid_other n x there e held id is in (k.def, k.found, k.named))
         (valid_other.distinct_keys.worlds n x there).0,
-    keys_apart by_path (is_named_at other) once (keys_of x.exports.entries)
-        (keys_pass (is_named_at other) x.exports.entries (λ e held id is. let k = export_keyed other valid_other n x there e held id is in named_there id.0 k.def k.found k.named))
+    entries_apart other by_path once x.exports.entries (λ e held id is. let k = export_keyed other valid_other n x there e held id is in (k.def, k.found, k.named))
         (valid_other.distinct_keys.worlds n x there).1,
   )
 
   -- ---- what is gained
 
-  abbrev is_new_import : WorldKey × WorldItem → Bool
-  is_new_import e = is_new_under in_gains w.imports.entries e.0
-
-  abbrev is_new_export : WorldKey × WorldItem → Bool
-  is_new_export e = is_new_under in_gains w.exports.entries e.0
-
   pub imports_behind : insert_all key_eq w.imports.entries added.imports.entries ≡ w.imports.entries ++ added.imports.entries
-  imports_behind =
-      all_behind in_gains u.second.types w.imports.entries (filter is_new_import v.imports.entries) added.imports.entries (u.second.imports imports_apart)
-      (filter_passes is_new_import v.imports.entries)
-      (IsDistinct-keys_filter (become_one in_gains) is_new_import v.imports.entries imports_apart)
+  imports_behind = new_behind in_gains u.second.types w.imports.entries v.imports.entries added.imports.entries imports_apart u.second.imports
 
   pub exports_behind : insert_all key_eq w.exports.entries added.exports.entries ≡ w.exports.entries ++ added.exports.entries
-  exports_behind =
-      all_behind in_gains u.second.types w.exports.entries (filter is_new_export v.exports.entries) added.exports.entries (u.second.exports exports_apart)
-      (filter_passes is_new_export v.exports.entries)
-      (IsDistinct-keys_filter (become_one in_gains) is_new_export v.exports.entries exports_apart)
+  exports_behind = new_behind in_gains u.second.types w.exports.entries v.exports.entries added.exports.entries exports_apart u.second.exports

@@ -1,12 +1,12 @@
 -- What flags say that are set one after the other for the inline interfaces that are shown.
-use Rattle.std.proofs.Common.{rules as std_rules, ◌≡◌, refl, sym, ap, subst, ◌∙◌, ℕ, zero, suc, ◌<◌, arith, Bool, true, false, ◌&&◌, ◌||◌, not, List, [], ◌∷◌, length, Option, Some, None, is_none, is_some, slice_get, slice_set, unwrap_or}
-use Rattle.std.specs.{Prelude.String}
-use Rattle.std.specs.declared.alloc.Global.{Global}
-use Rattle.wit_model.specs.declared.model.{Interface.Interface, InterfaceId.InterfaceId, Resolve.Resolve, World.World, WorldItem.WorldItem, WorldKey.WorldKey}
-use Rattle.wit_model.specs.{Lookup.interface_at, Rules.is_id, Uses.item_interface}
-use Rattle.bind_carry.specs.{First.flag_under, Listed.given_interface, Shown.AreShownBelow, Shown.IsShownBelow, Which.new_interfaces}
-use Rattle.bind_carry.specs.Marked.{is_inline_at, is_shown_in, is_shown_of, mark_item, mark_items, mark_worlds, AreChosen}
-use Rattle.base_lemmas.proofs.{Bools.or_false, Bools.or_true, Numbers.differ, Numbers.equal, Options.none_not_some as none_is}
+use Rattle.base_lemmas.proofs.{Bools.or_false, Bools.or_true, Lists.set_there, Numbers.differ, Numbers.equal, Options.none_not_some as none_is}
+use Rattle.bind_add.proofs.Gains.{set_here}
+use Rattle.bind_carry.specs.{First.flag_under, Listed.given_interface, Marked.AreChosen, Marked.is_inline_at, Marked.is_shown_in, Marked.is_shown_of}
+use Rattle.bind_carry.specs.{Marked.mark_item, Marked.mark_items, Marked.mark_worlds, Shown.AreShownBelow, Shown.IsShownBelow, Which.new_interfaces}
+use Rattle.std.proofs.Common.{Bool, List, None, Option, Some, [], ap, arith, false, is_none, is_some, length, not, refl, rules as std_rules, slice_get, slice_set, subst, suc, sym, true, unwrap_or, zero, ℕ, ◌&&◌, ◌<◌, ◌||◌, ◌∙◌, ◌∷◌, ◌≡◌}
+use Rattle.std.specs.{Prelude.String, declared.alloc.Global.Global}
+use Rattle.wit_model.specs.{Lookup.interface_at, Rules.is_id, Uses.item_interface, declared.model.Interface.Interface, declared.model.InterfaceId.InterfaceId}
+use Rattle.wit_model.specs.declared.model.{Resolve.Resolve, World.World, WorldItem.WorldItem, WorldKey.WorldKey}
 
 -- ---- tests
 
@@ -19,24 +19,10 @@ joins x i y z = search std_rules
 -- ---- one flag
 
 flag_here : (marks : List Bool) (k : ℕ) → k < length marks → flag_under (slice_set marks k true) k ≡ true
-flag_here [] k l = absurd (omega (arith, l))
-flag_here (b ∷ bs) zero l = refl
-flag_here (b ∷ bs) (suc k) l = flag_here bs k (omega (arith, l))
+flag_here marks k l = ap (λ o. unwrap_or o false) (set_here marks k true l)
 
 flag_there : (marks : List Bool) (k n : ℕ) → (k ≡ n → ⊥) → flag_under (slice_set marks k true) n ≡ flag_under marks n
-flag_there [] k n h = refl
-flag_there (b ∷ bs) zero zero h = absurd (h refl)
-flag_there (b ∷ bs) zero (suc n) h = refl
-flag_there (b ∷ bs) (suc k) zero h = refl
-flag_there (b ∷ bs) (suc k) (suc n) h = flag_there bs k n (λ e. h (ap suc e))
-
-no_false : {A : Type 0} → true ≡ false → A
-no_false e = let wrong : ⊥ = cc in absurd wrong
-
-set_long : (marks : List Bool) (k : ℕ) → length (slice_set marks k true) ≡ length marks
-set_long [] k = refl
-set_long (b ∷ bs) zero = refl
-set_long (b ∷ bs) (suc k) = ap suc (set_long bs k)
+flag_there marks k n h = ap (λ o. unwrap_or o false) (set_there marks k n true (λ e. h (sym e)))
 
 -- all that worlds show is below so many
 abbrev pub AreWorldsBelow : ℕ → List World → Type 0

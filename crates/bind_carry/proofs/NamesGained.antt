@@ -1,28 +1,32 @@
 -- Names that a package gains weren't there, so they come behind what was.
-use Rattle.std.proofs.Common.{rules as std_rules, ◌≡◌, refl, sym, ap, ◌∙◌, ℕ, zero, suc, arith, Bool, true, false, not, ◌&&◌, ◌||◌, cond, List, [], ◌∷◌, ◌++◌, length, map, append-nil, append_assoc, Option, Some, is_none, is_some, option_and_then, slice_get, string_eq, if◌then◌else◌}
-use Rattle.std.proofs.lemmas.{List.length-map, Bool.and_from as both, Option.slice_get_within as within_list}
-use Rattle.std.specs.{Prelude.String, Map.keys_of, Map.lookup, HashMap.get_by_text}
-use Rattle.std.specs.List.{filter, list_all, list_any, AllByRecursion, AllZip, Contains, IsDistinct}
-use Rattle.std.specs.declared.alloc.Global.{Global}
-use Rattle.indexmap.specs.IndexMap.{insert_all, insert_entry}
-use Rattle.wit_model.specs.declared.model.{Interface.Interface, InterfaceId.InterfaceId, Package.Package, PackageId.PackageId, Resolve.Resolve, WorldId.WorldId}
-use Rattle.wit_model.specs.declared.model.World.{World}
-use Rattle.wit_model.specs.{Lookup.interface_at, Lookup.package_at, Lookup.world_at, Valid.IsValid, Valid.names_in_packages, Valid.places}
-use Rattle.wit_model.specs.Rules.{interface_belongs, is_id, names_itself, passes, package_number, text_is, world_belongs, is_world_name}
-use Rattle.wit_model.specs.Text.{Text, text_eq, text_of}
-use Rattle.wit_model.proofs.{Distinct.text_eq_flip, OnePath.found-in, OnePath.package-passes, TextLemmas.text_named as label_is, TextLemmas.text_same}
-use Rattle.bind_copy.specs.Copies.{number_under}
-use Rattle.bind_match.specs.Matching.{given, interface_in, is_root_world, own_interface_of, own_world_of, world_in}
-use Rattle.bind_match.specs.declared.matches.Matches.{Matches}
-use Rattle.bind_union.proofs.Lists.{no_true}
-use Rattle.bind_carry.specs.{AddedApart.AreMatchedByName, InRange.IsInRange, Numbers.package_number as number_of_package, Which.new_worlds, Which.IsNumbered, First.flag_under, Listed.given_interface, Marked.AreChosen, Packaged.grown_packages}
+use Rattle.base_lemmas.proofs.{Bools.left_of as first_true, Bools.right_of as second_true, Elements.all-contained, Elements.contains-later}
+use Rattle.base_lemmas.proofs.{Elements.contains-map, Lists.mapped_get as mapped_at, Options.none_not_some}
+use Rattle.bind_add.specs.declared.added.Names.{Names}
+use Rattle.bind_carry.proofs.{CopiesPlaced.nothing_there, CopiesPlaced.some_same, CopiesPlaced.uncopied_under, FirstOfUnion.found_number}
+use Rattle.bind_carry.proofs.{FirstOfUnion.unflagged_found, InsertedBehind.none_more}
+use Rattle.bind_carry.specs.{AddedApart.AreMatchedByName, First.flag_under, Listed.given_interface, Marked.AreChosen}
+use Rattle.bind_carry.specs.{Numbers.package_number as number_of_package, Packaged.IsGained, Packaged.grown_packages, Which.IsNumbered, Which.new_worlds}
 use Rattle.bind_carry.specs.declared.plan.Carried.{Carried}
-use Rattle.bind_carry.proofs.{CopiesPlaced.some_same, Ranges.is_in_range, FirstNumbers.uncopied_under, FirstOfUnion.found_number, FirstOfUnion.unflagged_found, InsertedBehind.none_more}
-use Rattle.base_lemmas.proofs.{Bools.left_of as first_true, Bools.right_of as second_true, Elements.all-contained, Elements.contains-later, Lists.mapped_get as mapped_at, Options.none_not_some}
+use Rattle.bind_copy.specs.Copies.{names_in, number_under}
+use Rattle.bind_match.specs.Matching.{given, interface_in, is_root_world, own_interface_of, own_world_of, package_from, world_in}
+use Rattle.bind_match.specs.declared.matches.Matches.{Matches}
+use Rattle.bind_union.proofs.{Carrying.path_by, Carrying.path_parts, KeptPackages.found_option, KeptPackages.interfaces_stand, KeptPackages.is_interface_of}
+use Rattle.bind_union.proofs.{KeptPackages.is_world_of, KeptPackages.worlds_stand, Lists.no_true, UnitedWorlds.world_path}
+use Rattle.bind_union.specs.Merged.{interface_names, world_names}
+use Rattle.indexmap.specs.IndexMap.{insert_all, insert_entry}
+use Rattle.std.proofs.Common.{Bool, List, Option, Some, [], ap, append-nil, append_assoc, ap₂, arith, cond, false, if◌then◌else◌, is_none, is_some, length, map, not, option_and_then, option_map, refl, rules as std_rules, slice_get, subst, suc, sym, true, zero, ℕ, ◌&&◌, ◌++◌, ◌+◌, ◌||◌, ◌∙◌, ◌∷◌, ◌≡◌}
+use Rattle.std.proofs.lemmas.{Bool.and_from as both, List.length-map, Map.Made.IsDistinct-keys_filter, Option.slice_get_within as within_list}
+use Rattle.std.specs.{HashMap.get_by_text, List.AllByRecursion, List.AllZip, List.Contains, List.IsDistinct, List.filter, List.list_all, List.list_any}
+use Rattle.std.specs.{Map.keys_of, Map.lookup, Prelude.String, String.string_eq, declared.alloc.Global.Global}
+use Rattle.wit_model.proofs.{Distinct.text_eq_flip, TextLemmas.text_named as label_is, TextLemmas.text_same}
+use Rattle.wit_model.specs.Lookup.{identity_of, interface_at, package_at, path_of_interface, path_of_world, world_at}
+use Rattle.wit_model.specs.{Names.path_in, Rules.is_id, Rules.package_number, Rules.same_package_name, Rules.text_is, Text.Text, Text.optional_text}
+use Rattle.wit_model.specs.{Text.text_eq, Text.text_of, Valid.IsValid, declared.model.Interface.Interface, declared.model.InterfaceId.InterfaceId}
+use Rattle.wit_model.specs.declared.model.{Package.Package, PackageId.PackageId, PackageName.PackageName, Resolve.Resolve, World.World, WorldId.WorldId}
 
 -- ---- lists
 
-pub passes_of_filter : {A : Type 0} (p q : A → Bool) (xs : List A) → ((x : A) → Contains xs x → p x ≡ true → q x ≡ true) → list_all q (filter p xs) ≡ true
+passes_of_filter : {A : Type 0} (p q : A → Bool) (xs : List A) → ((x : A) → Contains xs x → p x ≡ true → q x ≡ true) → list_all q (filter p xs) ≡ true
 passes_of_filter p q [] each = refl
 passes_of_filter p q (x ∷ xs) each = go (p x) refl (passes_of_filter p q xs (λ y held. each y (contains-later x xs y held)))
   where
@@ -63,7 +67,7 @@ module _ {X : Type 0} where
   still_fresh es y (d ∷ ds) new apart =
       search (std_rules, both, none_more, first_true, text_eq_flip, second_true, still_fresh es y ds (second_true (is_fresh es d) (list_all (is_fresh es) ds) new) apart.1)
 
-  pub fresh_behind : (es news : List (String Global × X)) → list_all (is_fresh es) news ≡ true → IsDistinct string_eq (keys_of news) → insert_all string_eq es news ≡ es ++ news
+  fresh_behind : (es news : List (String Global × X)) → list_all (is_fresh es) news ≡ true → IsDistinct string_eq (keys_of news) → insert_all string_eq es news ≡ es ++ news
   unfolding IsDistinct
   fresh_behind es [] new distinct = sym (append-nil es)
   fresh_behind es (y ∷ ys) new distinct =
@@ -81,22 +85,38 @@ module _ {X : Type 0} where
 abbrev pub KeepsNames : {X Y : Type 0} → (String Global × X → String Global × Y → Type 0) → Type 0
 KeepsNames {X} {Y} R = (a : String Global × X) (b : String Global × Y) → R a b → text_of b.0 ≡ text_of a.0
 
-module _ {X Y : Type 0} (R : String Global × X → String Global × Y → Type 0) (keeps : KeepsNames R) where
-  apart_along : (k l : String Global) → text_of l ≡ text_of k → (xs : List (String Global × X)) (ys : List (String Global × Y)) → AllZip R xs ys
+-- their names are the same, so keys are as different, and as new
+pub names_along : {X Y : Type 0} (R : String Global × X → String Global × Y → Type 0) → KeepsNames R → (xs : List (String Global × X)) (ys : List (String Global × Y)) → AllZip R xs ys
+    → names_in ys ≡ names_in xs
+names_along R keeps [] [] zip = refl
+names_along R keeps [] (y ∷ ys) zip = absurd zip
+names_along R keeps (x ∷ xs) [] zip = absurd zip
+names_along R keeps (x ∷ xs) (y ∷ ys) zip = ap₂ (λ a b. a ∷ b) (keeps x y zip.0) (names_along R keeps xs ys zip.1)
+
+same_first : {a b : Text} {us vs : List Text} → a ∷ us ≡ b ∷ vs → a ≡ b
+same_first e = cc
+
+same_rest : {a b : Text} {us vs : List Text} → a ∷ us ≡ b ∷ vs → us ≡ vs
+same_rest e = cc
+
+module _ {X Y : Type 0} where
+  apart_by_names : (k l : String Global) → text_of l ≡ text_of k → (xs : List (String Global × X)) (ys : List (String Global × Y)) → names_in ys ≡ names_in xs
       → AllByRecursion (λ n. string_eq k n ≡ false) (keys_of xs) → AllByRecursion (λ n. string_eq l n ≡ false) (keys_of ys)
-  apart_along k l same [] [] zip h = tt
-  apart_along k l same [] (y ∷ ys) zip h = absurd zip
-  apart_along k l same (x ∷ xs) [] zip h = absurd zip
-  apart_along k l same (x ∷ xs) (y ∷ ys) zip h = ((λ i. text_eq (same i) (keeps x y zip.0 i)) ∙ h.0, apart_along k l same xs ys zip.1 h.1)
+  apart_by_names k l same xs [] e h = tt
+  apart_by_names k l same [] (y ∷ ys) e h = let wrong : ⊥ = cc in absurd wrong
+  apart_by_names k l same (x ∷ xs) (y ∷ ys) e h = ((λ i. text_eq (same i) (same_first e i)) ∙ h.0, apart_by_names k l same xs ys (same_rest e) h.1)
 
-  pub distinct_along : (xs : List (String Global × X)) (ys : List (String Global × Y)) → AllZip R xs ys → IsDistinct string_eq (keys_of xs) → IsDistinct string_eq (keys_of ys)
+  pub distinct_by_names : (xs : List (String Global × X)) (ys : List (String Global × Y)) → names_in ys ≡ names_in xs → IsDistinct string_eq (keys_of xs) → IsDistinct string_eq (keys_of ys)
   unfolding IsDistinct
-  distinct_along [] [] zip h = tt
-  distinct_along [] (y ∷ ys) zip h = absurd zip
-  distinct_along (x ∷ xs) [] zip h = absurd zip
-  distinct_along (x ∷ xs) (y ∷ ys) zip h = (apart_along x.0 y.0 (keeps x y zip.0) xs ys zip.1 h.0, distinct_along xs ys zip.1 h.1)
+  distinct_by_names xs [] e h = tt
+  distinct_by_names [] (y ∷ ys) e h = let wrong : ⊥ = cc in absurd wrong
+  distinct_by_names (x ∷ xs) (y ∷ ys) e h = (apart_by_names x.0 y.0 (same_first e) xs ys (same_rest e) h.0, distinct_by_names xs ys (same_rest e) h.1)
 
-  pub fresh_along : {Z : Type 0} (es : List (String Global × Z)) (xs : List (String Global × X)) (ys : List (String Global × Y)) → AllZip R xs ys → list_all (is_fresh es) xs ≡ true
+module _ {X Y : Type 0} (R : String Global × X → String Global × Y → Type 0) (keeps : KeepsNames R) where
+  pub distinct_along : (xs : List (String Global × X)) (ys : List (String Global × Y)) → AllZip R xs ys → IsDistinct string_eq (keys_of xs) → IsDistinct string_eq (keys_of ys)
+  distinct_along xs ys zip h = distinct_by_names xs ys (names_along R keeps xs ys zip) h
+
+  fresh_along : {Z : Type 0} (es : List (String Global × Z)) (xs : List (String Global × X)) (ys : List (String Global × Y)) → AllZip R xs ys → list_all (is_fresh es) xs ≡ true
       → list_all (is_fresh es) ys ≡ true
   fresh_along es [] [] zip h = refl
   fresh_along es [] (y ∷ ys) zip h = absurd zip
@@ -104,108 +124,126 @@ module _ {X Y : Type 0} (R : String Global × X → String Global × Y → Type 
   fresh_along es (x ∷ xs) (y ∷ ys) zip h =
       search (std_rules, both, first_true, second_true, fresh_along es xs ys zip.1 (second_true (is_fresh es x) (list_all (is_fresh es) xs) h))
 
+  -- so copies of what is new stand behind what was there
+  pub copies_behind : (test : String Global × X → Bool) (own : List (String Global × Y)) (olds : List (String Global × X)) (news : List (String Global × Y)) → AllZip R (filter test olds) news
+      → IsDistinct string_eq (keys_of olds) → ((e : String Global × X) → Contains olds e → test e ≡ true → is_fresh own e ≡ true) → insert_all string_eq own news ≡ own ++ news
+  copies_behind test own olds news zip distinct each =
+      fresh_behind own news (fresh_along own (filter test olds) news zip (passes_of_filter test (is_fresh own) olds each))
+      (distinct_along (filter test olds) news zip (IsDistinct-keys_filter string_eq test olds distinct))
+
 -- ---- what stands in a package's maps
-
--- An interface that a package's map has bears the name under which it stands, and is of the package.
-pub record IsInterfaceOf (r : Resolve) (n : ℕ) (e : String Global × InterfaceId) : Type 0 where
-  pub def : Interface
-  pub found : interface_at r e.1.0 ≡ Some def
-  pub label : String Global
-  pub named_ : def.name ≡ Some label
-  pub text : text_of label ≡ text_of e.0
-  pub home : PackageId
-  pub in_package : def.«package» ≡ Some home
-  pub here : home.0 ≡ n
-
--- So is a world.
-pub record IsWorldOf (r : Resolve) (n : ℕ) (e : String Global × WorldId) : Type 0 where
-  pub def : World
-  pub found : world_at r e.1.0 ≡ Some def
-  pub text : text_of def.name ≡ text_of e.0
-  pub home : PackageId
-  pub in_package : def.«package» ≡ Some home
-  pub here : home.0 ≡ n
 
 pub home_is : (n : ℕ) (o : Option PackageId) → is_id n (package_number o) ≡ true → (home : PackageId) × (o ≡ Some home) × (home.0 ≡ n)
 home_is n x h = search std_rules
 
-module _ (r : Resolve) (valid : IsValid r) (n : ℕ) (p : Package) (at : package_at r n ≡ Some p) where
-  pub interface_of : (e : String Global × InterfaceId) → Contains p.interfaces.entries e → IsInterfaceOf r n e
-  unfolding places names_in_packages
-  interface_of e held = record {
-    def = d.0;
-    found = d.1;
-    label = label.0;
-    named_ = label.1;
-    text = label.2;
-    home = home.0;
-    in_package = home.1;
-    here = home.2;
-  }
-    where
-      range : IsInRange r
-      range = is_in_range r valid
+-- The interface of a name and a number in a package.
+pub record IsListedInterface (r : Resolve) (home : ℕ) (p : Package) (name : Text) (n : ℕ) : Type 0 where
+  pub interface_ : Interface
+  pub found : interface_at r n ≡ Some interface_
+  pub label : String Global
+  pub named : interface_.name ≡ Some label
+  pub text : text_of label ≡ name
+  pub id : PackageId
+  pub in_package : interface_.«package» ≡ Some id
+  pub number : id.0 ≡ home
+  pub path : path_of_interface r interface_ ≡ Some (path_in (identity_of p.name) name)
 
-      d : (i : Interface) × (interface_at r e.1.0 ≡ Some i)
-      d = found-in r.interfaces.items e.1.0 (all-contained _ p.interfaces.entries e (range.listed_interfaces n p at) held)
+-- The world of a name and a number in a package.
+pub record IsListedWorld (r : Resolve) (home : ℕ) (p : Package) (name : Text) (n : ℕ) : Type 0 where
+  pub world : World
+  pub found : world_at r n ≡ Some world
+  pub text : text_of world.name ≡ name
+  pub id : PackageId
+  pub in_package : world.«package» ≡ Some id
+  pub number : id.0 ≡ home
+  pub path : path_of_world r world ≡ Some (path_in (identity_of p.name) name)
 
-      label : (s : String Global) × (d.0.name ≡ Some s) × (text_of s ≡ text_of e.0)
-      label = label_is d.0.name (text_of e.0)
-          (ap (passes (λ (i : Interface). text_is i.name (text_of e.0))) (sym d.1)
-          ∙ all-contained (λ (x : String Global × InterfaceId). passes (λ i. text_is i.name (text_of x.0)) (interface_at r x.1.0)) p.interfaces.entries e
-          (first_true _ _ (package-passes names_in_packages r valid.rules.names_in_packages n p at)) held)
+module _ (r : Resolve) (valid : IsValid r) (home : ℕ) (p : Package) (at : package_at r home ≡ Some p) where
+  spelled : (name : Text) → path_by r (Some name) (Some home) ≡ Some (path_in (identity_of p.name) name)
+  spelled name = ap (option_map (λ (x : Package). path_in (identity_of x.name) name)) at
 
-      belongs : interface_belongs r n e ≡ true
-      belongs = all-contained (interface_belongs r n) p.interfaces.entries e (first_true _ _ (package-passes places r valid.rules.places n p at)) held
+  pub listed_interface : (name : Text) (n : ℕ) → Contains (interface_names p) (name, n) → IsListedInterface r home p name n
+  listed_interface name n held =
+      let i = found_option (λ (x : Interface). text_is x.name name && is_id home (package_number x.«package»)) (interface_at r n)
+      (all-contained (is_interface_of r home) (interface_names p) (name, n) (interfaces_stand r valid.rules home p at) held) in
+      let label = label_is i.0.name name (first_true (text_is i.0.name name) (is_id home (package_number i.0.«package»)) i.2) in
+      let id = home_is home i.0.«package» (second_true (text_is i.0.name name) (is_id home (package_number i.0.«package»)) i.2) in
+      record {
+        interface_ = i.0;
+        found = i.1;
+        label = label.0;
+        named = label.1;
+        text = label.2;
+        id = id.0;
+        in_package = id.1;
+        number = id.2;
+        path = path_parts r i.0
+            ∙ ((λ z. path_by r ((ap optional_text label.1 ∙ ap Some label.2) z) ((ap package_number id.1 ∙ ap Some id.2) z)) ∙ spelled name);
+      }
 
-      home : (home : PackageId) × (d.0.«package» ≡ Some home) × (home.0 ≡ n)
-      home = home_is n d.0.«package» (first_true (is_id n (package_number d.0.«package»)) (text_eq (text_of label.0) (text_of e.0))
-          (ap (passes (λ (s : String Global). is_id n (package_number d.0.«package») && text_eq (text_of s) (text_of e.0))) (sym label.1)
-          ∙ (ap (passes (λ (i : Interface). passes (λ (s : String Global). is_id n (package_number i.«package») && text_eq (text_of s) (text_of e.0)) i.name)) (sym d.1) ∙ belongs)))
+  pub listed_world : (name : Text) (n : ℕ) → Contains (world_names p) (name, n) → IsListedWorld r home p name n
+  listed_world name n held =
+      let w = found_option (λ (x : World). text_eq (text_of x.name) name && is_id home (package_number x.«package»)) (world_at r n)
+      (all-contained (is_world_of r home) (world_names p) (name, n) (worlds_stand r valid.rules home p at) held) in
+      let text : text_of w.0.name ≡ name = text_same (text_of w.0.name) name (first_true (text_eq (text_of w.0.name) name) (is_id home (package_number w.0.«package»)) w.2) in
+      let id = home_is home w.0.«package» (second_true (text_eq (text_of w.0.name) name) (is_id home (package_number w.0.«package»)) w.2) in
+      record {
+        world = w.0;
+        found = w.1;
+        text = text;
+        id = id.0;
+        in_package = id.1;
+        number = id.2;
+        path = world_path r w.0 ∙ ((λ z. path_by r (Some (text z)) ((ap package_number id.1 ∙ ap Some id.2) z)) ∙ spelled name);
+      }
 
-  pub world_of : (e : String Global × WorldId) → Contains p.worlds.entries e → IsWorldOf r n e
-  unfolding places
-  world_of e held = record {
-    def = d.0;
-    found = d.1;
-    text = text_same (text_of d.0.name) (text_of e.0) (second_true (is_id n (package_number d.0.«package»)) (text_eq (text_of d.0.name) (text_of e.0)) belongs);
-    home = home.0;
-    in_package = home.1;
-    here = home.2;
-  }
-    where
-      range : IsInRange r
-      range = is_in_range r valid
+  -- what an entry is
+  pub interface_of : (e : String Global × InterfaceId) → Contains p.interfaces.entries e → IsListedInterface r home p (text_of e.0) e.1.0
+  interface_of e held = listed_interface (text_of e.0) e.1.0 (contains-map (λ (d : String Global × InterfaceId). (text_of d.0, d.1.0)) p.interfaces.entries e held)
 
-      d : (w : World) × (world_at r e.1.0 ≡ Some w)
-      d = found-in r.worlds.items e.1.0 (all-contained _ p.worlds.entries e (range.listed_worlds n p at) held)
-
-      belongs : (is_id n (package_number d.0.«package») && text_eq (text_of d.0.name) (text_of e.0)) ≡ true
-      belongs =
-          ap (passes (λ (w : World). is_id n (package_number w.«package») && text_eq (text_of w.name) (text_of e.0))) (sym d.1)
-          ∙ all-contained (world_belongs r n) p.worlds.entries e
-          (first_true _ (list_all (λ (x : String Global × InterfaceId). not (is_world_name p (text_of x.0)) || names_itself r x) p.interfaces.entries)
-          (second_true (list_all (interface_belongs r n) p.interfaces.entries) _ (package-passes places r valid.rules.places n p at))) held
-
-      home : (home : PackageId) × (d.0.«package» ≡ Some home) × (home.0 ≡ n)
-      home = home_is n d.0.«package» (first_true (is_id n (package_number d.0.«package»)) (text_eq (text_of d.0.name) (text_of e.0)) belongs)
+  pub world_of : (e : String Global × WorldId) → Contains p.worlds.entries e → IsListedWorld r home p (text_of e.0) e.1.0
+  world_of e held = listed_world (text_of e.0) e.1.0 (contains-map (λ (d : String Global × WorldId). (text_of d.0, d.1.0)) p.worlds.entries e held)
 
 -- ---- what gains
 
--- The package of the other of which an own one gains.
-pub record IsGrownOf (flags : List Bool) (numbers : List ℕ) (packages : List Package) (e : ℕ × Package) : Type 0 where
+-- how many flags in front of a place aren't set
+abbrev pub rank : List Bool → ℕ → ℕ
+rank [] k = 0
+rank (b ∷ bs) zero = 0
+rank (true ∷ bs) (suc k) = rank bs k
+rank (false ∷ bs) (suc k) = suc (rank bs k)
+
+-- The package of the other of which an own one gains, at the place that it has among them.
+pub record IsGrownOf (flags : List Bool) (numbers : List ℕ) (packages : List Package) (i : ℕ) (e : ℕ × Package) : Type 0 where
   pub place : ℕ
   pub at_place : slice_get packages place ≡ Some e.1
   pub bare : flag_under flags place ≡ false
   pub number : number_under numbers place ≡ e.0
+  pub rank_is : i ≡ rank flags place
 
-pub grown_of : (flags : List Bool) (ns : List ℕ) (ps : List Package) (i : ℕ) (e : ℕ × Package) → slice_get (grown_packages flags ns ps) i ≡ Some e → IsGrownOf flags ns ps e
+pub grown_of : (flags : List Bool) (ns : List ℕ) (ps : List Package) (i : ℕ) (e : ℕ × Package) → slice_get (grown_packages flags ns ps) i ≡ Some e → IsGrownOf flags ns ps i e
 grown_of [] ns ps i e at = let wrong : ⊥ = cc in absurd wrong
 grown_of (b ∷ bs) [] ps i e at = let wrong : ⊥ = cc in absurd wrong
 grown_of (b ∷ bs) (n ∷ ns) [] i e at = let wrong : ⊥ = cc in absurd wrong
-grown_of (true ∷ bs) (n ∷ ns) (p ∷ ps) i e at = let r = grown_of bs ns ps i e at in record { place = suc r.place; at_place = r.at_place; bare = r.bare; number = r.number }
+grown_of (true ∷ bs) (n ∷ ns) (p ∷ ps) i e at =
+    let r = grown_of bs ns ps i e at in record { place = suc r.place; at_place = r.at_place; bare = r.bare; number = r.number; rank_is = r.rank_is }
 grown_of (false ∷ bs) (n ∷ ns) (p ∷ ps) zero e at = search std_rules
-grown_of (false ∷ bs) (n ∷ ns) (p ∷ ps) (suc i) e at = let r = grown_of bs ns ps i e at in record { place = suc r.place; at_place = r.at_place; bare = r.bare; number = r.number }
+grown_of (false ∷ bs) (n ∷ ns) (p ∷ ps) (suc i) e at =
+    let r = grown_of bs ns ps i e at in record { place = suc r.place; at_place = r.at_place; bare = r.bare; number = r.number; rank_is = ap suc r.rank_is }
+
+-- what an own package gains of the package of a place that isn't new
+pub gain_of : (c : Carried) (flags : List Bool) (ns : List ℕ) (ps : List Package) (gs : List Names) → AllZip (IsGained c) (grown_packages flags ns ps) gs → length flags ≡ length ns
+    → (n : ℕ) (p : Package)
+    → slice_get flags n ≡ Some false → slice_get ps n ≡ Some p
+    → (i : ℕ) × (g : Names) × (slice_get gs i ≡ Some g) × IsGained c (number_under ns n, p) g
+gain_of c [] ns ps gs zip long n p bare at = nothing_there false bare
+gain_of c (b ∷ bs) [] ps gs zip long n p bare at = absurd (omega (arith, long))
+gain_of c (b ∷ bs) (k ∷ ns) [] gs zip long n p bare at = nothing_there p at
+gain_of c (true ∷ bs) (k ∷ ns) (q ∷ ps) gs zip long zero p bare at = no_true (sym (some_same true false bare))
+gain_of c (true ∷ bs) (k ∷ ns) (q ∷ ps) gs zip long (suc n) p bare at = gain_of c bs ns ps gs zip (omega (arith, long)) n p bare at
+gain_of c (false ∷ bs) (k ∷ ns) (q ∷ ps) [] zip long n p bare at = absurd zip
+gain_of c (false ∷ bs) (k ∷ ns) (q ∷ ps) (g ∷ gs) zip long zero p bare at = (0, g, refl, subst (λ x. IsGained c (k, x) g) (some_same q p at) zip.0)
+gain_of c (false ∷ bs) (k ∷ ns) (q ∷ ps) (g ∷ gs) zip long (suc n) p bare at = let r = gain_of c bs ns ps gs zip.1 (omega (arith, long)) n p bare at in (suc r.0, r.1, r.2, r.3)
 
 pub new_world_flag : (r : Resolve) (ms : List (Option WorldId)) (ws : List World) (n : ℕ) (o : Option WorldId) (w : World) → slice_get ms n ≡ Some o → slice_get ws n ≡ Some w
     → flag_under (new_worlds r ms ws) n ≡ (is_none o && not (is_root_world r w))
@@ -213,6 +251,29 @@ new_world_flag r [] ws n o w a b = let wrong : ⊥ = cc in absurd wrong
 new_world_flag r (m ∷ ms) [] n o w a b = let wrong : ⊥ = cc in absurd wrong
 new_world_flag r (m ∷ ms) (x ∷ xs) zero o w a b = let p = some_same m o a in let q = some_same x w b in λ i. is_none (p i) && not (is_root_world r (q i))
 new_world_flag r (m ∷ ms) (x ∷ xs) (suc n) o w a b = new_world_flag r ms xs n o w a b
+
+-- one of a name is found
+pub some_from : (name : PackageName) (n : ℕ) (ps : List Package) (k : ℕ) (p : Package) → slice_get ps k ≡ Some p → same_package_name name p.name ≡ true → (id : PackageId)
+    × (package_from name n ps ≡ Some id)
+some_from name n [] k p at same = let wrong : ⊥ = cc in absurd wrong
+some_from name n (q ∷ qs) k p at same = go (same_package_name name q.name) refl k at (λ j there. some_from name (n + 1) qs j p there same)
+  where
+    go : (b : Bool) → same_package_name name q.name ≡ b → (k : ℕ) → slice_get (q ∷ qs) k ≡ Some p → ((j : ℕ) → slice_get qs j ≡ Some p → (id : PackageId) × (package_from name (n + 1) qs ≡ Some id))
+        → (id : PackageId) × (cond b (Some (record { 0 = n })) (package_from name (n + 1) qs) ≡ Some id)
+    go true e k at later = (record { 0 = n }, refl)
+    go false e zero at later = no_true (sym e ∙ (ap (λ (x : Package). same_package_name name x.name) (some_same q p at) ∙ same))
+    go false e (suc k) at later = later k at
+
+-- what an own package that was found has under a name
+module _ (own : Resolve) (ms : List (Option PackageId)) (n : ℕ) (o : Option PackageId) (matched : slice_get ms n ≡ Some o) (home : PackageId) (t : Text) (here : home.0 ≡ n) where
+  at_home : given (slice_get ms home.0) ≡ o
+  at_home = ap (λ k. given (slice_get ms k)) here ∙ ap given matched
+
+  pub interface_looked : interface_in own ms (Some home) t ≡ option_and_then (λ (id : PackageId). option_and_then (λ (q : Package). get_by_text q.interfaces t) (package_at own id.0)) o
+  interface_looked = ap (option_and_then (λ (id : PackageId). option_and_then (λ (q : Package). get_by_text q.interfaces t) (package_at own id.0))) at_home
+
+  pub world_looked : world_in own ms (Some home) t ≡ option_and_then (λ (id : PackageId). option_and_then (λ (q : Package). get_by_text q.worlds t) (package_at own id.0)) o
+  world_looked = ap (option_and_then (λ (id : PackageId). option_and_then (λ (q : Package). get_by_text q.worlds t) (package_at own id.0))) at_home
 
 module _ (own other : Resolve) (valid_other : IsValid other) (m : Matches) (c : Carried) (by_name : AreMatchedByName own other m) (numbered : IsNumbered own other m c) (chosen : AreChosen other m.interfaces.items c.copied_worlds.items c.copied_interfaces.items) where
   long : length c.new_packages.items ≡ length (map number_of_package m.packages.items)
@@ -229,41 +290,39 @@ module _ (own other : Resolve) (valid_other : IsValid other) (m : Matches) (c : 
     -- an interface is copied where its name is new in the own package
     pub copied_interface : (e : String Global × InterfaceId) → Contains q.interfaces.entries e → flag_under c.copied_interfaces.items e.1.0 ≡ is_fresh p.interfaces.entries e
     copied_interface e held =
-        chosen.named e.1.0 x.def x.found (ap is_some x.named_)
-        ∙ ap not (ap (λ o. is_some (given_interface o)) matched ∙ (ap is_some found ∙ (found_in_names (text_of x.label) p.interfaces.entries ∙ ap (is_name_in p.interfaces.entries) x.text)))
+        chosen.named e.1.0 x.interface_ x.found (ap is_some x.named)
+        ∙ ap not (ap (λ o. is_some (given_interface o)) matched ∙ (ap is_some found ∙ found_in_names (text_of e.0) p.interfaces.entries))
       where
-        x : IsInterfaceOf other k e
+        x : IsListedInterface other k q (text_of e.0) e.1.0
         x = interface_of other valid_other k q at e held
 
-        matched : slice_get m.interfaces.items e.1.0 ≡ Some (own_interface_of own m.packages.items x.def)
-        matched = ap (λ l. slice_get l e.1.0) by_name.interfaces ∙ mapped_at (own_interface_of own m.packages.items) other.interfaces.items e.1.0 x.def x.found
+        matched : slice_get m.interfaces.items e.1.0 ≡ Some (own_interface_of own m.packages.items x.interface_)
+        matched = ap (λ l. slice_get l e.1.0) by_name.interfaces ∙ mapped_at (own_interface_of own m.packages.items) other.interfaces.items e.1.0 x.interface_ x.found
 
-        found : own_interface_of own m.packages.items x.def ≡ get_by_text p.interfaces (text_of x.label)
+        found : own_interface_of own m.packages.items x.interface_ ≡ get_by_text p.interfaces (text_of e.0)
         found =
-            ap (λ o. option_and_then (λ (name : String Global). interface_in own m.packages.items x.def.«package» (text_of name)) o) x.named_
-            ∙ (ap (λ h. interface_in own m.packages.items h (text_of x.label)) x.in_package
-            ∙ (ap (λ o. option_and_then (λ (id : PackageId). option_and_then (λ (p : Package). get_by_text p.interfaces (text_of x.label)) (package_at own id.0)) (given o))
-            (ap (slice_get m.packages.items) x.here ∙ home.1)
-            ∙ ap (λ o. option_and_then (λ (p : Package). get_by_text p.interfaces (text_of x.label)) o) (ap (package_at own) home.2 ∙ at_own)))
+            ap (option_and_then (λ (s : String Global). interface_in own m.packages.items x.interface_.«package» (text_of s))) x.named
+            ∙ ((λ i. interface_in own m.packages.items (x.in_package i) (x.text i))
+            ∙ (interface_looked own m.packages.items k (Some home.0) home.1 x.id (text_of e.0) x.number
+            ∙ ap (option_and_then (λ (p : Package). get_by_text p.interfaces (text_of e.0))) (ap (package_at own) home.2 ∙ at_own)))
 
     -- and a world, but for the root world
     pub copied_world : (e : String Global × WorldId) (held : Contains q.worlds.entries e)
-        → flag_under c.copied_worlds.items e.1.0 ≡ (is_fresh p.worlds.entries e && not (is_root_world other (world_of other valid_other k q at e held).def))
+        → flag_under c.copied_worlds.items e.1.0 ≡ (is_fresh p.worlds.entries e && not (is_root_world other (world_of other valid_other k q at e held).world))
     copied_world e held =
         ap (λ l. flag_under l e.1.0) numbered.copied_worlds
-        ∙ (new_world_flag other m.worlds.items other.worlds.items e.1.0 (own_world_of own m.packages.items x.def) x.def matched x.found
-        ∙ ap (λ b. b && not (is_root_world other x.def))
-        (none_not_some (own_world_of own m.packages.items x.def) ∙ ap not (ap is_some found ∙ (found_in_names (text_of x.def.name) p.worlds.entries ∙ ap (is_name_in p.worlds.entries) x.text))))
+        ∙ (new_world_flag other m.worlds.items other.worlds.items e.1.0 (own_world_of own m.packages.items x.world) x.world matched x.found
+        ∙ ap (λ b. b && not (is_root_world other x.world))
+        (none_not_some (own_world_of own m.packages.items x.world) ∙ ap not (ap is_some found ∙ found_in_names (text_of e.0) p.worlds.entries)))
       where
-        x : IsWorldOf other k e
+        x : IsListedWorld other k q (text_of e.0) e.1.0
         x = world_of other valid_other k q at e held
 
-        matched : slice_get m.worlds.items e.1.0 ≡ Some (own_world_of own m.packages.items x.def)
-        matched = ap (λ l. slice_get l e.1.0) by_name.worlds ∙ mapped_at (own_world_of own m.packages.items) other.worlds.items e.1.0 x.def x.found
+        matched : slice_get m.worlds.items e.1.0 ≡ Some (own_world_of own m.packages.items x.world)
+        matched = ap (λ l. slice_get l e.1.0) by_name.worlds ∙ mapped_at (own_world_of own m.packages.items) other.worlds.items e.1.0 x.world x.found
 
-        found : own_world_of own m.packages.items x.def ≡ get_by_text p.worlds (text_of x.def.name)
+        found : own_world_of own m.packages.items x.world ≡ get_by_text p.worlds (text_of e.0)
         found =
-            ap (λ h. world_in own m.packages.items h (text_of x.def.name)) x.in_package
-            ∙ (ap (λ o. option_and_then (λ (id : PackageId). option_and_then (λ (p : Package). get_by_text p.worlds (text_of x.def.name)) (package_at own id.0)) (given o))
-            (ap (slice_get m.packages.items) x.here ∙ home.1)
-            ∙ ap (λ o. option_and_then (λ (p : Package). get_by_text p.worlds (text_of x.def.name)) o) (ap (package_at own) home.2 ∙ at_own))
+            (λ i. world_in own m.packages.items (x.in_package i) (x.text i))
+            ∙ (world_looked own m.packages.items k (Some home.0) home.1 x.id (text_of e.0) x.number
+            ∙ ap (option_and_then (λ (p : Package). get_by_text p.worlds (text_of e.0))) (ap (package_at own) home.2 ∙ at_own))

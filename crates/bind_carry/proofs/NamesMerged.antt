@@ -1,104 +1,56 @@
 -- The names in packages once all is added: own ones, each package's followed by what is new in it, and then those of new packages.
-use Rattle.std.proofs.Common.{rules as std_rules, ◌≡◌, refl, sym, ap, ◌∙◌, ℕ, true, false, ◌&&◌, ◌==◌, not, [], ◌∷◌, ◌++◌, Option, Some, None, ◌⊎◌, inl, inr, ap₂, subst, zero, suc, ◌+◌, arith, Bool, cond, List, length, map, is_some, option_and_then, slice_get, string_eq, unwrap_or}
-use Rattle.std.proofs.lemmas.{Bool.and_from as both, List.length-map, List.map-append}
-use Rattle.std.specs.{Prelude.codes, Prelude.is_none, Prelude.String, List.list_all, List.filter, List.list_any, List.AllZip, List.Contains, Ordering.eq_by_cmp}
-use Rattle.std.specs.{Cmp.Lexicographic.texts_ties, Option.option_map_or, FinMap.find, HashMap.get_by_text}
-use Rattle.wit_model.specs.declared.model.{Package.Package, PackageName.PackageName, InterfaceId.InterfaceId, PackageId.PackageId, Resolve.Resolve}
-use Rattle.wit_model.specs.declared.model.WorldId.{WorldId}
-use Rattle.wit_model.specs.{Lookup.identity_of, Lookup.optional_version_text, Lookup.package_at, Text.Text, Text.text_cmp, Text.text_eq, Text.text_of}
-use Rattle.wit_model.specs.{Names.at_version, Names.is_identity, Names.is_label, Names.is_optional_version, Names.PackageIdentity, Rules.same_package_name}
-use Rattle.wit_model.specs.Valid.{IsValid}
-use Rattle.wit_model.proofs.{NameLaws.label_lacks, LookupLemmas.versionless, TextLemmas.text_same, Elements.contains-get}
-use Rattle.wit_model.proofs.{OnePath.IsPackageName, OnePath.package-name, OnePath.package-once, VersionLaws.same_name, VersionLaws.same_text}
-use Rattle.bind_meaning.specs.Binding.{package_text}
-use Rattle.bind_match.specs.Matching.{is_root_name, given, interface_in, is_root_world, own_interface_of, own_package_of, own_world_of, package_from, world_in}
-use Rattle.base_lemmas.proofs.Bools.{both_ways as either_way, left_of as first_true, right_of as second_true, and_flip}
-use Rattle.base_lemmas.proofs.{Options.none_is as no_version, Lists.map_of_map as map_twice, Lists.mapped_get as mapped_at}
-use Rattle.base_lemmas.proofs.{Numbers.same-number, Elements.any_of_map, Elements.contains-later, Elements.zip_at as zip_there, Elements.zip_at_right as zip_at}
-use Rattle.std.specs.declared.alloc.Global.{Global}
-use Rattle.indexmap.specs.IndexMap.{IsUnique}
-use Rattle.bind_add.specs.Growth.{GainsNone, HasGained, HaveGained}
-use Rattle.bind_add.specs.declared.added.Names.{Names}
-use Rattle.bind_copy.specs.Copies.{number_under}
+use Rattle.base_lemmas.proofs.{Bools.and_flip, Bools.both_ways as either_way, Bools.left_of as first_true, Bools.right_of as second_true, Elements.any_of_map}
+use Rattle.base_lemmas.proofs.{Elements.contains-later, Elements.zip_at_right as zip_at, Lists.map_of_map as map_twice, Lists.mapped_get as mapped_at}
+use Rattle.base_lemmas.proofs.Options.{none_is as no_version}
+use Rattle.bind_add.specs.{Growth.GainsNone, Growth.HasGained, Growth.HaveGained, declared.added.Names.Names}
+use Rattle.bind_carry.proofs.{CopiesPlaced.some_same, FirstNumbers.chosen_so, FirstOfUnion.IsFound, FirstOfUnion.found_own, FirstOfUnion.some_gains}
+use Rattle.bind_carry.proofs.{InsertedBehind.filter_whole, NamesGained.IsGrownOf, NamesGained.IsHome, NamesGained.IsListedInterface, NamesGained.IsListedWorld}
+use Rattle.bind_carry.proofs.NamesGained.{copied_interface, copied_world, gain_of, grown_of, home_of, interface_looked, interface_of, names_along}
+use Rattle.bind_carry.proofs.{NamesGained.new_world_flag, NamesGained.some_from, NamesGained.world_looked, NamesGained.world_of, Ranges.is_in_range}
+use Rattle.bind_carry.proofs.UnionDistinct.{interfaces_behind, matched_all, worlds_behind}
+use Rattle.bind_carry.specs.{AddedApart.AreMatchedByName, AddedNames.NamesAreMerged, First.flag_under, Listed.given_interface, ListedNames.PackageNames}
+use Rattle.bind_carry.specs.{ListedNames.carried_names, ListedNames.grown_names, ListedNames.texts_followed_by, Marked.AreChosen, Packaged.IsGained}
+use Rattle.bind_carry.specs.Packaged.{IsInterfaceName, IsPackageCarried, IsWorldName, grown_packages, is_copied_interface, is_copied_world}
+use Rattle.bind_carry.specs.{Which.IsNumbered, Whole.kept, declared.plan.Carried.Carried}
+use Rattle.bind_copy.specs.Copies.{names_in, number_under}
+use Rattle.bind_match.specs.Matching.{interface_in, is_root_name, is_root_world, own_interface_of, own_package_of, own_world_of, package_from, world_in}
 use Rattle.bind_match.specs.declared.matches.Matches.{Matches}
+use Rattle.bind_meaning.proofs.{KeyNames.Lacks, KeyNames.goes-on, KeyNames.same_cut, Maps.by_tie as tie_is}
+use Rattle.bind_meaning.specs.Binding.{package_text}
 use Rattle.bind_union.proofs.{Carrying.same_identity, Lists.no_true}
-use Rattle.bind_carry.specs.{AddedApart.AreMatchedByName, AddedNames.NamesAreMerged, Listed.given_interface, Which.IsNumbered, Whole.kept, First.flag_under}
-use Rattle.bind_carry.specs.{Marked.AreChosen, ListedNames.carried_names, ListedNames.grown_names, ListedNames.texts_followed_by, ListedNames.PackageNames}
-use Rattle.bind_carry.specs.Packaged.{grown_packages, is_copied_interface, is_copied_world, IsGained, IsInterfaceName, IsPackageCarried, IsWorldName}
-use Rattle.bind_carry.specs.declared.plan.Carried.{Carried}
-use Rattle.bind_carry.proofs.{CopiesPlaced.some_same, UnionDistinct.interfaces_behind, UnionDistinct.matched_all, UnionDistinct.worlds_behind}
-use Rattle.bind_carry.proofs.{FirstCarried.chosen_so, FirstOfUnion.found_own, FirstOfUnion.some_gains, FirstOfUnion.IsFound, Ranges.is_in_range}
-use Rattle.bind_carry.proofs.NamesGained.{copied_interface, copied_world, grown_of, home_of, interface_of, new_world_flag, world_of, IsGrownOf, IsHome, IsInterfaceOf, IsWorldOf, KeepsNames}
-use Rattle.bind_meaning.proofs.Maps.{by_tie as tie_is}
+use Rattle.indexmap.specs.IndexMap.{IsUnique}
+use Rattle.std.proofs.Common.{Bool, List, None, Option, Some, [], ap, append-nil, ap₂, arith, cond, false, inl, inr, is_some, length, map, not, option_and_then, refl, rules as std_rules, slice_get, string_eq, subst, suc, sym, true, unwrap_or, zero, ℕ, ◌&&◌, ◌++◌, ◌+◌, ◌∙◌, ◌∷◌, ◌≡◌, ◌⊎◌}
+use Rattle.std.proofs.lemmas.{Bool.and_from as both, List.map-append}
+use Rattle.std.specs.{Cmp.Lexicographic.texts_ties, FinMap.find, List.AllZip, List.Contains, List.filter, List.list_any, Option.option_map_or}
+use Rattle.std.specs.{Ordering.eq_by_cmp, Prelude.String, Prelude.codes, Prelude.is_none, declared.alloc.Global.Global}
+use Rattle.wit_model.proofs.{Elements.contains-get, LookupLemmas.versionless, NameLaws.identity_name, NameLaws.identity_namespace, NameLaws.label_lacks}
+use Rattle.wit_model.proofs.{OnePath.IsPackageName, OnePath.package-name, OnePath.package-once, TextLemmas.text_same, VersionLaws.same_name}
+use Rattle.wit_model.proofs.VersionLaws.{same_text}
+use Rattle.wit_model.specs.{Lookup.identity_of, Lookup.optional_version_text, Lookup.package_at, Names.PackageIdentity, Names.at_version, Names.is_identity}
+use Rattle.wit_model.specs.{Rules.same_package_name, Text.Text, Text.text_cmp, Text.text_eq, Text.text_of, Valid.IsValid}
+use Rattle.wit_model.specs.declared.model.{InterfaceId.InterfaceId, Package.Package, PackageId.PackageId, PackageName.PackageName, Resolve.Resolve}
+use Rattle.wit_model.specs.declared.model.WorldId.{WorldId}
 
 -- ---- The text that names a package names no other.
 
--- ---- texts up to a byte that they lack
-
-abbrev Lacks : ℕ → Text → Type 0
-Lacks c t = list_all (λ b. not (b == c)) t ≡ true
-
-heads : (a b : ℕ) (xs ys : Text) → a ∷ xs ≡ b ∷ ys → a ≡ b
-heads a b xs ys e = cc
-
-tails : (a b : ℕ) (xs ys : Text) → a ∷ xs ≡ b ∷ ys → xs ≡ ys
-tails a b xs ys e = cc
-
-differs : {A : Type 0} (c y : ℕ) → y ≡ c → not (y == c) ≡ true → A
-differs c y e h = let wrong : true ≡ false = sym h ∙ ap not (ap (λ (n : ℕ). n == c) e ∙ same-number c) in let no : ⊥ = cc in absurd no
-
-cut_same : (c : ℕ) (xs ys rs ss : Text) → Lacks c xs → Lacks c ys → xs ++ (c ∷ rs) ≡ ys ++ (c ∷ ss) → (xs ≡ ys) × (rs ≡ ss)
-cut_same c [] [] rs ss h k e = (refl, tails c c rs ss e)
-cut_same c [] (y ∷ ys) rs ss h k e = differs c y (sym (heads c y rs (ys ++ (c ∷ ss)) e)) (first_true (not (y == c)) (list_all (λ b. not (b == c)) ys) k)
-cut_same c (x ∷ xs) [] rs ss h k e = differs c x (heads x c (xs ++ (c ∷ rs)) ss e) (first_true (not (x == c)) (list_all (λ b. not (b == c)) xs) h)
-cut_same c (x ∷ xs) (y ∷ ys) rs ss h k e =
-    search (
-      std_rules,
-      second_true,
-      tails,
-      heads,
-      cut_same c xs ys rs ss (second_true (not (x == c)) (list_all (λ b. not (b == c)) xs) h)
-          (second_true (not (y == c)) (list_all (λ b. not (b == c)) ys) k) (tails x y (xs ++ (c ∷ rs)) (ys ++ (c ∷ ss)) e),
-    )
-
-versions : (v u : Option Text) → at_version v ≡ at_version u → v ≡ u
-versions x y e = search std_rules
-
 -- a text isn't followed by nothing, or by a version, where it holds `@`
-begins : {A : Type 0} (v : Option Text) (y : ℕ) (ys : Text) → at_version v ≡ y ∷ ys → not (y == 64) ≡ true → A
-begins x y ys e h = search std_rules
-
 end_same : (xs ys : Text) (v u : Option Text) → Lacks 64 xs → Lacks 64 ys → xs ++ at_version v ≡ ys ++ at_version u → (xs ≡ ys) × (v ≡ u)
-end_same [] [] v u h k e = (refl, versions v u e)
-end_same [] (y ∷ ys) v u h k e = begins v y (ys ++ at_version u) e (first_true (not (y == 64)) (list_all (λ b. not (b == 64)) ys) k)
-end_same (x ∷ xs) [] v u h k e = begins u x (xs ++ at_version v) (sym e) (first_true (not (x == 64)) (list_all (λ b. not (b == 64)) xs) h)
-end_same (x ∷ xs) (y ∷ ys) v u h k e =
-    search (
-      std_rules,
-      second_true,
-      tails,
-      heads,
-      end_same xs ys v u (second_true (not (x == 64)) (list_all (λ b. not (b == 64)) xs) h)
-          (second_true (not (y == 64)) (list_all (λ b. not (b == 64)) ys) k) (tails x y (xs ++ at_version v) (ys ++ at_version u) e),
-    )
+end_same xs ys None None h k e = (sym (append-nil xs) ∙ (e ∙ append-nil ys), refl)
+end_same xs ys (Some v) (Some u) h k e = let r = same_cut 64 xs v ys u h k e in (r.0, ap Some r.1)
+end_same xs ys None (Some u) h k e = absurd (goes-on 64 ys u (subst (Lacks 64) (sym (append-nil xs) ∙ e) h))
+end_same xs ys (Some v) None h k e = absurd (goes-on 64 xs v (subst (Lacks 64) (sym (append-nil ys) ∙ sym e) k))
 
 -- ---- packages
 
 pub one_package : (a b : PackageIdentity) → is_identity a ≡ true → is_identity b ≡ true → package_text a ≡ package_text b → a ≡ b
 one_package a b h k e = λ i. record { namespace = x.0 i; name = y.0 i; version = y.1 i }
   where
-    namespace_is : (p : PackageIdentity) → is_identity p ≡ true → is_label p.namespace ≡ true
-    namespace_is p q = first_true (is_label p.namespace) (is_label p.name && is_optional_version p.version) q
-
-    name_is : (p : PackageIdentity) → is_identity p ≡ true → is_label p.name ≡ true
-    name_is p q = first_true (is_label p.name) (is_optional_version p.version) (second_true (is_label p.namespace) (is_label p.name && is_optional_version p.version) q)
-
     x : (a.namespace ≡ b.namespace) × (a.name ++ at_version a.version ≡ b.name ++ at_version b.version)
-    x = cut_same 58 a.namespace b.namespace (a.name ++ at_version a.version) (b.name ++ at_version b.version) (label_lacks 58 refl a.namespace (namespace_is a h))
-        (label_lacks 58 refl b.namespace (namespace_is b k)) e
+    x = same_cut 58 a.namespace (a.name ++ at_version a.version) b.namespace (b.name ++ at_version b.version) (label_lacks 58 refl a.namespace (identity_namespace a h))
+        (label_lacks 58 refl b.namespace (identity_namespace b k)) e
 
     y : (a.name ≡ b.name) × (a.version ≡ b.version)
-    y = end_same a.name b.name a.version b.version (label_lacks 64 refl a.name (name_is a h)) (label_lacks 64 refl b.name (name_is b k)) x.1
+    y = end_same a.name b.name a.version b.version (label_lacks 64 refl a.name (identity_name a h)) (label_lacks 64 refl b.name (identity_name b k)) x.1
 
 -- the text that names a package
 abbrev pub text_of_package : Package → Text
@@ -169,55 +121,30 @@ kept_filter p (x ∷ xs) = search (std_rules, kept_filter p xs)
 
 -- ---- names of entries
 
-abbrev entry_names : {X : Type 0} → List (String Global × X) → List Text
-entry_names es = map (λ e. text_of e.0) es
-
-names_along : {X Y : Type 0} (R : String Global × X → String Global × Y → Type 0) → KeepsNames R → (xs : List (String Global × X)) (ys : List (String Global × Y)) → AllZip R xs ys
-    → entry_names ys ≡ entry_names xs
-names_along R keeps [] [] zip = refl
-names_along R keeps [] (y ∷ ys) zip = absurd zip
-names_along R keeps (x ∷ xs) [] zip = absurd zip
-names_along R keeps (x ∷ xs) (y ∷ ys) zip = ap₂ (λ a b. a ∷ b) (keeps x y zip.0) (names_along R keeps xs ys zip.1)
-
 -- names of entries that pass by their names
 names_passed : {X : Type 0} (p : String Global × X → Bool) (q : Text → Bool) (es : List (String Global × X)) → ((e : String Global × X) → Contains es e → p e ≡ q (text_of e.0))
-    → entry_names (filter p es) ≡ filter q (entry_names es)
+    → names_in (filter p es) ≡ filter q (names_in es)
 names_passed p q [] each = refl
 names_passed p q (e ∷ es) each = go (p e) (q (text_of e.0)) (each e (0, omega arith, refl)) (names_passed p q es (λ x held. each x (contains-later e es x held)))
   where
-    go : (b c : Bool) → b ≡ c → entry_names (filter p es) ≡ filter q (entry_names es)
-        → entry_names (cond b (e ∷ filter p es) (filter p es)) ≡ cond c (text_of e.0 ∷ filter q (entry_names es)) (filter q (entry_names es))
+    go : (b c : Bool) → b ≡ c → names_in (filter p es) ≡ filter q (names_in es)
+        → names_in (cond b (e ∷ filter p es) (filter p es)) ≡ cond c (text_of e.0 ∷ filter q (names_in es)) (filter q (names_in es))
     go true true h rest = ap (λ l. text_of e.0 ∷ l) rest
     go false false h rest = rest
     go true false h rest = no_true (sym h)
     go false true h rest = no_true h
 
 -- by two tests
-names_passed_both : {X : Type 0} (p : String Global × X → Bool) (q r : Text → Bool) (es : List (String Global × X))
-    → ((e : String Global × X) → Contains es e → p e ≡ (q (text_of e.0) && r (text_of e.0))) → entry_names (filter p es) ≡ filter q (filter r (entry_names es))
-names_passed_both p q r [] each = refl
-names_passed_both p q r (e ∷ es) each = go (p e) (q (text_of e.0)) refl (r (text_of e.0)) (each e (0, omega arith, refl)) (names_passed_both p q r es (λ x held. each x (contains-later e es x held)))
+filter_twice : {X : Type 0} (q r : X → Bool) (xs : List X) → filter (λ x. q x && r x) xs ≡ filter q (filter r xs)
+filter_twice q r [] = refl
+filter_twice q r (x ∷ xs) = go (q x) refl (r x) (filter_twice q r xs)
   where
-    left : List Text
-    left = filter r (entry_names es)
-
-    with : (c : Bool) → q (text_of e.0) ≡ c → filter q (text_of e.0 ∷ left) ≡ cond c (text_of e.0 ∷ filter q left) (filter q left)
-    with c k = ap (λ b. cond b (text_of e.0 ∷ filter q left) (filter q left)) k
-
-    go : (b c : Bool) → q (text_of e.0) ≡ c → (d : Bool) → b ≡ (c && d) → entry_names (filter p es) ≡ filter q left
-        → entry_names (cond b (e ∷ filter p es) (filter p es)) ≡ filter q (cond d (text_of e.0 ∷ left) left)
-    go true true k true h rest = ap (λ l. text_of e.0 ∷ l) rest ∙ sym (with true k)
-    go false true k false h rest = rest
-    go false false k true h rest = rest ∙ sym (with false k)
-    go false false k false h rest = rest
-    go true true k false h rest = no_true (sym h)
-    go true false k d h rest = no_true (sym h)
-    go false true k true h rest = no_true h
-
-all_passed : {X : Type 0} (p : String Global × X → Bool) (es : List (String Global × X)) → ((e : String Global × X) → Contains es e → p e ≡ true) → entry_names (filter p es) ≡ entry_names es
-all_passed p [] each = refl
-all_passed p (e ∷ es) each = ap (λ b. entry_names (cond b (e ∷ filter p es) (filter p es))) (each e (0, omega arith, refl)) ∙ ap (λ l. text_of e.0 ∷ l)
-    (all_passed p es (λ x held. each x (contains-later e es x held)))
+    go : (a : Bool) → q x ≡ a → (b : Bool) → filter (λ y. q y && r y) xs ≡ filter q (filter r xs)
+        → cond (a && b) (x ∷ filter (λ y. q y && r y) xs) (filter (λ y. q y && r y) xs) ≡ filter q (cond b (x ∷ filter r xs) (filter r xs))
+    go true e true rest = ap (λ l. x ∷ l) rest ∙ ap (λ t. cond t (x ∷ filter q (filter r xs)) (filter q (filter r xs))) (sym e)
+    go false e true rest = rest ∙ ap (λ t. cond t (x ∷ filter q (filter r xs)) (filter q (filter r xs))) (sym e)
+    go true e false rest = rest
+    go false e false rest = rest
 
 -- ---- what is found by a text
 
@@ -257,33 +184,10 @@ module _ (f : Package → Text × PackageNames) (t : Text) where
       go true false h rest = no_true (sym h)
       go false true h rest = no_true h
 
--- one of a name is found
-some_from : (name : PackageName) (n : ℕ) (ps : List Package) (k : ℕ) (p : Package) → slice_get ps k ≡ Some p → same_package_name name p.name ≡ true → (id : PackageId)
-    × (package_from name n ps ≡ Some id)
-some_from name n [] k p at same = let wrong : ⊥ = cc in absurd wrong
-some_from name n (q ∷ qs) k p at same = go (same_package_name name q.name) refl k at (λ j there. some_from name (n + 1) qs j p there same)
-  where
-    go : (b : Bool) → same_package_name name q.name ≡ b → (k : ℕ) → slice_get (q ∷ qs) k ≡ Some p → ((j : ℕ) → slice_get qs j ≡ Some p → (id : PackageId) × (package_from name (n + 1) qs ≡ Some id))
-        → (id : PackageId) × (cond b (Some (record { 0 = n })) (package_from name (n + 1) qs) ≡ Some id)
-    go true e k at later = (record { 0 = n }, refl)
-    go false e zero at later = no_true (sym e ∙ (ap (λ (x : Package). same_package_name name x.name) (some_same q p at) ∙ same))
-    go false e (suc k) at later = later k at
-
--- a package that isn't new is among those that gain
-grown_place : (flags : List Bool) (ns : List ℕ) (ps : List Package) → length flags ≡ length ps → length ns ≡ length ps → (j : ℕ) (q : Package) → slice_get ps j ≡ Some q → flag_under flags j ≡ false
-    → (i : ℕ) × (slice_get (grown_packages flags ns ps) i ≡ Some (number_under ns j, q))
-grown_place flags ns [] a b j q at bare = let wrong : ⊥ = cc in absurd wrong
-grown_place [] ns (p ∷ ps) a b j q at bare = absurd (omega (arith, a))
-grown_place (f ∷ fs) [] (p ∷ ps) a b j q at bare = absurd (omega (arith, b))
-grown_place (true ∷ fs) (n ∷ ns) (p ∷ ps) a b zero q at bare = no_true (sym bare)
-grown_place (false ∷ fs) (n ∷ ns) (p ∷ ps) a b zero q at bare = (zero, ap (λ (x : Package). Some (n, x)) (some_same p q at))
-grown_place (true ∷ fs) (n ∷ ns) (p ∷ ps) a b (suc j) q at bare = grown_place fs ns ps (omega (arith, a)) (omega (arith, b)) j q at bare
-grown_place (false ∷ fs) (n ∷ ns) (p ∷ ps) a b (suc j) q at bare = let r = grown_place fs ns ps (omega (arith, a)) (omega (arith, b)) j q at bare in (suc r.0, r.1)
-
 -- ---- a package and its names
 
 abbrev listed : Package → Text × PackageNames
-listed p = (text_of_package p, record { interfaces = entry_names p.interfaces.entries; worlds = entry_names p.worlds.entries })
+listed p = (text_of_package p, record { interfaces = names_in p.interfaces.entries; worlds = names_in p.worlds.entries })
 
 abbrev brought : Package → Text × PackageNames
 brought p = carried_names (listed p)
@@ -306,15 +210,15 @@ module _ (own other : Resolve) (valid_own : IsValid own) (valid_other : IsValid 
   matched_package k o at = ap (λ l. slice_get l k) by_name.packages ∙ mapped_at (own_package_of own.packages.items) other.packages.items k o at
 
   root_is : (k : ℕ) (o : Package) (at : package_at other k ≡ Some o) (e : String Global × WorldId) (held : Contains o.worlds.entries e)
-      → is_root_world other (world_of other valid_other k o at e held).def ≡ is_root_in (text_of_package o) (text_of e.0)
+      → is_root_world other (world_of other valid_other k o at e held).world ≡ is_root_in (text_of_package o) (text_of e.0)
   root_is k o at e held =
-      ap (λ (h : Option PackageId). option_map_or (λ id. option_map_or (λ (p : Package). text_eq (text_of x.def.name) (codes "root") && is_root_name p.name) (package_at other id.0) false) h false)
+      ap (λ (h : Option PackageId). option_map_or (λ id. option_map_or (λ (p : Package). text_eq (text_of x.world.name) (codes "root") && is_root_name p.name) (package_at other id.0) false) h false)
       x.in_package
-      ∙ (ap (λ (q : Option Package). option_map_or (λ p. text_eq (text_of x.def.name) (codes "root") && is_root_name p.name) q false) (ap (package_at other) x.here ∙ at)
+      ∙ (ap (λ (q : Option Package). option_map_or (λ p. text_eq (text_of x.world.name) (codes "root") && is_root_name p.name) q false) (ap (package_at other) x.number ∙ at)
       ∙ ((λ i. text_eq (x.text i) (codes "root") && root_text o (other_named k o at) i)
       ∙ and_flip (text_eq (text_of e.0) (codes "root")) (text_eq (text_of_package o) (codes "root:root"))))
     where
-      x : IsWorldOf other k e
+      x : IsListedWorld other k o (text_of e.0) e.1.0
       x = world_of other valid_other k o at e held
 
   -- ---- own packages
@@ -322,11 +226,8 @@ module _ (own other : Resolve) (valid_own : IsValid own) (valid_other : IsValid 
   own_of : (k n : ℕ) (o p : Package) → package_at other k ≡ Some o → IsHome own other valid_other m c by_name numbered are k n → package_at own n ≡ Some p → same_package_name o.name p.name ≡ true
   own_of k n o p at home at_own = ap (λ (x : Package). same_package_name o.name x.name) (sym there) ∙ found.same
     where
-      is : own_package_of own.packages.items o ≡ Some home.0
-      is = some_same _ _ (sym (matched_package k o at) ∙ home.1)
-
       found : IsFound o.name own.packages.items home.0.0
-      found = found_own own.packages.items o home.0 is
+      found = found_own own.packages.items o home.0 (some_same _ _ (sym (matched_package k o at) ∙ home.1))
 
       there : found.there ≡ p
       there = some_same found.there p (sym found.at_there ∙ (ap (package_at own) home.2 ∙ at_own))
@@ -346,7 +247,7 @@ module _ (own other : Resolve) (valid_own : IsValid own) (valid_other : IsValid 
       abbrev old : Package
       old = gain.0.1
 
-      from : IsGrownOf c.new_packages.items c.packages.items other.packages.items gain.0
+      from : IsGrownOf c.new_packages.items c.packages.items other.packages.items i gain.0
       from = grown_of c.new_packages.items c.packages.items other.packages.items i gain.0 gain.1
 
       home : IsHome own other valid_other m c by_name numbered are from.place n
@@ -370,32 +271,33 @@ module _ (own other : Resolve) (valid_own : IsValid own) (valid_other : IsValid 
       there : package_at own g.«package».0 ≡ Some p
       there = ap (package_at own) number ∙ at
 
-      interfaces_are : entry_names x.interfaces.entries ≡ texts_followed_by (entry_names p.interfaces.entries) (entry_names old.interfaces.entries)
+      interfaces_are : names_in x.interfaces.entries ≡ texts_followed_by (names_in p.interfaces.entries) (names_in old.interfaces.entries)
       interfaces_are =
-          ap entry_names (h.interfaces ∙ interfaces_behind own other valid_other m c by_name numbered are gs zip i g p at_g there)
+          ap names_in (h.interfaces ∙ interfaces_behind own other valid_other m c by_name numbered are gs zip i g p at_g there)
           ∙ (map-append (λ (e : String Global × InterfaceId). text_of e.0) p.interfaces.entries g.interfaces.entries
-          ∙ ap (λ l. entry_names p.interfaces.entries ++ l)
+          ∙ ap (λ l. names_in p.interfaces.entries ++ l)
           (names_along (IsInterfaceName c.interfaces.items) (λ a b r. r.0) (filter test old.interfaces.entries) g.interfaces.entries (gain.2.interfaces unique.0)
-          ∙ names_passed test (λ t. not (list_any (text_eq t) (entry_names p.interfaces.entries))) old.interfaces.entries
+          ∙ names_passed test (λ t. not (list_any (text_eq t) (names_in p.interfaces.entries))) old.interfaces.entries
           (λ e held. copied_interface own other valid_other m c by_name numbered are from.place n old p from.at_place home at e held ∙ ap not
           (sym (any_of_map (text_eq (text_of e.0)) (λ (y : String Global × InterfaceId). text_of y.0) p.interfaces.entries)))))
         where
           test : String Global × InterfaceId → Bool
           test = is_copied_interface c.copied_interfaces.items
 
-      worlds_are : entry_names x.worlds.entries ≡ texts_followed_by (entry_names p.worlds.entries) (brought old).1.worlds
+      worlds_are : names_in x.worlds.entries ≡ texts_followed_by (names_in p.worlds.entries) (brought old).1.worlds
       worlds_are =
-          ap entry_names (h.worlds ∙ worlds_behind own other valid_other m c by_name numbered are gs zip i g p at_g there)
+          ap names_in (h.worlds ∙ worlds_behind own other valid_other m c by_name numbered are gs zip i g p at_g there)
           ∙ (map-append (λ (e : String Global × WorldId). text_of e.0) p.worlds.entries g.worlds.entries
-          ∙ ap (λ l. entry_names p.worlds.entries ++ l)
+          ∙ ap (λ l. names_in p.worlds.entries ++ l)
           (names_along (IsWorldName c.worlds.items) (λ a b r. r.0) (filter test old.worlds.entries) g.worlds.entries (gain.2.worlds unique.1)
-          ∙ names_passed_both test fresh (λ t. not (is_root_in (text_of_package old) t)) old.worlds.entries each))
+          ∙ (names_passed test (λ t. fresh t && not (is_root_in (text_of_package old) t)) old.worlds.entries each
+          ∙ filter_twice fresh (λ t. not (is_root_in (text_of_package old) t)) (names_in old.worlds.entries))))
         where
           test : String Global × WorldId → Bool
           test = is_copied_world c.copied_worlds.items
 
           fresh : Text → Bool
-          fresh t = not (list_any (text_eq t) (entry_names p.worlds.entries))
+          fresh t = not (list_any (text_eq t) (names_in p.worlds.entries))
 
           each : (e : String Global × WorldId) → Contains old.worlds.entries e → test e ≡ (fresh (text_of e.0) && not (is_root_in (text_of_package old) (text_of e.0)))
           each e held =
@@ -410,25 +312,19 @@ module _ (own other : Resolve) (valid_own : IsValid own) (valid_other : IsValid 
     -- one that doesn't
     module _ (n : ℕ) (p : Package) (at : package_at own n ≡ Some p) (none : GainsNone gs n) where
       not_there : (j : ℕ) (q : Package) → package_at other j ≡ Some q → text_of_package q ≡ text_of_package p → ⊥
-      not_there j q there e = none i.0 y.0 y.1 (y.2.number ∙ (sym home.2 ∙ sym once))
+      not_there j q there e = none y.0 y.1 y.2 (y.3.number ∙ (sym home.2 ∙ sym once))
         where
           id : (id : PackageId) × (own_package_of own.packages.items q ≡ Some id)
           id = some_from q.name 0 own.packages.items n p at (same_of_texts q p (other_named j q there) (own_named n p at) e)
 
-          bare : flag_under c.new_packages.items j ≡ false
-          bare = ap (λ l. flag_under l j) numbered.new_packages ∙ ap (λ o. unwrap_or o false) (mapped_at is_none m.packages.items j (Some id.0) (matched_package j q there ∙ ap Some id.1))
+          flag : slice_get c.new_packages.items j ≡ Some false
+          flag = ap (λ l. slice_get l j) numbered.new_packages ∙ mapped_at is_none m.packages.items j (Some id.0) (matched_package j q there ∙ ap Some id.1)
 
-          flags_long : length c.new_packages.items ≡ length other.packages.items
-          flags_long = ap length numbered.new_packages ∙ (length-map m.packages.items is_none ∙ (ap length by_name.packages ∙ length-map other.packages.items (own_package_of own.packages.items)))
-
-          i : (i : ℕ) × (slice_get (grown_packages c.new_packages.items c.packages.items other.packages.items) i ≡ Some (number_under c.packages.items j, q))
-          i = grown_place c.new_packages.items c.packages.items other.packages.items flags_long (sym numbered.whole.packages ∙ flags_long) j q there bare
-
-          y : (g : Names) × (slice_get gs i.0 ≡ Some g) × IsGained c (number_under c.packages.items j, q) g
-          y = zip_there (IsGained c) (grown_packages c.new_packages.items c.packages.items other.packages.items) gs zip i.0 (number_under c.packages.items j, q) i.1
+          y : (i : ℕ) × (g : Names) × (slice_get gs i ≡ Some g) × IsGained c (number_under c.packages.items j, q) g
+          y = gain_of c c.new_packages.items c.packages.items other.packages.items gs zip numbered.whole.packages j q flag there
 
           home : IsHome own other valid_other m c by_name numbered are j (number_under c.packages.items j)
-          home = home_of own other valid_other m c by_name numbered are j (number_under c.packages.items j) q there bare refl
+          home = home_of own other valid_other m c by_name numbered are j (number_under c.packages.items j) q there (ap (λ o. unwrap_or o false) flag) refl
 
           found : IsFound q.name own.packages.items home.0.0
           found = found_own own.packages.items q home.0 (some_same _ _ (sym (matched_package j q there) ∙ home.1))
@@ -489,44 +385,39 @@ module _ (own other : Resolve) (valid_own : IsValid own) (valid_other : IsValid 
       apart = valid_other.distinct_keys.packages k o at
 
       each_interface : (e : String Global × InterfaceId) → Contains o.interfaces.entries e → flag_under c.copied_interfaces.items e.1.0 ≡ true
-      each_interface e held = are.named e.1.0 y.def y.found (ap is_some y.named_) ∙ ap not (ap (λ o. is_some (given_interface o)) matched ∙ ap is_some none)
+      each_interface e held = are.named e.1.0 y.interface_ y.found (ap is_some y.named) ∙ ap not (ap (λ o. is_some (given_interface o)) matched ∙ ap is_some none)
         where
-          y : IsInterfaceOf other k e
+          y : IsListedInterface other k o (text_of e.0) e.1.0
           y = interface_of other valid_other k o at e held
 
-          matched : slice_get m.interfaces.items e.1.0 ≡ Some (own_interface_of own m.packages.items y.def)
-          matched = ap (λ l. slice_get l e.1.0) by_name.interfaces ∙ mapped_at (own_interface_of own m.packages.items) other.interfaces.items e.1.0 y.def y.found
+          matched : slice_get m.interfaces.items e.1.0 ≡ Some (own_interface_of own m.packages.items y.interface_)
+          matched = ap (λ l. slice_get l e.1.0) by_name.interfaces ∙ mapped_at (own_interface_of own m.packages.items) other.interfaces.items e.1.0 y.interface_ y.found
 
-          none : own_interface_of own m.packages.items y.def ≡ None
+          none : own_interface_of own m.packages.items y.interface_ ≡ None
           none =
-              ap (λ o. option_and_then (λ (name : String Global). interface_in own m.packages.items y.def.«package» (text_of name)) o) y.named_
-              ∙ (ap (λ h. interface_in own m.packages.items h (text_of y.label)) y.in_package
-              ∙ ap (λ o. option_and_then (λ (id : PackageId). option_and_then (λ (p : Package). get_by_text p.interfaces (text_of y.label)) (package_at own id.0)) (given o))
-              (ap (slice_get m.packages.items) y.here ∙ nothing))
+              ap (option_and_then (λ (s : String Global). interface_in own m.packages.items y.interface_.«package» (text_of s))) y.named
+              ∙ ((λ i. interface_in own m.packages.items (y.in_package i) (text_of y.label)) ∙ interface_looked own m.packages.items k None nothing y.id (text_of y.label) y.number)
 
       each_world : (e : String Global × WorldId) → Contains o.worlds.entries e → flag_under c.copied_worlds.items e.1.0 ≡ not (is_root_in (text_of_package o) (text_of e.0))
       each_world e held =
           ap (λ l. flag_under l e.1.0) numbered.copied_worlds
-          ∙ (new_world_flag other m.worlds.items other.worlds.items e.1.0 (own_world_of own m.packages.items y.def) y.def matched y.found
-          ∙ (ap (λ o. is_none o && not (is_root_world other y.def)) none
+          ∙ (new_world_flag other m.worlds.items other.worlds.items e.1.0 (own_world_of own m.packages.items y.world) y.world matched y.found
+          ∙ (ap (λ o. is_none o && not (is_root_world other y.world)) none
           ∙ ap not (root_is k o at e held)))
         where
-          y : IsWorldOf other k e
+          y : IsListedWorld other k o (text_of e.0) e.1.0
           y = world_of other valid_other k o at e held
 
-          matched : slice_get m.worlds.items e.1.0 ≡ Some (own_world_of own m.packages.items y.def)
-          matched = ap (λ l. slice_get l e.1.0) by_name.worlds ∙ mapped_at (own_world_of own m.packages.items) other.worlds.items e.1.0 y.def y.found
+          matched : slice_get m.worlds.items e.1.0 ≡ Some (own_world_of own m.packages.items y.world)
+          matched = ap (λ l. slice_get l e.1.0) by_name.worlds ∙ mapped_at (own_world_of own m.packages.items) other.worlds.items e.1.0 y.world y.found
 
-          none : own_world_of own m.packages.items y.def ≡ None
-          none =
-              ap (λ h. world_in own m.packages.items h (text_of y.def.name)) y.in_package
-              ∙ ap (λ o. option_and_then (λ (id : PackageId). option_and_then (λ (p : Package). get_by_text p.worlds (text_of y.def.name)) (package_at own id.0)) (given o))
-              (ap (slice_get m.packages.items) y.here ∙ nothing)
+          none : own_world_of own m.packages.items y.world ≡ None
+          none = (λ i. world_in own m.packages.items (y.in_package i) (text_of y.world.name)) ∙ world_looked own m.packages.items k None nothing y.id (text_of y.world.name) y.number
 
       new_names : listed x ≡ brought o
       new_names = same_listed (listed x) (brought o) (ap package_text (same_identity o.name x.name is.name))
           (names_along (IsInterfaceName c.interfaces.items) (λ a b r. r.0) (filter (is_copied_interface c.copied_interfaces.items) o.interfaces.entries) x.interfaces.entries (is.interfaces apart.0)
-          ∙ all_passed (is_copied_interface c.copied_interfaces.items) o.interfaces.entries each_interface)
+          ∙ ap names_in (filter_whole (is_copied_interface c.copied_interfaces.items) o.interfaces.entries each_interface))
           (names_along (IsWorldName c.worlds.items) (λ a b r. r.0) (filter (is_copied_world c.copied_worlds.items) o.worlds.entries) x.worlds.entries (is.worlds apart.1)
           ∙ names_passed (is_copied_world c.copied_worlds.items) (λ t. not (is_root_in (text_of_package o) t)) o.worlds.entries each_world)
 

@@ -1,28 +1,16 @@
 -- Each package that is merged is an own one to which nothing comes, or one of the other stands in it.
-use Rattle.std.proofs.Common.{◌≡◌, ◌⊎◌, inl, inr, refl, sym, ap, ◌∙◌, ℕ, zero, suc, ◌+◌, ◌<◌, arith, Bool, true, false, List, [], ◌∷◌, length, map, is_none, Some, slice_get}
-use Rattle.std.proofs.lemmas.{List.length-append, List.length-map, Bool.cases_lt as in_two, Slice.Zip.AllZip-long as zip_long}
-use Rattle.std.specs.List.{AllZip}
-use Rattle.wit_model.specs.declared.model.{Package.Package, Resolve.Resolve}
-use Rattle.wit_model.specs.Lookup.{package_at}
-use Rattle.bind_add.specs.Growth.{GainsNone}
-use Rattle.bind_add.specs.declared.added.Names.{Names}
+use Rattle.base_lemmas.proofs.{Elements.zip_at_right as zip_at, Lists.front_at, Lists.within_there}
+use Rattle.bind_add.specs.{Growth.GainsNone, declared.added.Names.Names}
+use Rattle.bind_carry.proofs.{CopiesPlaced.kept_from, Counting.carried_all, FirstNumbers.flag_within, FirstOfUnion.some_gains, NamesGained.grown_of}
+use Rattle.bind_carry.specs.{First.first_fates, FirstPass.IsFirstPass, Numbers.copied_count, Numbers.package_number, Packaged.IsGained}
+use Rattle.bind_carry.specs.{Packaged.IsPackageCarried, Packaged.grown_packages, Renumbered.first_of, declared.plan.Carried.Carried}
 use Rattle.bind_copy.specs.Copies.{number_under}
 use Rattle.bind_match.specs.declared.matches.Matches.{Matches}
 use Rattle.bind_union.specs.Merged.{IsKeptPackage, IsPackageOf}
-use Rattle.bind_carry.specs.{First.first_fates, Renumbered.first_of, FirstPass.IsFirstPass, Numbers.package_number, Packaged.grown_packages, Packaged.IsGained, Packaged.IsPackageCarried, Whole.kept}
-use Rattle.bind_carry.specs.declared.plan.Carried.{Carried}
-use Rattle.bind_carry.proofs.{CopiesPlaced.some_same, FirstCarried.flag_within, FirstOfUnion.some_gains, NothingElse.kept_from}
-use Rattle.base_lemmas.proofs.{Elements.zip_at_right as zip_at, Lists.front_at, Lists.within_there}
-
--- what a gain is of is a package of the other, under its number
-grown_member : (flags : List Bool) (ns : List ℕ) (ps : List Package) (i : ℕ) (e : ℕ × Package) → slice_get (grown_packages flags ns ps) i ≡ Some e → (k : ℕ) × (slice_get ps k ≡ Some e.1)
-    × (number_under ns k ≡ e.0)
-grown_member [] ns ps i e at = let wrong : ⊥ = cc in absurd wrong
-grown_member (b ∷ bs) [] ps i e at = let wrong : ⊥ = cc in absurd wrong
-grown_member (b ∷ bs) (n ∷ ns) [] i e at = let wrong : ⊥ = cc in absurd wrong
-grown_member (true ∷ bs) (n ∷ ns) (p ∷ ps) i e at = let r = grown_member bs ns ps i e at in (suc r.0, r.1, r.2)
-grown_member (false ∷ bs) (n ∷ ns) (p ∷ ps) zero e at = let same : (n, p) ≡ e = some_same (n, p) e at in (zero, ap (λ (x : ℕ × Package). Some x.1) same, ap (λ (x : ℕ × Package). x.0) same)
-grown_member (false ∷ bs) (n ∷ ns) (p ∷ ps) (suc i) e at = let r = grown_member bs ns ps i e at in (suc r.0, r.1, r.2)
+use Rattle.std.proofs.Common.{List, Some, ap, arith, inl, inr, is_none, length, map, refl, slice_get, sym, ℕ, ◌+◌, ◌<◌, ◌∙◌, ◌≡◌, ◌⊎◌}
+use Rattle.std.proofs.lemmas.{Bool.cases_lt as in_two, List.length-append, List.length-map}
+use Rattle.std.specs.List.{AllZip}
+use Rattle.wit_model.specs.{Lookup.package_at, declared.model.Package.Package, declared.model.Resolve.Resolve}
 
 -- Gains are those of the other's packages that have an own one of their name.
 pub package_from : (own other merged : Resolve) (m : Matches) (c : Carried) (numbers : List ℕ) (p : IsFirstPass own other merged m c numbers)
@@ -30,7 +18,7 @@ pub package_from : (own other merged : Resolve) (m : Matches) (c : Carried) (num
     → (n : ℕ) → n < length merged.packages.items → IsKeptPackage own merged n ⊎ IsPackageOf other (first_of m.interfaces.items c (first_fates own other m.interfaces.items c) numbers) n
 package_from own other merged m c numbers p names n high = elim (in_two n (length own.packages.items)) [
   | inl less ↦ (let q = within_there own.packages.items n less in old q.0 q.1 (some_gains p.gains n))
-  | inr more ↦ (let r = kept_from (length own.packages.items) c.new_packages.items (map package_number m.packages.items) other.packages.items n flags_long more (omega (arith, high, whole, count)) in
+  | inr more ↦ (let r = kept_from (length own.packages.items) c.new_packages.items (map package_number m.packages.items) n flags_long more (omega (arith, high, whole, count)) in
       let inside = flag_within c.new_packages.items r.0 r.1 in
       let x = within_there other.packages.items r.0 (omega (arith, inside, flags_many)) in
       inr (record { number = r.0; old = x.0; found = x.1; here = ap (λ l. number_under l r.0) p.numbered.packages ∙ r.2 }))
@@ -42,8 +30,8 @@ package_from own other merged m c numbers p names n high = elim (in_two n (lengt
     flags_long : length c.new_packages.items ≡ length (map package_number m.packages.items)
     flags_long = ap length p.numbered.new_packages ∙ (length-map m.packages.items is_none ∙ sym (length-map m.packages.items package_number))
 
-    count : length p.new_packages ≡ length (kept c.new_packages.items other.packages.items)
-    count = zip_long (IsPackageCarried c) (kept c.new_packages.items other.packages.items) p.new_packages p.packages
+    count : length p.new_packages ≡ copied_count c.new_packages.items
+    count = carried_all (IsPackageCarried c) c.new_packages.items other.packages.items p.new_packages flags_many p.packages
 
     whole : length merged.packages.items ≡ length own.packages.items + length p.new_packages
     whole = ap length p.packages_here ∙ (length-append p.grown p.new_packages ∙ ap (λ k. k + length p.new_packages) p.gained.count)
@@ -52,8 +40,8 @@ package_from own other merged m c numbers p names n high = elim (in_two n (lengt
         ⊎ IsPackageOf other (first_of m.interfaces.items c (first_fates own other m.interfaces.items c) numbers) n
     old q at (inl found) =
         let x = zip_at (IsGained c) (grown_packages c.new_packages.items c.packages.items other.packages.items) p.gains names found.0 found.1 found.2 in
-        let y = grown_member c.new_packages.items c.packages.items other.packages.items found.0 x.0 x.1 in
-        inr (record { number = y.0; old = x.0.1; found = y.1; here = y.2 ∙ (sym x.2.number ∙ found.3) })
+        let y = grown_of c.new_packages.items c.packages.items other.packages.items found.0 x.0 x.1 in
+        inr (record { number = y.place; old = x.0.1; found = y.at_place; here = y.number ∙ (sym x.2.number ∙ found.3) })
     old q at (inr none) = inl (record {
       old = q;
       found = at;

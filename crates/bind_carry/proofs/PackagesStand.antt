@@ -1,52 +1,37 @@
 -- Each package of the other stands in one of what is merged: in a new one with all its names, or in the own one of its name, behind the names that were there.
-use Rattle.std.proofs.Common.{◌≡◌, refl, sym, ap, subst, ◌∙◌, ℕ, zero, suc, ◌+◌, ◌≤◌, arith, Bool, true, false, cond, List, [], ◌∷◌, ◌++◌, length, map, Option, Some, None, is_none, option_map, option_and_then, slice_get, unwrap_or}
-use Rattle.std.proofs.lemmas.List.{length-map, map-append}
-use Rattle.std.specs.{Prelude.String, HashMap.get_by_text, List.filter, List.AllZip, List.Contains, Option.option_map_or, String.string_eq}
-use Rattle.std.specs.declared.alloc.Global.{Global}
+use Rattle.base_lemmas.proofs.Lists.{front_at, mapped_get as mapped_at}
+use Rattle.bind_add.specs.{Growth.HasGained, declared.added.Names.Names}
+use Rattle.bind_carry.proofs.{CopiesPlaced.copied_behind, CopiesPlaced.nothing_there, CopiesPlaced.uncopied_under, FirstNumbers.chosen_so, FirstOfUnion.IsFound}
+use Rattle.bind_carry.proofs.{FirstOfUnion.found_number, FirstOfUnion.found_own, FirstOfUnion.new_package, KeptPlaced.IsKeptAt, NamesCopied.interfaces_join}
+use Rattle.bind_carry.proofs.{NamesCopied.name_entry, NamesCopied.worlds_join, NamesGained.gain_of, NamesGained.interface_looked, NamesGained.listed_interface}
+use Rattle.bind_carry.proofs.{NamesGained.listed_world, NamesGained.some_from, NamesGained.world_looked, Ranges.is_in_range, UnionDistinct.interfaces_behind}
+use Rattle.bind_carry.proofs.UnionDistinct.{worlds_behind}
+use Rattle.bind_carry.specs.{AddedApart.AreMatchedByName, First.first_fates, First.flag_under, FirstPass.IsFirstPass, Marked.AreChosen}
+use Rattle.bind_carry.specs.{MergedUnion.NoOwnInterfaceAtPath, MergedUnion.NoOwnWorldAtPath, Numbers.package_number, Packaged.IsGained}
+use Rattle.bind_carry.specs.Packaged.{IsInterfaceName, IsPackageCarried, IsWorldName, grown_packages, is_copied_interface, is_copied_world}
+use Rattle.bind_carry.specs.{Renumbered.first_of, SecondPass.is_left_out, declared.plan.Carried.Carried}
+use Rattle.bind_copy.specs.Copies.{number_under}
+use Rattle.bind_match.specs.Matching.{interface_in, is_root_world, own_interface_of, own_package_of, own_world_of, package_from, world_in}
+use Rattle.bind_match.specs.declared.matches.Matches.{Matches}
+use Rattle.bind_union.proofs.{Listed.under_text, Lists.no_true, PackageNames.interfaces_by_name, PackageNames.worlds_by_name}
+use Rattle.bind_union.specs.{Carried.Renumbering, Merged.IsJoinedPackage, Merged.PackageStands, Merged.brought, Merged.grown, Merged.interface_names}
+use Rattle.bind_union.specs.Merged.{is_name, world_names}
 use Rattle.indexmap.specs.IndexMap.{IsUnique}
+use Rattle.std.proofs.Common.{Bool, List, None, Option, Some, [], ap, false, is_none, length, map, option_and_then, option_map, refl, slice_get, subst, sym, true, unwrap_or, ℕ, ◌++◌, ◌∙◌, ◌≡◌, ◌≤◌}
+use Rattle.std.proofs.lemmas.{Bool.false_from_ne_true, List.length-map, List.map-append}
+use Rattle.std.specs.{HashMap.get_by_text, List.AllZip, List.Contains, List.filter, Option.option_map_or, Prelude.String, String.string_eq}
+use Rattle.std.specs.declared.alloc.Global.{Global}
+use Rattle.wit_model.proofs.{OnePath.package-name, VersionLaws.same_name}
+use Rattle.wit_model.specs.{Lookup.identity_of, Lookup.package_at, Names.path_in, Rules.same_package_name, Text.Text, Text.text_of, Valid.IsValid}
 use Rattle.wit_model.specs.declared.model.{InterfaceId.InterfaceId, Package.Package, PackageId.PackageId, PackageName.PackageName, Resolve.Resolve, World.World}
 use Rattle.wit_model.specs.declared.model.WorldId.{WorldId}
-use Rattle.wit_model.specs.{Lookup.identity_of, Lookup.package_at, Names.path_in, Rules.same_package_name, Text.Text, Text.text_of, Valid.IsValid}
-use Rattle.wit_model.proofs.{OnePath.package-name, VersionLaws.same_name}
-use Rattle.bind_add.specs.declared.added.Names.{Names}
-use Rattle.bind_add.specs.Growth.{HasGained}
-use Rattle.bind_copy.specs.Copies.{number_under}
-use Rattle.bind_match.specs.Matching.{given, interface_in, is_root_world, own_interface_of, own_package_of, own_world_of, package_from, world_in}
-use Rattle.bind_match.specs.declared.matches.Matches.{Matches}
-use Rattle.bind_union.specs.Carried.{Renumbering}
-use Rattle.bind_union.specs.Merged.{brought, grown, interface_names, is_name, world_names, IsJoinedPackage, PackageStands}
-use Rattle.bind_union.proofs.{Listed.under_text, Lists.no_true, PackageNames.interfaces_by_name, PackageNames.worlds_by_name}
-use Rattle.bind_carry.specs.{First.first_fates, First.flag_under, MergedUnion.NoOwnInterfaceAtPath, MergedUnion.NoOwnWorldAtPath, Numbers.package_number, FirstPass.IsFirstPass, Renumbered.first_of, SecondPass.is_left_out}
-use Rattle.bind_carry.specs.Packaged.{grown_packages, is_copied_interface, is_copied_world, IsGained, IsInterfaceName, IsPackageCarried, IsWorldName}
-use Rattle.bind_carry.specs.declared.plan.Carried.{Carried}
-use Rattle.bind_carry.proofs.{CopiesPlaced.nothing_there, CopiesPlaced.some_same, NamesCopied.listed_interface, NamesCopied.listed_world, FirstWorlds.copied_behind, FirstOfUnion.found_number, FirstOfUnion.found_own, FirstOfUnion.new_package, FirstOfUnion.IsFound, FirstNumbers.uncopied_under, NamesCopied.name_entry, NamesCopied.names_behind, KeptPlaced.IsKeptAt, NamesCopied.interfaces_join, NamesCopied.interfaces_ready, NamesCopied.worlds_join, NamesCopied.worlds_ready}
-use Rattle.base_lemmas.proofs.Lists.{front_at, mapped_get as mapped_at}
 
 -- ---- packages by name
 
 -- where no package of a name is found, none has it
 none_from : (name : PackageName) (n : ℕ) (ps : List Package) → package_from name n ps ≡ None → (k : ℕ) (q : Package) → slice_get ps k ≡ Some q → same_package_name name q.name ≡ false
-none_from name n [] h k q at = nothing_there q at
-none_from name n (x ∷ ps) h k q at = go (same_package_name name x.name) refl h k at (none_from name (n + 1) ps)
-  where
-    go : (b : Bool) → same_package_name name x.name ≡ b → cond b (Some (record { 0 = n })) (package_from name (n + 1) ps) ≡ None → (k : ℕ) → slice_get (x ∷ ps) k ≡ Some q
-        → (package_from name (n + 1) ps ≡ None → (k : ℕ) (q : Package) → slice_get ps k ≡ Some q → same_package_name name q.name ≡ false) → same_package_name name q.name ≡ false
-    go true e h k at more = nothing_there {X = PackageId} (record { 0 = n }) (sym h)
-    go false e h zero at more = ap (λ (y : Package). same_package_name name y.name) (sym (some_same x q at)) ∙ e
-    go false e h (suc k) at more = more h k q at
-
--- what an own package gains of the package of a place that isn't new
-gain_of : (c : Carried) (flags : List Bool) (ns : List ℕ) (ps : List Package) (gs : List Names) → AllZip (IsGained c) (grown_packages flags ns ps) gs → length flags ≡ length ns → (n : ℕ) (p : Package)
-    → slice_get flags n ≡ Some false → slice_get ps n ≡ Some p
-    → (i : ℕ) × (g : Names) × (slice_get gs i ≡ Some g) × IsGained c (number_under ns n, p) g
-gain_of c [] ns ps gs zip long n p bare at = nothing_there false bare
-gain_of c (b ∷ bs) [] ps gs zip long n p bare at = absurd (omega (arith, long))
-gain_of c (b ∷ bs) (k ∷ ns) [] gs zip long n p bare at = nothing_there p at
-gain_of c (true ∷ bs) (k ∷ ns) (q ∷ ps) gs zip long zero p bare at = no_true (sym (some_same true false bare))
-gain_of c (true ∷ bs) (k ∷ ns) (q ∷ ps) gs zip long (suc n) p bare at = gain_of c bs ns ps gs zip (omega (arith, long)) n p bare at
-gain_of c (false ∷ bs) (k ∷ ns) (q ∷ ps) [] zip long n p bare at = absurd zip
-gain_of c (false ∷ bs) (k ∷ ns) (q ∷ ps) (g ∷ gs) zip long zero p bare at = (0, g, refl, subst (λ x. IsGained c (k, x) g) (some_same q p at) zip.0)
-gain_of c (false ∷ bs) (k ∷ ns) (q ∷ ps) (g ∷ gs) zip long (suc n) p bare at = let r = gain_of c bs ns ps gs zip.1 (omega (arith, long)) n p bare at in (suc r.0, r.1, r.2, r.3)
+none_from name n ps h k q at =
+    false_from_ne_true (same_package_name name q.name) (λ e. let x = some_from name n ps k q at e in nothing_there x.0 (sym h ∙ x.1))
 
 module _ (own other merged : Resolve) (valid_own : IsValid own) (valid_other : IsValid other) (m : Matches) (c : Carried) (numbers : List ℕ) (pass : IsFirstPass own other merged m c numbers)
     (names : AllZip (IsGained c) (grown_packages c.new_packages.items c.packages.items other.packages.items) pass.gains)
@@ -69,18 +54,6 @@ module _ (own other merged : Resolve) (valid_own : IsValid own) (valid_other : I
     flag : (o : Option PackageId) → own_package_of own.packages.items p ≡ o → slice_get c.new_packages.items n ≡ Some (is_none o)
     flag o e = ap (λ l. slice_get l n) pass.numbered.new_packages ∙ mapped_at is_none m.packages.items n o (matched o e)
 
-    interface_looked : (o : Option PackageId) → own_package_of own.packages.items p ≡ o → (home : PackageId) (t : Text) → home.0 ≡ n
-        → interface_in own m.packages.items (Some home) t ≡ option_and_then (λ (id : PackageId). option_and_then (λ (q : Package). get_by_text q.interfaces t) (package_at own id.0)) o
-    interface_looked o e home t here =
-        ap (λ (s : Option (Option PackageId)). option_and_then (λ (id : PackageId). option_and_then (λ (q : Package). get_by_text q.interfaces t) (package_at own id.0)) (given s))
-        (ap (slice_get m.packages.items) here ∙ matched o e)
-
-    world_looked : (o : Option PackageId) → own_package_of own.packages.items p ≡ o → (home : PackageId) (t : Text) → home.0 ≡ n
-        → world_in own m.packages.items (Some home) t ≡ option_and_then (λ (id : PackageId). option_and_then (λ (q : Package). get_by_text q.worlds t) (package_at own id.0)) o
-    world_looked o e home t here =
-        ap (λ (s : Option (Option PackageId)). option_and_then (λ (id : PackageId). option_and_then (λ (q : Package). get_by_text q.worlds t) (package_at own id.0)) (given s))
-        (ap (slice_get m.packages.items) here ∙ matched o e)
-
     -- ---- a new one
 
     module _ (none : own_package_of own.packages.items p ≡ None) where
@@ -96,14 +69,10 @@ module _ (own other merged : Resolve) (valid_own : IsValid own) (valid_other : I
           (copied_behind (length own.packages.items) c.new_packages.items (map package_number m.packages.items) n long set)
 
       unnamed : (k : ℕ) (q : Package) → package_at own k ≡ Some q → same_package_name q.name p.name ≡ false
-      unnamed k q at_q = go (same_package_name q.name p.name) refl
-        where
-          go : (b : Bool) → same_package_name q.name p.name ≡ b → same_package_name q.name p.name ≡ false
-          go false e = e
-          go true e =
-              let x = package-name own valid_own k q at_q in
-              let y = package-name other valid_other n p at in
-              no_true (sym (none_from p.name 0 own.packages.items none k q at_q) ∙ (same_name p.name q.name y.version x.version).1 (sym ((same_name q.name p.name x.version y.version).0 e)))
+      unnamed k q at_q = false_from_ne_true (same_package_name q.name p.name) (λ e.
+          let x = package-name own valid_own k q at_q in
+          let y = package-name other valid_other n p at in
+          no_true (sym (none_from p.name 0 own.packages.items none k q at_q) ∙ (same_name p.name q.name y.version x.version).1 (sym ((same_name q.name p.name x.version y.version).0 e))))
 
       whole : IsJoinedPackage merged f (is_left_out other) n p [] []
       whole = record {
@@ -112,11 +81,12 @@ module _ (own other merged : Resolve) (valid_own : IsValid own) (valid_other : I
         new_interfaces = interface_names place.image;
         interfaces = refl;
         joined_interfaces = interfaces_join own other merged valid_other m c numbers pass interfaces_by worlds_by n p at []
-            (λ home t here. ap (option_map (λ (id : InterfaceId). id.0)) (interface_looked None none home t here)) place.image.interfaces.entries (place.is.interfaces unique.0);
+            (λ home t here. ap (option_map (λ (id : InterfaceId). id.0)) (interface_looked own m.packages.items n None (matched None none) home t here)) place.image.interfaces.entries
+            (place.is.interfaces unique.0);
         new_worlds = world_names place.image;
         worlds = refl;
         joined_worlds = worlds_join own other merged valid_other m c numbers pass interfaces_by worlds_by n p at []
-            (λ home t here. ap (option_map (λ (id : WorldId). id.0)) (world_looked None none home t here)) place.image.worlds.entries (place.is.worlds unique.1);
+            (λ home t here. ap (option_map (λ (id : WorldId). id.0)) (world_looked own m.packages.items n None (matched None none) home t here)) place.image.worlds.entries (place.is.worlds unique.1);
       }
 
       new_stands : PackageStands own merged f (is_left_out other) n p
@@ -138,18 +108,17 @@ module _ (own other merged : Resolve) (valid_own : IsValid own) (valid_other : I
       gain : (i : ℕ) × (g : Names) × (slice_get pass.gains i ≡ Some g) × IsGained c (number_under c.packages.items n, p) g
       gain = gain_of c c.new_packages.items c.packages.items other.packages.items pass.gains names pass.numbered.whole.packages n p (flag (Some id) some) at
 
-      gained : (q : Package) × (slice_get pass.grown gain.1.«package».0 ≡ Some q) × HasGained gain.1 found.there q
-      gained = pass.gained.gained gain.0 gain.1 found.there gain.2 (ap (slice_get own.packages.items) (gain.3.number ∙ number) ∙ found.at_there)
-
       interfaces_here : (home : PackageId) (t : Text) → home.0 ≡ n
           → option_map (λ (k : InterfaceId). k.0) (interface_in own m.packages.items (Some home) t) ≡ under_text t (interface_names found.there)
       interfaces_here home t here =
-          ap (option_map (λ (k : InterfaceId). k.0)) (interface_looked (Some id) some home t here ∙ ap (option_and_then (λ (q : Package). get_by_text q.interfaces t)) found.at_there)
+          ap (option_map (λ (k : InterfaceId). k.0)) (interface_looked own m.packages.items n (Some id) (matched (Some id) some) home t here
+          ∙ ap (option_and_then (λ (q : Package). get_by_text q.interfaces t)) found.at_there)
           ∙ interfaces_by_name found.there t
 
       worlds_here : (home : PackageId) (t : Text) → home.0 ≡ n → option_map (λ (k : WorldId). k.0) (world_in own m.packages.items (Some home) t) ≡ under_text t (world_names found.there)
       worlds_here home t here =
-          ap (option_map (λ (k : WorldId). k.0)) (world_looked (Some id) some home t here ∙ ap (option_and_then (λ (q : Package). get_by_text q.worlds t)) found.at_there)
+          ap (option_map (λ (k : WorldId). k.0)) (world_looked own m.packages.items n (Some id) (matched (Some id) some) home t here
+          ∙ ap (option_and_then (λ (q : Package). get_by_text q.worlds t)) found.at_there)
           ∙ worlds_by_name found.there t
 
       new_interfaces : AllZip (IsInterfaceName c.interfaces.items) (filter (is_copied_interface c.copied_interfaces.items) p.interfaces.entries) gain.1.interfaces.entries
@@ -158,19 +127,20 @@ module _ (own other merged : Resolve) (valid_own : IsValid own) (valid_other : I
       new_worlds : AllZip (IsWorldName c.worlds.items) (filter (is_copied_world c.copied_worlds.items) p.worlds.entries) gain.1.worlds.entries
       new_worlds = gain.3.worlds unique.1
 
-      interfaces_behind : gained.0.interfaces.entries ≡ found.there.interfaces.entries ++ gain.1.interfaces.entries
-      interfaces_behind =
-          gained.2.interfaces
-          ∙ names_behind (λ (k : InterfaceId). k.0) (number_under c.interfaces.items) (is_copied_interface c.copied_interfaces.items) found.there.interfaces.entries p.interfaces.entries
-          gain.1.interfaces.entries new_interfaces
-          (λ k e at_e set. ((interfaces_ready own other merged valid_other m c numbers pass interfaces_by worlds_by n p at (interface_names found.there) interfaces_here).added k e at_e
-          set).2) unique.0
+      by_name : AreMatchedByName own other m
+      by_name = record { packages = pass.by_name; interfaces = interfaces_by; worlds = worlds_by }
 
-      worlds_behind : gained.0.worlds.entries ≡ found.there.worlds.entries ++ gain.1.worlds.entries
-      worlds_behind =
-          gained.2.worlds
-          ∙ names_behind (λ (k : WorldId). k.0) (number_under c.worlds.items) (is_copied_world c.copied_worlds.items) found.there.worlds.entries p.worlds.entries gain.1.worlds.entries new_worlds
-          (λ k e at_e set. ((worlds_ready own other merged valid_other m c numbers pass interfaces_by worlds_by n p at (world_names found.there) worlds_here).added k e at_e set).2) unique.1
+      chosen : AreChosen other m.interfaces.items c.copied_worlds.items c.copied_interfaces.items
+      chosen = chosen_so own other m c (is_in_range other valid_other) pass.all pass.numbered
+
+      there : package_at own gain.1.«package».0 ≡ Some found.there
+      there = ap (slice_get own.packages.items) (gain.3.number ∙ number) ∙ found.at_there
+
+      gained : (q : Package) × (slice_get pass.grown gain.1.«package».0 ≡ Some q) × HasGained gain.1 found.there q
+      gained = pass.gained.gained gain.0 gain.1 found.there gain.2 there
+
+      names_after : {X : Type 0} (f : String Global × X → Text × ℕ) (all own_ones more : List (String Global × X)) → all ≡ own_ones ++ more → map f all ≡ map f own_ones ++ map f more
+      names_after f all own_ones more e = ap (map f) e ∙ map-append f own_ones more
 
       joined : IsJoinedPackage merged f (is_left_out other) n p (interface_names found.there) (world_names found.there)
       joined = record {
@@ -178,13 +148,13 @@ module _ (own other merged : Resolve) (valid_own : IsValid own) (valid_other : I
         at_image = ap (λ l. slice_get l (number_under c.packages.items n)) pass.packages_here ∙ front_at pass.grown pass.new_packages (number_under c.packages.items n) gained.0
             (ap (slice_get pass.grown) (sym gain.3.number) ∙ gained.1);
         new_interfaces = map (λ (e : String Global × InterfaceId). (text_of e.0, e.1.0)) gain.1.interfaces.entries;
-        interfaces = ap (map (λ (e : String Global × InterfaceId). (text_of e.0, e.1.0))) interfaces_behind ∙ map-append (λ (e : String Global × InterfaceId). (text_of e.0, e.1.0))
-            found.there.interfaces.entries gain.1.interfaces.entries;
+        interfaces = names_after (λ (e : String Global × InterfaceId). (text_of e.0, e.1.0)) gained.0.interfaces.entries found.there.interfaces.entries gain.1.interfaces.entries
+            (gained.2.interfaces ∙ interfaces_behind own other valid_other m c by_name pass.numbered chosen pass.gains names gain.0 gain.1 found.there gain.2 there);
         joined_interfaces = interfaces_join own other merged valid_other m c numbers pass interfaces_by worlds_by n p at (interface_names found.there) interfaces_here gain.1.interfaces.entries
             new_interfaces;
         new_worlds = map (λ (e : String Global × WorldId). (text_of e.0, e.1.0)) gain.1.worlds.entries;
-        worlds = ap (map (λ (e : String Global × WorldId). (text_of e.0, e.1.0))) worlds_behind ∙ map-append (λ (e : String Global × WorldId). (text_of e.0, e.1.0)) found.there.worlds.entries
-            gain.1.worlds.entries;
+        worlds = names_after (λ (e : String Global × WorldId). (text_of e.0, e.1.0)) gained.0.worlds.entries found.there.worlds.entries gain.1.worlds.entries
+            (gained.2.worlds ∙ worlds_behind own other valid_other m c by_name pass.numbered chosen pass.gains names gain.0 gain.1 found.there gain.2 there);
         joined_worlds = worlds_join own other merged valid_other m c numbers pass interfaces_by worlds_by n p at (world_names found.there) worlds_here gain.1.worlds.entries new_worlds;
       }
 
@@ -194,28 +164,20 @@ module _ (own other merged : Resolve) (valid_own : IsValid own) (valid_other : I
           (package-name own valid_own id.0 found.there found.at_there).version).0 found.same))
 
       interface_apart : (t : Text) → is_name t (interface_names p) ≡ true → is_name t (world_names found.there) ≡ false
-      interface_apart t h = go (is_name t (world_names found.there)) refl
-        where
-          go : (b : Bool) → is_name t (world_names found.there) ≡ b → is_name t (world_names found.there) ≡ false
-          go false e = e
-          go true e =
-              let a = name_entry t (interface_names p) h in
-              let b = name_entry t (world_names found.there) e in
-              let x = listed_interface other valid_other n p at t a.0 a.1 in
-              let y = listed_world own valid_own id.0 found.there found.at_there t b.0 b.1 in
-              absurd (no_world a.0 x.interface_ b.0 y.world (path_in (identity_of p.name) t) x.found x.path y.found (y.path ∙ ap Some (one_path t)))
+      interface_apart t h = false_from_ne_true (is_name t (world_names found.there)) (λ e.
+          let a = name_entry t (interface_names p) h in
+          let b = name_entry t (world_names found.there) e in
+          let x = listed_interface other valid_other n p at t a.0 a.1 in
+          let y = listed_world own valid_own id.0 found.there found.at_there t b.0 b.1 in
+          no_world a.0 x.interface_ b.0 y.world (path_in (identity_of p.name) t) x.found x.path y.found (y.path ∙ ap Some (one_path t)))
 
       world_apart : (t : Text) (k : ℕ) → Contains (world_names p) (t, k) → is_left_out other k ≡ false → is_name t (interface_names found.there) ≡ false
-      world_apart t k held kept = go (is_name t (interface_names found.there)) refl
-        where
-          go : (b : Bool) → is_name t (interface_names found.there) ≡ b → is_name t (interface_names found.there) ≡ false
-          go false e = e
-          go true e =
-              let a = name_entry t (interface_names found.there) e in
-              let x = listed_interface own valid_own id.0 found.there found.at_there t a.0 a.1 in
-              let y = listed_world other valid_other n p at t k held in
-              let root = sym (ap (λ (o : Option World). option_map_or (is_root_world other) o false) y.found) ∙ kept in
-              absurd (no_interface a.0 x.interface_ k y.world (path_in (identity_of p.name) t) x.found (x.path ∙ ap Some (one_path t)) y.found root y.path)
+      world_apart t k held kept = false_from_ne_true (is_name t (interface_names found.there)) (λ e.
+          let a = name_entry t (interface_names found.there) e in
+          let x = listed_interface own valid_own id.0 found.there found.at_there t a.0 a.1 in
+          let y = listed_world other valid_other n p at t k held in
+          let root = sym (ap (λ (o : Option World). option_map_or (is_root_world other) o false) y.found) ∙ kept in
+          no_interface a.0 x.interface_ k y.world (path_in (identity_of p.name) t) x.found (x.path ∙ ap Some (one_path t)) y.found root y.path)
 
       own_stands : PackageStands own merged f (is_left_out other) n p
       own_stands = grown found.there (ap (package_at own) number ∙ found.at_there) joined interface_apart world_apart

@@ -1,22 +1,22 @@
 -- With its owner, all that a type or a function refers to is carried: by the rule on owners, from the smaller numbers on.
-use Rattle.std.proofs.Common.{rules as std_rules, ◌≡◌, refl, sym, ap, ◌∙◌, ℕ, zero, suc, ◌<◌, arith, Bool, true, false, ◌&&◌, ◌||◌, not, nat_lt, ltb-true, List, [], ◌∷◌, ◌++◌, flat_map, Option, Some, None, option_to_list, is_some, length}
-use Rattle.std.proofs.lemmas.{Bool.lt-ltb, Bool.and_from as both, List.Folds.list_all-append, List.Folds.list_all-map, Option.slice_get_within}
-use Rattle.std.specs.{Prelude.String, List.list_all, Option.option_map_or}
-use Rattle.std.specs.declared.alloc.Global.{Global}
-use Rattle.indexmap.specs.IndexMap.{values}
-use Rattle.wit_model.specs.declared.model.{Function.Function, Interface.Interface, Resolve.Resolve, TypeOwner.TypeOwner, WorldItem.WorldItem, WorldKey.WorldKey}
-use Rattle.wit_model.specs.declared.model.{TypeDef.TypeDef, World.World}
-use Rattle.wit_model.specs.{Lookup.interface_at, Lookup.type_at, Lookup.world_at, Uses.alias_target, Uses.direct_deps, Uses.owner_interface, Checks.references}
-use Rattle.wit_model.specs.Parts.{function_numbers, kind_numbers, met_by, met_of, same_owner, has_owner, used_by_type}
-use Rattle.wit_model.specs.Text.{text_eq, text_of}
-use Rattle.wit_model.specs.Rules.{entries_in_range, function_in_range, function_stays, in_list, is_listed, is_member, is_named_kind, is_named_number, is_name_key, is_use, item_in_range, key_in_range, owner_in_range, package_number, passes}
-use Rattle.wit_model.specs.Valid.{IsValid, Keeps, as_interface, as_world, function_names, functions_of_interface, functions_of_world, is_place, item_function, named_kinds, numbers_in_range, order_of_types, owners}
-use Rattle.wit_model.proofs.Checks.{below_at}
-use Rattle.wit_model.proofs.{Functions.all_flat, OnePath.found-in, OnePath.interface-passes, PartsLemmas.owner_same as owner_equal, UsesLemmas.alias_numbers}
-use Rattle.wit_model.proofs.{Owners.function_home, Owners.named_met, Owners.owned_stays, Owners.unnamed_met, ValidLemmas.type_passes, ValidLemmas.world_passes}
-use Rattle.bind_union.proofs.{Carrying.references_of, Lists.no_true, WorldRules.by_entries}
-use Rattle.bind_carry.specs.CarriedParts.{AreCarriedByOwner, PartsAreCarried, is_function_carried}
 use Rattle.base_lemmas.proofs.{Bools.left_of as first_true, Bools.right_of as second_true, Elements.all_three, Elements.all_two, Elements.all_weaker}
+use Rattle.bind_carry.specs.CarriedParts.{AreCarriedByOwner, PartsAreCarried, is_function_carried}
+use Rattle.bind_union.proofs.{Carrying.references_of, Lists.no_true, WorldRules.by_entries}
+use Rattle.indexmap.specs.IndexMap.{values}
+use Rattle.std.proofs.Common.{Bool, List, None, Option, Some, [], ap, arith, false, flat_map, is_some, length, ltb-true, nat_lt, not, option_to_list, refl, rules as std_rules, suc, sym, true, zero, ℕ, ◌&&◌, ◌++◌, ◌<◌, ◌||◌, ◌∙◌, ◌∷◌, ◌≡◌}
+use Rattle.std.proofs.lemmas.{Bool.and_from as both, Bool.lt-ltb, List.Folds.list_all-append, List.Folds.list_all-map, Option.slice_get_within}
+use Rattle.std.specs.{List.list_all, Option.option_map_or, Prelude.String, declared.alloc.Global.Global}
+use Rattle.wit_model.proofs.{Checks.below_at, Functions.all_flat, OnePath.found-in, OnePath.interface-passes, Owners.function_home, Owners.named_met}
+use Rattle.wit_model.proofs.{Owners.owned_stays, Owners.unnamed_met, PartsLemmas.owner_same as owner_equal, UsesLemmas.alias_numbers, ValidLemmas.type_passes}
+use Rattle.wit_model.proofs.ValidLemmas.{world_passes}
+use Rattle.wit_model.specs.{Checks.references, Lookup.interface_at, Lookup.type_at, Lookup.world_at, Parts.function_numbers, Parts.has_owner}
+use Rattle.wit_model.specs.{Parts.kind_numbers, Parts.met_by, Parts.met_of, Parts.same_owner, Parts.used_by_type, Rules.entries_in_range}
+use Rattle.wit_model.specs.Rules.{function_in_range, function_stays, in_list, is_listed, is_member, is_name_key, is_named_kind, is_named_number, is_use}
+use Rattle.wit_model.specs.{Rules.item_in_range, Rules.key_in_range, Rules.owner_in_range, Rules.package_number, Rules.passes, Text.text_eq, Text.text_of}
+use Rattle.wit_model.specs.{Uses.alias_target, Uses.direct_deps, Uses.owner_interface, Valid.IsValid, Valid.Keeps, Valid.as_interface, Valid.as_world}
+use Rattle.wit_model.specs.Valid.{function_names, functions_of_interface, functions_of_world, is_place, item_function, named_kinds, numbers_in_range}
+use Rattle.wit_model.specs.{Valid.order_of_types, Valid.owners, declared.model.Function.Function, declared.model.Interface.Interface}
+use Rattle.wit_model.specs.declared.model.{Resolve.Resolve, TypeDef.TypeDef, TypeOwner.TypeOwner, World.World, WorldItem.WorldItem, WorldKey.WorldKey}
 use Rattle.wit_model.specs.declared.model.TypeOwner.TheVariants as owner
 
 -- ---- lists
@@ -26,11 +26,6 @@ all_below_pass : (p q : ℕ → Bool) (n : ℕ) (ns : List ℕ) → ((m : ℕ) �
 all_below_pass p q n [] make low h = refl
 all_below_pass p q n (m ∷ ns) make low h =
     search (std_rules, both, ltb-true, first_true, second_true, all_below_pass p q n ns make (second_true (nat_lt m n) (list_all (λ k. nat_lt k n) ns) low) (second_true (p m) (list_all p ns) h))
-
--- ---- aliases
-
-never : {A : Type 0} (u : ℕ) → ◌≡◌ {A = Option ℕ} None (Some u) → A
-never u e = let wrong : ⊥ = cc in absurd wrong
 
 -- ---- owners of types
 

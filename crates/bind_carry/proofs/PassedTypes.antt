@@ -1,29 +1,37 @@
 -- Types that a pass copies: each stands under its new number, and all its parts are carried. Both passes are so.
-use Rattle.std.proofs.Common.{rules as std_rules, ◌≡◌, inl, refl, sym, ap, ◌∙◌, ℕ, zero, suc, ◌<◌, arith, Bool, true, false, ◌&&◌, nat_lt, List, [], ◌∷◌, ◌++◌, length, Some, is_some, slice_get}
-use Rattle.std.specs.{List.list_all, Option.option_map_or}
-use Rattle.wit_model.specs.declared.model.{Resolve.Resolve, TypeDef.TypeDef}
-use Rattle.wit_model.specs.{Lookup.type_at, Parts.kind_numbers, Valid.IsValid}
-use Rattle.bind_copy.specs.Copies.{number_under}
-use Rattle.bind_union.specs.{Carried.carries_owner, Carried.copies_owner, Carried.owner_under, Carried.IsType, Carried.Renumbering, Images.HasImageKind}
-use Rattle.bind_union.specs.Views.{kind_view, renamed, view_numbers}
-use Rattle.bind_union.proofs.{Carrying.references_of, Carrying.refers_below, Images.numbers_of_view, Lists.no_true}
-use Rattle.bind_carry.specs.{CarriedParts.AreCarriedByOwner, CarriedParts.PartsOfOwners, Initial.IsInitial, Renumbered.is_copied}
-use Rattle.bind_carry.specs.Fates.{are_carried, carries, copies, is_carried, settled, settled_from, AreCopied, FallBelow}
+use Rattle.base_lemmas.proofs.{Lists.within_there, Options.nameless as some_none, Options.none_some}
+use Rattle.bind_carry.proofs.{CopiesPlaced.IsPlaced, CopiesPlaced.copy_placed, PartsCarried.no_home, PartsCarried.parts_are_carried, SettledParts.copied_still}
+use Rattle.bind_carry.proofs.SettledParts.{settled_all, stands_still, unnamed_carried, unnamed_parts}
+use Rattle.bind_carry.specs.{CarriedParts.AreCarriedByOwner, CarriedParts.PartsOfOwners, Fates.AreCopied, Fates.FallBelow, Fates.are_carried, Fates.carries}
+use Rattle.bind_carry.specs.{Fates.copies, Fates.is_carried, Fates.settled, Fates.settled_from, Initial.IsInitial, Renumbered.is_copied}
 use Rattle.bind_carry.specs.declared.fate.Fate.{Fate}
-use Rattle.bind_carry.proofs.{CopiesPlaced.copy_placed, CopiesPlaced.IsPlaced, FirstInterfaces.copied_carried, PartsCarried.no_home, PartsCarried.parts_are_carried}
-use Rattle.bind_carry.proofs.SettledParts.{copied_still, settled_all, stands_still, unnamed_carried, unnamed_parts}
-use Rattle.base_lemmas.proofs.Options.{nameless as some_none, none_some}
+use Rattle.bind_copy.specs.Copies.{number_under}
+use Rattle.bind_union.proofs.{Carrying.references_of, Carrying.refers_below, Images.numbers_of_view, Lists.no_true}
+use Rattle.bind_union.specs.{Carried.IsType, Carried.Renumbering, Carried.carries_owner, Carried.copies_owner, Carried.owner_under, Images.HasImageKind}
+use Rattle.bind_union.specs.Views.{kind_view, renamed, view_numbers}
+use Rattle.std.proofs.Common.{Bool, List, Some, [], ap, arith, false, inl, is_some, length, nat_lt, refl, rules as std_rules, slice_get, suc, sym, true, zero, ℕ, ◌&&◌, ◌++◌, ◌<◌, ◌∙◌, ◌∷◌, ◌≡◌}
+use Rattle.std.proofs.lemmas.Option.{slice_get_within}
+use Rattle.std.specs.{List.list_all, Option.option_map_or}
+use Rattle.wit_model.specs.{Lookup.type_at, Parts.kind_numbers, Valid.IsValid, declared.model.Resolve.Resolve, declared.model.TypeDef.TypeDef}
 use Rattle.bind_carry.specs.declared.fate.Fate.TheVariants as fate
+use Rattle.wit_model.specs.declared.model.TypeOwner.TheVariants as owner
 
-pub fate_there : (fs : List Fate) (n : ℕ) → n < length fs → (g : Fate) × (slice_get fs n ≡ Some g)
-fate_there [] n l = absurd (omega (arith, l))
-fate_there (g ∷ gs) zero l = (g, refl)
-fate_there (g ∷ gs) (suc n) l = fate_there gs n (omega (arith, l))
+-- what is copied is carried
+pub copied_carried : (fates : List Fate) (n : ℕ) → is_copied fates n ≡ true → is_carried fates n ≡ true
+copied_carried [] n h = no_true h
+copied_carried (fate.Left ∷ fs) zero h = no_true h
+copied_carried (fate.Stands k ∷ fs) zero h = no_true h
+copied_carried (fate.Copied home ∷ fs) zero h = refl
+copied_carried (f ∷ fs) (suc n) h = copied_carried fs n h
 
-pub type_within : (ts : List TypeDef) (n : ℕ) (t : TypeDef) → slice_get ts n ≡ Some t → n < length ts
-type_within [] n t e = let wrong : ⊥ = cc in absurd wrong
-type_within (u ∷ us) zero t e = omega arith
-type_within (u ∷ us) (suc n) t e = let r = type_within us n t e in omega (arith, r)
+pub carried_within : (fates : List Fate) (n : ℕ) → is_carried fates n ≡ true → n < length fates
+carried_within [] n h = no_true h
+carried_within (g ∷ gs) zero h = omega arith
+carried_within (g ∷ gs) (suc n) h = let r = carried_within gs n h in omega (arith, r)
+
+stays_left : (may : Bool) → settled fate.Left false may ≡ fate.Left
+stays_left true = refl
+stays_left false = refl
 
 module _ (other : Resolve) (valid : IsValid other) (f : Renumbering) (adds : Bool) (initial : List Fate) (starts : IsInitial other f adds initial) where
   abbrev fates : List Fate
@@ -48,6 +56,38 @@ module _ (other : Resolve) (valid : IsValid other) (f : Renumbering) (adds : Boo
   pub parts_hold : adds ≡ true → PartsOfOwners other (is_carried fates) (carries_owner f)
   parts_hold add = parts_are_carried other (is_carried fates) (carries_owner f) valid (by_owner add)
 
+  -- without a fate at first a type with a name has none in the end, and one without a name that is carried is copied
+  left_still : (n : ℕ) (def : TypeDef) → type_at other n ≡ Some def → is_some def.name ≡ true → slice_get initial n ≡ Some fate.Left → slice_get fates n ≡ Some fate.Left
+  left_still n def at named e =
+      let may = adds && are_carried fates (view_numbers (kind_view def.kind)) in
+      settled_all adds other.types.items initial falls n def fate.Left at e ∙ (ap (λ b. Some (settled fate.Left b may)) (some_none def.name named) ∙ ap Some (stays_left may))
+
+  unnamed_copied : (n : ℕ) (def : TypeDef) → type_at other n ≡ Some def → is_some def.name ≡ false → is_carried fates n ≡ true
+      → (slice_get fates n ≡ Some (fate.Copied owner.None)) × (are_carried fates (view_numbers (kind_view def.kind)) ≡ true)
+  unnamed_copied n def at e h =
+      let left = starts.unnamed n def at e in
+      let p = unnamed_parts adds other.types.items initial falls n def at left h in
+      (settled_all adds other.types.items initial falls n def fate.Left at left ∙ (λ i. Some (settled fate.Left (p.1 i) (p.2 i && p.0 i))), p.0)
+
+  fate_at_first : (n : ℕ) (def : TypeDef) → type_at other n ≡ Some def → (g : Fate) × (slice_get initial n ≡ Some g)
+  fate_at_first n def at = within_there initial n (let less = slice_get_within other.types.items n def at in let long = starts.long in omega (arith, less, long))
+
+  -- what is carried without a copy has a name, and stood for a type at first
+  abbrev pub StoodFirst : ℕ → TypeDef → Type 0
+  StoodFirst n def = (is_some def.name ≡ true) × (k : ℕ) × (slice_get initial n ≡ Some (fate.Stands k))
+
+  pub stood_first : (n : ℕ) (def : TypeDef) → type_at other n ≡ Some def → is_carried fates n ≡ true → is_copied fates n ≡ false → StoodFirst n def
+  stood_first n def at h bare = go (is_some def.name) refl
+    where
+      by_fate : is_some def.name ≡ true → (g : Fate) → slice_get initial n ≡ Some g → StoodFirst n def
+      by_fate named fate.Left e = no_true (sym (ap (λ o. option_map_or carries o false) (left_still n def at named e)) ∙ h)
+      by_fate named (fate.Stands k) e = (named, k, e)
+      by_fate named (fate.Copied home) e = no_true (sym bare ∙ ap (λ o. option_map_or copies o false) (copied_still adds other.types.items initial falls n def at home e))
+
+      go : (b : Bool) → is_some def.name ≡ b → StoodFirst n def
+      go false e = no_true (sym bare ∙ ap (λ o. option_map_or copies o false) (unnamed_copied n def at e h).0)
+      go true e = let g = fate_at_first n def at in by_fate e g.0 g.1
+
   -- A copy's home, and its parts.
   pub record IsCopiedSo (n : ℕ) (def : TypeDef) : Type 0 where
     pub its_fate : slice_get fates n ≡ Some (fate.Copied (owner_under f def.owner))
@@ -59,29 +99,17 @@ module _ (other : Resolve) (valid : IsValid other) (f : Renumbering) (adds : Boo
     where
       unnamed : is_some def.name ≡ false → IsCopiedSo n def
       unnamed e =
-          let left = starts.unnamed n def at e in
-          let p = unnamed_parts adds other.types.items initial falls n def at left (copied_carried fates n h) in
+          let x = unnamed_copied n def at e (copied_carried fates n h) in
           let home = no_home other valid n def at e in
           record {
-            its_fate = settled_all adds other.types.items initial falls n def fate.Left at left
-                ∙ ((λ i. Some (settled fate.Left (p.1 i) (p.2 i && p.0 i))) ∙ ap (λ o. Some (fate.Copied (owner_under f o))) (sym home));
+            its_fate = x.0 ∙ ap (λ o. Some (fate.Copied (owner_under f o))) (sym home);
             home = ap (copies_owner f) home;
-            parts = ap (list_all (is_carried fates)) (sym (numbers_of_view def.kind)) ∙ p.0;
+            parts = ap (list_all (is_carried fates)) (sym (numbers_of_view def.kind)) ∙ x.1;
           }
 
       -- with a name it was to be copied at first
       by_fate : is_some def.name ≡ true → (g : Fate) → slice_get initial n ≡ Some g → IsCopiedSo n def
-      by_fate named fate.Left e = no_true (sym (left_out (adds && are_carried fates (view_numbers (kind_view def.kind)))) ∙ h)
-        where
-          stays : (may : Bool) → copies (settled fate.Left false may) ≡ false
-          stays true = refl
-          stays false = refl
-
-          left_out : (may : Bool) → is_copied fates n ≡ false
-          left_out may =
-              ap (λ o. option_map_or copies o false) (settled_all adds other.types.items initial falls n def fate.Left at e)
-              ∙ (ap (λ b. copies (settled fate.Left b (adds && are_carried fates (view_numbers (kind_view def.kind))))) (some_none def.name named)
-              ∙ stays (adds && are_carried fates (view_numbers (kind_view def.kind))))
+      by_fate named fate.Left e = no_true (sym (ap (λ o. option_map_or copies o false) (left_still n def at named e)) ∙ h)
       by_fate named (fate.Stands k) e = no_true (sym (ap (λ o. option_map_or copies o false) (stands_still adds other.types.items initial falls n def at k e)) ∙ h)
       by_fate named (fate.Copied home) e =
           let x = starts.copied n def home at named e in
@@ -93,7 +121,7 @@ module _ (other : Resolve) (valid : IsValid other) (f : Renumbering) (adds : Boo
 
       go : (b : Bool) → is_some def.name ≡ b → IsCopiedSo n def
       go false e = unnamed e
-      go true e = let g = fate_there initial n (let less = type_within other.types.items n def at in let long = starts.long in omega (arith, less, long)) in by_fate e g.0 g.1
+      go true e = let g = fate_at_first n def at in by_fate e g.0 g.1
 
   -- the copy stands under its new number
   module _ (own merged : Resolve) (numbers : List ℕ) (old new rest : List TypeDef) (is : AreCopied (length own.types.items) numbers other.types.items fates old new)

@@ -1,19 +1,19 @@
 -- What a union adds, once what is moved is in its places.
-use Rattle.std.proofs.Common.{rules as std_rules, ◌≡◌, refl, sym, ap, subst, ◌∙◌, ℕ, ◌+◌, ◌≤◌, ◌<◌, true, arith, nat_lt, List, [], ◌∷◌, ◌++◌, length, drop, slice_get, Some}
-use Rattle.std.proofs.lemmas.{List.with_items_is, Bool.lt-ltb, Bool.ltb-true}
+use Rattle.base_lemmas.proofs.Elements.{all_weaker, zip_long}
+use Rattle.bind_add.specs.declared.added.Added.{Added}
+use Rattle.bind_carry.proofs.{CopiesPlaced.numbers_by_long, Counting.carried_all, Counting.length_both, Counting.types_counted, Ready.carried_ready}
+use Rattle.bind_carry.proofs.Ready.{fates_long}
+use Rattle.bind_carry.specs.{Bound.bound_interfaces, BoundGains.bound_fates, Fates.AreCopied, Fates.IsCopiedType, Fates.copied_types, Fates.numbers_by}
+use Rattle.bind_carry.specs.{First.first_fates, InRange.IsInRange, Moved.AreMoved, Moved.IsInterfaceBelow, Numbers.copied_count, Over.IsPlacedOver}
+use Rattle.bind_carry.specs.{Planned.IsPlanned, TooLong.AreTooManyGained, TooLong.copies_of, Union.IsUnionOf, Which.AreMatchedAll, Whole.IsInterfaceCarried}
+use Rattle.bind_carry.specs.{Whole.kept, declared.fate.Fate.Fate, declared.plan.Carried.Carried, declared.plan.Planned.Planned}
+use Rattle.bind_copy.specs.Copies.{all_below}
+use Rattle.bind_match.specs.declared.matches.Matches.{Matches}
+use Rattle.bind_union.specs.Views.{kind_view, view_numbers}
+use Rattle.std.proofs.Common.{List, Some, [], ap, arith, drop, length, nat_lt, refl, rules as std_rules, slice_get, subst, sym, true, ℕ, ◌++◌, ◌<◌, ◌∙◌, ◌∷◌, ◌≡◌, ◌≤◌}
+use Rattle.std.proofs.lemmas.{Bool.lt-ltb, Bool.ltb-true, List.with_items_is, Option.slice_get_within}
 use Rattle.std.specs.{List.AllZip, Vec.with_items}
 use Rattle.wit_model.specs.declared.model.{Interface.Interface, Resolve.Resolve, TypeDef.TypeDef, World.World}
-use Rattle.bind_add.specs.declared.added.Added.{Added}
-use Rattle.bind_match.specs.declared.matches.Matches.{Matches}
-use Rattle.bind_copy.specs.Copies.{all_below}
-use Rattle.bind_union.specs.Views.{kind_view, view_numbers}
-use Rattle.bind_carry.specs.{Bound.bound_interfaces, BoundGains.bound_fates, Numbers.copied_count, Which.AreMatchedAll, Whole.kept, Whole.IsInterfaceCarried}
-use Rattle.bind_carry.specs.{Fates.copied_types, Fates.AreCopied, Fates.IsCopiedType, Moved.AreMoved, Moved.IsInterfaceBelow, Union.IsUnionOf}
-use Rattle.bind_carry.specs.{First.first_fates, InRange.IsInRange, Planned.IsPlanned, TooLong.copies_of}
-use Rattle.bind_carry.specs.declared.plan.Planned.{Planned}
-use Rattle.base_lemmas.proofs.Elements.{all_weaker, zip_long}
-use Rattle.bind_carry.proofs.{CopiesPlaced.numbers_by_long, PassedTypes.type_within}
-use Rattle.bind_carry.proofs.{Counting.carried_all, Counting.length_both, Counting.types_counted, Ready.carried_ready, Ready.fates_long}
 
 -- what stands behind the front of a list
 behind_front : {X : Type 0} (xs ys : List X) (n : ℕ) → n ≡ length xs → drop n (xs ++ ys) ≡ ys
@@ -46,7 +46,7 @@ module _ (own other : Resolve) (world other_world : ℕ) (m : Matches) (w v : Wo
       → all_below (length types) (view_numbers (kind_view def.kind)) ≡ true
   types_below range types same n def at =
       let count : length types ≡ length other.types.items = ap length same ∙ types_count in
-      let within : n < length other.types.items = type_within other.types.items n def at in
+      let within : n < length other.types.items = slice_get_within other.types.items n def at in
       all_weaker (λ k. nat_lt k n) (λ k. nat_lt k (length types))
       (λ k lower. let low = ltb-true k n lower in lt-ltb k (length types) (omega (arith, count, within, low)))
       (view_numbers (kind_view def.kind)) (range.falls n def at)
@@ -100,9 +100,6 @@ module _ (own other : Resolve) (world other_world : ℕ) (m : Matches) (w v : Wo
   same_type_number : length first.types.items ≡ length s.before.types.items
   same_type_number = ap length first_types ∙ types_many
 
-  none_before : length own.types.items ≡ length own.types.items + 0
-  none_before = omega arith
-
   types_whole : AreCopied (length own.types.items) p.types.items other.types.items (first_fates own other m.interfaces.items p.carried) [] types_are.moved
   types_whole = search std_rules
 
@@ -151,3 +148,14 @@ module _ (own other : Resolve) (world other_world : ℕ) (m : Matches) (w v : Wo
         };
         keys_are = s.keys_are;
       })
+
+module _ (own other : Resolve) (m : Matches) (c : Carried) (types : List ℕ)
+    (numbers_are : types ≡ numbers_by (length own.types.items) (first_fates own other m.interfaces.items c)) (before : Added)
+    (first : IsPlacedOver other c types (copies_of (first_fates own other m.interfaces.items c)) before) where
+  abbrev fates : List Fate
+  fates = first_fates own other m.interfaces.items c
+
+  -- that is too much with what is numbered
+  pub gained_by_count : (world other_world : ℕ) (w v : World) → AreTooManyGained own other world other_world w v c fates types (length before.interfaces.items) (length before.types.items)
+      → AreTooManyGained own other world other_world w v c fates (numbers_by (length own.types.items) fates) (copied_count c.copied_interfaces.items) (copies_of fates)
+  gained_by_count world other_world w v h = search std_rules

@@ -1,31 +1,27 @@
 -- A valid `Resolve` is in range.
-use Rattle.std.proofs.Common.{rules as std_rules, ◌≡◌, refl, sym, ap, ◌∙◌, ℕ, ◌≤◌, Bool, true, false, ◌&&◌, nat_lt, ltb-true, List, [], ◌∷◌, ◌++◌, length, map, filter_map, Option, Some, option_to_list, slice_get}
-use Rattle.std.proofs.lemmas.{List.Folds.list_all-append, List.Folds.list_all-map, Bool.ltb-false}
-use Rattle.std.specs.{Prelude.String, List.list_all, Option.option_map_or}
-use Rattle.std.specs.declared.alloc.Global.{Global}
-use Rattle.indexmap.specs.IndexMap.{values}
-use Rattle.wit_model.specs.declared.model.{Function.Function, Package.Package, Resolve.Resolve, TypeDef.TypeDef, WorldItem.WorldItem, WorldKey.WorldKey}
-use Rattle.wit_model.specs.declared.model.{FunctionKind.FunctionKind, Interface.Interface, PackageId.PackageId, TypeOwner.TypeOwner, «Type».«Type» as ValueType}
-use Rattle.wit_model.specs.declared.model.{Param.Param, World.World}
-use Rattle.wit_model.specs.{Lookup.interface_at, Lookup.package_at, Lookup.resource_of, Lookup.type_at, Lookup.world_at, Types.number_of}
-use Rattle.wit_model.specs.{Parts.kind_numbers, Valid.is_place, Valid.numbers_in_range, Valid.IsValid, Valid.Keeps}
-use Rattle.wit_model.specs.Rules.{entries_in_range, function_in_range, in_list, item_in_range, key_in_range, owner_in_range, package_number, passes}
-use Rattle.wit_model.proofs.{Entries.lists_pass, OnePath.interface-passes, OnePath.package-passes, RulesLemmas.each_at}
-use Rattle.bind_copy.specs.Copies.{all_below, are_names_below, are_params_below, call_numbers, key_numbers, AreEntriesBelow, AreFunctionsBelow, IsFunctionBelow, IsItemBelow}
-use Rattle.bind_union.proofs.{Carrying.references_of, Carrying.refers_below, Images.given_numbers, Images.numbers_cons, Images.numbers_of_view}
-use Rattle.bind_carry.specs.{Fates.FallBelow, InRange.IsInRange, Listed.are_interfaces_below, Listed.are_worlds_below, Listed.IsHomeBelow, Listed.IsOwnerBelow}
-use Rattle.bind_carry.specs.{BoundGains.are_types_below, Shown.are_keys_below, Shown.type_in, Shown.AreNewShownBelow, Shown.AreShownBelow, Shown.IsShownBelow}
 use Rattle.base_lemmas.proofs.{Bools.left_of as first_true, Bools.right_of as second_true, Lists.within_there as there}
+use Rattle.bind_carry.specs.{BoundGains.are_types_below, Fates.FallBelow, InRange.IsInRange, Listed.IsHomeBelow, Listed.IsOwnerBelow}
+use Rattle.bind_carry.specs.{Listed.are_interfaces_below, Listed.are_worlds_below, Shown.AreNewShownBelow, Shown.AreShownBelow, Shown.IsShownBelow}
+use Rattle.bind_carry.specs.Shown.{are_keys_below, type_in}
+use Rattle.bind_copy.specs.Copies.{AreEntriesBelow, AreFunctionsBelow, IsFunctionBelow, IsItemBelow, all_below, are_names_below, are_params_below, call_numbers}
+use Rattle.bind_copy.specs.Copies.{key_numbers}
+use Rattle.bind_union.proofs.{Carrying.references_of, Carrying.refers_below, Images.given_numbers, Images.numbers_cons, Images.numbers_of_view}
+use Rattle.indexmap.specs.IndexMap.{values}
+use Rattle.std.proofs.Common.{Bool, List, Option, Some, [], ap, false, filter_map, length, ltb-true, map, nat_lt, option_to_list, refl, rules as std_rules, slice_get, sym, true, ℕ, ◌&&◌, ◌∙◌, ◌∷◌, ◌≡◌, ◌≤◌}
+use Rattle.std.proofs.lemmas.{Bool.ltb-false, List.Elements.filter_map-append, List.Folds.list_all-append, List.Folds.list_all-map}
+use Rattle.std.specs.{List.list_all, Option.option_map_or, Prelude.String, declared.alloc.Global.Global}
+use Rattle.wit_model.proofs.{Entries.lists_pass, OnePath.interface-passes, OnePath.package-passes, RulesLemmas.each_at}
+use Rattle.wit_model.specs.{Lookup.interface_at, Lookup.package_at, Lookup.resource_of, Lookup.type_at, Lookup.world_at, Parts.kind_numbers}
+use Rattle.wit_model.specs.Rules.{entries_in_range, function_in_range, in_list, item_in_range, key_in_range, owner_in_range, package_number, passes}
+use Rattle.wit_model.specs.{Types.number_of, Valid.IsValid, Valid.Keeps, Valid.is_place, Valid.numbers_in_range, declared.model.Function.Function}
+use Rattle.wit_model.specs.declared.model.{FunctionKind.FunctionKind, Interface.Interface, Package.Package, PackageId.PackageId, Param.Param, Resolve.Resolve}
+use Rattle.wit_model.specs.declared.model.{TypeDef.TypeDef, TypeOwner.TypeOwner, World.World, WorldItem.WorldItem, WorldKey.WorldKey}
 
 -- ---- functions
 
 params_below : (count : ℕ) (ps : List Param) → list_all (λ n. nat_lt n count) (filter_map number_of (map (λ p. p.ty) ps)) ≡ are_params_below count ps
 params_below count [] = refl
 params_below count (p ∷ ps) = search (std_rules, numbers_cons, list_all-append, params_below count ps)
-
-numbers_append : (xs ys : List ValueType) → filter_map number_of (xs ++ ys) ≡ filter_map number_of xs ++ filter_map number_of ys
-numbers_append [] ys = refl
-numbers_append (x ∷ xs) ys = search (std_rules, numbers_cons, numbers_append xs ys)
 
 call_is : (k : FunctionKind) → option_to_list (resource_of k) ≡ call_numbers k
 call_is x = search std_rules
@@ -34,11 +30,8 @@ module _ (r : Resolve) where
   abbrev types : ℕ
   types = length r.types.items
 
-  abbrev below : ℕ → Bool
-  below n = nat_lt n types
-
   function_below : (f : Function) → function_in_range r f ≡ true → IsFunctionBelow types f
-  function_below f h = search (std_rules, call_is, second_true, params_below, first_true, given_numbers, list_all-append, numbers_append)
+  function_below f h = search (std_rules, call_is, second_true, params_below, first_true, given_numbers, list_all-append, filter_map-append)
 
   functions_below : (es : List (String Global × Function)) → list_all (function_in_range r) (map (λ (e : String Global × Function). e.1) es) ≡ true → AreFunctionsBelow types es
   functions_below [] h = tt
@@ -77,17 +70,11 @@ few_of xs places = go (nat_lt 4294967295 (length xs)) refl
     no_place : is_place 4294967295 ≡ true → ⊥
     no_place h = cc
 
-    at_most : (n : ℕ) → nat_lt 4294967295 n ≡ false → n ≤ 4294967295
-    at_most n e = ltb-false 4294967295 n e
-
     go : (b : Bool) → nat_lt 4294967295 (length xs) ≡ b → length xs ≤ 4294967295
     go true e = let x = there xs 4294967295 (ltb-true 4294967295 (length xs) e) in absurd (no_place (places 4294967295 x.0 x.1))
-    go false e = at_most (length xs) e
+    go false e = ltb-false 4294967295 (length xs) e
 
 -- ---- all of it
-
-values_all : {K V : Type 0} (p : V → Bool) (es : List (K × V)) → list_all p (map (λ (e : K × V). e.1) es) ≡ list_all (λ (e : K × V). p e.1) es
-values_all p es = list_all-map p (λ e. e.1) es
 
 module _ (r : Resolve) (valid : IsValid r) where
   rule : Keeps numbers_in_range r
@@ -108,9 +95,9 @@ module _ (r : Resolve) (valid : IsValid r) where
       let rest = second_true (is_place n) (list_all (λ id. in_list r.interfaces.items id.0) (values p.interfaces) && list_all (λ id. in_list r.worlds.items id.0) (values p.worlds)) h in
       record {
         place = first_true (is_place n) (list_all (λ id. in_list r.interfaces.items id.0) (values p.interfaces) && list_all (λ id. in_list r.worlds.items id.0) (values p.worlds)) h;
-        interfaces = sym (values_all (λ id. in_list r.interfaces.items id.0) p.interfaces.entries) ∙ first_true (list_all (λ id. in_list r.interfaces.items id.0) (values p.interfaces))
+        interfaces = sym (list_all-map (λ id. in_list r.interfaces.items id.0) (λ e. e.1) p.interfaces.entries) ∙ first_true (list_all (λ id. in_list r.interfaces.items id.0) (values p.interfaces))
             (list_all (λ id. in_list r.worlds.items id.0) (values p.worlds)) rest;
-        worlds = sym (values_all (λ id. in_list r.worlds.items id.0) p.worlds.entries) ∙ second_true (list_all (λ id. in_list r.interfaces.items id.0) (values p.interfaces))
+        worlds = sym (list_all-map (λ id. in_list r.worlds.items id.0) (λ e. e.1) p.worlds.entries) ∙ second_true (list_all (λ id. in_list r.interfaces.items id.0) (values p.interfaces))
             (list_all (λ id. in_list r.worlds.items id.0) (values p.worlds)) rest;
       }
 
@@ -125,7 +112,7 @@ module _ (r : Resolve) (valid : IsValid r) where
   interface_facts n i at = record {
     place = first_true (is_place n) (home && (types && functions)) h;
     home = home_below r i.«package» (first_true home (types && functions) rest);
-    types = sym (values_all (λ id. in_list r.types.items id.0) i.types.entries) ∙ first_true types functions both_;
+    types = sym (list_all-map (λ id. in_list r.types.items id.0) (λ e. e.1) i.types.entries) ∙ first_true types functions both_;
     functions = functions_below r i.functions.entries (second_true types functions both_);
   }
     where

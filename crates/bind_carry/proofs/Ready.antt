@@ -1,20 +1,16 @@
 -- What is carried of a `Resolve` in range can be copied, and so can what the bound world gains.
-use Rattle.std.proofs.Common.{rules as std_rules, ◌≡◌, sym, ap, subst, ◌∙◌, ℕ, ◌+◌, Bool, true, List, length, map, is_none, Some}
+use Rattle.bind_carry.proofs.{CopiesPlaced.numbers_by_long, CopiesPlaced.numbers_long, Ranges.keys_below, Ranges.new_shown_below, Ranges.types_below}
+use Rattle.bind_carry.proofs.{SecondInitial.second_long, SecondInitial.unified_long, SettledParts.settled_long}
+use Rattle.bind_carry.specs.{Bound.IsBoundReady, BoundGains.AreWorldKeysBelow, BoundGains.are_types_below, BoundGains.bound_fates, Fates.AreCopied}
+use Rattle.bind_carry.specs.{First.adds_any, First.fate_of, First.first_fates, InRange.IsInRange, Listed.IsOwnerBelow, Numbers.numbers_of, Over.IsCarriedReady}
+use Rattle.bind_carry.specs.{Shown.AreNewShownBelow, Which.AreMatchedAll, Which.IsNumbered, declared.fate.Fate.Fate, declared.plan.Carried.Carried}
+use Rattle.bind_copy.specs.Copies.{AreEntriesBelow, AreFunctionsBelow, are_names_below}
+use Rattle.bind_match.specs.declared.matches.Matches.{Matches}
+use Rattle.std.proofs.Common.{Bool, List, Some, ap, is_none, length, map, rules as std_rules, subst, sym, true, ℕ, ◌+◌, ◌∙◌, ◌≡◌}
 use Rattle.std.proofs.lemmas.List.{length-map}
 use Rattle.std.specs.Prelude.{OnOk, Result}
-use Rattle.wit_model.specs.Lookup.{interface_at, type_at, world_at}
-use Rattle.wit_model.specs.declared.model.{Interface.Interface, Resolve.Resolve, TypeDef.TypeDef, TypeOwner.TypeOwner}
-use Rattle.wit_model.specs.declared.model.World.{World}
-use Rattle.bind_copy.specs.Copies.{are_names_below, AreEntriesBelow, AreFunctionsBelow}
-use Rattle.bind_match.specs.declared.matches.Matches.{Matches}
-use Rattle.bind_carry.specs.{Bound.IsBoundReady, Fates.AreCopied, InRange.IsInRange, Numbers.numbers_of, Which.AreMatchedAll, Which.IsNumbered, First.adds_any, First.fate_of, First.first_fates, First.IsHomeIn, Shown.AreNewShownBelow, Listed.IsOwnerBelow, Over.IsCarriedReady}
-use Rattle.bind_carry.specs.BoundGains.{are_types_below, bound_fates, AreWorldKeysBelow}
-use Rattle.bind_carry.specs.declared.{fate.Fate.Fate, plan.Carried.Carried}
-use Rattle.bind_carry.proofs.{CopiesPlaced.numbers_by_long, Numbering.numbers_long, SettledParts.settled_long, Ranges.keys_below, Ranges.new_shown_below, Ranges.types_below, SecondInitial.second_long, SecondInitial.unified_long}
-
--- an owner's interface is in range, where the owner is
-pub home_in : (interfaces worlds : ℕ) (o : TypeOwner) → IsOwnerBelow interfaces worlds o → IsHomeIn interfaces o
-home_in interfaces worlds x h = search std_rules
+use Rattle.wit_model.specs.{Lookup.interface_at, Lookup.type_at, Lookup.world_at, declared.model.Interface.Interface, declared.model.Resolve.Resolve}
+use Rattle.wit_model.specs.declared.model.{TypeDef.TypeDef, World.World}
 
 module _ (own other : Resolve) (m : Matches) (c : Carried) (range : IsInRange other) (all : AreMatchedAll other m) (is : IsNumbered own other m c) where
   package_count : length other.packages.items ≡ length c.packages.items
@@ -72,9 +68,6 @@ module _ (own other : Resolve) (world other_world : ℕ) (c : Carried) (fates : 
     exports_below interfaces numbers e k =
         subst (λ (x : ℕ). AreEntriesBelow x numbers v.exports.entries) (sym e)
         (subst (λ (x : ℕ). AreEntriesBelow (length other.interfaces.items) x v.exports.entries) (sym k) (ready.in_range.exports other_world v at))
-
-  pub homes_in : (count : ℕ) → count ≡ length other.interfaces.items → (n : ℕ) (def : TypeDef) → type_at other n ≡ Some def → IsHomeIn count def.owner
-  homes_in count e n def at = subst (λ (k : ℕ). IsHomeIn k def.owner) (sym e) (home_in (length other.interfaces.items) (length other.worlds.items) def.owner (ready.in_range.owners n def at))
 
   pub names_in : (count : ℕ) → count ≡ length other.types.items → (n : ℕ) (i : Interface) → interface_at other n ≡ Some i → are_names_below count i.types.entries ≡ true
   names_in count e n i at = ap (λ (k : ℕ). are_names_below k i.types.entries) e ∙ ready.in_range.type_names n i at

@@ -1,14 +1,13 @@
 -- What becomes of types in the end, place by place: a type without a name is copied exactly where all its parts are carried, if anything is added.
-use Rattle.std.proofs.Common.{rules as std_rules, ◌≡◌, refl, sym, ap, subst, ◌∙◌, ℕ, zero, suc, ◌+◌, ◌<◌, arith, Bool, true, false, ◌&&◌, nat_lt, List, [], ◌∷◌, ◌++◌, length, Some, is_none, slice_get, unwrap_or, append_assoc, append-nil}
-use Rattle.std.proofs.lemmas.Bool.{ltb-true}
+use Rattle.base_lemmas.proofs.Bools.{left_of as first_true, right_of as second_true}
+use Rattle.bind_carry.specs.{Fates.FallBelow, Fates.are_carried, Fates.carries, Fates.is_carried, Fates.settled, Fates.settled_from, declared.fate.Fate.Fate}
+use Rattle.bind_copy.specs.Copies.{all_below}
+use Rattle.bind_union.proofs.Lists.{no_true}
+use Rattle.bind_union.specs.Views.{kind_view, view_numbers}
+use Rattle.std.proofs.Common.{Bool, List, Some, [], ap, append-nil, append_assoc, arith, false, is_none, length, nat_lt, refl, rules as std_rules, slice_get, subst, suc, sym, true, unwrap_or, zero, ℕ, ◌&&◌, ◌++◌, ◌+◌, ◌<◌, ◌∙◌, ◌∷◌, ◌≡◌}
+use Rattle.std.proofs.lemmas.{Bool.ltb-true, List.length_push}
 use Rattle.std.specs.Option.{option_map_or}
 use Rattle.wit_model.specs.declared.model.{TypeDef.TypeDef, TypeOwner.TypeOwner}
-use Rattle.bind_copy.specs.Copies.{all_below}
-use Rattle.bind_union.specs.Views.{kind_view, view_numbers}
-use Rattle.bind_union.proofs.Lists.{no_true}
-use Rattle.bind_carry.specs.Fates.{are_carried, carries, is_carried, settled, settled_from, FallBelow}
-use Rattle.bind_carry.specs.declared.fate.Fate.{Fate}
-use Rattle.base_lemmas.proofs.Bools.{left_of as first_true, right_of as second_true}
 use Rattle.bind_carry.specs.declared.fate.Fate.TheVariants as fate
 
 abbrev parts : TypeDef → List ℕ
@@ -34,10 +33,6 @@ last_of [] f rest (suc n) e = absurd (omega (arith, e))
 last_of (x ∷ xs) f rest zero e = absurd (omega (arith, e))
 last_of (x ∷ xs) f rest (suc n) e = last_of xs f rest n (omega (arith, e))
 
-long_by_one : (done : List Fate) (f : Fate) → length (done ++ f ∷ []) ≡ length done + 1
-long_by_one [] f = refl
-long_by_one (x ∷ xs) f = let r = long_by_one xs f in omega (arith, r)
-
 module _ (adds : Bool) where
   -- the fate of the first that is left
   abbrev one : List Fate → TypeDef → Fate → Fate
@@ -54,7 +49,7 @@ module _ (adds : Bool) where
   settled_more done [] [] long = omega arith
   settled_more done [] (f ∷ fs) long = absurd (omega (arith, long))
   settled_more done (t ∷ ts) [] long = absurd (omega (arith, long))
-  settled_more done (t ∷ ts) (f ∷ fs) long = search (std_rules, long_by_one, settled_more (done ++ one done t f ∷ []) ts fs (omega (arith, long)))
+  settled_more done (t ∷ ts) (f ∷ fs) long = search (std_rules, length_push, settled_more (done ++ one done t f ∷ []) ts fs (omega (arith, long)))
 
   pub settled_long : (types : List TypeDef) (fates : List Fate) → length fates ≡ length types → length (settled_from adds [] types fates) ≡ length types
   settled_long types fates long = let r = settled_more [] types fates long in omega (arith, r)
@@ -79,14 +74,8 @@ module _ (adds : Bool) where
       same_type : u ≡ t
       same_type = ap (λ o. unwrap_or o u) at_t
 
-      same_fate : g ≡ f
-      same_fate = ap (λ o. unwrap_or o g) at_f
-
-      here : length done ≡ length done + 0
-      here = omega arith
-
       small : all_below (length done) (parts u) ≡ true
-      small = ap (λ (m : ℕ). all_below m (parts u)) here ∙ falls zero u refl
+      small = let here : length done ≡ length done + 0 = omega arith in ap (λ (m : ℕ). all_below m (parts u)) here ∙ falls zero u refl
 
       same_one : (rest : List Fate) × (all ≡ (done ++ one done u g ∷ []) ++ rest) → slice_get all place ≡ Some (settled f (is_none t.name) (adds && are_carried all (parts t)))
       same_one rest =
@@ -95,9 +84,9 @@ module _ (adds : Bool) where
           let at : place ≡ length done = omega (arith, e) in
           (ap (λ l. slice_get l place) rest.1 ∙ last_of done (one done u g) rest.0 place at)
           ∙ ((λ i. Some (settled g (is_none u.name) (adds && carried i)))
-          ∙ (λ i. Some (settled (same_fate i) (is_none (same_type i).name) (adds && are_carried all (parts (same_type i))))))
+          ∙ (λ i. Some (settled ((ap (λ o. unwrap_or o g) at_f) i) (is_none (same_type i).name) (adds && are_carried all (parts (same_type i))))))
   settled_at done (u ∷ ts) (g ∷ fs) falls (suc n) place e t f at_t at_f =
-      let next : length (done ++ one done u g ∷ []) ≡ length done + 1 = long_by_one done (one done u g) in
+      let next : length (done ++ one done u g ∷ []) ≡ length done + 1 = length_push done (one done u g) in
       settled_at (done ++ one done u g ∷ []) ts fs (falls_later (length done) u ts (length (done ++ one done u g ∷ [])) next falls) n place (omega (arith, e, next)) t f at_t at_f
 
   -- the same from the beginning

@@ -1,14 +1,14 @@
 -- Types that meet their fates one by one.
-use Rattle.std.proofs.Common.{rules as std_rules, ◌≡◌, refl, sym, ap, ℕ, ◌+◌, ◌<◌, true, arith, List, [], ◌∷◌, ◌++◌, length, map, nat_lt, Option, option_map, zero, suc, append_assoc, append-nil}
-use Rattle.std.proofs.lemmas.{Bool.ltb-true, List.Folds.list_all-append}
-use Rattle.std.specs.List.{flat_map}
-use Rattle.wit_model.specs.Text.{Text}
-use Rattle.wit_model.specs.declared.model.{TypeDef.TypeDef, TypeOwner.TypeOwner, «Type».«Type» as ValueType}
-use Rattle.bind_copy.specs.Copies.{all_below, number_under, IsTypeUnder}
-use Rattle.bind_union.specs.Views.{kind_view, optional_numbers, renamed, renamed_type, type_numbers, view_numbers, KindView, record_view, variant_view, tuple_view, own_view, borrow_view, option_view, result_view, list_view, map_view, fixed_list_view, future_view, stream_view, alias_view}
-use Rattle.bind_carry.specs.declared.fate.Fate.{Fate}
-use Rattle.bind_carry.specs.Fates.{numbers_by, AreCopied, AreCopiedSoFar, MeetsFate}
 use Rattle.base_lemmas.proofs.Bools.{left_of as first_true, right_of as second_true}
+use Rattle.bind_carry.specs.{Fates.AreCopied, Fates.AreCopiedSoFar, Fates.MeetsFate, declared.fate.Fate.Fate}
+use Rattle.bind_copy.specs.Copies.{IsTypeUnder, all_below, number_under}
+use Rattle.bind_union.specs.Views.{KindView, alias_view, borrow_view, fixed_list_view, future_view, kind_view, list_view, map_view, option_view}
+use Rattle.bind_union.specs.Views.{optional_numbers, own_view, record_view, renamed, renamed_type, result_view, stream_view, tuple_view, type_numbers}
+use Rattle.bind_union.specs.Views.{variant_view, view_numbers}
+use Rattle.std.proofs.Common.{List, Option, [], ap, append-nil, append_assoc, arith, length, map, nat_lt, option_map, refl, rules as std_rules, suc, true, zero, ℕ, ◌++◌, ◌<◌, ◌∷◌, ◌≡◌}
+use Rattle.std.proofs.lemmas.{Bool.ltb-true, List.length_push, List.Folds.list_all-append}
+use Rattle.std.specs.List.{flat_map}
+use Rattle.wit_model.specs.{Text.Text, declared.model.TypeDef.TypeDef, declared.model.TypeOwner.TypeOwner, declared.model.«Type».«Type» as ValueType}
 
 -- ---- numbers that agree below a bound
 
@@ -69,23 +69,13 @@ with_more xs ys home old new small is = search (std_rules, view_agrees, in_front
 
 -- ---- one type after the other
 
-length_one : (xs : List TypeDef) (t : TypeDef) → length (xs ++ t ∷ []) ≡ length xs + 1
-length_one [] t = refl
-length_one (x ∷ xs) t = let r = length_one xs t in omega (arith, r)
-
 module _ (own : ℕ) (types : List TypeDef) (fates : List Fate) (old : List TypeDef) where
-  abbrev N : List ℕ
-  N = numbers_by (own + length old) fates
-
   abbrev SoFar : List ℕ → List TypeDef → List Fate → List TypeDef → Type 0
   SoFar numbers ts fs new = AreCopiedSoFar own types fates old numbers ts fs new
 
-  pub at_first : SoFar [] types fates old
-  at_first = record { numbers_are = refl; more = []; behind = sym (append-nil old); copied = λ later z. z }
-
   one_met : (numbers : List ℕ) (t : TypeDef) (ts : List TypeDef) (f : Fate) (fs : List Fate) (now new : List TypeDef) (n : ℕ) → all_below (length numbers) (view_numbers (kind_view t.kind)) ≡ true
       → MeetsFate own numbers t f now new n → SoFar numbers (t ∷ ts) (f ∷ fs) now → SoFar (numbers ++ n ∷ []) ts fs new
-  one_met numbers t ts x fs now new n small met so = search (std_rules, append_assoc, length_one, with_more)
+  one_met numbers t ts x fs now new n small met so = search (std_rules, append_assoc, length_push, with_more)
 
   -- the same where what is left is known by another name
   pub one_more : (numbers : List ℕ) (left_types : List TypeDef) (left_fates : List Fate) (t : TypeDef) (ts : List TypeDef) (f : Fate) (fs : List Fate) (now new : List TypeDef) (n : ℕ)

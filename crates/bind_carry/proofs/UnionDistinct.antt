@@ -1,28 +1,25 @@
 -- No map of what was merged has a key twice: what is inserted keeps keys apart, and copies have the names of what they are of.
-use Rattle.std.proofs.Common.{rules as std_rules, ◌≡◌, sym, ap, subst, ◌∙◌, ℕ, Bool, not, List, ◌++◌, Some, slice_get, string_eq, ◌⊎◌, inl, inr, refl, zero, suc, arith, true, false, [], ◌∷◌, map, Option, slice_set}
-use Rattle.std.proofs.lemmas.{List.length-map, Map.Made.IsDistinct-keys_filter, Option.slice_get_within}
-use Rattle.std.specs.{Prelude.String, List.filter, List.AllZip, List.AllByRecursion, List.IsDistinct, Map.keys_of}
-use Rattle.std.specs.declared.alloc.Global.{Global}
-use Rattle.indexmap.specs.IndexMap.{insert_all, IsUnique, insert_entry}
-use Rattle.wit_model.specs.declared.model.{InterfaceId.InterfaceId, Interface.Interface, PackageId.PackageId, WorldItem.WorldItem, WorldKey.WorldKey}
-use Rattle.wit_model.specs.declared.model.{Package.Package, Resolve.Resolve, World.World, WorldId.WorldId, TypeId.TypeId}
-use Rattle.wit_model.specs.{Lookup.package_at, Lookup.interface_at, Lookup.world_at, Valid.IsValid, Valid.key_eq, Text.Text, Text.text_eq, Text.text_of}
-use Rattle.bind_add.specs.declared.added.{Names.Names, Added.Added}
-use Rattle.bind_match.specs.Matching.{is_root_world}
-use Rattle.bind_match.specs.declared.matches.Matches.{Matches}
-use Rattle.bind_carry.specs.{AddedApart.AreMatchedByName, AddedApart.UnionsAreApart, Marked.AreChosen, Which.AreMatchedAll, Which.IsNumbered, Union.IsUnionOf}
-use Rattle.bind_carry.specs.Packaged.{grown_packages, is_copied_interface, is_copied_world, IsGained, IsInterfaceName, IsWorldName, IsPackageCarried}
-use Rattle.bind_carry.specs.AddedDistinct.{UnionsHaveDistinctKeys}
-use Rattle.bind_carry.specs.{MatchedSame.AreMatchedAt, MatchedSame.NoneOfPath, Whole.home_under, Whole.kept, Whole.IsInterfaceCarried, Whole.IsWorldCarried}
-use Rattle.bind_carry.specs.declared.plan.Carried.{Carried}
-use Rattle.bind_carry.proofs.CopiesPlaced.{some_same}
-use Rattle.bind_carry.proofs.{KeysGained.chosen, KeysGained.exports_behind, KeysGained.imports_behind, KeysGained.by_path_apart, FirstOfUnion.some_gains}
-use Rattle.bind_carry.proofs.NamesGained.{copied_interface, copied_world, distinct_along, fresh_along, fresh_behind, grown_of, home_of, is_fresh, passes_of_filter, world_of, IsGrownOf, IsHome}
 use Rattle.base_lemmas.proofs.{Bools.left_of as first_true, Elements.zip_at_right as zip_at, Lists.within_there}
+use Rattle.bind_add.specs.{Growth.GainsNone, Growth.HasGained, Growth.HasGainedItems, Growth.IsAdded, declared.added.Added.Added, declared.added.Names.Names}
+use Rattle.bind_carry.proofs.{CopiesPlaced.some_same, FirstOfUnion.some_gains, KeysGained.by_path_apart, KeysGained.chosen, KeysGained.exports_behind}
+use Rattle.bind_carry.proofs.{KeysGained.imports_behind, NamesGained.IsGrownOf, NamesGained.IsHome, NamesGained.copied_interface, NamesGained.copied_world}
+use Rattle.bind_carry.proofs.NamesGained.{copies_behind, distinct_along, distinct_by_names, grown_of, home_of, is_fresh, world_of}
+use Rattle.bind_carry.specs.{AddedApart.AreMatchedByName, AddedApart.UnionsAreApart, AddedDistinct.UnionsHaveDistinctKeys, Marked.AreChosen}
+use Rattle.bind_carry.specs.{MatchedSame.AreMatchedAt, MatchedSame.NoneOfPath, Packaged.IsGained, Packaged.IsInterfaceName, Packaged.IsPackageCarried}
+use Rattle.bind_carry.specs.{Packaged.IsWorldName, Packaged.grown_packages, Packaged.is_copied_interface, Packaged.is_copied_world, Union.IsUnionOf}
+use Rattle.bind_carry.specs.{Which.AreMatchedAll, Which.IsNumbered, Whole.IsInterfaceCarried, Whole.IsWorldCarried, Whole.home_under, Whole.kept}
+use Rattle.bind_carry.specs.declared.plan.Carried.{Carried}
+use Rattle.bind_copy.proofs.{CopiesLemmas.names_alone_under, Gained.same_images}
+use Rattle.bind_copy.specs.Copies.{AreNewCopied, IsEntryUnder, IsFunctionEntry, IsInterfaceUnder, IsKeyUnder, become_one, names_in, type_names}
+use Rattle.bind_match.specs.{Matching.is_root_world, declared.matches.Matches.Matches}
+use Rattle.indexmap.specs.IndexMap.{IsUnique, insert_all, insert_entry}
+use Rattle.std.proofs.Common.{Bool, List, Option, Some, [], ap, arith, false, inl, inr, map, not, refl, rules as std_rules, slice_get, slice_set, string_eq, subst, suc, sym, true, zero, ℕ, ◌++◌, ◌∙◌, ◌∷◌, ◌≡◌, ◌⊎◌}
+use Rattle.std.proofs.lemmas.{List.length-map, Map.Made.IsDistinct-keys_filter, Option.slice_get_within}
+use Rattle.std.specs.{List.AllByRecursion, List.AllZip, List.IsDistinct, List.filter, Map.keys_of, Prelude.String, declared.alloc.Global.Global}
 use Rattle.wit_model.proofs.Distinct.{text_eq_flip}
-use Rattle.bind_add.specs.Growth.{GainsNone, HasGained, HasGainedItems, IsAdded}
-use Rattle.bind_copy.specs.Copies.{become_one, names_in, type_names, AreNewCopied, IsEntryUnder, IsFunctionEntry, IsInterfaceUnder, IsKeyUnder}
-use Rattle.bind_copy.proofs.{Gained.same_images, CopiesLemmas.names_alone_under}
+use Rattle.wit_model.specs.{Lookup.interface_at, Lookup.package_at, Lookup.world_at, Text.Text, Text.text_of, Valid.IsValid, Valid.key_eq}
+use Rattle.wit_model.specs.declared.model.{Interface.Interface, Package.Package, PackageId.PackageId, Resolve.Resolve, TypeId.TypeId, World.World}
+use Rattle.wit_model.specs.declared.model.{WorldItem.WorldItem, WorldKey.WorldKey}
 
 -- ---- What a union adds stands under keys that weren't there.
 
@@ -43,50 +40,25 @@ module _ (own other : Resolve) (valid_other : IsValid other) (m : Matches) (c : 
   abbrev old : Package
   old = gain.0.1
 
-  x : IsGrownOf c.new_packages.items c.packages.items other.packages.items gain.0
+  x : IsGrownOf c.new_packages.items c.packages.items other.packages.items i gain.0
   x = grown_of c.new_packages.items c.packages.items other.packages.items i gain.0 gain.1
 
   unique : IsUnique string_eq old.interfaces × IsUnique string_eq old.worlds
   unique = valid_other.distinct_keys.packages x.place old x.at_place
 
+  home : IsHome own other valid_other m c by_name numbered are x.place n.«package».0
+  home = home_of own other valid_other m c by_name numbered are x.place n.«package».0 old x.at_place x.bare (x.number ∙ sym gain.2.number)
+
   pub interfaces_behind : insert_all string_eq p.interfaces.entries n.interfaces.entries ≡ p.interfaces.entries ++ n.interfaces.entries
-  interfaces_behind = fresh_behind p.interfaces.entries n.interfaces.entries
-      (fresh_along (IsInterfaceName c.interfaces.items) (λ a b r. r.0) p.interfaces.entries olds n.interfaces.entries named
-      (passes_of_filter test (is_fresh p.interfaces.entries) old.interfaces.entries
-      (λ e held set. sym (copied_interface own other valid_other m c by_name numbered are x.place n.«package».0 old p x.at_place home there e held) ∙ set)))
-      (distinct_along (IsInterfaceName c.interfaces.items) (λ a b r. r.0) olds n.interfaces.entries named (IsDistinct-keys_filter string_eq test old.interfaces.entries unique.0))
-    where
-      home : IsHome own other valid_other m c by_name numbered are x.place n.«package».0
-      home = home_of own other valid_other m c by_name numbered are x.place n.«package».0 old x.at_place x.bare (x.number ∙ sym gain.2.number)
-
-      test : String Global × InterfaceId → Bool
-      test = is_copied_interface c.copied_interfaces.items
-
-      olds : List (String Global × InterfaceId)
-      olds = filter test old.interfaces.entries
-
-      named : AllZip (IsInterfaceName c.interfaces.items) olds n.interfaces.entries
-      named = gain.2.interfaces unique.0
+  interfaces_behind = copies_behind (IsInterfaceName c.interfaces.items) (λ a b r. r.0) (is_copied_interface c.copied_interfaces.items) p.interfaces.entries old.interfaces.entries
+      n.interfaces.entries (gain.2.interfaces unique.0) unique.0
+      (λ e held set. sym (copied_interface own other valid_other m c by_name numbered are x.place n.«package».0 old p x.at_place home there e held) ∙ set)
 
   pub worlds_behind : insert_all string_eq p.worlds.entries n.worlds.entries ≡ p.worlds.entries ++ n.worlds.entries
-  worlds_behind = fresh_behind p.worlds.entries n.worlds.entries
-      (fresh_along (IsWorldName c.worlds.items) (λ a b r. r.0) p.worlds.entries olds n.worlds.entries named
-      (passes_of_filter test (is_fresh p.worlds.entries) old.worlds.entries
-      (λ e held set. first_true (is_fresh p.worlds.entries e) (not (is_root_world other (world_of other valid_other x.place old x.at_place e held).def))
-      (sym (copied_world own other valid_other m c by_name numbered are x.place n.«package».0 old p x.at_place home there e held) ∙ set))))
-      (distinct_along (IsWorldName c.worlds.items) (λ a b r. r.0) olds n.worlds.entries named (IsDistinct-keys_filter string_eq test old.worlds.entries unique.1))
-    where
-      home : IsHome own other valid_other m c by_name numbered are x.place n.«package».0
-      home = home_of own other valid_other m c by_name numbered are x.place n.«package».0 old x.at_place x.bare (x.number ∙ sym gain.2.number)
-
-      test : String Global × WorldId → Bool
-      test = is_copied_world c.copied_worlds.items
-
-      olds : List (String Global × WorldId)
-      olds = filter test old.worlds.entries
-
-      named : AllZip (IsWorldName c.worlds.items) olds n.worlds.entries
-      named = gain.2.worlds unique.1
+  worlds_behind = copies_behind (IsWorldName c.worlds.items) (λ a b r. r.0) (is_copied_world c.copied_worlds.items) p.worlds.entries old.worlds.entries n.worlds.entries
+      (gain.2.worlds unique.1) unique.1
+      (λ e held set. first_true (is_fresh p.worlds.entries e) (not (is_root_world other (world_of other valid_other x.place old x.at_place e held).world))
+      (sym (copied_world own other valid_other m c by_name numbered are x.place n.«package».0 old p x.at_place home there e held) ∙ set))
 
 pub unions_are_apart : UnionsAreApart
 unions_are_apart own other world other_world m w v added keys u valid_own valid_other at_own at_other by_name same none = record {
@@ -135,31 +107,6 @@ module _ {K X : Type 0} (eq : K → K → Bool) (flip : (a b : K) → eq a b ≡
   all_apart es (x ∷ xs) h = all_apart (insert_entry eq es x.0 x.1) xs (insert_apart es x.0 x.1 h)
 
 -- ---- copies have the names of what they are of
-
-module _ {X Y : Type 0} where
-  apart_by_names : (k l : String Global) → text_of l ≡ text_of k → (xs : List (String Global × X)) (ys : List (String Global × Y)) → names_in ys ≡ names_in xs
-      → AllByRecursion (λ n. string_eq k n ≡ false) (keys_of xs) → AllByRecursion (λ n. string_eq l n ≡ false) (keys_of ys)
-  apart_by_names k l same xs [] e h = tt
-  apart_by_names k l same [] (y ∷ ys) e h = let wrong : ⊥ = cc in absurd wrong
-  apart_by_names k l same (x ∷ xs) (y ∷ ys) e h = ((λ i. text_eq (same i) (first e i)) ∙ h.0, apart_by_names k l same xs ys (rest e) h.1)
-    where
-      first : text_of y.0 ∷ names_in ys ≡ text_of x.0 ∷ names_in xs → text_of y.0 ≡ text_of x.0
-      first q = cc
-
-      rest : text_of y.0 ∷ names_in ys ≡ text_of x.0 ∷ names_in xs → names_in ys ≡ names_in xs
-      rest q = cc
-
-  pub distinct_by_names : (xs : List (String Global × X)) (ys : List (String Global × Y)) → names_in ys ≡ names_in xs → IsDistinct string_eq (keys_of xs) → IsDistinct string_eq (keys_of ys)
-  unfolding IsDistinct
-  distinct_by_names xs [] e h = tt
-  distinct_by_names [] (y ∷ ys) e h = let wrong : ⊥ = cc in absurd wrong
-  distinct_by_names (x ∷ xs) (y ∷ ys) e h = (apart_by_names x.0 y.0 (first e) xs ys (rest e) h.0, distinct_by_names xs ys (rest e) h.1)
-    where
-      first : text_of y.0 ∷ names_in ys ≡ text_of x.0 ∷ names_in xs → text_of y.0 ≡ text_of x.0
-      first q = cc
-
-      rest : text_of y.0 ∷ names_in ys ≡ text_of x.0 ∷ names_in xs → names_in ys ≡ names_in xs
-      rest q = cc
 
 names_alone : (es : List (String Global × TypeId)) → map (λ (x : Text × ℕ). x.0) (type_names es) ≡ names_in es
 names_alone [] = refl

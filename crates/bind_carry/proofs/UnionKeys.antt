@@ -1,32 +1,26 @@
 -- All exports of the other's bound world are added, under the keys that are answered.
-use Rattle.std.proofs.Common.{rules as std_rules, ◌≡◌, refl, sym, ap, ap₂, subst, ◌∙◌, ℕ, zero, suc, ◌++◌, slice_get, slice_set, ◌+◌, arith, Bool, true, false, ◌||◌, cond, List, [], ◌∷◌, length, map, Option, Some, None, option_map, option_and_then, unwrap_or, is_some}
-use Rattle.std.proofs.lemmas.{List.length-map, List.map-append, Option.slice_get_within, Bool.not-false as not_not}
-use Rattle.std.specs.{Prelude.String, List.filter, List.list_any, List.AllZip, List.Contains, Map.keys_of}
-use Rattle.std.specs.declared.alloc.Global.{Global}
-use Rattle.wit_model.specs.declared.model.{Interface.Interface, InterfaceId.InterfaceId, PackageId.PackageId, WorldItem.WorldItem, WorldKey.WorldKey, Package.Package, Resolve.Resolve, TypeDef.TypeDef, World.World}
-use Rattle.wit_model.specs.Lookup.{identity_of, interface_at, interface_path, key_text, package_at, path_of_interface, world_at}
-use Rattle.wit_model.specs.{Names.path_in, Rules.package_number, Text.optional_text, Text.text_of, Text.Text, Valid.key_eq, Valid.IsValid}
-use Rattle.bind_add.specs.Growth.{HasGainedItems}
-use Rattle.bind_add.specs.declared.added.Added.{Added}
-use Rattle.bind_copy.specs.Copies.{is_key_under, is_new_under, number_under, IsEntryUnder, IsKeyUnder}
-use Rattle.bind_match.specs.declared.matches.Matches.{Matches}
-use Rattle.bind_union.specs.Carried.{IsCarried, IsInterface, Renumbering}
-use Rattle.bind_union.proofs.{Carrying.path_by, Carrying.path_parts, Carrying.same_identity, Lists.no_true}
-use Rattle.bind_carry.specs.AddedKeys.{key_view, ExportsAreAdded, ExportsComeBehind, KeysKeepTexts}
-use Rattle.bind_carry.specs.{First.first_fates, First.flag_under, Listed.IsHomeBelow, Renumbered.first_of, Renumbered.is_matched, Union.IsUnionOf, MatchedSame.AreMatchedAt, MatchedSame.NoneOfPath, Numbers.interface_number, Numbers.numbers_of, Which.AreMatchedAll}
-use Rattle.bind_carry.specs.declared.plan.Carried.{Carried}
-use Rattle.bind_carry.proofs.{CopiesPlaced.some_same, WorldEntries.any_place, WorldEntries.export_keyed, WorldEntries.IsNumberedSame, WorldEntries.IsPlacedIn, FirstCarried.first_is_carried, FirstWorlds.copied_behind, FirstNumbers.interface_is, FirstOfUnion.unions_have_the_first}
-use Rattle.bind_carry.proofs.KeysGained.{by_path_apart, chosen, export_named, exports_apart, exports_behind, named_carried, named_number}
-use Rattle.bind_carry.proofs.Ranges.{is_in_range}
 use Rattle.base_lemmas.proofs.{Elements.contains-later, Elements.get-contains, Lists.within_there, Numbers.equal}
+use Rattle.bind_add.specs.{Growth.HasGainedItems, declared.added.Added.Added}
+use Rattle.bind_carry.proofs.{CopiesPlaced.some_same, FirstNumbers.own_path as by_path, FirstOfUnion.set_at, FirstOfUnion.unions_have_the_first}
+use Rattle.bind_carry.proofs.{FirstWorlds.first_is_carried, InsertedBehind.filter_whole, KeysGained.by_path_apart, KeysGained.chosen, KeysGained.export_named}
+use Rattle.bind_carry.proofs.{KeysGained.exports_apart, KeysGained.exports_behind, KeysGained.named_carried, KeysGained.named_number, Ranges.is_in_range}
+use Rattle.bind_carry.proofs.WorldEntries.{IsNumberedSame, IsPlacedIn, any_place, export_keyed}
+use Rattle.bind_carry.specs.{AddedKeys.ExportsAreAdded, AddedKeys.ExportsComeBehind, AddedKeys.KeysKeepTexts, AddedKeys.key_view, First.first_fates}
+use Rattle.bind_carry.specs.{First.flag_under, Listed.IsHomeBelow, MatchedSame.AreMatchedAt, MatchedSame.NoneOfPath, Renumbered.first_of, Renumbered.is_matched}
+use Rattle.bind_carry.specs.{Union.IsUnionOf, Which.AreMatchedAll, declared.plan.Carried.Carried}
+use Rattle.bind_copy.specs.Copies.{IsEntryUnder, IsKeyUnder, is_key_under, is_new_under, number_under}
+use Rattle.bind_match.specs.declared.matches.Matches.{Matches}
+use Rattle.bind_union.proofs.{Carrying.path_by, Carrying.path_parts, Carrying.same_identity, Lists.no_true}
+use Rattle.bind_union.specs.Carried.{IsCarried, IsInterface, Renumbering}
+use Rattle.std.proofs.Common.{Bool, List, None, Option, Some, [], ap, ap₂, arith, is_some, length, map, option_and_then, option_map, refl, rules as std_rules, slice_get, slice_set, subst, sym, true, unwrap_or, ℕ, ◌++◌, ◌+◌, ◌||◌, ◌∙◌, ◌∷◌, ◌≡◌}
+use Rattle.std.proofs.lemmas.{Bool.not-false as not_not, Bool.true_from_ne_false, List.map-append}
+use Rattle.std.specs.{List.AllZip, List.Contains, List.list_any, Map.keys_of, Prelude.String, declared.alloc.Global.Global}
 use Rattle.wit_model.proofs.TextLemmas.{text_same}
+use Rattle.wit_model.specs.Lookup.{identity_of, interface_at, interface_path, key_text, package_at, path_of_interface, world_at}
+use Rattle.wit_model.specs.{Names.path_in, Rules.package_number, Text.Text, Text.optional_text, Text.text_of, Valid.IsValid, Valid.key_eq}
+use Rattle.wit_model.specs.declared.model.{Interface.Interface, InterfaceId.InterfaceId, Package.Package, PackageId.PackageId, Resolve.Resolve, TypeDef.TypeDef}
+use Rattle.wit_model.specs.declared.model.{World.World, WorldItem.WorldItem, WorldKey.WorldKey}
 use Rattle.wit_model.specs.declared.model.WorldKey.TheVariants as key
-
--- ---- lists
-
-filter_whole : {A : Type 0} (p : A → Bool) (xs : List A) → ((x : A) → Contains xs x → p x ≡ true) → filter p xs ≡ xs
-filter_whole p [] each = refl
-filter_whole p (x ∷ xs) each = ap (λ b. cond b (x ∷ filter p xs) (filter p xs)) (each x (0, omega arith, refl)) ∙ ap (λ l. x ∷ l) (filter_whole p xs (λ y held. each y (contains-later x xs y held)))
 
 -- ---- copies of one key
 
@@ -75,22 +69,9 @@ module _ (own other : Resolve) (valid_own : IsValid own) (valid_other : IsValid 
   -- an own interface that has the number of one with a name has its path
   own_path : (n : ℕ) (i : Interface) → interface_at other n ≡ Some i → is_some i.name ≡ true → (j : ℕ) (d : Interface) → interface_at own j ≡ Some d → number_under c.interfaces.items n ≡ j
       → interface_path own j ≡ interface_path other n
-  own_path n i there named j d at_j number = go (flag_under c.copied_interfaces.items n) refl
-    where
-      go : (b : Bool) → flag_under c.copied_interfaces.items n ≡ b → interface_path own j ≡ interface_path other n
-      go true e =
-          let past = copied_behind (length own.interfaces.items) c.copied_interfaces.items (map interface_number m.interfaces.items) n
-          (long ∙ sym (length-map m.interfaces.items interface_number)) e in
-          let here : number_under (numbers_of (length own.interfaces.items) c.copied_interfaces.items (map interface_number m.interfaces.items)) n ≡ j =
-          ap (λ (l : List ℕ). number_under l n) (sym u.numbered.interfaces) ∙ number in
-          let within = slice_get_within own.interfaces.items j d at_j in
-          absurd (omega (arith, past, here, within))
-      go false e =
-          let k : is_matched m.interfaces.items n ≡ true = sym (ap (λ b. b || is_matched m.interfaces.items n) e) ∙ named_carried own other valid_own valid_other world other_world m w v added keys u
-          at all same none n i there named in
-          let is = interface_is own other valid_own valid_other m.interfaces.items c u.types (chosen own other valid_own valid_other world other_world m w v added keys u at all same none) same none
-          long u.numbered.interfaces (length own.types.items + length {A = TypeDef} []) u.types_copied.numbers_are n k in
-          ap (interface_path own) (sym number ∙ is) ∙ (same n k).path
+  own_path n i there named = by_path own other valid_own valid_other m.interfaces.items c u.types (chosen own other valid_own valid_other world other_world m w v added keys u at all same none)
+      same none long u.numbered.interfaces (length own.types.items + length {A = TypeDef} []) u.types_copied.numbers_are n
+      (named_carried own other valid_own valid_other world other_world m w v added keys u at all same none n i there named)
 
   same_number : (e : WorldKey × WorldItem) → Contains v.exports.entries e → IsNumberedSame u.second.interfaces c.interfaces.items e.0
   same_number e held id is =
@@ -114,16 +95,12 @@ module _ (own other : Resolve) (valid_own : IsValid own) (valid_other : IsValid 
 
   pub all_new : ((x e : WorldKey × WorldItem) → Contains w.exports.entries x → Contains v.exports.entries e → key_text own x.0 ≡ key_text other e.0 → ⊥) → (e : WorldKey × WorldItem)
       → Contains v.exports.entries e → is_new e ≡ true
-  all_new apart e held = go (is_new e) refl
-    where
-      go : (b : Bool) → is_new e ≡ b → is_new e ≡ true
-      go true q = q
-      go false q =
-          let x : IsPlacedIn (λ (x : WorldKey × WorldItem). is_key_under u.second.interfaces e.0 x.0) w.exports.entries =
-          any_place (λ (x : WorldKey × WorldItem). is_key_under u.second.interfaces e.0 x.0) w.exports.entries
-          (not_not (list_any (λ (x : WorldKey × WorldItem). is_key_under u.second.interfaces e.0 x.0) w.exports.entries) q) in
-          let here = get-contains w.exports.entries x.place x.thing x.there in
-          absurd (apart x.thing e here held (same_text e x.thing held here e.0 x.thing.0 refl refl x.passes_it))
+  all_new apart e held = true_from_ne_false (is_new e) (λ q.
+      let x : IsPlacedIn (λ (x : WorldKey × WorldItem). is_key_under u.second.interfaces e.0 x.0) w.exports.entries =
+      any_place (λ (x : WorldKey × WorldItem). is_key_under u.second.interfaces e.0 x.0) w.exports.entries
+      (not_not (list_any (λ (x : WorldKey × WorldItem). is_key_under u.second.interfaces e.0 x.0) w.exports.entries) q) in
+      let here = get-contains w.exports.entries x.place x.thing x.there in
+      apart x.thing e here held (same_text e x.thing held here e.0 x.thing.0 refl refl x.passes_it))
 
   key_copies : AllZip (IsKeyUnder c.interfaces.items) (keys_of v.exports.entries) keys
   key_copies = u.keys_are (by_path_apart own other valid_own valid_other world other_world m w v added keys u at all same none other_world v at).1
@@ -191,11 +168,6 @@ keys_keep_texts own other merged world other_world m w v added keys u valid_own 
 
 -- ---- behind own exports
 
-put_there : {X : Type 0} (xs ys : List X) (n : ℕ) (w x : X) → slice_get xs n ≡ Some w → slice_get (slice_set xs n x ++ ys) n ≡ Some x
-put_there [] ys n w x e = let wrong : ⊥ = cc in absurd wrong
-put_there (z ∷ xs) ys zero w x e = refl
-put_there (z ∷ xs) ys (suc n) w x e = put_there xs ys n w x e
-
 views_append : (es fs : List (WorldKey × WorldItem)) → map key_view (keys_of (es ++ fs)) ≡ map key_view (keys_of es) ++ map key_view (keys_of fs)
 views_append [] fs = refl
 views_append (e ∷ es) fs = ap (λ l. key_view e.0 ∷ l) (views_append es fs)
@@ -212,4 +184,4 @@ exports_come_behind own other merged world other_world m w v added keys u valid_
     h = a.worlds w at_own
 
     here : h.0 ≡ x
-    here = some_same h.0 x (sym (ap (λ l. slice_get l world) h.2 ∙ put_there own.worlds.items added.worlds.items world w h.0 at_own) ∙ at_x)
+    here = some_same h.0 x (sym (ap (λ l. slice_get l world) h.2 ∙ set_at own.worlds.items added.worlds.items world w h.0 at_own) ∙ at_x)

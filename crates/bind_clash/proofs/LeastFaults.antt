@@ -31,9 +31,6 @@ of_two P Q (Some a) (Some b) p q = by (text_cmp a b) refl
 
 -- ---- of more and more numbers
 
-pub none_yet : (F : ℕ → Text → Type 0) → IsLeastFault (Below F 0) None
-none_yet F t h = let wrong : h.0 < 0 = h.1 in absurd (omega (arith, wrong))
-
 pub one_more : (F : ℕ → Text → Type 0) (k : ℕ) (a b : Option Text) → IsLeastFault (Below F k) a → IsLeastFault (F k) b → IsLeastFault (Below F (k + 1)) (least_of a b)
 one_more F k a b p q = same_faults (λ t. Below F k t ⊎ F k t) (Below F (k + 1)) forth back (least_of a b) (of_two (Below F k) (F k) a b p q)
   where

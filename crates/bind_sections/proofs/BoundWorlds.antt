@@ -437,8 +437,6 @@ module _ (r : Resolve) (v : IsValid r) where
         alike k None (Some y) e f =
             let no : None ≡ Some encoding = sym e ∙ maps.each k (from-meant k (in-list k y f).0) in let wrong : ⊥ = cc in absurd wrong
 
--- ---- what the page is for
-
 -- ---- what stands where
 
 module _ (r : Resolve) (v : IsValid r) (n : ℕ) (w : World) (at : world_at r n ≡ Some w) where

@@ -244,7 +244,7 @@ pub counts_of : (t : Tables) (h : Homes) (ms : List Member) (m : ℕ) (k : Membe
     → (many : ℕ) → length scope.imports ≡ many → Counts ms m k at many (imports_in y.part scope)
 counts_of t h ms m k at y is scope many same = search std_rules
 
--- ---- what the page is for
+-- ---- the types of interfaces that had been shown at a cut have smaller numbers than it, and those of others don't
 
 module _ (pieces : List Piece) (x : Followed) (h : Homes) (ms : List Member) (members : List reads.Member) (input : IsReadInput pieces x h ms members) (known : ℕ
     → Fact) (obey : ViewsObey (tables_of x) known ms)

@@ -352,8 +352,6 @@ module _ (pieces : List Piece) (x : Followed) (followed : IsFollowed pieces x) (
             ∙ (paths_meant ∙ ap (map (path_at (tables_of x))) (sym taken_places));
       }
 
--- ---- what the page is for
-
 -- ---- each number once
 
 once_different : (xs : List ℕ) → IsOnce (once xs)

@@ -67,8 +67,6 @@ none_followed w pieces x none = search (std_rules, none_meant)
 pub none_read : (wanted : Wanted) (pieces : List Piece) (e : Refusal) (fact : Type 0) → (fact → members_meant pieces ≡ None) → Because e fact → Because e (MeansNone wanted (Some pieces))
 none_read w pieces x fact none is = search (std_rules, none_meant)
 
--- ---- what the page is for
-
 -- ---- keys
 
 module _ (t : Tables) where

@@ -113,8 +113,6 @@ module _ (t : Tables) (tables : AreTables t) (kept : List ℕ) (p : Plan) (are :
   pub names_are_inside : (j n : ℕ) → NamesAreInside j n
   names_are_inside j n = up_to (suc j) j n (omega arith)
 
--- ---- what the page is for
-
 -- ---- parts that count up
 
 -- a part that is no primitive

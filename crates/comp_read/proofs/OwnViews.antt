@@ -264,8 +264,6 @@ module _ (t : Tables) (packages : List PackageIdentity) (homes : List (Option (�
   pub own_stand : (views : List NumberedSight) → views ≡ sights_of_scope t w → (ms : List NumberedMember) → AreOwnAmong (homes_alone homes) n views ms → StandAsShown t (homes_in packages homes) n w ms
   own_stand views same ms are = (subst (λ (ss : List NumberedSight). AreOwnAmong (homes_alone homes) n ss ms) same are).order
 
--- ---- what the page is for
-
 -- ---- the views of a world
 
 module _ (t : Tables) (w : NumberedScope) where

@@ -195,8 +195,6 @@ pub views_placed : (ks : List NumberedMember) → places (views_of_members ks) �
 views_placed [] = refl
 views_placed (k ∷ ks) = append_of_map (λ (s : NumberedSight). s.place) (views_of_part k.part) (views_of_members ks) ∙ (λ i. part_placed k.part i ++ views_placed ks i)
 
--- ---- what the page is for
-
 -- ---- what is shown, in numbers
 
 -- These views are what is shown, of places with a path, interfaces are shown under these paths, and the places of the parts stand so, with the functions of

@@ -153,7 +153,7 @@ module _ (pieces : List Piece) (x : Followed) (h : Homes) (ms : List Member) (me
           let bi = b.is in
           omega (arith, front, inner, ai, bi)
 
--- ---- what the page is for
+-- ---- what is decoded stands in the order in which the bytes show it
 
 -- what is exported was read of the sections
 exported : (pieces : List Piece) (x : Followed) (h : Homes) (ms : List Member) (members : List reads.Member) → IsReadInput pieces x h ms members

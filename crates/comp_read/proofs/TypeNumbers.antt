@@ -142,8 +142,6 @@ module _ (R : ℕ → ℕ → Type 0) where
       by old fresh true e = old (known e) pairs new.1
       by old fresh false e = fresh (wider met front is.0, wider front met is.1) (one_more met z pairs (λ a c. new.0 (absent e) a (is.0 a c))) new.1
 
--- ---- what the page is for
-
 -- ---- numbers that rise
 
 rising_both : (us vs : List ℕ) → are_rising us ≡ true → are_rising vs ≡ true → ((c d : ℕ) → Contains us c → Contains vs d → c < d) → are_rising (us ++ vs) ≡ true

@@ -331,7 +331,7 @@ module _ (t : Tables) (h : Homes) (known : ℕ → Fact) (n : ℕ) (label : Text
   pub obeys_package : are_package t h known n (m ∷ ms) ≡ true
   obeys_package = search (std_rules, both, packages, stand, all_agree, all_interfaces)
 
--- ---- what the page is for
+-- ---- the labels of a world by itself and of the interfaces of its package that it shows differ
 
 -- the text isn't one of these
 not_among : (l : Text) (ls : List Text) → ((x : Text) → Contains ls x → l ≡ x → ⊥) → not (list_any (text_eq l) ls) ≡ true

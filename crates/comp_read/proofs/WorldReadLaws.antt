@@ -173,8 +173,6 @@ read_world_plans_are_meant pieces x t facts h m w given own are p planned fits =
     let plan = world_plan_is_whole t h (known_by facts) m.package_number m own is.members is.input is.whole is.scope is.world p planned fits in
     record { plan = plan.plan; means = plan.means ∙ sym is.means; meaning = is.meaning; found = is.found }
 
--- ---- what the page is for
-
 -- ---- the one member
 
 pub not_one : (ms : List Member) → (length ms ≡ 1 → ⊥) → (t : Tables) (h : Homes) (known : ℕ → Fact) → are_one_world t h known (numbered_members ms) ≡ false

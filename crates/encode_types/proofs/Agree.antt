@@ -6,8 +6,8 @@ use Rattle.wit_model.specs.{Text.Text, Tree.Declaration, Rules.is_named_kind, Ty
 use Rattle.wit_model.specs.declared.model.{Resolve.Resolve, TypeDefKind.TypeDefKind, TypeId.TypeId}
 use Rattle.encode_types.specs.declared.{maps.TypeEncodingMaps.TypeEncodingMaps, key.FunctionKey.FunctionKey}
 use Rattle.encode_types.specs.{Codes.kind_code, Codes.names_of, Codes.lists_of, Codes.IsKeyList, Codes.ListKey, Leaves.Leaves, Leaves.LeavesSlots}
-use Rattle.encode_types.specs.{Slots.Pairs, Slots.Standing, Slots.tree, Slots.function, Slots.Keeps, View.View, View.SameRest, Counts.SameUnits}
-use Rattle.encode_types.specs.Maps.{Known, by_number, by_kind, by_key, by_unit_future, by_unit_stream, Holds, standing_of, IsOnce, IsSomeKeyList, AreNumbered, MapsAgree, MapsGrow, IsKnown, LacksList, StandsAsKind, StandsAsKey, SameMaps, AddsNames, LearnsNumber, LearnsList, LearnsKeyList, LearnsOne}
+use Rattle.encode_types.specs.{Slots.Pairs, Slots.Standing, Slots.tree, Slots.function, Slots.Keeps, View.View, View.Agrees, View.SameRest, Counts.SameUnits}
+use Rattle.encode_types.specs.Maps.{Known, by_number, by_kind, by_key, by_unit_future, by_unit_stream, Holds, standing_of, IsOnce, IsKindList, IsSomeKeyList, MapsAgree, MapsGrow, IsKnown, LacksList, StandsAsKind, StandsAsKey, SameMaps, AddsNames, LearnsNumber, LearnsList, LearnsKeyList, LearnsOne}
 use Rattle.encode_types.proofs.{Tables.kept-in, Tables.new-in, Tables.one-more-in, Tables.pairs-permuted, Tables.key-grow}
 use Rattle.encode_types.proofs.{EqualLists.kinds-of-lists, EqualLists.keys-of-lists, EqualLists.key-shrink, KindLaws.same_tree, KindLaws.same-signature}
 
@@ -53,6 +53,24 @@ adds-once m m' s o = record {
 pub same-adds : (m m' : TypeEncodingMaps) → SameMaps m m' → AddsNames m m'
 same-adds m m' s = search std_rules
 
+-- maps with the same entries and caches hold the same
+module _ (m z : TypeEncodingMaps) (s : SameMaps m z) where
+  same-holds : (k : Known) (i : ℕ) → Holds m k i → Holds z k i
+  same-holds = adds-holds m z (same-adds m z s)
+
+  same-held : (k : Known) (i : ℕ) → Holds z k i → Holds m k i
+  same-held = adds-holds z m (same-adds z m (record {
+    numbers = sym s.numbers;
+    kinds = sym s.kinds;
+    keys = sym s.keys;
+    names_ = sym s.names_;
+    unit_future_ = sym s.unit_future_;
+    unit_stream_ = sym s.unit_stream_;
+  }))
+
+  same-once : IsOnce m → IsOnce z
+  same-once = adds-once m z (same-adds m z s)
+
 -- what a change of the maps leaves
 pub record Changes (r : Resolve) (m m' : TypeEncodingMaps) (S : Pairs) : Type 0 where
   pub agree : MapsAgree r m' S
@@ -90,44 +108,25 @@ learns-number r m m' id i fresh l = record { grow = grow; only = λ o. only; onc
   where
     grow : (k : Known) (j : ℕ) → Holds m k j → Holds m' k j
     grow (by_number n) j h = kept-in m.id_to_index.entries m'.id_to_index.entries (id.0, i) l.more (n, j) h
-    grow (by_kind k) j h = (h.0, subst (λ (xs : List (ListKey × ℕ)). Contains (map {B = List ℕ × ℕ} (λ e. (e.0.0.items, e.1)) xs) (kind_code k, j)) (sym l.rest.kinds) h.1)
-    grow (by_key k) j h = (
-      h.0,
-      subst (λ (xs : List (Bor Text × ℕ)). IsKeyList (map {B = Text × ℕ} (λ e. (e.0.now, e.1)) xs) k h.0) (sym l.rest.names_) h.1,
-      subst (λ (xs : List (ListKey × ℕ)). Contains (map {B = List ℕ × ℕ} (λ e. (e.0.0.items, e.1)) xs) (h.0, j)) (sym l.rest.keys) h.2,
-    )
-    grow by_unit_future j h = l.rest.unit_future_ ∙ h
-    grow by_unit_stream j h = l.rest.unit_stream_ ∙ h
+    grow k j h = same-holds m (record m' { id_to_index = m.id_to_index }) l.rest k j h
 
     only : (k : Known) (j : ℕ) → Holds m' k j → Holds m k j ⊎ ((standing_of r k ≡ standing_of r (by_number id.0)) × (j ≡ i))
     only (by_number n) j h = elim (one-more-in m.id_to_index.entries m'.id_to_index.entries (id.0, i) l.more (n, j) h) [
       | inl q ↦ inl q
       | inr e ↦ inr (ap (λ (p : ℕ × ℕ). standing_of r (by_number p.0)) (sym e), ap (λ (p : ℕ × ℕ). p.1) (sym e))
     ]
-    only (by_kind k) j h = inl (h.0, subst (λ (xs : List (ListKey × ℕ)). Contains (map {B = List ℕ × ℕ} (λ e. (e.0.0.items, e.1)) xs) (kind_code k, j)) l.rest.kinds h.1)
-    only (by_key k) j h = inl (
-      h.0,
-      subst (λ (xs : List (Bor Text × ℕ)). IsKeyList (map {B = Text × ℕ} (λ e. (e.0.now, e.1)) xs) k h.0) l.rest.names_ h.1,
-      subst (λ (xs : List (ListKey × ℕ)). Contains (map {B = List ℕ × ℕ} (λ e. (e.0.0.items, e.1)) xs) (h.0, j)) l.rest.keys h.2,
-    )
-    only by_unit_future j h = inl (sym l.rest.unit_future_ ∙ h)
-    only by_unit_stream j h = inl (sym l.rest.unit_stream_ ∙ h)
+    only k j h = inl (same-held m (record m' { id_to_index = m.id_to_index }) l.rest k j h)
 
     apart : (e : ℕ × ℕ) → Contains m.id_to_index.entries e → (b : Bool) → nat_eq e.0 id.0 ≡ b → nat_eq e.0 id.0 ≡ false
     apart e c false q = q
     apart e c true q = absurd (fresh (e.1, subst (λ (n : ℕ). Contains m.id_to_index.entries (n, e.1)) (eqb-true e.0 id.0 q) c))
 
     once : IsOnce m → IsOnce m'
-    once o = record {
-      numbers = pairs-permuted (λ (x y : ℕ × ℕ). nat_eq x.0 y.0 ≡ false) numbers-apart _ m'.id_to_index.entries l.more
-          (all_pairs_push (λ x y. nat_eq x.0 y.0 ≡ false) m.id_to_index.entries (id.0, i) o.numbers (λ k d lt. apart _ (Contains-get_or _ k d lt) _ refl));
-      kinds = subst (λ (xs : List (ListKey × ℕ)). AllPairs (λ x y. x.0 ≡ y.0 → ⊥) (map {B = List ℕ × ℕ} (λ e. (e.0.0.items, e.1)) xs)) (sym l.rest.kinds) o.kinds;
-      keys = subst (λ (xs : List (ListKey × ℕ)). AllPairs (λ x y. x.0 ≡ y.0 → ⊥) (map {B = List ℕ × ℕ} (λ e. (e.0.0.items, e.1)) xs)) (sym l.rest.keys) o.keys;
-      kind_lists = λ xs j c. o.kind_lists xs j (subst (λ (es : List (ListKey × ℕ)). Contains (map {B = List ℕ × ℕ} (λ e. (e.0.0.items, e.1)) es) (xs, j)) l.rest.kinds c);
-      key_lists = λ xs j c. subst (λ (ns : List (Bor Text × ℕ)). IsSomeKeyList (map {B = Text × ℕ} (λ e. (e.0.now, e.1)) ns) xs) (sym l.rest.names_)
-          (o.key_lists xs j (subst (λ (es : List (ListKey × ℕ)). Contains (map {B = List ℕ × ℕ} (λ e. (e.0.0.items, e.1)) es) (xs, j)) l.rest.keys c));
-      names_ = subst (λ (ns : List (Bor Text × ℕ)). AreNumbered (map {B = Text × ℕ} (λ e. (e.0.now, e.1)) ns)) (sym l.rest.names_) o.names_;
-    }
+    once o =
+        let z = same-once m (record m' { id_to_index = m.id_to_index }) l.rest o in
+        let numbers = pairs-permuted (λ (x y : ℕ × ℕ). nat_eq x.0 y.0 ≡ false) numbers-apart _ m'.id_to_index.entries l.more
+        (all_pairs_push (λ x y. nat_eq x.0 y.0 ≡ false) m.id_to_index.entries (id.0, i) o.numbers (λ k d lt. apart _ (Contains-get_or _ k d lt) _ refl)) in
+        record { numbers = numbers; kinds = z.kinds; keys = z.keys; kind_lists = z.kind_lists; key_lists = z.key_lists; names_ = z.names_ }
 
 pub learns-kind : (r : Resolve) (m m' : TypeEncodingMaps) (kind : TypeDefKind) (xs : List ℕ) (i : ℕ) → is_named_kind kind ≡ false → xs ≡ kind_code kind → LacksList (lists_of m.def_to_index) xs
     → LearnsList m m' xs i
@@ -135,65 +134,42 @@ pub learns-kind : (r : Resolve) (m m' : TypeEncodingMaps) (kind : TypeDefKind) (
 learns-kind r m m' kind xs i unnamed is lacks l = record { grow = grow; only = λ o. only; once = once }
   where
     grow : (k : Known) (j : ℕ) → Holds m k j → Holds m' k j
-    grow (by_number n) j h = subst (λ (es : List (ℕ × ℕ)). Contains es (n, j)) (sym l.rest.numbers) h
     grow (by_kind k) j h = (h.0, kept-in (lists_of m.def_to_index) (lists_of m'.def_to_index) (xs, i) l.more (kind_code k, j) h.1)
-    grow (by_key k) j h = (
-      h.0,
-      subst (λ (ns : List (Bor Text × ℕ)). IsKeyList (map {B = Text × ℕ} (λ e. (e.0.now, e.1)) ns) k h.0) (sym l.rest.names_) h.1,
-      subst (λ (es : List (ListKey × ℕ)). Contains (map {B = List ℕ × ℕ} (λ e. (e.0.0.items, e.1)) es) (h.0, j)) (sym l.rest.keys) h.2,
-    )
-    grow by_unit_future j h = l.rest.unit_future_ ∙ h
-    grow by_unit_stream j h = l.rest.unit_stream_ ∙ h
+    grow k j h = same-holds m (record m' { def_to_index = m.def_to_index }) l.rest k j h
 
     same : (k : TypeDefKind) → is_named_kind k ≡ false → kind_code k ≡ kind_code kind → standing_of r (by_kind k) ≡ standing_of r (by_kind kind)
     same k n e = ap (λ (d : Declaration). tree (tree_of_declaration d)) (same_tree (trees_of r) k kind n (kinds-of-lists k kind n unnamed e))
 
     only : (k : Known) (j : ℕ) → Holds m' k j → Holds m k j ⊎ ((standing_of r k ≡ standing_of r (by_kind kind)) × (j ≡ i))
-    only (by_number n) j h = inl (subst (λ (es : List (ℕ × ℕ)). Contains es (n, j)) l.rest.numbers h)
     only (by_kind k) j h = elim (one-more-in (lists_of m.def_to_index) (lists_of m'.def_to_index) (xs, i) l.more (kind_code k, j) h.1) [
       | inl q ↦ inl (h.0, q)
       | inr e ↦ inr (same k h.0 (ap (λ (p : List ℕ × ℕ). p.0) (sym e) ∙ is), ap (λ (p : List ℕ × ℕ). p.1) (sym e))
     ]
-    only (by_key k) j h = inl (
-      h.0,
-      subst (λ (ns : List (Bor Text × ℕ)). IsKeyList (map {B = Text × ℕ} (λ e. (e.0.now, e.1)) ns) k h.0) l.rest.names_ h.1,
-      subst (λ (es : List (ListKey × ℕ)). Contains (map {B = List ℕ × ℕ} (λ e. (e.0.0.items, e.1)) es) (h.0, j)) l.rest.keys h.2,
-    )
-    only by_unit_future j h = inl (sym l.rest.unit_future_ ∙ h)
-    only by_unit_stream j h = inl (sym l.rest.unit_stream_ ∙ h)
+    only k j h = inl (same-held m (record m' { def_to_index = m.def_to_index }) l.rest k j h)
 
     once : IsOnce m → IsOnce m'
-    once o = record {
-      numbers = subst (λ (es : List (ℕ × ℕ)). AllPairs (λ x y. nat_eq x.0 y.0 ≡ false) es) (sym l.rest.numbers) o.numbers;
-      kinds = new-pairs (lists_of m.def_to_index) (lists_of m'.def_to_index) xs i l.more lacks o.kinds;
-      keys = subst (λ (es : List (ListKey × ℕ)). AllPairs (λ x y. x.0 ≡ y.0 → ⊥) (map {B = List ℕ × ℕ} (λ e. (e.0.0.items, e.1)) es)) (sym l.rest.keys) o.keys;
-      kind_lists = λ ys j c. elim (one-more-in (lists_of m.def_to_index) (lists_of m'.def_to_index) (xs, i) l.more (ys, j) c) [
-        | inl q ↦ o.kind_lists ys j q
-        | inr e ↦ record { kind = kind; unnamed = unnamed; is = ap (λ (p : List ℕ × ℕ). p.0) (sym e) ∙ is }
-      ];
-      key_lists = λ ys j c. subst (λ (ns : List (Bor Text × ℕ)). IsSomeKeyList (map {B = Text × ℕ} (λ e. (e.0.now, e.1)) ns) ys) (sym l.rest.names_)
-          (o.key_lists ys j (subst (λ (es : List (ListKey × ℕ)). Contains (map {B = List ℕ × ℕ} (λ e. (e.0.0.items, e.1)) es) (ys, j)) l.rest.keys c));
-      names_ = subst (λ (ns : List (Bor Text × ℕ)). AreNumbered (map {B = Text × ℕ} (λ e. (e.0.now, e.1)) ns)) (sym l.rest.names_) o.names_;
-    }
+    once o =
+        let z = same-once m (record m' { def_to_index = m.def_to_index }) l.rest o in
+        let kinds = new-pairs (lists_of m.def_to_index) (lists_of m'.def_to_index) xs i l.more lacks o.kinds in
+        let lists : (ys : List ℕ) (j : ℕ) → Contains (lists_of m'.def_to_index) (ys, j) → IsKindList ys =
+        λ ys j c. elim (one-more-in (lists_of m.def_to_index) (lists_of m'.def_to_index) (xs, i) l.more (ys, j) c) [
+          | inl q ↦ o.kind_lists ys j q
+          | inr e ↦ record { kind = kind; unnamed = unnamed; is = ap (λ (p : List ℕ × ℕ). p.0) (sym e) ∙ is }
+        ] in
+        record { numbers = z.numbers; kinds = kinds; keys = z.keys; kind_lists = lists; key_lists = z.key_lists; names_ = z.names_ }
 
 pub learns-key : (r : Resolve) (m m' : TypeEncodingMaps) (key : FunctionKey) (xs : List ℕ) (i : ℕ) → IsKeyList (names_of m.names) key xs → LacksList (lists_of m.func_type_map) xs
     → LearnsKeyList m m' xs i → Learns r m m' i (standing_of r (by_key key))
 learns-key r m m' key xs i is lacks l = record { grow = grow; only = only; once = once }
   where
+    named : (k : FunctionKey) (ys : List ℕ) → IsKeyList (names_of m.names) k ys → IsKeyList (names_of m'.names) k ys
+    named k ys h = subst (λ (ns : List (Bor Text × ℕ)). IsKeyList (map {B = Text × ℕ} (λ e. (e.0.now, e.1)) ns) k ys) (sym l.rest.names_) h
+
     grow : (k : Known) (j : ℕ) → Holds m k j → Holds m' k j
-    grow (by_number n) j h = subst (λ (es : List (ℕ × ℕ)). Contains es (n, j)) (sym l.rest.numbers) h
-    grow (by_kind k) j h = (h.0, subst (λ (es : List (ListKey × ℕ)). Contains (map {B = List ℕ × ℕ} (λ e. (e.0.0.items, e.1)) es) (kind_code k, j)) (sym l.rest.kinds) h.1)
-    grow (by_key k) j h = (
-      h.0,
-      subst (λ (ns : List (Bor Text × ℕ)). IsKeyList (map {B = Text × ℕ} (λ e. (e.0.now, e.1)) ns) k h.0) (sym l.rest.names_) h.1,
-      kept-in (lists_of m.func_type_map) (lists_of m'.func_type_map) (xs, i) l.more (h.0, j) h.2,
-    )
-    grow by_unit_future j h = l.rest.unit_future_ ∙ h
-    grow by_unit_stream j h = l.rest.unit_stream_ ∙ h
+    grow (by_key k) j h = (h.0, named k h.0 h.1, kept-in (lists_of m.func_type_map) (lists_of m'.func_type_map) (xs, i) l.more (h.0, j) h.2)
+    grow k j h = same-holds m (record m' { func_type_map = m.func_type_map }) l.rest k j h
 
     only : IsOnce m → (k : Known) (j : ℕ) → Holds m' k j → Holds m k j ⊎ ((standing_of r k ≡ standing_of r (by_key key)) × (j ≡ i))
-    only o (by_number n) j h = inl (subst (λ (es : List (ℕ × ℕ)). Contains es (n, j)) l.rest.numbers h)
-    only o (by_kind k) j h = inl (h.0, subst (λ (es : List (ListKey × ℕ)). Contains (map {B = List ℕ × ℕ} (λ e. (e.0.0.items, e.1)) es) (kind_code k, j)) l.rest.kinds h.1)
     only o (by_key k) j h =
         let listed : IsKeyList (names_of m.names) k h.0 = subst (λ (ns : List (Bor Text × ℕ)). IsKeyList (map {B = Text × ℕ} (λ e. (e.0.now, e.1)) ns) k h.0) l.rest.names_ h.1 in
         elim (one-more-in (lists_of m.func_type_map) (lists_of m'.func_type_map) (xs, i) l.more (h.0, j) h.2) [
@@ -202,118 +178,48 @@ learns-key r m m' key xs i is lacks l = record { grow = grow; only = only; once 
               let q : h.0 ≡ xs = ap (λ (p : List ℕ × ℕ). p.0) (sym e) in
               inr (ap (λ (s : Signature). function s) (same-signature r k key (keys-of-lists (names_of m.names) k key h.0 xs o.names_.table listed is q)), ap (λ (p : List ℕ × ℕ). p.1) (sym e))
         ]
-    only o by_unit_future j h = inl (sym l.rest.unit_future_ ∙ h)
-    only o by_unit_stream j h = inl (sym l.rest.unit_stream_ ∙ h)
+    only o k j h = inl (same-held m (record m' { func_type_map = m.func_type_map }) l.rest k j h)
 
     once : IsOnce m → IsOnce m'
-    once o = record {
-      numbers = subst (λ (es : List (ℕ × ℕ)). AllPairs (λ x y. nat_eq x.0 y.0 ≡ false) es) (sym l.rest.numbers) o.numbers;
-      kinds = subst (λ (es : List (ListKey × ℕ)). AllPairs (λ x y. x.0 ≡ y.0 → ⊥) (map {B = List ℕ × ℕ} (λ e. (e.0.0.items, e.1)) es)) (sym l.rest.kinds) o.kinds;
-      keys = new-pairs (lists_of m.func_type_map) (lists_of m'.func_type_map) xs i l.more lacks o.keys;
-      kind_lists = λ ys j c. o.kind_lists ys j (subst (λ (es : List (ListKey × ℕ)). Contains (map {B = List ℕ × ℕ} (λ e. (e.0.0.items, e.1)) es) (ys, j)) l.rest.kinds c);
-      key_lists = λ ys j c. subst (λ (ns : List (Bor Text × ℕ)). IsSomeKeyList (map {B = Text × ℕ} (λ e. (e.0.now, e.1)) ns) ys) (sym l.rest.names_)
-          (elim (one-more-in (lists_of m.func_type_map) (lists_of m'.func_type_map) (xs, i) l.more (ys, j) c) [
-            | inl q ↦ o.key_lists ys j q
-            | inr e ↦ record { key = key; is = subst (IsKeyList (names_of m.names) key) (ap (λ (p : List ℕ × ℕ). p.0) e) is }
-          ]);
-      names_ = subst (λ (ns : List (Bor Text × ℕ)). AreNumbered (map {B = Text × ℕ} (λ e. (e.0.now, e.1)) ns)) (sym l.rest.names_) o.names_;
-    }
+    once o =
+        let z = same-once m (record m' { func_type_map = m.func_type_map }) l.rest o in
+        let keys = new-pairs (lists_of m.func_type_map) (lists_of m'.func_type_map) xs i l.more lacks o.keys in
+        let lists : (ys : List ℕ) (j : ℕ) → Contains (lists_of m'.func_type_map) (ys, j) → IsSomeKeyList (names_of m'.names) ys =
+        λ ys j c. elim (one-more-in (lists_of m.func_type_map) (lists_of m'.func_type_map) (xs, i) l.more (ys, j) c) [
+          | inl q ↦ z.key_lists ys j q
+          | inr e ↦ record { key = key; is = subst (IsKeyList (names_of m'.names) key) (ap (λ (p : List ℕ × ℕ). p.0) e) (named key xs is) }
+        ] in
+        record { numbers = z.numbers; kinds = z.kinds; keys = keys; kind_lists = z.kind_lists; key_lists = lists; names_ = z.names_ }
 
 pub learns-unit_future : (r : Resolve) (m m' : TypeEncodingMaps) (i : ℕ) → m.unit_future ≡ None → m' ≡ record m { unit_future = Some i } → Learns r m m' i (standing_of r by_unit_future)
 learns-unit_future r m m' i none is = subst (λ (z : TypeEncodingMaps). Learns r m z i (standing_of r by_unit_future)) (sym is)
     (record { grow = grow; only = λ o. only; once = λ o. record { numbers = o.numbers; kinds = o.kinds; keys = o.keys; kind_lists = o.kind_lists; key_lists = o.key_lists; names_ = o.names_ } })
   where
     grow : (k : Known) (j : ℕ) → Holds m k j → Holds (record m { unit_future = Some i }) k j
-    grow (by_number k) j h = h
-    grow (by_kind k) j h = h
-    grow (by_key k) j h = h
     grow by_unit_future j h = absurd (let e = sym none ∙ h in let z : ⊥ = cc in z)
-    grow by_unit_stream j h = h
+    grow k j h = h
 
     only : (k : Known) (j : ℕ) → Holds (record m { unit_future = Some i }) k j → Holds m k j ⊎ ((standing_of r k ≡ standing_of r by_unit_future) × (j ≡ i))
-    only (by_number k) j h = inl h
-    only (by_kind k) j h = inl h
-    only (by_key k) j h = inl h
     only by_unit_future j h = inr (refl, (let e : i ≡ j = cc in sym e))
-    only by_unit_stream j h = inl h
+    only k j h = inl h
 
 pub learns-unit_stream : (r : Resolve) (m m' : TypeEncodingMaps) (i : ℕ) → m.unit_stream ≡ None → m' ≡ record m { unit_stream = Some i } → Learns r m m' i (standing_of r by_unit_stream)
 learns-unit_stream r m m' i none is = subst (λ (z : TypeEncodingMaps). Learns r m z i (standing_of r by_unit_stream)) (sym is)
     (record { grow = grow; only = λ o. only; once = λ o. record { numbers = o.numbers; kinds = o.kinds; keys = o.keys; kind_lists = o.kind_lists; key_lists = o.key_lists; names_ = o.names_ } })
   where
     grow : (k : Known) (j : ℕ) → Holds m k j → Holds (record m { unit_stream = Some i }) k j
-    grow (by_number k) j h = h
-    grow (by_kind k) j h = h
-    grow (by_key k) j h = h
-    grow by_unit_future j h = h
     grow by_unit_stream j h = absurd (let e = sym none ∙ h in let z : ⊥ = cc in z)
+    grow k j h = h
 
     only : (k : Known) (j : ℕ) → Holds (record m { unit_stream = Some i }) k j → Holds m k j ⊎ ((standing_of r k ≡ standing_of r by_unit_stream) × (j ≡ i))
-    only (by_number k) j h = inl h
-    only (by_kind k) j h = inl h
-    only (by_key k) j h = inl h
-    only by_unit_future j h = inl h
     only by_unit_stream j h = inr (refl, (let e : i ≡ j = cc in sym e))
+    only k j h = inl h
 
 -- ---- a call that writes to the maps alone
-
-pub changes-call : {A E : Type 0} (x : Result A E) (r : Resolve) (m₀ m m₁ m' : TypeEncodingMaps) (S S' : Pairs) (i : ℕ) (s : Standing)
-    → m₀ ≡ m → m' ≡ m₁ → Keeps S S' → OnOk x (Learns r m₀ m₁ i s) → OnErr x (AddsNames m₀ m₁) → MapsAgree r m S → S i s → Changes r m m' S'
-changes-call x r m₀ m m₁ m' S S' i s e e' keeps ok err a h =
-    let b : MapsAgree r m S' = record { says = λ k j c. keeps j (standing_of r k) (a.says k j c); once = a.once } in
-    subst (λ (z : TypeEncodingMaps). Changes r m z S') (sym e')
-    (elim (either x _ _ ok err) [
-      | inl l ↦ changes-learns r m m₁ S' i s (subst (λ (z : TypeEncodingMaps). Learns r z m₁ i s) e l) b (keeps i s h)
-      | inr l ↦ changes-names r m m₁ S' (subst (λ (z : TypeEncodingMaps). AddsNames z m₁) e l) b
-    ])
-
-on_err : {A E : Type 0} (x : Result A E) (P Q : Type 0) → (P → Q) → OnErr x P → OnErr x Q
-on_err x y z f p = search std_rules
-
-module _ {E : Type 0} (x : Result (Unit {0}) E) (r : Resolve) (m₀ m m₁ m' : TypeEncodingMaps) (S S' : Pairs) (i : ℕ) (e : m₀ ≡ m) (e' : m' ≡ m₁) (keeps : Keeps S S') (a : MapsAgree r m S) where
-  pub changes-number : (id : TypeId) → (IsKnown m id.0 → ⊥) → OnOk x (LearnsNumber m₀ m₁ id i) → OnErr x (SameMaps m₀ m₁) → S i (standing_of r (by_number id.0)) → Changes r m m' S'
-  changes-number id fresh ok err s = changes-call x r m₀ m m₁ m' S S' i _ e e' keeps
-      (on_ok x _ _ (λ l. subst (λ (z : TypeEncodingMaps). Learns r z m₁ i (standing_of r (by_number id.0))) (sym e)
-      (learns-number r m m₁ id i fresh (subst (λ (z : TypeEncodingMaps). LearnsNumber z m₁ id i) e l))) ok)
-      (on_err x _ _ (λ l. same-adds m₀ m₁ l) err) a s
-
-  pub changes-kind : (xs : List ℕ) → LacksList (lists_of m.def_to_index) xs → OnOk x (LearnsList m₀ m₁ xs i) → OnErr x (SameMaps m₀ m₁) → StandsAsKind r S xs i → Changes r m m' S'
-  changes-kind xs fresh ok err s = changes-call x r m₀ m m₁ m' S S' i _ e e' keeps
-      (on_ok x _ _ (λ l. subst (λ (z : TypeEncodingMaps). Learns r z m₁ i (standing_of r (by_kind s.kind))) (sym e)
-      (learns-kind r m m₁ s.kind xs i s.unnamed s.is fresh (subst (λ (z : TypeEncodingMaps). LearnsList z m₁ xs i) e l))) ok)
-      (on_err x _ _ (λ l. same-adds m₀ m₁ l) err) a s.stands
-
-  pub changes-key : (xs : List ℕ) → LacksList (lists_of m.func_type_map) xs → OnOk x (LearnsKeyList m₀ m₁ xs i) → OnErr x (SameMaps m₀ m₁) → StandsAsKey r (names_of m.names) S xs i → Changes r m m' S'
-  changes-key xs fresh ok err s = changes-call x r m₀ m m₁ m' S S' i _ e e' keeps
-      (on_ok x _ _ (λ l. subst (λ (z : TypeEncodingMaps). Learns r z m₁ i (standing_of r (by_key s.key))) (sym e)
-      (learns-key r m m₁ s.key xs i s.is fresh (subst (λ (z : TypeEncodingMaps). LearnsKeyList z m₁ xs i) e l))) ok)
-      (on_err x _ _ (λ l. same-adds m₀ m₁ l) err) a s.stands
-
--- a call that adds names alone
-pub changes-listed : (r : Resolve) (m₀ m m₁ m' : TypeEncodingMaps) (S S' : Pairs) → m₀ ≡ m → m' ≡ m₁ → Keeps S S' → AddsNames m₀ m₁ → MapsAgree r m S → Changes r m m' S'
-changes-listed r m₀ m m₁ m' S S' e e' keeps l a = subst (λ (z : TypeEncodingMaps). Changes r m z S') (sym e')
-    (changes-names r m m₁ S' (subst (λ (z : TypeEncodingMaps). AddsNames z m₁) e l) (record { says = λ k j c. keeps j (standing_of r k) (a.says k j c); once = a.once }))
 
 pub changes-unit : (r : Resolve) (m m' : TypeEncodingMaps) (S S' : Pairs) (k : Known) (i : ℕ) → Keeps S S' → Learns r m m' i (standing_of r k) → MapsAgree r m S → S i (standing_of r k)
     → Changes r m m' S'
 changes-unit r m m' S S' k i keeps l a s = changes-learns r m m' S' i _ l (record { says = λ k j h. keeps j (standing_of r k) (a.says k j h); once = a.once }) (keeps i (standing_of r k) s)
-
--- the two caches are the same after a call that writes to another part of the maps
-units-call : {A E : Type 0} (x : Result A E) (m₀ m m₁ m' : TypeEncodingMaps) → m₀ ≡ m → m' ≡ m₁ → OnOk x (SameUnits m₀ m₁) → OnErr x (SameMaps m₀ m₁) → SameUnits m m'
-units-call x m₀ m m₁ m' e e' ok err = search std_rules
-
-module _ {E : Type 0} (x : Result (Unit {0}) E) (m₀ m m₁ m' : TypeEncodingMaps) (e : m₀ ≡ m) (e' : m' ≡ m₁) where
-  pub units-number : (id : TypeId) (i : ℕ) → OnOk x (LearnsNumber m₀ m₁ id i) → OnErr x (SameMaps m₀ m₁) → SameUnits m m'
-  units-number id i ok err = units-call x m₀ m m₁ m' e e' (on_ok x _ _ (λ l. record { future_ = l.rest.unit_future_; stream_ = l.rest.unit_stream_ }) ok) err
-
-  pub units-kind : (xs : List ℕ) (i : ℕ) → OnOk x (LearnsList m₀ m₁ xs i) → OnErr x (SameMaps m₀ m₁) → SameUnits m m'
-  units-kind xs i ok err = units-call x m₀ m m₁ m' e e' (on_ok x _ _ (λ l. record { future_ = l.rest.unit_future_; stream_ = l.rest.unit_stream_ }) ok) err
-
-  pub units-key : (xs : List ℕ) (i : ℕ) → OnOk x (LearnsKeyList m₀ m₁ xs i) → OnErr x (SameMaps m₀ m₁) → SameUnits m m'
-  units-key xs i ok err = units-call x m₀ m m₁ m' e e' (on_ok x _ _ (λ l. record { future_ = l.rest.unit_future_; stream_ = l.rest.unit_stream_ }) ok) err
-
-pub units-listed : (m₀ m m₁ m' : TypeEncodingMaps) → m₀ ≡ m → m' ≡ m₁ → AddsNames m₀ m₁ → SameUnits m m'
-units-listed m₀ m m₁ m' e e' l = search std_rules
 
 -- a call that fills one of the two caches
 pub leaves-filled : (r : Resolve) (v v' : View) → SameRest v v' → Changes r v.maps v'.maps v'.stands → LeavesSlots r v v'
@@ -321,6 +227,36 @@ leaves-filled r v v' s c = search std_rules
 
 pub leaves-changed : (r : Resolve) (v v' : View) → SameRest v v' → Changes r v.maps v'.maps v'.stands → SameUnits v.maps v'.maps → Leaves r v v'
 leaves-changed r v v' s c u = search std_rules
+
+-- one that adds names alone
+pub leaves-listed : (r : Resolve) (v v' : View) → SameRest v v' → Agrees r v → AddsNames v.maps v'.maps → Leaves r v v'
+leaves-listed r v v' s a l = leaves-changed r v v' s
+    (changes-names r v.maps v'.maps v'.stands l (record { says = λ k j c. s.kept j (standing_of r k) (a.says k j c); once = a.once }))
+    (record { future_ = l.rest.unit_future_; stream_ = l.rest.unit_stream_ })
+
+-- one that adds an entry, or nothing
+module _ {E : Type 0} (x : Result (Unit {0}) E) (r : Resolve) (v v' : View) (i : ℕ) (s : SameRest v v') (a : Agrees r v) where
+  leaves-call : (z : Standing) → v.stands i z → OnOk x (Learns r v.maps v'.maps i z × SameUnits v.maps v'.maps) → OnErr x (SameMaps v.maps v'.maps) → Leaves r v v'
+  leaves-call z h ok err = elim (either x _ _ ok err) [
+    | inl l ↦ leaves-changed r v v' s
+        (changes-learns r v.maps v'.maps v'.stands i z l.0 (record { says = λ k j c. s.kept j (standing_of r k) (a.says k j c); once = a.once }) (s.kept i z h)) l.1
+    | inr l ↦ leaves-listed r v v' s a (same-adds v.maps v'.maps l)
+  ]
+
+  pub leaves-number : (id : TypeId) → (IsKnown v.maps id.0 → ⊥) → v.stands i (standing_of r (by_number id.0)) → OnOk x (LearnsNumber v.maps v'.maps id i) → OnErr x (SameMaps v.maps v'.maps)
+      → Leaves r v v'
+  leaves-number id fresh h ok err = leaves-call _ h
+      (on_ok x _ _ (λ l. (learns-number r v.maps v'.maps id i fresh l, record { future_ = l.rest.unit_future_; stream_ = l.rest.unit_stream_ })) ok) err
+
+  pub leaves-kind : (xs : List ℕ) → LacksList (lists_of v.maps.def_to_index) xs → StandsAsKind r v.stands xs i → OnOk x (LearnsList v.maps v'.maps xs i) → OnErr x (SameMaps v.maps v'.maps)
+      → Leaves r v v'
+  leaves-kind xs fresh h ok err = leaves-call _ h.stands
+      (on_ok x _ _ (λ l. (learns-kind r v.maps v'.maps h.kind xs i h.unnamed h.is fresh l, record { future_ = l.rest.unit_future_; stream_ = l.rest.unit_stream_ })) ok) err
+
+  pub leaves-key : (xs : List ℕ) → LacksList (lists_of v.maps.func_type_map) xs → StandsAsKey r (names_of v.maps.names) v.stands xs i → OnOk x (LearnsKeyList v.maps v'.maps xs i)
+      → OnErr x (SameMaps v.maps v'.maps) → Leaves r v v'
+  leaves-key xs fresh h ok err = leaves-call _ h.stands
+      (on_ok x _ _ (λ l. (learns-key r v.maps v'.maps h.key xs i h.is fresh l, record { future_ = l.rest.unit_future_; stream_ = l.rest.unit_stream_ })) ok) err
 
 pub known-learnt : (m m' : TypeEncodingMaps) (id : TypeId) (i : ℕ) → LearnsNumber m m' id i → IsKnown m' id.0
 known-learnt m m' id i l = (i, new-in m.id_to_index.entries m'.id_to_index.entries (id.0, i) l.more)

@@ -1,14 +1,13 @@
 -- Aliases of what is met.
-use Rattle.std.proofs.Common.{rules as std_rules, ◌≡◌, refl, sym, subst, ap, ◌∙◌, ℕ, Bool, true, List, [], ◌∷◌, ◌++◌, Option, Some, inl, inr}
-use Rattle.std.proofs.lemmas.List.Elements.{Contains-append_cases}
-use Rattle.std.specs.List.{Contains}
+use Rattle.std.proofs.Common.{rules as std_rules, ◌≡◌, refl, sym, subst, ap, ◌∙◌, ℕ, Bool, true, List, [], ◌∷◌, ◌++◌, Option, Some, inl, inr, ◌<◌, length, get_or}
+use Rattle.std.proofs.lemmas.List.Elements.{Contains-append_cases, Contains-get_or}
 use Rattle.wit_model.specs.Lookup.{type_at}
 use Rattle.wit_model.specs.declared.model.{Resolve.Resolve, TypeId.TypeId, TypeDef.TypeDef, InterfaceId.InterfaceId, «Type».«Type» as ValueType}
 use Rattle.encode_types.specs.declared.maps.TypeEncodingMaps.{TypeEncodingMaps}
 use Rattle.encode_types.specs.{Aliases.IsMetElsewhere, Aliases.AliasesMet, Aliases.NumbersMet, Plan.foreign_owner, Plan.itself, Plan.Reaches, Plan.IsOrderOf}
 use Rattle.encode_types.specs.Known.{Around, Aliased, with_aliases, AreAliases, ReachesAround, as_before, aliased}
 use Rattle.encode_types.specs.{MetKinds.ReachedFrom, View.ImportsOne}
-use Rattle.encode_types.proofs.{Around.with-both, Around.are-both, Encoding.meets-reaches, Lists.none-in, Rooms.reaches-then}
+use Rattle.encode_types.proofs.{Around.with-both, Around.are-both, Encoding.meets-reaches, Lists.none-in, Rooms.reaches-then, Rooms.reached-left, Rooms.reached-right}
 use Rattle.base_lemmas.proofs.Elements.{contains-one, last_of as one-contained}
 use Rattle.wit_model.specs.declared.model.«Type».TheVariants as ty
 
@@ -50,25 +49,30 @@ met-one {r} {own} {id} {a} {b} def interface at f (aliased x is n e) = record {
 pub makes-then : {r : Resolve} {own own' : Option InterfaceId} {ts : List ValueType} {a b c : Around} → own' ≡ own → AliasesMet r own ts a b → AliasesMet r own' ts b c → AliasesMet r own ts a c
 makes-then {r} {own} {own'} {ts} {a} {b} {c} s p q = met-then p (subst (λ (z : Option InterfaceId). AliasesMet r z ts b c) s q)
 
+-- from one list of types, and then from another
+pub makes-both : {r : Resolve} {own own' : Option InterfaceId} {ts us : List ValueType} {a b c : Around} → own' ≡ own → AliasesMet r own ts a b → AliasesMet r own' us b c
+    → AliasesMet r own (ts ++ us) a c
+makes-both {r} {own} {own'} {ts} {us} s p q = makes-then s (met-more (reached-left ts us) p) (met-more (reached-right ts us) q)
+
 -- with what makes none behind it
 pub makes-same : {r : Resolve} {own : Option InterfaceId} {ts : List ValueType} {a b c : Around} → c ≡ b → AliasesMet r own ts a b → AliasesMet r own ts a c
 makes-same {r} {own} {ts} {a} {b} {c} e p = subst (λ (z : Around). AliasesMet r own ts a z) (sym e) p
 
--- from one number of an order
-pub makes-number : {r : Resolve} {own own' : Option InterfaceId} {m : TypeEncodingMaps} {ts : List ValueType} {items : List ℕ} {a b c : Around} (n : ℕ) → own' ≡ own → IsOrderOf r own m ts items
-    → Contains items n
-    → AliasesMet r own ts a b → AliasesMet r own' (ty.Id (record { 0 = n }) ∷ []) b c → AliasesMet r own ts a c
-makes-number {r} {own} {own'} {m} {ts} {items} {a} {b} {c} n s o h p q =
-    let met = o.added n h in
-    met-then p
-    (met-more
-    (λ k reached. (
+-- what is met from one number of an order
+pub met-number : {r : Resolve} {own : Option InterfaceId} {m : TypeEncodingMaps} {ts : List ValueType} {items : List ℕ} {k : ℕ} → IsOrderOf r own m ts items → k < length items → (n : ℕ)
+    → ReachedFrom r own (ty.Id (record { 0 = get_or items k 0 }) ∷ []) n → ReachedFrom r own ts n
+met-number {r} {own} {m} {ts} {items} {k} o lt n reached =
+    let met = o.added (get_or items k 0) (Contains-get_or items k 0 lt) in (
       met.0,
       met.1,
-      reaches-then r own met.0 n (meets-reaches r own m met.0 n met.2) k
-          (subst (λ (t : ValueType). Reaches r own t k) (sym (one-contained (ty.Id (record { 0 = n })) reached.0 reached.1)) reached.2),
-    ))
-    (subst (λ (z : Option InterfaceId). AliasesMet r z (ty.Id (record { 0 = n }) ∷ []) b c) s q))
+      reaches-then r own met.0 (get_or items k 0) (meets-reaches r own m met.0 _ met.2) n (subst (λ (t : ValueType). Reaches r own t n) (sym (one-contained _ reached.0 reached.1)) reached.2),
+    )
+
+-- from one number of an order
+pub makes-number : {r : Resolve} {own own' : Option InterfaceId} {m : TypeEncodingMaps} {ts : List ValueType} {items : List ℕ} {a b c : Around} {k : ℕ} → own' ≡ own → IsOrderOf r own m ts items
+    → k < length items → AliasesMet r own ts a b → AliasesMet r own' (ty.Id (record { 0 = get_or items k 0 }) ∷ []) b c → AliasesMet r own ts a c
+makes-number {r} {own} {own'} {m} {ts} {items} {a} {b} {c} {k} s o lt p q =
+    met-then p (met-more (met-number o lt) (subst (λ (z : Option InterfaceId). AliasesMet r z (ty.Id (record { 0 = get_or items k 0 }) ∷ []) b c) s q))
 
 -- ---- imports in the scope itself
 
@@ -88,6 +92,10 @@ pub imports-more : {r : Resolve} {own : Option InterfaceId} {ts us : List ValueT
     → NumbersMet r own us xs ys
 imports-more f p = search std_rules
 
+pub imports-both : {r : Resolve} {own own' : Option InterfaceId} {ts us : List ValueType} {xs ys zs : ℕ → Bool} → own' ≡ own → NumbersMet r own ts xs ys → NumbersMet r own' us ys zs
+    → NumbersMet r own (ts ++ us) xs zs
+imports-both {r} {own} {own'} {ts} {us} s p q = imports-then s (imports-more (reached-left ts us) p) (imports-more (reached-right ts us) q)
+
 -- one of this type, which is of another interface
 pub imports-one : {r : Resolve} {own : Option InterfaceId} {id : TypeId} {xs ys : ℕ → Bool} (def : TypeDef) (interface : InterfaceId) → type_at r id.0 ≡ Some def
     → foreign_owner own def.owner ≡ Some interface → ImportsOne id xs ys → NumbersMet r own (ty.Id id ∷ []) xs ys
@@ -100,17 +108,7 @@ imports-one {r} {own} {id} {xs} {ys} def interface at f one = record {
 }
 
 -- from one number of an order
-pub imports-number : {r : Resolve} {own own' : Option InterfaceId} {m : TypeEncodingMaps} {ts : List ValueType} {items : List ℕ} {xs ys zs : ℕ → Bool} (n : ℕ) → own' ≡ own → IsOrderOf r own m ts items
-    → Contains items n
-    → NumbersMet r own ts xs ys → NumbersMet r own' (ty.Id (record { 0 = n }) ∷ []) ys zs → NumbersMet r own ts xs zs
-imports-number {r} {own} {own'} {m} {ts} {items} {xs} {ys} {zs} n s o h p q =
-    let met = o.added n h in
-    imports-then refl p
-    (imports-more
-    (λ k reached. (
-      met.0,
-      met.1,
-      reaches-then r own met.0 n (meets-reaches r own m met.0 n met.2) k
-          (subst (λ (t : ValueType). Reaches r own t k) (sym (one-contained (ty.Id (record { 0 = n })) reached.0 reached.1)) reached.2),
-    ))
-    (subst (λ (z : Option InterfaceId). NumbersMet r z (ty.Id (record { 0 = n }) ∷ []) ys zs) s q))
+pub imports-number : {r : Resolve} {own own' : Option InterfaceId} {m : TypeEncodingMaps} {ts : List ValueType} {items : List ℕ} {xs ys zs : ℕ → Bool} {k : ℕ} → own' ≡ own → IsOrderOf r own m ts items
+    → k < length items → NumbersMet r own ts xs ys → NumbersMet r own' (ty.Id (record { 0 = get_or items k 0 }) ∷ []) ys zs → NumbersMet r own ts xs zs
+imports-number {r} {own} {own'} {m} {ts} {items} {xs} {ys} {zs} {k} s o lt p q =
+    imports-then refl p (imports-more (met-number o lt) (subst (λ (z : Option InterfaceId). NumbersMet r z (ty.Id (record { 0 = get_or items k 0 }) ∷ []) ys zs) s q))

@@ -1,5 +1,5 @@
 -- What is defined, call by call.
-use Rattle.std.proofs.Common.{rules as std_rules, ◌≡◌, refl, sym, subst, ap, ◌∙◌, ℕ, ◌+◌, inl, inr, append_assoc, append-nil, Bool, false, List, [], ◌∷◌, ◌++◌, Result, IfOk, Option, Some, None, length, length-append, arith, map}
+use Rattle.std.proofs.Common.{rules as std_rules, ◌≡◌, refl, sym, subst, ap, ◌∙◌, ℕ, ◌+◌, inl, inr, append_assoc, append-nil, Bool, true, false, List, [], ◌∷◌, ◌++◌, Result, IfOk, Option, Some, None, length, length-append, arith, map}
 use Rattle.std.proofs.lemmas.List.{map-append, length-map}
 use Rattle.std.proofs.lemmas.List.{Sorted.IsPermutation-refl, Sorted.length_permutation, Elements.Contains-append_cases, Elements.filter_map-append}
 use Rattle.wit_model.specs.{Tree.Tree, Types.trees_of, Types.tree_of, Meaning.TypeMeaning, Text.Text, Text.text_of}
@@ -13,7 +13,7 @@ use Rattle.encode_types.specs.{Kinds.kind_tree, Scope.Scope, Known.GrowsAround}
 use Rattle.encode_types.specs.Maps.{Says, Holds, MapsAgree, IsWritten, HasKind, by_kind, LearnsNumber, LearnsList}
 use Rattle.encode_types.specs.{Definition.FollowsKind, Definition.IsWrittenParam, View.View, View.Agrees, View.Grows, Leaves.Leaves, Leaves.LeavesSlots}
 use Rattle.encode_types.specs.Counts.{Definitions, one_type_more, type_more_if, is_defined_by_name, own_name, ExportsOne, Shows, IsTarget, AddsTypes}
-use Rattle.encode_types.proofs.{Lists.none-in, Around.around-trans, Written.written-stands}
+use Rattle.encode_types.proofs.{Lists.none-in, Around.around-same, Around.around-trans, Written.written-stands}
 use Rattle.encode_types.proofs.Marking.{more-then, slots-none, slots-then, slots-kind, slots-number, slots-named}
 use Rattle.wit_model.proofs.Elements.{zip-along}
 use Rattle.base_lemmas.proofs.Elements.{zip-kept}
@@ -142,14 +142,10 @@ counts-resource r scope m m' d d' id i name l n b x = record {
   shows = shows-shown r scope m m' d d d' id i name l n refl x;
 }
 
-types-if : (b : Bool) (i : ℕ) (d : Definitions) → (type_more_if b i d).exported ≡ d.exported
-types-if x i d = search std_rules
-
-functions-if : (b : Bool) (i : ℕ) (d : Definitions) → (type_more_if b i d).functions ≡ d.functions
-functions-if x i d = search std_rules
-
-exports-if : (b : Bool) (i : ℕ) (d : Definitions) → (type_more_if b i d).exports ≡ d.exports
-exports-if x i d = search std_rules
+-- a definition that is or isn't added changes nothing but the types
+same-but-types : (b : Bool) (i : ℕ) (d : Definitions) → ((type_more_if b i d).exported ≡ d.exported) × ((type_more_if b i d).functions ≡ d.functions) × ((type_more_if b i d).exports ≡ d.exports)
+same-but-types false i d = (refl, refl, refl)
+same-but-types true i d = (refl, refl, refl)
 
 -- a number whose name is exported from slot j: that of its definition, or of what it is another name of
 pub counts-named : (r : Resolve) (scope : Scope) (m m' : TypeEncodingMaps) (d d₁ d' : Definitions) (id : TypeId) (i j : ℕ) (b : Bool) (name : ExternName) → LearnsNumber m m' id i
@@ -157,10 +153,10 @@ pub counts-named : (r : Resolve) (scope : Scope) (m m' : TypeEncodingMaps) (d d�
     → ExportsOne scope d₁ d' (Some j) name → (b ≡ false → IsTarget r m j) → AddsTypes r scope m m' d d'
 counts-named r scope m m' d d₁ d' id i j b name l n q e x target = record {
   slots = slots-named r scope m m' d d' id i j b l q (ap (λ (z : Definitions). z.types) x.one_more ∙ ap (λ (z : Definitions). z.types) e)
-      (ap (λ (z : Definitions). z.exported) x.one_more ∙ ap (λ (z : Definitions). z.exported ++ j ∷ []) e ∙ ap (λ xs. xs ++ j ∷ []) (types-if b j d)) target;
-  functions = ap (λ (z : Definitions). z.functions) x.one_more ∙ ap (λ (z : Definitions). z.functions) e ∙ functions-if b j d;
+      (ap (λ (z : Definitions). z.exported) x.one_more ∙ ap (λ (z : Definitions). z.exported ++ j ∷ []) e ∙ ap (λ xs. xs ++ j ∷ []) (same-but-types b j d).0) target;
+  functions = ap (λ (z : Definitions). z.functions) x.one_more ∙ ap (λ (z : Definitions). z.functions) e ∙ (same-but-types b j d).1;
   keys = record { lists = l.rest.keys; names_ = l.rest.names_; units = record { future_ = l.rest.unit_future_; stream_ = l.rest.unit_stream_ } };
-  shows = shows-shown r scope m m' d d₁ d' id i name l n (ap (λ (z : Definitions). z.exports) e ∙ exports-if b j d) x;
+  shows = shows-shown r scope m m' d d₁ d' id i name l n (ap (λ (z : Definitions). z.exports) e ∙ (same-but-types b j d).2) x;
 }
 
 -- ---- what calls leave
@@ -174,30 +170,39 @@ leaves-kept {r} {v} {v'} a g s e = record {
   scope_stays = s;
 }
 
+-- nothing has been done
+pub leaves-none : {r : Resolve} {v : View} → Agrees r v → Leaves r v v
+leaves-none {r} {v} a = leaves-kept {v = v} {v' = v} a (record { kept = λ i s h. h; more = omega arith; around_ = around-same refl; own_ = λ ns h. h }) refl refl
+
+grows-trans : {v v' v'' : View} → v'.scope ≡ v.scope → Grows v v' → Grows v' v'' → Grows v v''
+grows-trans {v} {v'} {v''} s p q = record {
+  kept = λ i x h. q.kept i x (p.kept i x h);
+  more = (let x = p.more in let y = q.more in omega arith);
+  around_ = around-trans p.around_ (subst (λ (z : Scope). GrowsAround z.packages v'.around v''.around) s q.around_);
+  own_ = λ ns h. q.own_ ns (p.own_ ns h);
+}
+
 pub leaves-trans : {r : Resolve} {v v' v'' : View} → Leaves r v v' → Leaves r v' v'' → Leaves r v v''
-leaves-trans {r} {v} {v'} {v''} p q = record {
+leaves-trans p q = record {
   agree = q.agree;
   maps_grow = record { keeps = λ k i h. q.maps_grow.keeps k i (p.maps_grow.keeps k i h) };
   units = record { future_ = q.units.future_ ∙ p.units.future_; stream_ = q.units.stream_ ∙ p.units.stream_ };
-  grows = record {
-    kept = λ i x h. q.grows.kept i x (p.grows.kept i x h);
-    more = (let x = p.grows.more in let y = q.grows.more in omega arith);
-    around_ = around-trans p.grows.around_ (subst (λ (z : Scope). GrowsAround z.packages v'.around v''.around) p.scope_stays q.grows.around_);
-    own_ = λ ns h. q.grows.own_ ns (p.grows.own_ ns h);
-  };
+  grows = grows-trans p.scope_stays p.grows q.grows;
   scope_stays = q.scope_stays ∙ p.scope_stays;
 }
 
+-- with a call behind it that leaves the maps, or before it
+pub leaves-beside : {r : Resolve} {v v' v'' : View} → Leaves r v v' → Grows v' v'' → v''.scope ≡ v'.scope → v''.maps ≡ v'.maps → Leaves r v v''
+leaves-beside {r} {v} {v'} {v''} p g s e = leaves-trans p (leaves-kept {v = v'} {v' = v''} p.agree g s e)
+
+pub leaves-before : {r : Resolve} {v v' v'' : View} → Leaves r v' v'' → Agrees r v → Grows v v' → v'.scope ≡ v.scope → v'.maps ≡ v.maps → Leaves r v v''
+leaves-before {r} {v} {v'} {v''} q a g s e = leaves-trans (leaves-kept {v = v} {v' = v'} a g s e) q
+
 -- with a call behind it that fills one of the two caches
 pub leaves-fill : {r : Resolve} {v v' v'' : View} → Leaves r v v' → LeavesSlots r v' v'' → LeavesSlots r v v''
-leaves-fill {r} {v} {v'} {v''} p q = record {
+leaves-fill p q = record {
   agree = q.agree;
   maps_grow = record { keeps = λ k i h. q.maps_grow.keeps k i (p.maps_grow.keeps k i h) };
-  grows = record {
-    kept = λ i x h. q.grows.kept i x (p.grows.kept i x h);
-    more = (let x = p.grows.more in let y = q.grows.more in omega arith);
-    around_ = around-trans p.grows.around_ (subst (λ (z : Scope). GrowsAround z.packages v'.around v''.around) p.scope_stays q.grows.around_);
-    own_ = λ ns h. q.grows.own_ ns (p.grows.own_ ns h);
-  };
+  grows = grows-trans p.scope_stays p.grows q.grows;
   scope_stays = q.scope_stays ∙ p.scope_stays;
 }

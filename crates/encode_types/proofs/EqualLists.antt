@@ -9,7 +9,7 @@ use Rattle.encode_types.specs.declared.key.FunctionKey.{FunctionKey}
 use Rattle.encode_types.specs.{Key.same_type, Key.same_param, Key.same_key, Maps.same_kind, CodeLaws.EqualKinds, CodeLaws.EqualKeys}
 use Rattle.encode_types.specs.KeyLaws.{type_equiv, text_same}
 use Rattle.encode_types.specs.Codes.{type_code, optional_code, kind_code, Names, IsTable, AreListed, async_code, IsKeyList}
-use Rattle.encode_types.proofs.KindLaws.{same_types, optional_same, types_same}
+use Rattle.encode_types.proofs.KindLaws.{same_types, optional_same, types_same, clash}
 use Rattle.base_lemmas.proofs.Bools.{left_of as first_true, right_of as second_true}
 use Rattle.wit_model.proofs.TextLemmas.{text_alike as text-refl}
 use Rattle.wit_model.specs.declared.model.TypeDefKind.TheVariants as kind
@@ -83,8 +83,8 @@ case_in l = cond (nat_eq (get_or l 0 99) 1) 0 (get_or l 0 99)
 in-list : (k : TypeDefKind) → case_in (kind_code k) ≡ case_number k
 in-list x = search rules
 
-other-case : (a b : TypeDefKind) → nat_eq (case_number a) (case_number b) ≡ false → kind_code a ≡ kind_code b → ⊥
-other-case a b h e = true≢false (sym (eq-eqb (case_number a) (case_number b) (sym (in-list a) ∙ ap case_in e ∙ in-list b)) ∙ h)
+same-case : (a b : TypeDefKind) → kind_code a ≡ kind_code b → nat_eq (case_number a) (case_number b) ≡ true
+same-case a b e = eq-eqb (case_number a) (case_number b) (sym (in-list a) ∙ ap case_in e ∙ in-list b)
 
 other-handle : (a b : TypeDefKind) → nat_eq (get_or (kind_code a) 0 99) (get_or (kind_code b) 0 99) ≡ false → kind_code a ≡ kind_code b → ⊥
 other-handle a b h e = true≢false (sym (eq-eqb _ _ (ap (λ l. get_or l 0 99) e)) ∙ h)
@@ -94,52 +94,33 @@ kinds-of-lists (kind.Handle (handle.Own a)) (kind.Handle (handle.Own b)) n m e =
 kinds-of-lists (kind.Handle (handle.Borrow a)) (kind.Handle (handle.Borrow b)) n m e = let h : 14 + a.0 ≡ 14 + b.0 = one-number _ _ _ _ _ _ e in eq-eqb a.0 b.0 (omega (arith, h))
 kinds-of-lists (kind.Handle (handle.Own a)) (kind.Handle (handle.Borrow b)) n m e = absurd (other-handle (kind.Handle (handle.Own a)) (kind.Handle (handle.Borrow b)) refl e)
 kinds-of-lists (kind.Handle (handle.Borrow a)) (kind.Handle (handle.Own b)) n m e = absurd (other-handle (kind.Handle (handle.Borrow a)) (kind.Handle (handle.Own b)) refl e)
-kinds-of-lists (kind.Handle (handle.Own a)) other n m e = absurd (other-case (kind.Handle (handle.Own a)) other refl e)
-kinds-of-lists (kind.Handle (handle.Borrow a)) other n m e = absurd (other-case (kind.Handle (handle.Borrow a)) other refl e)
 kinds-of-lists (kind.Option a) (kind.Option b) n m e = same-refl a b (type-of-code a b (one-number _ _ _ _ _ _ e))
-kinds-of-lists (kind.Option a) other n m e = absurd (other-case (kind.Option a) other refl e)
 kinds-of-lists (kind.List a) (kind.List b) n m e = same-refl a b (type-of-code a b (one-number _ _ _ _ _ _ e))
-kinds-of-lists (kind.List a) other n m e = absurd (other-case (kind.List a) other refl e)
 kinds-of-lists (kind.Tuple a) (kind.Tuple b) n m e = types-of-codes a.types.items b.types.items (tail-same _ _ _ _ e)
-kinds-of-lists (kind.Tuple a) other n m e = absurd (other-case (kind.Tuple a) other refl e)
 kinds-of-lists (kind.Result a) (kind.Result b) n m e = search (rules, optional-of-code, tail-same, both, optional-alone)
-kinds-of-lists (kind.Result a) other n m e = absurd (other-case (kind.Result a) other refl e)
 kinds-of-lists (kind.Map a x) (kind.Map b y) n m e = both _ _ (same-refl a b (type-of-code a b (one-number _ _ _ _ _ _ e))) (same-refl x y (type-of-code x y (two-numbers _ _ _ _ _ _ _ _ e)))
-kinds-of-lists (kind.Map a x) other n m e = absurd (other-case (kind.Map a x) other refl e)
 kinds-of-lists (kind.FixedLengthList a x) (kind.FixedLengthList b y) n m e = both _ _ (same-refl a b (type-of-code a b (one-number _ _ _ _ _ _ e))) (eq-eqb x y (two-numbers _ _ _ _ _ _ _ _ e))
-kinds-of-lists (kind.FixedLengthList a x) other n m e = absurd (other-case (kind.FixedLengthList a x) other refl e)
 kinds-of-lists (kind.Future a) (kind.Future b) n m e = optional-alone a b (tail-same _ _ _ _ e)
-kinds-of-lists (kind.Future a) other n m e = absurd (other-case (kind.Future a) other refl e)
 kinds-of-lists (kind.Stream a) (kind.Stream b) n m e = optional-alone a b (tail-same _ _ _ _ e)
-kinds-of-lists (kind.Stream a) other n m e = absurd (other-case (kind.Stream a) other refl e)
-kinds-of-lists a b n m e = absurd (true≢false n)
+kinds-of-lists a b n m e = clash (is_named_kind a) (nat_eq (case_number a) (case_number b)) n (same-case a b e) refl
 
 pub lists-of-kinds : (a b : TypeDefKind) → is_named_kind a ≡ false → same_kind a b ≡ true → kind_code a ≡ kind_code b
 lists-of-kinds (kind.Option a) (kind.Option b) n e = let h : same_type a b ≡ true = search rules in ap (λ t. kind_code (kind.Option t)) (same_types a b h)
-lists-of-kinds (kind.Option a) other n e = absurd (true≢false (sym e))
 lists-of-kinds (kind.List a) (kind.List b) n e = let h : same_type a b ≡ true = search rules in ap (λ t. kind_code (kind.List t)) (same_types a b h)
-lists-of-kinds (kind.List a) other n e = absurd (true≢false (sym e))
 lists-of-kinds (kind.Handle a) (kind.Handle b) n e = let h : kind.Handle a ≡ kind.Handle b = search rules in ap kind_code h
-lists-of-kinds (kind.Handle a) other n e = absurd (true≢false (sym e))
 lists-of-kinds (kind.Tuple a) (kind.Tuple b) n e = let h : pointwise same_type a.types.items b.types.items ≡ true = search rules in ap (λ xs. 2 ∷ map type_code xs) (types_same _ _ h)
-lists-of-kinds (kind.Tuple a) other n e = absurd (true≢false (sym e))
 lists-of-kinds (kind.Result a) (kind.Result b) n e =
     let h = optional_same a.ok b.ok (first_true (option_eq same_type a.ok b.ok) (option_eq same_type a.err b.err) e) in
     let k = optional_same a.err b.err (second_true (option_eq same_type a.ok b.ok) (option_eq same_type a.err b.err) e) in
     λ i. 4 ∷ (optional_code (h i) ++ optional_code (k i))
-lists-of-kinds (kind.Result a) other n e = absurd (true≢false (sym e))
 lists-of-kinds (kind.Map a x) (kind.Map b y) n e =
     let h = same_types a b (first_true (same_type a b) (same_type x y) e) in
     let k = same_types x y (second_true (same_type a b) (same_type x y) e) in
     λ i. kind_code (kind.Map (h i) (k i))
-lists-of-kinds (kind.Map a x) other n e = absurd (true≢false (sym e))
 lists-of-kinds (kind.FixedLengthList a x) (kind.FixedLengthList b y) n e = search rules
-lists-of-kinds (kind.FixedLengthList a x) other n e = absurd (true≢false (sym e))
 lists-of-kinds (kind.Future a) (kind.Future b) n e = let h : option_eq same_type a b ≡ true = search rules in ap (λ t. kind_code (kind.Future t)) (optional_same a b h)
-lists-of-kinds (kind.Future a) other n e = absurd (true≢false (sym e))
 lists-of-kinds (kind.Stream a) (kind.Stream b) n e = let h : option_eq same_type a b ≡ true = search rules in ap (λ t. kind_code (kind.Stream t)) (optional_same a b h)
-lists-of-kinds (kind.Stream a) other n e = absurd (true≢false (sym e))
-lists-of-kinds a b n e = absurd (true≢false n)
+lists-of-kinds a b n e = clash (is_named_kind a) (same_kind a b) n e refl
 
 pub equal_kinds : EqualKinds
 equal_kinds = λ a b n m. record { same = kinds-of-lists a b n m; equal = lists-of-kinds a b n }
@@ -150,14 +131,9 @@ equal_kinds = λ a b n m. record { same = kinds-of-lists a b n m; equal = lists-
 params-of-lists : (names : Names) → IsTable names → (ps qs : List Param) (xs ys us vs : List ℕ) → AreListed names ps xs → AreListed names qs ys → length ps ≡ length qs → xs ++ us ≡ ys ++ vs
     → (pointwise same_param ps qs ≡ true) × (us ≡ vs)
 params-of-lists names t [] [] [] [] us vs l k n e = (refl, e)
-params-of-lists names t [] [] (x ∷ xs) ys us vs l k n e = absurd l
-params-of-lists names t [] [] [] (y ∷ ys) us vs l k n e = absurd k
+params-of-lists names t [] [] [] ys us vs l k n e = absurd k
 params-of-lists names t [] (q ∷ qs) xs ys us vs l k n e = absurd (omega (arith, n))
 params-of-lists names t (p ∷ ps) [] xs ys us vs l k n e = absurd (omega (arith, n))
-params-of-lists names t (p ∷ ps) (q ∷ qs) [] ys us vs l k n e = absurd l
-params-of-lists names t (p ∷ ps) (q ∷ qs) (x ∷ []) ys us vs l k n e = absurd l
-params-of-lists names t (p ∷ ps) (q ∷ qs) (x ∷ a ∷ xs) [] us vs l k n e = absurd k
-params-of-lists names t (p ∷ ps) (q ∷ qs) (x ∷ a ∷ xs) (y ∷ []) us vs l k n e = absurd k
 params-of-lists names t (p ∷ ps) (q ∷ qs) (x ∷ a ∷ xs) (y ∷ b ∷ ys) us vs l k n e =
     let h : x ≡ y = head-same _ _ _ _ e in
     let r = tail-same _ _ _ _ e in
@@ -166,18 +142,15 @@ params-of-lists names t (p ∷ ps) (q ∷ qs) (x ∷ a ∷ xs) (y ∷ b ∷ ys) 
     let value : p.ty ≡ q.ty = type-of-code p.ty q.ty (sym l.1 ∙ c ∙ k.1) in
     let more = params-of-lists names t ps qs xs ys us vs l.2 k.2 (omega (arith, n)) (tail-same _ _ _ _ r) in
     (both _ _ (both _ _ (subst (λ w. text_eq (text_of p.name) w ≡ true) name (text-refl (text_of p.name))) (same-refl p.ty q.ty value)) more.0, more.1)
+params-of-lists names t (p ∷ ps) (q ∷ qs) (x ∷ a ∷ xs) ys us vs l k n e = absurd k
+params-of-lists names t ps qs xs ys us vs l k n e = absurd l
 
 lists-of-params : (names : Names) → IsTable names → (ps qs : List Param) (xs ys : List ℕ) → AreListed names ps xs → AreListed names qs ys → pointwise same_param ps qs ≡ true → (xs ≡ ys)
     × (length ps ≡ length qs)
 lists-of-params names t [] [] [] [] l k e = (refl, refl)
-lists-of-params names t [] [] (x ∷ xs) ys l k e = absurd l
-lists-of-params names t [] [] [] (y ∷ ys) l k e = absurd k
+lists-of-params names t [] [] [] ys l k e = absurd k
 lists-of-params names t [] (q ∷ qs) xs ys l k e = absurd (let z : ⊥ = cc in z)
 lists-of-params names t (p ∷ ps) [] xs ys l k e = absurd (let z : ⊥ = cc in z)
-lists-of-params names t (p ∷ ps) (q ∷ qs) [] ys l k e = absurd l
-lists-of-params names t (p ∷ ps) (q ∷ qs) (x ∷ []) ys l k e = absurd l
-lists-of-params names t (p ∷ ps) (q ∷ qs) (x ∷ a ∷ xs) [] l k e = absurd k
-lists-of-params names t (p ∷ ps) (q ∷ qs) (x ∷ a ∷ xs) (y ∷ []) l k e = absurd k
 lists-of-params names t (p ∷ ps) (q ∷ qs) (x ∷ a ∷ xs) (y ∷ b ∷ ys) l k e =
     let one = first_true (same_param p q) (pointwise same_param ps qs) e in
     let name = text_same _ _ (first_true (text_eq (text_of p.name) (text_of q.name)) (same_type p.ty q.ty) one) in
@@ -186,23 +159,22 @@ lists-of-params names t (p ∷ ps) (q ∷ qs) (x ∷ a ∷ xs) (y ∷ b ∷ ys) 
     let code : a ≡ b = l.1 ∙ ap type_code value ∙ sym k.1 in
     let more = lists-of-params names t ps qs xs ys l.2 k.2 (second_true (same_param p q) (pointwise same_param ps qs) e) in
     (λ i. number i ∷ code i ∷ more.0 i, ap suc more.1)
+lists-of-params names t (p ∷ ps) (q ∷ qs) (x ∷ a ∷ xs) ys l k e = absurd k
+lists-of-params names t ps qs xs ys l k e = absurd l
 
 -- A list that is that of parameters in a table, and of others in a smaller one: so it is that of the first in the smaller one.
 listed-shrink : (names names' : Names) → IsTable names' → ((t : Text) (n : ℕ) → Contains names (t, n) → Contains names' (t, n)) → (ps qs : List Param) (xs ys us vs : List ℕ) → AreListed names' ps xs
     → AreListed names qs ys
     → length ps ≡ length qs → xs ++ us ≡ ys ++ vs → AreListed names ps xs
 listed-shrink names names' t g [] qs [] ys us vs l k n e = tt
-listed-shrink names names' t g [] qs (x ∷ xs) ys us vs l k n e = absurd l
 listed-shrink names names' t g (p ∷ ps) [] xs ys us vs l k n e = absurd (omega (arith, n))
-listed-shrink names names' t g (p ∷ ps) (q ∷ qs) [] ys us vs l k n e = absurd l
-listed-shrink names names' t g (p ∷ ps) (q ∷ qs) (x ∷ []) ys us vs l k n e = absurd l
-listed-shrink names names' t g (p ∷ ps) (q ∷ qs) (x ∷ a ∷ xs) [] us vs l k n e = absurd k
-listed-shrink names names' t g (p ∷ ps) (q ∷ qs) (x ∷ a ∷ xs) (y ∷ []) us vs l k n e = absurd k
 listed-shrink names names' t g (p ∷ ps) (q ∷ qs) (x ∷ a ∷ xs) (y ∷ b ∷ ys) us vs l k n e =
     let h : y ≡ x = sym (head-same _ _ _ _ e) in
     let there : Contains names (text_of q.name, x) = subst (λ m. Contains names (text_of q.name, m)) h k.0 in
     let name : text_of q.name ≡ text_of p.name = t.one_text _ _ x (g _ x there) l.0 in
     (subst (λ w. Contains names (w, x)) name there, l.1, listed-shrink names names' t g ps qs xs ys us vs l.2 k.2 (omega (arith, n)) (tail-same _ _ _ _ (tail-same _ _ _ _ e)))
+listed-shrink names names' t g (p ∷ ps) (q ∷ qs) (x ∷ a ∷ xs) ys us vs l k n e = absurd k
+listed-shrink names names' t g ps qs xs ys us vs l k n e = absurd l
 
 pub key-shrink : (names names' : Names) → IsTable names' → ((t : Text) (n : ℕ) → Contains names (t, n) → Contains names' (t, n)) → (a b : FunctionKey) (xs : List ℕ) → IsKeyList names' a xs
     → IsKeyList names b xs → IsKeyList names a xs

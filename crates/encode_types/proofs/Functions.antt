@@ -31,24 +31,15 @@ key-new m key f is lacks (xs, i, l, c) = lacks i (
 
 -- ---- what is asked of parameters and results
 
+-- of some of the types
+encode-some : (r : Resolve) (scope : Scope) (xs ys : List ValueType) → ((t : ValueType) → Contains ys t → Contains xs t) → CanEncode r scope xs → CanEncode r scope ys
+encode-some r scope xs ys f c = record { packages_ = c.packages_; layered = c.layered; in_range = λ t h. c.in_range t (f t h); fits = λ t h. c.fits t (f t h) }
+
 pub encode-left : (r : Resolve) (scope : Scope) (xs ys : List ValueType) → CanEncode r scope (xs ++ ys) → CanEncode r scope xs
-encode-left r scope xs ys c = record {
-  packages_ = c.packages_;
-  layered = c.layered;
-  in_range = λ t h. c.in_range t (Contains-append_left xs ys t h);
-  fits =
-      λ t h. c.fits t (Contains-append_left xs ys t h);
-}
+encode-left r scope xs ys c = encode-some r scope (xs ++ ys) xs (Contains-append_left xs ys) c
 
 pub encode-right : (r : Resolve) (scope scope' : Scope) (xs ys : List ValueType) → scope' ≡ scope → CanEncode r scope (xs ++ ys) → CanEncode r scope' ys
-encode-right r scope scope' xs ys e c =
-    subst (λ (z : Scope). CanEncode r z ys) (sym e) (record {
-      packages_ = c.packages_;
-      layered = c.layered;
-      in_range = λ t h. c.in_range t (Contains-append_right xs ys t h);
-      fits =
-          λ t h. c.fits t (Contains-append_right xs ys t h);
-    })
+encode-right r scope scope' xs ys e c = encode-some r scope' (xs ++ ys) ys (Contains-append_right xs ys) (subst (λ (z : Scope). CanEncode r z (xs ++ ys)) (sym e) c)
 
 -- ---- counts
 

@@ -1,9 +1,9 @@
 -- Kinds that are the same declare the same tree.
-use Rattle.std.proofs.Common.{◌≡◌, refl, sym, ap, true, false, ◌&&◌, rules, List, [], ◌∷◌, map, Option, option_map}
+use Rattle.std.proofs.Common.{◌≡◌, refl, sym, ap, true, false, ◌&&◌, rules, List, [], ◌∷◌, map, Option, option_map, Bool, cond}
 use Rattle.wit_model.specs.declared.model.{TypeDefKind.TypeDefKind, «Type».«Type» as ValueType}
 use Rattle.wit_model.specs.{Rules.is_named_kind, Types.declared_by, Types.tree_of}
 use Rattle.wit_model.specs.Tree.{Tree, type_, tuple_tree, result_tree, map_tree}
-use Rattle.std.specs.{Option.option_eq, Cmp.Lexicographic.pointwise}
+use Rattle.std.specs.{Prelude.not, Option.option_eq, Cmp.Lexicographic.pointwise}
 use Rattle.encode_types.specs.{Maps.same_kind, Key.same_type, Key.same_param, Key.same_params, Key.same_key, Key.key_signature}
 use Rattle.encode_types.specs.declared.key.FunctionKey.{FunctionKey}
 use Rattle.wit_model.specs.declared.model.TypeDefKind.TheVariants as kind
@@ -25,33 +25,30 @@ types_same (x ∷ xs) [] e = absurd (let z : ⊥ = cc in z)
 types_same (x ∷ xs) (y ∷ ys) e =
     λ i. same_types x y (first_true (same_type x y) (pointwise same_type xs ys) e) i ∷ types_same xs ys (second_true (same_type x y) (pointwise same_type xs ys) e) i
 
+-- an unnamed kind that passes a test where it can't
+pub clash : {P : Type 0} (named passes : Bool) → named ≡ false → passes ≡ true → cond named true (not passes) ≡ true → P
+clash true b n e h = absurd (true≢false n)
+clash false true n e h = absurd (true≢false (sym h))
+clash false false n e h = absurd (true≢false (sym e))
+
 -- an unnamed type is of none of the named kinds
 pub same_tree : (ts : List Tree) (a b : TypeDefKind) → is_named_kind a ≡ false → same_kind a b ≡ true → declared_by ts a ≡ declared_by ts b
 same_tree ts (kind.Option a) (kind.Option b) n e = let h : same_type a b ≡ true = search rules in ap (λ t. declared_by ts (kind.Option t)) (same_types a b h)
-same_tree ts (kind.Option a) other n e = absurd (true≢false (sym e))
 same_tree ts (kind.List a) (kind.List b) n e = let h : same_type a b ≡ true = search rules in ap (λ t. declared_by ts (kind.List t)) (same_types a b h)
-same_tree ts (kind.List a) other n e = absurd (true≢false (sym e))
 same_tree ts (kind.Handle a) (kind.Handle b) n e = let h : kind.Handle a ≡ kind.Handle b = search rules in ap (declared_by ts) h
-same_tree ts (kind.Handle a) other n e = absurd (true≢false (sym e))
 same_tree ts (kind.Tuple a) (kind.Tuple b) n e = let h : pointwise same_type a.types.items b.types.items ≡ true = search rules in ap (λ xs. type_ (tuple_tree (map (tree_of ts) xs))) (types_same _ _ h)
-same_tree ts (kind.Tuple a) other n e = absurd (true≢false (sym e))
 same_tree ts (kind.Result a) (kind.Result b) n e =
     let h = optional_same a.ok b.ok (first_true (option_eq same_type a.ok b.ok) (option_eq same_type a.err b.err) e) in
     let k = optional_same a.err b.err (second_true (option_eq same_type a.ok b.ok) (option_eq same_type a.err b.err) e) in
     λ i. type_ (result_tree (option_map (tree_of ts) (h i)) (option_map (tree_of ts) (k i)))
-same_tree ts (kind.Result a) other n e = absurd (true≢false (sym e))
 same_tree ts (kind.Map a x) (kind.Map b y) n e =
     let h = same_types a b (first_true (same_type a b) (same_type x y) e) in
     let k = same_types x y (second_true (same_type a b) (same_type x y) e) in
     λ i. type_ (map_tree (tree_of ts (h i)) (tree_of ts (k i)))
-same_tree ts (kind.Map a x) other n e = absurd (true≢false (sym e))
 same_tree ts (kind.FixedLengthList a x) (kind.FixedLengthList b y) n e = search rules
-same_tree ts (kind.FixedLengthList a x) other n e = absurd (true≢false (sym e))
 same_tree ts (kind.Future a) (kind.Future b) n e = let h : option_eq same_type a b ≡ true = search rules in ap (λ t. declared_by ts (kind.Future t)) (optional_same a b h)
-same_tree ts (kind.Future a) other n e = absurd (true≢false (sym e))
 same_tree ts (kind.Stream a) (kind.Stream b) n e = let h : option_eq same_type a b ≡ true = search rules in ap (λ t. declared_by ts (kind.Stream t)) (optional_same a b h)
-same_tree ts (kind.Stream a) other n e = absurd (true≢false (sym e))
-same_tree ts a b n e = absurd (true≢false n)
+same_tree ts a b n e = clash (is_named_kind a) (same_kind a b) n e refl
 
 -- ---- keys of functions
 

@@ -1,5 +1,5 @@
 -- What maps learn, call by call.
-use Rattle.std.proofs.Common.{rules as std_rules, ◌≡◌, refl, sym, subst, ap, ◌∙◌, ℕ, ◌⊎◌, false, inl, inr, List, [], ◌∷◌, ◌++◌, map, Option, Some, None, option_to_list, Result, Ok, Err, OnOk, String}
+use Rattle.std.proofs.Common.{rules as std_rules, ◌≡◌, refl, sym, subst, ap, ◌∙◌, ℕ, ◌⊎◌, false, inl, inr, List, [], ◌∷◌, ◌++◌, map, Option, Some, None, option_to_list, Result, OnOk, String}
 use Rattle.std.proofs.lemmas.{List.Elements.Contains-append_cases, Option.same_Some as some-same}
 use Rattle.std.specs.declared.alloc.Global.{Global}
 use Rattle.std.specs.{List.Contains, Borrow.Bor}
@@ -12,7 +12,7 @@ use Rattle.encode_types.specs.Maps.{IsKnown, IsReady, AllReady, HasKind, MapsGro
 use Rattle.encode_types.specs.{Scope.Scope, Counts.Definitions, Counts.SameKeys, Counts.AddsTypes}
 use Rattle.encode_types.specs.MetKinds.{IsKnownKind, IsKnownList, IsReadyKey, KeepsNames, IsHeld, key_types, Learns, LearnsMet, LearnsKindOf}
 use Rattle.encode_types.proofs.{Tables.new-in, Tables.one-more-in, Tables.key-grow, Encoding.learns-nothing, Encoding.learns-both, Encoding.learns-same}
-use Rattle.encode_types.proofs.{Agree.known-grow, Agree.adds-holds, Lists.none-in}
+use Rattle.encode_types.proofs.{Agree.known-grow, Agree.adds-holds, Lists.none-in, Writing.on-three}
 use Rattle.base_lemmas.proofs.Elements.{last_of as one-contained}
 
 pub ready-grow : (m m' : TypeEncodingMaps) (ts : List ValueType) → MapsGrow m m' → AllReady m ts → AllReady m' ts
@@ -137,19 +137,15 @@ module _ {A E : Type 0} (x : Result A E) (r : Resolve) (scope : Scope) (m m' : T
 
   pub learns-call-named : OnOk x (LearnsOne m m' n) → MapsGrow m m' → OnOk x (AddsTypes r scope m m' d d') → OnOk x (m'.def_to_index.entries ≡ m.def_to_index.entries) → AllReady m (parts_of def.kind)
       → (name : String Global) → def.name ≡ Some name → OnOk x (Learns r scope.own_interface m m')
-  learns-call-named one grow counts kinds ready name named = go x one counts kinds
-    where
-      go : (x : Result A E) → OnOk x (LearnsOne m m' n) → OnOk x (AddsTypes r scope m m' d d') → OnOk x (m'.def_to_index.entries ≡ m.def_to_index.entries) → OnOk x (Learns r scope.own_interface m m')
-      go (Ok a) one counts kinds = learns-named r scope.own_interface m m' n def at one grow counts.keys kinds ready (λ none. let e : None ≡ Some name = sym none ∙ named in let z : ⊥ = cc in z)
-      go (Err e) one counts kinds = one
+  learns-call-named one grow counts kinds ready name named = on-three x _ _ _ _
+      (λ one counts kinds. learns-named r scope.own_interface m m' n def at one grow counts.keys kinds ready (λ none. let e : None ≡ Some name = sym none ∙ named in let z : ⊥ = cc in z))
+      one counts kinds
 
   pub learns-call-foreign : OnOk x (LearnsOne m m' n) → MapsGrow m m' → OnOk x (AddsTypes r scope m m' d d') → OnOk x (m'.def_to_index.entries ≡ m.def_to_index.entries)
       → (i : InterfaceId) → foreign_owner scope.own_interface def.owner ≡ Some i → OnOk x (Learns r scope.own_interface m m')
-  learns-call-foreign one grow counts kinds i f = go x one counts kinds
-    where
-      go : (x : Result A E) → OnOk x (LearnsOne m m' n) → OnOk x (AddsTypes r scope m m' d d') → OnOk x (m'.def_to_index.entries ≡ m.def_to_index.entries) → OnOk x (Learns r scope.own_interface m m')
-      go (Ok a) one counts kinds = learns-foreign r scope.own_interface m m' n def at one grow counts.keys kinds (λ none. let e : None ≡ Some i = sym none ∙ f in let z : ⊥ = cc in z)
-      go (Err e) one counts kinds = one
+  learns-call-foreign one grow counts kinds i f = on-three x _ _ _ _
+      (λ one counts kinds. learns-foreign r scope.own_interface m m' n def at one grow counts.keys kinds (λ none. let e : None ≡ Some i = sym none ∙ f in let z : ⊥ = cc in z))
+      one counts kinds
 
 -- ---- types
 

@@ -8,7 +8,7 @@ pub mod Lists
 pub mod Tables
 -- Maps that agree with slots, over what a call adds. Serves define::define_alias, define::define_named, define::define_number, define::define_own and 12 more; crates above.
 pub mod Agree
--- Aliases that are made in the scope around. Serves define::define_parts, encode::encode_shape; crates above.
+-- Aliases that are made in the scope around. Serves Aliasing, Defining; crates above.
 pub mod Around
 -- The order in which types are defined, made step by step. Serves plan, plan::has, plan::order_of, plan::push; crates above.
 pub mod Planning
@@ -33,9 +33,9 @@ pub mod Defining
 pub mod Functions
 -- A loop that feeds a hasher parameter by parameter. Serves key::eq, key::hash_params.
 pub mod KeySteps
+-- How much an encoder has written, call after call. Serves define::define_alias, define::define_named, define::define_new_kind, define::define_number and 10 more; crates above.
+pub mod Writing
 -- What maps learn, call by call. Serves define::define_new_kind, define::define_number, define::define_own, define::define_parts and 6 more; crates above.
 pub mod Learning
 -- A type of the place, from what fits the scope. Serves define::define_kind, define::define_named, define::define_own.
 pub mod Owning
--- How much an encoder has written, call after call. Serves define::define_alias, define::define_named, define::define_new_kind, define::define_number and 10 more; crates above.
-pub mod Writing

@@ -1,6 +1,6 @@
 -- How much an encoder holds, and what it has no room for, call after call.
-use Rattle.std.proofs.Common.{rules as std_rules, ◌≡◌, refl, sym, subst, ap, ◌∙◌, ℕ, zero, suc, ◌+◌, ◌*◌, ◌<◌, ◌≤◌, ◌&&◌, ◌⊎◌, inl, inr, Bool, true, false, cond, List, [], ◌∷◌, ◌++◌, map, length, length-append, append-nil, take, Option, Some, None, arith, nat_eq, Result, OnOk}
-use Rattle.std.proofs.lemmas.{List.Kept.AllPairs-cons, Bool.eqb-true, Bool.or_from as neither, Option.same_Some as some-same}
+use Rattle.std.proofs.Common.{rules as std_rules, ◌≡◌, refl, sym, subst, ap, ◌∙◌, ℕ, suc, ◌+◌, ◌*◌, ◌<◌, ◌≤◌, ◌&&◌, ◌⊎◌, inl, inr, Bool, true, false, cond, List, [], ◌∷◌, ◌++◌, map, length, length-append, append-nil, take, drop, Option, Some, None, arith, nat_eq, Result, OnOk}
+use Rattle.std.proofs.lemmas.{List.Concat.flat_map-append, List.map-append, List.take-append-drop, List.Kept.AllPairs-cons, Bool.eqb-true, Bool.or_from as neither, Option.same_Some as some-same}
 use Rattle.std.proofs.lemmas.List.{Sorted.IsPermutation-sym, Sorted.Contains-permutation, Sorted.length_permutation, Sums.sum_by-cons, Sums.sum_by-append}
 use Rattle.std.proofs.lemmas.List.Elements.{Contains-append_left, Contains-append_right, Contains-append_cases, Contains-get_or}
 use Rattle.std.specs.{Prelude.flat_map, Prelude.is_none, Prelude.option_and_then, Prelude.String, Prelude.IsPermutation, List.Contains, List.AllPairs, List.All}
@@ -249,37 +249,19 @@ only-reached r own ts {m} l = only-more (λ n a. (a.0, a.1, meets-reaches r own 
 
 -- what stands in the beginning of a list
 pub map-taken : {X Y : Type 0} (f : X → Y) (xs : List X) (i : ℕ) (y : Y) → Contains (map f (take i xs)) y → Contains (map f xs) y
-map-taken f [] zero y c = c
-map-taken f [] (suc i) y c = c
-map-taken f (x ∷ xs) zero y c = none-in y c
-map-taken f (x ∷ xs) (suc i) y (zero, l, e) = (zero, omega arith, e)
-map-taken f (x ∷ xs) (suc i) y (suc j, l, e) = let z = map-taken f xs i y (j, omega (arith, l), e) in (suc z.0, (let w = z.1 in omega (arith, w)), z.2)
+map-taken f xs i y c = subst (λ zs. Contains zs y) (sym (map-append f (take i xs) (drop i xs)) ∙ ap (map f) (take-append-drop i xs)) (Contains-append_left _ _ y c)
 
 pub flat-taken : {X Y Z : Type 0} (f : Y → List Z) (g : X → Y) (xs : List X) (i : ℕ) (z : Z) → Contains (flat_map f (map g (take i xs))) z → Contains (flat_map f (map g xs)) z
-flat-taken f g [] zero z c = c
-flat-taken f g [] (suc i) z c = c
-flat-taken f g (x ∷ xs) zero z c = none-in z c
-flat-taken f g (x ∷ xs) (suc i) z c = elim (Contains-append_cases (f (g x)) (flat_map f (map g (take i xs))) z c) [
-  | inl a ↦ Contains-append_left (f (g x)) (flat_map f (map g xs)) z a
-  | inr b ↦ Contains-append_right (f (g x)) (flat_map f (map g xs)) z (flat-taken f g xs i z b)
-]
+flat-taken f g xs i z c = subst (λ zs. Contains zs z)
+    (sym (flat_map-append f (map g (take i xs)) (map g (drop i xs))) ∙ ap (flat_map f) (sym (map-append g (take i xs) (drop i xs)) ∙ ap (map g) (take-append-drop i xs)))
+    (Contains-append_left _ _ z c)
 
 -- what stands in an order is reached
 pub learns-reached : (r : Resolve) (own : Option InterfaceId) (m m' : TypeEncodingMaps) (ts : List ValueType) (items : List ℕ) (k : ℕ) → IsOrderOf r own m ts items
     → LearnsOnly (λ n. Contains (take k items) n) m m' → LearnsOnly (ReachedFrom r own ts) m m'
-learns-reached r own m m' ts items k o l = record {
-  each = λ id i c. elim (l.each id i c) [
-    | inl q ↦ inl q
-    | inr q ↦ (let a = o.added id (taken items k id q) in inr (a.0, a.1, meets-reaches r own m a.0 id a.2))
-  ];
-}
-  where
-    taken : (xs : List ℕ) (k n : ℕ) → Contains (take k xs) n → Contains xs n
-    taken [] zero n c = none-in n c
-    taken [] (suc k) n c = none-in n c
-    taken (x ∷ xs) zero n c = none-in n c
-    taken (x ∷ xs) (suc k) n (zero, l, e) = (zero, omega arith, e)
-    taken (x ∷ xs) (suc k) n (suc i, l, e) = let y = taken xs k n (i, omega (arith, l), e) in (suc y.0, (let z = y.1 in omega (arith, z)), y.2)
+learns-reached r own m m' ts items k o l = only-more
+    (λ n c. let a = o.added n (subst (λ xs. Contains xs n) (take-append-drop k items) (Contains-append_left (take k items) (drop k items) n c)) in
+    (a.0, a.1, meets-reaches r own m a.0 n a.2)) l
 
 -- ---- what has no room
 

@@ -106,15 +106,7 @@ module _ {X : Type 0} (R : X → X → Type 0) (back : (x y : X) → R x y → R
     where
       differ : (a b i j p q : ℕ) → (i ≡ j → ⊥) → ((i ≡ a) × (p ≡ b)) ⊎ (((i ≡ b) × (p ≡ a)) ⊎ ((i ≡ a → ⊥) × (i ≡ b → ⊥) × (p ≡ i)))
           → ((j ≡ a) × (q ≡ b)) ⊎ (((j ≡ b) × (q ≡ a)) ⊎ ((j ≡ a → ⊥) × (j ≡ b → ⊥) × (q ≡ j))) → p ≡ q → ⊥
-      differ a b i j p q n (inl (x, y)) (inl (u, v)) e = n (x ∙ sym u)
-      differ a b i j p q n (inl (x, y)) (inr (inl (u, v))) e = n (x ∙ sym v ∙ sym e ∙ y ∙ sym u)
-      differ a b i j p q n (inl (x, y)) (inr (inr (u, v, w))) e = v (sym w ∙ sym e ∙ y)
-      differ a b i j p q n (inr (inl (x, y))) (inl (u, v)) e = n (x ∙ sym v ∙ sym e ∙ y ∙ sym u)
-      differ a b i j p q n (inr (inl (x, y))) (inr (inl (u, v))) e = n (x ∙ sym u)
-      differ a b i j p q n (inr (inl (x, y))) (inr (inr (u, v, w))) e = u (sym w ∙ sym e ∙ y)
-      differ a b i j p q n (inr (inr (x, y, z))) (inl (u, v)) e = y (sym z ∙ e ∙ v)
-      differ a b i j p q n (inr (inr (x, y, z))) (inr (inl (u, v))) e = x (sym z ∙ e ∙ v)
-      differ a b i j p q n (inr (inr (x, y, z))) (inr (inr (u, v, w))) e = n (sym z ∙ e ∙ w)
+      differ a b i j p q n s t e = n (grind (arith, s, t, e))
 
   pub pairs-permuted : (xs ys : List X) → IsPermutation xs ys → AllPairs R xs → AllPairs R ys
   pairs-permuted xs ys p h = pairs-from ys (IsPermutation-keeps xs Apart (apart-from xs h) (λ l i j li lj k. exchanged l i j li lj k) ys p)
@@ -322,24 +314,19 @@ name-learnt es fs k n e q s = by (lookup (at_name k) es) refl
 pub listed-more : (names : Names) (ps : List Param) (xs : List ℕ) (p : Param) (n : ℕ) → AreListed names ps xs → Contains names (text_of p.name, n)
     → AreListed names (ps ++ p ∷ []) (xs ++ n ∷ type_code p.ty ∷ [])
 listed-more names [] [] p n h c = (c, refl, tt)
-listed-more names [] (x ∷ xs) p n h c = absurd h
-listed-more names (q ∷ ps) [] p n h c = absurd h
-listed-more names (q ∷ ps) (x ∷ []) p n h c = absurd h
 listed-more names (q ∷ ps) (x ∷ y ∷ xs) p n h c = (h.0, h.1, listed-more names ps xs p n h.2 c)
+listed-more names ps xs p n h c = absurd h
 
 pub listed-names : (names : Names) (ps : List Param) (xs : List ℕ) (p : Param) → AreListed names ps xs → Contains ps p → (n : ℕ) × Contains names (text_of p.name, n)
 listed-names names [] xs p h c = none-in p c
-listed-names names (q ∷ ps) [] p h c = absurd h
-listed-names names (q ∷ ps) (x ∷ []) p h c = absurd h
 listed-names names (q ∷ ps) (x ∷ y ∷ xs) p h (zero, l, e) = (x, subst (λ (z : Param). Contains names (text_of z.name, x)) e h.0)
 listed-names names (q ∷ ps) (x ∷ y ∷ xs) p h (suc i, l, e) = listed-names names ps xs p h.2 (i, omega (arith, l), e)
+listed-names names (q ∷ ps) xs p h c = absurd h
 
 pub listed-grow : (names names' : Names) (ps : List Param) (xs : List ℕ) → NamesGrow names names' → AreListed names ps xs → AreListed names' ps xs
 listed-grow names names' [] [] g h = tt
-listed-grow names names' [] (x ∷ xs) g h = absurd h
-listed-grow names names' (q ∷ ps) [] g h = absurd h
-listed-grow names names' (q ∷ ps) (x ∷ []) g h = absurd h
 listed-grow names names' (q ∷ ps) (x ∷ y ∷ xs) g h = (g.kept _ x h.0, h.1, listed-grow names names' ps xs g h.2)
+listed-grow names names' ps xs g h = absurd h
 
 pub key-grow : (names names' : Names) (key : FunctionKey) (xs : List ℕ) → NamesGrow names names' → IsKeyList names key xs → IsKeyList names' key xs
 key-grow names names' key xs g h = record { middle = h.middle; listed = listed-grow names names' key.params.0.now h.middle g h.listed; is = h.is }

@@ -4,7 +4,7 @@ use Rattle.std.proofs.lemmas.List.Elements.{Contains-append_left, Contains-appen
 use Rattle.std.specs.{List.Contains, List.AllZip, Borrow.Bor}
 use Rattle.std.specs.declared.alloc.Global.{Global}
 use Rattle.wit_model.specs.Text.{Text, text_of}
-use Rattle.wit_model.specs.{Tree.Primitive, Tree.primitive, Types.trees_of, Types.tree_of, Types.number_tree}
+use Rattle.wit_model.specs.{Types.trees_of, Types.tree_of, Types.number_tree}
 use Rattle.wit_model.specs.declared.model.{Resolve.Resolve, Record.Record, Variant.Variant, Result_.Result_, TypeId.TypeId, «Type».«Type» as ValueType}
 use Rattle.wit_model.specs.declared.model.{Tuple.Tuple}
 use Rattle.comp_bytes.specs.declared.forms.ComponentValType.{ComponentValType}
@@ -20,20 +20,7 @@ use Rattle.comp_bytes.specs.declared.forms.ComponentDefinedType.TheVariants as f
 
 pub written-stands : (r : Resolve) (m : TypeEncodingMaps) (x : ComponentValType) (t : ValueType) → IsWritten m x t → StandsFor (Says r m) x (tree_of (trees_of r) t)
 written-stands r m x (ty.Id id) w = subst (λ (y : ComponentValType). StandsFor (Says r m) y (number_tree r id.0)) (sym w.1) (by_number id.0, w.2, refl)
-written-stands r m x ty.Bool w = subst (λ (y : ComponentValType). StandsFor (Says r m) y (primitive Primitive.bool)) (sym w) refl
-written-stands r m x ty.U8 w = subst (λ (y : ComponentValType). StandsFor (Says r m) y (primitive Primitive.u8)) (sym w) refl
-written-stands r m x ty.U16 w = subst (λ (y : ComponentValType). StandsFor (Says r m) y (primitive Primitive.u16)) (sym w) refl
-written-stands r m x ty.U32 w = subst (λ (y : ComponentValType). StandsFor (Says r m) y (primitive Primitive.u32)) (sym w) refl
-written-stands r m x ty.U64 w = subst (λ (y : ComponentValType). StandsFor (Says r m) y (primitive Primitive.u64)) (sym w) refl
-written-stands r m x ty.S8 w = subst (λ (y : ComponentValType). StandsFor (Says r m) y (primitive Primitive.s8)) (sym w) refl
-written-stands r m x ty.S16 w = subst (λ (y : ComponentValType). StandsFor (Says r m) y (primitive Primitive.s16)) (sym w) refl
-written-stands r m x ty.S32 w = subst (λ (y : ComponentValType). StandsFor (Says r m) y (primitive Primitive.s32)) (sym w) refl
-written-stands r m x ty.S64 w = subst (λ (y : ComponentValType). StandsFor (Says r m) y (primitive Primitive.s64)) (sym w) refl
-written-stands r m x ty.F32 w = subst (λ (y : ComponentValType). StandsFor (Says r m) y (primitive Primitive.f32)) (sym w) refl
-written-stands r m x ty.F64 w = subst (λ (y : ComponentValType). StandsFor (Says r m) y (primitive Primitive.f64)) (sym w) refl
-written-stands r m x ty.Char w = subst (λ (y : ComponentValType). StandsFor (Says r m) y (primitive Primitive.char)) (sym w) refl
-written-stands r m x ty.String w = subst (λ (y : ComponentValType). StandsFor (Says r m) y (primitive Primitive.string)) (sym w) refl
-written-stands r m x ty.ErrorContext w = subst (λ (y : ComponentValType). StandsFor (Says r m) y (primitive Primitive.error_context)) (sym w) refl
+written-stands r m x t w = subst (λ (y : ComponentValType). StandsFor (Says r m) y (tree_of (trees_of r) t)) (sym w) refl
 
 pub optional-stands : (r : Resolve) (m : TypeEncodingMaps) (x : Option ComponentValType) (t : Option ValueType) → IsWrittenOptional m x t
     → StandsForOptional (Says r m) x (option_map (tree_of (trees_of r)) t)

@@ -53,8 +53,6 @@ module _ (t : Tables) (h : Homes) (ms : List Member) (members : List reads.Membe
           let same = same_name w.home seen.key.now named.0 named.2.named one in
           absurd (view_apart t h ms members input apart s in_views m c w is_world (sym same.0))
 
--- ---- what the page is for
-
 -- ---- lists that are split
 
 pub record Split {A : Type 0} (xs : List A) (y : A) : Type 0 where

@@ -85,7 +85,7 @@ module _ (t : Tables) (kept : List ℕ) (p : Plan) (seen : List NumberedSight) (
       let all = gather qs is zip in
       record { chosen = all.chosen; chosen_are = record { among = all.among; each = λ s c passes. (let there = met s c in all.each s.place there.0 passes there.1) }; zip = all.zip }
 
--- ---- what the page is for
+-- ---- the interfaces of a plan become what each view of their places tells, with the functions of the first that shows some
 
 -- what is told of types alone says what they become
 told_listed : (t : Tables) (kept : List ℕ) (p : Plan) (xs ys : List NumberedType) (es : List (Text × ℕ)) → map told xs ≡ map told ys → AllZip (TypeListed t kept p) xs es

@@ -84,7 +84,7 @@ function_shared (x ∷ xs) h once a b (suc i, l, e) (suc j, k, g) place p q f th
     function_shared xs (second_true (list_all (agree x) xs) (agree_in_numbers xs) h) (λ s c. once s (suc c.0, (let low = c.1 in omega (arith, low)), c.2)) a b (i, omega (arith, l), e)
     (j, omega (arith, k), g) place p q f there
 
--- ---- what the page is for
+-- ---- a type is declared as one and the same wherever it is shown, and views of a place that show functions show the same ones
 
 abbrev pub view_owned : NumberedView → Owned → NumberedView
 view_owned default (a_view v) = v

@@ -133,8 +133,6 @@ module _ (t : Tables) (tables : AreTables t) where
             let name_met = in_signature t tables Met n q name at (function_at t f.1.signature) ranges signature j part found in
             met_shows (length (view_of t s.view).types) name_met.0 (met.names q (name_in t.shapes tables.shapes j n q name found at)) name_met.1
 
--- ---- what the page is for
-
 -- ---- the rules look at what is told alone
 
 module _ (t : Tables) (place : Place) where

@@ -348,7 +348,7 @@ module _ (t : Tables) (h : Homes) (known : ℕ → Fact) (n : ℕ) (ms : List Me
 pub whole_may_be_planned : WholeMayBePlanned
 whole_may_be_planned t h known n ms members given bare = may_be_whole t h known n ms members given bare
 
--- ---- what the page is for
+-- ---- a plan that was made of what was followed means what that means
 
 module _ (t : Tables) (h : Homes) (known : ℕ → Fact) (n : ℕ) (ms : List Member) (members : List reads.Member) (given : IsPackageInput t h known n ms members) (input : IsWholeInput t h n ms) (p : Plan)
     (planned : PlansWhole t h.packages (home_at h) n ms p) (whole : TypesAreWhole t planned.kept ms p) where

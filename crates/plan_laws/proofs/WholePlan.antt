@@ -363,7 +363,7 @@ module _ (t : Tables) (h : Homes) (known : ℕ → Fact) (n : ℕ) (ms : List Me
     inline_home = λ c w m i at among e none. inline_home c w m i at e none;
   }
 
--- ---- what the page is for
+-- ---- a plan that was made of what was followed is one that was read, whole
 
 module _ (t : Tables) (h : Homes) (known : ℕ → Fact) (n : ℕ) (ms : List Member) (members : List reads.Member) (given : IsPackageInput t h known n ms members) (input : IsWholeInput t h n ms) where
   have_places : HavePlaces t h n ms

@@ -210,7 +210,7 @@ module _ (t : Tables) (h : Homes) (known : ℕ → Fact) (n : ℕ) (ms : List Me
     pub kept_for_reasons : IsKeptForReasons t h kept p b
     kept_for_reasons = record { types = types_kept; ids = no_id; packages = packages_kept }
 
--- ---- what the page is for
+-- ---- each instance of a world whose place has no path is one that is imported or exported
 
 module _ (t : Tables) where
   instances_many : (is : List NumberedInstance) → length (filter (has_no_path t) (map (λ (i : NumberedInstance). i.place) is)) ≡ length (filter (no_path t) is)

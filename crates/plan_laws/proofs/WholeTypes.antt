@@ -344,8 +344,6 @@ module _ (t : Tables) (h : Homes) (known : ℕ → Fact) (n : ℕ) (ms : List Me
         by m c (sources.by_whole s there whole g among same) = by_view s (view_among ms m c s there) whole g among (subst (λ z. Contains (function_parts t z) old) (sym same) part)
         by m c (sources.by_world w is s side shows) = by_world m c w is s side k shows part
 
--- ---- what the page is for
-
 -- ---- views of places that have a path
 
 module _ (t : Tables) where

@@ -329,7 +329,7 @@ module _ (t : Tables) (h : Homes) (known : ℕ → Fact) (n : ℕ) (ms : List Me
 pub planned_worlds_are_read : PlannedWorldsAreRead
 planned_worlds_are_read t h known n ms members given ordered apart followed p planned b known_is owned functions = search (std_rules, worlds_are_read)
 
--- ---- what the page is for
+-- ---- the interfaces that worlds import and export, by the numbers of their places
 
 module _ (places : List ℕ) where
   -- the place has the number

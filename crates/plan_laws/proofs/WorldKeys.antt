@@ -231,7 +231,7 @@ planned_worlds_stand t h ms members input agreed ordered apart n p planned b own
   types = types_read t h ms members input agreed ordered apart n p planned b owners m w at;
 }
 
--- ---- what the page is for
+-- ---- the imports of a world stand under keys that differ, and a world has a place of its own
 
 -- the import of a key is one
 pub one_key : (ss : List NumberedSeen) → distinct (map (λ (s : NumberedSeen). s.key) ss) ≡ true → (a b : NumberedSeen) → Contains ss a → Contains ss b → a.key ≡ b.key → a ≡ b

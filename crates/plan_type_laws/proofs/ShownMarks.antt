@@ -222,8 +222,6 @@ module _ (t : Tables) (tables : AreTables t) (kinds : Text → Text → Bool) (o
         (λ f is. call_marked p k.own has f.1.signature is) v.functions k.functions),
   )
 
--- ---- what the page is for
-
 -- ---- places and the kinds of their names
 
 -- a place, and which of its names are resources

@@ -145,7 +145,7 @@ module _ (t : Tables) (tables : AreTables t) (P : Form → List ℕ → Type 0) 
           let one : EachForm t P (14 + n) = subst (AllOf (EachForm t P)) same all in
           one.holds n form parts (itself (14 + n) n refl) there
 
--- ---- what the page is for
+-- ---- what is shown of what was read obeys the rules
 
 module _ (t : Tables) (tables : AreTables t) where
   abbrev Hold : List NumberedShowing → List ℕ → Type 0

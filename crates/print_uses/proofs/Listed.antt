@@ -130,7 +130,7 @@ module _ (r : Resolve) where
 pub some_mapped : (u : Option Use) → is_some (option_map shown_use u) ≡ is_some u
 some_mapped x = search std_rules
 
--- ---- what the page is for
+-- ---- one type of an owner's list after the other is printed
 
 -- a type under its name
 abbrev entry : Bor Text × TypeId → Listed

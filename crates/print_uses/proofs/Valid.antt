@@ -453,7 +453,7 @@ module _ (r : Resolve) (valid : IsValid r) where
             (both (is_well_prefix (shown_prefix def.docs def.stability def.external_id)) _ (shown_prefix_well def.docs def.stability def.external_id gates)
             (declared_well r valid o functions listed.id def e (name_well r valid listed.id.0 def e (left_of _ _ own)) functions_known))
 
--- ---- what the page is for
+-- ---- what is shown of a valid `Resolve`'s interfaces is well named
 
 module _ (r : Resolve) (valid : IsValid r) where
   -- ---- functions

@@ -4,7 +4,7 @@ use Rattle.std.proofs.{Math.ListN.length-map, lemmas.List.append-nil, lemmas.Opt
 use Rattle.std.proofs.lemmas.Bool.{cases_lt}
 use Rattle.std.specs.{List.AllByRecursion, List.list_any, Option.option_map_or}
 use Rattle.wit_model.specs.{Meaning.Signature, Text.Text, Text.text_eq, Tree.Place, Tree.Tree}
-use Rattle.comp_bytes.specs.{Levels.Entry as RawEntry, Levels.holds, Levels.entry_at, Raw.Alias, Raw.Declaration, Raw.DefinedType, Raw.FunctionType}
+use Rattle.comp_bytes.specs.{FirstByte.function_type_at, Levels.Entry as RawEntry, Levels.holds, Levels.plain, Levels.entry_at, Raw.Alias, Raw.Declaration, Raw.DefinedType, Raw.FunctionType}
 use Rattle.comp_bytes.specs.Reading.{◌>>=◌, Reader, sequence_at}
 use Rattle.comp_meaning.specs.{ByLevels.all_used, ByLevels.entry_scope, ByLevels.entry_step, Reads.steps}
 use Rattle.comp_meaning.specs.Follow.{Scope as MeantScope, component_step, definition, exported_slot, find_type, function_signature, in_scope, new_scope, provided}
@@ -14,13 +14,15 @@ use Rattle.read_follow.specs.{Defining.AddsForms, Defining.Grows, Defining.IsDef
 use Rattle.read_follow.specs.Following.{shown_type, AreTables, IsShownIn, IsSlotIn, IsTypeSlot}
 use Rattle.read_follow.specs.Functions.{functions_in, signature_in, FunctionShape, IsFunctionIn}
 use Rattle.read_follow.specs.Numbering.{all_in, bare_parts, parts_in, scoped_trees, slot_parts, trees_along, trees_since, CountUp}
+use Rattle.read_follow.specs.{Pieces.AreAlike, ReadKeys.function_byte}
 use Rattle.read_follow.specs.{Placed.apart, Placed.HasNoNames, Placed.MayMeet, Placed.SignatureOver, Placed.SlotOver, Places.has_path, Places.ArePlacesOf}
-use Rattle.read_follow.specs.Scopes.{are_settled, find_slot, instance_in, meant_at, path_of, slot_of_instance, start_of, taken_from, waiting, weight, weights, world_signatures, world_trees, Goes, HasStages, IsFollowedTo, IsInstanceIn, IsPlacedWorld, IsScopedIn, IsScopeOf, IsStage, IsWorld, Stops, World}
+use Rattle.read_follow.specs.Scopes.{are_settled, find_slot, instance_in, meant_at, path_of, slot_of_instance, start_of, taken_from, waiting, weight, weights, world_signatures, world_trees, Enters, Goes, HasStages, IsFollowedTo, IsInstanceIn, IsPlacedWorld, IsScopedIn, IsScopeOf, IsStage, IsWorld, Stops, StopsAt, World}
 use Rattle.read_follow.specs.Slots.{no_signature, resource_slot, slot_in, slots_in, AreNames, IsName}
 use Rattle.plan_meaning.specs.Shapes.{Shape, named_shape, node_shape, part_tree, shape_trees, IsTable}
 use Rattle.read_follow.proofs.DefiningLaws.{all_at, longer, no_shapes, same_list, scoped_grown}
 use Rattle.read_follow.proofs.FollowingLaws.{functions_wider, joins_all, joins_grow, names_of, ranges_of, slot_counted}
 use Rattle.read_follow.proofs.{NumberingLaws.count_below, NumberingLaws.count_scoped, PlacedLaws.stood, ScopedLaws.all_still_scoped, ScopedLaws.slot_numbered}
+use Rattle.read_follow.proofs.{ReadKeyLaws.entered_as, ReadKeyLaws.function_entry, SectionLaws.alike}
 use Rattle.read_follow.proofs.{OverLaws.definition_over, OverLaws.signature_over, PlaceLaws.below_pathless, Refusing.refused, SlotLaws.mapped_none}
 use Rattle.read_follow.proofs.PlacedScopes.{extended_placed, found_over, none_past, path_marked, path_met}
 use Rattle.read_follow.proofs.ScopeLaws.{all_before, extended_world, goes_on, none_behind, plus_slot, waiting_push, waits}
@@ -50,6 +52,30 @@ goes_as few f g old new same s = record {
 
 pub stops_as : (f g : MeantScope → Option MeantScope) (old : World) (paths : List (Option Text)) (e : Refusal) → ((m : MeantScope) → g m ≡ f m) → Stops f old paths e → Stops g old paths e
 stops_as f g old paths e same h place of = refused e (f (meant_at place old)) (g (meant_at place old)) (λ none. same (meant_at place old) ∙ none) (h place of)
+
+-- ---- the entry in front
+
+module _ (old : World) (bytes : List ℕ) where
+  -- it was read, and followed
+  pub read_goes : (x : RawEntry) (rest : List ℕ) (new : World) → entry_at bytes ≡ Some (x, rest) → Goes (weight x) (λ m. entry_step m x) old new → Enters bytes rest old new
+  read_goes x rest new e g y behind is =
+      let same : (x, rest) ≡ (y, behind) = some_same (x, rest) (y, behind) (sym e ∙ is) in
+      (ap (λ (p : RawEntry × List ℕ). p.1) same, subst (λ (p : RawEntry × List ℕ). Goes (weight p.0) (λ m. entry_step m p.0) old new) same g)
+
+  pub read_stops : (x : RawEntry) (rest : List ℕ) (paths : List (Option Text)) (e : Refusal) → entry_at bytes ≡ Some (x, rest) → Stops (λ m. entry_step m x) old paths e → StopsAt bytes old paths e
+  read_stops x rest paths e is h y behind at =
+      let same : (x, rest) ≡ (y, behind) = some_same (x, rest) (y, behind) (sym is ∙ at) in
+      subst (λ (p : RawEntry × List ℕ). Stops (λ m. entry_step m p.0) old paths e) same h
+
+  -- none is there
+  pub unread_stops : (paths : List (Option Text)) (e : Refusal) → Refuses e (entry_at bytes) → StopsAt bytes old paths e
+  unread_stops paths e r x behind at place of = refused e (entry_at bytes) (entry_step (meant_at place old) x) (λ none. absurd (not_found (x, behind) (sym none ∙ at))) r
+    where
+      not_found : (found : RawEntry × List ℕ) → None ≡ Some found → ⊥
+      not_found found h = absurd cc
+
+pub stops_alike : (e other : Refusal) (bytes : List ℕ) (old : World) (paths : List (Option Text)) → AreAlike e other → StopsAt bytes old paths e → StopsAt bytes old paths other
+stops_alike e other bytes old paths a h x behind at place of = alike e other (entry_step (meant_at place old) x) a (h x behind at place of)
 
 -- ---- a sequence
 
@@ -160,6 +186,35 @@ module _ (old : World) (st : IsWorld old) where
       → Stops (λ m. component_step m (Declaration.function f)) old old.paths e
   signed_stops f e r place of = refused e (function_signature (meant_at place old).slots f) (component_step (meant_at place old) (Declaration.function f))
       (λ none. ap (λ o. o >>= λ s. Some (in_scope (follow.function s) (meant_at place old))) none) (r (world_trees place old) (world_signatures place old))
+
+  -- the type of a function is in front, and is followed as it is read
+  module _ (is_async : Bool) (bytes front : List ℕ) (begins : bytes ≡ 1 ∷ function_byte is_async ∷ front) where
+    pub function_enters : (rest : List ℕ) (more_fs : List FunctionShape) (ss : List Slot)
+        → ((f : FunctionType) (behind : List ℕ) → function_type_at is_async front ≡ Some (f, behind) → (rest ≡ behind) × IsDefinedFunction old.signatures old.slots f more_fs ss)
+        → Enters bytes rest old (with_slots old.shapes more_fs ss)
+    function_enters rest more_fs ss h x behind at = by (function_type_at is_async front) refl (sym (function_entry is_async bytes front begins) ∙ at)
+      where
+        by : (o : Option (FunctionType × List ℕ)) → function_type_at is_async front ≡ o → entered_as o ≡ Some (x, behind)
+            → (rest ≡ behind) × Goes (weight x) (λ m. entry_step m x) old (with_slots old.shapes more_fs ss)
+        by None e s = absurd cc
+        by (Some f) e s =
+            let same : (plain (Declaration.function f.0), f.1) ≡ (x, behind) = some_same (plain (Declaration.function f.0), f.1) (x, behind) s in
+            let d = h f.0 f.1 e in (
+              d.0 ∙ ap (λ (p : RawEntry × List ℕ). p.1) same,
+              subst (λ (p : RawEntry × List ℕ). Goes (weight p.0) (λ m. entry_step m p.0) old (with_slots old.shapes more_fs ss)) same (signed_goes f.0 more_fs ss d.1),
+            )
+
+    pub function_stops : (e : Refusal)
+        → ((f : FunctionType) (behind : List ℕ) → function_type_at is_async front ≡ Some (f, behind) → (T : List Tree) (F : List Signature) → Refuses e (function_signature (slots_in T F old.slots) f))
+        → StopsAt bytes old old.paths e
+    function_stops e h x behind at = by (function_type_at is_async front) refl (sym (function_entry is_async bytes front begins) ∙ at)
+      where
+        by : (o : Option (FunctionType × List ℕ)) → function_type_at is_async front ≡ o → entered_as o ≡ Some (x, behind)
+            → Stops (λ m. entry_step m x) old old.paths e
+        by None e s = absurd cc
+        by (Some f) is s =
+            let same : (plain (Declaration.function f.0), f.1) ≡ (x, behind) = some_same (plain (Declaration.function f.0), f.1) (x, behind) s in
+            subst (λ (p : RawEntry × List ℕ). Stops (λ m. entry_step m p.0) old old.paths e) same (signed_stops f.0 e (h f.0 f.1 is))
 
   -- ---- aliases
 
@@ -435,6 +490,23 @@ module _ (start : World) (b : Body) where
           let place = place_in paths in
           refused e (entry_step (meant_at place now) x) (entry_scope all)
           (λ none. ap whole_scope (steps_on place (places_before now.paths paths grows place (places_are paths)) None none p.0 p.2)) (h place (places_are paths))
+
+    -- the entry that is in front is followed, whichever it is
+    pub entered_on : (behind : List ℕ) (next : World) → Enters rest behind now next → IsFollowedTo start b (i + 1) behind next
+    entered_on behind next g = by (entry_at rest) refl
+      where
+        by : (o : Option (RawEntry × List ℕ)) → entry_at rest ≡ o → IsFollowedTo start b (i + 1) behind next
+        by None e = absurd (unread entry_at (b.count - (i + 1)) rest f.es left_here e)
+        by (Some x) e =
+            let h = g x.0 x.1 e in
+            subst (λ (bytes : List ℕ). IsFollowedTo start b (i + 1) bytes next) (sym h.0) (followed_on x.0 x.1 e next h.1)
+
+    pub stopped_on : (paths : List (Option Text)) (e : Refusal) → Grows now.paths paths → StopsAt rest now paths e → Refuses e (entry_scope all)
+    stopped_on paths e grows h = by (entry_at rest) refl
+      where
+        by : (o : Option (RawEntry × List ℕ)) → entry_at rest ≡ o → Refuses e (entry_scope all)
+        by None none = absurd (unread entry_at (b.count - (i + 1)) rest f.es left_here none)
+        by (Some x) is = nothing_on x.0 x.1 is paths e grows (h x.0 x.1 is)
 
   pub followed_whole : (i : ℕ) (rest : List ℕ) (now : World) → IsFollowedTo start b i rest now → i ≤ b.count → b.count ≤ i → IsFollowedTo start b b.count [] now
   followed_whole i rest now f le ge =

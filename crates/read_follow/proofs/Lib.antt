@@ -14,7 +14,7 @@ pub mod DefiningLaws
 pub mod OverLaws
 -- Names stay in their places as a scope goes on. Serves ComponentLaws, FollowingLaws, PlacedScopes, ScopeLaws and 4 more; crates above.
 pub mod PlacedLaws
--- A refusal is passed on. Serves bodies::entries_alone, bodies::entries_from, bodies::entry_items, bodies::entry_of and 18 more; crates above.
+-- A refusal is passed on. Serves bodies::entries_alone, bodies::entries_from, bodies::entry_items, bodies::entry_of and 24 more; crates above.
 pub mod Refusing
 -- A scope of an instance type in tables that grow, and what each declaration does to it. Serves components::enter, components::see, components::step, instances::step and 2 more; crates above.
 pub mod FollowingLaws
@@ -28,20 +28,25 @@ pub mod PlaceLaws
 pub mod ScopeLaws
 -- Names stay in their places as a scope of a component type goes on. Serves ComponentLaws, SeeLaws, UsedLaws; crates above.
 pub mod PlacedScopes
--- The scopes of types: a type is over names of its scope's place and of places with a path. Serves ComponentLaws, SeeLaws, StepLaws, UsedLaws; crates above.
-pub mod ScopedLaws
--- One declaration of an instance type after the other. Serves instances::follow_body, instances::follow_instance, instances::step; crates above.
-pub mod StepLaws
--- One entry of a component type after the other. Serves components::enter, components::follow_component, components::follow_entries, components::see and 1 more; crates above.
-pub mod ComponentLaws
 -- A declaration is read by its first bytes. Serves declarations::declaration_of.
 pub mod DeclarationLaws
+-- An entry is read by the bytes in front of it. Serves bodies::entry_items, bodies::entry_of, bodies::skip_entry.
+pub mod EntryLaws
+-- The scopes of types: a type is over names of its scope's place and of places with a path. Serves ComponentLaws, SeeLaws, StepLaws, UsedLaws; crates above.
+pub mod ScopedLaws
+-- One declaration of an instance type after the other. Serves instances::follow_body, instances::follow_instance, instances::step, signatures::params_in; crates above.
+pub mod StepLaws
+-- Types of functions that are followed as they are read: what they stand for is what those stand for that are read first. Serves defining::define_function_at, signatures::function_key_at,
+-- signatures::outcome_in, signatures::param_in.
+pub mod ReadKeyLaws
+-- Sections in front of bytes, and those behind them. Serves instances::follow_body, sections::component_of, sections::custom_of, sections::frame_of and 1 more; crates above.
+pub mod SectionLaws
+-- One entry of a component type after the other. Serves components::enter, components::enter_front, components::enter_read, components::follow_component and 3 more; crates above.
+pub mod ComponentLaws
 -- The key of each form, from the parts that its indexes stand for. Serves definition_keys::borrow_key, definition_keys::definition_of, definition_keys::enum_key, definition_keys::fixed_list_key and 8
 -- more.
 pub mod DefinitionKeyLaws
--- An entry is read by the bytes in front of it. Serves bodies::entry_items, bodies::entry_of, bodies::skip_entry.
-pub mod EntryLaws
--- What is behind a form that is read to find its end. Serves bodies::skip_declaration, bodies::skip_entry, bodies::skip_held, skips::skip_definition and 7 more.
+-- What is behind a form that is read to find its end. Serves bodies::skip_declaration, bodies::skip_entry, bodies::skip_held, signatures::param_list_in and 8 more.
 pub mod SkipLaws
 -- Entries, the first of which is read already: the others are what is behind it, also where the entries are cut from the bytes. Serves bodies::entries_from, bodies::entry_items.
 mod FirstLaws
@@ -51,7 +56,8 @@ pub mod FrontReaders
 pub mod KeyLaws
 -- Rows, one after the other. Serves definition_keys::case_parts, definition_keys::enum_key, definition_keys::field_parts, definition_keys::flags_key and 4 more.
 pub mod RowLaws
--- Keys of types of functions are the same exactly where their shapes are; and what a key is made of. Serves functions::put, signatures::function_key_of, signatures::params_of.
+-- Keys of types of functions are the same exactly where their shapes are; and what a key is made of. Serves functions::put, signatures::function_key_at, signatures::function_key_of,
+-- signatures::params_in and 1 more.
 pub mod FunctionKeyLaws
 -- Declarations of an instance type: those of which none is an import. Serves bodies::held_items, bodies::held_of.
 pub mod HeldLaws
@@ -61,8 +67,6 @@ pub mod LookUpLaws
 pub mod NameTableLaws
 -- A type at the top is read by the bytes in front of it. Serves part_types::part_behind_of.
 pub mod PartTypeLaws
--- Sections in front of bytes, and those behind them. Serves components::follow_entries, instances::follow_body, sections::component_of, sections::custom_of and 2 more; crates above.
-pub mod SectionLaws
 -- What the exports of an instance type show. Serves shows::declared_by, shows::show, shows::show_function, shows::show_type.
 pub mod ShowLaws
 -- What imports, exports and aliases of a component type show. Serves seeing::see_function, seeing::see_type.

@@ -12,6 +12,7 @@ pub mod Placed
 pub mod DefinitionKeys
 pub mod Rows
 pub mod Functions
+pub mod ReadKeys
 pub mod Defining
 pub mod Following
 pub mod InstanceScopes

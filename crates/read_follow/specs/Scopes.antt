@@ -318,6 +318,15 @@ abbrev pub StopsBy : {A : Type 0} → (MeantScope → Option MeantScope) → Lis
 StopsBy step before old result = (fs : List FunctionShape) (paths : List (Option Text)) → IsWorld (world_of before fs paths old)
     → IfErr result (Stops step (world_of before fs paths old) paths)
 
+-- If an entry stands in front of the bytes, then these others stand behind it, and the world goes on by it.
+abbrev pub Enters : List ℕ → List ℕ → World → World → Type 0
+Enters bytes rest old new = (x : RawEntry) (behind : List ℕ) → entry_at bytes ≡ Some (x, behind)
+    → (rest ≡ behind) × Goes (weight x) (λ m. entry_step m x) old new
+
+-- a refusal of it
+abbrev pub StopsAt : List ℕ → World → List (Option Text) → Refusal → Type 0
+StopsAt bytes old paths e = (x : RawEntry) (behind : List ℕ) → entry_at bytes ≡ Some (x, behind) → Stops (λ m. entry_step m x) old paths e
+
 -- ---- aliases
 
 -- the slot of the first type of this name

@@ -1,15 +1,16 @@
 //! Component types of worlds and interfaces, followed entry by entry.
 
-ghost use Rattle.std.specs.Prelude.{◌≡◌, [], None, Some, length, slice_get, IfErr, IfOk, OnOk};
+ghost use Rattle.std.specs.Prelude.{◌≡◌, [], None, Some, length, slice_get, IfErr, IfOk, IfSome, OnOk};
 ghost use Rattle.comp_bytes.specs.{Levels.entry_at, RawOf.raw_alias};
 ghost use Rattle.comp_meaning.specs.{ByLevels.entry_scope, ByLevels.entry_step, Follow.component_step, Follow.see_described as see_described_lem};
-ghost use Rattle.read_follow.specs.{Bodies.raw_entry, Bodies.items_in, Bodies.AreEntries, Bodies.IsWhole, Declares.raw_declared, Found.Gives, Found.Refuses};
+ghost use Rattle.read_follow.specs.{Bodies.raw_entry, Bodies.items_in, Bodies.AreEntries, Bodies.IsInFront, Bodies.IsWhole, Declares.raw_declared, Found.Gives, Found.Refuses};
 ghost use Rattle.read_follow.specs.{Defining.Grows, ExternNames.raw_name, Following.AreTables, NameTables.AreNamesOf, Placed.HasNoNames};
-ghost use Rattle.read_follow.specs.Scopes.{are_settled as are_settled_lem, direction, is_settled as is_settled_lem, start_of, taken_from, weight, world_of, Goes, IsFollowedTo, IsScopeOf, IsWorld, Stops};
+ghost use Rattle.read_follow.specs.Scopes.{are_settled as are_settled_lem, direction, is_settled as is_settled_lem, start_of, taken_from, weight, world_of, Enters, Goes, IsFollowedTo, IsScopeOf, IsWorld, Stops, StopsAt};
 
-use crate::bodies::{Entries, Entry, front_entry};
+use crate::bodies::{Body, Entries, Entry, front_entry};
 use crate::declarations::Declared;
-use crate::defining::{define, define_function};
+use crate::defining::{define, define_function, define_function_at};
+use crate::front::function_in_front;
 use crate::functions::Functions;
 use crate::instances::seen_at;
 use crate::name_tables::NameTables;
@@ -186,6 +187,68 @@ fn index_left(entry: &Entry<'_>, left: usize) -> usize {
     }
 }
 
+/// Reads the entry in front, and follows it. Gives the bytes behind it.
+fn enter_read<'a>(
+    alloc: Global,
+    table: &mut Table<'a>,
+    functions: &mut Functions<'a>,
+    places: &mut Places,
+    names: &mut NameTables<'a>,
+    scope: &mut Scope<'a>,
+    known: Option<(Body<'a>, &'a [u8])>,
+    bytes: &'a [u8],
+) -> Result<&'a [u8], Refusal>
+    requires world { IsWorld (world_of table.old functions.old places.old scope.old) }
+    requires names { AreNamesOf names.old scope.old.instances.items }
+    requires known { IfSome known (λ first. IsInFront first bytes.now) }
+    ensures followed { IfOk result (λ rest. Enters bytes.now rest.now (world_of table.old functions.old places.old scope.old)
+        (world_of table.new functions.new places.new scope.new)) }
+    ensures absent { IfErr result (StopsAt bytes.now (world_of table.old functions.old places.old scope.old) places.new) }
+    ensures grows { Grows places.old places.new }
+    ensures names { OnOk result (AreNamesOf names.new scope.new.instances.items) }
+{
+    match front_entry(alloc, known, bytes) {
+        Ok((entry, rest)) => {
+            match enter(alloc, table, functions, places, names, scope, &entry) {
+                Ok(()) => Ok(rest),
+                Err(refusal) => Err(seen_at(refusal, index_left(&entry, bytes.len()))),
+            }
+        }
+        Err(refusal) => Err(refusal),
+    }
+}
+
+/// The same, by the first bytes: the type of a function is followed as it is read, with no list of its own for its parameters.
+fn enter_front<'a>(
+    alloc: Global,
+    table: &mut Table<'a>,
+    functions: &mut Functions<'a>,
+    places: &mut Places,
+    names: &mut NameTables<'a>,
+    scope: &mut Scope<'a>,
+    known: Option<(Body<'a>, &'a [u8])>,
+    bytes: &'a [u8],
+) -> Result<&'a [u8], Refusal>
+    requires world { IsWorld (world_of table.old functions.old places.old scope.old) }
+    requires names { AreNamesOf names.old scope.old.instances.items }
+    requires known { IfSome known (λ first. IsInFront first bytes.now) }
+    ensures followed { IfOk result (λ rest. Enters bytes.now rest.now (world_of table.old functions.old places.old scope.old)
+        (world_of table.new functions.new places.new scope.new)) }
+    ensures absent { IfErr result (StopsAt bytes.now (world_of table.old functions.old places.old scope.old) places.new) }
+    ensures grows { Grows places.old places.new }
+    ensures names { OnOk result (AreNamesOf names.new scope.new.instances.items) }
+{
+    match function_in_front(bytes) {
+        Some((is_async, behind)) => {
+            match define_function_at(alloc, functions, &mut scope.slots, is_async, behind) {
+                Ok(rest) => Ok(rest),
+                Err(refusal) => Err(seen_at(refusal, bytes.len())),
+            }
+        }
+        None => enter_read(alloc, table, functions, places, names, scope, known, bytes),
+    }
+}
+
 /// An empty scope, whose own names stand in the place of this number.
 fn new_scope<'a>(alloc: Global, home: u32) -> Scope<'a>
     ensures home { result.home ≡ home }
@@ -227,17 +290,12 @@ fn follow_entries<'a>(
     let mut first = entries.first;
     let mut rest = entries.body.bytes;
     for _ in 0..entries.body.count {
-        match front_entry(alloc, first, rest) {
-            Ok((entry, behind)) => {
-                match enter(
-                    alloc, table, functions, places, &mut names, &mut scope, &entry,
-                ) {
-                    Ok(()) => {
-                        first = None;
-                        rest = behind;
-                    }
-                    Err(refusal) => return Err(seen_at(refusal, index_left(&entry, rest.len()))),
-                }
+        match enter_front(
+            alloc, table, functions, places, &mut names, &mut scope, first, rest,
+        ) {
+            Ok(behind) => {
+                first = None;
+                rest = behind;
             }
             Err(refusal) => return Err(refusal),
         }

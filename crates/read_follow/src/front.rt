@@ -1,8 +1,8 @@
 //! Numbers, names and single bytes at the front.
 
-ghost use Rattle.std.specs.Prelude.{◌≡◌};
-ghost use Rattle.comp_bytes.specs.Reading.{byte_at, u32_at, type_index_at, name_at};
-ghost use Rattle.read_follow.specs.Found.{Finds};
+ghost use Rattle.std.specs.Prelude.{◌≡◌, ◌∷◌, IfSome};
+ghost use Rattle.comp_bytes.specs.Reading.{name_at, type_index_at, u32_at};
+ghost use Rattle.read_follow.specs.{Found.Finds, ReadKeys.function_byte};
 
 use crate::refusal::{Refusal, refusal_of};
 use comp_bytes::{read_index, read_name, read_u32};
@@ -20,6 +20,26 @@ pub(crate) fn u32_of(bytes: &[u8]) -> Result<(u32, &[u8]), Refusal>
     match read_u32(bytes, 0) {
         Ok((number, end)) => Ok((number, bytes.split_at(end).1)),
         Err(error) => Err(refusal_of(error, bytes.len())),
+    }
+}
+
+/// If the declaration of a function's type stands in front: whether the function is asynchronous, and the bytes behind those two that say so.
+pub(crate) fn function_in_front(bytes: &[u8]) -> Option<(bool, &[u8])>
+    ensures { IfSome result (λ x. bytes.now ≡ 1 ∷ function_byte x.0 ∷ x.1.now) }
+{
+    let Some((first, behind)) = bytes.split_first() else {
+        return None;
+    };
+    let Some((second, rest)) = behind.split_first() else {
+        return None;
+    };
+    if *first != 0x01 {
+        return None;
+    }
+    match *second {
+        0x40 => Some((false, rest)),
+        0x43 => Some((true, rest)),
+        _ => None,
     }
 }
 

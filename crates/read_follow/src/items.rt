@@ -61,8 +61,9 @@ impl<'a> Form<'a> for &'a str {
 }
 
 /// A field or a parameter: its name and its type.
+#[inline(always)]
 #[tactic(auto, unfolding(comp_bytes::specs::Reading::field_at, comp_bytes::specs::Reading::pair_at, comp_bytes::specs::Reading::as_at))]
-fn field_of(bytes: &[u8]) -> Result<((&str, ComponentValType), &[u8]), Refusal>
+pub(crate) fn field_of(bytes: &[u8]) -> Result<((&str, ComponentValType), &[u8]), Refusal>
     ensures { Finds labeled result (field_at bytes.now) }
 {
     let (name, rest) = name_of(bytes)?;

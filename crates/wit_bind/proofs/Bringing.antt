@@ -14,7 +14,7 @@ use Rattle.bind_meaning.specs.{Binding.package_text, ByNumbers.interfaces_by_pat
 use Rattle.bind_meaning.proofs.Listed.{given as unpacked}
 use Rattle.bind_carry.specs.{First.flag_under, MatchedSame.AreMatchedAt, Renumbered.is_matched, TooLong.CarriedThings, Which.AreMatchedAll, Which.IsNumbered}
 use Rattle.bind_carry.specs.Marked.{AreChosen}
-use Rattle.bind_carry.proofs.{FirstCarried.chosen_so, FirstOfUnion.found_own, Ranges.is_in_range, NamesGained.new_world_flag as world_flag}
+use Rattle.bind_carry.proofs.{FirstNumbers.chosen_so, FirstOfUnion.found_own, Ranges.is_in_range, NamesGained.new_world_flag as world_flag}
 use Rattle.wit_bind.specs.Comes.{is_new_interface, is_new_package, is_new_world, is_one_of}
 use Rattle.base_lemmas.proofs.{Bools.left_of as first_true, Bools.right_of as second_true, Lists.mapped_get as mapped_at}
 

@@ -21,11 +21,11 @@ use Rattle.bind_carry.specs.{ReadyItems.IsKeyReady, BoundGains.bound_fates, Firs
 use Rattle.bind_carry.specs.{Marked.AreChosen, Packaged.IsPackageCarried, Renumbered.first_of, Renumbered.is_copied, TooLong.CarriedThings, TooLong.TypeFates}
 use Rattle.bind_carry.specs.{First.first_fates, First.flag_under, Numbers.interface_number, Numbers.numbers_of, Numbers.package_number, Numbers.world_number}
 use Rattle.bind_carry.specs.{SecondPass.second_pass_of, SecondPass.IsSecondPass, Whole.home_under, Whole.IsInterfaceCarried, Whole.IsWorldCarried}
-use Rattle.bind_carry.proofs.{Joined.new_same, FirstNumbers.names, FirstWorlds.first_is_copied, NothingElse.type_from, SecondCarried.second_is_copied}
+use Rattle.bind_carry.proofs.{Joined.new_same, FirstNumbers.names, FirstWorlds.first_is_copied, SecondPass.type_from, SecondPass.second_is_copied}
 use Rattle.bind_carry.proofs.{UnionKeys.carried_path, CopiesPlaced.copied_home, CopiesPlaced.copy_placed, WorldEntries.export_keyed, WorldEntries.import_keyed}
-use Rattle.bind_carry.proofs.{InsertedBehind.all_behind, InsertedBehind.filter_passes, SecondMet.known as second_known, SecondMet.stood_how as second_stood}
-use Rattle.bind_carry.proofs.{FirstInterfaces.stood_how as first_stood, FirstWorldsCopied.first_worlds_are_copied, KeptPlaced.kept_placed, KeptPlaced.IsKeptAt}
-use Rattle.bind_carry.proofs.{SecondInterfaces.carried_number, SecondInterfaces.inline_at, SecondInterfaces.inline_place, SecondKnown.chosen, SecondKnown.long}
+use Rattle.bind_carry.proofs.{InsertedBehind.all_behind, InsertedBehind.filter_passes, SecondPass.known as second_known, SecondPass.stood_how as second_stood}
+use Rattle.bind_carry.proofs.{FirstInterfaces.stood_how as first_stood, FirstWorlds.first_worlds_are_copied, KeptPlaced.kept_placed, KeptPlaced.IsKeptAt}
+use Rattle.bind_carry.proofs.{SecondPass.carried_number, SecondPass.inline_at, SecondPass.inline_place, SecondPass.chosen, SecondPass.long}
 use Rattle.bind_union.proofs.{ViewTests.numbers_under, ViewTests.one_given, ViewTests.numbers_same, Images.same_declarations, Lists.no_true}
 use Rattle.bind_union.proofs.Carrying.{carried_types, kind_carried, references_of, refers_below, same_identity, tree_same}
 use Rattle.wit_bind.specs.Brings.{entry_notes, function_notes, function_type_notes, inline_notes, interface_notes, item_notes, type_notes, type_notes_at, unnamed_notes, InterfaceNotes, Notes, key_texts, world_notes, BringsEntries, IsTypeOf}
@@ -35,7 +35,7 @@ use Rattle.base_lemmas.proofs.{Numbers.same-number, Options.nameless as named_no
 use Rattle.bind_clash.proofs.PathsMatched.{world-path-of, IsPathOf}
 use Rattle.bind_match.specs.declared.matches.Matches.{Matches}
 use Rattle.wit_model.specs.declared.model.WorldKey.TheVariants as key
-use Rattle.bind_carry.proofs.SecondBound as second_joined
+use Rattle.bind_carry.proofs.SecondPass as second_joined
 
 -- ---- What is copied keeps its documentation, its stability and its external ids, in its order.
 
@@ -194,7 +194,7 @@ module _ (r s : Resolve) (f : Renumbering) (interfaces numbers : List ℕ) (vali
         go (zero, l, q) copied more = inr (new, (0, omega arith, refl), entry_noted old new copied.0 z ∙ ap (entry_notes r) q)
         go (suc n, l, q) copied more = later new news e (more (n, omega (arith, l), q) copied.1)
 
--- ---- what the page is for
+-- ---- what both passes copy has its own documentation, stability and external ids in what is merged
 
 type_noted : (numbers : List ℕ) (home : TypeOwner) (old new : TypeDef) → IsTypeUnder numbers home old new → type_notes new ≡ type_notes old
 type_noted numbers home old new is = λ i. record { docs = is.docs i; stability = is.stability i; external_id = is.external_id i; of_members = is.of_members i }

@@ -1,7 +1,7 @@
 -- The least key that has two encodings, found one entry after the other; and encodings added to others.
-use Rattle.std.proofs.Common.{rules as std_rules, ◌≡◌, refl, sym, ap, subst, ◌∙◌, ◌⊎◌, inl, inr, Bool, true, false, not, [], ◌∷◌, cond, Option, Some, None}
+use Rattle.std.proofs.Common.{rules as std_rules, ◌≡◌, refl, sym, subst, ◌∙◌, ◌⊎◌, inl, inr, Bool, true, false, not, [], ◌∷◌, cond, Option, Some, None}
 use mathlib.Core.Bool.{true≢false}
-use Rattle.std.specs.{Prelude.◌≢◌, Prelude.◌==◌, List.AllByRecursion, List.IsDistinct, Map.keys_of, Option.option_map_or}
+use Rattle.std.specs.{Prelude.◌==◌, List.AllByRecursion, List.IsDistinct, Map.keys_of, Option.option_map_or}
 use Rattle.indexmap.specs.IndexMap.{insert_all, insert_entry}
 use Rattle.wit_model.specs.declared.model.StringEncoding.{StringEncoding}
 use Rattle.wit_model.specs.Text.{Text, text_eq}
@@ -12,7 +12,6 @@ use Rattle.bind_clash.proofs.LeastFaults.{of_two, one_fault, same_faults}
 use Rattle.wit_bind.specs.Encodings.{Encodings, encoding_at, kept_encodings, number_of_encoding}
 use Rattle.wit_bind.specs.Unions.{conflict_at, Gains, has_another, or_else}
 use Rattle.wit_bind.proofs.Kept.{Entries, kept_at, under, under_put}
-use Rattle.wit_model.specs.contracts.model.StringEncodingPartialEq.TheImpl as encoding
 
 -- ---- the least of what is left, beside the least so far
 
@@ -98,21 +97,3 @@ gained q (e ∷ more) es d = search (std_rules, under, under_put, none_under, ga
 -- entries that are put in order are gained
 pub gains : (more old new : Entries) → IsDistinct text_eq (keys_of more) → new ≡ insert_all text_eq old more → Gains (kept_encodings more) (kept_encodings old) (kept_encodings new)
 gains more old new d h q = search (std_rules, kept_at, under, gained)
-
--- ---- one key
-
-abbrev pub conflict_for : Text → StringEncoding → Option StringEncoding → Option Text
-conflict_for key e o = cond (option_map_or (λ f. not (number_of_encoding f == number_of_encoding e)) o false) (Some key) None
-
--- what stands under the key decides
-pub conflict_is : (m : Encodings) (es : Entries) (key : Text) (e : StringEncoding) (o : Option StringEncoding) → kept_encodings es ≡ m → o ≡ under key es → conflict_at m key e ≡ conflict_for key e o
-conflict_is m es key e o view h = ap (conflict_for key e) (ap (λ n. encoding_at n key) (sym view) ∙ (kept_at key es ∙ sym h))
-
-pub eq_is : (f e : StringEncoding) → encoding.ghosts.eq f e ≡ (number_of_encoding f == number_of_encoding e)
-eq_is x y = search std_rules
-
-pub same_there : (key : Text) (f e : StringEncoding) → encoding.ghosts.eq f e ≡ true → conflict_for key e (Some f) ≡ None
-same_there key f e h = ap (λ b. cond (not b) (Some key) None) (sym (eq_is f e) ∙ h)
-
-pub another_there : (key : Text) (f e : StringEncoding) → encoding.ghosts.eq f e ≡ false → conflict_for key e (Some f) ≡ Some key
-another_there key f e h = ap (λ b. cond (not b) (Some key) None) (sym (eq_is f e) ∙ h)

@@ -140,7 +140,7 @@ module _ (own other : Bindgen) (o : IsBindgen own) (t : IsBindgen other) (can : 
   no-gained-type n (inr (inl c)) = no-import c.entry c.gained
   no-gained-type n (inr (inr ((e, c), up))) = no-gain e c
 
--- ---- what the page is for
+-- ---- a merge adds what comes, and nothing where nothing is new
 
 -- a list with more behind it, or with its elements changed and more behind it, is longer by that
 longer : {X : Type 0} (old between more new : List X) (n : ℕ) → length between ≡ length old → new ≡ between ++ more → length more ≤ n → length new ≤ length old + n

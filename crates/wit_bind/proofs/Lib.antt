@@ -14,12 +14,10 @@ pub mod NumbersAgree
 pub mod TooMany
 -- What is copied of other bindings comes by its path, or is gained by the own bound world. Serves Growth, Outgrown.
 pub mod Coming
--- What is kept under keys is a map by their texts. Serves encodings::at_parts, encodings::conflict, encodings::put, encodings::search and 1 more.
+-- What is kept under keys is a map by their texts. Serves table::at_number, table::at_twice, table::insert, table::search.
 pub mod Kept
--- The least key that has two encodings, found one entry after the other; and encodings added to others. Serves encodings::conflict, encodings::conflict_under, encodings::unite_both.
+-- The least key that has two encodings, found one entry after the other; and encodings added to others. Serves table::conflict.
 pub mod Conflicts
--- Keys that are compared and hashed by their two parts. Serves table::eq, table::equivalent, table::hash.
-pub mod CutKeys
 -- What is added under new keys comes behind what was there. Serves laws::grown_extend.
 pub mod Extending
 -- Encodings put under one key after the other. Serves wanted::put_behind, wanted::put_members, wanted::wanted_encodings.
@@ -54,6 +52,12 @@ pub mod RootBindings
 mod Roots
 -- A world by its number. Serves encodings::from_unversioned.
 mod Sides
+-- Keys of a table are the same where their whole texts are. Serves table::at, table::at_key, table::at_number, table::numbers_here.
+mod TableKeys
+-- Entries of a table are found and put by the whole texts of their keys. Serves table::at_number, table::at_twice, table::conflict, table::insert and 2 more.
+mod TableEntries
+-- Texts that get numbers, and entries of one table under the numbers of another. Serves table::add, table::at_key, table::number_all, table::numbered.
+mod TableMeet
 -- It can be told whether meanings have the same sense. Serves Uniting; crates above.
 pub mod Telling
 -- Room for more changes no entry, so bindings are as they were. Serves bindgen::grow.

@@ -275,7 +275,7 @@ module _ (own other merged : Resolve) (valid_own : IsValid own) (valid_other : I
     types = new_types;
   }
 
--- ---- what the page is for
+-- ---- what comes of two bindings that don't clash, once all that the one brings is added to the other
 
 module _ (own other new : Bindgen) (o : IsBindgen own) (t : IsBindgen other) (can : CanUnite (binding_of own) (binding_of other)) (added : Added) (keys : List WorldKey) (p : IsPlanOf own other added keys) (g : IsGrownBy added other.metadata own new) where
   abbrev r : Resolve

@@ -10,6 +10,8 @@ pub mod OldKeys
 pub mod Choices
 pub mod Cuts
 pub mod CutLaws
+pub mod Places
+pub mod Tables
 pub mod Bindings
 pub mod Extends
 pub mod Brings

@@ -1,20 +1,17 @@
 //! String encodings by the keys of functions.
 
-ghost use Rattle.std.specs.Prelude.{◌≡◌, ◌<◌, [], ◌∷◌, false, length, IfErr, IfOk, OnErr, OnOk};
+ghost use Rattle.std.specs.Prelude.{◌≡◌, ◌<◌, length, IfErr, IfOk, OnErr, OnOk};
 ghost use Rattle.std.specs.FinMap.{empty};
 ghost use Rattle.indexmap.specs.IndexMap.{get_by_text};
 ghost use Rattle.wit_model.specs.{Text.optional_text, Valid.IsValid, Refusals.IsMemory};
 ghost use Rattle.wit_bind.specs.{Keys.function_key, OldKeys.items_of as items_of_lem, OldKeys.items_on, OldKeys.CarriesEach, OldKeys.CarriesOver};
-ghost use Rattle.wit_bind.specs.{Cuts.has_slash as has_slash_lem, Cuts.text_under, Encodings.encoding_at, Encodings.encoding_under, KeyLists.Puts};
-ghost use Rattle.wit_bind.specs.Unions.{conflict_at, Gains};
+ghost use Rattle.wit_bind.specs.{Encodings.encoding_under, Unions.Gains};
 ghost use Rattle.bind_clash.specs.Faults.{IsLeastFault};
 ghost use Rattle.bind_meaning.specs.Clash.{EncodingFault};
 
-use crate::keys::{is_function_key, short_scope};
-use crate::table::{Key, Parts, has_slash};
+use crate::keys::short_scope;
+use crate::table::{Table, has_slash};
 use crate::wanted::{Wanted, wanted_encodings};
-use bind_add::append_entries;
-use bind_clash::lesser;
 use indexmap::IndexMap;
 use std::alloc::Global;
 use std::marker::Model;
@@ -25,7 +22,7 @@ use wit_model::{Error, Map, Resolve, StringEncoding, World, WorldId, WorldItem, 
 /// of `a:b/c@0.1.2`. So compatible versions of an interface share an entry, and others have one each.
 #[derive(Drop)]
 pub struct EncodingMap {
-    encodings: IndexMap<Key, StringEncoding>,
+    pub(crate) table: Table,
 }
 
 /// What a world imports, or what it exports.
@@ -45,13 +42,13 @@ fn items_of<'a>(world: &'a World, side: Side) -> &'a Map<WorldKey, WorldItem>
 }
 
 impl Model for EncodingMap {
-    ghost use Rattle.wit_bind.specs.Encodings.{Encodings, encodings_code, kept_encodings};
+    ghost use Rattle.wit_bind.specs.Encodings.{Encodings, encodings_code};
 
     ghost Value = { Encodings };
 
     ghost coded = { encodings_code };
 
-    ghost view = { λ m. kept_encodings m.encodings.entries };
+    ghost view = { λ m. m.table.encodings };
 }
 
 impl EncodingMap {
@@ -60,7 +57,7 @@ impl EncodingMap {
         ensures { result ≡ empty }
     {
         EncodingMap {
-            encodings: IndexMap::new(alloc),
+            table: Table::new(alloc),
         }
     }
 
@@ -85,25 +82,6 @@ impl EncodingMap {
         wanted_encodings(alloc, resolve, items, &Wanted::Kept(unversioned))
     }
 
-    // Goes along the keys, and compares each with the parts of the one that is looked for.
-    fn search(&self, resolve: &Resolve, key: &WorldKey, func: &str) -> Option<StringEncoding>
-        ensures { result ≡ encoding_under self.now (function_key resolve.now key.now func.now) }
-    {
-        for (text, encoding) in &self.encodings {
-            if is_function_key(resolve, key, func, text) {
-                return Some(*encoding);
-            }
-        }
-        None
-    }
-
-    fn at_parts(&self, front: &str, name: &str) -> Option<StringEncoding>
-        requires bare { has_slash_lem name.now ≡ false }
-        ensures { result ≡ encoding_at self.now (text_under front.now name.now) }
-    {
-        self.encodings.get(Parts { front, name }).copied()
-    }
-
     /// The encoding of a function, by the key under which it, or its interface, is imported or exported and by its name. None where the map has
     /// none, or the key is of an interface without a path. Takes no memory, and one pass over the texts, expected. It is one over all keys of
     /// the map where the function has no key, where its name has a slash, or where the label or the path before it has more than 256 bytes.
@@ -111,48 +89,16 @@ impl EncodingMap {
         ensures { result ≡ encoding_under self.now (function_key resolve.now key.now func.now) }
     {
         if has_slash(func) {
-            return self.search(resolve, key, func);
+            return self.table.search(resolve, key, func);
         }
         match short_scope(resolve, key) {
-            Some(front) => self.at_parts(front.as_str(), func),
-            None => self.search(resolve, key, func),
-        }
-    }
-
-    /// Puts an encoding under a key. A refusal, `Memory` alone, leaves the map as it was.
-    pub(crate) fn put(&mut self, key: Key, encoding: StringEncoding) -> Result<(), Error>
-        ensures ok { OnOk result (Puts ((key, encoding) ∷ []) self.old self.new) }
-        ensures err { OnErr result (self.new ≡ self.old) }
-        ensures refuses { IfErr result IsMemory }
-    {
-        self.encodings.insert(key, encoding)?;
-        Ok(())
-    }
-
-    // The key, where another encoding stands under it.
-    fn conflict_under(
-        &self,
-        alloc: Global,
-        key: &Key,
-        encoding: StringEncoding,
-    ) -> Result<Option<String>, Error>
-        ensures ok { IfOk result (λ p. optional_text p ≡ conflict_at self.now key.now encoding) }
-        ensures refuses { IfErr result IsMemory }
-    {
-        match self.encodings.get(key) {
-            Some(found) => {
-                if *found == encoding {
-                    Ok(None)
-                } else {
-                    Ok(Some(key.text(alloc)?))
-                }
-            }
-            None => Ok(None),
+            Some(front) => self.table.at(front.as_str(), func),
+            None => self.table.search(resolve, key, func),
         }
     }
 
     /// The least key, by its bytes, that has one encoding here and another in the other map. Takes one pass over the other map, expected, and memory for such
-    /// keys alone. Refuses `Memory` alone.
+    /// keys and for a number for each text that stands before keys there. Refuses `Memory` alone.
     pub(crate) fn conflict(
         &self,
         alloc: Global,
@@ -161,12 +107,7 @@ impl EncodingMap {
         ensures least { IfOk result (λ p. IsLeastFault (EncodingFault self.now other.now) (optional_text p)) }
         ensures refuses { IfErr result IsMemory }
     {
-        let mut least = None;
-        for (key, encoding) in &other.encodings {
-            let found = self.conflict_under(alloc, key, *encoding)?;
-            least = lesser(least, found);
-        }
-        Ok(least)
+        self.table.conflict(alloc, &other.table)
     }
 }
 
@@ -184,9 +125,9 @@ pub(crate) fn unite_both(
     ensures exports_kept { OnErr result (exports.new ≡ exports.old) }
     ensures refuses { IfErr result IsMemory }
 {
-    imports.encodings.reserve(more_imports.encodings.len())?;
-    exports.encodings.reserve(more_exports.encodings.len())?;
-    append_entries(&mut imports.encodings, more_imports.encodings);
-    append_entries(&mut exports.encodings, more_exports.encodings);
+    let imported = imports.table.make_room(&more_imports.table)?;
+    let exported = exports.table.make_room(&more_exports.table)?;
+    imports.table.add(&imported, more_imports.table);
+    exports.table.add(&exported, more_exports.table);
     Ok(())
 }

@@ -1,16 +1,16 @@
 //! The texts under which the encodings of functions are kept.
 
-ghost use Rattle.std.specs.Prelude.{◌≡◌, ◌++◌, ◌∷◌, option_map, IfOk, IfErr, IfSome, Some};
-ghost use Rattle.std.specs.{Arc.arc_str_bytes, Option.option_copied};
+ghost use Rattle.std.specs.Prelude.{◌≡◌, ◌++◌, ◌∷◌, false, IfOk, IfErr, IfSome, Some};
+ghost use Rattle.std.specs.{Option.option_copied};
 ghost use Rattle.wit_model.specs.{Lookup.canonical_identity_of, Text.optional_text, Text.text_eq, Text.text_of, Rules.after_prefix as after_prefix_lem};
 ghost use Rattle.wit_model.specs.{Names.path_in, Refusals.IsMemory};
+ghost use Rattle.wit_bind.specs.Cuts.{has_slash};
 ghost use Rattle.wit_bind.specs.Keys.{scope_of, text_under, unversioned, unversioned_key as unversioned_key_lem};
 ghost use Rattle.wit_bind.specs.KeyTests.{after_interface as after_interface_lem, after_names as after_names_lem, after_scope as after_scope_lem, is_key_of};
 
-use crate::table::{Key, Parts};
+use crate::table::Parts;
 use crate::versions::{ShortText, after_at_version, push, push_at_version};
 use std::alloc::Global;
-use std::sync::ArcStr;
 use wit_model::lookup::full_name;
 use wit_model::{Error, PackageName, Resolve, WorldKey, after_prefix};
 
@@ -29,16 +29,13 @@ pub(crate) fn shared_scope(
     alloc: Global,
     resolve: &Resolve,
     key: &WorldKey,
-) -> Result<Option<ArcStr>, Error>
-    ensures ok { IfOk result (λ text. option_map arc_str_bytes text ≡ scope_of resolve.now key.now) }
+) -> Result<Option<String>, Error>
+    ensures ok { IfOk result (λ text. optional_text text ≡ scope_of resolve.now key.now) }
     ensures refuses { IfErr result IsMemory }
 {
     match key {
-        WorldKey::Name(label) => Ok(Some(ArcStr::from_str(alloc, label)?)),
-        WorldKey::Interface(id) => match resolve.canonicalized_id_of(alloc, *id)? {
-            Some(path) => Ok(Some(ArcStr::from_string(path)?)),
-            None => Ok(None),
-        },
+        WorldKey::Name(label) => Ok(Some(String::from_str(alloc, label)?)),
+        WorldKey::Interface(id) => Ok(resolve.canonicalized_id_of(alloc, *id)?),
     }
 }
 
@@ -183,11 +180,17 @@ fn is_left(rest: &str, name: &str, function: &str) -> bool
     }
 }
 
-/// Whether this is the key of a function. Takes one pass over its text at most, and no memory.
-pub(crate) fn is_function_key(resolve: &Resolve, key: &WorldKey, function: &str, text: &Key) -> bool
-    ensures { result ≡ is_key_of resolve.now key.now function.now text.now }
+/// Whether these are the parts of a function's key. Takes one pass over them at most, and no memory.
+pub(crate) fn is_function_key(
+    resolve: &Resolve,
+    key: &WorldKey,
+    function: &str,
+    parts: Parts<'_>,
+) -> bool
+    requires bare { has_slash parts.name.now ≡ false }
+    ensures { result ≡ is_key_of resolve.now key.now function.now (text_under parts.entry.front.now parts.entry.name.now) }
 {
-    let Parts { front, name } = text.parts();
+    let Parts { front, name } = parts;
     match after_scope(resolve, key, front) {
         Some(rest) => is_left(rest, name, function),
         None => false,

@@ -1,17 +1,17 @@
 //! The encoding that each function of a world is to have, put under its key.
 
 ghost use Rattle.std.specs.Prelude.{◌≡◌, option_to_list, IfErr, IfOk, OnOk, Some};
-ghost use Rattle.std.specs.{Arc.arc_str_bytes, FinMap.empty};
+ghost use Rattle.std.specs.{FinMap.empty};
 ghost use Rattle.wit_bind.specs.{Keys.scope_of, Choices.choice_of};
 ghost use Rattle.wit_bind.specs.KeyLists.{entries_of_item, entries_of_items, entry_of, member_entries, own_entries, Puts};
+ghost use Rattle.wit_bind.specs.Tables.{Keeps, Stands};
 ghost use Rattle.wit_model.specs.Refusals.{IsMemory};
 
 use crate::encodings::EncodingMap;
 use crate::keys::{shared_scope, unversioned_key};
-use crate::table::Key;
+use crate::table::{Front, Table};
 use indexmap::IndexMap;
 use std::alloc::Global;
-use std::sync::ArcStr;
 use wit_model::lookup::interface_at;
 use wit_model::{Error, Function, Map, Resolve, StringEncoding, WorldItem, WorldKey};
 
@@ -44,22 +44,25 @@ fn wanted_for(
     }
 }
 
-// Puts the encoding that a function is to have under its key, if it has one. The text before its name is shared.
+// Puts the encoding that a function is to have under its key, if it has one.
 fn put_function(
     alloc: Global,
     resolve: &Resolve,
     scope: &WorldKey,
-    front: &ArcStr,
+    front: Front<'_>,
     name: &str,
     wanted: &Wanted<'_>,
-    map: &mut EncodingMap,
+    table: &mut Table,
 ) -> Result<(), Error>
-    requires front { scope_of resolve.now scope.now ≡ Some (arc_str_bytes front.now) }
-    ensures ok { OnOk result (Puts (option_to_list (entry_of resolve.now (choice_of resolve.now wanted.now) scope.now name.now)) map.old map.new) }
+    requires front { scope_of resolve.now scope.now ≡ Some front.text.now }
+    requires stands { Stands table.old.fronts front }
+    ensures ok { OnOk result (Puts (option_to_list (entry_of resolve.now (choice_of resolve.now wanted.now) scope.now name.now)) table.old.encodings
+        table.new.encodings) }
+    ensures keeps { Keeps table.old.fronts table.new.fronts }
     ensures refuses { IfErr result IsMemory }
 {
     match wanted_for(alloc, resolve, scope, name, wanted)? {
-        Some(encoding) => map.put(Key::under(alloc, front, name)?, encoding),
+        Some(encoding) => table.put(alloc, front, name, encoding),
         None => Ok(()),
     }
 }
@@ -69,35 +72,41 @@ fn put_behind(
     alloc: Global,
     resolve: &Resolve,
     scope: &WorldKey,
-    front: &ArcStr,
+    front: Front<'_>,
     functions: &Map<String, Function>,
     wanted: &Wanted<'_>,
-    map: &mut EncodingMap,
+    table: &mut Table,
 ) -> Result<(), Error>
-    requires front { scope_of resolve.now scope.now ≡ Some (arc_str_bytes front.now) }
-    ensures ok { OnOk result (Puts (member_entries resolve.now (choice_of resolve.now wanted.now) scope.now functions.now.entries) map.old map.new) }
+    requires front { scope_of resolve.now scope.now ≡ Some front.text.now }
+    requires stands { Stands table.old.fronts front }
+    ensures ok { OnOk result (Puts (member_entries resolve.now (choice_of resolve.now wanted.now) scope.now functions.now.entries) table.old.encodings
+        table.new.encodings) }
     ensures refuses { IfErr result IsMemory }
 {
     for (name, _function) in functions {
-        put_function(alloc, resolve, scope, front, name, wanted, map)?;
+        put_function(alloc, resolve, scope, front, name, wanted, table)?;
     }
     Ok(())
 }
 
-// The same for functions that stand under one key of the world. What stands in front of them is made once.
+// The same for functions that stand under one key of the world. What stands in front of them is made and numbered once.
 fn put_members(
     alloc: Global,
     resolve: &Resolve,
     scope: &WorldKey,
     functions: &Map<String, Function>,
     wanted: &Wanted<'_>,
-    map: &mut EncodingMap,
+    table: &mut Table,
 ) -> Result<(), Error>
-    ensures ok { OnOk result (Puts (member_entries resolve.now (choice_of resolve.now wanted.now) scope.now functions.now.entries) map.old map.new) }
+    ensures ok { OnOk result (Puts (member_entries resolve.now (choice_of resolve.now wanted.now) scope.now functions.now.entries) table.old.encodings
+        table.new.encodings) }
     ensures refuses { IfErr result IsMemory }
 {
     match shared_scope(alloc, resolve, scope)? {
-        Some(front) => put_behind(alloc, resolve, scope, &front, functions, wanted, map),
+        Some(text) => {
+            let front = table.numbered(alloc, &text)?;
+            put_behind(alloc, resolve, scope, front, functions, wanted, table)
+        }
         None => Ok(()),
     }
 }
@@ -108,16 +117,16 @@ fn put_itself(
     resolve: &Resolve,
     scope: &WorldKey,
     wanted: &Wanted<'_>,
-    map: &mut EncodingMap,
+    table: &mut Table,
 ) -> Result<(), Error>
-    ensures ok { OnOk result (Puts (own_entries resolve.now (choice_of resolve.now wanted.now) scope.now) map.old map.new) }
+    ensures ok { OnOk result (Puts (own_entries resolve.now (choice_of resolve.now wanted.now) scope.now) table.old.encodings table.new.encodings) }
     ensures refuses { IfErr result IsMemory }
 {
     let WorldKey::Name(name) = scope else {
         return Ok(());
     };
     match wanted_for(alloc, resolve, scope, name, wanted)? {
-        Some(encoding) => map.put(Key::twice(alloc, name)?, encoding),
+        Some(encoding) => table.put_twice(alloc, name, encoding),
         None => Ok(()),
     }
 }
@@ -129,9 +138,10 @@ fn put_item(
     scope: &WorldKey,
     item: &WorldItem,
     wanted: &Wanted<'_>,
-    map: &mut EncodingMap,
+    table: &mut Table,
 ) -> Result<(), Error>
-    ensures ok { OnOk result (Puts (entries_of_item resolve.now (choice_of resolve.now wanted.now) scope.now item.now) map.old map.new) }
+    ensures ok { OnOk result (Puts (entries_of_item resolve.now (choice_of resolve.now wanted.now) scope.now item.now) table.old.encodings
+        table.new.encodings) }
     ensures refuses { IfErr result IsMemory }
 {
     match item {
@@ -142,11 +152,11 @@ fn put_item(
                 scope,
                 &interface.functions,
                 wanted,
-                map,
+                table,
             ),
             None => Ok(()),
         },
-        WorldItem::Function(_) => put_itself(alloc, resolve, scope, wanted, map),
+        WorldItem::Function(_) => put_itself(alloc, resolve, scope, wanted, table),
         WorldItem::Type_ { .. } => Ok(()),
     }
 }
@@ -161,9 +171,9 @@ pub(crate) fn wanted_encodings(
     ensures ok { IfOk result (λ m. Puts (entries_of_items resolve.now (choice_of resolve.now wanted.now) items.now.entries) empty m) }
     ensures refuses { IfErr result IsMemory }
 {
-    let mut map = EncodingMap::new(alloc);
+    let mut table = Table::new(alloc);
     for (key, item) in items {
-        put_item(alloc, resolve, key, item, wanted, &mut map)?;
+        put_item(alloc, resolve, key, item, wanted, &mut table)?;
     }
-    Ok(map)
+    Ok(EncodingMap { table })
 }

@@ -10,7 +10,7 @@ use Rattle.wit_model.specs.Tree.{Tree, Form, Declaration, type_, resource, primi
 use Rattle.wit_model.specs.Types.{number_of, type_tree, tree_of, trees_of, no_tree, declared_by, tree_of_declaration}
 use Rattle.wit_model.proofs.{Entries.each_from_at, Entries.lists_pass, TreeTable.kept_numbers, TreeLemmas.child_list_of_children as children_back}
 use Rattle.wit_compat.specs.declared.look.Look.{Look}
-use Rattle.wit_compat.specs.{Opened.form_of, Opened.places_of, TwoSides.aliased, TwoSides.IsKindOf, TwoSides.SameDeclared, TwoSides.TellsDeclared}
+use Rattle.wit_compat.specs.{Opened.form_of, Opened.places_of, TwoSides.AreParted, TwoSides.aliased, TwoSides.IsKindOf, TwoSides.SameDeclared, TwoSides.TellsDeclared}
 use Rattle.wit_compat.specs.Table.{AllInRange, InRange}
 use Rattle.wit_compat.proofs.{Alike.is_below, Alike.node_children, Alike.node_form, OpenedTable.opened_built}
 use Rattle.wit_compat.proofs.Sided.{named_is, never, number_case, places_in_range}
@@ -32,15 +32,8 @@ is_own (type_ (primitive p)) = false
 is_own (type_ (named place name)) = false
 is_own (type_ (node f ts)) = true
 
-abbrev is_resource_declaration : Declaration → Bool
-is_resource_declaration resource = true
-is_resource_declaration (type_ t) = false
-
 alias_kind : (k : TypeDefKind) (t : ValueType) → aliased k ≡ Some t → k ≡ kind.Type_ t
 alias_kind x t e = search std_rules
-
-resource_kind : (k : TypeDefKind) → is_resource_itself k ≡ true → k ≡ kind.Resource
-resource_kind x e = search std_rules
 
 own : (trees : List Tree) (k : TypeDefKind) → aliased k ≡ None → is_own (declared_by trees k) ≡ true
 own trees x e = search std_rules
@@ -156,6 +149,12 @@ module _ (d e : TypeDefKind) where
           same = λ m. again a b w.0 (ap (map (type_tree a)) (sym w.1) ∙ m ∙ ap (map (type_tree b)) w.2);
           back = λ s. ap (map (type_tree a)) w.1 ∙ parts_same a b s ∙ ap (map (type_tree b)) (sym w.2);
         }
+
+-- what a look says of the lists that it gives
+pub parts_told : (d e : TypeDefKind) (l : Look) (ts us : Vec ValueType Global) → TellsDeclared d e l → l ≡ look.Parts ts us → (a b : Resolve) → IsValid a
+    → IsValid b → IsKindOf a d → IsKindOf b e
+    → AreParted a b d e ts.items us.items
+parts_told d e l ts us told is = subst (TellsDeclared d e) is told
 
 -- ---- two types under their names
 

@@ -1,16 +1,17 @@
 -- Entries that are found one by one, and the first that isn't.
-use Rattle.std.proofs.Common.{rules as std_rules, arith, ℕ, ◌≡◌, refl, sym, ap, subst, ◌∙◌, ◌+◌, ◌<◌, Bool, cond, ◌⊎◌, inl, inr, List, [], ◌∷◌, ◌++◌, map, take, drop, get_or, length, Option, Some, None, option_map}
+use Rattle.std.proofs.Common.{rules as std_rules, ℕ, ◌≡◌, refl, sym, ap, subst, ◌∙◌, ◌+◌, ◌<◌, Bool, cond, inl, inr, List, [], ◌∷◌, ◌++◌, map, take, drop, get_or, length, Option, Some, None, option_map}
 use Rattle.std.proofs.lemmas.List.{drop_more, map-append, take-append-drop}
-use Rattle.std.proofs.lemmas.List.Elements.{Contains-append_left, Contains-append_right, Contains-append_cases, Contains-push, Contains-push_cases}
+use Rattle.std.proofs.lemmas.List.Elements.{Contains-append_right, Contains-push_cases}
 use Rattle.std.specs.List.{Contains}
 use Rattle.wit_model.specs.declared.{model.Resolve.Resolve, error.Error.Error}
 use Rattle.wit_compat.specs.declared.part.Entry.{Entry}
 use Rattle.wit_compat.specs.Compatible.{IsFault, is_missing, is_other, missing, differs, spelled_name, IsMemoryOr, IsEntryFault, IsFaultOf, IsIncluded}
 use Rattle.wit_compat.specs.Flat.{Name, Thing, Shown, all_shown, find_named, shown}
-use Rattle.wit_compat.specs.{Parts.named_thing, Parts.thing_of, Walk.Pair, Walk.pairs_of_entry, Walk.pairs_shared, Walk.Reached, Walk.root}
+use Rattle.wit_compat.specs.{Parts.named_thing, Parts.thing_of, Walk.Pair, Walk.pairs_of_entry, Walk.pairs_shared}
 use Rattle.wit_compat.specs.Table.{AreAmong, AreReached}
-use Rattle.wit_compat.proofs.Settling.{reached_through}
-use Rattle.base_lemmas.proofs.Elements.{last_of as contains_one, map_from as contains_map}
+use Rattle.wit_compat.proofs.{Either.flat_from, Settling.reached_join}
+use Rattle.wit_model.proofs.Elements.{contains-flat}
+use Rattle.base_lemmas.proofs.{Elements.contains-map as contains_mapped, Elements.map_from as contains_map, Lists.map_of_map}
 
 -- ---- look-ups
 
@@ -38,8 +39,7 @@ abbrev pub shown_entry : Resolve → Entry → Name × Shown
 shown_entry r e = ((named_thing e).0, shown r (thing_of e.part))
 
 shown_all : (r : Resolve) (es : List Entry) → all_shown r (map named_thing es) ≡ map (shown_entry r) es
-shown_all r [] = refl
-shown_all r (e ∷ es) = ap (λ xs. shown_entry r e ∷ xs) (shown_all r es)
+shown_all r es = map_of_map (λ (x : Name × Thing). (x.0, shown r x.1)) named_thing es
 
 -- each entry stands in the large list, and the pairs of the two stand in the table
 abbrev pub Stands : Resolve → Bool → List (Name × Thing) → List Pair → Entry → Type 0
@@ -53,38 +53,23 @@ module _ (r : Resolve) (back : Bool) (large : List (Name × Thing)) where
   all_included keys es h x c = search (std_rules, contains_map (shown_entry r) es x (subst (λ xs. Contains xs x) (shown_all r es) c), shown_all r es)
 
   pub all_hold : (keys : List Pair) (es : List Entry) → AllStand r back large keys es → AreAmong (pairs_shared r back (map named_thing es) large) keys
-  all_hold keys [] h p c = absurd (let z = c.1 in omega (arith, z))
-  all_hold keys (e ∷ es) h p c = by (Contains-append_cases (pairs_of_entry r back large (named_thing e)) (pairs_shared r back (map named_thing es) large) p c)
-      (all_hold keys es (λ x d. h x (Contains-append_right (e ∷ []) es x d)) p)
-    where
-      by : Contains (pairs_of_entry r back large (named_thing e)) p ⊎ Contains (pairs_shared r back (map named_thing es) large) p
-          → (Contains (pairs_shared r back (map named_thing es) large) p → Contains keys p) → Contains keys p
-      by (inl d) later = (h e (Contains-append_left (e ∷ []) es e (Contains-push [] e))).1 p d
-      by (inr d) later = later d
+  all_hold keys es h p c =
+      let w = flat_from (pairs_of_entry r back large) (map named_thing es) p c in
+      let v = contains_map named_thing es w.0 w.1 in
+      (h v.0 v.1).1 p (subst (λ x. Contains (pairs_of_entry r back large x) p) (sym v.2) w.2)
 
   pub stand_more : (old new : List Pair) (es : List Entry) (e : Entry) → AllStand r back large old es → AreAmong old new → Stands r back large new e → AllStand r back large new (es ++ e ∷ [])
   stand_more old new es e h kept s x c = search (std_rules, Contains-push_cases es e x c)
 
   pub entry_among : (es : List Entry) (e : Entry) → Contains es e → AreAmong (pairs_of_entry r back large (named_thing e)) (pairs_shared r back (map named_thing es) large)
-  entry_among [] e c = absurd (let z = c.1 in omega (arith, z))
-  entry_among (x ∷ xs) e c = by (Contains-append_cases (x ∷ []) xs e c) (entry_among xs e)
-    where
-      by : Contains (x ∷ []) e ⊎ Contains xs e → (Contains xs e → AreAmong (pairs_of_entry r back large (named_thing e)) (pairs_shared r back (map named_thing xs) large))
-          → AreAmong (pairs_of_entry r back large (named_thing e)) (pairs_of_entry r back large (named_thing x) ++ pairs_shared r back (map named_thing xs) large)
-      by (inl d) later p q = Contains-append_left _ _ p (subst (λ y. Contains (pairs_of_entry r back large (named_thing y)) p) (sym (contains_one x e d)) q)
-      by (inr d) later p q = Contains-append_right (pairs_of_entry r back large (named_thing x)) _ p (later d p q)
+  entry_among es e c p q = contains-flat (pairs_of_entry r back large) (map named_thing es) (named_thing e) p (contains_mapped named_thing es e c) q
 
   -- what is reached from what has been reached, and one entry's pairs
   pub reached_more : (roots mid new : List Pair) (es : List Entry) (e : Entry) → Contains es e → AreReached r (roots ++ pairs_shared r back (map named_thing es) large) mid
       → AreReached r (mid ++ pairs_of_entry r back large (named_thing e)) new → AreReached r (roots ++ pairs_shared r back (map named_thing es) large) new
-  reached_more roots mid new es e c h j p d = reached_through r (roots ++ pairs_shared r back (map named_thing es) large) (mid ++ pairs_of_entry r back large (named_thing e)) from p (j p d)
-    where
-      from : AreReached r (roots ++ pairs_shared r back (map named_thing es) large) (mid ++ pairs_of_entry r back large (named_thing e))
-      from q x = by (Contains-append_cases mid (pairs_of_entry r back large (named_thing e)) q x)
-        where
-          by : Contains mid q ⊎ Contains (pairs_of_entry r back large (named_thing e)) q → Reached r (roots ++ pairs_shared r back (map named_thing es) large) q
-          by (inl y) = h q y
-          by (inr y) = root q (Contains-append_right roots _ q (entry_among es e c q y))
+  reached_more roots mid new es e c h j =
+      reached_join r (roots ++ pairs_shared r back (map named_thing es) large) mid (pairs_of_entry r back large (named_thing e)) new h
+      (λ q x. Contains-append_right roots _ q (entry_among es e c q x)) j
 
   -- an entry that doesn't stand, after those that do
   pub first_fault : (keys : List Pair) (front rest : List Entry) (e : Entry) (x : Error) → AllStand r back large keys front → IsEntryFault (all_shown r large) (shown_entry r e) x

@@ -1,7 +1,8 @@
 -- An index finds what its list has.
-use Rattle.std.proofs.Common.{rules as std_rules, ◌≡◌, refl, sym, ap, ◌∙◌, ℕ, ◌+◌, ◌<◌, ◌==◌, subst, ◌⊎◌, inl, inr, Bool, true, false, ◌&&◌, cond, List, [], ◌∷◌, ◌++◌, map, take, length, get_or, Option, Some, None, option_map}
+use Rattle.std.proofs.Common.{rules as std_rules, ◌≡◌, refl, sym, ap, ◌∙◌, ℕ, ◌+◌, ◌<◌, ◌==◌, subst, Bool, true, false, ◌&&◌, cond, List, [], ◌∷◌, ◌++◌, map, take, length, get_or, Option, Some, None, option_map}
 use Rattle.std.proofs.lemmas.{List.take_more, List.map-append}
-use Rattle.std.proofs.lemmas.List.Elements.{Contains-append_left, Contains-append_right, Contains-push, Contains-push_cases}
+use Rattle.wit_compat.proofs.Either.{of_two}
+use Rattle.base_lemmas.proofs.Elements.{contains-later, first-contained, last_of}
 use Rattle.std.specs.{Borrow.Bor, List.Contains, Map.lookup, Option.is_none, Option.option_copied}
 use Rattle.wit_model.specs.Text.{text_eq}
 use Rattle.wit_compat.specs.declared.part.Entry.{Entry}
@@ -21,8 +22,8 @@ either e x y z h = search std_rules
 pub lookup_is : (d : Entry) (es : List (NumberedName × Entry)) → IsToldFrom d es → option_map thing_in (lookup (names_test d) es) ≡ find_named (named_thing d).0 (indexed es)
 lookup_is d [] h = refl
 lookup_is d (e ∷ es) h =
-    ap (λ b. option_map thing_in (cond (b && text_eq d.name.now e.0.1.now) (Some e.1) (lookup (names_test d) es))) (h e (Contains-append_left (e ∷ []) es e (Contains-push [] e)))
-    ∙ either e.1 _ _ (text_eq d.key.text.now e.1.key.text.now && text_eq d.name.now e.0.1.now) (lookup_is d es (λ x c. h x (Contains-append_right (e ∷ []) es x c)))
+    ap (λ b. option_map thing_in (cond (b && text_eq d.name.now e.0.1.now) (Some e.1) (lookup (names_test d) es))) (h e (first-contained e es))
+    ∙ either e.1 _ _ (text_eq d.key.text.now e.1.key.text.now && text_eq d.name.now e.0.1.now) (lookup_is d es (λ x c. h x (contains-later e es x c)))
 
 -- what stands in an index is told from each entry of a list that tells the index's entries
 pub told_from : (ds es : List Entry) (m : List (NumberedName × Entry)) → AllNumbersTell ds es → ComeFrom m es → AllToldFrom ds m
@@ -64,11 +65,9 @@ module _ (es : List Entry) (i : ℕ) (e : Entry) (old : List (NumberedName × En
 
 -- one entry more under its number
 pub come_more : (es : List Entry) (e : Entry) (old new : List (NumberedName × Entry)) → Contains es e → ComeFrom old es → new ≡ old ++ ((e.key.number, e.name), e) ∷ [] → ComeFrom new es
-come_more es e old new at from n x c = by (Contains-push_cases old ((e.key.number, e.name), e) x (subst (λ ys. Contains ys x) n c))
-  where
-    by : Contains old x ⊎ (((e.key.number, e.name), e) ≡ x) → Contains es x.1 × (x.0.0 ≡ x.1.key.number)
-    by (inl d) = from x d
-    by (inr q) = subst (λ (y : NumberedName × Entry). Contains es y.1 × (y.0.0 ≡ y.1.key.number)) q (at, refl)
+come_more es e old new at from n x c =
+    of_two old _ x (from x) (λ d. subst (λ (y : NumberedName × Entry). Contains es y.1 × (y.0.0 ≡ y.1.key.number)) (last_of _ x d) (at, refl))
+    (subst (λ ys. Contains ys x) n c)
 
 pub copied_none : {A : Type 0} (o : Option (Bor A)) → is_none o ≡ true → option_copied o ≡ None
 copied_none x e = search std_rules

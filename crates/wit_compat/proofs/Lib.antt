@@ -1,3 +1,5 @@
+-- What follows from an element of a list made of two: by which of them it stands in. Serves Alike, Comparing, Growing, Including and 6 more.
+pub mod Either
 -- The opened tree of a type number is made of those of the numbers in it. Serves Alike, Declared, Sided.
 pub mod OpenedTable
 -- Two numbers have the same opened tree exactly where their kinds are the same and what stands at equal places has the same tree. Serves types::same_all.
@@ -8,9 +10,9 @@ pub mod Growing
 pub mod Comparing
 -- The beginning of a table is so many different pairs of the walk. Serves worlds::compare_anew.
 pub mod Counting
--- Types of two `Resolve`s, and the paths of their interfaces. Serves contents::same_indexed, contents::same_worlds, interfaces::same_functions, interfaces::same_members and 9 more.
+-- Types of two `Resolve`s, and the paths of their interfaces. Serves contents::same_worlds, interfaces::same_members, look::look_at, look::look_up and 6 more.
 pub mod Sided
--- What the kinds of two `Resolve`s' types declare. Serves declarations::look_at_both, declarations::look_at_kinds, declarations::look_at_targets, declarations::same_type_meanings.
+-- What the kinds of two `Resolve`s' types declare. Serves declarations::look_at_both, declarations::look_at_kinds, declarations::look_at_targets, declarations::same_declarations and 1 more.
 pub mod Declared
 -- Worked examples, which the prover computes. Serves no function.
 mod Examples
@@ -26,7 +28,7 @@ pub mod Keyed
 pub mod Transitive
 -- Lists in which the same is found have the same included, the same faults and the same pairs. Serves sides::compare_sides, worlds::compare_named.
 pub mod Matching
--- What is found under a name, and what two interfaces have by name. Serves contents::same_item_under, interfaces::same_function_under, interfaces::same_interfaces, interfaces::same_members and 1
+-- What is found under a name, and what two interfaces have by name. Serves contents::same_item_under, interfaces::same_function_under, interfaces::same_interfaces, interfaces::same_members and 2
 -- more.
 pub mod Members
 -- What interfaces are called. Serves names::interface_names, names::labels, names::note_world.
@@ -46,9 +48,9 @@ pub mod Repeating
 -- What is refused isn't accepted. Serves laws::refusals_are_exact, worlds::compare_named.
 pub mod Refusing
 -- Two maps made of lists of entries are the same where their lists are as long, and each entry of the one is found in the other. Serves contents::same_indexed, interfaces::same_functions,
--- interfaces::same_named_types, sense::same_signatures.
+-- interfaces::same_named_types.
 pub mod SameMaps
--- Two functions have the same opened signature exactly where its parts are the same. Serves functions::same_functions, included, included::check_entry, part::same_parts and 2 more.
+-- Two functions have the same opened signature exactly where its parts are the same. Serves functions::same_functions, included, included::check_entry, part::same_parts and 3 more.
 pub mod Signatures
--- Items of worlds of two `Resolve`s. Serves contents::items, contents::put, contents::same_item_under, contents::same_lists and 5 more.
+-- Items of worlds of two `Resolve`s. Serves contents::items, contents::put, contents::same_indexed, contents::same_item_under and 6 more.
 pub mod WorldContents

@@ -1,23 +1,36 @@
 -- What is found under a name, and what two interfaces have by name.
-use Rattle.std.proofs.Common.{rules as std_rules, ◌≡◌, ◌↔◌, sym, ap, ◌∙◌, ℕ, Bool, false, List, Option, Some, None, option_map, IsTrue}
+use Rattle.std.proofs.Common.{rules as std_rules, ◌≡◌, ◌↔◌, sym, ap, subst, ◌∙◌, ℕ, Bool, false, List, Option, Some, None, option_map, IsTrue, IfSome, IfOk, Result}
 use Rattle.std.proofs.lemmas.Option.{same_Some as same-some}
-use Rattle.std.specs.List.{Contains, IsAmong}
-use Rattle.wit_model.specs.declared.model.{Resolve.Resolve, Interface.Interface}
-use Rattle.wit_model.specs.{Lookup.interface_at, Meaning.InterfaceSense, Meaning.interface_sense, Meant.interface_meaning, Meant.interface_meaning_at}
+use Rattle.std.specs.{Borrow.Bor, List.Contains, List.IsAmong, Option.option_copied}
+use Rattle.wit_model.specs.declared.model.{Resolve.Resolve, Interface.Interface, TypeId.TypeId}
+use Rattle.wit_model.specs.{Lookup.interface_at, Meaning.InterfaceSense, Meaning.TypeMeaning, Meaning.interface_sense}
+use Rattle.wit_model.specs.{Meant.interface_meaning, Meant.interface_meaning_at, Meant.type_meaning_at, Text.Text}
 use Rattle.wit_compat.specs.TwoSides.{functions_sense, types_sense}
 use Rattle.wit_compat.proofs.Sided.{never}
+use Rattle.base_lemmas.proofs.Options.{if_ok}
 
-pub among_contains : {X : Type 0} (xs : List X) (x : X) → IsAmong xs x → Contains xs x
-among_contains xs x (i, h) = (i, h.0, sym h.1)
+pub among_found : {X : Type 0} (xs : List X) (o : Option (Bor X)) (y : Bor X) → IfSome o (λ x. IsAmong xs x.now) → o ≡ Some y → Contains xs y.now
+among_found xs o y h is = let m : IsAmong xs y.now = subst (λ p. IfSome p (λ x. IsAmong xs x.now)) is h in (m.0, m.1.0, sym m.1.1)
+
+-- what a type of a `Resolve` means
+abbrev pub meaning_in : Resolve → TypeId → TypeMeaning
+meaning_in r id = type_meaning_at r id.0
 
 -- ---- what is found under a name
 
-module _ {X Y : Type 0} (g : Y → X) (x : X) where
-  pub found_exact : (o : Option Y) (y : Y) (b : Bool) → o ≡ Some y → (IsTrue b ↔ (x ≡ g y)) → IsTrue b ↔ (option_map g o ≡ Some x)
-  found_exact o y b e h = (λ t. ap (option_map g) e ∙ ap Some (sym (h.0 t)), λ same. h.1 (sym (same-some (g y) x (sym (ap (option_map g) e) ∙ same))))
+-- a look-up, by a text that is the name
+module _ {X Y : Type 0} (g : Y → X) (x : X) (find : Text → Option Y) (t name : Text) (o : Option (Bor Y)) (same : t ≡ name)
+    (value : option_copied o ≡ find t) where
+  found : (p : Option (Bor Y)) → o ≡ p → option_map g (find name) ≡ option_map g (option_copied p)
+  found p is = ap (λ u. option_map g (find u)) (sym same) ∙ ap (option_map g) (sym value) ∙ ap (λ q. option_map g (option_copied q)) is
 
-  pub missing_exact : (o : Option Y) → o ≡ None → IsTrue false ↔ (option_map g o ≡ Some x)
-  missing_exact o e = never _ (λ same. let wrong : None ≡ Some x = sym (ap (option_map g) e) ∙ same in let z : ⊥ = cc in z)
+  pub found_exact : (y : Bor Y) → o ≡ Some y → {E : Type 0} (b : Result Bool E) → IfOk b (λ b. IsTrue b ↔ (x ≡ g y.now))
+      → IfOk b (λ b. IsTrue b ↔ (option_map g (find name) ≡ Some x))
+  found_exact y is b h =
+      if_ok _ _ (λ b e. (λ t. found (Some y) is ∙ ap Some (sym (e.0 t)), λ q. e.1 (sym (same-some (g y.now) x (sym (found (Some y) is) ∙ q))))) b h
+
+  pub missing_exact : o ≡ None → IsTrue false ↔ (option_map g (find name) ≡ Some x)
+  missing_exact is = never _ (λ q. let wrong : None ≡ Some x = sym (found None is) ∙ q in let z : ⊥ = cc in z)
 
 -- ---- interfaces
 

@@ -1,12 +1,12 @@
 -- Texts by number: a number is one text's, and stays.
-use Rattle.std.proofs.Common.{rules as std_rules, ◌≡◌, refl, sym, ap, ◌∙◌, ℕ, ◌+◌, ◌==◌, suc, ◌↔◌, IsTrue, Bool, true, false, cond, not, ◌||◌, List, [], ◌∷◌, ◌++◌, map, Option, Some, None, option_map, true≢false, arith}
+use Rattle.std.proofs.Common.{rules as std_rules, ◌≡◌, refl, sym, ap, ◌∙◌, ℕ, ◌+◌, ◌==◌, suc, ◌↔◌, IsTrue, Bool, true, false, cond, not, ◌||◌, List, [], ◌∷◌, ◌++◌, map, Option, Some, None, option_map, slice_get, subst, true≢false}
 use Rattle.std.proofs.lemmas.{Bool.eqb-true, Bool.eq-eqb, List.map-append}
 use Rattle.std.specs.{Borrow.Bor, List.list_any, List.position_or_len}
 use Rattle.wit_model.specs.Text.{Text, text_eq}
 use Rattle.wit_model.proofs.{VersionLaws.same_text, TextLemmas.text_same}
 use Rattle.wit_compat.specs.declared.part.Entry.{Entry}
 use Rattle.wit_compat.specs.Numbered.{BorrowedTexts, number_in, KeepsNumbers, AreNumbered, AllNumbersTell}
-use Rattle.base_lemmas.proofs.Options.{some_same}
+use Rattle.base_lemmas.proofs.Options.{some_is, some_same}
 
 abbrev is_text : Text → Bor (List ℕ) → Bool
 is_text t k = text_eq t k.now
@@ -50,12 +50,11 @@ numbers_kept ks k t n h = search (std_rules, number-append)
 -- the numbers of texts stay
 numbers_stay : (ks js : BorrowedTexts) (ts : List Text) (ns : List ℕ) → KeepsNumbers ks js → map (number_in ks) ts ≡ map Some ns → map (number_in js) ts ≡ map Some ns
 numbers_stay ks js [] [] kept h = refl
-numbers_stay ks js [] (n ∷ ns) kept h = absurd (let z : ⊥ = cc in z)
-numbers_stay ks js (t ∷ ts) [] kept h = absurd (let z : ⊥ = cc in z)
 numbers_stay ks js (t ∷ ts) (n ∷ ns) kept h =
     let first : number_in ks t ≡ Some n = cc in
     let rest : map (number_in ks) ts ≡ map Some ns = cc in
     λ i. kept t n first i ∷ numbers_stay ks js ts ns kept rest i
+numbers_stay ks js _ _ kept h = absurd (let z : ⊥ = cc in z)
 
 -- the number of one text more
 pub numbers_more : (ks js : BorrowedTexts) (ts : List Text) (ns : List ℕ) (t : Text) (n : ℕ) → KeepsNumbers ks js → map (number_in ks) ts ≡ map Some ns → number_in js t ≡ Some n
@@ -64,21 +63,17 @@ numbers_more ks js ts ns t n kept h g = search (std_rules, map-append, numbers_s
 
 -- ---- one number, one text
 
-one_text : (ks : BorrowedTexts) (t u : Text) (n : ℕ) → number_in ks t ≡ Some n → number_in ks u ≡ Some n → t ≡ u
-one_text [] t u n h g = absurd (let z : ⊥ = cc in z)
-one_text (k ∷ ks) t u n h g = by (text_eq t k.now) refl (text_eq u k.now) refl h g (one_text ks t u)
+number_there : (ks : BorrowedTexts) (t : Text) (n : ℕ) → number_in ks t ≡ Some n → slice_get (map (λ k. k.now) ks) n ≡ Some t
+number_there [] t n h = absurd (let z : ⊥ = cc in z)
+number_there (k ∷ ks) t n h = by (text_eq t k.now) refl h (number_there ks t)
   where
-    by : (a : Bool) → text_eq t k.now ≡ a → (b : Bool) → text_eq u k.now ≡ b
-        → cond a (Some 0) (option_map suc (number_in ks t)) ≡ Some n → cond b (Some 0) (option_map suc (number_in ks u)) ≡ Some n
-        → ((m : ℕ) → number_in ks t ≡ Some m → number_in ks u ≡ Some m → t ≡ u) → t ≡ u
-    by true e true f h g later = text_same t k.now e ∙ sym (text_same u k.now f)
-    by true e false f h g later = let w = some_suc (number_in ks u) n g in absurd (let z = some_same 0 n h in let y = w.2 in omega (arith, z, y))
-    by false e true f h g later = let w = some_suc (number_in ks t) n h in absurd (let z = some_same 0 n g in let y = w.2 in omega (arith, z, y))
-    by false e false f h g later =
-        let w = some_suc (number_in ks t) n h in
-        let v = some_suc (number_in ks u) n g in
-        let same : v.0 ≡ w.0 = (let y = w.2 in let z = v.2 in omega (arith, y, z)) in
-        later w.0 w.1 (v.1 ∙ ap Some same)
+    by : (b : Bool) → text_eq t k.now ≡ b → cond b (Some 0) (option_map suc (number_in ks t)) ≡ Some n
+        → ((m : ℕ) → number_in ks t ≡ Some m → slice_get (map (λ k. k.now) ks) m ≡ Some t) → slice_get (k.now ∷ map (λ k. k.now) ks) n ≡ Some t
+    by true e h later = subst (λ m. slice_get (k.now ∷ map (λ k. k.now) ks) m ≡ Some t) (some_same 0 n h) (ap Some (sym (text_same t k.now e)))
+    by false e h later = let w = some_suc (number_in ks t) n h in subst (λ m. slice_get (k.now ∷ map (λ k. k.now) ks) m ≡ Some t) w.2 (later w.0 w.1)
+
+one_text : (ks : BorrowedTexts) (t u : Text) (n : ℕ) → number_in ks t ≡ Some n → number_in ks u ≡ Some n → t ≡ u
+one_text ks t u n h g = some_is t u (sym (number_there ks t n h) ∙ number_there ks u n g)
 
 pub numbers_tell : (ks : BorrowedTexts) (t u : Text) (n m : ℕ) → number_in ks t ≡ Some n → number_in ks u ≡ Some m → (n == m) ≡ text_eq t u
 numbers_tell ks t u n m h g = search (std_rules, eq-eqb, some_same, text_same, same_text, one_text, eqb-true)

@@ -1,10 +1,10 @@
 -- The four parts of a form tell which form it is.
-use Rattle.std.proofs.Common.{rules as std_rules, ◌≡◌, refl, sym, ap, ◌∙◌, ℕ, ◌+◌, ◌<◌, Bool, true, false, ◌&&◌, List, [], ◌∷◌, map, Option, Some, None, Bor, String, zero, suc, get_or, length, arith}
-use Rattle.std.proofs.{Math.Bool.beq, lemmas.Slice.Eq.bytes_eq-Decides, Math.ListN.length-map, Math.ListN.get_or-map}
+use Rattle.std.proofs.Common.{rules as std_rules, ◌≡◌, refl, sym, ap, ◌∙◌, ℕ, ◌+◌, ◌<◌, Bool, true, false, ◌&&◌, List, [], ◌∷◌, map, Option, Some, None, String, zero, suc, get_or, length, arith}
+use Rattle.std.proofs.Math.ListN.{get_or-map, length-map}
 use Rattle.std.specs.Cmp.Lexicographic.{pointwise}
 use Rattle.std.specs.declared.alloc.Global.{Global}
 use Rattle.wit_model.specs.declared.model.{Variant.Variant, Resolve.Resolve, Interface.Interface}
-use Rattle.wit_model.specs.Text.{Text, text_eq, text_of}
+use Rattle.wit_model.specs.Text.{Text, text_of}
 use Rattle.wit_model.specs.Tree.{Form, record_of, variant_of, list_of, fixed_list_of, option_of, own_of, borrow_of, map_of, tuple_of, flags_of, enum_of, result_of, future_of, stream_of}
 use Rattle.wit_compat.specs.{Opened.form_of, Opened.interface_name, Opened.is_there, Numbered.BorrowedTexts, Numbered.number_in}
 use Rattle.wit_compat.specs.Outline.{sort_of, labels_of, given_of, count_of, names_from, interface_names}
@@ -61,26 +61,21 @@ form_back x = search (std_rules, zipped_back)
 pub same_forms : (f g : Option Form) → sort_of f ≡ sort_of g → labels_of f ≡ labels_of g → given_of f ≡ given_of g → count_of f ≡ count_of g → f ≡ g
 same_forms f g s l b n = sym (form_back f) ∙ (λ i. form_from (s i) (l i) (b i) (n i)) ∙ form_back g
 
--- lists of borrowed texts
-pub pointwise_now : (xs ys : List (Bor (List ℕ))) → pointwise (λ a b. text_eq a.now b.now) xs ys ≡ pointwise text_eq (map (λ s. s.now) xs) (map (λ s. s.now) ys)
-pointwise_now [] [] = refl
-pointwise_now [] (y ∷ ys) = refl
-pointwise_now (x ∷ xs) [] = refl
-pointwise_now (x ∷ xs) (y ∷ ys) = ap (λ b. text_eq x.now y.now && b) (pointwise_now xs ys)
+-- two lists by a test of their items, one by one
+module _ {A : Type 0} (eq : A → A → Bool) where
+  pub items_same : ((x y : A) → eq x y ≡ true → x ≡ y) → (xs ys : List A) → pointwise eq xs ys ≡ true → xs ≡ ys
+  items_same one [] [] e = refl
+  items_same one (x ∷ xs) (y ∷ ys) e =
+      let rest = items_same one xs ys (second_true (eq x y) (pointwise eq xs ys) e) in
+      λ i. one x y (first_true (eq x y) (pointwise eq xs ys) e) i ∷ rest i
+  items_same one _ _ e = absurd (let z : ⊥ = cc in z)
 
-pub texts_same : (xs ys : List Text) → pointwise text_eq xs ys ≡ true → xs ≡ ys
-texts_same [] [] e = refl
-texts_same [] (y ∷ ys) e = absurd (let z : ⊥ = cc in z)
-texts_same (x ∷ xs) [] e = absurd (let z : ⊥ = cc in z)
-texts_same (x ∷ xs) (y ∷ ys) e =
-    search (std_rules, bytes_eq-Decides, first_true, second_true, texts_same xs ys (second_true (text_eq x y) (pointwise text_eq xs ys) e))
+  items_alike : ((x : A) → eq x x ≡ true) → (xs : List A) → pointwise eq xs xs ≡ true
+  items_alike one [] = refl
+  items_alike one (x ∷ xs) = ap (λ b. b && pointwise eq xs xs) (one x) ∙ items_alike one xs
 
-texts_refl : (xs : List Text) → pointwise text_eq xs xs ≡ true
-texts_refl [] = refl
-texts_refl (x ∷ xs) = ap (λ b. b && pointwise text_eq xs xs) ((bytes_eq-Decides x x).1 refl) ∙ texts_refl xs
-
-pub texts_differ : (xs ys : List Text) → pointwise text_eq xs ys ≡ false → xs ≡ ys → ⊥
-texts_differ xs ys e q = let s : true ≡ false = sym (texts_refl xs) ∙ ap (pointwise text_eq xs) q ∙ e in let z : ⊥ = cc in z
+  pub items_differ : ((x : A) → eq x x ≡ true) → (xs ys : List A) → pointwise eq xs ys ≡ false → xs ≡ ys → ⊥
+  items_differ one xs ys e q = let s : true ≡ false = sym (items_alike one xs) ∙ ap (pointwise eq xs) q ∙ e in let z : ⊥ = cc in z
 
 -- ---- the names of interfaces
 
@@ -113,20 +108,3 @@ module _ (r : Resolve) (keys : BorrowedTexts) (numbers : List ℕ) (e : map (num
 
   pub number_at : (n d : ℕ) → n < length r.interfaces.items → number_in keys (interface_name r n) ≡ Some (get_or numbers n d)
   number_at n d h = search (std_rules, mapped_at (number_in keys) r 0 r.interfaces.items n (Some d) h, get_or-map Some numbers n d)
-
-pub marks_same : (xs ys : List Bool) → pointwise beq xs ys ≡ true → xs ≡ ys
-marks_same [] [] e = refl
-marks_same [] (y ∷ ys) e = absurd (let z : ⊥ = cc in z)
-marks_same (x ∷ xs) [] e = absurd (let z : ⊥ = cc in z)
-marks_same (true ∷ xs) (true ∷ ys) e = ap (λ zs. true ∷ zs) (marks_same xs ys e)
-marks_same (false ∷ xs) (false ∷ ys) e = ap (λ zs. false ∷ zs) (marks_same xs ys e)
-marks_same (true ∷ xs) (false ∷ ys) e = absurd (let z : ⊥ = cc in z)
-marks_same (false ∷ xs) (true ∷ ys) e = absurd (let z : ⊥ = cc in z)
-
-marks_refl : (xs : List Bool) → pointwise beq xs xs ≡ true
-marks_refl [] = refl
-marks_refl (true ∷ xs) = marks_refl xs
-marks_refl (false ∷ xs) = marks_refl xs
-
-pub marks_differ : (xs ys : List Bool) → pointwise beq xs ys ≡ false → xs ≡ ys → ⊥
-marks_differ xs ys e q = let s : true ≡ false = sym (marks_refl xs) ∙ ap (pointwise beq xs) q ∙ e in let z : ⊥ = cc in z

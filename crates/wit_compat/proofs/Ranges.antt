@@ -23,7 +23,7 @@ module _ (r : Resolve) (v : IsValid r) where
   import_in_range w n i e = by (world_at r w) refl e
     where
       at : (world : World) → world_at r w ≡ Some world → (o : Option (WorldKey × WorldItem)) → slice_get world.imports.entries n ≡ o → option_map (λ e. e.1) o ≡ Some i → item_in_range r i ≡ true
-      at world there None q h = let wrong : ⊥ = cc in absurd wrong
+      at world there None q h = absurd (let wrong : ⊥ = cc in wrong)
       at world there (Some x) q h =
           let both = all_contained (λ e. key_in_range r e.0 && item_in_range r e.1) world.imports.entries x (world_numbers r v w world there).0 (get-contains world.imports.entries n x q) in
           ap (item_in_range r) (sym (same-some x.1 i h)) ∙ second_true (key_in_range r x.0) (item_in_range r x.1) both

@@ -1,24 +1,22 @@
 -- A world whose keys stand once shows nothing twice, so it may take its own place.
-use Rattle.std.proofs.Common.{rules as std_rules, arith, ◌≡◌, refl, sym, ap, subst, ◌∙◌, ◌⊎◌, inl, inr, ℕ, ◌+◌, length, Bool, true, false, ◌&&◌, ◌||◌, not, cond, List, [], ◌∷◌, ◌++◌, map, Option, Some, None, String, option_map}
-use Rattle.std.proofs.lemmas.List.Elements.{Contains-append_left, Contains-append_right, Contains-append_cases, Contains-push}
+use Rattle.std.proofs.Common.{rules as std_rules, ◌≡◌, refl, sym, ap, subst, ◌∙◌, ℕ, ◌+◌, length, Bool, true, false, ◌&&◌, ◌||◌, not, cond, List, [], ◌∷◌, ◌++◌, map, Option, Some, None, String, option_map}
 use Rattle.std.proofs.lemmas.{Cmp.nat_list_eq_equiv, Slice.Eq.bytes_eq-Decides, Bool.ltb-true as is_below}
 use Rattle.std.specs.declared.alloc.Global.{Global}
 use Rattle.std.specs.List.{AllByRecursion, Contains, IsDistinct, find, list_all, list_any}
 use Rattle.std.specs.{Option.option_map_or, Prelude.string_eq}
 use Rattle.indexmap.specs.IndexMap.{keys, values}
-use Rattle.wit_model.specs.declared.model.{Resolve.Resolve, World.World, Function.Function, TypeDef.TypeDef, TypeId.TypeId}
-use Rattle.wit_model.specs.declared.model.{Interface.Interface, WorldKey.WorldKey, WorldItem.WorldItem, FunctionKind.FunctionKind, TypeOwner.TypeOwner}
-use Rattle.wit_model.specs.{Text.Text, Text.text_of, Text.text_eq, Lookup.interface_at, Lookup.type_at, Lookup.resource_of}
-use Rattle.wit_model.specs.{Names.is_label, Checks.KeepsIn, Checks.has_name, Checks.listings}
+use Rattle.wit_model.specs.declared.model.{Resolve.Resolve, World.World, Function.Function, TypeDef.TypeDef, TypeId.TypeId, Interface.Interface, WorldKey.WorldKey, WorldItem.WorldItem, FunctionKind.FunctionKind, TypeOwner.TypeOwner}
+use Rattle.wit_model.specs.{Text.Text, Text.text_of, Text.text_eq, Lookup.interface_at, Lookup.type_at, Lookup.resource_of, Names.is_label, Checks.KeepsIn, Checks.has_name, Checks.listings}
 use Rattle.wit_model.specs.Rules.{are_member_labels, function_labels, in_list, is_freestanding, is_member, is_member_of, is_stability, kind_labels, passes, resource_name}
 use Rattle.wit_model.specs.Valid.{IsValid, as_interface, functions_of_interface, function_names, labels, order_of_types}
 use Rattle.wit_model.proofs.Entries.{each_from_all, each_from_at, lists_pass, none_breaks}
 use Rattle.wit_model.proofs.Listings.{interface_fits, misnamed_in_interface_breaks}
 use Rattle.wit_compat.specs.{Compatible.Accepts, Compatible.HasKeysOnce, Compatible.IsIncluded, Compatible.bare_keys, Opened.bare_key}
 use Rattle.wit_compat.specs.Flat.{Name, Shown, Thing, interface, of_type, of_function, entry_things, find_named, flat, function_member, item_things, members, same_name, shown, things_of, type_member}
-use Rattle.wit_compat.proofs.{Including.found_shown, Indexing.same_name_is, Keyed.item_key, Validity.interface_numbers}
+use Rattle.wit_compat.proofs.{Including.found_shown, Indexing.same_name_is, Keyed.item_key, Keyed.of_members, Validity.interface_numbers}
+use Rattle.wit_compat.proofs.Either.{flat_from, of_first, of_two}
 use Rattle.base_lemmas.proofs.{Bools.left_of as first_true, Bools.right_of as second_true, Lists.within_there as found_at}
-use Rattle.base_lemmas.proofs.Elements.{all-contained as all_contained, any-at as any_contained, contains-map as contains_mapped, last_of as contains_one, map_from as contains_map, none_in as none_contained}
+use Rattle.base_lemmas.proofs.Elements.{all-contained as all_contained, all_at, any-at as any_contained, contains-later, contains-map as contains_mapped, first-contained, map_from as contains_map, none_in as none_contained}
 use Rattle.wit_model.specs.declared.error.EntryList.TheVariants as lists
 use Rattle.wit_model.specs.declared.model.«Type».TheVariants as ty
 
@@ -33,37 +31,26 @@ same_itself n = λ i. nat_list_eq_equiv.refl n.0 i && nat_list_eq_equiv.refl n.1
 
 -- under its name each stands
 stands_once : {X : Type 0} (xs : List (Name × X)) → AreApart xs → (e : Name × X) → Contains xs e → find_named e.0 xs ≡ Some e.1
-stands_once [] h e c = absurd (let z = c.1 in omega (arith, z))
-stands_once {X} (x ∷ xs) h e c = by (stands_once xs h.1 e) (Contains-append_cases (x ∷ []) xs e c) (same_name e.0 x.0) refl
+stands_once [] h e c = absurd (none_contained e c)
+stands_once {X} (x ∷ xs) h e c = of_first x xs e
+    (λ q. subst (λ (z : Name × X). find_named z.0 (x ∷ xs) ≡ Some z.1) q (ap (λ b. cond b (Some x.1) (find_named x.0 xs)) (same_itself x.0)))
+    (λ d. by d (stands_once xs h.1 e d) (same_name e.0 x.0) refl) c
   where
-    by : (Contains xs e → find_named e.0 xs ≡ Some e.1) → Contains (x ∷ []) e ⊎ Contains xs e → (b : Bool) → same_name e.0 x.0 ≡ b → cond b (Some x.1) (find_named e.0 xs) ≡ Some e.1
-    by later (inl d) true s = ap (λ (z : Name × X). Some z.1) (contains_one x e d)
-    by later (inl d) false s =
-        let wrong : true ≡ false = sym (same_itself e.0) ∙ ap (λ (z : Name × X). same_name e.0 z.0) (sym (contains_one x e d)) ∙ s in
-        absurd (let z : ⊥ = cc in z)
-    by later (inr d) true s = absurd (h.0 e d (sym (same_name_is e.0 x.0 s)))
-    by later (inr d) false s = later d
+    by : Contains xs e → find_named e.0 xs ≡ Some e.1 → (b : Bool) → same_name e.0 x.0 ≡ b → cond b (Some x.1) (find_named e.0 xs) ≡ Some e.1
+    by d later true s = absurd (h.0 e d (sym (same_name_is e.0 x.0 s)))
+    by d later false s = later
 
 apart_two : {X : Type 0} (xs ys : List (Name × X)) → AreApart xs → AreApart ys → ((x y : Name × X) → Contains xs x → Contains ys y → x.0 ≡ y.0 → ⊥) → AreApart (xs ++ ys)
 apart_two [] ys h k other = k
-apart_two {X} (x ∷ xs) ys h k other = (first, apart_two xs ys h.1 k (λ a b c d. other a b (Contains-append_right (x ∷ []) xs a c) d))
-  where
-    first : (y : Name × X) → Contains (xs ++ ys) y → x.0 ≡ y.0 → ⊥
-    first y c e = by (Contains-append_cases xs ys y c)
-      where
-        by : Contains xs y ⊎ Contains ys y → ⊥
-        by (inl d) = h.0 y d e
-        by (inr d) = other x y (Contains-append_left (x ∷ []) xs x (Contains-push [] x)) d e
+apart_two (x ∷ xs) ys h k other = (
+  λ y c e. of_two xs ys y (λ d. h.0 y d e) (λ d. other x y (first-contained x xs) d e) c,
+  apart_two xs ys h.1 k (λ a b c d. other a b (contains-later x xs a c) d),
+)
 
 -- ---- entries under their keys
 
 each_one : {X Y : Type 0} (p : Y → Type 0) (f : X → Y) (xs : List X) → AllByRecursion p (map f xs) → (x : X) → Contains xs x → p (f x)
-each_one p f [] h x c = absurd (none_contained x c)
-each_one p f (y ∷ ys) h x c = by (each_one p f ys h.1 x) (Contains-append_cases (y ∷ []) ys x c)
-  where
-    by : (Contains ys x → p (f x)) → Contains (y ∷ []) x ⊎ Contains ys x → p (f x)
-    by later (inl d) = subst (λ z. p (f z)) (contains_one y x d) h.0
-    by later (inr d) = later d
+each_one p f xs h x c = all_at p (map f xs) h (f x) (contains_mapped f xs x c)
 
 module _ {V : Type 0} (k : Text) (of : V → Thing) where
   abbrev member : String Global × V → Name × Thing
@@ -174,15 +161,7 @@ module _ (r : Resolve) (v : IsValid r) where
           types_and_functions
 
       members_not_empty : (y : Name × Thing) → Contains (members k i) y → (k, []) ≡ y.0 → ⊥
-      members_not_empty y c q = by (Contains-append_cases (map (type_member k) i.types.entries) (map (function_member k) i.functions.entries) y c)
-        where
-          by : Contains (map (type_member k) i.types.entries) y ⊎ Contains (map (function_member k) i.functions.entries) y → ⊥
-          by (inl d) =
-              let a = contains_map (type_member k) i.types.entries y d in
-              type_not_empty a.0 a.1 (ap (λ (z : Name × Thing). z.0.1) a.2 ∙ sym (ap (λ (m : Name). m.1) q))
-          by (inr d) =
-              let b = contains_map (function_member k) i.functions.entries y d in
-              function_key_not_empty b.0 b.1 (ap (λ (z : Name × Thing). z.0.1) b.2 ∙ sym (ap (λ (m : Name). m.1) q))
+      members_not_empty y c q = of_members (λ z. z.0.1 ≡ [] → ⊥) k i type_not_empty function_key_not_empty y c (sym (ap (λ (m : Name). m.1) q))
 
   -- ---- what an item shows
 
@@ -197,13 +176,7 @@ module _ (r : Resolve) (v : IsValid r) where
   item_apart k x = search (std_rules, one_apart, optional_apart)
 
   entry_key : (es : List (WorldKey × WorldItem)) (x : Name × Thing) → Contains (things_of r es) x → (e : WorldKey × WorldItem) × Contains es e × (x.0.0 ≡ bare_key r e.0)
-  entry_key [] x c = absurd (none_contained x c)
-  entry_key (e ∷ es) x c = by (entry_key es x) (Contains-append_cases (entry_things r e) (things_of r es) x c)
-    where
-      by : (Contains (things_of r es) x → (f : WorldKey × WorldItem) × Contains es f × (x.0.0 ≡ bare_key r f.0)) → Contains (entry_things r e) x ⊎ Contains (things_of r es) x
-          → (f : WorldKey × WorldItem) × Contains (e ∷ es) f × (x.0.0 ≡ bare_key r f.0)
-      by later (inl d) = (e, Contains-append_left (e ∷ []) es e (Contains-push [] e), item_key r (bare_key r e.0) e.1 x d)
-      by later (inr d) = let w = later d in (w.0, Contains-append_right (e ∷ []) es w.0 w.1, w.2)
+  entry_key es x c = let w = flat_from (entry_things r) es x c in (w.0, w.1, item_key r (bare_key r w.0.0) w.0.1 x w.2)
 
   -- ---- what a world shows
 

@@ -1,6 +1,7 @@
 -- What is refused isn't accepted.
-use Rattle.std.proofs.Common.{◌≡◌, sym, ap, subst, inl, inr, List, [], ◌∷◌, ◌++◌, Option, Some, unwrap_or}
-use Rattle.std.proofs.lemmas.List.Elements.{Contains-append_left, Contains-append_right, Contains-push}
+use Rattle.std.proofs.Common.{◌≡◌, sym, ap, subst, inl, inr, List, ◌∷◌, ◌++◌, Option, Some, unwrap_or}
+use Rattle.std.proofs.lemmas.List.Elements.{Contains-append_right}
+use Rattle.base_lemmas.proofs.Elements.{first-contained}
 use Rattle.std.specs.List.{Contains}
 use Rattle.wit_model.specs.declared.{model.Resolve.Resolve, model.World.World, error.Error.Error}
 use Rattle.wit_compat.specs.Compatible.{Accepts, IsFault, is_missing, is_other, IsFirstFault, IsIncluded, IsMismatch, IsRefused, memory, refused, IsRepeated, Refusal, Refuses, package_name, packages, keys, imports, exports, HasKeysOnce, keys_of_world}
@@ -15,7 +16,7 @@ fault_excludes : (small large : List (Name × Shown)) (f : Refusal) → IsFirstF
 fault_excludes small large f w i =
     no_fault w.entry.0 w.entry.1 (find_named w.entry.0 large) f w.wrong
     (i w.entry (subst (λ (xs : List (Name × Shown)). Contains xs w.entry) (sym w.split)
-    (Contains-append_right w.front (w.entry ∷ w.rest) w.entry (Contains-append_left (w.entry ∷ []) w.rest w.entry (Contains-push [] w.entry)))))
+    (Contains-append_right w.front (w.entry ∷ w.rest) w.entry (first-contained w.entry w.rest))))
 
 pub refused_not_accepted : (r : Resolve) (a b : World) (f : Refusal) → Refuses r a b f → Accepts r a b → ⊥
 refused_not_accepted r a b _ (packages other) h = other h.comparable.packages

@@ -1,13 +1,14 @@
 -- Texts that stand once, and the first that repeats an earlier one.
-use Rattle.std.proofs.Common.{rules as std_rules, arith, ◌≡◌, refl, sym, ap, subst, ◌∙◌, ◌⊎◌, inl, inr, true, false, cond, List, [], ◌∷◌, ◌++◌, append_assoc, map, Bor, ℕ, Option, None, Some, MatchOption, Result, IfOk}
+use Rattle.std.proofs.Common.{rules as std_rules, ◌≡◌, refl, sym, ap, subst, ◌∙◌, true, false, cond, List, [], ◌∷◌, ◌++◌, append_assoc, map, Bor, ℕ, Option, None, Some, MatchOption, Result, IfOk}
 use Rattle.std.proofs.lemmas.{List.map-append, Slice.Eq.bytes_eq-Decides, Bool.or_parts as neither}
-use Rattle.std.proofs.lemmas.List.Elements.{Contains-append_left, Contains-append_right, Contains-append_cases, Contains-push}
+use Rattle.std.proofs.lemmas.List.Elements.{Contains-append_right}
 use Rattle.std.specs.List.{list_any, AllByRecursion, Contains, IsDistinct}
 use Rattle.wit_model.specs.declared.model.{Resolve.Resolve, World.World}
 use Rattle.wit_model.specs.Text.{Text, text_eq}
 use Rattle.wit_model.proofs.{Distinct.text_eq_flip, TextLemmas.text_there as any_there}
 use Rattle.wit_compat.specs.Compatible.{keys_of_world, HasKeysOnce, IsFirstRepeat, IsRepeatedIn}
-use Rattle.base_lemmas.proofs.Elements.{any_of_map as list_any_mapped, last_of as contains_one}
+use Rattle.base_lemmas.proofs.Elements.{all_at, all_end, any_of_map as list_any_mapped, first-contained, last_of as contains_one, none_in}
+use Rattle.wit_compat.proofs.Either.{of_first, of_two}
 
 abbrev pub now : List (Bor (List ℕ)) → List Text
 now = map (λ s. s.now)
@@ -17,16 +18,12 @@ now_push keys t = map-append (λ s. s.now) keys (t ∷ [])
 
 -- ---- a text more
 
-apart_push : (x : Text) (xs : List Text) (t : Text) → AllByRecursion (λ y. text_eq x y ≡ false) xs → text_eq t x ≡ false → AllByRecursion (λ y. text_eq x y ≡ false) (xs ++ t ∷ [])
-apart_push x [] t h e = (text_eq_flip x t ∙ e, tt)
-apart_push x (y ∷ ys) t h e = (h.0, apart_push x ys t h.1 e)
-
 pub distinct_push : (xs : List Text) (t : Text) → IsDistinct text_eq xs → list_any (text_eq t) xs ≡ false → IsDistinct text_eq (xs ++ t ∷ [])
 unfolding IsDistinct
 distinct_push [] t d e = (tt, tt)
 distinct_push (x ∷ xs) t d e =
     let n = neither (text_eq t x) (list_any (text_eq t) xs) e in
-    (apart_push x xs t d.0 n.0, distinct_push xs t d.1 n.1)
+    (all_end (λ y. text_eq x y ≡ false) xs t d.0 (text_eq_flip x t ∙ n.0), distinct_push xs t d.1 n.1)
 
 -- the same of borrowed texts
 module _ (keys : List (Bor (List ℕ))) (t : Bor (List ℕ)) where
@@ -42,23 +39,13 @@ module _ (keys : List (Bor (List ℕ))) (t : Bor (List ℕ)) where
 -- ---- lists in turn
 
 all_differ : (x : Text) (xs : List Text) (y : Text) → AllByRecursion (λ z. text_eq x z ≡ false) xs → Contains xs y → x ≡ y → ⊥
-all_differ x [] y h c e = let z = c.1 in omega (arith, z)
-all_differ x (v ∷ vs) y h c e = by (λ d. all_differ x vs y h.1 d e) (Contains-append_cases (v ∷ []) vs y c)
-  where
-    by : (Contains vs y → ⊥) → Contains (v ∷ []) y ⊎ Contains vs y → ⊥
-    by later (inl d) =
-        let same : text_eq x v ≡ true = (bytes_eq-Decides x v).1 (e ∙ sym (contains_one v y d)) in
-        let wrong : true ≡ false = sym same ∙ h.0 in cc
-    by later (inr d) = later d
+all_differ x xs y h c e = let wrong : true ≡ false = sym ((bytes_eq-Decides x y).1 e) ∙ all_at (λ z. text_eq x z ≡ false) xs h y c in cc
 
 pub distinct_apart : (xs ys : List Text) (t : Text) → IsDistinct text_eq (xs ++ t ∷ ys) → Contains xs t → ⊥
 unfolding IsDistinct
-distinct_apart [] ys t d c = let z = c.1 in omega (arith, z)
-distinct_apart (x ∷ xs) ys t d c = by (distinct_apart xs ys t d.1) (Contains-append_cases (x ∷ []) xs t c)
-  where
-    by : (Contains xs t → ⊥) → Contains (x ∷ []) t ⊎ Contains xs t → ⊥
-    by later (inl e) = all_differ x (xs ++ t ∷ ys) t d.0 (Contains-append_right xs (t ∷ ys) t (Contains-append_left (t ∷ []) ys t (Contains-push [] t))) (contains_one x t e)
-    by later (inr e) = later e
+distinct_apart [] ys t d c = absurd (none_in t c)
+distinct_apart (x ∷ xs) ys t d c =
+    of_first x xs t (all_differ x (xs ++ t ∷ ys) t d.0 (Contains-append_right xs (t ∷ ys) t (first-contained t ys))) (distinct_apart xs ys t d.1) c
 
 -- a list with a repeat has a text twice
 pub repeat_excludes : (ts : List Text) (t : Text) → IsFirstRepeat ts t → IsDistinct text_eq ts → ⊥
@@ -68,7 +55,7 @@ pub repeated_excludes : (lists : List (List Text)) (t : Text) → IsRepeatedIn l
 repeated_excludes lists t f all =
     repeat_excludes f.list t f.repeats
     (all f.list (subst (λ (xs : List (List Text)). Contains xs f.list) (sym f.split)
-    (Contains-append_right f.front (f.list ∷ f.rest) f.list (Contains-append_left (f.list ∷ []) f.rest f.list (Contains-push [] f.list)))))
+    (Contains-append_right f.front (f.list ∷ f.rest) f.list (first-contained f.list f.rest))))
 
 pub repeated_first : (ts : List Text) (rest : List (List Text)) (t : Text) → IsFirstRepeat ts t → IsRepeatedIn (ts ∷ rest) t
 repeated_first ts rest t f = record {
@@ -76,7 +63,7 @@ repeated_first ts rest t f = record {
   list = ts;
   rest = rest;
   split = refl;
-  before = λ xs c. absurd (let z = c.1 in omega (arith, z));
+  before = λ xs c. absurd (none_in xs c);
   repeats = f;
 }
 
@@ -89,13 +76,9 @@ repeated_behind xs ys t all f = record {
   list = f.list;
   rest = f.rest;
   split = ap (λ zs. xs ++ zs) f.split ∙ sym (append_assoc xs f.front (f.list ∷ f.rest));
-  before = λ ts c. by ts (Contains-append_cases xs f.front ts c);
+  before = λ ts c. of_two xs f.front ts (all ts) (f.before ts) c;
   repeats = f.repeats;
 }
-  where
-    by : (ts : List Text) → Contains xs ts ⊎ Contains f.front ts → IsDistinct text_eq ts
-    by ts (inl d) = all ts d
-    by ts (inr d) = f.before ts d
 
 -- ---- the keys of a world
 
@@ -115,9 +98,6 @@ given P Q o x m e = subst (λ p. MatchOption p P Q) e m
 
 pub none_given : {X : Type 0} (P : Type 0) (Q : X → Type 0) (o : Option X) → MatchOption o P Q → o ≡ None → P
 none_given P Q o m e = subst (λ p. MatchOption p P Q) e m
-
-either_way : {X : Type 0} (P P' : Type 0) (Q Q' : X → Type 0) (o : Option X) → (P → P') → ((x : X) → Q x → Q' x) → MatchOption o P Q → MatchOption o P' Q'
-either_way y z u v w f g m = search std_rules
 
 pub ok_either_way : {X E : Type 0} (P P' : Type 0) (Q Q' : X → Type 0) (r : Result (Option X) E) → (P → P') → ((x : X) → Q x → Q' x) → IfOk r (λ o. MatchOption o P Q)
     → IfOk r (λ o. MatchOption o P' Q')

@@ -1,96 +1,16 @@
 -- Two maps made of lists of entries are the same where their lists are as long, and each entry of the one is found in the other.
-use Rattle.std.proofs.Common.{rules as std_rules, ◌≡◌, ◌↔◌, refl, ap, Bool, List, [], ◌∷◌, ◌++◌, map, Option, Some, None, option_map, option_to_list, is_some, IsTrue, sym, subst, ◌∙◌, arith, ◌≤◌, true, false, ◌||◌, cond, length, IsSome}
+use Rattle.std.proofs.Common.{rules as std_rules, ◌≡◌, refl, ap, Bool, List, [], ◌∷◌, map, Option, Some, None, option_map, is_some, sym, subst, ◌∙◌, arith, ◌≤◌, true, false, ◌||◌, cond, length, IsSome, ◌↔◌, IsTrue, String}
 use Rattle.std.proofs.Math.ListN.{length-map}
-use Rattle.std.proofs.lemmas.{Cmp.nat_list_cmp_total, Cmp.nat_list_eq_equiv, Map.Keys.IsDistinct-cons, Map.Steps.length-le_from_keys}
-use Rattle.wit_model.specs.declared.model.{Resolve.Resolve, Function.Function, Param.Param, «Type».«Type» as ValueType}
-use Rattle.wit_model.specs.{Meaning.Signature, Meaning.FunctionMeaning, Meant.function_meaning, Meant.signature_of, Parts.function_types, Types.type_tree}
-use Rattle.wit_model.specs.Text.{Text, text_of, optional_text, TextMap, text_cmp, text_eq}
-use Rattle.wit_model.specs.Tree.{Tree}
-use Rattle.wit_compat.specs.Walk.{SameShapes}
-use Rattle.base_lemmas.proofs.{Lists.heads_equal, Lists.tails_equal, Elements.contains-later, Elements.contains-map, Options.there as some_there}
-use Rattle.std.specs.{List.Contains, List.IsDistinct, List.list_any, Map.keys_of, Map.lookup}
+use Rattle.std.proofs.lemmas.{Cmp.nat_list_cmp_total, Cmp.nat_list_eq_equiv, Map.Iter.rest_all, Map.Iter.rest_more, Map.Keys.IsDistinct-cons, Map.Steps.length-le_from_keys}
+use Rattle.std.specs.declared.alloc.Global.{Global}
+use Rattle.wit_model.specs.Text.{Text, TextMap, text_cmp, text_eq, text_of}
+use Rattle.wit_compat.proofs.Sided.{never, not_same}
+use Rattle.base_lemmas.proofs.{Elements.contains-later, Elements.contains-map, Elements.first-contained, Maps.lookup_of_map, Options.there as some_there}
+use Rattle.std.specs.{Borrow.Bor, List.Contains, List.IsDistinct, List.list_any, Map.keys_of, Map.lookup, Prelude.string_eq}
+use Rattle.std.specs.Map.Iter.{TakesFirst, deref_pair}
 use Rattle.std.specs.FinMap.{find, from_entries, get-from_entries, same_map, slice_cmp-IsAntisymmetric, nat_cmp-IsAntisymmetric}
-use Rattle.wit_model.proofs.{AnyOrder.same-text, AnyOrder.there-found, TextLemmas.none_of_texts as all_apart, TextLemmas.text_same as text-same}
+use Rattle.wit_model.proofs.{AnyOrder.distinct-texts, AnyOrder.same-text, AnyOrder.there-found, TextLemmas.none_of_texts as all_apart, TextLemmas.text_same as text-same}
 use Rattle.wit_model.proofs.Lists.{lookup_any}
-
--- ---- Functions of two `Resolve`s have the same signature where their shapes and the trees of their types are the same.
-
-module _ (a b : Resolve) where
-  abbrev left : ValueType → Tree
-  left t = type_tree a t
-
-  abbrev right : ValueType → Tree
-  right t = type_tree b t
-
-  abbrev left_param : Param → Text × Tree
-  left_param p = (text_of p.name, left p.ty)
-
-  abbrev right_param : Param → Text × Tree
-  right_param p = (text_of p.name, right p.ty)
-
-  -- parameters and what follows them
-  same_parameters : (ps qs : List Param) (o p : Option ValueType) → map (λ x. text_of x.name) ps ≡ map (λ x. text_of x.name) qs → is_some o ≡ is_some p
-      → map left (map (λ x. x.ty) ps ++ option_to_list o) ≡ map right (map (λ x. x.ty) qs ++ option_to_list p) → (map left_param ps ≡ map right_param qs) × (option_map left o ≡ option_map right p)
-  same_parameters [] [] None None n s e = (refl, refl)
-  same_parameters [] [] None (Some u) n s e = absurd (let z : ⊥ = cc in z)
-  same_parameters [] [] (Some t) None n s e = absurd (let z : ⊥ = cc in z)
-  same_parameters [] [] (Some t) (Some u) n s e = (refl, ap Some (heads_equal _ _ _ _ e))
-  same_parameters [] (q ∷ qs) o p n s e = absurd (let z : ⊥ = cc in z)
-  same_parameters (q ∷ qs) [] o p n s e = absurd (let z : ⊥ = cc in z)
-  same_parameters (x ∷ ps) (y ∷ qs) o p n s e =
-      search (std_rules, heads_equal, tails_equal, same_parameters ps qs o p (tails_equal _ _ _ _ n) s (tails_equal _ _ _ _ e))
-
-  lists_back : (ps qs : List Param) (o p : Option ValueType) → map left_param ps ≡ map right_param qs → option_map left o ≡ option_map right p
-      → map left (map (λ x. x.ty) ps ++ option_to_list o) ≡ map right (map (λ x. x.ty) qs ++ option_to_list p)
-  lists_back [] [] None None m e = refl
-  lists_back [] [] None (Some u) m e = absurd (let z : ⊥ = cc in z)
-  lists_back [] [] (Some t) None m e = absurd (let z : ⊥ = cc in z)
-  lists_back [] [] (Some t) (Some u) m e = let e' : left t ≡ right u = cc in λ i. e' i ∷ []
-  lists_back [] (q ∷ qs) o p m e = absurd (let z : ⊥ = cc in z)
-  lists_back (q ∷ qs) [] o p m e = absurd (let z : ⊥ = cc in z)
-  lists_back (x ∷ ps) (y ∷ qs) o p m e = search (std_rules, heads_equal, tails_equal, lists_back ps qs o p (tails_equal _ _ _ _ m) e)
-
-  names_back : (ps qs : List Param) → map left_param ps ≡ map right_param qs → map (λ x. text_of x.name) ps ≡ map (λ x. text_of x.name) qs
-  names_back [] [] m = refl
-  names_back [] (q ∷ qs) m = absurd (let z : ⊥ = cc in z)
-  names_back (q ∷ qs) [] m = absurd (let z : ⊥ = cc in z)
-  names_back (x ∷ ps) (y ∷ qs) m = search (std_rules, heads_equal, tails_equal, names_back ps qs (tails_equal _ _ _ _ m))
-
-  given_back : (o p : Option ValueType) → option_map left o ≡ option_map right p → is_some o ≡ is_some p
-  given_back x y e = search std_rules
-
-  module _ (f g : Function) where
-    abbrev Same : Type 0
-    Same = signature_of a f ≡ signature_of b g
-
-    params_same : Same → map left_param f.params.items ≡ map right_param g.params.items
-    params_same e = ap (λ (s : Signature). s.params) e
-
-    result_same : Same → option_map left f.result ≡ option_map right g.result
-    result_same e = ap (λ (s : Signature). s.result) e
-
-    pub shapes_same : Same → SameShapes f g
-    shapes_same e = record {
-      asyncs = ap (λ (s : Signature). s.is_async) e;
-      names = names_back f.params.items g.params.items (params_same e);
-      results = given_back f.result g.result (result_same e);
-    }
-
-    pub signatures_exact : (y : Bool) → SameShapes f g → (IsTrue y ↔ (map left (function_types f) ≡ map right (function_types g))) → IsTrue y ↔ Same
-    signatures_exact y s h = (there, λ e. h.1 (lists_back f.params.items g.params.items f.result g.result (params_same e) (result_same e)))
-      where
-        there : IsTrue y → Same
-        there t =
-            let w = same_parameters f.params.items g.params.items f.result g.result s.names s.results (h.0 t) in
-            λ i. record { is_async = s.asyncs i; params = w.0 i; result = w.1 i }
-
-    pub ids_same : function_meaning a f ≡ function_meaning b g → optional_text f.external_id ≡ optional_text g.external_id
-    ids_same m = ap (λ (z : FunctionMeaning). z.external_id) m
-
--- ---- what the page is for
-
-true_false : {P : Type 0} → true ≡ false → P
-true_false e = let wrong : ⊥ = cc in absurd wrong
 
 module _ {X : Type 0} where
   abbrev as_map : List (Text × X) → TextMap X
@@ -194,35 +114,67 @@ module _ {K A X : Type 0} (text : K → Text) (meaning : A → X) where
   from_start fs es rest e = record { found = λ h. subst (λ xs. AreFound fs (map entry xs)) e h; there = λ x c. subst (λ xs. Contains xs x) e c }
 
   module _ (fs : List (Text × X)) (es rest next : List (K × A)) (k : K) (a : A) (along : IsAlong fs es rest) (split : rest ≡ (k, a) ∷ next) where
-    pub next_there : Contains es (k, a)
-    next_there = along.there (k, a) (subst (λ xs. Contains xs (k, a)) (sym split) (0, omega arith, refl))
+    next_there : Contains es (k, a)
+    next_there = along.there (k, a) (subst (λ xs. Contains xs (k, a)) (sym split) (first-contained (k, a) next))
 
-    pub one_more : under (text k) fs ≡ Some (meaning a) → IsAlong fs es next
+    one_more : under (text k) fs ≡ Some (meaning a) → IsAlong fs es next
     one_more h = record {
       found = λ g. along.found (subst (λ xs. AreFound fs (map entry xs)) (sym split) (h, g));
       there = λ x c. along.there x (subst (λ xs. Contains xs x) (sym split) (contains-later (k, a) next x c));
     }
 
     -- an entry that isn't found tells the maps apart
-    pub not_found : IsDistinct text_eq (map text (keys_of es)) → (under (text k) fs ≡ Some (meaning a) → ⊥) → from_entries (map entry es) ≡ from_entries {R = text_cmp} fs → ⊥
+    not_found : IsDistinct text_eq (map text (keys_of es)) → (under (text k) fs ≡ Some (meaning a) → ⊥)
+        → from_entries (map entry es) ≡ from_entries {R = text_cmp} fs → ⊥
     not_found d differ same = differ (sym (found_same (map entry es) fs same (text k)) ∙ entry_found (map entry es) fs (subst (IsDistinct text_eq) (sym (keys_are es)) d) (text k) (meaning a)
         (contains-map entry es (k, a) next_there))
 
-  pub at_end : (fs : List (Text × X)) (es rest : List (K × A)) → IsAlong fs es rest → rest ≡ [] → length es ≡ length fs → IsDistinct text_eq (map text (keys_of es))
+  at_end : (fs : List (Text × X)) (es rest : List (K × A)) → IsAlong fs es rest → rest ≡ [] → length es ≡ length fs → IsDistinct text_eq (map text (keys_of es))
       → from_entries (map entry es) ≡ from_entries {R = text_cmp} fs
   at_end fs es rest along none l d =
       same_lists (map entry es) fs (subst (IsDistinct text_eq) (sym (keys_are es)) d) (length-map es entry ∙ l) (along.found (subst (λ xs. AreFound fs (map entry xs)) (sym none) tt))
 
   -- what is found under a name of the list of entries
-  found_with : (test : Text → Bool) (es : List (K × A)) → lookup test (map entry es) ≡ option_map meaning (lookup (λ k. test (text k)) es)
-  found_with test [] = refl
-  found_with test (e ∷ es) = search (std_rules, found_with test es)
-
   pub under_is : (q : Text) (es : List (K × A)) → under q (map entry es) ≡ option_map meaning (lookup (λ k. text_eq q (text k)) es)
-  under_is q es = found_with (text_eq q) es
+  under_is q es = lookup_of_map (text_eq q) text meaning es
 
 -- lists of different lengths
 module _ {K L A B X : Type 0} (text : K → Text) (other : L → Text) (f : A → X) (g : B → X) (es : List (K × A)) (fs : List (L × B)) where
-  pub lengths_differ : IsDistinct text_eq (map text (keys_of es)) → IsDistinct text_eq (map other (keys_of fs)) → (length es ≡ length fs → ⊥)
+  lengths_differ : IsDistinct text_eq (map text (keys_of es)) → IsDistinct text_eq (map other (keys_of fs)) → (length es ≡ length fs → ⊥)
       → from_entries (map (entry text f) es) ≡ from_entries {R = text_cmp} (map (entry other g) fs) → ⊥
   lengths_differ d e differ same = search (std_rules, length-map, as_long, keys_are)
+
+-- ---- a loop over the entries of one map that looks each up in another
+
+module _ {A X : Type 0} (f g : A → X) (es fs : List (String Global × A)) where
+  abbrev AreSame : Type 0
+  AreSame = from_entries {R = text_cmp} (map (entry text_of f) es) ≡ from_entries (map (entry text_of g) fs)
+
+  pub lengths_apart : IsDistinct string_eq (keys_of es) → IsDistinct string_eq (keys_of fs) → (length es ≡ length fs → ⊥) → IsTrue false ↔ AreSame
+  lengths_apart d e differ = never _ (lengths_differ text_of text_of f g es fs (distinct-texts _ d) (distinct-texts _ e) differ)
+
+  module _ (rest next : List (String Global × A)) (o : Option (Bor (String Global) × Bor A)) where
+    module _ (x : Bor (String Global) × Bor A) (along : IsAlong text_of f (map (entry text_of g) fs) es rest) (is : o ≡ Some x)
+        (steps : TakesFirst deref_pair rest o next) where
+      split : rest ≡ (x.0.now, x.1.now) ∷ next
+      split = rest_more deref_pair rest next o x is steps
+
+      abbrev IsFound : Bool → Type 0
+      IsFound b = IsTrue b ↔ (option_map g (lookup (λ k. text_eq (text_of x.0.now) (text_of k)) fs) ≡ Some (f x.1.now))
+
+      pub stands : Contains es (x.0.now, x.1.now)
+      stands = next_there text_of f _ es rest next x.0.now x.1.now along split
+
+      pub found_under : (b : Bool) → IsFound b → b ≡ true → IsAlong text_of f (map (entry text_of g) fs) es next
+      found_under b h t = one_more text_of f _ es rest next x.0.now x.1.now along split (under_is text_of g (text_of x.0.now) fs ∙ h.0 t)
+
+      pub not_under : IsDistinct string_eq (keys_of es) → (b : Bool) → IsFound b → b ≡ false → IsTrue false ↔ AreSame
+      not_under d b h e = never _ (not_found text_of f _ es rest next x.0.now x.1.now along split (distinct-texts _ d)
+          (λ found. not_same b h e (sym (under_is text_of g (text_of x.0.now) fs) ∙ found)))
+
+    pub all_found : IsAlong text_of f (map (entry text_of g) fs) es rest → o ≡ None → TakesFirst deref_pair rest o next → length es ≡ length fs
+        → IsDistinct string_eq (keys_of es) → IsTrue true ↔ AreSame
+    all_found along is steps same d = (
+      λ t. at_end text_of f _ es rest along (rest_all deref_pair rest next o is steps) (same ∙ sym (length-map fs (entry text_of g))) (distinct-texts _ d),
+      λ e. refl,
+    )

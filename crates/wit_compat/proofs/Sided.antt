@@ -1,19 +1,15 @@
 -- Types of two `Resolve`s, and the paths of their interfaces.
 use Rattle.std.proofs.Common.{rules as std_rules, arith, ◌≡◌, ◌↔◌, refl, sym, ap, subst, ◌∙◌, ◌⊎◌, inl, inr, ℕ, ◌+◌, ◌<◌, ◌≤◌, Bool, true, false, cond, List, [], ◌∷◌, ◌++◌, take, map, length, get_or, slice_get, Some, None, option_map, unwrap_or, is_some, IsTrue, String, Vec, Result, Ok, Err, IfOk}
 use Rattle.std.proofs.{Math.ListN.length-map, lemmas.List.map-append, lemmas.List.take_all, lemmas.List.Elements.Contains-push_cases}
-use Rattle.std.proofs.lemmas.Option.{slice_get-get_or, slice_get-map, same_Some as some-same, slice_get_within as below_length}
+use Rattle.std.proofs.lemmas.Option.{slice_get-get_or, slice_get-map, slice_get_read, same_Some as some-same, slice_get_within as below_length}
 use Rattle.std.specs.declared.alloc.{Global.Global, AllocError.AllocError}
 use Rattle.std.specs.{List.Contains, Option.option_map_or}
 use Rattle.wit_model.specs.declared.model.{Resolve.Resolve, TypeDef.TypeDef, TypeDefKind.TypeDefKind, «Type».«Type» as ValueType, PackageName.PackageName}
 use Rattle.wit_model.specs.declared.model.TypeId.{TypeId}
-use Rattle.wit_model.specs.{Lookup.identity_of, Lookup.place_of, Lookup.type_at, Names.is_identity, Names.is_label, Names.is_version, Names.path_in}
-use Rattle.wit_model.specs.{Paths.full_name, Text.Text, Text.text_of}
-use Rattle.wit_model.specs.{Rules.is_named_kind, Rules.passes, Rules.same_package_name, Valid.IsValid, Valid.named_kinds}
+use Rattle.wit_model.specs.{Lookup.identity_of, Lookup.place_of, Lookup.type_at, Names.is_identity, Names.is_label, Names.is_version, Names.path_in, Paths.full_name, Text.Text, Text.text_of, Rules.is_named_kind, Rules.passes, Rules.same_package_name, Valid.IsValid, Valid.named_kinds}
 use Rattle.wit_model.specs.Tree.{Tree, Trees, Place, Form, node, named, children, child_list, list_of, fixed_list_of, option_of, own_of, borrow_of, map_of, tuple_of, result_of, future_of, stream_of}
 use Rattle.wit_model.specs.Types.{number_of, number_tree, type_tree, tree_of, trees_of, no_tree, declared_by, tree_of_declaration, tree_of_definition}
-use Rattle.wit_model.proofs.{Entries.each_from_at, Entries.lists_pass, TreeTable.kept_numbers, TreeTable.kept_trees_at, PathsLemmas.named_in_full}
-use Rattle.wit_model.proofs.{NameLaws.one_path, OnePath.has-path, OnePath.package-name, OnePath.path-label, TreeLemmas.child_list_of_children as children_back}
-use Rattle.wit_model.proofs.{PathParts.path_made, VersionLaws.same_name}
+use Rattle.wit_model.proofs.{Entries.each_from_at, Entries.lists_pass, TreeTable.kept_numbers, TreeTable.kept_trees_at, PathsLemmas.named_in_full, NameLaws.one_path, OnePath.has-path, OnePath.package-name, OnePath.path-label, TreeLemmas.child_list_of_children as children_back, PathParts.path_made, VersionLaws.same_name}
 use Rattle.wit_compat.specs.declared.{look.Look.Look, side.Path.Path}
 use Rattle.wit_compat.specs.{Opened.form_of, Opened.is_there, Opened.opened_kind, Opened.places_of, Table.AllInRange, Table.InRange, Table.is_alias, Walk.Pair}
 use Rattle.wit_compat.specs.TwoSides.{path_text, IsKnown, name_leaf, rank, AllSame, IsParted, SameType, Says}
@@ -205,9 +201,6 @@ never P h = (λ t. absurd (let z : ⊥ = cc in z), λ p. absurd (h p))
 
 -- ---- place by place
 
-pub place_at : (xs ys : List ValueType) (i : ℕ) → ys ≡ xs → i < length ys → (d : ValueType) → slice_get xs i ≡ Some (get_or ys i d)
-place_at xs ys i e lt d = ap (λ zs. slice_get zs i) (sym e) ∙ slice_get-get_or ys i d lt
-
 pub tree_at_place : (a b : Resolve) (xs ys : List ValueType) (i : ℕ) (x y : ValueType) → slice_get xs i ≡ Some x → slice_get ys i ≡ Some y → map (type_tree a) xs ≡ map (type_tree b) ys
     → SameType a b x y
 tree_at_place a b xs ys i x y xat yat e =
@@ -216,16 +209,25 @@ tree_at_place a b xs ys i x y xat yat e =
     let right = slice_get-map (type_tree b) ys i ∙ ap (option_map (type_tree b)) yat in
     ap (λ o. unwrap_or o (type_tree a x)) (sym left ∙ maps ∙ right)
 
+-- what a look says of the lists that it gives
+pub parts_said : (a b : Resolve) (t u : ValueType) (l : Look) (xs ys : Vec ValueType Global) (zs : List ValueType) → Says a b t u l → l ≡ look.Parts xs ys
+    → zs ≡ xs.items
+    → IsParted a b t u zs ys.items
+parts_said a b t u l xs ys zs said is e = subst (λ ls. IsParted a b t u ls ys.items) (sym e) (subst (Says a b t u) is said)
+
 module _ (a b : Resolve) (t u : ValueType) (xs ys : List ValueType) (w : IsParted a b t u xs ys) where
-  module _ (i : ℕ) (x y : ValueType) (xat : slice_get xs i ≡ Some x) (yat : slice_get ys i ≡ Some y) where
-    pub part_below : rank x < rank t
-    part_below = w.below x (contains_at xs i x xat)
+  module _ (i : ℕ) (y : ValueType) (lt : i < length xs) (is : y ≡ get_or ys i y) where
+    abbrev x : ValueType
+    x = get_or xs i ty.Bool
 
-    pub part_left : InRange a x
-    part_left = w.left x (contains_at xs i x xat)
+    xat : slice_get xs i ≡ Some x
+    xat = slice_get-get_or xs i ty.Bool lt
 
-    pub part_right : InRange b y
-    part_right = w.right y (contains_at ys i y yat)
+    yat : slice_get ys i ≡ Some y
+    yat = let l = w.alike in slice_get_read ys _ i y refl (omega (arith, lt, l)) is
+
+    pub part_there : (rank x < rank t) × InRange a x × InRange b y
+    part_there = (w.below x (contains_at xs i x xat), w.left x (contains_at xs i x xat), w.right y (contains_at ys i y yat))
 
     pub part_differs : (SameType a b x y → ⊥) → SameType a b t u → ⊥
     part_differs n same = n (tree_at_place a b xs ys i x y xat yat (w.back same))

@@ -1,6 +1,6 @@
 -- Worlds that may take each other's place in turn.
 use Rattle.std.proofs.Common.{rules as std_rules, ◌≡◌, refl, ap, Bool, true, false, cond, sym, subst, List, [], ◌∷◌, Some, unwrap_or}
-use Rattle.std.proofs.lemmas.List.Elements.{Contains-append_left, Contains-append_right, Contains-push}
+use Rattle.base_lemmas.proofs.Elements.{contains-later, first-contained}
 use Rattle.std.specs.List.{Contains}
 use Rattle.wit_model.specs.declared.model.{Resolve.Resolve, World.World}
 use Rattle.wit_compat.specs.{Compatible.Accepts, Compatible.IsIncluded, Flat.Name, Flat.Shown, Flat.find_named, Flat.same_name}
@@ -12,11 +12,8 @@ found_stands name x [] e = absurd (let z : ⊥ = cc in z)
 found_stands {X} name x (y ∷ ys) e = by (same_name name y.0) refl (found_stands name x ys) e
   where
     by : (b : Bool) → same_name name y.0 ≡ b → (find_named name ys ≡ Some x → Contains ys (name, x)) → cond b (Some y.1) (find_named name ys) ≡ Some x → Contains (y ∷ ys) (name, x)
-    by true t later f =
-        let n : name ≡ y.0 = same_name_is name y.0 t in
-        let v : y.1 ≡ x = ap (λ o. unwrap_or o x) f in
-        subst (Contains (y ∷ ys)) (λ i. (sym n i, v i)) (Contains-append_left (y ∷ []) ys y (Contains-push [] y))
-    by false t later f = Contains-append_right (y ∷ []) ys (name, x) (later f)
+    by true t later f = subst (Contains (y ∷ ys)) (λ i. (sym (same_name_is name y.0 t) i, ap (λ o. unwrap_or o x) f i)) (first-contained y ys)
+    by false t later f = contains-later y ys (name, x) (later f)
 
 module _ (r : Resolve) where
   found_included : (xs ys zs : List (Name × Shown)) → IsIncluded xs ys → IsIncluded ys zs → IsIncluded xs zs

@@ -6,7 +6,7 @@ use Rattle.std.specs.declared.alloc.Global.{Global}
 use Rattle.wit_model.specs.declared.model.{Resolve.Resolve, World.World, WorldKey.WorldKey, WorldItem.WorldItem, TypeId.TypeId}
 use Rattle.wit_model.specs.{Lookup.key_text, Lookup.world_at, Lookup.interface_path, Text.Text, Text.text_eq, Text.text_of, Text.optional_text}
 use Rattle.wit_model.specs.Meaning.{Entry, InterfaceSense, WorldSense, entries_sense, entry_sense, world_sense, Item, interface, inline, interface_sense, item_sense}
-use Rattle.wit_model.specs.Meant.{entries_meaning, entry_meaning, no_world, world_meaning, world_meaning_at, interface_item, interface_meaning_at, type_meaning_at}
+use Rattle.wit_model.specs.Meant.{entries_meaning, entry_meaning, world_meaning, world_meaning_at, interface_item, interface_meaning_at, type_meaning_at}
 use Rattle.wit_model.specs.Rules.{entries_in_range, item_in_range, key_in_range}
 use Rattle.wit_compat.specs.TwoSides.{indexed_sense, sense_entry, AllItemsInRange, BorrowedEntry, PutsFirst, SameInterfaceEntries}
 use Rattle.wit_compat.proofs.{SameMaps.maps_same, SameMaps.under, SameMaps.under_is, Sided.never}
@@ -43,6 +43,10 @@ copied_missing x h = search std_rules
 -- ---- the items of a list by their keys
 
 module _ (r : Resolve) where
+  -- what an item means
+  abbrev pub sense_of_item : Bor WorldItem → Entry InterfaceSense
+  sense_of_item i = entry_sense (entry_meaning r i.now)
+
   abbrev pub key_entry : WorldKey × WorldItem → Text × Entry InterfaceSense
   key_entry e = (key_text r e.0, entry_sense (entry_meaning r e.1))
 
@@ -79,8 +83,7 @@ module _ (r : Resolve) where
     found_again key h =
         let x = some-of (lookup (λ k. text_eq (text_of key) (text_of k)) made) h in (
           entry_sense (entry_meaning r x.0.now),
-          under_is text_of (λ (j : Bor WorldItem). entry_sense (entry_meaning r j.now)) (text_of key) made ∙ ap
-              (option_map (λ (j : Bor WorldItem). entry_sense (entry_meaning r j.now))) x.1,
+          under_is text_of sense_of_item (text_of key) made ∙ ap (option_map sense_of_item) x.1,
         )
 
     pub put_split : (key : String Global) (item : Bor WorldItem) (new : List BorrowedEntry) → text_of key ≡ key_text r k → item.now ≡ i → PutsFirst made new (key, item) → IsSplit new next all
@@ -123,9 +126,6 @@ module _ (a b : Resolve) (v w : World) where
       → (IsTrue y ↔ (entries_sense (entries_meaning a v.exports.entries) ≡ entries_sense (entries_meaning b w.exports.entries))) → IsTrue y
       ↔ (world_sense (world_meaning a v) ≡ world_sense (world_meaning b w))
   contents_exact y imports h = (λ t. let exports = h.0 t in λ k. record { imports = imports k; exports = exports k }, λ same. h.1 (ap (λ (s : WorldSense). s.exports) same))
-
-world_there : (r : Resolve) (n : ℕ) (w : World) → world_at r n ≡ Some w → world_meaning_at r n ≡ world_meaning r w
-world_there r n w at = ap (λ o. option_map_or (world_meaning r) o no_world) at
 
 pub worlds_exact : (a b : Resolve) (n m : ℕ) (v w : World) → world_at a n ≡ Some v → world_at b m ≡ Some w → (y : Bool)
     → (IsTrue y ↔ (world_sense (world_meaning a v) ≡ world_sense (world_meaning b w))) → IsTrue y ↔ (world_sense (world_meaning_at a n) ≡ world_sense (world_meaning_at b m))

@@ -108,8 +108,7 @@ module _ (r : Resolve) (count : ℕ) (ns : List ℕ) (before : List (ℕ × ℕ)
 
   -- behind a declaration of no alias and no instance
   pub keeps-plain : (a : Around) (outer : Declarations) (d : Declaration) → outer ≡ declared_after a.declared d → alias_in d ≡ [] → instance_name d ≡ []
-      → KeepsBehind r count a ns before (length ns)
-      → KeepsBehind r count (record a { declared = outer }) ns before (length ns)
+      → KeepsBehind r count a ns before (length ns) → KeepsBehind r count (record a { declared = outer }) ns before (length ns)
   keeps-plain a outer d is none plain h = keeps-others a outer
       (ap (λ (z : Declarations). length (instance_names z)) is ∙ ap length
       (names-more a.declared d ∙ ap (λ xs. instance_names a.declared ++ xs) plain ∙ append-nil (instance_names a.declared)))
@@ -139,7 +138,7 @@ module _ (r : Resolve) (count : ℕ) (ns : List ℕ) (before : List (ℕ × ℕ)
         asked = λ y c. elim (Contains-append_cases h.keeps.has.made (newest ns x ∷ []) y c) [
           | inl k ↦ known-kept x.number.0 (type_slots_of a.declared) y.1.number.0 a.known is.first (h.keeps.has.asked y k)
           | inr k ↦ subst (λ (z : PlacedAlias). HasSlot (with_alias a x) z.1.number.0) (one-contained (newest ns x) y k)
-              (λ none. let there = new-slot x.number.0 (type_slots_of a.declared) a.known is.first in let z : ⊥ = cc in z)
+              (λ none. cc (new-slot x.number.0 (type_slots_of a.declared) a.known is.first))
         ];
       };
       all = λ t s. subst (λ (ms : List ℕ). Contains ms t) (sym numbers_) (elim (known-one a x is.first t (slot-there (known_slot (with_alias a x).known t) s)) [
@@ -160,7 +159,7 @@ module _ (r : Resolve) (count : ℕ) (ns : List ℕ) (before : List (ℕ × ℕ)
       numbers_ = map-append number_of h.keeps.has.made (newest ns x ∷ [])
 
       same : 0 + length (instance_names a.declared) ≡ length ns
-      same = let e = h.keeps.named in omega (arith, e)
+      same = omega (arith, h.keeps.named)
 
       fresh : Contains (map number_of h.keeps.has.made) x.number.0 → ⊥
       fresh c = let y = from-map number_of h.keeps.has.made x.number.0 c in h.keeps.has.asked y.0 y.1 (ap (known_slot a.known) y.2 ∙ is.first)
@@ -175,8 +174,7 @@ module _ (r : Resolve) (count : ℕ) (ns : List ℕ) (before : List (ℕ × ℕ)
         owned = is.owned;
         text = is.text;
         behind = omega arith;
-        instance =
-            h.keeps.listed is.interface.0 x.instance is.instance;
+        instance = h.keeps.listed is.interface.0 x.instance is.instance;
       }
 
   pub keeps-aliases : (a : Around) (made : List Aliased) → AreAliases r a made → KeepsBehind r count a ns before (length ns) → KeepsBehind r count (with_aliases a made) ns before (length ns)
@@ -190,7 +188,7 @@ pub keeps-nothing : (r : Resolve) (count : ℕ) (a : Around) → a.declared ≡ 
 keeps-nothing r count a none unlisted unknown zero_ = record {
   counted = zero_;
   named = ap (λ (z : Declarations). length (instance_names z)) none;
-  listed = λ i k e. let wrong : ◌≡◌ {A = Option ℕ} None (Some k) = ap (λ es. known_instance es i) (sym unlisted) ∙ e in let z : ⊥ = cc in absurd z;
+  listed = λ i k e. cc (ap (λ es. known_instance es i) (sym unlisted) ∙ e);
   has = record { made = []; are = ap (placed_aliases 0) none; once = none-twice; each = λ x c. none-in x c; asked = λ x c. none-in x c };
   all = λ t s. absurd (s (ap (λ es. known_slot es t) unknown));
 }
@@ -240,8 +238,6 @@ pub aliases-in-end : (r : Resolve) (count : ℕ) (a : Around) (ns : List ℕ) (P
     → ((x : PlacedAlias) → Contains k.has.made x → P x.0 x.1.number.0) → HasAliasesBehind r ns P a.declared
 aliases-in-end r count a ns P k f = record { made = k.has.made; are = k.has.are; once = k.has.once; each = k.has.each; asked = f }
 
--- ---- what the page is for
-
 -- ---- the latest instances
 
 -- what is the latest one stays so for those that stand before
@@ -249,50 +245,40 @@ latest-before : (ns : List ℕ) (i n j k : ℕ) → n ≤ length ns → IsLatest
 latest-before ns i n j k few l = record {
   before = l.before;
   is = front_at ns (i ∷ []) k j l.is;
-  last = λ m above below at. elim (behind-cases ns i j m at) [
-    | inl old ↦ l.last m above below old
-    | inr new ↦ (let e = new.0 in let z : ⊥ = omega (arith, e, below, few) in z)
-  ];
+  last = λ m above below at. elim (behind-cases ns i j m at) [ inl old ↦ l.last m above below old | inr new ↦ omega (arith, new.0, below, few) ];
 }
 
 -- and so for another interface
 latest-other : (ns : List ℕ) (i j k : ℕ) → (j ≡ i → ⊥) → IsLatest ns (length ns) j k → IsLatest (ns ++ i ∷ []) (length (ns ++ i ∷ [])) j k
 latest-other ns i j k other l = record {
-  before = (let m = length-append ns (i ∷ []) in let b = l.before in omega (arith, m, b));
+  before = omega (arith, length-append ns (i ∷ []), l.before);
   is = front_at ns (i ∷ []) k j l.is;
-  last = λ m above below at. elim (behind-cases ns i j m at) [
-    | inl old ↦ l.last m above (slice_get_within ns m j old) old
-    | inr new ↦ other new.1
-  ];
+  last = λ m above below at. elim (behind-cases ns i j m at) [ inl old ↦ l.last m above (slice_get_within ns m j old) old | inr new ↦ other new.1 ];
 }
 
 -- the new one is the latest of its interface
 latest-new : (ns : List ℕ) (i : ℕ) → IsLatest (ns ++ i ∷ []) (length (ns ++ i ∷ [])) i (length ns)
 latest-new ns i = record {
-  before = (let m = length-append ns (i ∷ []) in omega (arith, m));
+  before = omega (arith, length-append ns (i ∷ []));
   is = at_last ns i;
   last = λ j above below at. elim (behind-cases ns i i j at) [
-    | inl old ↦ (let w = slice_get_within ns j i old in let z : ⊥ = omega (arith, w, above) in z)
-    | inr new ↦ (let e = new.0 in let z : ⊥ = omega (arith, e, above) in z)
+    | inl old ↦ omega (arith, slice_get_within ns j i old, above)
+    | inr new ↦ omega (arith, new.0, above)
   ];
 }
 
 module _ (r : Resolve) (count : ℕ) (ns : List ℕ) (i : ℕ) (old : List (ℕ × ℕ)) where
   -- behind the import or the export of an instance, listed as that of its interface
   pub keeps-instance : (a b : Around) (inner : Declarations) (d : Declaration) → b.declared ≡ declared_after (append a.declared (Declarations.instance inner Declarations.no_more)) d → alias_in d ≡ []
-      → length (instance_name d) ≡ 1
-      → b.instances ≡ insert_entry nat_cmp a.instances i count → b.known ≡ a.known → KeepsBehind r count a ns old (length ns)
+      → length (instance_name d) ≡ 1 → b.instances ≡ insert_entry nat_cmp a.instances i count → b.known ≡ a.known → KeepsBehind r count a ns old (length ns)
       → KeepsBehind r (count + 1) b (ns ++ i ∷ []) old (length ns)
   keeps-instance a b inner d is none one listed known before = record {
     keeps = record {
-      counted = (let c = before.keeps.counted in let m = length-append ns (i ∷ []) in omega (arith, c, m));
+      counted = omega (arith, before.keeps.counted, length-append ns (i ∷ []));
       named =
           (let e : length (instance_names b.declared) ≡ length (instance_names behind.declared ++ instance_name d) =
           ap (λ (z : Declarations). length (instance_names z)) is ∙ ap length (names-more behind.declared d) in
-          let m = length-append (instance_names behind.declared) (instance_name d) in
-          let n = length-append ns (i ∷ []) in
-          let h = inside.keeps.named in
-          omega (arith, e, m, n, h, one));
+          omega (arith, e, length-append (instance_names behind.declared) (instance_name d), length-append ns (i ∷ []), inside.keeps.named, one));
       listed = λ j k e. by j k (ap (λ es. known_instance es j) (sym listed) ∙ e) (is_at (nat_cmp j) i) refl;
       has = record {
         made = inside.keeps.has.made;
@@ -306,8 +292,7 @@ module _ (r : Resolve) (count : ℕ) (ns : List ℕ) (i : ℕ) (old : List (ℕ 
           named_ = y.named_;
           owned = y.owned;
           text = y.text;
-          behind =
-              (let m = length-append ns (i ∷ []) in let b = y.behind in omega (arith, m, b));
+          behind = omega (arith, length-append ns (i ∷ []), y.behind);
           instance = latest-before ns i x.0 y.interface.0 x.1.instance y.behind y.instance;
         });
         asked = λ x c n. inside.keeps.has.asked x c (ap (λ es. known_slot es x.1.number.0) (sym known) ∙ n);
@@ -329,8 +314,7 @@ module _ (r : Resolve) (count : ℕ) (ns : List ℕ) (i : ℕ) (old : List (ℕ 
       by j k e true s =
           let same : j ≡ i = at-same j i s in
           let found : known_instance (insert_entry nat_cmp a.instances i count) j ≡ Some count = ap (known_instance (insert_entry nat_cmp a.instances i count)) same ∙ found-new i count a.instances in
-          let number : length ns ≡ k = sym before.keeps.counted ∙ one-some count k (sym found ∙ e) in
-          subst (λ (m : ℕ). IsLatest (ns ++ i ∷ []) (length (ns ++ i ∷ [])) j m) number
+          subst (λ (m : ℕ). IsLatest (ns ++ i ∷ []) (length (ns ++ i ∷ [])) j m) (sym before.keeps.counted ∙ one-some count k (sym found ∙ e))
           (subst (λ (m : ℕ). IsLatest (ns ++ i ∷ []) (length (ns ++ i ∷ [])) m (length ns)) (sym same) (latest-new ns i))
-      by j k e false s = latest-other ns i j k (λ same. let own : is_at (nat_cmp j) i ≡ true = ap (is_at (nat_cmp j)) (sym same) ∙ ap is_eq (equal-self nat_cmp_total j) in let z : ⊥ = cc in z)
+      by j k e false s = latest-other ns i j k (λ same. cc (ap (is_at (nat_cmp j)) (sym same) ∙ ap is_eq (equal-self nat_cmp_total j)))
           (before.keeps.listed j k (sym (found-other i count j a.instances s) ∙ e))

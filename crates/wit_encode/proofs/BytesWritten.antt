@@ -1,6 +1,6 @@
 -- How many bytes have been declared, call after call.
 use Rattle.std.proofs.Common.{rules as std_rules, ◌≡◌, refl, sym, subst, ap, ◌∙◌, ℕ, zero, suc, ◌+◌, ◌≤◌, ◌<◌, inl, inr, Bool, true, false, nat_eq, is_some, List, [], ◌∷◌, ◌++◌, map, length, length-append, take, get_or, Option, Some, None, String, Result, OnOk, IfOk, arith}
-use Rattle.std.proofs.lemmas.{List.map-append, List.take_all, List.take_more, List.length-map, List.Sums.sum_by-append, List.Sums.sum_by-cons}
+use Rattle.std.proofs.lemmas.{List.map-append, List.take_all, List.take_more, List.Sums.sum_by-append, List.Sums.sum_by-cons}
 use Rattle.std.proofs.lemmas.Option.{same_Some as some-same}
 use Rattle.std.specs.{Prelude.sum_by, List.Contains}
 use Rattle.std.specs.declared.alloc.Global.{Global}
@@ -47,18 +47,16 @@ component-taken : (inner rest : Declarations)
 unfolding declared_extent
 component-taken inner rest =
     let a = length-append (u32_bytes (declaration_count inner)) (declarations_bytes inner) in
-    let b = length-append (1 ∷ 0x41 ∷ (u32_bytes (declaration_count inner) ++ declarations_bytes inner)) (declarations_bytes rest) in
-    omega arith
+    omega (arith, length-append (1 ∷ 0x41 ∷ (u32_bytes (declaration_count inner) ++ declarations_bytes inner)) (declarations_bytes rest))
 
 instance-taken : (inner rest : Declarations) → declared_extent (Declarations.instance inner rest) ≡ (2 + (length (u32_bytes (declaration_count inner)) + declared_extent inner)) + declared_extent rest
 unfolding declared_extent
 instance-taken inner rest =
     let a = length-append (u32_bytes (declaration_count inner)) (declarations_bytes inner) in
-    let b = length-append (1 ∷ 0x42 ∷ (u32_bytes (declaration_count inner) ++ declarations_bytes inner)) (declarations_bytes rest) in
-    omega arith
+    omega (arith, length-append (1 ∷ 0x42 ∷ (u32_bytes (declaration_count inner) ++ declarations_bytes inner)) (declarations_bytes rest))
 
 both-taken : (ds es : Declarations) → declared_extent (append ds es) ≡ declared_extent ds + declared_extent es
-both-taken Declarations.no_more es = let z = nothing-taken in omega (arith, z)
+both-taken Declarations.no_more es = omega (arith, nothing-taken)
 both-taken (Declarations.declares d rest) es = let h = both-taken rest es in let a = one-taken d (append rest es) in let b = one-taken d rest in omega (arith, h, a, b)
 both-taken (Declarations.component inner rest) es = let h = both-taken rest es in let a = component-taken inner (append rest es) in let b = component-taken inner rest in omega (arith, h, a, b)
 both-taken (Declarations.instance inner rest) es = let h = both-taken rest es in let a = instance-taken inner (append rest es) in let b = instance-taken inner rest in omega (arith, h, a, b)
@@ -66,44 +64,28 @@ both-taken (Declarations.instance inner rest) es = let h = both-taken rest es in
 -- one declaration more
 pub one-more : (outer outer' : Declarations) (d : Declaration) (n : ℕ) → outer' ≡ declared_after outer d → length (declaration_bytes d) ≤ n → declared_extent outer' ≤ declared_extent outer + n
 one-more outer outer' d n e l =
-    let same = ap declared_extent e in
-    let both = both-taken outer (Declarations.declares d Declarations.no_more) in
-    let one = one-taken d Declarations.no_more in
-    let z = nothing-taken in
-    omega (arith, same, both, one, z, l)
+    omega (arith, ap declared_extent e, both-taken outer (Declarations.declares d Declarations.no_more), one-taken d Declarations.no_more, nothing-taken, l)
 
 -- one instance type more
 pub instance-more : (outer outer' inner : Declarations) → outer' ≡ append outer (Declarations.instance inner Declarations.no_more)
     → declared_extent outer' ≤ declared_extent outer + (8 + declared_extent inner)
 instance-more outer outer' inner e =
-    let same = ap declared_extent e in
     let both = both-taken outer (Declarations.instance inner Declarations.no_more) in
-    let one = instance-taken inner Declarations.no_more in
-    let count = u32-short (declaration_count inner) in
-    let z = nothing-taken in
-    omega (arith, same, both, one, count, z)
+    omega (arith, ap declared_extent e, both, instance-taken inner Declarations.no_more, u32-short (declaration_count inner), nothing-taken)
 
 listed-more : (ds : List Declaration) (d : Declaration) → declared_extent (from_list (ds ++ d ∷ [])) ≡ declared_extent (from_list ds) + length (declaration_bytes d)
-listed-more [] d = let a = one-taken d Declarations.no_more in let z = nothing-taken in omega (arith, a, z)
-listed-more (e ∷ ds) d = let h = listed-more ds d in let a = one-taken e (from_list (ds ++ d ∷ [])) in let b = one-taken e (from_list ds) in omega (arith, h, a, b)
+listed-more [] d = omega (arith, one-taken d Declarations.no_more, nothing-taken)
+listed-more (e ∷ ds) d = omega (arith, listed-more ds d, one-taken e (from_list (ds ++ d ∷ [])), one-taken e (from_list ds))
 
 -- one declaration more in the instance type that is open, or in the component type
 pub inside-more : (outer : Declarations) (inner : Option OpenInterface) (current : OpenInterface) (ds : List Declaration) (d : Declaration) (n : ℕ) → inner ≡ Some current
-    → ds ≡ current.declared ++ d ∷ [] → length (declaration_bytes d) ≤ n
-    → declared_extent outer + declared_extent (from_list ds) ≤ extent_in outer inner + n
+    → ds ≡ current.declared ++ d ∷ [] → length (declaration_bytes d) ≤ n → declared_extent outer + declared_extent (from_list ds) ≤ extent_in outer inner + n
 inside-more outer inner current ds d n is e l =
-    let opened = ap (extent_in outer) is in
-    let same = ap (λ (xs : List Declaration). declared_extent (from_list xs)) e in
-    let one = listed-more current.declared d in
-    omega (arith, opened, same, one, l)
+    omega (arith, ap (extent_in outer) is, ap (λ (xs : List Declaration). declared_extent (from_list xs)) e, listed-more current.declared d, l)
 
 pub outside-more : (outer outer' : Declarations) (inner : Option OpenInterface) (d : Declaration) (n : ℕ) → inner ≡ None → outer' ≡ declared_after outer d → length (declaration_bytes d) ≤ n
     → extent_in outer' inner ≤ extent_in outer inner + n
-outside-more outer outer' inner d n none e l =
-    let before = ap (extent_in outer) none in
-    let after = ap (extent_in outer') none in
-    let one = one-more outer outer' d n e l in
-    omega (arith, before, after, one)
+outside-more outer outer' inner d n none e l = omega (arith, ap (extent_in outer) none, ap (extent_in outer') none, one-more outer outer' d n e l)
 
 -- ---- aliases
 
@@ -123,21 +105,15 @@ pub imported-more : {r : Resolve} {id : TypeId} (a a' : Around) (inner : Option 
     → type_at r id.0 ≡ Some def → inner ≡ Some current
     → ds ≡ current.declared ++ Declaration.alias_of (Alias.of_outer 1 k) ∷ [] → declared_extent a'.declared + declared_extent (from_list ds) ≤ extent_in a.declared inner + import_extent def
 imported-more a a' inner current ds k def reaches at is e =
-    let around = reached-more reaches def at in
-    let inside = inside-more a.declared inner current ds _ 16 is e (bytes-few.outer_aliases 1 k) in
-    let opened = ap (extent_in a.declared) is in
-    omega (arith, around, inside, opened)
+    omega (arith, reached-more reaches def at, inside-more a.declared inner current ds _ 16 is e (bytes-few.outer_aliases 1 k), ap (extent_in a.declared) is)
 
 -- ---- functions
 
 pub functions-next : {X : Type 0} (f : Text × Function → ℕ) (view : X → Text × Function) (xs : List X) (i : ℕ) (x : X) → i < length xs → x ≡ get_or xs i x
     → sum_by f (map view (take (i + 1) xs)) ≡ sum_by f (map view (take i xs)) + f (view x)
 functions-next f view xs i x l is =
-    let more = ap (λ ys. sum_by f (map view ys)) (take_more xs i x l) in
     let both = ap (sum_by f) (map-append view (take i xs) (get_or xs i x ∷ [])) ∙ sum_by-append f (map view (take i xs)) (view (get_or xs i x) ∷ []) in
-    let one = sum_by-cons f (view (get_or xs i x)) [] in
-    let same = ap (λ y. f (view y)) is in
-    omega (arith, more, both, one, same)
+    omega (arith, ap (λ ys. sum_by f (map view ys)) (take_more xs i x l), both, sum_by-cons f (view (get_or xs i x)) [], ap (λ y. f (view y)) is)
 
 pub functions-whole : {X : Type 0} (f : Text × Function → ℕ) (view : X → Text × Function) (xs : List X) (i : ℕ) → length xs ≤ i → sum_by f (map view (take i xs)) ≡ sum_by f (map view xs)
 functions-whole f view xs i l = ap (λ ys. sum_by f (map view ys)) (take_all i xs l)
@@ -146,12 +122,12 @@ functions-whole f view xs i l = ap (λ ys. sum_by f (map view ys)) (take_all i x
 
 sums-mapped : {X Y : Type 0} (g : Y → ℕ) (f : X → Y) (xs : List X) → sum_by g (map f xs) ≡ sum_by (λ x. g (f x)) xs
 sums-mapped g f [] = refl
-sums-mapped g f (x ∷ xs) = let h = sums-mapped g f xs in let a = sum_by-cons g (f x) (map f xs) in let b = sum_by-cons (λ x. g (f x)) x xs in omega (arith, h, a, b)
+sums-mapped g f (x ∷ xs) = omega (arith, sums-mapped g f xs, sum_by-cons g (f x) (map f xs), sum_by-cons (λ x. g (f x)) x xs)
 
 with-index : (es : List (ℕ × ℕ)) (n : ℕ) → Contains (map (λ e. e.0) es) n → (i : ℕ) × Contains es (n, i)
 with-index [] n c = none-in n c
 with-index (e ∷ es) n (zero, l, q) = (e.1, (0, omega arith, (λ j. (q j, e.1))))
-with-index (e ∷ es) n (suc i, l, q) = (let x = with-index es n (i, omega (arith, l), q) in (x.0, (suc x.1.0, (let y = x.1.1 in omega (arith, y)), x.1.2)))
+with-index (e ∷ es) n (suc i, l, q) = (let x = with-index es n (i, omega (arith, l), q) in (x.0, (suc x.1.0, omega (arith, x.1.1), x.1.2)))
 
 -- what maps that were empty have learnt by the end, and functions
 pub taken : (r : Resolve) (i : InterfaceId) (types : List ValueType) (fs : List (Text × Function)) (m m' : TypeEncodingMaps) (outer outer' : Declarations) (inner : Option OpenInterface)
@@ -167,10 +143,8 @@ taken r i types fs m m' outer outer' inner ds current empty none is once only l 
     | inr reached ↦ reached
   ]);
   few =
-      let opened = ap (extent_in outer') is in
       let nothing = ap (λ (xs : List Declaration). declared_extent (from_list xs)) none ∙ nothing-taken in
-      let sum = sums-mapped (number_extent r (Some i)) (λ (e : ℕ × ℕ). e.0) m'.id_to_index.entries in
-      omega (arith, opened, nothing, sum, l);
+      omega (arith, ap (extent_in outer') is, nothing, sums-mapped (number_extent r (Some i)) (λ (e : ℕ × ℕ). e.0) m'.id_to_index.entries, l);
 }
 
 -- closed, in a component type
@@ -181,8 +155,7 @@ taken-closed outer outer' inner e t = record {
   numbers = t.numbers;
   different = t.different;
   met = t.met;
-  few =
-      (let more = instance-more outer outer' inner e in let few = t.few in omega (arith, more, few));
+  few = omega (arith, instance-more outer outer' inner e, t.few);
 }
 
 pub types-few : (r : Resolve) → IsValid r → (i : InterfaceId) (def : Interface) → interface_at r i.0 ≡ Some def → (types : List TypeId) → types ≡ values def.types → (outer outer' : Declarations)
@@ -201,10 +174,8 @@ whole-few r v i def at types e fs order outer outer' t =
     let met : (n : ℕ) → Contains t.numbers n → ReachedFrom r (Some i) (referred (values def.types) (map (λ (g : Text × Function). g.1) (functions_in_order def))) n =
     λ n c. subst (λ (gs : List Function). ReachedFrom r (Some i) (referred (values def.types) gs) n) own
     (subst (λ (ts : List TypeId). ReachedFrom r (Some i) (referred ts (map (λ f. f.2.now) fs)) n) e (t.met n c)) in
-    let light = instances-light r i def t.numbers v at t.different met in
-    let functions = ap (sum_by (function_extent r)) order in
     let few = t.few in
-    record { few = omega (arith, light, functions, few) }
+    record { few = omega (arith, instances-light r i def t.numbers v at t.different met, ap (sum_by (function_extent r)) order, few) }
 
 -- ---- a component type
 
@@ -213,13 +184,9 @@ adds-nothing outer = record { few = omega arith }
 
 -- an instance type of so much, and the import or the export that uses it
 pub adds-described : (n : ℕ) (outer between outer' : Declarations) (d : Declaration) (named name : ExternName) → AddsBytes (8 + n) outer between → outer' ≡ declared_after between d
-    → length (declaration_bytes d) ≤ name_extent named → named ≡ name
-    → AddsBytes (instance_extent name n) outer outer'
+    → length (declaration_bytes d) ≤ name_extent named → named ≡ name → AddsBytes (instance_extent name n) outer outer'
 adds-described n outer between outer' d named name one e l same =
-    let before = one.few in
-    let after = one-more between outer' d (name_extent named) e l in
-    let is = ap name_extent same in
-    record { few = omega (arith, before, after, is) }
+    record { few = omega (arith, one.few, one-more between outer' d (name_extent named) e l, ap name_extent same) }
 
 -- one import more
 pub imports-next : (r q : Resolve) (canonical : Bool) (xs : List InterfaceId) (k : ℕ) (outer between outer' : Declarations) → q ≡ r → k < length xs
@@ -229,16 +196,7 @@ imports-next r q canonical xs k outer between outer' e l before more =
     let next = ap (sum_by (import-extent r canonical)) (sym (numbers-next xs k l)) ∙ sum_by-append (import-extent r canonical) (take k (map (λ (id : InterfaceId). id.0) xs))
     ((get_or xs k (record { 0 = 0 })).0 ∷ []) in
     let one = sum_by-cons (import-extent r canonical) (get_or xs k (record { 0 = 0 })).0 [] in
-    let same = ap (λ (z : Resolve). import-extent z canonical (get_or xs k (record { 0 = 0 })).0) e in
-    let a = before.few in
-    let b = more.few in
-    record { few = omega (arith, next, one, same, a, b) }
-
-pub imports-whole : (r : Resolve) (canonical : Bool) (xs : List InterfaceId) (k : ℕ) (outer outer' : Declarations) → length xs ≤ k
-    → AddsBytes (imports_extent r canonical (take k (map (λ id. id.0) xs))) outer outer' → AddsBytes (imports_extent r canonical (map (λ id. id.0) xs)) outer outer'
-imports-whole r canonical xs k outer outer' l h =
-    let same : length (map (λ (id : InterfaceId). id.0) xs) ≡ length xs = length-map xs (λ (id : InterfaceId). id.0) in
-    subst (λ (ns : List ℕ). AddsBytes (imports_extent r canonical ns) outer outer') (take_all k (map (λ (id : InterfaceId). id.0) xs) (omega (arith, same, l))) h
+    record { few = omega (arith, next, one, ap (λ (z : Resolve). import-extent z canonical (get_or xs k (record { 0 = 0 })).0) e, before.few, more.few) }
 
 -- all imports, and the interface itself
 pub component-few : (r q : Resolve) (v : IsValid r) (i : InterfaceId) (reached : List ℕ) (canonical : Bool) → q ≡ r → is_some (interface_path r i.0) ≡ true → AreReached r i.0 reached
@@ -248,31 +206,27 @@ pub component-few : (r q : Resolve) (v : IsValid r) (i : InterfaceId) (reached :
 component-few r q v i reached canonical e named reaches empty outer outer' none imports own =
     let light = components-light r i reached canonical v named reaches in
     let first = ap (λ (z : Resolve). imports_extent z canonical reached) e in
-    let last = ap (λ (z : Resolve). whole_instance_weight z i.0) e in
-    let nothing = ap declared_extent none ∙ nothing-taken in
-    let a = imports.few in
-    let b = own.few in
-    omega (arith, light, first, last, nothing, a, b)
+    omega (arith, light, first, ap (λ (z : Resolve). whole_instance_weight z i.0) e, ap declared_extent none ∙ nothing-taken, imports.few, own.few)
 
 -- ---- a world
 
 pub learnt-then : {r : Resolve} {k n : ℕ} {a b c : TypeEncodingMaps} {x y z : Declarations} → AddsLearnt r k a b x y → AddsLearnt r n b c y z → AddsLearnt r (k + n) a c x z
-learnt-then p q = record { few = (let x = p.few in let y = q.few in omega (arith, x, y)) }
+learnt-then p q = record { few = (omega (arith, p.few, q.few)) }
 
 pub learnt-nothing : (r : Resolve) (m : TypeEncodingMaps) (x : Declarations) → AddsLearnt r 0 m m x x
 learnt-nothing r m x = record { few = omega arith }
 
 pub learnt-most : {r : Resolve} {k n : ℕ} {a b : TypeEncodingMaps} {x y : Declarations} → k ≤ n → AddsLearnt r k a b x y → AddsLearnt r n a b x y
-learnt-most l p = record { few = (let x = p.few in omega (arith, x, l)) }
+learnt-most l p = record { few = (omega (arith, p.few, l)) }
 
 -- the maps have learnt nothing
 pub learnt-beside : {r : Resolve} {n : ℕ} (m : TypeEncodingMaps) (x y : Declarations) → AddsBytes n x y → AddsLearnt r n m m x y
-learnt-beside m x y p = record { few = (let l = p.few in omega (arith, l)) }
+learnt-beside m x y p = record { few = (omega (arith, p.few)) }
 
 -- one declaration behind what has been learnt
 pub learnt-more : {r : Resolve} {k : ℕ} {a b : TypeEncodingMaps} {x : Declarations} (n : ℕ) (y z : Declarations) (d : Declaration) → AddsLearnt r k a b x y → z ≡ declared_after y d
     → length (declaration_bytes d) ≤ n → AddsLearnt r (k + n) a b x z
-learnt-more n y z d p e l = record { few = (let before = p.few in let one = one-more y z d n e l in omega (arith, before, one)) }
+learnt-more n y z d p e l = record { few = (omega (arith, p.few, one-more y z d n e l)) }
 
 pub function-item : (r : Resolve) (canonical : Bool) (k : WorldKey) (i : WorldItem) (f : Function) → i ≡ item.Function f
     → items_extent r canonical ((k, i) ∷ []) ≡ signature_extent (signature_of r f) + name_extent (name_of_item r canonical (k, i))
@@ -294,7 +248,4 @@ world-few r v w def at canonical began m m' outer outer' once empty only none ad
     ]) in
     let light = worlds-light r w def (map (λ (e : ℕ × ℕ). e.0) m'.id_to_index.entries) canonical v at
     (pairs-map (λ (e : ℕ × ℕ). e.0) (λ x y. nat_eq x y ≡ false) m'.id_to_index.entries once.numbers) met in
-    let sum = sums-mapped (number_extent r None) (λ (e : ℕ × ℕ). e.0) m'.id_to_index.entries in
-    let nothing = ap declared_extent none ∙ nothing-taken in
-    let few = adds.few in
-    omega (arith, light, sum, nothing, few)
+    omega (arith, light, sums-mapped (number_extent r None) (λ (e : ℕ × ℕ). e.0) m'.id_to_index.entries, ap declared_extent none ∙ nothing-taken, adds.few)

@@ -16,7 +16,8 @@ use Rattle.wit_encode.proofs.{ValueSlots.slots-more, ValueSlots.targets-more, De
 use Rattle.wit_encode.proofs.Strict.{bind, definition-strict, function-strict, follows-once, signature-once}
 use Rattle.wit_encode.proofs.Contents.{IsOf, Grew, grew-adds, grew-grows, grew-scope}
 use Rattle.wit_encode.specs.Instance.{standing_at, SlotsStand, is_slot_of, Contents, no_view, outer_slots, inner_scope, inner_contents, is_value_type, is_function_type, place_in, resources_in, scope_with, definitions_with}
-use Rattle.base_lemmas.proofs.{Bools.left_of as first_true, Bools.right_of as second_true, Options.there as some-of}
+use Rattle.base_lemmas.proofs.{Bools.left_of as first_true, Bools.right_of as second_true, Options.there as some-of, Options.some_is, Options.if_ok}
+use Rattle.std.proofs.lemmas.Result.{on_err_weaker}
 use Rattle.wit_model.specs.Tree as tree_of_types
 use Rattle.comp_bytes.specs.declared.forms.ComponentTypeRef.TheVariants as refs
 use Rattle.comp_meaning.specs.Follow as follow
@@ -53,10 +54,7 @@ inner-at place outer ds e = let m = some-of (inner_scope place outer ds) e in re
 
 -- the slot of a new declaration has the next number
 pub inner-index : (place : Place) (outer : Declarations) (ds : List Declaration) (a : InnerAt place outer ds) → type_slots ds ≡ length (inner_contents place outer ds).slots
-inner-index place outer ds a =
-    let e = steps.steps-count place (outer_slots outer) new_instance a.scope ds a.is in
-    let f : length (inner_contents place outer ds).slots ≡ length a.scope.slots = ap length a.slots in
-    omega arith
+inner-index place outer ds a = omega (arith, steps.steps-count place (outer_slots outer) new_instance a.scope ds a.is, ap length a.slots)
 
 -- one declaration more, which adds a slot
 record InnerMore (place : Place) (outer : Declarations) (ds : List Declaration) (d : Declaration) (x : Slot) (shown : List ShownType) : Type 0 where
@@ -117,13 +115,6 @@ shown-next name scope found = Some (record {
   };
 })
 
-nothing-more : {A : Type 0} (xs : List A) → xs ≡ xs ++ []
-nothing-more [] = refl
-nothing-more (x ∷ xs) = ap (λ ys. x ∷ ys) (nothing-more xs)
-
-some-standing : (u m : Standing) → Some u ≡ Some m → m ≡ u
-some-standing u m e = cc
-
 -- ---- an instance type
 
 module _ {E : Type 0} (res : Result ℕ E) (r : Resolve) (i : InterfaceId) (around : Around) (ds ds' : List Declaration) where
@@ -148,22 +139,28 @@ module _ {E : Type 0} (res : Result ℕ E) (r : Resolve) (i : InterfaceId) (arou
 
     more-ok : (d : Declaration) (x : Slot) (shown : List ShownType) (counts : Type 0) → InnerMore (place_in r here) outer ds d x shown → (ds' ≡ ds ++ d ∷ [] → counts)
         → IfOk res (λ k. (k ≡ type_slots ds) × (ds' ≡ ds ++ d ∷ [])) → IfOk res (λ k. (k ≡ length before.slots) × Grew before after x × counts)
-    more-ok d x shown counts m q h = ok-each res (λ k w. (
+    more-ok d x shown counts m q h = if_ok _ _ (λ k w. (
       w.0 ∙ inner-index (place_in r here) outer ds m.at,
       subst (λ (zs : List Declaration). Grew before (inner_contents (place_in r here) outer zs) x) (sym w.1) (inner-grew (place_in r here) outer ds d x shown m),
       q w.1,
-    )) h
-      where
-        ok-each : {P Q : ℕ → Type 0} (res : Result ℕ E) → ((k : ℕ) → P k → Q k) → IfOk res P → IfOk res Q
-        ok-each (Ok k) f h = f k h
-        ok-each (Err e) f h = h
+    )) res h
 
     err-same : OnErr res (ds' ≡ ds) → OnErr res (after ≡ before)
-    err-same h = err-each res (λ e. ap (inner_contents (place_in r here) outer) e) h
-      where
-        err-each : {P Q : Type 0} (res : Result ℕ E) → (P → Q) → OnErr res P → OnErr res Q
-        err-each (Ok k) f h = h
-        err-each (Err e) f h = f h
+    err-same = on_err_weaker res (ap (inner_contents (place_in r here) outer))
+
+    -- one declaration more that isn't shown, and what has been defined then
+    plain-ok : (d : Declaration) (x : Slot) (types exported functions : List ℕ) → instance_step (place_in r here) (outer_slots outer) inner-there.scope d ≡ Some (in_instance x inner-there.scope)
+        → before.types ++ cond (is_value_type d) (type_slots ds ∷ []) [] ≡ types → before.exported ++ option_to_list (target_of d) ≡ exported
+        → before.functions ++ cond (is_function_type d) (type_slots ds ∷ []) [] ≡ functions → IfOk res (λ k. (k ≡ type_slots ds) × (ds' ≡ ds ++ d ∷ []))
+        → IfOk res (λ k. (k ≡ length before.slots) × Grew before after x
+        × (definitions_with after ≡ record { types = types; exported = exported; functions = functions; exports = (definitions_with before).exports }))
+    plain-ok d x types exported functions step t u f ok =
+        let a = inner-there in
+        let m : InnerMore (place_in r here) outer ds d x [] =
+        record { at = a; after = in_instance x a.scope; step = step; one = refl; types = sym (append-nil a.scope.shown.types); functions = refl } in
+        more-ok d x [] _ m (λ e. ap (λ zs. definitions_with (inner_contents (place_in r here) outer zs)) e
+        ∙ inner-definitions (place_in r here) outer ds d x [] m types exported functions t u f
+        ∙ (λ j. record { types = types; exported = exported; functions = functions; exports = append-nil (definitions_with before).exports j })) ok
 
     pub defined-inside : (d : ComponentDefinedType) (t : Tree) → Follows (SlotsStand before.slots) d t → IsFormed (scope_with r here around before) t
         → IfOk res (λ k. (k ≡ type_slots ds) × (ds' ≡ ds ++ Declaration.defined (raw_defined d) ∷ [])) → OnErr res (ds' ≡ ds)
@@ -173,26 +170,9 @@ module _ {E : Type 0} (res : Result ℕ E) (r : Resolve) (i : InterfaceId) (arou
         let a = inner-there in
         let strict : definition a.scope.slots (raw_defined d) ≡ Some t = ap (λ zs. definition zs (raw_defined d)) (sym a.slots) ∙ definition-strict (resources_in r here) before.slots inner-slots d t
         h f.formed in
-        let m : InnerMore (place_in r here) outer ds (Declaration.defined (raw_defined d)) (Slot.value t) [] = record {
-          at = a;
-          after = in_instance (Slot.value t) a.scope;
-          step = bind (definition a.scope.slots (raw_defined d)) t (λ u. Some (in_instance (Slot.value u) a.scope)) strict;
-          one = refl;
-          types = nothing-more a.scope.shown.types;
-          functions = refl;
-        } in
         calls-from res r here around before after _ _ (Slot.value t) sound (formed-value (resources_in r here) t f.formed) (defines-of before.slots d t h)
-        (more-ok (Declaration.defined (raw_defined d)) (Slot.value t) [] _ m (λ e. ap (λ zs. definitions_with (inner_contents (place_in r here) outer zs)) e
-        ∙ inner-definitions (place_in r here) outer ds (Declaration.defined (raw_defined d)) (Slot.value t) [] m (before.types ++ length before.slots ∷ []) before.exported before.functions
-        (ap (λ (k : ℕ). before.types ++ k ∷ []) (inner-index (place_in r here) outer ds a)) (append-nil before.exported) (append-nil before.functions)
-        ∙ (λ j. record {
-          types = before.types ++ length before.slots ∷ [];
-          exported = before.exported;
-          functions = before.functions;
-          exports =
-              sym (nothing-more (definitions_with before).exports) j;
-        })) ok)
-        (err-same err)
+        (plain-ok (Declaration.defined (raw_defined d)) (Slot.value t) _ _ _ (bind (definition a.scope.slots (raw_defined d)) t (λ u. Some (in_instance (Slot.value u) a.scope)) strict)
+        (ap (λ (k : ℕ). before.types ++ k ∷ []) (inner-index (place_in r here) outer ds a)) (append-nil before.exported) (append-nil before.functions) ok) (err-same err)
 
     pub function-inside : (d : ComponentFuncType) (s : Signature) → FollowsFunction (SlotsStand before.slots) d s → IsFormedSignature (scope_with r here around before) s
         → IfOk res (λ k. (k ≡ type_slots ds) × (ds' ≡ ds ++ Declaration.function (raw_function d) ∷ [])) → OnErr res (ds' ≡ ds)
@@ -202,26 +182,10 @@ module _ {E : Type 0} (res : Result ℕ E) (r : Resolve) (i : InterfaceId) (arou
         let a = inner-there in
         let strict : function_signature a.scope.slots (raw_function d) ≡ Some s =
         ap (λ zs. function_signature zs (raw_function d)) (sym a.slots) ∙ function-strict (resources_in r here) before.slots inner-slots d s h f.params f.result_ in
-        let m : InnerMore (place_in r here) outer ds (Declaration.function (raw_function d)) (Slot.function s) [] = record {
-          at = a;
-          after = in_instance (Slot.function s) a.scope;
-          step = bind (function_signature a.scope.slots (raw_function d)) s (λ u. Some (in_instance (Slot.function u) a.scope)) strict;
-          one = refl;
-          types = nothing-more a.scope.shown.types;
-          functions = refl;
-        } in
         calls-from res r here around before after _ _ (Slot.function s) sound refl (function-of before.slots d s h)
-        (more-ok (Declaration.function (raw_function d)) (Slot.function s) [] _ m (λ e. ap (λ zs. definitions_with (inner_contents (place_in r here) outer zs)) e
-        ∙ inner-definitions (place_in r here) outer ds (Declaration.function (raw_function d)) (Slot.function s) [] m before.types before.exported (before.functions ++ length before.slots ∷ [])
-        (append-nil before.types) (append-nil before.exported) (ap (λ (k : ℕ). before.functions ++ k ∷ []) (inner-index (place_in r here) outer ds a))
-        ∙ (λ j. record {
-          types = before.types;
-          exported = before.exported;
-          functions = before.functions ++ length before.slots ∷ [];
-          exports =
-              sym (nothing-more (definitions_with before).exports) j;
-        })) ok)
-        (err-same err)
+        (plain-ok (Declaration.function (raw_function d)) (Slot.function s) _ _ _
+        (bind (function_signature a.scope.slots (raw_function d)) s (λ u. Some (in_instance (Slot.function u) a.scope)) strict)
+        (append-nil before.types) (append-nil before.exported) (ap (λ (k : ℕ). before.functions ++ k ∷ []) (inner-index (place_in r here) outer ds a)) ok) (err-same err)
 
     -- a type around that is the name of a named interface
     pub alias-inside : (k : ℕ) (x : Slot) (t : Tree) → slice_get (outer_slots outer) k ≡ Some x → is_foreign_name x ≡ true → is_slot_of (resources_in r here) x ≡ true
@@ -229,24 +193,11 @@ module _ {E : Type 0} (res : Result ℕ E) (r : Resolve) (i : InterfaceId) (arou
         → IfOk res (λ k'. (k' ≡ type_slots ds) × (ds' ≡ ds ++ Declaration.alias_of (Alias.of_outer 1 k) ∷ [])) → OnErr res (ds' ≡ ds)
         → Calls res (scope_with r here around before) (scope_with r here around after) before after (λ m. m ≡ tree t) (definitions_with after ≡ definitions_with before)
     alias-inside k x t at foreign kept stands ok err =
-        let a = inner-there in
-        let d : Declaration = Declaration.alias_of (Alias.of_outer 1 k) in
-        let m : InnerMore (place_in r here) outer ds (Declaration.alias_of (Alias.of_outer 1 k)) x [] = record {
-          at = a;
-          after = in_instance x a.scope;
-          step = bind (slice_get (outer_slots outer) k) x (λ slot. follow.provided (is_foreign_name slot) (in_instance slot a.scope)) at
-              ∙ ap (λ b. follow.provided b (in_instance x a.scope)) foreign;
-          one = refl;
-          types = nothing-more a.scope.shown.types;
-          functions = refl;
-        } in
-        calls-from res r here around before after _ _ x sound kept
-        (record { gives = λ m e. stands ∙ ap Some (sym e); only = λ m e. some-standing _ m (sym stands ∙ e) })
-        (more-ok d x [] _ m (λ e. ap (λ zs. definitions_with (inner_contents (place_in r here) outer zs)) e
-        ∙ inner-definitions (place_in r here) outer ds (Declaration.alias_of (Alias.of_outer 1 k)) x [] m before.types before.exported before.functions (append-nil before.types)
-        (append-nil before.exported) (append-nil before.functions)
-        ∙ (λ j. record { types = before.types; exported = before.exported; functions = before.functions; exports = sym (nothing-more (definitions_with before).exports) j })) ok)
-        (err-same err)
+        calls-from res r here around before after _ _ x sound kept (record { gives = λ m e. stands ∙ ap Some (sym e); only = λ m e. some_is m _ (sym e ∙ stands) })
+        (plain-ok (Declaration.alias_of (Alias.of_outer 1 k)) x _ _ _
+        (bind (slice_get (outer_slots outer) k) x (λ slot. follow.provided (is_foreign_name slot) (in_instance slot inner-there.scope)) at
+        ∙ ap (λ b. follow.provided b (in_instance x inner-there.scope)) foreign)
+        (append-nil before.types) (append-nil before.exported) (append-nil before.functions) ok) (err-same err)
 
     -- ---- exports of types
 
@@ -276,7 +227,7 @@ module _ {E : Type 0} (res : Result ℕ E) (r : Resolve) (i : InterfaceId) (arou
         } in
         let meant : (name.text, t.meaning) ≡ d = λ j. (ap (λ (n : ExternName). n.text) is j, record { declaration = d.1.declaration; external_id = ap (λ (n : ExternName). n.external_id) is j }) in
         calls-from res r here around before after _ _ x sound kept
-        (record { gives = λ m e. stands ∙ ap Some (sym e); only = λ m e. some-standing _ m (sym stands ∙ e) })
+        (record { gives = λ m e. stands ∙ ap Some (sym e); only = λ m e. some_is m _ (sym e ∙ stands) })
         (more-ok (Declaration.exported name described) x (t ∷ []) _ m (λ e. record {
           declaration = d;
           there = declared.there;
@@ -285,8 +236,7 @@ module _ {E : Type 0} (res : Result ℕ E) (r : Resolve) (i : InterfaceId) (arou
               ∙ inner-definitions (place_in r here) outer ds (Declaration.exported name described) x (t ∷ []) m before.types (before.exported ++ option_to_list slot) before.functions
               (append-nil before.types) (ap (λ o. before.exported ++ option_to_list o) from) (append-nil before.functions)
               ∙ (λ j. record { types = before.types; exported = before.exported ++ option_to_list slot; functions = before.functions; exports = (definitions_with before).exports ++ meant j ∷ [] });
-        }) ok)
-        (err-same err)
+        }) ok) (err-same err)
 
     simple-name : (name : ExternName) (d : Text × TypeMeaning) → name ≡ exported_name d → is_simple name ≡ true
     simple-name name d e = ap is_simple e

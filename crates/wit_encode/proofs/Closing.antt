@@ -75,4 +75,4 @@ pub types-alone : (r : Resolve) (a a' : Around) (i : InterfaceId) (def : Interfa
 types-alone r a a' i def [] k none e =
     let shown : ShowsTypes r i.0 e.is_instance.view = record { types = e.is_instance.types; functions = e.is_instance.shows } in
     record { part = e; shows = shown; means = types-mean r i.0 e.is_instance.view shown; function_types = count-keys [] [] e.declared (IsPermutation-refl []) e.function_types }
-types-alone r a a' i def (f ∷ fs) k none e = let wrong : ⊥ = cc in absurd wrong
+types-alone r a a' i def (f ∷ fs) k none e = absurd cc

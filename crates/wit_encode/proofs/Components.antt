@@ -42,16 +42,12 @@ pub steps-count : (s s' : Scope) (ds : Declarations) → component_steps s ds �
 steps-count s s' Declarations.no_more e = none-more s s' (ap (λ (z : Scope). z.slots) (some-same s s' e))
 steps-count s s' (Declarations.declares d rest) e =
     let b = unbind (component_step s d) _ s' e in
-    let one = step-count s b.item d b.is in
-    let more = steps-count b.item s' rest b.then in
-    omega arith
-steps-count s s' (Declarations.component inner rest) e = absurd (let z : ⊥ = cc in z)
+    omega (arith, step-count s b.item d b.is, steps-count b.item s' rest b.then)
+steps-count s s' (Declarations.component inner rest) e = absurd cc
 steps-count s s' (Declarations.instance inner rest) e =
     let b = unbind (flat inner) _ s' e in
     let x = Slot.instance b.item (length s.slots) in
-    let one : length (in_scope x s).slots ≡ length s.slots + 1 = length-append s.slots (x ∷ []) in
-    let more = steps-count (in_scope x s) s' rest b.then in
-    omega arith
+    omega (arith, length-append s.slots (x ∷ []), steps-count (in_scope x s) s' rest b.then)
 
 -- ---- one declaration more
 
@@ -61,7 +57,7 @@ steps-more s m n Declarations.no_more d e f = search std_rules
 steps-more s m n (Declarations.declares x rest) d e f =
     let b = unbind (component_step s x) _ m e in
     ap (λ o. o >>= λ next. component_steps next (append rest (Declarations.declares d Declarations.no_more))) b.is ∙ steps-more b.item m n rest d b.then f
-steps-more s m n (Declarations.component inner rest) d e f = absurd (let z : ⊥ = cc in z)
+steps-more s m n (Declarations.component inner rest) d e f = absurd cc
 steps-more s m n (Declarations.instance inner rest) d e f =
     let b = unbind (flat inner) _ m e in
     ap (λ o. o >>= λ ds. component_steps (in_scope (Slot.instance ds (length s.slots)) s) (append rest (Declarations.declares d Declarations.no_more))) b.is
@@ -74,7 +70,7 @@ steps-instance s m Declarations.no_more es e = search (std_rules, flat-list, som
 steps-instance s m (Declarations.declares x rest) es e =
     let b = unbind (component_step s x) _ m e in
     ap (λ o. o >>= λ next. component_steps next (append rest (Declarations.instance (from_list es) Declarations.no_more))) b.is ∙ steps-instance b.item m rest es b.then
-steps-instance s m (Declarations.component inner rest) es e = absurd (let z : ⊥ = cc in z)
+steps-instance s m (Declarations.component inner rest) es e = absurd cc
 steps-instance s m (Declarations.instance inner rest) es e =
     let b = unbind (flat inner) _ m e in
     ap (λ o. o >>= λ ds. component_steps (in_scope (Slot.instance ds (length s.slots)) s) (append rest (Declarations.instance (from_list es) Declarations.no_more))) b.is

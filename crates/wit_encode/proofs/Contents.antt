@@ -12,7 +12,7 @@ use Rattle.base_lemmas.proofs.Bools.{right_of as second_true}
 
 module _ (x : Slot) where
   pub slots-kept : (xs : List Slot) (i : ℕ) (m : Standing) → SlotsStand xs i m → SlotsStand (xs ++ x ∷ []) i m
-  slots-kept [] i m h = absurd (let z : ⊥ = cc in z)
+  slots-kept [] i m h = absurd cc
   slots-kept (y ∷ ys) zero m h = h
   slots-kept (y ∷ ys) (suc i) m h = slots-kept ys i m h
 
@@ -22,7 +22,7 @@ module _ (x : Slot) where
 
   slots-only : (xs : List Slot) (i : ℕ) (m : Standing) → SlotsStand (xs ++ x ∷ []) i m → SlotsStand xs i m ⊎ ((i ≡ length xs) × (standing_at (Some x) ≡ Some m))
   slots-only [] zero m h = inr (refl, h)
-  slots-only [] (suc i) m h = absurd (let z : ⊥ = cc in z)
+  slots-only [] (suc i) m h = absurd cc
   slots-only (y ∷ ys) zero m h = inl h
   slots-only (y ∷ ys) (suc i) m h = elim (slots-only ys i m h) [ inl q ↦ inl q | inr q ↦ inr (ap suc q.0, q.1) ]
 
@@ -53,7 +53,7 @@ grew-adds c c' x i P g e o = record {
 pub grew-grows : (c c' : Contents) (x : Slot) → Grew c c' x → SlotsGrow (SlotsStand c.slots) (SlotsStand c'.slots) (length c.slots) (length c'.slots)
 grew-grows c c' x g = record {
   kept = λ j m h. subst (λ (zs : List Slot). SlotsStand zs j m) (sym g.slots) (slots-kept x c.slots j m h);
-  more = (let e : length c'.slots ≡ length c.slots + 1 = ap length g.slots ∙ length-append c.slots (x ∷ []) in omega arith);
+  more = omega (arith, ap length g.slots ∙ length-append c.slots (x ∷ []));
 }
 
 -- the surroundings stay
@@ -63,5 +63,4 @@ grew-scope r interface around c c' x g o sound =
     let test = is_slot_of (resources_in r interface) in
     let all : list_all test c.slots ≡ true = second_true c.is_followed (list_all test c.slots) sound in
     let all' : list_all test c'.slots ≡ true = ap (list_all test) g.slots ∙ list_all-append test c.slots (x ∷ []) ∙ both (list_all test c.slots) (test x && true) all (both (test x) true o refl) in
-    let s : (c'.is_followed && list_all test c'.slots) ≡ (c.is_followed && list_all test c.slots) = (λ i. g.followed i && (all' ∙ sym all) i) in
-    λ i. scope_from r interface (standing_instances r around) (g.functions_shown i) (s i)
+    λ i. scope_from r interface (standing_instances r around) (g.functions_shown i) (g.followed i && (all' ∙ sym all) i)

@@ -47,7 +47,7 @@ members-both : (fs gs : List Function) (q : Key) → is_member are_same (map key
 members-both fs gs q = ap (λ xs. is_member are_same xs q) (map-append key_of fs gs) ∙ list_any-append (are_same q) (map key_of fs) (map key_of gs)
 
 none-member : (q : Key) → is_member are_same (map key_of []) q ≡ true → ⊥
-none-member q h = let z : ⊥ = cc in z
+none-member q h = cc
 
 -- ---- what is added
 
@@ -120,8 +120,7 @@ adds-nothing r scope m d = record {
   types_added = [];
   functions_ = sym (append-nil d.functions);
   keys_ = same-keys m m refl;
-  known =
-      λ q k. inl k;
+  known = λ q k. inl k;
   stay = λ q k. k;
   learnt = λ q h. absurd (none-member q h);
 }
@@ -207,24 +206,19 @@ defines-keys r S scope m m' d d' fs ds b z n a agree =
       slots = slots;
       different = k.different;
       same = λ q. both-ways (is_member are_same k.keys q) (is_member are_same (map key_of fs) q)
-          (λ h. elim (a.known q (k.known q h)) [ inl c ↦ absurd (knows-none m q b.keys c) | inr c ↦ c ])
-          (λ h. k.all q (a.learnt q h));
+          (λ h. elim (a.known q (k.known q h)) [ inl c ↦ absurd (knows-none m q b.keys c) | inr c ↦ c ]) (λ h. k.all q (a.learnt q h));
     }
 
 -- as many keys of functions are known as types of functions have been defined
 keys-known : (r : Resolve) (scope : Scope) (m m' : TypeEncodingMaps) (d d' : Definitions) (fs : List Function) (ds : List Declaration) → Began m
     → d.functions ≡ [] → d'.functions ≡ function_slots (from_list ds) → AddsFunctions r scope m m' d d' fs → length m'.func_type_map.entries ≡ count_by is_function_type ds
 keys-known r scope m m' d d' fs ds b z n a =
-    let counted : length (function_slots (from_list ds)) ≡ count_by is_function_type ds = slots-counted is_function_type 0 ds in
-    let slots : length (function_slots (from_list ds)) ≡ length (d.functions ++ a.types_added) = ap length (sym n ∙ a.functions_) in
-    let none : length d.functions ≡ 0 = ap length z in
-    let both : length (d.functions ++ a.types_added) ≡ length d.functions + length a.types_added = length-append d.functions a.types_added in
-    let none_known : length m.func_type_map.entries ≡ 0 = ap length b.keys in
-    let known : length (key_slots m) ≡ length m.func_type_map.entries = length-map m.func_type_map.entries (λ (e : ListKey × ℕ). e.1) in
-    let after : length (key_slots m') ≡ length m'.func_type_map.entries = length-map m'.func_type_map.entries (λ (e : ListKey × ℕ). e.1) in
-    let sum : length (key_slots m ++ a.types_added) ≡ length (key_slots m) + length a.types_added = length-append (key_slots m) a.types_added in
-    let same : length (key_slots m') ≡ length (key_slots m ++ a.types_added) = length_permutation (key_slots m ++ a.types_added) (key_slots m') a.keys_ in
-    omega (arith, counted, slots, none, both, none_known, known, after, sum, same)
+    let both = length-append d.functions a.types_added in
+    let sum = length-append (key_slots m) a.types_added in
+    let known = length-map m.func_type_map.entries (λ (e : ListKey × ℕ). e.1) in
+    let after = length-map m'.func_type_map.entries (λ (e : ListKey × ℕ). e.1) in
+    let c = length_permutation (key_slots m ++ a.types_added) (key_slots m') a.keys_ in
+    omega (arith, ap length z, ap length b.keys, ap length (sym n ∙ a.functions_), slots-counted is_function_type 0 ds, both, sum, known, after, c)
 
 pub record Counted (r : Resolve) (i : InterfaceId) (S : Pairs) (m' : TypeEncodingMaps) (fs : List Function) (ts : List TypeId) (ds : List Declaration) : Type 0 where
   pub keys : DefinesKeys r S fs ds
@@ -233,7 +227,7 @@ pub record Counted (r : Resolve) (i : InterfaceId) (S : Pairs) (m' : TypeEncodin
 
 -- what slots stand for is one thing each
 pub slots-once : (slots : List Slot) (i : ℕ) (s t : Standing) → SlotsStand slots i s → SlotsStand slots i t → s ≡ t
-slots-once slots i s t a b = let e : Some s ≡ Some t = sym a ∙ b in cc
+slots-once slots i s t a b = cc (sym a ∙ b)
 
 -- where a value type is defined stands a type without a name
 values-plain : (place : Place) (outer : Declarations) (ds : List Declaration) → (inner_contents place outer ds).is_followed ≡ true → (i : ℕ) → Contains (value_slots (from_list ds)) i → (t : Tree)
@@ -275,13 +269,8 @@ declares-few r i ts fs m m' outer' inner' ds current b none is only h keys = rec
     | inr reached ↦ reached
   ];
   few =
-      let held = h.held in
       let at : held_in outer' inner' ≡ length current.declared = ap (held_in outer') is in
-      let nothing : length ds ≡ 0 = ap length none in
-      let no_keys : length m.func_type_map.entries ≡ 0 = ap length b.keys in
-      let plain : length (map (λ (f : ℕ × Bor (String Global) × Bor Function). f.2.now) fs) ≡ length fs =
-      length-map fs (λ (f : ℕ × Bor (String Global) × Bor Function). f.2.now) in
-      omega (arith, held, at, nothing, no_keys, plain, keys);
+      omega (arith, h.held, at, ap length none, ap length b.keys, length-map fs (λ (f : ℕ × Bor (String Global) × Bor Function). f.2.now), keys);
 }
 
 -- the keys of functions in another order
@@ -290,13 +279,7 @@ permuted-same : {r : Resolve} {S : Pairs} (fs gs : List Function) (ds : List Dec
 permuted-same fs gs ds p h q = h.same q ∙ sym (list_any-IsPermutation (are_same q) (map key_of fs) (map key_of gs) (IsPermutation-map key_of fs gs p))
 
 pub permuted-keys : {r : Resolve} {S : Pairs} (fs gs : List Function) (ds : List Declaration) → IsPermutation fs gs → DefinesKeys r S gs ds → DefinesKeys r S fs ds
-permuted-keys fs gs ds p h = record {
-  keys = h.keys;
-  count = h.count;
-  different = h.different;
-  same = permuted-same fs gs ds p h;
-  slots = h.slots;
-}
+permuted-keys fs gs ds p h = record { keys = h.keys; count = h.count; different = h.different; same = permuted-same fs gs ds p h; slots = h.slots }
 
 pub count-keys : {r : Resolve} {S : Pairs} (fs gs : List Function) (ds : List Declaration) → IsPermutation fs gs → DefinesKeys r S gs ds
     → count_by is_function_type ds ≡ distinct_count are_same (map key_of fs)
@@ -317,8 +300,7 @@ function-counted (Ok x) r r₀ r₁ r₂ o₀ o₁ o₂ i₀ i₁ i₂ m₀ m₁
     adds-alike refl em (ap (λ (z : Resolve). (contents_of z o₀ i₀).types) (sym e₀)) (ap (λ (z : Resolve). (contents_of z o₀ i₀).exported) (sym e₀))
     (ap (λ (z : Resolve). (contents_of z o₀ i₀).functions) (sym e₀))
     (ap (λ (z : Resolve). (contents_of z o₂ i₂).types) (sym here) ∙ shown.types) (ap (λ (z : Resolve). (contents_of z o₂ i₂).exported) (sym here) ∙ shown.exported)
-    (ap (λ (z : Resolve). (contents_of z o₂ i₂).functions) (sym here) ∙ shown.functions)
-    (adds-function key index f is once a)
+    (ap (λ (z : Resolve). (contents_of z o₂ i₂).functions) (sym here) ∙ shown.functions) (adds-function key index f is once a)
 
 -- types, and then functions
 pub parts-counted : {A E : Type 0} (res : Result A E) (r r₀ r₁ : Resolve) (o₀ o₁ o₂ : Declarations) (i₀ i₁ i₂ : Option OpenInterface) (m₀ m₁ m₂ : TypeEncodingMaps)
@@ -343,8 +325,7 @@ pub functions-counted : {r : Resolve} {s s' : Scope} {a b c : TypeEncodingMaps} 
     → AddsFunctions r s a b d e (map view (take i xs)) → AddsFunctions r s' b c e f (view x ∷ []) → AddsFunctions r s a c d f (map view (take (i + 1) xs))
 functions-counted {r} {s} {s'} {a} {b} {c} {d} {e} {f} view xs i x l is own p q =
     subst (AddsFunctions r s a c d f) (ap (λ y. map view (take i xs) ++ view y ∷ []) is
-    ∙ sym (ap (map view) (take_more xs i x l) ∙ map-append view (take i xs) (get_or xs i x ∷ [])))
-    (adds-trans (map view (take i xs)) (view x ∷ []) own p q)
+    ∙ sym (ap (map view) (take_more xs i x l) ∙ map-append view (take i xs) (get_or xs i x ∷ []))) (adds-trans (map view (take i xs)) (view x ∷ []) own p q)
 
 -- all of them
 pub functions-all : {r : Resolve} {s : Scope} {a b : TypeEncodingMaps} {d e : Definitions} {X : Type 0} (view : X → Function) (xs : List X) (i : ℕ)
@@ -411,29 +392,27 @@ unshown-undefined r scope (e ∷ es) h = sum_by-append (λ (x : ℕ × ℕ). con
         → cons_option o (filter_map (λ e. own_name r scope e.0) es) ≡ []
         → (filter_map (λ e. own_name r scope e.0) es ≡ [] → count_by (λ e. is_defined_by_name r scope e.0) es ≡ 0)
         → 0 + cond b 1 0 + count_by (λ e. is_defined_by_name r scope e.0) es ≡ 0
-    go (Some name) b n d h rest = absurd (let z : ⊥ = cc in z)
+    go (Some name) b n d h rest = absurd cc
     go None true n d h rest = absurd (shown-where-defined r scope e.0 d n)
-    go None false n d h rest = let more = rest h in omega arith
+    go None false n d h rest = omega (arith, rest h)
 
 names-unchanged : (r : Resolve) (scope : Scope) (m m' : TypeEncodingMaps) (d d' : Definitions) → Shows r scope m m' d d' → d'.exports ≡ d.exports
     → names_defined r scope m' ≡ names_defined r scope m
 names-unchanged r scope m m' d d' s same =
     let test : ℕ × ℕ → Bool = λ e. is_defined_by_name r scope e.0 in
     let none : s.shown ≡ [] = no-more d.exports s.shown (sym s.exports ∙ same) in
-    let zero : count_by test s.learnt ≡ 0 = unshown-undefined r scope s.learnt (sym s.names ∙ ap (map (λ (x : Text × TypeMeaning). x.0)) none) in
     let sum : names_defined r scope m' ≡ names_defined r scope m + count_by test s.learnt =
     sum_by-IsPermutation (λ e. cond (test e) 1 0) (m.id_to_index.entries ++ s.learnt) m'.id_to_index.entries s.numbers
     ∙ sum_by-append (λ e. cond (test e) 1 0) m.id_to_index.entries s.learnt in
-    omega arith
+    omega (arith, unshown-undefined r scope s.learnt (sym s.names ∙ ap (map (λ (x : Text × TypeMeaning). x.0)) none))
   where
     no-more : {X : Type 0} (xs ys : List X) → xs ++ ys ≡ xs → ys ≡ []
     no-more xs [] e = refl
-    no-more xs (y ∷ ys) e = absurd (let n : length xs + length (y ∷ ys) ≡ length xs = sym (length-append xs (y ∷ ys)) ∙ ap length e in omega arith)
+    no-more xs (y ∷ ys) e = absurd (omega (arith, sym (length-append xs (y ∷ ys)) ∙ ap length e))
 
 -- a function, which exports no type
 pub function-names : {A E : Type 0} (res : Result A E) (r r₀ r₁ r₂ : Resolve) (o₀ o₁ o₂ : Declarations) (i₀ i₁ i₂ : Option OpenInterface)
-    (m₀ m₁ m₂ : TypeEncodingMaps) (g : Text × FunctionMeaning)
-    → r₀ ≡ r → encoder_scope r₁ o₁ i₁ ≡ encoder_scope r₀ o₀ i₀ → r₂ ≡ r₁ → m₂ ≡ m₁
+    (m₀ m₁ m₂ : TypeEncodingMaps) (g : Text × FunctionMeaning) → r₀ ≡ r → encoder_scope r₁ o₁ i₁ ≡ encoder_scope r₀ o₀ i₀ → r₂ ≡ r₁ → m₂ ≡ m₁
     → Shows r (encoder_scope r₀ o₀ i₀) m₀ m₁ (definitions_with (contents_of r₀ o₀ i₀)) (definitions_with (contents_of r₁ o₁ i₁))
     → OnOk res (ShowsFunction (contents_of r₁ o₁ i₁) (contents_of r₂ o₂ i₂) g)
     → OnOk res ((definitions_with (contents_of r o₂ i₂)).exports ≡ (definitions_with (contents_of r o₀ i₀)).exports)

@@ -49,8 +49,8 @@ module _ (scope : Scope) (slots : List Slot) (sound : list_all (is_slot_of scope
             kept = alike ∙ ap (is_resource_tree scope.resources) (sym same) ∙ slot-at (is_slot_of scope.resources) slots k (Slot.resource p n) sound at;
             stands = refl;
           }
-      go (Some (Slot.function x)) at q = absurd (let z : ⊥ = cc in z)
-      go _ at q = absurd (let z : ⊥ = cc in z)
+      go (Some (Slot.function x)) at q = absurd cc
+      go _ at q = absurd cc
 
   pub declared-resource : (s : DeclaresResource scope name) → DeclaredAs scope slots name refs.SubResource s.declaration
   declared-resource s = record {

@@ -34,15 +34,15 @@ split-marked ((true, i) ∷ xs) = IsPermutation-trans (i ∷ slots_of xs) (i ∷
 -- where a test holds of the marked ones alone, they pass
 passes-marked : (p : ℕ → Bool) (xs : Marked) → ((i : ℕ) → Contains (named_slots xs) i → p i ≡ true) → ((i : ℕ) → Contains (other_slots xs) i → p i ≡ false) → filter p (slots_of xs) ≡ named_slots xs
 passes-marked p [] y n = refl
-passes-marked p ((true, i) ∷ xs) y n = keep (p i) (y i (0, omega arith, refl)) (passes-marked p xs (λ j c. y j (suc c.0, (let l = c.1 in omega arith), c.2)) n)
+passes-marked p ((true, i) ∷ xs) y n = keep (p i) (y i (0, omega arith, refl)) (passes-marked p xs (λ j c. y j (suc c.0, omega (arith, c.1), c.2)) n)
   where
     keep : (b : Bool) → b ≡ true → filter p (slots_of xs) ≡ named_slots xs → cond b (i ∷ filter p (slots_of xs)) (filter p (slots_of xs)) ≡ i ∷ named_slots xs
     keep true h e = ap (λ ys. i ∷ ys) e
-    keep false h e = absurd (let z : ⊥ = cc in z)
-passes-marked p ((false, i) ∷ xs) y n = drop (p i) (n i (0, omega arith, refl)) (passes-marked p xs y (λ j c. n j (suc c.0, (let l = c.1 in omega arith), c.2)))
+    keep false h e = absurd cc
+passes-marked p ((false, i) ∷ xs) y n = drop (p i) (n i (0, omega arith, refl)) (passes-marked p xs y (λ j c. n j (suc c.0, omega (arith, c.1), c.2)))
   where
     drop : (b : Bool) → b ≡ false → filter p (slots_of xs) ≡ named_slots xs → cond b (i ∷ filter p (slots_of xs)) (filter p (slots_of xs)) ≡ named_slots xs
-    drop true h e = absurd (let z : ⊥ = cc in z)
+    drop true h e = absurd cc
     drop false h e = e
 
 -- ---- what names and kinds stand for
@@ -52,7 +52,7 @@ named-number : (r : Resolve) → IsValid r → (m : ℕ) (d : TypeDef) → type_
 named-number r v m d at given = go d.name refl given
   where
     go : (o : Option (String Global)) → d.name ≡ o → is_some o ≡ true → (place : Place) × (name : Text) × (number_tree r m ≡ named place name)
-    go None e h = absurd (let z : ⊥ = cc in z)
+    go None e h = absurd cc
     go (Some name) e h = (
       place_of r d.owner,
       text_of name,
@@ -84,8 +84,8 @@ kinds-stand : (r : Resolve) (m : TypeEncodingMaps) (S : Pairs) → MapsAgree r m
     → ((x : List ℕ × ℕ) → Contains (map {B = List ℕ × ℕ} (λ e. (e.0.0.items, e.1)) es) x → Contains (lists_of m.def_to_index) x) → ((k : TypeDefKind) → Contains ks k → is_named_kind k ≡ false)
     → AllZip (λ k i. S i (tree (kind_tree r k))) ks (map (λ e. e.1) es)
 kinds-stand r m S agree [] [] e known unnamed = tt
-kinds-stand r m S agree [] (k ∷ ks) e known unnamed = absurd (let z : ⊥ = cc in z)
-kinds-stand r m S agree (x ∷ es) [] e known unnamed = absurd (let z : ⊥ = cc in z)
+kinds-stand r m S agree [] (k ∷ ks) e known unnamed = absurd cc
+kinds-stand r m S agree (x ∷ es) [] e known unnamed = absurd cc
 kinds-stand r m S agree (x ∷ es) (k ∷ ks) e known unnamed = (
   agree.says (by_kind k) x.1 (unnamed k (0, omega arith, refl), subst (λ (l : List ℕ). Contains (lists_of m.def_to_index) (l, x.1)) (head e) (known (x.0.0.items, x.1) (0, omega arith, refl))),
   kinds-stand r m S agree es ks (tail e) (λ y c. known y (suc c.0, (let l = c.1 in omega arith), c.2)) (λ y c. unnamed y (suc c.0, (let l = c.1 in omega arith), c.2)),
@@ -107,29 +107,25 @@ pub record HeldKinds (r : Resolve) (own : Option InterfaceId) (ts : List ValueTy
   pub met : AreMetKinds r own ts kinds
 
 module _ (r : Resolve) (v : IsValid r) (own : Option InterfaceId) (scope : Scope) (S : Pairs) (m m' : TypeEncodingMaps) (d d' : Definitions) (ts : List TypeId) (fs : List Function)
-    (declared : Declarations)
-    (a : AddsSlots r scope m m' d d') (agree : MapsAgree r m' S) (once : (i : ℕ) (s t : Standing) → S i s → S i t → s ≡ t)
+    (declared : Declarations) (a : AddsSlots r scope m m' d d') (agree : MapsAgree r m' S) (once : (i : ℕ) (s t : Standing) → S i s → S i t → s ≡ t)
     (plain : (i : ℕ) → Contains (value_slots declared) i → (t : Tree) × S i (tree t) × IsPlain t)
     (values : value_slots declared ≡ slots_of a.added) (targets : targets_of declared ≡ slots_of a.targets) where
   is-value : (i : ℕ) → Contains (named_slots a.targets) i → is_member nat_eq (value_slots declared) i ≡ true
   is-value i c =
-      let named_ : Contains (named_slots a.added) i = subst (λ xs. Contains xs i) a.own c in
       let there : Contains (slots_of a.added) i = Contains-permutation (other_slots a.added ++ named_slots a.added) (slots_of a.added) i (IsPermutation-sym _ _ (split-marked a.added))
-      (Contains-append_right (other_slots a.added) (named_slots a.added) i named_) in
+      (Contains-append_right (other_slots a.added) (named_slots a.added) i (subst (λ xs. Contains xs i) a.own c)) in
       has-slot (value_slots declared) i (subst (λ xs. Contains xs i) (sym values) there)
 
   no-value : (i : ℕ) → Contains (other_slots a.targets) i → is_member nat_eq (value_slots declared) i ≡ false
   no-value i c = go (is_member nat_eq (value_slots declared) i) refl
     where
-      same-tree : (t u : Tree) → tree t ≡ tree u → t ≡ u
-      same-tree t u e = cc
-
       go : (b : Bool) → is_member nat_eq (value_slots declared) i ≡ b → b ≡ false
       go false e = refl
       go true e =
           let p = plain i (slot-there (value_slots declared) i e) in
           let n = target-named r v m' S i agree (a.others i c) in
-          absurd (p.2 n.0 n.1 (same-tree p.0 (named n.0 n.1) (once i (tree p.0) (tree (named n.0 n.1)) p.1 n.2)))
+          let same : tree p.0 ≡ tree (named n.0 n.1) = once i (tree p.0) (tree (named n.0 n.1)) p.1 n.2 in
+          absurd (p.2 n.0 n.1 cc)
 
   pub defines-types : m.id_to_index.entries ≡ [] → m.def_to_index.entries ≡ [] → HeldKinds r own (referred ts fs) m' → names_defined r scope m' ≡ distinct_count nat_eq (defined_under_names r own ts)
       → DefinesTypes r own S ts fs declared
@@ -141,7 +137,7 @@ module _ (r : Resolve) (v : IsValid r) (own : Option InterfaceId) (scope : Scope
         (λ k c. let met = held.met.met k c in subst (λ (z : TypeDefKind). is_named_kind z ≡ false) met.same (valid-unnamed r v met.number met.def met.there met.unnamed));
     name_slots = named_slots a.added;
     named = ap (filter (is_member nat_eq (value_slots declared))) targets ∙ passes-marked (is_member nat_eq (value_slots declared)) a.targets is-value no-value ∙ a.own;
-    count = (let x = a.names in let none : names_defined r scope m ≡ 0 = ap (count_by (λ (e : ℕ × ℕ). is_defined_by_name r scope e.0)) no_numbers in omega arith);
+    count = omega (arith, a.names, ap (count_by (λ (e : ℕ × ℕ). is_defined_by_name r scope e.0)) no_numbers);
     all = subst (λ xs. IsPermutation xs (kind_slots m' ++ named_slots a.added)) (sym values)
         (IsPermutation-trans (slots_of a.added) (other_slots a.added ++ named_slots a.added) (kind_slots m' ++ named_slots a.added) (split-marked a.added)
         (IsPermutation-append_left (named_slots a.added) (other_slots a.added) (kind_slots m')

@@ -48,7 +48,7 @@ pub known-kept : (n t m : ℕ) (es : List (ℕ × ℕ)) → known_slot es n ≡ 
 known-kept n t m es new known none = by (is_at (nat_cmp m) n) refl
   where
     by : (b : Bool) → is_at (nat_cmp m) n ≡ b → ⊥
-    by true e = let there : known_slot (insert_entry nat_cmp es n t) m ≡ Some t = ap (known_slot (insert_entry nat_cmp es n t)) (at-same m n e) ∙ new-slot n t es new in let z : ⊥ = cc in z
+    by true e = let there : known_slot (insert_entry nat_cmp es n t) m ≡ Some t = ap (known_slot (insert_entry nat_cmp es n t)) (at-same m n e) ∙ new-slot n t es new in cc
     by false e = known (sym (other-slot n t m es e new) ∙ none)
 
 -- the instance of an interface has its place
@@ -56,8 +56,7 @@ pub imported-lists : (r : Resolve) (a : Around) (ns : List ℕ) → HasImported 
 imported-lists r a ns h i k e =
     let at = contains-get ns i (h.alone i k e) in
     let both : Some at.0 ≡ Some k = sym (h.listed at.0 i at.1) ∙ e in
-    let same : at.0 ≡ k = cc in
-    subst (λ j. slice_get ns j ≡ Some i) same at.1
+    subst (λ j. slice_get ns j ≡ Some i) (cc) at.1
 
 module _ (r : Resolve) (ns : List ℕ) (P : ℕ → Type 0) where
   one-aliased : (a : Around) (x : Aliased) → ((i k : ℕ) → known_instance a.instances i ≡ Some k → slice_get ns k ≡ Some i) → IsAlias r a x → P x.number.0 → HasAliased r ns P a
@@ -74,7 +73,7 @@ module _ (r : Resolve) (ns : List ℕ) (P : ℕ → Type 0) where
     known = λ y c. elim (Contains-append_cases h.has.made (x ∷ []) y c) [
       | inl k ↦ known-kept x.number.0 (type_slots_of a.declared) y.number.0 a.known is.first (h.known y k)
       | inr k ↦ subst (λ (z : Aliased). known_slot (with_alias a x).known z.number.0 ≡ None → ⊥) (one-contained x y k)
-          (λ none. let there = new-slot x.number.0 (type_slots_of a.declared) a.known is.first in let z : ⊥ = cc in z)
+          (λ none. cc (new-slot x.number.0 (type_slots_of a.declared) a.known is.first))
     ];
   }
     where
@@ -90,8 +89,7 @@ module _ (r : Resolve) (ns : List ℕ) (P : ℕ → Type 0) where
         named_ = is.named_;
         owned = is.owned;
         text = is.text;
-        instance =
-            lists is.interface.0 x.instance is.instance;
+        instance = lists is.interface.0 x.instance is.instance;
       }
 
   all-aliased : (a : Around) (made : List Aliased) → ((i k : ℕ) → known_instance a.instances i ≡ Some k → slice_get ns k ≡ Some i) → AreAliases r a made
@@ -117,7 +115,7 @@ module _ (r : Resolve) (ns ms : List ℕ) (P Q : ℕ → Type 0) (f : (n : ℕ) 
   aliased-along a b e k h = record { has = has-along a.declared b.declared e h.has; known = λ x c none. h.known x c (ap (λ es. known_slot es x.number.0) (sym k) ∙ none) }
 
 get-left : (ns : List ℕ) (i k n : ℕ) → slice_get ns k ≡ Some n → slice_get (ns ++ i ∷ []) k ≡ Some n
-get-left [] i k n e = let wrong : ⊥ = cc in absurd wrong
+get-left [] i k n e = absurd cc
 get-left (m ∷ ns) i zero n e = e
 get-left (m ∷ ns) i (suc k) n e = get-left ns i k n e
 
@@ -135,8 +133,7 @@ import-aliased r canonical a a' ns i number t imported h =
       named_ = y.named_;
       owned = y.owned;
       text = y.text;
-      instance =
-          get-left ns i.0 x.instance y.interface.0 y.instance;
+      instance = get-left ns i.0 x.instance y.interface.0 y.instance;
     } in
     let more : (n : ℕ) → IsMetAmong r ns n → IsMetAmong r (ns ++ i.0 ∷ []) n = λ n m. (m.0, Contains-append_left ns (i.0 ∷ []) m.0 m.1, m.2) in
     let first : HasAliased r ns (IsMetAmong r (ns ++ i.0 ∷ [])) a = aliased-along r ns ns (IsMetAmong r ns) (IsMetAmong r (ns ++ i.0 ∷ [])) more (λ x y. y) a a refl refl h in

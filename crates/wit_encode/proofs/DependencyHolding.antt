@@ -40,8 +40,7 @@ module _ (r : Resolve) (canonical : Bool) (a a' : Around) (i : InterfaceId) (num
       (ap (λ (z : Around). z.instances) t.imports ∙ ap (λ (z : Around). insert_entry nat_cmp z.instances i.0 number) t.encodes.part.one_more
       ∙ ap (λ (es : List (ℕ × ℕ)). insert_entry nat_cmp es i.0 number) (grown-listed r a before t.encodes.part.aliases.grown))
       (ap (λ (z : Around). z.known) t.imports ∙ ap (λ (z : Around). z.known) t.encodes.part.one_more) in
-      let l = length-append ns (i.0 ∷ []) in
-      omega (arith, f, h, l)
+      omega (arith, f, h, length-append ns (i.0 ∷ []))
 
   pub import-defines : (ns : List ℕ) → DefinesImports r a.declared ns → DefinesImports r a'.declared (ns ++ i.0 ∷ [])
   import-defines ns h = record {
@@ -63,15 +62,14 @@ module _ (r : Resolve) (canonical : Bool) (a a' : Around) (i : InterfaceId) (num
         is = refl;
         ordered = t.encodes.part.is_instance;
         function_types = t.encodes.function_types;
-        value_types =
-            t.encodes.part.value_types;
+        value_types = t.encodes.part.value_types;
         few = t.encodes.part.few;
         places = t.encodes.part.places;
       }
 
 -- nothing is defined, and nothing is held, where nothing is declared
 pub nothing-held : (r : Resolve) (a : Around) → a.declared ≡ Declarations.no_more → HoldsImports r a []
-nothing-held r a none = let z : declaration_count a.declared ≡ 0 = ap declaration_count none in omega (arith, z)
+nothing-held r a none = omega (arith, ap declaration_count none)
 
 pub nothing-defined : (r : Resolve) (outer : Declarations) → outer ≡ Declarations.no_more → DefinesImports r outer []
 nothing-defined r outer none = subst (λ (z : Declarations). DefinesImports r z []) (sym none) (record { beside = record { value_types = refl; function_types = refl }; inside = tt; places = refl })
@@ -105,8 +103,7 @@ module _ (r : Resolve) (canonical : Bool) (a a' : Around) (i : InterfaceId) (def
       is = refl;
       ordered = encodes.part.is_instance;
       function_types = encodes.part.function_types;
-      value_types =
-          encodes.part.value_types;
+      value_types = encodes.part.value_types;
       few = encodes.part.few;
       places = encodes.part.places;
     };
@@ -124,13 +121,12 @@ by-name {Q} name declared unfit over = go (fits_name name) refl
   where
     go : (b : Bool) → fits_name name ≡ b → (b && fits_counts (declaration_count declared + 1) (type_slots_of declared + 0)) ≡ false → Q
     go false u g = unfit u
-    go true u g = let few = outer-slots-few declared in over (counts-refused (declaration_count declared) (type_slots_of declared + 0) (omega (arith, few)) g)
+    go true u g = over (counts-refused (declaration_count declared) (type_slots_of declared + 0) (omega (arith, outer-slots-few declared)) g)
 
 full-after : {r : Resolve} {i : InterfaceId} {ts : List ValueType} {a : Around} (l : LacksInstanceRoom r i ts a) → limit ≤ declaration_count l.after.declared + 1
 full-after l =
     let few = outer-slots-few l.after.declared in
-    let over = counts-refused (declaration_count l.after.declared) (type_slots_of l.after.declared + 1) (omega (arith, few)) l.full in
-    omega (arith, over)
+    omega (arith, counts-refused (declaration_count l.after.declared) (type_slots_of l.after.declared + 1) (omega (arith, few)) l.full)
 
 module _ (r : Resolve) (canonical : Bool) (a : Around) (i : InterfaceId) (def : Interface) where
   pub slot-lacks : interface_at r i.0 ≡ Some def → TypesLackRoom r i def ⊎ LacksInstanceRoom r i (types_alone_of def) a → LacksImport r canonical a i
@@ -152,8 +148,7 @@ module _ (r : Resolve) (interfaces front : List ℕ) (among : (n : ℕ) → Cont
   pub place-lacks : (after : Around) → GrowsAround r a after → limit ≤ declaration_count after.declared + 1 → ImportsLackRoom r interfaces
   place-lacks after g over = too_many (brought_numbers r after)
       (brought-some r after interfaces (λ m f. let x = some-of (known_instance a.instances m) (ap (λ xs. is_some (known_instance xs m)) (sym (grown-listed r a after g)) ∙ f) in
-      among m (h.alone m x.0 x.1)))
-      (let c = grown-few r a after g in omega (arith, c, over, held, few))
+      among m (h.alone m x.0 x.1))) (omega (arith, grown-few r a after g, over, held, few))
 
   pub next-lacks : (canonical : Bool) (i : InterfaceId) → Contains interfaces i.0 → LacksImport r canonical a i → ImportsLackRoom r interfaces
   next-lacks canonical i c (its_types def there l) = an_interface i def c there l

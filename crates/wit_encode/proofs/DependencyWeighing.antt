@@ -6,7 +6,7 @@ use Rattle.std.proofs.lemmas.List.Sums.{sum_by-cons}
 use Rattle.std.specs.{Prelude.sum_by, Prelude.AllPairs, Prelude.flat_map, List.AllByRecursion, List.Contains, List.IsDistinct, List.filter}
 use Rattle.std.specs.Option.{option_map_or}
 use Rattle.indexmap.specs.IndexMap.{values}
-use Rattle.wit_model.specs.{Lookup.interface_at, Lookup.interface_path, Lookup.type_at, Valid.IsValid, Valid.as_interface, Valid.numbers_in_range}
+use Rattle.wit_model.specs.{Lookup.interface_at, Lookup.interface_path, Lookup.type_at, Valid.IsValid, Valid.as_interface}
 use Rattle.wit_model.specs.{Parts.same_owner, Rules.interface_type_numbers, Rules.owner_in_range, Uses.has, Uses.direct_deps, Uses.once}
 use Rattle.wit_model.specs.Weight.{unit_of, number_weight, function_weight, instance_numbers, instance_weight, types_instance_weight, whole_instance_weight, brought_into, path_texts, imports_of_interface, interface_weight}
 use Rattle.wit_model.specs.declared.model.{Resolve.Resolve, Interface.Interface, InterfaceId.InterfaceId, TypeDef.TypeDef, TypeId.TypeId, TypeOwner.TypeOwner}
@@ -15,14 +15,14 @@ use Rattle.encode_shown.specs.Views.{AreReached, AreUsed}
 use Rattle.encode_shown.proofs.{Reach.Chain, Reach.chain-reached, Reach.further, Reach.used-chain, Dependencies.distinct-front}
 use Rattle.encode_types.specs.{MetKinds.ReachedFrom, MetKinds.referred, Room.IsUnfit, Room.LacksOne, Room.a_type, Room.a_request, Room.limit}
 use Rattle.encode_types.proofs.{Rooms.are-different, Rooms.counts-few, Lists.none-in}
-use Rattle.wit_model.proofs.{OnePath.found-in, Elements.has-contains, Elements.contains-has, ValidLemmas.type_passes}
+use Rattle.wit_model.proofs.{OnePath.found-in, Elements.has-contains, Elements.contains-has}
 use Rattle.encode_names.specs.WorldNames.{name_of_interface}
 use Rattle.wit_encode.specs.DependencyRoom.{TypesLackRoom, ImportsLackRoom, an_interface, a_path, too_many, ComponentLacksRoom, of_imports, of_interface, of_path, LackingComponentsAreHeavy}
 use Rattle.wit_encode.specs.WorldRoom.{IsNamedTypeOf}
-use Rattle.wit_encode.proofs.{Mapped.from-filter, ImportLoop.path-in-range, Reached.IsOwner, Reached.interface-owner, UsedPaths.used-path}
+use Rattle.wit_encode.proofs.{Mapped.from-filter, ImportLoop.path-in-range, Reached.IsOwner, Reached.interface-owner, UsedPaths.used-path, Naming.valid-owner_in_range}
 use Rattle.wit_encode.proofs.Weighing.{Differ, at-least, contains-once, counted-least, counted-once, lacking-heavy, one-of, part-heavy-of, sum-among}
 use Rattle.wit_encode.proofs.WorldFunctions.{each, each-least, long, name-fits, number-least, suffix-long, written-long}
-use Rattle.base_lemmas.proofs.{Bools.right_of as second_true, Elements.contains-map, Numbers.same-number}
+use Rattle.base_lemmas.proofs.{Elements.contains-map, Numbers.same-number}
 use Rattle.wit_model.specs.declared.model.TypeOwner.TheVariants as owner
 
 -- ---- what is reached
@@ -92,19 +92,15 @@ module _ (r : Resolve) (v : IsValid r) (i : InterfaceId) (def : Interface) (home
     | inl one ↦ lacks one
     | inr many ↦ (
         let numbers = sum-among weigh h.numbers own-numbers (are-different r (Some i) h.numbers h.apart) (λ n c. in-numbers n (h.met n c)) in
-        let two = counts-few r (Some i) h.numbers in
         let one = at-least weigh h.numbers (λ n c. counted-least r v (owner.Interface i) (interface_type_numbers def) [] types-owner (values def.types) [] listed-here (λ f c. c) n (h.met n c)) in
-        let w = types-weigh in
-        omega (arith, numbers, one, two, w, many, light)
+        omega (arith, numbers, one, counts-few r (Some i) h.numbers, types-weigh, many, light)
         )
   ]
     where
       lacks : LacksOne r (Some i) (IsUnfit r) h.numbers [] → ⊥
       lacks (a_type n d c at part) =
           let a = part-heavy-of r v (owner.Interface i) (interface_type_numbers def) [] types-owner (values def.types) [] listed-here (λ f c. c) n d (h.met n c) at part in
-          let b = one-of weigh own-numbers n (in-numbers n (h.met n c)) in
-          let w = types-weigh in
-          absurd (omega (arith, a, b, w, light))
+          absurd (omega (arith, a, one-of weigh own-numbers n (in-numbers n (h.met n c)), types-weigh, light))
       lacks (a_request q c u) = none-in q c
 
 -- ---- named types of these interfaces
@@ -131,16 +127,13 @@ numbers-weigh r (j ∷ js) ns apart h =
     let heavy = each-least (number_weight r (as_interface j)) first (λ n c. let x = h n (from-filter (has own) ns n c) in number-least r (as_interface j) n x.0 x.1) in
     let inside = sum-among (number_weight r (as_interface j)) first own (AllPairs-filter Differ (has own) ns apart)
     (λ n c. has-contains own n (All-contains (λ n. has own n ≡ true) first n (filter_passes (has own) ns) c)) in
-    let whole = types-least r j in
     let both = sum_by-filter_both (has own) (λ n. not (has own n)) (λ n. refl) (λ n. 64) ns in
-    let next = sum_by-cons (types_instance_weight r) j js in
-    omega (arith, rest, heavy, inside, whole, both, next)
+    omega (arith, rest, heavy, inside, types-least r j, both, sum_by-cons (types_instance_weight r) j js)
   where
     later : (n : ℕ) → Contains (filter (λ n. not (has (type-numbers r j) n)) ns) n → StandsIn r (j ∷ js) n → StandsIn r js n
     later n c (d, at, k, (zero, l, e), there) =
         let out = All-contains (λ n. not (has (type-numbers r j) n) ≡ true) (filter (λ n. not (has (type-numbers r j) n)) ns) n (filter_passes (λ n. not (has (type-numbers r j) n)) ns) c in
-        let in_ = contains-has (type-numbers r j) n (subst (λ (m : ℕ). Contains (type-numbers r m) n) (sym e) there) in
-        absurd (let z : ⊥ = cc in z)
+        cc (contains-has (type-numbers r j) n (subst (λ (m : ℕ). Contains (type-numbers r m) n) (sym e) there))
     later n c (d, at, k, (suc p, l, e), there) = (d, at, k, (p, omega (arith, l), e), there)
 
 -- ---- the whole
@@ -167,10 +160,7 @@ module _ (r : Resolve) (v : IsValid r) (i : InterfaceId) (named : is_some (inter
   types-within = sum-among (types_instance_weight r) ns deps apart (λ m c. among-imports r v i.0 ns reaches.used m c)
 
   pub paths-within : path-weight i.0 + sum_by path-weight ns ≤ sum_by path-weight (i.0 ∷ deps)
-  paths-within =
-      let a = sum-among path-weight ns deps apart (λ m c. among-imports r v i.0 ns reaches.used m c) in
-      let b = sum_by-cons path-weight i.0 deps in
-      omega (arith, a, b)
+  paths-within = omega (arith, sum-among path-weight ns deps apart (λ m c. among-imports r v i.0 ns reaches.used m c), sum_by-cons path-weight i.0 deps)
 
   -- a path that is heavy doesn't fit
   path-fits : (canonical : Bool) (n : ℕ) → path-weight n ≤ limit → fits_name (name_of_interface r canonical n) ≡ true
@@ -179,15 +169,11 @@ module _ (r : Resolve) (v : IsValid r) (i : InterfaceId) (named : is_some (inter
       name-fits (name_of_interface r canonical n) (long (interface_path r n))
       (written-long r n canonical) (omega arith) (suffix-long r n canonical) (omega arith) (omega (arith, low, is))
 
-  owner-there : (n : ℕ) (d : TypeDef) → type_at r n ≡ Some d → owner_in_range r d.owner ≡ true
-  unfolding numbers_in_range
-  owner-there n d at = second_true _ _ (second_true _ _ (type_passes numbers_in_range r v.rules.numbers_in_range n d at))
-
   stands-in : (n : ℕ) → IsNamedTypeOf r ns n → StandsIn r ns n
   stands-in n t = (t.def, t.there, t.interface.0, t.among, subst (λ (o : Option Interface). Contains (option_map_or (λ d. instance_numbers r d []) o []) n) (sym found.1) inside)
     where
       found : (d : Interface) × (interface_at r t.interface.0 ≡ Some d)
-      found = found-in r.interfaces.items t.interface.0 (subst (λ (o : TypeOwner). owner_in_range r o ≡ true) t.owned (owner-there n t.def t.there))
+      found = found-in r.interfaces.items t.interface.0 (subst (λ (o : TypeOwner). owner_in_range r o ≡ true) t.owned (valid-owner_in_range r v n t.def t.there))
 
       owned : same_owner t.def.owner (owner.Interface t.interface) ≡ true
       owned = subst (λ (o : TypeOwner). same_owner o (owner.Interface t.interface) ≡ true) (sym t.owned) (same-number t.interface.0)
@@ -197,34 +183,22 @@ module _ (r : Resolve) (v : IsValid r) (i : InterfaceId) (named : is_some (inter
 
   imports-fit : total ≤ limit → ImportsLackRoom r ns → ⊥
   imports-fit light (an_interface m def c at lacks) =
-      let one = one-of (types_instance_weight r) ns m.0 c in
-      let within = types-within in
-      types-fit r v m def at (omega (arith, one, within, light)) lacks
-  imports-fit light (a_path canonical n c unfit) =
-      let one = one-of path-weight ns n c in
-      let within = paths-within in
-      let fits = path-fits canonical n (omega (arith, one, within, light)) in
-      absurd (let z : ⊥ = cc in z)
+      types-fit r v m def at (omega (arith, one-of (types_instance_weight r) ns m.0 c, types-within, light)) lacks
+  imports-fit light (a_path canonical n c unfit) = cc (path-fits canonical n (omega (arith, one-of path-weight ns n c, paths-within, light)))
   imports-fit light (too_many brought are many) =
       let types = numbers-weigh r ns brought are.different (λ n c. stands-in n (are.all n c)) in
-      let within = types-within in
       let each-one = at-least (λ (n : ℕ). 64) brought (λ n c. omega arith) in
-      let paths = paths-within in
-      let path-each = at-least path-weight ns (λ n c. omega arith) in
-      absurd (omega (arith, types, within, each-one, paths, path-each, many, light))
+      absurd (omega (arith, types, types-within, each-one, paths-within, at-least path-weight ns (λ n c. omega arith), many, light))
 
   component-fits : total ≤ limit → ComponentLacksRoom r i ns → ⊥
   component-fits light (of_imports lacks) = imports-fit light lacks
-  component-fits light (of_interface def at lacks) = let heavy = lacking-heavy r i def v at lacks in absurd (omega (arith, heavy, light))
-  component-fits light (of_path canonical unfit) =
-      let within = paths-within in
-      let fits = path-fits canonical i.0 (omega (arith, within, light)) in
-      absurd (let z : ⊥ = cc in z)
+  component-fits light (of_interface def at lacks) = absurd (omega (arith, lacking-heavy r i def v at lacks, light))
+  component-fits light (of_path canonical unfit) = cc (path-fits canonical i.0 (omega (arith, paths-within, light)))
 
 pub lacking-components-heavy : LackingComponentsAreHeavy
 lacking-components-heavy r i ns v named reaches lacks = by-order (nat_lt limit (interface_weight r i.0)) refl
   where
     by-order : (b : Bool) → nat_lt limit (interface_weight r i.0) ≡ b → limit < interface_weight r i.0
     by-order true f = ltb-true limit (interface_weight r i.0) f
-    by-order false f = let light = ltb-false limit (interface_weight r i.0) f in let is = weight-is r v i named ns reaches in
-        absurd (component-fits r v i named ns reaches (omega (arith, light, is)) lacks)
+    by-order false f = let is = weight-is r v i named ns reaches in
+        absurd (component-fits r v i named ns reaches (omega (arith, ltb-false limit (interface_weight r i.0) f, is)) lacks)

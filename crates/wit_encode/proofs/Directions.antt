@@ -80,14 +80,14 @@ exports_in (export_ ∷ ds) = suc (exports_in ds)
 imports-both : (xs ys : List Direction) → imports_in (xs ++ ys) ≡ imports_in xs + imports_in ys
 unfolding imports_in
 imports-both [] ys = omega arith
-imports-both (import_ ∷ xs) ys = let more = imports-both xs ys in omega (arith, more)
+imports-both (import_ ∷ xs) ys = omega (arith, imports-both xs ys)
 imports-both (export_ ∷ xs) ys = imports-both xs ys
 
 exports-both : (xs ys : List Direction) → exports_in (xs ++ ys) ≡ exports_in xs + exports_in ys
 unfolding exports_in
 exports-both [] ys = omega arith
 exports-both (import_ ∷ xs) ys = exports-both xs ys
-exports-both (export_ ∷ xs) ys = let more = exports-both xs ys in omega (arith, more)
+exports-both (export_ ∷ xs) ys = omega (arith, exports-both xs ys)
 
 -- from one scope to another so many imports and exports have been seen
 abbrev Sees : Scope → Scope → List Direction → Type 0
@@ -95,8 +95,8 @@ Sees s s' ds = (length s'.imports ≡ length s.imports + imports_in ds) × (leng
 
 sees : (direction : Direction) (seen : Seen) (s : Scope) → Sees s (see direction seen s) (direction ∷ [])
 unfolding imports_in exports_in
-sees import_ seen s = (length-append s.imports (seen ∷ []), (let y : length s.exports ≡ length s.exports + 0 = omega arith in y))
-sees export_ seen s = ((let y : length s.imports ≡ length s.imports + 0 = omega arith in y), length-append s.exports (seen ∷ []))
+sees import_ seen s = (length-append s.imports (seen ∷ []), omega arith)
+sees export_ seen s = (omega arith, length-append s.exports (seen ∷ []))
 
 sees-none : (s s' : Scope) → s.imports ≡ s'.imports → s.exports ≡ s'.exports → Sees s s' []
 unfolding imports_in exports_in
@@ -109,7 +109,7 @@ view-seen : (direction : Direction) (name : ExternName) (n : ℕ) (s s' : Scope)
     → (o >>= λ view. Some (see direction (record { key = key_text key; shown = Shown.instance key view; external_id = name.external_id })
     (record s { instances = s.instances ++ record { interface = interface_of key; view = view } ∷ []; used = s.used ++ n ∷ [] }))) ≡ Some s'
     → Sees s s' (direction ∷ [])
-view-seen direction name n s s' key None e = absurd (let z : ⊥ = cc in z)
+view-seen direction name n s s' key None e = absurd cc
 view-seen direction name n s s' key (Some view) e =
     let t : Scope = record s { instances = s.instances ++ record { interface = interface_of key; view = view } ∷ []; used = s.used ++ n ∷ [] } in
     let seen : Seen = record { key = key_text key; shown = Shown.instance key view; external_id = name.external_id } in
@@ -122,8 +122,7 @@ instance-seen direction name n s s' e =
 
 function-seen : (direction : Direction) (name : ExternName) (n : ℕ) (s s' : Scope) → see_function direction name n s ≡ Some s' → Sees s s' (direction ∷ [])
 function-seen direction name n s s' e =
-    let a = unbind (function_in (slice_get s.slots n)) _ s' e in
-    subst (λ (z : Scope). Sees s z (direction ∷ [])) (unprovided _ _ s' a.then) (sees direction _ s)
+    subst (λ (z : Scope). Sees s z (direction ∷ [])) (unprovided _ _ s' (unbind (function_in (slice_get s.slots n)) _ s' e).then) (sees direction _ s)
 
 type-seen : (name : ExternName) (described : ComponentTypeRef) (s s' : Scope) → see_type name described s ≡ Some s' → Sees s s' (import_ ∷ [])
 type-seen name described s s' e =
@@ -132,25 +131,22 @@ type-seen name described s s' e =
 
 step-seen : (s s' : Scope) (d : Declaration) → component_step s d ≡ Some s' → Sees s s' (direction_of d)
 step-seen s s' (Declaration.defined q) e =
-    let b = unbind (definition s.slots q) _ s' e in
-    let same = some-same _ s' b.then in
+    let same = some-same _ s' (unbind (definition s.slots q) _ s' e).then in
     sees-none s s' (ap (λ (z : Scope). z.imports) same) (ap (λ (z : Scope). z.exports) same)
 step-seen s s' (Declaration.function q) e =
-    let b = unbind (function_signature s.slots q) _ s' e in
-    let same = some-same _ s' b.then in
+    let same = some-same _ s' (unbind (function_signature s.slots q) _ s' e).then in
     sees-none s s' (ap (λ (z : Scope). z.imports) same) (ap (λ (z : Scope). z.exports) same)
 step-seen s s' (Declaration.alias_of (Alias.of_export m name)) e =
-    let b = unbind (exported_slot name (slice_get s.instances m)) _ s' e in
-    let same = some-same _ s' b.then in
+    let same = some-same _ s' (unbind (exported_slot name (slice_get s.instances m)) _ s' e).then in
     sees-none s s' (ap (λ (z : Scope). z.imports) same) (ap (λ (z : Scope). z.exports) same)
-step-seen s s' (Declaration.alias_of (Alias.of_outer scopes n)) e = absurd (let z : ⊥ = cc in z)
+step-seen s s' (Declaration.alias_of (Alias.of_outer scopes n)) e = absurd cc
 step-seen s s' (Declaration.imported name (refs.Instance n)) e = instance-seen import_ name n s s' e
 step-seen s s' (Declaration.imported name (refs.Func n)) e = function-seen import_ name n s s' e
 step-seen s s' (Declaration.imported name (refs.TypeEq n)) e = type-seen name (refs.TypeEq n) s s' e
 step-seen s s' (Declaration.imported name refs.SubResource) e = type-seen name refs.SubResource s s' e
 step-seen s s' (Declaration.exported name (refs.Instance n)) e = instance-seen export_ name n s s' e
 step-seen s s' (Declaration.exported name (refs.Func n)) e = function-seen export_ name n s s' e
-step-seen s s' _ e = absurd (let z : ⊥ = cc in z)
+step-seen s s' _ e = absurd cc
 
 -- one after the other
 steps-seen : (s s' : Scope) (ds : Declarations) → component_steps s ds ≡ Some s' → Sees s s' (directions_of ds)
@@ -159,14 +155,9 @@ steps-seen s s' (Declarations.declares d rest) e =
     let b = unbind (component_step s d) _ s' e in
     let one = step-seen s b.item d b.is in
     let more = steps-seen b.item s' rest b.then in
-    let one_imports = one.0 in
-    let one_exports = one.1 in
-    let more_imports = more.0 in
-    let more_exports = more.1 in
     let imports = imports-both (direction_of d) (directions_of rest) in
-    let exports = exports-both (direction_of d) (directions_of rest) in
-    (omega (arith, one_imports, more_imports, imports), omega (arith, one_exports, more_exports, exports))
-steps-seen s s' (Declarations.component inner rest) e = absurd (let z : ⊥ = cc in z)
+    (omega (arith, one.0, more.0, imports), omega (arith, one.1, more.1, exports-both (direction_of d) (directions_of rest)))
+steps-seen s s' (Declarations.component inner rest) e = absurd cc
 steps-seen s s' (Declarations.instance inner rest) e =
     let b = unbind (flat inner) _ s' e in
     steps-seen (in_scope (Slot.instance b.item (length s.slots)) s) s' rest b.then
@@ -176,10 +167,10 @@ steps-seen s s' (Declarations.instance inner rest) e =
 all-imports : (ds : List Direction) (more : List Entry) → imports_in ds ≡ length more → exports_in ds ≡ 0 → ds ≡ map (λ (e : Entry). import_) more
 unfolding imports_in exports_in
 all-imports [] [] i e = refl
-all-imports [] (x ∷ more) i e = absurd (let z : ⊥ = omega (arith, i) in z)
-all-imports (import_ ∷ ds) [] i e = absurd (let z : ⊥ = omega (arith, i) in z)
-all-imports (import_ ∷ ds) (x ∷ more) i e = ap (λ (xs : List Direction). import_ ∷ xs) (all-imports ds more (let y : imports_in ds ≡ length more = omega (arith, i) in y) e)
-all-imports (export_ ∷ ds) more i e = absurd (let z : ⊥ = omega (arith, e) in z)
+all-imports [] (x ∷ more) i e = absurd (omega (arith, i))
+all-imports (import_ ∷ ds) [] i e = absurd (omega (arith, i))
+all-imports (import_ ∷ ds) (x ∷ more) i e = ap (λ (xs : List Direction). import_ ∷ xs) (all-imports ds more (omega (arith, i)) e)
+all-imports (export_ ∷ ds) more i e = absurd (omega (arith, e))
 
 first-imports : (imports : List Entry) → (imports_in (map (λ (e : Entry). import_) imports) ≡ length imports) × (exports_in (map (λ (e : Entry). import_) imports) ≡ 0)
 unfolding imports_in exports_in
@@ -203,24 +194,14 @@ order-then s s' outer imports exports more followed no_imports no_exports begins
     others : begins.more ≡ map (λ (e : Entry). import_) more
     others =
         let seen = steps-seen s s' outer followed in
-        let seen_imports = seen.0 in
-        let seen_exports = seen.1 in
-        let none_imports : length s.imports ≡ 0 = ap length no_imports in
-        let none_exports : length s.exports ≡ 0 = ap length no_exports in
         let first = first-imports imports in
-        let first_imports = first.0 in
-        let first_exports = first.1 in
         let later = then-exports exports in
-        let later_imports = later.0 in
-        let later_exports = later.1 in
         let both_imports = imports-both (map (λ (e : Entry). import_) imports) (map (λ (e : Entry). export_) exports) in
         let both_exports = exports-both (map (λ (e : Entry). import_) imports) (map (λ (e : Entry). export_) exports) in
         let all_imports = ap imports_in is ∙ imports-both (imports_first imports exports) begins.more in
         let all_exports = ap exports_in is ∙ exports-both (imports_first imports exports) begins.more in
-        let long = length-append imports more in
-        all-imports begins.more more
-        (let y : imports_in begins.more ≡ length more = omega (arith, seen_imports, none_imports, first_imports, later_imports, both_imports, all_imports, long, i) in y)
-        (let y : exports_in begins.more ≡ 0 = omega (arith, seen_exports, none_exports, first_exports, later_exports, both_exports, all_exports, e) in y)
+        all-imports begins.more more (omega (arith, seen.0, ap length no_imports, first.0, later.0, both_imports, all_imports, length-append imports more, i))
+        (omega (arith, seen.1, ap length no_exports, first.1, later.1, both_exports, all_exports, e))
 
     by : (exports ≡ []) ⊎ (more ≡ []) → imports_first imports exports ++ map (λ (e : Entry). import_) more ≡ imports_first (imports ++ more) exports
     by (inl none) =

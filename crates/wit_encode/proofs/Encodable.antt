@@ -19,10 +19,11 @@ use Rattle.comp_bytes.specs.Raw.{Declarations}
 use Rattle.encode_types.specs.{KeyLaws.text_same, Resources.is_met_owner, Fits.CanEncode, Scope.Scope, Known.UsedStand, Plan.Reaches, Plan.itself, Plan.through}
 use Rattle.wit_encode.specs.Instance.{CanEncodeFunction, CanEncodeInterface, encoder_scope, opened, keyed, standing_instances, around_at}
 use Rattle.wit_encode.specs.OwnerScope.{IsScopeOf, IsUsedBy, UsesStand, IsTypeOf, InterfaceUses, functions_of}
-use Rattle.wit_encode.proofs.{Naming.one-home, Naming.valid-listed, Naming.names-agree, Opening.opened-sound, Opening.opened-around}
+use Rattle.wit_encode.proofs.{Naming.one-home, Naming.names-agree, Opening.opened-sound, Opening.opened-around}
 use Rattle.wit_encode.proofs.{OwnerScope.types_encode, OwnerScope.types_use, OwnerScope.functions_encode, OwnerScope.functions_use, Validity.valid-layered}
 use Rattle.base_lemmas.proofs.{Bools.left_of as first_true, Bools.right_of as second_true, Options.there as some-of}
 use Rattle.base_lemmas.proofs.{Elements.all-contained, Elements.contains-map, Elements.last_of as one-contained, Numbers.equal as equal-numbers}
+use Rattle.encode_shown.proofs.Members.{valid-listed}
 use Rattle.wit_model.specs.declared.model.TypeOwner.TheVariants as owner
 use Rattle.wit_model.specs.declared.model.«Type».TheVariants as ty
 
@@ -40,7 +41,7 @@ is_found es n t = is_id n (option_map (λ id. id.0) (lookup (λ k. bytes_eq t (t
 
 -- a look-up by text finds one
 listed-entry : (es : List (String Global × TypeId)) (n : ℕ) (t : Text) → is_found es n t ≡ true → HasEntry es n t
-listed-entry [] n t h = let wrong : ⊥ = cc in absurd wrong
+listed-entry [] n t h = absurd cc
 listed-entry (e ∷ es) n t h = go (listed-entry es n t) (bytes_eq t (text_of e.0)) refl h
   where
     go : (is_found es n t ≡ true → HasEntry es n t) → (b : Bool) → bytes_eq t (text_of e.0) ≡ b
@@ -48,7 +49,7 @@ listed-entry (e ∷ es) n t h = go (listed-entry es n t) (bytes_eq t (text_of e.
     go more true q h = record { entry = e; there = (0, omega arith, refl); number = equal-numbers e.1.0 n h; text = sym (text_same t (text_of e.0) q) }
     go more false q h =
         let rest = more h in
-        record { entry = rest.entry; there = (suc rest.there.0, (let l = rest.there.1 in omega arith), rest.there.2); number = rest.number; text = rest.text }
+        record { entry = rest.entry; there = (suc rest.there.0, omega (arith, rest.there.1), rest.there.2); number = rest.number; text = rest.text }
 
 -- ---- uses
 
@@ -71,7 +72,7 @@ used-other r def i own h = search std_rules
 
 all-from : (p : ℕ → Bool) (ns : List ℕ) → ((n : ℕ) → Contains ns n → p n ≡ true) → list_all p ns ≡ true
 all-from p [] h = refl
-all-from p (n ∷ ns) h = both (p n) (list_all p ns) (h n (0, omega arith, refl)) (all-from p ns (λ m c. h m (suc c.0, (let l = c.1 in omega arith), c.2)))
+all-from p (n ∷ ns) h = both (p n) (list_all p ns) (h n (0, omega arith, refl)) (all-from p ns (λ m c. h m (suc c.0, omega (arith, c.1), c.2)))
 
 has-all : (ns : List ℕ) → list_all (has ns) ns ≡ true
 has-all ns = all-from (has ns) ns (contains-has ns)
@@ -207,10 +208,10 @@ pub primitive-encodes : (r : Resolve) → IsValid r → (s : Scope) → s.packag
 primitive-encodes r v s p = record {
   packages_ = p;
   layered = valid-layered r v;
-  in_range = λ t h id e. absurd (let q = one-contained ty.U32 t h ∙ e in let z : ⊥ = cc in z);
+  in_range = λ t h id e. absurd (cc (one-contained ty.U32 t h ∙ e));
   fits = λ t h n k. absurd (nothing-reached t n (one-contained ty.U32 t h) k);
 }
   where
     nothing-reached : (t : ValueType) (n : ℕ) → ty.U32 ≡ t → Reaches r s.own_interface t n → ⊥
-    nothing-reached _ _ e (itself id) = let z : ⊥ = cc in z
-    nothing-reached _ _ e (through id def t n at f c k) = let z : ⊥ = cc in z
+    nothing-reached _ _ e (itself id) = cc
+    nothing-reached _ _ e (through id def t n at f c k) = cc

@@ -58,7 +58,7 @@ learnt-one P m m' learnt once e l x c = elim (l.each x.0 x.1
     twice : Contains m.id_to_index.entries x → ⊥
     twice q =
         let apart = pairs-across (λ (a b : ℕ × ℕ). nat_eq a.0 b.0 ≡ false) m.id_to_index.entries learnt x x (learnt-apart m m' learnt once e) q c in
-        let wrong : true ≡ false = sym (same-number x.0) ∙ apart in cc
+        cc (sym (same-number x.0) ∙ apart)
 
 -- where nothing that is learnt is a named type of the place, nothing is exported
 pub shows-nothing : (r : Resolve) (scope : Scope) (m m' : TypeEncodingMaps) (d d' : Definitions) (P : ℕ → Type 0) → IsOnce m' → LearnsOnly P m m'
@@ -91,9 +91,7 @@ members : (r : Resolve) (o : TypeOwner) (es : List (String Global × Function)) 
 members r o [] h = refl
 members r o (e ∷ es) h =
     let named = text_eq (text_of e.0) (text_of e.1.name) in
-    let here = second_true named _ (first_true (named && is_member r o e.1) _ h) in
-    let later = members r o es (second_true (named && is_member r o e.1) _ h) in
-    λ i. here i && later i
+    λ i. (second_true named _ (first_true (named && is_member r o e.1) _ h)) i && (members r o es (second_true (named && is_member r o e.1) _ h)) i
 
 are-members : (r : Resolve) → IsValid r → (i : ℕ) (interface : Interface) → interface_at r i ≡ Some interface → list_all (is_member r (as_interface i)) (functions_of_interface interface) ≡ true
 unfolding function_names
@@ -114,7 +112,7 @@ uses-listed r v i interface there f c n d =
 unique-entry : {V : Type 0} (es : List (String Global × V)) → IsDistinct string_eq (keys_of es) → (j k : ℕ) (a b : String Global × V) → slice_get es j ≡ Some a
     → slice_get es k ≡ Some b → text_of a.0 ≡ text_of b.0 → a ≡ b
 unfolding IsDistinct
-unique-entry [] h j k a b p q same = let wrong : ⊥ = cc in absurd wrong
+unique-entry [] h j k a b p q same = absurd cc
 unique-entry {V} (x ∷ xs) h j k a b p q same = go (λ j k p q. unique-entry xs h.1 j k a b p q same) j k p q
   where
     equal-keys : (c d : String Global) → text_of c ≡ text_of d → string_eq c d ≡ true
@@ -122,10 +120,8 @@ unique-entry {V} (x ∷ xs) h j k a b p q same = go (λ j k p q. unique-entry xs
 
     apart : (es : List (String Global × V)) (n : ℕ) (y : String Global × V) → AllByRecursion (λ key. string_eq x.0 key ≡ false) (keys_of es) → slice_get es n ≡ Some y
         → text_of x.0 ≡ text_of y.0 → ⊥
-    apart [] n y all e s = let wrong : ⊥ = cc in wrong
-    apart (z ∷ zs) zero y all e s =
-        let fails = ap (λ (w : String Global × V). string_eq x.0 w.0) (sym (same-some z y e)) ∙ all.0 in
-        let wrong : true ≡ false = sym (equal-keys x.0 y.0 s) ∙ fails in cc
+    apart [] n y all e s = cc
+    apart (z ∷ zs) zero y all e s = cc (sym (equal-keys x.0 y.0 s) ∙ (ap (λ (w : String Global × V). string_eq x.0 w.0) (sym (same-some z y e)) ∙ all.0))
     apart (z ∷ zs) (suc n) y all e s = apart zs n y all.1 e s
 
     go : ((j k : ℕ) → slice_get xs j ≡ Some a → slice_get xs k ≡ Some b → a ≡ b) → (j k : ℕ) → slice_get (x ∷ xs) j ≡ Some a → slice_get (x ∷ xs) k ≡ Some b → a ≡ b
@@ -135,8 +131,7 @@ unique-entry {V} (x ∷ xs) h j k a b p q same = go (λ j k p q. unique-entry xs
     go rest (suc j) (suc k) p q = rest j k p q
 
 module _ (r : Resolve) (v : IsValid r) (scope : Scope) (id : InterfaceId) (interface : Interface) (own : scope.own_interface ≡ Some id)
-    (there : interface_at r id.0 ≡ Some interface)
-    (declares : scope.declarations ≡ (interface_meaning_at r id.0).types) where
+    (there : interface_at r id.0 ≡ Some interface) (declares : scope.declarations ≡ (interface_meaning_at r id.0).types) where
   abbrev declaration : String Global × TypeId → Text × TypeMeaning
   declaration e = (text_of e.0, type_meaning_at r e.1.0)
 
@@ -156,9 +151,7 @@ module _ (r : Resolve) (v : IsValid r) (scope : Scope) (id : InterfaceId) (inter
       within : length scope.declarations ≤ k
       within =
           let a = ap length declarations-are in
-          let b = length-map interface.types.entries declaration in
-          let c = length-map interface.types.entries (λ (x : String Global × TypeId). x.1) in
-          omega (arith, le, a, b, c)
+          omega (arith, le, a, length-map interface.types.entries declaration, length-map interface.types.entries (λ (x : String Global × TypeId). x.1))
 
   module _ (k : ℕ) (e : String Global × TypeId) (at : slice_get interface.types.entries k ≡ Some e) (m m' : TypeEncodingMaps) (d d' : Definitions)
       (first : ShowsFirst r scope (values interface.types) k m d) where
@@ -173,14 +166,11 @@ module _ (r : Resolve) (v : IsValid r) (scope : Scope) (id : InterfaceId) (inter
 
     -- the type is named in the place
     named : own_name r scope e.1.0 ≡ Some (text_of entry.name)
-    named =
-        ap (option_and_then (name_of_own scope)) entry.there
-        ∙ (λ i. cond (is_none (home i)) (option_map text_of (entry.named_ i)) None)
+    named = ap (option_and_then (name_of_own scope)) entry.there ∙ (λ i. cond (is_none (home i)) (option_map text_of (entry.named_ i)) None)
       where
         home : foreign_owner scope.own_interface entry.def.owner ≡ None
         home =
-            (λ i. foreign_owner (own i) (same-owner entry.def.owner (as_interface id.0) entry.owned i))
-            ∙ ap (λ b. cond b None (Some id)) (same-number id.0)
+            (λ i. foreign_owner (own i) (same-owner entry.def.owner (as_interface id.0) entry.owned i)) ∙ ap (λ b. cond b None (Some id)) (same-number id.0)
 
     -- and isn't known yet
     fresh : IsKnown m e.1.0 → ⊥
@@ -196,7 +186,7 @@ module _ (r : Resolve) (v : IsValid r) (scope : Scope) (id : InterfaceId) (inter
 
     -- no other named type of the place is met by way of unknown numbers
     meets-no-other : (t : ValueType) (n : ℕ) → t ≡ ty.Id e.1 → Meets r scope.own_interface m t n → (n ≡ e.1.0 → ⊥) → own_name r scope n ≡ None
-    meets-no-other _ _ q (at_once id' lacks) other = let same : id' ≡ e.1 = cc in absurd (other (ap (λ (x : TypeId). x.0) same))
+    meets-no-other _ _ q (at_once id' lacks) other = absurd (other (ap (λ (x : TypeId). x.0) cc))
     meets-no-other _ _ q (further id' def t n lacks is f c more) other = meets-unnamed r (valid-references r v) scope m t n parts more
       where
         same : id' ≡ e.1
@@ -256,9 +246,7 @@ module _ (r : Resolve) (v : IsValid r) (scope : Scope) (id : InterfaceId) (inter
 
       declarations-more : take (k + 1) scope.declarations ≡ take k scope.declarations ++ declaration e ∷ []
       declarations-more =
-          let long = ap length declarations-are in
-          let same-long = length-map interface.types.entries declaration in
-          take_more scope.declarations k (declaration e) (let w = within in omega (arith, w, long, same-long))
+          take_more scope.declarations k (declaration e) (omega (arith, within, ap length declarations-are, length-map interface.types.entries declaration))
           ∙ ap (λ x. take k scope.declarations ++ x ∷ []) (ap (λ xs. get_or xs k (declaration e)) declarations-are ∙ get_or-map declaration interface.types.entries k e
           ∙ ap declaration (get_or_from_slice_get interface.types.entries k e e at))
 
@@ -287,13 +275,13 @@ module _ (r : Resolve) (v : IsValid r) (scope : Scope) (id : InterfaceId) (inter
           new t i q false s = inl (met-no-other t.0 (met-learnt (t.0, i) q) (λ same. differ same))
             where
               differ : t.0 ≡ e.1.0 → ⊥
-              differ same = let wrong : true ≡ false = sym (subst (λ (n : ℕ). (t.0 == n) ≡ true) same (same-number t.0)) ∙ s in cc
+              differ same = cc (sym (subst (λ (n : ℕ). (t.0 == n) ≡ true) same (same-number t.0)) ∙ s)
 
 -- ---- the types of the place
 
 entry-of : (es : List (String Global × TypeId)) (k : ℕ) (t : TypeId) → slice_get (map (λ x. x.1) es) k ≡ Some t
     → (e : String Global × TypeId) × (slice_get es k ≡ Some e) × (e.1 ≡ t)
-entry-of [] k t h = let wrong : ⊥ = cc in absurd wrong
+entry-of [] k t h = absurd cc
 entry-of (e ∷ es) zero t h = (e, refl, same-some e.1 t h)
 entry-of (e ∷ es) (suc k) t h = entry-of es k t h
 

@@ -2,7 +2,7 @@
 use Rattle.std.proofs.Common.{rules as std_rules, ◌≡◌, refl, ap, ◌∙◌, ℕ, suc, ◌+◌, ◌≤◌, Bool, true, false, if◌then◌else◌, List, [], ◌∷◌, map, length, Option, Some, None, is_some, arith}
 use Rattle.std.proofs.lemmas.List.Sums.{sum_by-cons}
 use Rattle.std.specs.{Prelude.sum_by, List.Contains, Option.option_map_or}
-use Rattle.wit_model.specs.{Text.Text, Text.text_of, Lookup.type_at, Valid.IsValid, Valid.functions_of_interface}
+use Rattle.wit_model.specs.{Text.Text, Lookup.type_at, Valid.IsValid, Valid.functions_of_interface}
 use Rattle.wit_model.specs.Weight.{unit_of, name_texts, definition_weight, is_brought, number_weight, instance_numbers}
 use Rattle.wit_model.specs.declared.model.{Resolve.Resolve, InterfaceId.InterfaceId, Function.Function, TypeDef.TypeDef, TypeId.TypeId, TypeOwner.TypeOwner}
 use Rattle.indexmap.specs.IndexMap.{values}
@@ -17,12 +17,7 @@ use Rattle.wit_encode.proofs.DependencyWeighing as dependency
 
 pub each-below : {X : Type 0} (f g : X → ℕ) (xs : List X) → ((x : X) → Contains xs x → f x ≤ g x) → sum_by f xs ≤ sum_by g xs
 each-below f g [] h = omega arith
-each-below f g (x ∷ xs) h =
-    let rest = each-below f g xs (λ y c. h y (later y c)) in
-    let here = h x (0, omega arith, refl) in
-    let a = sum_by-cons f x xs in
-    let b = sum_by-cons g x xs in
-    omega arith
+each-below f g (x ∷ xs) h = omega (arith, each-below f g xs (λ y c. h y (later y c)), h x (0, omega arith, refl), sum_by-cons f x xs, sum_by-cons g x xs)
   where
     later : (y : _) → Contains xs y → Contains (x ∷ xs) y
     later y (i, l, e) = (suc i, omega (arith, l), e)
@@ -45,14 +40,10 @@ module _ (r : Resolve) (v : IsValid r) (o : TypeOwner) (n : ℕ) (d : TypeDef) (
   by-owner : (b : Bool) → is_some (foreign_owner (interface_of_owner o) d.owner) ≡ b → number_extent r (interface_of_owner o) n ≤ number_weight r o n
   by-owner true e =
       let here = import-light (is_brought r o n) in
-      let is = extent-is ∙ ap (λ (b : Bool). if b then import_extent d else tree_extent (kind_tree r d.kind) + own_name_extent r d) e in
-      let w = weight-is in
-      omega (arith, here, is, w)
+      omega (arith, here, extent-is ∙ ap (λ (b : Bool). if b then import_extent d else tree_extent (kind_tree r d.kind) + own_name_extent r d) e, weight-is)
   by-owner false e =
-      let w = own (no-owner (foreign_owner (interface_of_owner o) d.owner) e) in
-      let low = types-light r n d v at in
-      let is = extent-is ∙ ap (λ (b : Bool). if b then import_extent d else tree_extent (kind_tree r d.kind) + own_name_extent r d) e in
-      omega (arith, w, low, is)
+      let a = extent-is ∙ ap (λ (b : Bool). if b then import_extent d else tree_extent (kind_tree r d.kind) + own_name_extent r d) e in
+      omega (arith, types-light r n d v at, own (no-owner (foreign_owner (interface_of_owner o) d.owner) e), a)
 
   of-number : number_extent r (interface_of_owner o) n ≤ number_weight r o n
   of-number = by-owner (is_some (foreign_owner (interface_of_owner o) d.owner)) refl
@@ -73,15 +64,10 @@ instances-light r i def numbers v home different met =
     (λ n c. number-light r v (owner.Interface i) _ _ (weighing.home-owner r v i def home) (values def.types) (map (λ f. f.1) (functions_in_order def))
     (weighing.listed-here r v i def home) (weighing.in-map r v i def home) n (met n c)) in
     let functions = each-below (function_extent r) keyed-weight (functions_in_order def) function-below in
-    let sum = weighing.functions-sum r v i def home in
-    let whole = weighing.weight-is r v i def home in
-    omega arith
+    omega (arith, weighing.functions-sum r v i def home, weighing.weight-is r v i def home)
   where
     function-below : (f : Text × Function) → Contains (functions_in_order def) f → function_extent r f ≤ keyed-weight f
-    function-below f c =
-        let low = functions-light r f.1 in
-        let name : length f.0 ≡ length (text_of f.1.name) = ap length (weighing.named-so r v i def home f c) in
-        omega arith
+    function-below f c = omega (arith, functions-light r f.1, ap length (weighing.named-so r v i def home f c))
 
 -- ---- the types alone
 
@@ -91,5 +77,4 @@ dependencies-light r i def numbers v home different met =
     let each = each-below (number_extent r (Some i)) (number_weight r (owner.Interface i)) numbers
     (λ n c. number-light r v (owner.Interface i) _ [] (dependency.types-owner r v i def home) (values def.types) []
     (dependency.listed-here r v i def home) (λ f c. c) n (met n c)) in
-    let whole = dependency.types-weigh r v i def home in
-    omega arith
+    omega (arith, dependency.types-weigh r v i def home)

@@ -35,7 +35,7 @@ Agree r resources ts = (t : ValueType) → Contains ts t → is_resource_tree re
 
 module _ (r : Resolve) (resources : Names) where
   agree-rest : (t : ValueType) (ts : List ValueType) → Agree r resources (t ∷ ts) → Agree r resources ts
-  agree-rest t ts a u c = a u (suc c.0, (let l = c.1 in omega arith), c.2)
+  agree-rest t ts a u c = a u (suc c.0, omega (arith, c.1), c.2)
 
   agree-first : (t : ValueType) (ts : List ValueType) → Agree r resources (t ∷ ts) → is_resource_tree resources (type_tree r t) ≡ is_resource_type r t
   agree-first t ts a = a t (0, omega arith, refl)
@@ -69,8 +69,7 @@ module _ (r : Resolve) (resources : Names) where
 
   pub kind-formed : (k : TypeDefKind) → has_definition k ≡ true → has_shape k ≡ true → Values (member_types k) → passes (is_resource r) (handled k) ≡ true → Agree r resources (parts_of k)
       → is_formed resources (kind_tree r k) ≡ true
-  kind-formed (kind.Record q) d s v h a = both _ _
-      (filled-twice (λ f. f.0) (λ f. (text_of f.name, type_tree r f.ty)) q.fields.items s)
+  kind-formed (kind.Record q) d s v h a = both _ _ (filled-twice (λ f. f.0) (λ f. (text_of f.name, type_tree r f.ty)) q.fields.items s)
       (by-children (map (type_tree r) (map (λ f. f.ty) q.fields.items)) _ (field-children r q.fields.items) (values-of _ v a))
   kind-formed (kind.Variant q) d s v h a = both _ _
       (filled-twice (λ c. (c.0, is_given c.1)) (λ c. (text_of c.name, option_map (type_tree r) c.ty)) q.cases.items s)
@@ -94,8 +93,8 @@ module _ (r : Resolve) (resources : Names) where
   kind-formed (kind.Stream o) d s v h a = search std_rules
   kind-formed (kind.Handle (handle.Own id)) d s v h a = both _ _ (agree-first (ty.Id id) [] a ∙ h) refl
   kind-formed (kind.Handle (handle.Borrow id)) d s v h a = both _ _ (agree-first (ty.Id id) [] a ∙ h) refl
-  kind-formed kind.Resource d s v h a = absurd (let z : ⊥ = cc in z)
-  kind-formed (kind.Type_ (ty.Id id)) d s v h a = absurd (let z : ⊥ = cc in z)
+  kind-formed kind.Resource d s v h a = absurd cc
+  kind-formed (kind.Type_ (ty.Id id)) d s v h a = absurd cc
   kind-formed _ d s v h a = refl
 
   -- a name stands for a resource exactly where its type is one

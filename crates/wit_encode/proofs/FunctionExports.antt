@@ -7,7 +7,7 @@ use Rattle.wit_model.specs.declared.model.{Resolve.Resolve, Function.Function, T
 use Rattle.comp_bytes.specs.Raw.{Declarations}
 use Rattle.encode_types.specs.declared.maps.TypeEncodingMaps.{TypeEncodingMaps}
 use Rattle.wit_encode.specs.declared.interface.OpenInterface.{OpenInterface}
-use Rattle.encode_types.specs.{Maps.IsKnown, Maps.IsOnce, Maps.MapsGrow, Maps.LearnsOnly, Maps.by_number, Plan.MetFrom, Scope.Scope, Counts.Shows}
+use Rattle.encode_types.specs.{Maps.IsKnown, Maps.IsOnce, Maps.LearnsOnly, Maps.MapsGrow, Maps.by_number, Plan.MetFrom, Scope.Scope, Counts.Shows}
 use Rattle.wit_encode.specs.Exports.{AllKnown, KnowsUsed, UsesListed}
 use Rattle.wit_encode.specs.Instance.{keyed, own_of, contents_of, encoder_scope, definitions_with, ShowsFunction, exports_in}
 use Rattle.wit_encode.proofs.Exporting.{shows-nothing, function-unnamed}
@@ -21,8 +21,7 @@ pub function-stays : {A E : Type 0} (res : Result A E) (r r₀ r₁ r₂ : Resol
     → OnOk res (ShowsFunction (contents_of r₁ o₁ i₁) (contents_of r₂ o₂ i₂) g) → OnOk res (exports_in r o₂ i₂ ≡ exports_in r o₀ i₀)
 function-stays (Err x) r r₀ r₁ r₂ o₀ o₁ o₂ i₀ i₁ i₂ m₀ m₁ f g v used e s e₂ once learns shows ok = ok
 function-stays (Ok a) r r₀ r₁ r₂ o₀ o₁ o₂ i₀ i₁ i₂ m₀ m₁ f g v used e s e₂ once learns shows ok =
-    let e₁ : r₁ ≡ r₀ = ap (λ (z : Scope). z.packages) s in
-    ap (λ (z : Resolve). exports_in z o₂ i₂) (sym (e₂ ∙ (e₁ ∙ e)))
+    ap (λ (z : Resolve). exports_in z o₂ i₂) (sym (e₂ ∙ ((ap (λ (z : Scope). z.packages) s) ∙ e)))
     ∙ (ap (map (λ t. (t.name, t.meaning))) ok.types_shown
     ∙ (shows-nothing r (encoder_scope r₀ o₀ i₀) m₀ m₁ (definitions_with (contents_of r₀ o₀ i₀)) (definitions_with (contents_of r₁ o₁ i₁))
     (MetFrom r (own_of i₀) m₀ (function_types f)) once learns (function-unnamed r v (encoder_scope r₀ o₀ i₀) m₀ f used) shows

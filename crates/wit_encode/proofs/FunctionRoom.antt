@@ -69,7 +69,7 @@ module _ (r : Resolve) (own : Option InterfaceId) (N : Refusals) (t : Text) (f :
           | inr c ↦ inr (any-at (are_same key) (key_of f ∷ []) found.0 c found.2)
         ]);
         room = room-more refl (λ n x. x) (λ q c. Contains-append_left (its-type ∷ []) (its-name ∷ []) q c)
-            (let a = entry-keys m once in let b = length-append ks (key_of f ∷ []) in omega (arith, a, b)) room;
+            (omega (arith, entry-keys m once, length-append ks (key_of f ∷ []))) room;
       }
 
   -- its name has none, behind its type
@@ -79,15 +79,14 @@ module _ (r : Resolve) (own : Option InterfaceId) (N : Refusals) (t : Text) (f :
     keys = (keyed b once).keys;
     different = (keyed b once).different;
     from = λ key among. learnt key ((keyed b once).known key among);
-    room = room-after refl grow holds only (λ n x. x) (λ q c. Contains-append_right (its-type ∷ []) (its-name ∷ []) q c) (let k = entry-keys b once in omega (arith, k))
+    room = room-after refl grow holds only (λ n x. x) (λ q c. Contains-append_right (its-type ∷ []) (its-name ∷ []) q c) (omega (arith, entry-keys b once))
         (lacks-request r own (function_types f) its-name b h' h'' N low lacks);
   }
 
 -- ---- more functions
 
 module _ {r : Resolve} {own own' : Option InterfaceId} {N : Refusals} {ts ts' : List ValueType} {a b : TypeEncodingMaps} {h h' h'' : ℕ} (e : own' ≡ own) (grow : MapsGrow a b)
-    (only : LearnsOnly (ReachedFrom r own ts) a b)
-    (reach : (n : ℕ) → ReachedFrom r own ts' n → ReachedFrom r own ts n) where
+    (only : LearnsOnly (ReachedFrom r own ts) a b) (reach : (n : ℕ) → ReachedFrom r own ts' n → ReachedFrom r own ts n) where
   -- one of these functions, behind others
   pub next-lacks : {i : ℕ} (fs : List Named) (g : Named) (done : List Function) → HoldsFor r own a b h h' i
       → ((key : Key) → KnowsKey b key → KnowsKey a key ⊎ (is_member are_same (map key_of done) key ≡ true))
@@ -102,7 +101,7 @@ module _ {r : Resolve} {own own' : Option InterfaceId} {N : Refusals} {ts ts' : 
           any-at (are_same key) (map (λ (x : Named). key_of x.1) fs) found.0 (subst (Contains (map (λ (x : Named). key_of x.1) fs)) (one-contained (key_of g.1) found.0 found.1)
           (contains-map (λ (x : Named). key_of x.1) fs g there)) found.2)
     ];
-    room = room-after e grow holds only reach (λ q c. contains-flat (function_requests r) fs g q there c) (let l = many in omega (arith, l)) p.room;
+    room = room-after e grow holds only reach (λ q c. contains-flat (function_requests r) fs g q there c) (omega (arith, many)) p.room;
   }
     where
       keys-twice : (gs : List Named) → map key_of (map (λ (x : Named). x.1) gs) ≡ map (λ (x : Named). key_of x.1) gs
@@ -129,11 +128,10 @@ module _ {r : Resolve} {own own' : Option InterfaceId} {N : Refusals} {ts ts' : 
 
 -- types, before all functions
 pub lacks-types : {r : Resolve} {own : Option InterfaceId} {N : Refusals} {ts ts' : List ValueType} {m : TypeEncodingMaps} {h h' : ℕ} (fs : List Named) → IsOnce m
-    → ((n : ℕ) → ReachedFrom r own ts' n → ReachedFrom r own ts n) → FindsNoRoom r own ts' [] 0 m h h' N
-    → LacksFunctions r own ts fs m h h' N
+    → ((n : ℕ) → ReachedFrom r own ts' n → ReachedFrom r own ts n) → FindsNoRoom r own ts' [] 0 m h h' N → LacksFunctions r own ts fs m h h' N
 lacks-types {r} {own} {N} {ts} {ts'} {m} {h} {h'} fs once reach room = record {
   keys = (keyed m once).keys;
   different = (keyed m once).different;
   from = λ key among. inl ((keyed m once).known key among);
-  room = room-more refl reach (λ q c. none-in q c) (let k = entry-keys m once in omega (arith, k)) room;
+  room = room-more refl reach (λ q c. none-in q c) (omega (arith, entry-keys m once)) room;
 }

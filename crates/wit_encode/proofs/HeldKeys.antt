@@ -44,8 +44,8 @@ shrunk names names' t g a b xs l k = key-shrink names names' t g (as_key a) (as_
 
 params-alike : (names : Names) (ps qs : List Param) (xs : List ℕ) → pointwise same_param ps qs ≡ true → AreListed names ps xs → AreListed names qs xs × (length ps ≡ length qs)
 params-alike names [] [] xs e h = (h, refl)
-params-alike names [] (q ∷ qs) xs e h = absurd (let z : ⊥ = cc in z)
-params-alike names (p ∷ ps) [] xs e h = absurd (let z : ⊥ = cc in z)
+params-alike names [] (q ∷ qs) xs e h = absurd cc
+params-alike names (p ∷ ps) [] xs e h = absurd cc
 params-alike names (p ∷ ps) (q ∷ qs) [] e h = absurd h
 params-alike names (p ∷ ps) (q ∷ qs) (x ∷ []) e h = absurd h
 params-alike names (p ∷ ps) (q ∷ qs) (x ∷ y ∷ xs) e h =
@@ -83,7 +83,7 @@ keys-at : (names : Names) (es : List (List ℕ × ℕ)) → ((xs : List ℕ) (i 
 keys-at names [] h = ([], tt)
 keys-at names (e ∷ es) h =
     let x = h e.0 e.1 (0, omega arith, refl) in
-    let more = keys-at names es (λ xs i c. h xs i (suc c.0, (let l = c.1 in omega (arith, l)), c.2)) in
+    let more = keys-at names es (λ xs i c. h xs i (suc c.0, omega (arith, c.1), c.2)) in
     (key_view x.key ∷ more.0, (x.is, more.1))
 
 keys-long : (names : Names) (ks : List Key) (es : List (List ℕ × ℕ)) → AreKeysOf names ks es → length ks ≡ length es
@@ -103,14 +103,14 @@ key-there names [] es h k c = none-in k c
 key-there names (x ∷ ks) [] h k c = absurd h
 key-there names (x ∷ ks) (e ∷ es) h k (zero, l, q) = (e, (0, omega arith, refl), subst (λ (z : Key). HasList names z e.0) q h.0)
 key-there names (x ∷ ks) (e ∷ es) h k (suc i, l, q) = let more = key-there names ks es h.1 k (i, omega (arith, l), q) in
-    (more.0, (suc more.1.0, (let n = more.1.1 in omega (arith, n)), more.1.2), more.2)
+    (more.0, (suc more.1.0, omega (arith, more.1.1), more.1.2), more.2)
 
 list-there : (names : Names) (ks : List Key) (es : List (List ℕ × ℕ)) → AreKeysOf names ks es → (e : List ℕ × ℕ) → Contains es e → (k : Key) × Contains ks k × HasList names k e.0
 list-there names ks [] h e c = none-in e c
 list-there names [] (x ∷ es) h e c = absurd h
 list-there names (k ∷ ks) (x ∷ es) h e (zero, l, q) = (k, (0, omega arith, refl), subst (λ (z : List ℕ × ℕ). HasList names k z.0) q h.0)
 list-there names (k ∷ ks) (x ∷ es) h e (suc i, l, q) = let more = list-there names ks es h.1 e (i, omega (arith, l), q) in
-    (more.0, (suc more.1.0, (let n = more.1.1 in omega (arith, n)), more.1.2), more.2)
+    (more.0, (suc more.1.0, omega (arith, more.1.1), more.1.2), more.2)
 
 keys-apart : (names : Names) → IsTable names → (ks : List Key) (es : List (List ℕ × ℕ)) → AreKeysOf names ks es → AllPairs (λ x y. x.0 ≡ y.0 → ⊥) es → AllPairs (λ x y. are_same x y ≡ false) ks
 keys-apart names t ks es h p i j d l n = go (are_same (get_or ks i d) (get_or ks j d)) refl
@@ -123,7 +123,7 @@ keys-apart names t ks es h p i j d l n = go (are_same (get_or ks i d) (get_or ks
 
     go : (b : Bool) → are_same (get_or ks i d) (get_or ks j d) ≡ b → are_same (get_or ks i d) (get_or ks j d) ≡ false
     go false e = e
-    go true e = absurd (p i j none l (let q = long in omega (arith, q, n))
+    go true e = absurd (p i j none l (omega (arith, long, n))
         (lists-alike names (get_or ks i d) (get_or ks j d) (get_or es i none).0 (get_or es j none).0 t (key-at names ks es h i d none (omega (arith, l, n))) (key-at names ks es h j d none n) e))
 
 -- These keys, no two of them the same, are those that the maps know.
@@ -167,7 +167,7 @@ keys-stand r m S agree [] (x ∷ es) h known = absurd h
 keys-stand r m S agree (k ∷ ks) [] h known = absurd h
 keys-stand r m S agree (k ∷ ks) (x ∷ es) h known = (
   agree.says (by_key (as_key k)) x.1 (x.0.0.items, h.0, known (x.0.0.items, x.1) (0, omega arith, refl)),
-  keys-stand r m S agree ks es h.1 (λ y c. known y (suc c.0, (let l = c.1 in omega (arith, l)), c.2)),
+  keys-stand r m S agree ks es h.1 (λ y c. known y (suc c.0, omega (arith, c.1), c.2)),
 )
 
 -- What has been defined for functions since the maps held no key: the type of each key that they hold, in its slot.

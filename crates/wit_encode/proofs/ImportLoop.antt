@@ -16,13 +16,14 @@ use Rattle.wit_encode.specs.{DependencyAliases.HasImportAliases, DependencyRoom.
 use Rattle.wit_encode.proofs.{DependencyAliases.import-aliased, DependencyHolding.import-defines, DependencyHolding.import-few, DependencyHolding.next-lacks}
 use Rattle.wit_encode.proofs.{Imported.imports_grow, ImportsStand.imports_stand, UsedPaths.used-path, WrittenNames.imports-named}
 use Rattle.encode_shown.proofs.Dependencies.{distinct-front}
-use Rattle.base_lemmas.proofs.{Bools.left_of as first_true, Elements.any-contains, Numbers.equal, Numbers.same-number, Options.there as some-of}
+use Rattle.base_lemmas.proofs.{Bools.left_of as first_true, Elements.any-contains, Numbers.equal, Numbers.same-number, Options.there as some-of, Lists.at_last, Elements.get-contains}
+use Rattle.std.proofs.Math.Seq.{take-append_seam}
 
 -- ---- lists
 
 -- what an interface uses stands before it
 pub earlier-at : (r : Resolve) (earlier ns : List ℕ) (k n m : ℕ) → UseEarlier r earlier ns → slice_get ns k ≡ Some n → Contains (direct_deps r n) m → Contains (earlier ++ take k ns) m
-earlier-at r earlier [] k n m u e c = let wrong : ⊥ = cc in absurd wrong
+earlier-at r earlier [] k n m u e c = absurd cc
 earlier-at r earlier (x ∷ ns) zero n m u e c = Contains-append_left earlier [] m (u.0 m (subst (λ y. Contains (direct_deps r y) m) (sym (same-some x n e)) c))
 earlier-at r earlier (x ∷ ns) (suc k) n m u e c = subst (λ xs. Contains xs m) (append_assoc earlier (x ∷ []) (take k ns)) (earlier-at r (earlier ++ x ∷ []) ns k n m u.1 e c)
 
@@ -33,35 +34,23 @@ earlier-front r earlier (x ∷ ns) ms u = (u.0, earlier-front r (earlier ++ x �
 -- a number doesn't stand before its place
 not-before : (ns : List ℕ) (k n : ℕ) → IsDistinct (λ a b. a == b) ns → slice_get ns k ≡ Some n → Contains (take k ns) n → ⊥
 unfolding IsDistinct
-not-before [] k n d e c = let wrong : ⊥ = cc in wrong
+not-before [] k n d e c = cc
 not-before (x ∷ ns) zero n d e c = none-in n c
 not-before (x ∷ ns) (suc k) n d e (suc j, l, q) = not-before ns k n d.1 e (j, omega (arith, l), q)
 not-before (x ∷ ns) (suc k) n d e (zero, l, q) = differs ns k d.0 e
   where
     differs : (zs : List ℕ) (j : ℕ) → AllByRecursion (λ y. (x == y) ≡ false) zs → slice_get zs j ≡ Some n → ⊥
-    differs [] j a h = let wrong : ⊥ = cc in wrong
-    differs (z ∷ zs) zero a h =
-        let same : z ≡ x = same-some z n h ∙ sym q in
-        let bad : true ≡ false = sym (same-number x) ∙ ap (λ y. x == y) (sym same) ∙ a.0 in
-        let wrong : ⊥ = cc in wrong
+    differs [] j a h = cc
+    differs (z ∷ zs) zero a h = cc (sym (same-number x) ∙ ap (λ y. x == y) (sym (same-some z n h ∙ sym q)) ∙ a.0)
     differs (z ∷ zs) (suc j) a h = differs zs j a.1 h
 
 pub take-next : (ns : List ℕ) (k n : ℕ) → slice_get ns k ≡ Some n → take k ns ++ n ∷ [] ≡ take (suc k) ns
-take-next [] k n e = let wrong : ⊥ = cc in absurd wrong
+take-next [] k n e = absurd cc
 take-next (x ∷ ns) zero n e = ap (λ y. y ∷ []) (sym (same-some x n e))
 take-next (x ∷ ns) (suc k) n e = ap (λ xs. x ∷ xs) (take-next ns k n e)
 
-take-whole : (ns ms : List ℕ) → take (length ns) (ns ++ ms) ≡ ns
-take-whole [] [] = refl
-take-whole [] (m ∷ ms) = refl
-take-whole (x ∷ ns) ms = ap (λ xs. x ∷ xs) (take-whole ns ms)
-
-behind : (ns : List ℕ) (n : ℕ) → slice_get (ns ++ n ∷ []) (length ns) ≡ Some n
-behind [] n = refl
-behind (x ∷ ns) n = behind ns n
-
 pub length-taken : (ns : List ℕ) (k n : ℕ) → slice_get ns k ≡ Some n → length (take k ns) ≡ k
-length-taken [] k n e = let wrong : ⊥ = cc in absurd wrong
+length-taken [] k n e = absurd cc
 length-taken (x ∷ ns) zero n e = refl
 length-taken (x ∷ ns) (suc k) n e = ap suc (length-taken ns k n e)
 
@@ -72,19 +61,14 @@ path-in-range r n h = go (interface_at r n) refl
   where
     go : (o : Option Interface) → interface_at r n ≡ o → n < length r.interfaces.items
     go (Some i) e = slice_get_within r.interfaces.items n i e
-    go None e = let wrong : false ≡ true = sym (ap (λ o. is_some (option_and_then (path_of_interface r) o)) e) ∙ h in let z : ⊥ = cc in absurd z
+    go None e = cc (sym (ap (λ o. is_some (option_and_then (path_of_interface r) o)) e) ∙ h)
 
 module _ (r : Resolve) (v : IsValid r) (ns : List ℕ) (can : AreImportable r ns) (k n : ℕ) (at : slice_get ns k ≡ Some n) (a : Around) (h : HasImported r a (take k ns)) where
   pub next-uses : UsedStand r (standing_instances r a) n
   next-uses = imports_stand r a (take k ns) n v h (λ m c. earlier-at r [] ns k n m can.earlier at c)
 
   pub next-path : is_some (interface_path r n) ≡ true
-  next-path = can.paths n (listed ns k n at)
-    where
-      listed : (xs : List ℕ) (j x : ℕ) → slice_get xs j ≡ Some x → Contains xs x
-      listed [] j x e = let wrong : ⊥ = cc in absurd wrong
-      listed (y ∷ xs) zero x e = (0, omega arith, same-some y x e)
-      listed (y ∷ xs) (suc j) x e = let rest = listed xs j x e in (suc rest.0, (let l = rest.1 in omega arith), rest.2)
+  next-path = can.paths n (get-contains ns k n at)
 
   first : known_instance a.instances n ≡ None
   first = go (known_instance a.instances n) refl
@@ -116,12 +100,12 @@ reached-importable r v n ns h = record {
 
 -- the interface itself uses these alone
 pub reached-used : (r : Resolve) (n : ℕ) (ns : List ℕ) → AreReached r n ns → (m : ℕ) → Contains (direct_deps r n) m → Contains ns m
-reached-used r n ns h m c = subst (λ xs. Contains xs m) (take-whole ns (n ∷ [])) (earlier-at r [] (ns ++ n ∷ []) (length ns) n m h.earlier (behind ns n) c)
+reached-used r n ns h m c = subst (λ xs. Contains xs m) (take-append_seam ns (n ∷ [])) (earlier-at r [] (ns ++ n ∷ []) (length ns) n m h.earlier (at_last ns n) c)
 
 -- ---- how many there are
 
 not-itself : (m : ℕ) → not (m == m) ≡ true → ⊥
-not-itself m h = let wrong : false ≡ true = sym (ap not (same-number m)) ∙ h in let z : ⊥ = cc in z
+not-itself m h = cc (sym (ap not (same-number m)) ∙ h)
 
 in-place : (r : Resolve) → IsValid r → (n : ℕ) (i : Interface) → interface_at r n ≡ Some i → is_place n ≡ true
 unfolding numbers_in_range
@@ -136,9 +120,7 @@ few-interfaces r v = go (nat_lt 4294967295 (length r.interfaces.items)) refl
 
 pub few-importable : (r : Resolve) → IsValid r → (ns : List ℕ) → AreImportable r ns → length ns ≤ 4294967295
 few-importable r v ns h =
-    let below = length-le_from_distinct_below ns (length r.interfaces.items) h.once (λ q m. path-in-range r q (h.paths q (found q m))) in
-    let few = few-interfaces r v in
-    omega (arith, below, few)
+    omega (arith, length-le_from_distinct_below ns (length r.interfaces.items) h.once (λ q m. path-in-range r q (h.paths q (found q m))), few-interfaces r v)
   where
     found : (q : ℕ) → list_any (λ y. q == y) ns ≡ true → Contains ns q
     found q m = let x = any-contains (λ y. q == y) ns m in subst (Contains ns) (sym (equal q x.0 x.2)) x.1
@@ -181,10 +163,9 @@ is-next r r' xs k a e v can l = subst (λ (q : Resolve). HasImported q a (take k
       then = λ canonical a' t. subst (λ (j : ℕ). HasImported r a' (take j (numbers xs))) more (next-imported r v (numbers xs) can k (item xs k).0 at a h canonical a' t);
     })
 
-pub all-imported : (r r' : Resolve) (xs : List InterfaceId) (k : ℕ) (a : Around) → r' ≡ r → length xs ≤ k → HasImported r' a (take k (numbers xs)) → HasImported r a (numbers xs)
-all-imported r r' xs k a e l h =
-    let same : length (numbers xs) ≡ length xs = length-map xs (λ (id : InterfaceId). id.0) in
-    subst (λ (q : Resolve). HasImported q a (numbers xs)) e (subst (HasImported r' a) (take_all k (numbers xs) (omega (arith, same, l))) h)
+-- what holds behind all that are taken holds behind all
+pub all-of : (P : List ℕ → Type 0) (xs : List InterfaceId) (k : ℕ) → length xs ≤ k → P (take k (numbers xs)) → P (numbers xs)
+all-of P xs k l h = subst P (take_all k (numbers xs) (omega (arith, length-map xs (λ (id : InterfaceId). id.0), l))) h
 
 -- ---- how much is held and defined
 
@@ -198,8 +179,7 @@ defines-next r r' canonical xs k a a' e l t h =
     subst (DefinesImports r a'.declared) (numbers-next xs k l) (import-defines r canonical a a' (item xs k) k u (take k (numbers xs)) h)
 
 pub aliases-next : (r r' : Resolve) (canonical : Bool) (xs : List InterfaceId) (k : ℕ) (a a' : Around) → r' ≡ r → k < length xs → ImportsTypes r' canonical a a' (item xs k) k
-    → HasImported r' a (take k (numbers xs)) → HasImportAliases r a (take k (numbers xs))
-    → HasImportAliases r a' (take (k + 1) (numbers xs))
+    → HasImported r' a (take k (numbers xs)) → HasImportAliases r a (take k (numbers xs)) → HasImportAliases r a' (take (k + 1) (numbers xs))
 aliases-next r r' canonical xs k a a' e l t imported h =
     subst (HasImportAliases r a') (numbers-next xs k l)
     (import-aliased r canonical a a' (take k (numbers xs)) (item xs k) k (subst (λ (q : Resolve). ImportsTypes q canonical a a' (item xs k) k) e t)
@@ -212,41 +192,20 @@ held-next r r' canonical xs k a a' e l t h =
 
 -- the next one has no room
 pub next-refused : (r r' : Resolve) (canonical : Bool) (xs : List InterfaceId) (k : ℕ) (a : Around) → r' ≡ r → k < length xs → HasImported r' a (take k (numbers xs))
-    → HoldsImports r a (take k (numbers xs)) → LacksImport r' canonical a (item xs k)
-    → ImportsLackRoom r (numbers xs)
+    → HoldsImports r a (take k (numbers xs)) → LacksImport r' canonical a (item xs k) → ImportsLackRoom r (numbers xs)
 next-refused r r' canonical xs k a e l h held lacks =
     let at = number-at xs k l in
     let few : length (take k (numbers xs)) ≡ k = length-taken (numbers xs) k (item xs k).0 at in
     let all : length (numbers xs) ≡ length xs = length-map xs (λ (id : InterfaceId). id.0) in
     next-lacks r (numbers xs) (take k (numbers xs)) (taken (numbers xs) k) (omega (arith, few, all, l)) a (subst (λ (q : Resolve). HasImported q a (take k (numbers xs))) e h) held
-    canonical (item xs k) (there (numbers xs) k (item xs k).0 at) (subst (λ (q : Resolve). LacksImport q canonical a (item xs k)) e lacks)
+    canonical (item xs k) (get-contains (numbers xs) k (item xs k).0 at) (subst (λ (q : Resolve). LacksImport q canonical a (item xs k)) e lacks)
   where
     taken : (ns : List ℕ) (k n : ℕ) → Contains (take k ns) n → Contains ns n
     taken [] zero n c = none-in n c
     taken [] (suc k) n c = none-in n c
     taken (x ∷ ns) zero n c = none-in n c
     taken (x ∷ ns) (suc k) n (zero, l, q) = (0, omega arith, q)
-    taken (x ∷ ns) (suc k) n (suc j, l, q) = let rest = taken ns k n (j, omega (arith, l), q) in (suc rest.0, (let m = rest.1 in omega arith), rest.2)
-
-    there : (ns : List ℕ) (k n : ℕ) → slice_get ns k ≡ Some n → Contains ns n
-    there [] k n q = let wrong : ⊥ = cc in absurd wrong
-    there (x ∷ ns) zero n q = (0, omega arith, same-some x n q)
-    there (x ∷ ns) (suc k) n q = let rest = there ns k n q in (suc rest.0, (let m = rest.1 in omega arith), rest.2)
-
-pub all-defined : (r : Resolve) (xs : List InterfaceId) (k : ℕ) (declared : Declarations) → length xs ≤ k → DefinesImports r declared (take k (numbers xs)) → DefinesImports r declared (numbers xs)
-all-defined r xs k declared l h =
-    let same : length (numbers xs) ≡ length xs = length-map xs (λ (id : InterfaceId). id.0) in
-    subst (DefinesImports r declared) (take_all k (numbers xs) (omega (arith, same, l))) h
-
-pub all-aliased : (r : Resolve) (xs : List InterfaceId) (k : ℕ) (a : Around) → length xs ≤ k → HasImportAliases r a (take k (numbers xs)) → HasImportAliases r a (numbers xs)
-all-aliased r xs k a l h =
-    let same : length (numbers xs) ≡ length xs = length-map xs (λ (id : InterfaceId). id.0) in
-    subst (HasImportAliases r a) (take_all k (numbers xs) (omega (arith, same, l))) h
-
-pub all-held : (r : Resolve) (xs : List InterfaceId) (k : ℕ) (a : Around) → length xs ≤ k → HoldsImports r a (take k (numbers xs)) → HoldsImports r a (numbers xs)
-all-held r xs k a l h =
-    let same : length (numbers xs) ≡ length xs = length-map xs (λ (id : InterfaceId). id.0) in
-    subst (HoldsImports r a) (take_all k (numbers xs) (omega (arith, same, l))) h
+    taken (x ∷ ns) (suc k) n (suc j, l, q) = let rest = taken ns k n (j, omega (arith, l), q) in (suc rest.0, omega (arith, rest.1), rest.2)
 
 -- ---- names
 
@@ -255,9 +214,3 @@ pub named-next : (r r' : Resolve) (canonical : Bool) (xs : List InterfaceId) (k 
 named-next r r' canonical xs k start a a' e l t named =
     subst (λ (ns : List ℕ). NamesInterfaces r canonical ns start a'.declared) (numbers-next xs k l)
     (imports-named r canonical a a' (item xs k) k (take k (numbers xs)) start (subst (λ (q : Resolve). ImportsTypes q canonical a a' (item xs k) k) e t) named)
-
-pub named-whole : (r : Resolve) (canonical : Bool) (xs : List InterfaceId) (k : ℕ) (start declared : Declarations) → length xs ≤ k → NamesInterfaces r canonical (take k (numbers xs)) start declared
-    → NamesInterfaces r canonical (numbers xs) start declared
-named-whole r canonical xs k start declared l named =
-    let same : length (numbers xs) ≡ length xs = length-map xs (λ (id : InterfaceId). id.0) in
-    subst (λ (ns : List ℕ). NamesInterfaces r canonical ns start declared) (take_all k (numbers xs) (omega (arith, same, l))) named

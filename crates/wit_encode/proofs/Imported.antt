@@ -1,5 +1,5 @@
 -- What a component type has imported, after aliases, and after one instance type more and the import or export that uses it.
-use Rattle.std.proofs.Common.{rules as std_rules, ◌≡◌, ◌⊎◌, inl, inr, refl, sym, subst, ap, ◌∙◌, ℕ, zero, suc, ◌+◌, ◌<◌, ◌==◌, nat_lt, nat_cmp, Ordering, Bool, true, false, cond, List, [], ◌∷◌, ◌++◌, length, length-append, Some, None, slice_get, arith}
+use Rattle.std.proofs.Common.{rules as std_rules, ◌≡◌, ◌⊎◌, inl, inr, refl, sym, subst, ap, ◌∙◌, ℕ, zero, suc, ◌+◌, ◌==◌, nat_lt, nat_cmp, Ordering, Bool, true, false, cond, List, [], ◌∷◌, ◌++◌, length, length-append, Some, None, slice_get, arith}
 use Rattle.std.proofs.{Math.Seq.take-append_seam, lemmas.List.map-append, lemmas.List.Elements.Contains-append_left, lemmas.List.Elements.Contains-append_right}
 use Rattle.std.proofs.lemmas.{Bool.cond-true, Bool.cond-false, Bool.lt-ltb, Bool.and_from as both, List.Folds.list_all-append, Option.same_Some as same-some}
 use Rattle.std.specs.List.{Contains, list_all}
@@ -36,8 +36,8 @@ nothing_is_imported r = record {
   used = refl;
   in_range = refl;
   right = refl;
-  listed = λ k n e. absurd (let wrong : ⊥ = cc in wrong);
-  alone = λ n k e. absurd (let wrong : ⊥ = cc in wrong);
+  listed = λ k n e. absurd cc;
+  alone = λ n k e. absurd cc;
 }
 
 -- ---- aliases
@@ -49,20 +49,17 @@ alias-leaves : (r : Resolve) (a : Around) (al : Aliased) (ns : List ℕ) → Has
 alias-leaves r a al ns h is =
     let s = stands r a al is in
     let x = s.slot in
-    let w = wide r a al is in
     let more : length (h.scope.slots ++ x ∷ []) ≡ length h.scope.slots + 1 = length-append h.scope.slots (x ∷ []) in
-    let types : instance_types (h.scope.slots ++ x ∷ []) ≡ instance_types h.scope.slots + instance_types (x ∷ []) = types-appended h.scope.slots (x ∷ []) in
-    let none : instance_types (x ∷ []) ≡ 0 = no-instance x (first_true (is_foreign_name x) _ s.fits) in
     let used : length h.scope.used ≡ instance_types h.scope.slots = h.used in
     record {
       scope = in_scope x h.scope;
-      followed = w.scope h.scope h.followed;
+      followed = (wide r a al is).scope h.scope h.followed;
       views = h.views;
       shown = h.shown;
       imports = h.imports;
       exports = h.exports;
       instances = h.instances;
-      used = omega (arith, types, none, used);
+      used = omega (arith, types-appended h.scope.slots (x ∷ []), no-instance x (first_true (is_foreign_name x) _ s.fits), used);
       in_range = below-more (length h.scope.slots) (length (h.scope.slots ++ x ∷ [])) h.scope.used (omega (arith, more)) h.in_range;
       right = still-right r a al is;
       listed = h.listed;
@@ -85,7 +82,7 @@ other-slot n t m (e ∷ es) other h = by (λ q. other-slot n t m es other (sym (
     by : (nat_cmp n e.0 ≡ Greater → known_slot (insert_entry nat_cmp es n t) m ≡ known_slot es m) → (o : Ordering) → nat_cmp n e.0 ≡ o
         → known_slot (match_ordering o ((n, t) ∷ e ∷ es) ((e.0, t) ∷ es) (e ∷ insert_entry nat_cmp es n t)) m ≡ known_slot (e ∷ es) m
     by more Less q = cond-false _ _ _ other
-    by more Equal q = let y : is_eq (nat_cmp n e.0) ≡ true = ap is_eq q in let s : Some e.1 ≡ None = sym (cond-true _ _ _ y) ∙ h in absurd (let z : ⊥ = cc in z)
+    by more Equal q = let s : Some e.1 ≡ None = sym (cond-true _ _ _ (ap is_eq q)) ∙ h in absurd cc
     by more Greater q = ap (λ o. cond (is_at (nat_cmp m) e.0) (Some e.1) o) (more q)
 
 pub at-same : (n m : ℕ) → is_at (nat_cmp n) m ≡ true → n ≡ m
@@ -94,12 +91,9 @@ at-same n m h = nat_cmp-IsAntisymmetric n m (equal-is (nat_cmp n m) h)
 -- what stands behind a list, or in it
 pub behind-cases : {X : Type 0} (xs : List X) (y x : X) (k : ℕ) → slice_get (xs ++ y ∷ []) k ≡ Some x → (slice_get xs k ≡ Some x) ⊎ ((k ≡ length xs) × (x ≡ y))
 behind-cases [] y x zero e = inr (refl, sym (same-some y x e))
-behind-cases [] y x (suc k) e = let wrong : ⊥ = cc in absurd wrong
+behind-cases [] y x (suc k) e = absurd cc
 behind-cases (w ∷ xs) y x zero e = inl e
-behind-cases (w ∷ xs) y x (suc k) e = elim (behind-cases xs y x k e) [
-  | inl h ↦ inl h
-  | inr h ↦ inr (ap suc h.0, h.1)
-]
+behind-cases (w ∷ xs) y x (suc k) e = elim (behind-cases xs y x k e) [ inl h ↦ inl h | inr h ↦ inr (ap suc h.0, h.1) ]
 
 module _ (i : ℕ) (ns : List ℕ) (es : List (ℕ × ℕ)) (first : known_instance es i ≡ None) where
   abbrev after : List (ℕ × ℕ)
@@ -112,7 +106,7 @@ module _ (i : ℕ) (ns : List ℕ) (es : List (ℕ × ℕ)) (first : known_insta
   ]
     where
       go : slice_get ns k ≡ Some n → (b : Bool) → is_at (nat_cmp n) i ≡ b → known_instance after n ≡ Some k
-      go h true q = let wrong : Some k ≡ None = sym (all k n h) ∙ ap (known_instance es) (at-same n i q) ∙ first in let z : ⊥ = cc in absurd z
+      go h true q = let wrong : Some k ≡ None = sym (all k n h) ∙ ap (known_instance es) (at-same n i q) ∙ first in absurd cc
       go h false q = other-slot i (length ns) n es q first ∙ all k n h
 
   alone-more : ((n k : ℕ) → known_instance es n ≡ Some k → Contains ns n) → (n k : ℕ) → known_instance after n ≡ Some k → Contains (ns ++ i ∷ []) n
@@ -125,8 +119,7 @@ module _ (i : ℕ) (ns : List ℕ) (es : List (ℕ × ℕ)) (first : known_insta
 -- ---- one instance type more, and what uses it
 
 module _ (r : Resolve) (v : IsValid r) (canonical : Bool) (a a' : Around) (ns : List ℕ) (i : InterfaceId) (def : Interface) (path : Text) (written : List (Text × Function))
-    (fs : List Function) (k : ℕ)
-    (is : interface_path r i.0 ≡ Some path) (h : HasImported r a ns) (e : EncodesPart r a a' i def written fs k) where
+    (fs : List Function) (k : ℕ) (is : interface_path r i.0 ≡ Some path) (h : HasImported r a ns) (e : EncodesPart r a a' i def written fs k) where
   before : HasImported r e.before ns
   before = aliases_leave_imports r a e.before ns h e.aliases.grown
 
@@ -171,19 +164,14 @@ module _ (r : Resolve) (v : IsValid r) (canonical : Bool) (a a' : Around) (ns : 
   described direction = steps-more new_scope (in_scope x s) (next direction) a'.declared (declared_towards direction name (refs.Instance k)) declared-after (stepped direction)
 
   used-once : length (s.used ++ length s.slots ∷ []) ≡ instance_types (s.slots ++ x ∷ [])
-  used-once =
-      let one : length (s.used ++ length s.slots ∷ []) ≡ length s.used + 1 = length-append s.used (length s.slots ∷ []) in
-      let types : instance_types (s.slots ++ x ∷ []) ≡ instance_types s.slots + 1 = types-appended s.slots (x ∷ []) in
-      let used : length s.used ≡ instance_types s.slots = before.used in
-      omega (arith, one, types, used)
+  used-once = omega (arith, length-append s.used (length s.slots ∷ []), types-appended s.slots (x ∷ []), before.used)
 
   all-below : list_all (λ n. nat_lt n (length (s.slots ++ x ∷ []))) (s.used ++ length s.slots ∷ []) ≡ true
   all-below =
       let more : length (s.slots ++ x ∷ []) ≡ length s.slots + 1 = length-append s.slots (x ∷ []) in
-      let less : length s.slots < length (s.slots ++ x ∷ []) = omega (arith, more) in
       list_all-append (λ n. nat_lt n (length (s.slots ++ x ∷ []))) s.used (length s.slots ∷ [])
       ∙ both (list_all (λ n. nat_lt n (length (s.slots ++ x ∷ []))) s.used) _ (below-more (length s.slots) (length (s.slots ++ x ∷ [])) s.used (omega (arith, more)) before.in_range)
-      (both (nat_lt (length s.slots) (length (s.slots ++ x ∷ []))) true (lt-ltb (length s.slots) (length (s.slots ++ x ∷ [])) less) refl)
+      (both (nat_lt (length s.slots) (length (s.slots ++ x ∷ []))) true (lt-ltb (length s.slots) (length (s.slots ++ x ∷ [])) (omega (arith, more))) refl)
 
   abbrev imported : Around
   imported = with_import r canonical i k (length ns) a'

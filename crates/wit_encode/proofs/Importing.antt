@@ -18,29 +18,24 @@ use Rattle.wit_encode.specs.Instance.{standing_at, SlotsStand, is_slot_of, outer
 use Rattle.encode_types.proofs.Tables.{at-some, number-found}
 use Rattle.wit_encode.proofs.{Contents.slots-kept, Calls.Calls, Calls.alias-inside, Wider.Widened, Wider.widened, Wider.contents-wider, LatestInstances.own-key}
 use Rattle.wit_encode.proofs.Within.{CallsTo}
-use Rattle.base_lemmas.proofs.{Bools.left_of as first_true, Bools.right_of as second_true, Elements.all-contained, Lists.front_more as get-left}
+use Rattle.base_lemmas.proofs.{Bools.left_of as first_true, Bools.right_of as second_true, Elements.all-contained, Lists.front_more as get-left, Options.some_is}
 
 -- ---- lists
 
 numbered-all : {A : Type 0} (p : ℕ × A → Bool) (j : ℕ) (xs : List A) (k : ℕ) (x : A) → list_all p (numbered_from j xs) ≡ true → slice_get xs k ≡ Some x → p (j + k, x) ≡ true
-numbered-all p j [] k x h e = let wrong : ⊥ = cc in absurd wrong
-numbered-all p j (y ∷ ys) zero x h e =
-    let at : j ≡ j + 0 = omega arith in
-    let same : y ≡ x = cc in
-    subst (λ (m : ℕ). p (m, x) ≡ true) at (subst (λ z. p (j, z) ≡ true) same (first_true (p (j, y)) _ h))
-numbered-all p j (y ∷ ys) (suc k) x h e =
-    let at : (j + 1) + k ≡ j + suc k = omega arith in
-    subst (λ (m : ℕ). p (m, x) ≡ true) at (numbered-all p (j + 1) ys k x (second_true (p (j, y)) _ h) e)
+numbered-all p j [] k x h e = absurd cc
+numbered-all p j (y ∷ ys) zero x h e = subst (λ (m : ℕ). p (m, x) ≡ true) (omega arith) (subst (λ z. p (j, z) ≡ true) (cc) (first_true (p (j, y)) _ h))
+numbered-all p j (y ∷ ys) (suc k) x h e = subst (λ (m : ℕ). p (m, x) ≡ true) (omega arith) (numbered-all p (j + 1) ys k x (second_true (p (j, y)) _ h) e)
 
 numbered-one : {A : Type 0} (p : ℕ × A → Bool) (xs : List A) (k : ℕ) (x : A) → list_all p (numbered_from 0 xs) ≡ true → slice_get xs k ≡ Some x → p (k, x) ≡ true
-numbered-one p xs k x h e = let at : 0 + k ≡ k = omega arith in subst (λ (m : ℕ). p (m, x) ≡ true) at (numbered-all p 0 xs k x h e)
+numbered-one p xs k x h e = subst (λ (m : ℕ). p (m, x) ≡ true) (omega arith) (numbered-all p 0 xs k x h e)
 
 -- ---- names
 
 same-places : (a b : Place) → same_place a b ≡ true → a ≡ b
 same-places (of_interface p) (of_interface q) h = ap of_interface (text_same p q h)
-same-places (of_interface p) here h = let wrong : ⊥ = cc in absurd wrong
-same-places here (of_interface q) h = let wrong : ⊥ = cc in absurd wrong
+same-places (of_interface p) here h = absurd cc
+same-places here (of_interface q) h = absurd cc
 same-places here here h = refl
 
 same-names : (p q : Place) (x y : Text) → (same_place p q && text_eq x y) ≡ true → named q y ≡ named p x
@@ -78,7 +73,7 @@ known-right r known slots n k h e = all-contained (λ (x : ℕ × ℕ). is_slot_
     (at-some (known_slot known n) (λ i. Contains known (n, i)) k e (number-found known n (known_slot known n) refl))
 
 for-more : (r : Resolve) (slots : List Slot) (y : Slot) (n k : ℕ) (o : Option Slot) → slice_get slots k ≡ o → is_slot_for r n o ≡ true → is_slot_for r n (slice_get (slots ++ y ∷ []) k) ≡ true
-for-more r slots y n k None e h = absurd (let z : ⊥ = cc in z)
+for-more r slots y n k None e h = absurd cc
 for-more r slots y n k (Some x) e h = ap (is_slot_for r n) (get-left slots y k x e) ∙ h
 
 pub right-more : (r : Resolve) (known : List (ℕ × ℕ)) (slots : List Slot) (y : Slot) → are_right r known slots ≡ true → are_right r known (slots ++ y ∷ []) ≡ true
@@ -121,7 +116,7 @@ module _ (r : Resolve) (a : Around) (j n : ℕ) (m : IsSource r a j n) where
 
   there-at : (k : ℕ) → known_instance a.instances j ≡ Some k → are_right r a.known (outer_slots a.declared) ≡ true → (o : Option Instance) → slice_get (outer_instances a.declared) k ≡ o
       → option_map_or (is_standing r j) o false ≡ true → Stands r a j n m.name
-  there-at k listed right None at h = absurd (let z : ⊥ = cc in z)
+  there-at k listed right None at h = absurd cc
   there-at k listed right (Some x) at h =
       let s = some-slot r n (find_type (text_of m.name) x.view.types) (shows x h) in
       record {
@@ -138,7 +133,7 @@ module _ (r : Resolve) (a : Around) (j n : ℕ) (m : IsSource r a j n) where
 
   there-listed : are_right r a.known (outer_slots a.declared) ≡ true → (o : Option ℕ) → known_instance a.instances j ≡ o
       → option_map_or (λ k. option_map_or (is_standing r j) (slice_get (outer_instances a.declared) k) false) o false ≡ true → Stands r a j n m.name
-  there-listed right None listed h = absurd (let z : ⊥ = cc in z)
+  there-listed right None listed h = absurd cc
   there-listed right (Some k) listed h = there-at k listed right (slice_get (outer_instances a.declared) k) refl h
 
   pub standing : Stands r a j n m.name
@@ -154,7 +149,7 @@ module _ (r : Resolve) (a : Around) (j n : ℕ) (m : IsSource r a j n) where
           there-listed q (known_instance a.instances j) refl passes
 
 pub source-listed : (r : Resolve) (a : Around) (j n : ℕ) → IsSource r a j n → known_instance a.instances j ≡ None → ⊥
-source-listed r a j n m none = let q : Some _ ≡ None = sym (standing r a j n m).listed ∙ none in absurd (let z : ⊥ = cc in z)
+source-listed r a j n m none = cc (sym (standing r a j n m).listed ∙ none)
 
 -- where something can be imported, what has been declared can be followed
 pub importable-sound : (b : Bool) (xs : List ℕ) (j : ℕ) → Contains (if b then xs else []) j → b ≡ true
@@ -189,7 +184,7 @@ none-outside r outer j n m = go (is_sound_in r None (contents_of r outer None)) 
 
 module _ (n t : ℕ) where
   apart : (e : ℕ × ℕ) (es : List (ℕ × ℕ)) → known_slot (e ∷ es) n ≡ None → nat_cmp n e.0 ≡ Equal → ⊥
-  apart e es h q = let y : is_eq (nat_cmp n e.0) ≡ true = ap is_eq q in let s : Some e.1 ≡ None = sym (cond-true _ _ _ y) ∙ h in cc
+  apart e es h q = cc (sym (cond-true _ _ _ (ap is_eq q)) ∙ h)
 
   -- it is found
   pub new-slot : (es : List (ℕ × ℕ)) → known_slot es n ≡ None → known_slot (insert_entry nat_cmp es n t) n ≡ Some t
@@ -292,17 +287,11 @@ source-alias r a j k id def name shown m at is text listed first = record {
   there = m.there;
   named_ = m.named_;
   owned = m.owned;
-  text = text ∙ ap text_of (let same : def ≡ m.def = one-def def m.def (sym at ∙ m.there) in one-name name m.name (sym is ∙ ap (λ (d : TypeDef). d.name) same ∙ m.named_));
+  text = text ∙ ap text_of (some_is name m.name (sym is ∙ ap (λ (d : TypeDef). d.name) (some_is def m.def (sym at ∙ m.there)) ∙ m.named_));
   stands = m.stands;
   instance = listed;
   first = first;
 }
-  where
-    one-def : (x y : TypeDef) → Some x ≡ Some y → x ≡ y
-    one-def x y e = cc
-
-    one-name : (x y : String Global) → Some x ≡ Some y → x ≡ y
-    one-name x y e = cc
 
 -- what old slots stand for stays, and the same instances stand
 pub grown-keeps : (r : Resolve) (a : Around) (made : List Aliased) → AreAliases r a made → Keeps (SlotsStand (outer_slots a.declared)) (SlotsStand (outer_slots (with_aliases a made).declared))

@@ -25,21 +25,20 @@ use Rattle.wit_model.specs.declared.model.TypeOwner.TheVariants as owner
 all-numbered : {A : Type 0} (p : ℕ × A → Bool) (j : ℕ) (xs : List A) → ((k : ℕ) (x : A) → slice_get xs k ≡ Some x → p (j + k, x) ≡ true) → list_all p (numbered_from j xs) ≡ true
 all-numbered p j [] all = refl
 all-numbered p j (x ∷ xs) all =
-    let here : j + 0 ≡ j = omega arith in
-    both (p (j, x)) _ (subst (λ (m : ℕ). p (m, x) ≡ true) here (all 0 x refl))
-    (all-numbered p (j + 1) xs (λ k y e. let at : j + suc k ≡ (j + 1) + k = omega arith in subst (λ (m : ℕ). p (m, y) ≡ true) at (all (suc k) y e)))
+    both (p (j, x)) _ (subst (λ (m : ℕ). p (m, x) ≡ true) (omega arith) (all 0 x refl))
+    (all-numbered p (j + 1) xs (λ k y e. subst (λ (m : ℕ). p (m, y) ≡ true) (omega arith) (all (suc k) y e)))
 
 pub below-there : (m n : ℕ) → n < m → Contains (below m) n
 below-there zero n l = absurd (omega (arith, l))
 below-there (suc m) n l = go (below-there m n) (nat_lt n m) refl
   where
     go : (n < m → Contains (below m) n) → (b : Bool) → nat_lt n m ≡ b → Contains (m ∷ below m) n
-    go more true e = let rest = more (ltb-true n m e) in (suc rest.0, (let k = rest.1 in omega arith), rest.2)
-    go more false e = let least = ltb-false n m e in (0, omega arith, (let same : m ≡ n = omega (arith, l, least) in same))
+    go more true e = let rest = more (ltb-true n m e) in (suc rest.0, omega (arith, rest.1), rest.2)
+    go more false e = (0, omega arith, omega (arith, l, ltb-false n m e))
 
 -- the second of two lists, place by place
 pub zip-at : {A B : Type 0} (R : A → B → Type 0) (xs : List A) (ys : List B) (k : ℕ) (x : A) → AllZip R xs ys → slice_get xs k ≡ Some x → (y : B) × (slice_get ys k ≡ Some y) × R x y
-zip-at R [] ys k x z e = absurd (let wrong : ⊥ = cc in wrong)
+zip-at R [] ys k x z e = absurd cc
 zip-at R (a ∷ xs) [] k x z e = absurd z
 zip-at R (a ∷ xs) (b ∷ ys) zero x z e = (b, refl, subst (λ w. R w b) (same-some a x e) z.0)
 zip-at R (a ∷ xs) (b ∷ ys) (suc k) x z e = zip-at R xs ys k x z.1 e
@@ -84,7 +83,7 @@ module _ (r : Resolve) (v : IsValid r) where
       where
         go : (o : Option Interface) → interface_at r n ≡ o → (interface : Interface) × (interface_at r n ≡ Some interface)
         go (Some interface) e = (interface, e)
-        go None e = let wrong : None ≡ Some w.0 = sym (ap (option_and_then (path_of_interface r)) e) ∙ shows.path in let z : ⊥ = cc in absurd z
+        go None e = cc (sym (ap (option_and_then (path_of_interface r)) e) ∙ shows.path)
 
     -- a view of the types alone finds what a view of the interface finds
     abbrev with-functions : View

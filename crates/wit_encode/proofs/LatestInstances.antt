@@ -24,8 +24,8 @@ module _ (i number : ℕ) where
       by : (o : Ordering) → nat_cmp i e.0 ≡ o → known_instance (insert_entry nat_cmp es i number) i ≡ Some number
           → known_instance (match_ordering o ((i, number) ∷ e ∷ es) ((e.0, number) ∷ es) (e ∷ insert_entry nat_cmp es i number)) i ≡ Some number
       by Less q more = cond-true _ _ _ (own-key i)
-      by Equal q more = let here : is_eq (nat_cmp i e.0) ≡ true = ap is_eq q in cond-true _ _ _ here
-      by Greater q more = let other : is_eq (nat_cmp i e.0) ≡ false = ap is_eq q in cond-false _ _ _ other ∙ more
+      by Equal q more = cond-true _ _ _ (ap is_eq q)
+      by Greater q more = cond-false _ _ _ (ap is_eq q) ∙ more
 
   pub found-other : (m : ℕ) (es : List (ℕ × ℕ)) → is_at (nat_cmp m) i ≡ false → known_instance (insert_entry nat_cmp es i number) m ≡ known_instance es m
   found-other m [] other = cond-false _ _ _ other
@@ -58,7 +58,7 @@ module _ (r : Resolve) (a a' : Around) (x : Instance) (i : ℕ) (instances : out
 
   still-there : (j k : ℕ) (o : Option Instance) → slice_get (outer_instances a.declared) k ≡ o → option_map_or (is_standing r j) o false ≡ true
       → option_map_or (is_standing r j) (slice_get (outer_instances a.declared ++ x ∷ []) k) false ≡ true
-  still-there j k None e h = absurd (let z : ⊥ = cc in z)
+  still-there j k None e h = absurd cc
   still-there j k (Some y) e h = ap (λ o. option_map_or (is_standing r j) o false) (get-left (outer_instances a.declared) x k y e) ∙ h
 
   still-listed : (j : ℕ) (o : Option ℕ) → at_number (outer_instances a.declared) j o ≡ true → at_number (outer_instances a.declared ++ x ∷ []) j o ≡ true

@@ -16,26 +16,22 @@ unfolding u32_bytes
 u32-short n = unsigned-short 5 n
 
 pub name-short : (t : List ℕ) → length (name_bytes t) ≤ 5 + length t
-name-short t = let h = u32-short (length t) in let e = length-append (u32_bytes (length t)) t in omega arith
+name-short t = omega (arith, u32-short (length t), length-append (u32_bytes (length t)) t)
 
 -- ---- sections
 
 framed-short : (id : ℕ) (contents : List ℕ) → length (framed id contents) ≤ 6 + length contents
-framed-short id contents = let h = u32-short (length contents) in let e = length-append (u32_bytes (length contents)) contents in omega arith
+framed-short id contents = omega (arith, u32-short (length contents), length-append (u32_bytes (length contents)) contents)
 
 pub vector-short : {A : Type 0} (bytes : A → List ℕ) (xs : List A) → length (vector_bytes bytes xs) ≤ 5 + length (flat_map bytes xs)
-vector-short bytes xs = let h = u32-short (length xs) in let e = length-append (u32_bytes (length xs)) (flat_map bytes xs) in omega arith
+vector-short bytes xs = omega (arith, u32-short (length xs), length-append (u32_bytes (length xs)) (flat_map bytes xs))
 
 -- a section of items with one more in front
 one-more_item : {A : Type 0} (id : ℕ) (bytes : A → List ℕ) (x : A) (xs : List A)
     → length (framed id (vector_bytes bytes (x ∷ xs))) ≤ (11 + length (bytes x)) + length (framed id (vector_bytes bytes xs))
 one-more_item id bytes x xs =
     let new = framed-short id (vector_bytes bytes (x ∷ xs)) in
-    let inner = vector-short bytes (x ∷ xs) in
-    let both = length-append (bytes x) (flat_map bytes xs) in
-    let old = vector-long bytes xs in
-    let outer = framed-long id (vector_bytes bytes xs) in
-    omega arith
+    omega (arith, vector-short bytes (x ∷ xs), length-append (bytes x) (flat_map bytes xs), vector-long bytes xs, framed-long id (vector_bytes bytes xs))
 
 -- a section of one item
 first-item : {A : Type 0} (id : ℕ) (bytes : A → List ℕ) (x : A) → length (framed id (vector_bytes bytes (x ∷ []))) ≤ 11 + length (bytes x)
@@ -45,10 +41,10 @@ custom-short : (name contents : List ℕ) → length (framed 0 (name_bytes name 
 custom-short name contents = let h = framed-short 0 (name_bytes name ++ contents) in let n = name-short name in let e = length-append (name_bytes name) contents in omega arith
 
 behind : (xs ys : List ℕ) (n m : ℕ) → length xs ≤ n → length ys ≤ m → length (xs ++ ys) ≤ n + m
-behind xs ys n m h k = let e = length-append xs ys in omega arith
+behind xs ys n m h k = omega (arith, length-append xs ys)
 
 in-place : (new old rest : List ℕ) (n : ℕ) → length new ≤ n + length old → length (new ++ rest) ≤ n + length (old ++ rest)
-in-place new old rest n h = let e = length-append new rest in let f = length-append old rest in omega arith
+in-place new old rest n h = omega (arith, length-append new rest, length-append old rest)
 
 part-short : (p : Part) (ss : List Section) → length (flat_map section_bytes (with_part p ss)) ≤ part_extent p + length (flat_map section_bytes ss)
 part-short (Part.top_type t) [] = behind (section_bytes (Section.types (t ∷ []))) [] _ 0 (first-item 7 top_type_bytes t) (same 0)

@@ -12,8 +12,8 @@ pub mod Declaring
 pub mod ValueSlots
 -- What the calls of an encoder of interfaces do to what it holds. Serves Counting, Importing, Opening, Outside and 5 more.
 pub mod Calls
--- A name in a place is that of one type among those that are met, so the names of resources are those of the types that are resources. Serves Encodable, ImportsStand, OwnerScope, ShownSlots and 3
--- more.
+-- A name in a place is that of one type among those that are met, so the names of resources are those of the types that are resources. Serves DependencyWeighing, Encodable, ImportsStand, OwnerScope
+-- and 5 more.
 pub mod Naming
 -- Instances of the interfaces that have been imported stand. Serves component_types::interface_type, laws::imports_stand; crates above.
 pub mod ImportsStand
@@ -32,25 +32,24 @@ pub mod Meeting
 pub mod Exporting
 -- How long the bytes of parts of a component are at most. Serves BytesWritten, Extents, PackageRoom; crates above.
 pub mod Lengths
+-- What stands in a list that was mapped or filtered. Serves Counting, DependencyWeighing, Weighing, WorldFunctions and 1 more.
+pub mod Mapped
 -- The trees of valid kinds are well formed, where the names stand for resources as their types do. Serves OwnerScope, Validity.
 pub mod Forming
--- What a valid `Resolve` gives for encoding. Serves DefinedTypes, Encodable, Extents, MetKinds and 4 more.
+-- What a valid `Resolve` gives for encoding. Serves DefinedTypes, Encodable, MetKinds, OwnerScope and 3 more.
 pub mod Validity
 -- All that is met from the types and functions of an owner can be encoded in its scope, where an instance of each interface that it uses stands. Serves laws::functions_encode, laws::names_encode,
 -- laws::table_scope_is_of_owner, laws::types_encode; crates above.
 pub mod OwnerScope
--- What stands in a list that was mapped or filtered. Serves Counting, DependencyWeighing, Weighing, WorldFunctions and 1 more.
-pub mod Mapped
--- What an encoder of a world shows after a call that defines, imports and reaches types. Serves laws::items_meet_standing, world::define_function_type, world::defined_type, world::export_resource and
--- 1 more; crates above.
+-- What an encoder of a world shows after a call that defines, imports and reaches types. Serves laws::items_meet_standing; crates above.
 pub mod WorldShown
--- What is met from the types and functions of an interface, or of a world, is counted in its weight. Serves DefinedTypes, DependencyWeighing, ExtentWeighing, Extents and 2 more.
+-- What is met from the types and functions of an interface, or of a world, is counted in its weight. Serves DefinedTypes, DependencyWeighing, ExtentWeighing, Weighing and 1 more.
 pub mod Reached
+-- An interface that has no room in an instance type weighs more than the largest number of 32 bits. Serves laws::lacking_interfaces_are_heavy.
+pub mod Weighing
 -- How many bytes are written at most of a definition, of the type of a function and of a name, and that types and functions weigh no less. Serves component_types::import_dependency,
 -- component_types::interface_type, interface::define_function_type, interface::defined_type and 8 more.
 pub mod Extents
--- An interface that has no room in an instance type weighs more than the largest number of 32 bits. Serves laws::lacking_interfaces_are_heavy.
-pub mod Weighing
 -- A world that has no room in a component type weighs more than the largest number of 32 bits. Serves laws::lacking_worlds_are_heavy, world::encode_entries, world::encode_function,
 -- world::encode_interface and 1 more.
 pub mod WorldFunctions
@@ -92,7 +91,7 @@ pub mod Counting
 pub mod MetKinds
 -- What the slots of the types stand for that an instance type shows: each for the name of its type, and for that of a resource exactly where the name is one. Serves Opening.
 pub mod ShownSlots
--- An interface that is opened, encoded and closed again. Serves interface::encode_inside, interface::encode_instance, interface::encode_part.
+-- An interface that is opened, encoded and closed again. Serves interface::encode_inside, interface::encode_instance, interface::encode_part, world::define_dependency and 1 more.
 pub mod Opening
 -- What the types and functions of an interface meet, and what maps learn of it, type by type and function by function. Serves interface::encode_function, interface::encode_functions,
 -- interface::encode_inside, interface::encode_instance and 2 more.

@@ -58,9 +58,7 @@ module _ (r : Resolve) (v : IsValid r) (i : ℕ) (interface : Interface) (there 
     where
       go : (x : Option (String Global)) → def.name ≡ x → option_map_or (λ name. is_listed r m (text_of name) def.owner) x (same_owner def.owner owner.None) ≡ true
           → (name : String Global) × (def.name ≡ Some name)
-      go None e h =
-          let wrong : same_owner (as_interface i) owner.None ≡ true = subst (λ (a : TypeOwner). same_owner a owner.None ≡ true) (same-owner def.owner (as_interface i) s) h in
-          let z : ⊥ = cc in absurd z
+      go None e h = cc (subst (λ (a : TypeOwner). same_owner a owner.None ≡ true) (same-owner def.owner (as_interface i) s) h)
       go (Some name) e h = (name, e)
 
   -- a type of the owner stands in the list under its name
@@ -81,7 +79,7 @@ module _ (r : Resolve) (v : IsValid r) (i : ℕ) (interface : Interface) (there 
   owned-listed m h = go (type_at r m) refl h
     where
       go : (o : Option TypeDef) → type_at r m ≡ o → option_map_or (λ def. same_owner def.owner (as_interface i)) o false ≡ true → has numbers m ≡ true
-      go None e h = let wrong : ⊥ = cc in absurd wrong
+      go None e h = absurd cc
       go (Some def) e h = let named = owner-named m def e h in stands m (text_of named.0) (listed-as m def named.0 e named.1 h)
 
   -- ---- an entry
@@ -122,8 +120,7 @@ module _ (r : Resolve) (v : IsValid r) (i : ℕ) (interface : Interface) (there 
               (λ j. option_map_or (λ m. m == e.1.0) (sym (given_found (get_by_text interface.types (text_of h.name))) j) false &&
               (count_by (λ m. m == e.1.0) (sym (given_all (values interface.types)) j) == 1))
               ∙ misfit (λ key. bytes_eq (text_of h.name) (string_bytes key)) (λ (id : TypeId). Some id.0) e.1.0 interface.types.entries k e at (same-number e.1.0) q in
-              let wrong : true ≡ false = sym listed-here ∙ fails in
-              let bad : ⊥ = cc in absurd bad
+              cc (sym listed-here ∙ fails)
 
       used-before : (x : ℕ) → Contains (used_by_type r h.def) x → has numbers x ≡ true → Contains (take k numbers) x
       used-before x c s =
@@ -146,7 +143,7 @@ module _ (r : Resolve) (v : IsValid r) (i : ℕ) (interface : Interface) (there 
         where
           belongs : (j : Option ℕ) → owner_interface def.owner ≡ j
               → option_map_or (λ j. option_map_or (λ other. is_some other.name) (interface_at r j) false) j false ≡ true → same_owner def.owner (as_interface i) ≡ true
-          belongs None q g = let wrong : ⊥ = cc in absurd wrong
+          belongs None q g = absurd cc
           belongs (Some j) q g = own-interface (as_interface i) def.owner j q f
 
       -- What it uses stands before it in the list, or it names a type of another interface.
@@ -158,7 +155,7 @@ module _ (r : Resolve) (v : IsValid r) (i : ℕ) (interface : Interface) (there 
           (λ rest. or-cases (list_all (has_owner r h.def.owner) (used_by_type r h.def)) (is_use r h.def) rest (λ used. inl (all-before used)) (λ used. inr (use-foreign used)))
         where
           named-none : is_none h.def.name ≡ true → ⊥
-          named-none none = let wrong = ap is_none (sym h.named_) ∙ none in cc
+          named-none none = cc (ap is_none (sym h.named_) ∙ none)
 
           all-before : list_all (has_owner r h.def.owner) (used_by_type r h.def) ≡ true → (x : ℕ) → Contains (used_by_type r h.def) x → Contains (take k numbers) x
           all-before used x c = used-before x c (owned-listed x

@@ -10,7 +10,7 @@ contains-filter p (y ∷ xs) x h (zero, l, e) = subst (λ zs. Contains zs x) (sy
 contains-filter p (y ∷ xs) x h (suc i, l, e) =
     let there = contains-filter p xs x h (i, omega (arith, l), e) in
     elim (cases_Bool (p y)) [
-      | inl b ↦ subst (λ zs. Contains zs x) (sym (cond-true _ _ _ b)) (suc there.0, (let n = there.1 in omega arith), there.2)
+      | inl b ↦ subst (λ zs. Contains zs x) (sym (cond-true _ _ _ b)) (suc there.0, omega (arith, there.1), there.2)
       | inr b ↦ subst (λ zs. Contains zs x) (sym (cond-false _ _ _ b)) there
     ]
 

@@ -34,14 +34,14 @@ kinds-at : (r : Resolve) (m : TypeEncodingMaps) (es : List (List ℕ × ℕ)) �
 kinds-at r m [] h = ([], tt)
 kinds-at r m (e ∷ es) h =
     let x = h e.0 e.1 (0, omega arith, refl) in
-    let more = kinds-at r m es (λ xs i c. h xs i (suc c.0, (let l = c.1 in omega (arith, l)), c.2)) in
+    let more = kinds-at r m es (λ xs i c. h xs i (suc c.0, omega (arith, c.1), c.2)) in
     (x.0 ∷ more.0, (x.1, more.1))
 
 kind-lists : (r : Resolve) (m : TypeEncodingMaps) (ks : List TypeDefKind) (es : List (List ℕ × ℕ)) → AreKindsOf r m ks es → map (λ e. e.0) es ≡ map kind_code ks
 kind-lists r m [] [] h = refl
 kind-lists r m [] (e ∷ es) h = absurd h
 kind-lists r m (k ∷ ks) [] h = absurd h
-kind-lists r m (k ∷ ks) (e ∷ es) h = let more = kind-lists r m ks es h.1 in λ i. h.0.is i ∷ more i
+kind-lists r m (k ∷ ks) (e ∷ es) h = λ i. h.0.is i ∷ (kind-lists r m ks es h.1) i
 
 kinds-long : (r : Resolve) (m : TypeEncodingMaps) (ks : List TypeDefKind) (es : List (List ℕ × ℕ)) → AreKindsOf r m ks es → length ks ≡ length es
 kinds-long r m [] [] h = refl
@@ -68,7 +68,7 @@ list-there r m ks [] h e c = none-in e c
 list-there r m [] (x ∷ es) h e c = absurd h
 list-there r m (k ∷ ks) (x ∷ es) h e (zero, l, q) = (k, (0, omega arith, refl), subst (λ (z : List ℕ × ℕ). IsKindOf r m z.0 k) q h.0)
 list-there r m (k ∷ ks) (x ∷ es) h e (suc i, l, q) = let more = list-there r m ks es h.1 e (i, omega (arith, l), q) in
-    (more.0, (suc more.1.0, (let n = more.1.1 in omega (arith, n)), more.1.2), more.2)
+    (more.0, (suc more.1.0, omega (arith, more.1.1), more.1.2), more.2)
 
 kinds-apart : (r : Resolve) (m : TypeEncodingMaps) (ks : List TypeDefKind) (es : List (List ℕ × ℕ)) → AreKindsOf r m ks es → AllPairs (λ x y. x.0 ≡ y.0 → ⊥) es
     → AllPairs (λ x y. same_kind x y ≡ false) ks
@@ -85,14 +85,14 @@ kinds-apart r m ks es h p i j d l n = go (same_kind (get_or ks i d) (get_or ks j
     go true e =
         let first = kind-at r m ks es h i d none (omega (arith, l, n)) in
         let second = kind-at r m ks es h j d none n in
-        absurd (p i j none l (let q = long in omega (arith, q, n)) (first.is ∙ lists-of-kinds (get_or ks i d) (get_or ks j d) first.unnamed e ∙ sym second.is))
+        absurd (p i j none l (omega (arith, long, n)) (first.is ∙ lists-of-kinds (get_or ks i d) (get_or ks j d) first.unnamed e ∙ sym second.is))
 
 -- ---- keys
 
 pub params-same : (ps qs : List Param) → pointwise same_param ps qs ≡ true → map (λ p. p.ty) ps ≡ map (λ p. p.ty) qs
 params-same [] [] e = refl
-params-same [] (q ∷ qs) e = absurd (let z : ⊥ = cc in z)
-params-same (p ∷ ps) [] e = absurd (let z : ⊥ = cc in z)
+params-same [] (q ∷ qs) e = absurd cc
+params-same (p ∷ ps) [] e = absurd cc
 params-same (p ∷ ps) (q ∷ qs) e =
     search (std_rules, first_true, same_types, second_true, params-same ps qs (second_true (same_param p q) (pointwise same_param ps qs) e))
 

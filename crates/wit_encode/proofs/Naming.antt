@@ -1,41 +1,40 @@
 -- A name in a place is that of one type among those that are met, so the names of resources are those of the types that are resources.
-use Rattle.std.proofs.Common.{rules as std_rules, ◌≡◌, refl, sym, subst, ap, ◌∙◌, ℕ, zero, suc, ◌+◌, Bool, true, false, ◌&&◌, ◌||◌, List, [], ◌∷◌, slice_get, Option, Some, None, String, arith}
+use Rattle.std.proofs.Common.{rules as std_rules, ◌≡◌, refl, sym, subst, ap, ◌∙◌, ℕ, zero, suc, ◌+◌, Bool, true, false, ◌&&◌, ◌||◌, List, [], ◌∷◌, slice_get, Some, String, arith}
 use Rattle.std.proofs.lemmas.{Cmp.nat_list_eq_equiv, Bool.and_from as both, Bool.or_right as or-second}
 use Rattle.std.specs.declared.alloc.Global.{Global}
 use Rattle.std.specs.{List.list_any}
-use Rattle.wit_model.specs.{Text.Text, Text.text_of, Text.text_eq, Valid.IsValid, Valid.numbers_in_range, Valid.order_of_types}
+use Rattle.wit_model.specs.{Text.Text, Text.text_of, Text.text_eq, Valid.IsValid, Valid.numbers_in_range}
 use Rattle.wit_model.specs.{Tree.Place, Tree.here, Tree.of_interface, Parts.numbered_from, Parts.same_owner, Parts.is_resource}
 use Rattle.wit_model.specs.Lookup.{type_at, place_of, place_of_path, interface_path}
 use Rattle.wit_model.specs.Rules.{is_listed, owner_in_range, text_is}
 use Rattle.wit_model.specs.declared.model.{Resolve.Resolve, InterfaceId.InterfaceId, TypeDef.TypeDef, TypeOwner.TypeOwner}
-use Rattle.wit_model.proofs.{Entries.each_from_at, Entries.lists_pass, PartsLemmas.owner_same as same-owner}
-use Rattle.wit_model.proofs.OnePath.{found-in, given-test, one-number, named-path, path-once}
+use Rattle.wit_model.proofs.{Entries.each_from_at, Entries.lists_pass, PartsLemmas.owner_same as same-owner, TextLemmas.text_named}
+use Rattle.wit_model.proofs.OnePath.{found-in, one-number, named-path, path-once}
 use Rattle.comp_meaning.specs.Same.{same_place}
 use Rattle.encode_types.specs.KeyLaws.{text_same}
 use Rattle.encode_types.specs.{Resources.is_named_interface, Resources.is_resource_entry, Resources.resource_names, Table.is_met_owner, Table.has_named_owner}
 use Rattle.base_lemmas.proofs.Bools.{both_ways as either_way, left_of as first_true, right_of as second_true}
 use Rattle.encode_shown.proofs.Parts.{place-alike}
+use Rattle.encode_shown.proofs.Members.{valid-listed}
 use Rattle.wit_model.specs.declared.model.TypeOwner.TheVariants as owner
 
 -- ---- numbered lists
 
 pub any-numbered : {A : Type 0} (p : ℕ × A → Bool) (j : ℕ) (xs : List A) → list_any p (numbered_from j xs) ≡ true → (k : ℕ) × (x : A) × (slice_get xs k ≡ Some x) × (p (j + k, x) ≡ true)
-any-numbered p j [] h = let wrong : ⊥ = cc in absurd wrong
+any-numbered p j [] h = absurd cc
 any-numbered p j (x ∷ xs) h = go (λ e. any-numbered p (j + 1) xs e) (p (j, x)) refl h
   where
     go : (list_any p (numbered_from (j + 1) xs) ≡ true → (k : ℕ) × (y : _) × (slice_get xs k ≡ Some y) × (p ((j + 1) + k, y) ≡ true)) → (b : Bool) → p (j, x) ≡ b
-        → (b || list_any p (numbered_from (j + 1) xs)) ≡ true
-        → (k : ℕ) × (y : _) × (slice_get (x ∷ xs) k ≡ Some y) × (p (j + k, y) ≡ true)
-    go more true e h = let at : j ≡ j + 0 = omega arith in (0, x, refl, subst (λ (m : ℕ). p (m, x) ≡ true) at e)
+        → (b || list_any p (numbered_from (j + 1) xs)) ≡ true → (k : ℕ) × (y : _) × (slice_get (x ∷ xs) k ≡ Some y) × (p (j + k, y) ≡ true)
+    go more true e h = (0, x, refl, subst (λ (m : ℕ). p (m, x) ≡ true) (omega arith) e)
     go more false e h =
         let rest = more h in
-        let at : (j + 1) + rest.0 ≡ j + suc rest.0 = omega arith in
-        (suc rest.0, rest.1, rest.2, subst (λ (m : ℕ). p (m, rest.1) ≡ true) at rest.3)
+        (suc rest.0, rest.1, rest.2, subst (λ (m : ℕ). p (m, rest.1) ≡ true) (omega arith) rest.3)
 
 pub numbered-any : {A : Type 0} (p : ℕ × A → Bool) (j : ℕ) (xs : List A) (k : ℕ) (x : A) → slice_get xs k ≡ Some x → p (j + k, x) ≡ true → list_any p (numbered_from j xs) ≡ true
-numbered-any p j [] k x e h = let wrong : ⊥ = cc in absurd wrong
+numbered-any p j [] k x e h = absurd cc
 numbered-any p j (y ∷ ys) zero x e h = search std_rules
-numbered-any p j (y ∷ ys) (suc k) x e h = let at : j + suc k ≡ (j + 1) + k = omega arith in or-second _ _ (numbered-any p (j + 1) ys k x e (subst (λ (m : ℕ). p (m, x) ≡ true) at h))
+numbered-any p j (y ∷ ys) (suc k) x e h = or-second _ _ (numbered-any p (j + 1) ys k x e (subst (λ (m : ℕ). p (m, x) ≡ true) (omega arith) h))
 
 -- ---- places
 
@@ -70,11 +69,6 @@ module _ (r : Resolve) (v : IsValid r) where
   unfolding numbers_in_range
   valid-owner_in_range n def is = second_true _ _ (second_true _ _ (each_from_at (numbers_in_range.type_ r) 0 r.types.items n def (lists_pass numbers_in_range r v.rules.numbers_in_range).3 is))
 
-  -- a named type stands in its owner's list
-  pub valid-listed : (n : ℕ) (def : TypeDef) (name : String Global) → type_at r n ≡ Some def → def.name ≡ Some name → is_listed r n (text_of name) def.owner ≡ true
-  unfolding order_of_types
-  valid-listed n def name is named = search (std_rules, second_true, each_from_at, lists_pass, given-test)
-
   listed-once : (a : TypeOwner) (m n : ℕ) (t : Text) → owner_in_range r a ≡ true → is_listed r m t a ≡ true → is_listed r n t a ≡ true → m ≡ n
   listed-once x m n t inside e f = search (std_rules, found-in, first_true, one-number)
 
@@ -95,27 +89,22 @@ module _ (r : Resolve) (v : IsValid r) where
             x.is ∙ ap (λ n. owner.Interface (record { 0 = n })) numbers ∙ sym y.is
         go true p false q =
             let wrong : false ≡ true = ap (λ (z : Place). same_place z here) (sym (its-place r a (named-place r a p))) ∙ ap (same_place (place_of r a)) (sym (unnamed-place r b q)) ∙ e in
-            let z : ⊥ = cc in absurd z
+            absurd cc
         go false p true q =
             let wrong : false ≡ true = ap (λ (z : Place). same_place z (of_interface (named-place r b q).path)) (sym (unnamed-place r a p)) ∙ ap (same_place (place_of r a))
             (sym (its-place r b (named-place r b q))) ∙ e in
-            let z : ⊥ = cc in absurd z
+            absurd cc
         go false p false q = sym (own a h p) ∙ own b k q
-
-  named-as : (x : Option (String Global)) (t : Text) → text_is x t ≡ true → (name : String Global) × (x ≡ Some name) × (text_of name ≡ t)
-  named-as None t e = let wrong : ⊥ = cc in absurd wrong
-  named-as (Some name) t e = (name, refl, text_same (text_of name) t e)
 
   module _ (met : TypeOwner → Bool) (homes : HaveHomes r met) where
     -- types that are met and have the same name in the same place are one
     one-type : (m n : ℕ) (d d' : TypeDef) (name : String Global) → type_at r m ≡ Some d → type_at r n ≡ Some d' → d.name ≡ Some name → met d.owner ≡ true → met d'.owner ≡ true
         → same_place (place_of r d.owner) (place_of r d'.owner) ≡ true → text_is d'.name (text_of name) ≡ true → m ≡ n
     one-type m n d d' name at at' named h h' e t =
-        let home = homes d.owner d'.owner h h' e in
-        let other = named-as d'.name (text_of name) t in
+        let other = text_named d'.name (text_of name) t in
         listed-once d'.owner m n (text_of name) (valid-owner_in_range n d' at')
-        (subst (λ (a : TypeOwner). is_listed r m (text_of name) a ≡ true) home (valid-listed m d name at named))
-        (subst (λ (x : Text). is_listed r n x d'.owner ≡ true) other.2 (valid-listed n d' other.0 at' other.1))
+        (subst (λ (a : TypeOwner). is_listed r m (text_of name) a ≡ true) (homes d.owner d'.owner h h' e) (valid-listed r v m d name at named))
+        (subst (λ (x : Text). is_listed r n x d'.owner ≡ true) other.2 (valid-listed r v n d' other.0 at' other.1))
 
     -- the name of a type that is met is one of a resource where the type is one
     pub names-agree : (n : ℕ) (def : TypeDef) (name : String Global) → type_at r n ≡ Some def → def.name ≡ Some name → met def.owner ≡ true
@@ -125,8 +114,7 @@ module _ (r : Resolve) (v : IsValid r) where
         forth : resource_names r met (place_of r def.owner) (text_of name) ≡ true → is_resource r n ≡ true
         forth h =
             let found = any-numbered (is_resource_entry r met (place_of r def.owner) (text_of name)) 0 r.types.items h in
-            let here : 0 + found.0 ≡ found.0 = omega arith in
-            let passed = subst (λ (m : ℕ). is_resource_entry r met (place_of r def.owner) (text_of name) (m, found.1) ≡ true) here found.3 in
+            let passed = subst (λ (m : ℕ). is_resource_entry r met (place_of r def.owner) (text_of name) (m, found.1) ≡ true) (omega arith) found.3 in
             let first = first_true (met found.1.owner && is_resource r found.0) _ passed in
             let second = second_true (met found.1.owner && is_resource r found.0) _ passed in
             let same = one-type n found.0 def found.1 name at found.2 named is (first_true (met found.1.owner) _ first)
@@ -135,8 +123,7 @@ module _ (r : Resolve) (v : IsValid r) where
 
         back : is_resource r n ≡ true → resource_names r met (place_of r def.owner) (text_of name) ≡ true
         back h =
-            let here : n ≡ 0 + n = omega arith in
             let text : text_is def.name (text_of name) ≡ true = ap (λ x. text_is x (text_of name)) named ∙ nat_list_eq_equiv.refl (text_of name) in
             numbered-any (is_resource_entry r met (place_of r def.owner) (text_of name)) 0 r.types.items n def at
-            (subst (λ (m : ℕ). is_resource_entry r met (place_of r def.owner) (text_of name) (m, def) ≡ true) here
+            (subst (λ (m : ℕ). is_resource_entry r met (place_of r def.owner) (text_of name) (m, def) ≡ true) (omega arith)
             (both _ _ (both _ _ is h) (both _ _ (place-alike (place_of r def.owner)) text)))

@@ -18,31 +18,25 @@ count-cons : (n m : ℕ) (ns : List ℕ) → count_by (λ k. k == n) (m ∷ ns) 
 count-cons n m ns = sum_by-cons (λ x. cond (x == n) 1 0) m ns
 
 counted : (ns : List ℕ) (k n : ℕ) → slice_get ns k ≡ Some n → 1 ≤ count_by (λ m. m == n) ns
-counted [] k n e = let wrong : ⊥ = cc in absurd wrong
+counted [] k n e = absurd cc
 counted (m ∷ ns) zero n e =
     let here : same-times n m ≡ 1 = ap (λ b. cond b 1 0) (subst (λ (k : ℕ). (m == k) ≡ true) (same-some m n e) (same-number m)) in
     omega (arith, here, count-cons n m ns)
-counted (m ∷ ns) (suc k) n e = let more = counted ns k n e in omega (arith, more, count-cons n m ns)
+counted (m ∷ ns) (suc k) n e = omega (arith, counted ns k n e, count-cons n m ns)
 
 -- a number that stands at a place and before it stands twice
 counted-twice : (ns : List ℕ) (k n : ℕ) → slice_get ns k ≡ Some n → has (take k ns) n ≡ true → 2 ≤ count_by (λ m. m == n) ns
-counted-twice [] k n e h = let wrong : ⊥ = cc in absurd wrong
-counted-twice (m ∷ ns) zero n e h = let wrong : ⊥ = cc in absurd wrong
+counted-twice [] k n e h = absurd cc
+counted-twice (m ∷ ns) zero n e h = absurd cc
 counted-twice (m ∷ ns) (suc k) n e h = go (counted-twice ns k n e) (m == n) refl h
   where
     go : (has (take k ns) n ≡ true → 2 ≤ count_by (λ m. m == n) ns) → (b : Bool) → (m == n) ≡ b → (b || has (take k ns) n) ≡ true → 2 ≤ count_by (λ m. m == n) (m ∷ ns)
-    go rest true q h =
-        let here : same-times n m ≡ 1 = ap (λ b. cond b 1 0) q in
-        let more = counted ns k n e in
-        omega (arith, here, more, count-cons n m ns)
-    go rest false q h = let more = rest h in omega (arith, more, count-cons n m ns)
+    go rest true q h = let here : same-times n m ≡ 1 = ap (λ b. cond b 1 0) q in omega (arith, here, counted ns k n e, count-cons n m ns)
+    go rest false q h = omega (arith, rest h, count-cons n m ns)
 
 -- a number that stands once doesn't stand before its place
 pub once-before : (ns : List ℕ) (k n : ℕ) → slice_get ns k ≡ Some n → (count_by (λ m. m == n) ns == 1) ≡ true → Contains (take k ns) n → ⊥
-once-before ns k n e one c =
-    let two = counted-twice ns k n e (contains-has (take k ns) n c) in
-    let same : count_by (λ m. m == n) ns ≡ 1 = equal (count_by (λ m. m == n) ns) 1 one in
-    omega (arith, two, same)
+once-before ns k n e one c = omega (arith, counted-twice ns k n e (contains-has (take k ns) n c), equal (count_by (λ m. m == n) ns) 1 one)
 
 -- of numbers that stand once each, one of the first is none of those behind
 pub apart-behind : (xs ys : List ℕ) (n : ℕ) → IsDistinct nat_eq (xs ++ ys) → Contains xs n → Contains ys n → ⊥
@@ -61,7 +55,7 @@ apart-behind (x ∷ xs) ys n d front back = go (apart-behind xs ys n d.1) (Conta
 
 pub after-at : {V : Type 0} (q : List V → V → Bool) (before xs : List V) (k : ℕ) (v : V) → each_after q before xs ≡ true → slice_get xs k ≡ Some v
     → q (before ++ take k xs) v ≡ true
-after-at q before [] k v h e = let wrong : ⊥ = cc in absurd wrong
+after-at q before [] k v h e = absurd cc
 after-at q before (x ∷ xs) zero v h e = ap (λ b. q b v) (append-nil before)
     ∙ (subst (λ z. q before z ≡ true) (same-some x v e) (first_true (q before x) (each_after q (before ++ x ∷ []) xs) h))
 after-at q before (x ∷ xs) (suc k) v h e =
@@ -83,13 +77,11 @@ gives-one {X} {Y} number h n y (z ∷ zs) apart is others x c e =
     go (gives-one number h n y zs (pairs-tail (λ a b. nat_eq (number a) (number b) ≡ false) z zs apart) is (λ w d. others w (contains-later z zs w d)) x) (number z == n) refl
   where
     later : (number z == n) ≡ false → (c : Contains (z ∷ zs) x) → Contains zs x
-    later f (zero, l, q) =
-        let wrong : true ≡ false = sym (subst (λ (k : ℕ). (number z == k) ≡ true) (ap number q ∙ e) (same-number (number z))) ∙ f in
-        let bad : ⊥ = cc in absurd bad
+    later f (zero, l, q) = cc (sym (subst (λ (k : ℕ). (number z == k) ≡ true) (ap number q ∙ e) (same-number (number z))) ∙ f)
     later f (suc k, l, q) = (k, omega (arith, l), q)
 
     other : (number z == n) ≡ false → number z ≡ n → ⊥
-    other f q = let wrong : true ≡ false = sym (subst (λ (k : ℕ). (number z == k) ≡ true) q (same-number (number z))) ∙ f in cc
+    other f q = cc (sym (subst (λ (k : ℕ). (number z == k) ≡ true) q (same-number (number z))) ∙ f)
 
     rest-differ : number z ≡ n → (w : X) → Contains zs w → number w ≡ n → ⊥
     rest-differ q w d p =
@@ -114,5 +106,5 @@ tail-of (x ∷ xs) = xs
 -- a list that is mapped to one element
 pub one-mapped : {A B : Type 0} (f : A → B) (xs : List A) (y : B) → map f xs ≡ y ∷ [] → (x : A) × (xs ≡ x ∷ []) × (f x ≡ y)
 unfolding head-or tail-of
-one-mapped f [] y e = let wrong : ⊥ = cc in absurd wrong
+one-mapped f [] y e = absurd cc
 one-mapped f (x ∷ xs) y e = (x, ap (λ zs. x ∷ zs) (nothing-mapped f xs (ap tail-of e)), ap (head-or y) e)

@@ -1,6 +1,6 @@
 -- An interface that is opened, encoded and closed again.
 use Rattle.std.proofs.Common.{rules as std_rules, ◌≡◌, refl, sym, ap, ◌∙◌, true, List, [], ◌++◌, Option, Some, None, Result, Ok, Err, ℕ, ◌∷◌, Contains, subst, Bool, false, OnErr, if◌then◌else◌, filter, length, arith}
-use Rattle.std.proofs.lemmas.{Map.Views.All-map-IsPermutation, List.Elements.All-contains_itself, List.Elements.All-contains, List.Elements.filter_passes}
+use Rattle.std.proofs.lemmas.{List.Elements.All-contains, List.Elements.filter_passes}
 use Rattle.std.proofs.lemmas.{List.Sorted.IsPermutation-map, Option.same_Some as some-same}
 use Rattle.std.specs.{Prelude.IsPermutation, Prelude.IfOk, Prelude.map, Prelude.String, Borrow.Bor, List.list_all, Option.option_map_or}
 use Rattle.std.specs.declared.alloc.Global.{Global}
@@ -17,10 +17,14 @@ use Rattle.wit_encode.proofs.{ShownSlots.interface-shown, Calls.InnerAt, Calls.i
 use Rattle.wit_encode.specs.Exports.{AreTypesOf}
 use Rattle.wit_encode.specs.Instance.{is_slot_of, no_view, outer_slots, inner_contents, outer_contents, stands_in, SlotsStand, own_of, around_at, standing_instances, resources_in, contents_of, encoder_scope, opened, keyed, placed_function, is_sound_in, IsInstance, Continues, definitions_with}
 use Rattle.indexmap.specs.IndexMap.{values}
-use Rattle.base_lemmas.proofs.{Bools.left_of as first_true, Bools.right_of as second_true, Lists.identity as map-itself, Lists.map_of_map as map-twice}
-use Rattle.base_lemmas.proofs.Elements.{contains-map}
+use Rattle.base_lemmas.proofs.{Bools.left_of as first_true, Bools.right_of as second_true, Lists.map_of_map as map-twice}
+use Rattle.std.proofs.lemmas.List.Sorted.{Contains-permutation, IsPermutation-sym}
 use Rattle.wit_model.specs.declared.model.TypeOwner.TheVariants as owner
 use Rattle.comp_meaning.specs.Follow as follow
+
+-- another component type, and what is listed beside it
+pub around-moves : {o o' : Declarations} {f f' : Foreign} → o ≡ o' → f ≡ f' → around_at o f ≡ around_at o' f'
+around-moves p q = λ j. around_at (p j) (q j)
 
 pub opened-sound : (r : Resolve) (outer : Declarations) (i : InterfaceId) (known : Foreign) → (encoder_scope r outer (opened i known)).is_sound ≡ true
 unfolding inner_contents
@@ -54,8 +58,7 @@ pub record Closed (r : Resolve) (outer' : Declarations) (i : InterfaceId) (inner
   pub sound : is_sound_in r (Some i) (inner_contents (place_of r (owner.Interface i)) outer' current.declared) ≡ true
 
 pub closed : (r : Resolve) (outer outer' : Declarations) (i : InterfaceId) (known : Foreign) (inner' : Option OpenInterface) (current : OpenInterface) (m m' : TypeEncodingMaps) → inner' ≡ Some current
-    → own_of inner' ≡ Some i → Continues r r outer outer' (opened i known) inner' m m'
-    → Closed r outer' i inner' current
+    → own_of inner' ≡ Some i → Continues r r outer outer' (opened i known) inner' m m' → Closed r outer' i inner' current
 closed r outer outer' i known inner' current m m' is own c =
     let same : current.interface ≡ i = (let e : Some current.interface ≡ Some i = sym (ap own_of is) ∙ own in let z : current.interface ≡ i = cc in z) in
     let at : contents_of r outer' inner' ≡ inner_contents (place_of r (owner.Interface i)) outer' current.declared =
@@ -80,8 +83,7 @@ closed-instance r v outer outer' i def there known inner' current m m' fs is own
       view = inside.shown;
       followed = view-at place outer' current.declared followed;
       shows = sym (ap (λ z. z.shown.functions) at) ∙ h ∙ ap (λ zs. zs ++ fs) (opened-shows r outer i known);
-      types = ap (λ (w : View). w.types) shown
-          ∙ interface-shown r v i def there (outer_slots outer') current.declared a.scope a.is
+      types = ap (λ (w : View). w.types) shown ∙ interface-shown r v i def there (outer_slots outer') current.declared a.scope a.is
           (ap (list_all (is_slot_of (resources_in r (Some i)))) (sym a.slots) ∙ second_true inside.is_followed _ all)
           (ap (λ (w : View). map (λ t. (t.name, t.meaning)) w.types) (sym shown) ∙ sym (ap (λ z. (definitions_with z).exports) at) ∙ exported);
     }
@@ -107,9 +109,7 @@ values-permuted def fs p =
 
 -- what stands in a list stands in those that it is a permutation of
 pub permuted-contains : {A : Type 0} (xs ys : List A) (y : A) → IsPermutation xs ys → Contains ys y → Contains xs y
-permuted-contains xs ys y p c =
-    let all = All-map-IsPermutation (λ x. x) (Contains (map (λ x. x) xs)) xs ys p (All-contains_itself (map (λ x. x) xs)) in
-    subst (λ zs. Contains zs y) (map-itself xs) (All-contains (Contains (map (λ x. x) xs)) (map (λ x. x) ys) y all (contains-map (λ x. x) ys y c))
+permuted-contains xs ys y p c = Contains-permutation ys xs y (IsPermutation-sym xs ys p) c
 
 -- what follows of what is answered
 
@@ -135,8 +135,7 @@ outside-keeps : (r r' : Resolve) (outer outer' : Declarations) (inner inner' : O
 outside-keeps r r' outer outer' inner inner' x y keeps = search std_rules
 
 pub reached-keeps : (r r' : Resolve) (a : Around) (outer : Declarations) (foreign : Foreign) (inner inner' : Option OpenInterface) → inner ≡ None → inner' ≡ None
-    → GrowsAround r a (around_at outer foreign)
-    → Keeps (stands_in r a.declared inner) (stands_in r' outer inner')
+    → GrowsAround r a (around_at outer foreign) → Keeps (stands_in r a.declared inner) (stands_in r' outer inner')
 reached-keeps r r' a outer foreign inner inner' x y grown = outside-keeps r r' a.declared outer inner inner' x y (grown-slots r a outer foreign grown)
 
 -- and behind one instance type more, or none

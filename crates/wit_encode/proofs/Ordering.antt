@@ -158,14 +158,12 @@ placed-all : (ts : List TypeId) (xs : List Placed) → All (λ x. x.0 ≡ place_
 placed-all ts [] h = tt
 placed-all ts (x ∷ xs) h = (
   All-head (λ (y : Placed). y.0 ≡ place_among ts y.2.now) x xs h,
-  placed-all ts xs
-      (All-tail (λ (y : Placed). y.0 ≡ place_among ts y.2.now) x xs h),
+  placed-all ts xs (All-tail (λ (y : Placed). y.0 ≡ place_among ts y.2.now) x xs h),
 )
 
 -- a stable sort by their places puts functions in order
 pub sorted-in-order : (ts : List TypeId) (xs ys : List Placed) → All (λ x. x.0 ≡ place_among ts x.2.now) xs → IsPermutation xs ys → IsNonDecreasingBy (λ x. x.0) ys
-    → IsStableByKey (λ x. x.0) nat_cmp xs ys
-    → map placed_function ys ≡ by_resource ts (map placed_function xs)
+    → IsStableByKey (λ x. x.0) nat_cmp xs ys → map placed_function ys ≡ by_resource ts (map placed_function xs)
 sorted-in-order ts xs ys h moved up stable =
     let hx = placed-all ts xs h in
     let hy = placed-all ts ys (All-permutation (λ (x : Placed). x.0 ≡ place_among ts x.2.now) xs ys moved h) in
@@ -176,7 +174,7 @@ sorted-in-order ts xs ys h moved up stable =
 
 from-push : {X : Type 0} (p : X → Bool) (i : ℕ) (xs : List X) (y : X) → position_from p i (xs ++ y ∷ []) ≡ cond (is_some (position_from p i xs))
     (position_from p i xs) (cond (p y) (Some (i + length xs)) None)
-from-push p i [] y = let e : i ≡ i + 0 = omega arith in ap (λ n. cond (p y) (Some n) None) e
+from-push p i [] y = ap (λ n. cond (p y) (Some n) None) (omega arith)
 from-push p i (x ∷ xs) y = search (std_rules, cases_Bool, cond-true, cond-false, from-push p (i + 1) xs y)
 
 pub position-push : {X : Type 0} (p : X → Bool) (xs : List X) (y : X) → position p (xs ++ y ∷ []) ≡ cond (is_some (position p xs)) (position p xs)
@@ -188,7 +186,7 @@ position-none p xs h = search (std_rules, cases_Bool, cond-true, prefix_len-le-l
 
 none-among : (ts : List TypeId) → length ts ≡ position_or_len (λ t. false) ts
 none-among [] = refl
-none-among (t ∷ ts) = let a = none-among ts in omega arith
+none-among (t ∷ ts) = omega (arith, none-among ts)
 
 -- the places of one more type, where its number has none yet
 module _ (ts : List TypeId) (places : BTreeMap ℕ ℕ) (t : TypeId) (h : ArePlaces ts places) where

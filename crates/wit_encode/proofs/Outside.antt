@@ -5,7 +5,7 @@ use Rattle.encode_types.specs.{Formed.IsFormed, Formed.IsFormedSignature, Known.
 use Rattle.wit_encode.proofs.{ValueSlots.slots-next, ValueSlots.targets-push, Components.steps-count, Components.steps-more, Components.steps-instance}
 use Rattle.wit_encode.proofs.Strict.{bind, definition-strict, function-strict}
 use Rattle.wit_encode.proofs.{Contents.Grew, Contents.slots-kept, Calls.Calls, Calls.calls-from, Calls.defines-of, Calls.function-of, Calls.formed-value}
-use Rattle.std.proofs.Common.{rules as std_rules, ◌≡◌, refl, sym, subst, ap, ◌∙◌, ℕ, true, cond, [], ◌∷◌, ◌++◌, append-nil, List, Result, Ok, Err, IfOk, OnErr, Option, Some, None, length}
+use Rattle.std.proofs.Common.{rules as std_rules, ◌≡◌, refl, sym, subst, ap, ◌∙◌, ℕ, true, cond, [], ◌∷◌, ◌++◌, append-nil, List, Result, IfOk, OnErr, Option, Some, None, length}
 use Rattle.std.specs.{List.list_all, Option.option_map_or, Option.is_some}
 use Rattle.wit_model.specs.{Tree.Tree, Meaning.Signature}
 use Rattle.wit_model.specs.declared.model.Resolve.{Resolve}
@@ -13,12 +13,13 @@ use Rattle.comp_bytes.specs.declared.forms.{ComponentDefinedType.ComponentDefine
 use Rattle.comp_bytes.specs.{Raw.Declaration, Raw.Declarations, Raw.append, Raw.from_list, RawOf.raw_defined, RawOf.raw_function, Held.type_slots_of}
 use Rattle.comp_meaning.specs.Follow.{Slot, new_scope, definition, function_signature, component_step, in_scope}
 use Rattle.wit_encode.specs.Instance.{SlotsStand, is_slot_of, Contents, outer_scope, outer_contents, is_value_type, is_function_type, resources_in, scope_with, definitions_with}
-use Rattle.base_lemmas.proofs.{Bools.left_of as first_true, Bools.right_of as second_true, Options.there as some-of}
+use Rattle.base_lemmas.proofs.{Bools.left_of as first_true, Bools.right_of as second_true, Options.there as some-of, Options.if_ok}
+use Rattle.std.proofs.lemmas.Result.{on_err_weaker}
 use Rattle.comp_meaning.specs.Follow as follow
 
 -- no slot stands for anything
 nothing-stands : (i : ℕ) (m : Standing) → SlotsStand [] i m → ⊥
-nothing-stands i m h = let z : ⊥ = cc in z
+nothing-stands i m h = cc
 
 abbrev outer_slots_of : Declarations → List Slot
 outer_slots_of outer = option_map_or (λ s. s.slots) (outer_scope outer) []
@@ -71,22 +72,14 @@ module _ {E : Type 0} (res : Result ℕ E) (r : Resolve) (outer outer' : Declara
     more-ok : (d : Declaration) (x : Slot) (counts : Type 0) → component_step outer-there.scope d ≡ Some (in_scope x outer-there.scope)
         → (outer' ≡ append outer (Declarations.declares d Declarations.no_more) → counts)
         → IfOk res (λ k. (k ≡ type_slots_of outer) × (outer' ≡ append outer (Declarations.declares d Declarations.no_more))) → IfOk res (λ k. (k ≡ length before.slots) × Grew before after x × counts)
-    more-ok d x counts m q h = ok-each res (λ k w. (
+    more-ok d x counts m q h = if_ok _ _ (λ k w. (
       w.0 ∙ outer-index outer outer-there,
       subst (λ (zs : Declarations). Grew before (outer_contents zs) x) (sym w.1) (outer-grew outer d x outer-there m),
       q w.1,
-    )) h
-      where
-        ok-each : {P Q : ℕ → Type 0} (res : Result ℕ E) → ((k : ℕ) → P k → Q k) → IfOk res P → IfOk res Q
-        ok-each (Ok k) f h = f k h
-        ok-each (Err e) f h = h
+    )) res h
 
     err-same : OnErr res (outer' ≡ outer) → OnErr res (after ≡ before)
-    err-same h = err-each res (λ e. ap outer_contents e) h
-      where
-        err-each : {P Q : Type 0} (res : Result ℕ E) → (P → Q) → OnErr res P → OnErr res Q
-        err-each (Ok k) f h = h
-        err-each (Err e) f h = f h
+    err-same = on_err_weaker res (ap outer_contents)
 
     pub defined-outside : (d : ComponentDefinedType) (t : Tree) → Follows (SlotsStand before.slots) d t → IsFormed (scope_with r None no_around before) t
         → IfOk res (λ k. (k ≡ type_slots_of outer) × (outer' ≡ append outer (Declarations.declares (Declaration.defined (raw_defined d)) Declarations.no_more))) → OnErr res (outer' ≡ outer)
@@ -100,8 +93,7 @@ module _ {E : Type 0} (res : Result ℕ E) (r : Resolve) (outer outer' : Declara
         (more-ok (Declaration.defined (raw_defined d)) (Slot.value t) _ (bind (definition a.scope.slots (raw_defined d)) t (λ u. Some (in_scope (Slot.value u) a.scope)) strict)
         (λ e. ap (λ zs. definitions_with (outer_contents zs)) e
         ∙ outer-definitions outer (Declaration.defined (raw_defined d)) (before.types ++ length before.slots ∷ []) before.functions (ap (λ (k : ℕ). before.types ++ k ∷ []) (outer-index outer a)) refl
-        (append-nil before.functions)) ok)
-        (err-same err)
+        (append-nil before.functions)) ok) (err-same err)
 
     pub function-outside : (d : ComponentFuncType) (s : Signature) → FollowsFunction (SlotsStand before.slots) d s → IsFormedSignature (scope_with r None no_around before) s
         → IfOk res (λ k. (k ≡ type_slots_of outer) × (outer' ≡ append outer (Declarations.declares (Declaration.function (raw_function d)) Declarations.no_more))) → OnErr res (outer' ≡ outer)
@@ -115,8 +107,7 @@ module _ {E : Type 0} (res : Result ℕ E) (r : Resolve) (outer outer' : Declara
         (more-ok (Declaration.function (raw_function d)) (Slot.function s) _ (bind (function_signature a.scope.slots (raw_function d)) s (λ u. Some (in_scope (Slot.function u) a.scope)) strict)
         (λ e. ap (λ zs. definitions_with (outer_contents zs)) e
         ∙ outer-definitions outer (Declaration.function (raw_function d)) before.types (before.functions ++ length before.slots ∷ []) (append-nil before.types) refl
-        (ap (λ (k : ℕ). before.functions ++ k ∷ []) (outer-index outer a))) ok)
-        (err-same err)
+        (ap (λ (k : ℕ). before.functions ++ k ∷ []) (outer-index outer a))) ok) (err-same err)
 
 -- a component type in which nothing has been declared yet
 pub fresh-sound : (r : Resolve) (outer : Declarations) → outer ≡ Declarations.no_more → (scope_with r None no_around (outer_contents outer)).is_sound ≡ true
@@ -130,9 +121,7 @@ unfolding outer_contents
 instance-keeps outer es i m h = go (outer_scope outer) refl
   where
     go : (o : Option follow.Scope) → outer_scope outer ≡ o → SlotsStand (outer_slots_of (append outer (Declarations.instance (from_list es) Declarations.no_more))) i m
-    go None q =
-        let old : SlotsStand [] i m = subst (λ (z : Option follow.Scope). SlotsStand (option_map_or (λ s. s.slots) z []) i m) q h in
-        absurd (nothing-stands i m old)
+    go None q = absurd (nothing-stands i m (subst (λ (z : Option follow.Scope). SlotsStand (option_map_or (λ s. s.slots) z []) i m) q h))
     go (Some s) q =
         let next : outer_slots_of (append outer (Declarations.instance (from_list es) Declarations.no_more)) ≡ s.slots ++ Slot.instance es (length s.slots) ∷ [] =
         ap (λ o. option_map_or (λ s. s.slots) o []) (steps-instance new_scope s outer es q) in

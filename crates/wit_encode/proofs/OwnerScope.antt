@@ -47,7 +47,7 @@ pub unnamed-home : (r : Resolve) → IsValid r → (own : Option InterfaceId) (n
 unnamed-home r v own n def is e = ap (foreign_owner own) (same-owner def.owner owner.None (valid-ownerless r v n def is e))
 
 no-some : {A P : Type 0} {x : A} (o : Option A) → o ≡ None → o ≡ Some x → P
-no-some o e f = absurd (let wrong = sym e ∙ f in let z : ⊥ = cc in z)
+no-some o e f = absurd (cc (sym e ∙ f))
 
 -- a type of another interface has a name
 foreign-named : (r : Resolve) → IsValid r → (own : Option InterfaceId) (n : ℕ) (def : TypeDef) (i : InterfaceId) → type_at r n ≡ Some def → foreign_owner own def.owner ≡ Some i
@@ -157,8 +157,7 @@ module _ (r : Resolve) (v : IsValid r) (o : TypeOwner) where
     pub used : IsUsedBy r o interface.0
 
   pub use-at : (n : ℕ) (def : TypeDef) → type_at r n ≡ Some def → (id : TypeId) → Contains (parts_of def.kind) (ty.Id id) → is_some def.name ≡ true → same_owner def.owner o ≡ true
-      → is_use r def ≡ true
-      → (def' : TypeDef) → type_at r id.0 ≡ Some def' → IsUse def'
+      → is_use r def ≡ true → (def' : TypeDef) → type_at r id.0 ≡ Some def' → IsUse def'
   use-at n def is id c named here uses def' is' = go def'.owner refl passed
     where
       home : def.owner ≡ o
@@ -195,11 +194,11 @@ module _ (r : Resolve) (v : IsValid r) (o : TypeOwner) where
       go (owner.World w) e h =
           let wrong : false ≡ true = sym (ap (λ a. option_map_or (λ i. option_map_or (λ other. is_some other.name) (interface_at r i) false) (owner_interface a) false) e) ∙ second_true
           (not (same_owner def'.owner def.owner)) _ h in
-          let z : ⊥ = cc in absurd z
+          absurd cc
       go owner.None e h =
           let wrong : false ≡ true = sym (ap (λ a. option_map_or (λ i. option_map_or (λ other. is_some other.name) (interface_at r i) false) (owner_interface a) false) e) ∙ second_true
           (not (same_owner def'.owner def.owner)) _ h in
-          let z : ⊥ = cc in absurd z
+          absurd cc
 
   abbrev Meets : ℕ → Type 0
   Meets n = Stay n ⊎ ((def : TypeDef) → type_at r n ≡ Some def → IsUse def)
@@ -270,7 +269,7 @@ module _ (r : Resolve) (v : IsValid r) (o : TypeOwner) where
 -- ---- functions
 
 none-there : {X P : Type 0} (x : X) → Contains [] x → P
-none-there x c = absurd (let l : c.0 < 0 = c.1 in omega arith)
+none-there x c = absurd (omega (arith, c.1))
 
 module _ (r : Resolve) (v : IsValid r) (p : TypeOwner → Function → Bool)
     (of_interface : (i : InterfaceId) (home : Interface) → interface_at r i.0 ≡ Some home → list_all (p (owner.Interface i)) (functions_of_interface home) ≡ true)
@@ -313,8 +312,7 @@ module _ (r : Resolve) (v : IsValid r) where
   function-values : (o : TypeOwner) (f : Function) → Contains (functions_of r o) f → list_all (λ t. not (is_resource_type r t)) (function_types f) ≡ true
   unfolding handles
   function-values = each-function r v (λ o f. list_all (λ t. not (is_resource_type r t)) (function_types f))
-      (λ i home e. interface_passes handles r v.rules.handles i.0 home e)
-      (λ w home e. world_passes handles r v.rules.handles w.0 home e)
+      (λ i home e. interface_passes handles r v.rules.handles i.0 home e) (λ w home e. world_passes handles r v.rules.handles w.0 home e)
 
   pub function-ranges : (o : TypeOwner) (f : Function) → Contains (functions_of r o) f → function_in_range r f ≡ true
   unfolding numbers_in_range
@@ -376,15 +374,15 @@ used-inside r v def j used = at-target (alias_target def.kind) used
   where
     by-owner : (o : TypeOwner) → owner_interface o ≡ Some j → owner_in_range r o ≡ true → j < length r.interfaces.items
     by-owner (owner.Interface i) e h = subst (λ (n : ℕ). n < length r.interfaces.items) (some-same i.0 j e) (ltb-true i.0 (length r.interfaces.items) h)
-    by-owner (owner.World w) e h = let wrong : ⊥ = cc in absurd wrong
-    by-owner owner.None e h = let wrong : ⊥ = cc in absurd wrong
+    by-owner (owner.World w) e h = absurd cc
+    by-owner owner.None e h = absurd cc
 
     at-type : (t : ℕ) (o : Option TypeDef) → type_at r t ≡ o → option_and_then (λ (target : TypeDef). owner_interface target.owner) o ≡ Some j → j < length r.interfaces.items
-    at-type t None at e = let wrong : ⊥ = cc in absurd wrong
+    at-type t None at e = absurd cc
     at-type t (Some target) at e = by-owner target.owner e (owner-inside r v t target at)
 
     at-target : (o : Option ℕ) → option_and_then (λ t. option_and_then (λ (target : TypeDef). owner_interface target.owner) (type_at r t)) o ≡ Some j → j < length r.interfaces.items
-    at-target None e = let wrong : ⊥ = cc in absurd wrong
+    at-target None e = absurd cc
     at-target (Some t) e = at-type t (type_at r t) refl e
 
 pub table_uses_stand : TableUsesStand

@@ -64,8 +64,7 @@ world-long r canonical p e w declared old there wraps long = inr (λ interfaces 
 -- ---- one after the other
 
 pub next-lacks : (r : Resolve) (canonical : Bool) (entries left rest : List Listed) (parts : List Part) (e : Listed) → IsBegun r canonical entries left parts → left ≡ e ∷ rest
-    → LacksInterface r canonical e parts
-    → InterfacesLackRoom r canonical entries
+    → LacksInterface r canonical e parts → InterfacesLackRoom r canonical entries
 next-lacks r canonical entries left rest parts e h is (inl heavy) = InterfacesLackRoom.too_heavy e (next-listed r canonical entries left rest parts e h is) heavy
 next-lacks r canonical entries left rest parts e h is (inr long) =
     InterfacesLackRoom.too_long (h.done ++ e ∷ []) rest (h.split ∙ ap (λ (es : List Listed). h.done ++ es) is ∙ sym (append_assoc h.done (e ∷ []) rest)) (long h.done h.holds)
@@ -78,8 +77,6 @@ next-world_lacks r p canonical entries left rest parts middle e h is (inr long) 
     WorldsLackRoom.too_long (h.done ++ e ∷ []) rest (h.split ∙ ap (λ (es : List ListedWorld). h.done ++ es) is ∙ sym (append_assoc h.done (e ∷ []) rest))
     (long interfaces h.done (h.adds interfaces held))
 
--- ---- what the page is for
-
 -- ---- component types and their exports
 
 abbrev pub type-extent : Text × Declarations → ℕ
@@ -87,26 +84,18 @@ type-extent x = 41 + (length x.0 + length (declarations_bytes x.1))
 
 pub one-short : (n : ℕ) (x : Text × Declarations) → parts_extent (one_exported n x) ≤ type-extent x
 one-short n x =
-    let typed = Part.top_type (TopType.component x.1) in
     let export = Part.top_export (plain_export x.0 n) in
-    let first = sum_by-cons part_extent typed (export ∷ []) in
+    let first = sum_by-cons part_extent (Part.top_type (TopType.component x.1)) (export ∷ []) in
     let second = sum_by-cons part_extent export [] in
     let count = u32-short (declaration_count x.1) in
     let body = length-append (u32_bytes (declaration_count x.1)) (declarations_bytes x.1) in
-    let name = name-short x.0 in
-    let index = u32-short n in
-    let rest = length-append (0 ∷ name_bytes x.0) (3 ∷ (u32_bytes n ++ 0 ∷ [])) in
-    let end = length-append (u32_bytes n) (0 ∷ []) in
-    omega arith
+    omega (arith, name-short x.0, u32-short n, length-append (0 ∷ name_bytes x.0) (3 ∷ (u32_bytes n ++ 0 ∷ [])), length-append (u32_bytes n) (0 ∷ []))
 
 exporting-short : (n : ℕ) (xs : List (Text × Declarations)) → parts_extent (exporting_from n xs) ≤ sum_by type-extent xs
 exporting-short n [] = omega arith
 exporting-short n (x ∷ xs) =
-    let here = one-short n x in
     let rest = exporting-short (suc (suc n)) xs in
-    let both = sum_by-append part_extent (one_exported n x) (exporting_from (suc (suc n)) xs) in
-    let next = sum_by-cons type-extent x xs in
-    omega arith
+    omega (arith, one-short n x, sum_by-append part_extent (one_exported n x) (exporting_from (suc (suc n)) xs), sum_by-cons type-extent x xs)
 
 pub wrapper-short : (path : Text) (inner : Declarations) → length (declarations_bytes (wrapper path inner)) ≤ 21 + (length path + length (declarations_bytes inner))
 wrapper-short path inner =
@@ -114,10 +103,8 @@ wrapper-short path inner =
     let body = length-append (u32_bytes (declaration_count inner)) (declarations_bytes inner) in
     let name = name-short path in
     let index = u32-short 0 in
-    let described = length-append (0 ∷ name_bytes path) (4 ∷ u32_bytes 0) in
-    let last = ap length (append-nil (4 ∷ ((0 ∷ name_bytes path) ++ (4 ∷ u32_bytes 0)))) in
     let whole = length-append (1 ∷ 0x41 ∷ (u32_bytes (declaration_count inner) ++ declarations_bytes inner)) ((4 ∷ ((0 ∷ name_bytes path) ++ (4 ∷ u32_bytes 0))) ++ []) in
-    omega arith
+    omega (arith, length-append (0 ∷ name_bytes path) (4 ∷ u32_bytes 0), ap length (append-nil (4 ∷ ((0 ∷ name_bytes path) ++ (4 ∷ u32_bytes 0)))))
 
 pub extent-is : (ds : Declarations) → declared_extent ds ≡ length (declarations_bytes ds)
 unfolding declared_extent
@@ -137,7 +124,7 @@ module _ (r : Resolve) (v : IsValid r) (n : ℕ) (p : Package) (at : package_at 
   weight-is = search std_rules
 
   interface-within : (e : Listed) → Contains p.interfaces.entries e → interface_weight r e.1.0 ≤ package_weight r n
-  interface-within e c = let one = one-of interface-weight p.interfaces.entries e c in let is = weight-is in omega (arith, one, is)
+  interface-within e c = omega (arith, one-of interface-weight p.interfaces.entries e c, weight-is)
 
   path-is : (e : ListedWorld) → Contains p.worlds.entries e → (w : World) → world_at r e.1.0 ≡ Some w → path_of_world r w ≡ Some (path_in (identity_of p.name) (text_of w.name))
   path-is e c w there =
@@ -149,15 +136,13 @@ module _ (r : Resolve) (v : IsValid r) (n : ℕ) (p : Package) (at : package_at 
   world-within : (e : ListedWorld) → Contains p.worlds.entries e → (w : World) → world_at r e.1.0 ≡ Some w
       → length (path_in (identity_of p.name) (text_of w.name)) + world_weight r e.1.0 ≤ package_weight r n
   world-within e c w there =
-      let one = one-of world-weight p.worlds.entries e c in
-      let is = weight-is in
       let path : unit_of (option_to_list (option_and_then (path_of_world r) (world_at r e.1.0))) ≡ unit_of (path_in (identity_of p.name) (text_of w.name) ∷ []) =
       ap (λ (o : Option World). unit_of (option_to_list (option_and_then (path_of_world r) o))) there ∙ ap (λ (o : Option Text). unit_of (option_to_list o)) (path-is e c w there) in
       let long : length (path_in (identity_of p.name) (text_of w.name)) ≤ unit_of (path_in (identity_of p.name) (text_of w.name) ∷ []) = omega arith in
-      omega (arith, one, is, path, long)
+      omega (arith, one-of world-weight p.worlds.entries e c, weight-is, path, long)
 
   one-text : (t : Text) → unit_of (t ∷ []) ≡ 64 + length t
-  one-text t = let one = sum_by-cons length t [] in omega arith
+  one-text t = omega (arith, sum_by-cons length t [])
 
   -- the component types of interfaces are light together
   interfaces-light : (canonical : Bool) (es : List Listed) (xs : List (Text × Declarations)) → AllZip (IsTypeOf r canonical) es xs → sum_by type-extent xs ≤ sum_by interface-weight es
@@ -167,12 +152,7 @@ module _ (r : Resolve) (v : IsValid r) (n : ℕ) (p : Package) (at : package_at 
   interfaces-light canonical (e ∷ es) (x ∷ xs) h =
       let rest = interfaces-light canonical es xs h.1 in
       let short = h.0.light in
-      let is = extent-is x.1 in
-      let label : length x.0 ≡ length (text_of e.0) = ap length h.0.label in
-      let a = sum_by-cons type-extent x xs in
-      let b = sum_by-cons interface-weight e es in
-      let text = one-text (text_of e.0) in
-      omega (arith, short, is, label, a, b, text, rest)
+      omega (arith, short, extent-is x.1, ap length h.0.label, sum_by-cons type-extent x xs, sum_by-cons interface-weight e es, one-text (text_of e.0), rest)
 
   -- the same of worlds
   worlds-light : (canonical : Bool) (es : List ListedWorld) (xs : List (Text × Declarations)) → ((e : ListedWorld) → Contains es e → Contains p.worlds.entries e)
@@ -182,25 +162,19 @@ module _ (r : Resolve) (v : IsValid r) (n : ℕ) (p : Package) (at : package_at 
   worlds-light canonical (e ∷ es) [] own h = absurd h
   worlds-light canonical (e ∷ es) (x ∷ xs) own h =
       let rest = worlds-light canonical es xs (λ f c. own f (Contains-append_right (e ∷ []) es f c)) h.1 in
-      let listed = own e (Contains-append_left (e ∷ []) es e (contains-one e)) in
       let short = h.0.wraps.light in
       let inner = extent-is h.0.wraps.inner in
-      let label : length x.0 ≡ length (text_of e.0) = ap length h.0.label in
       let path = path_in (identity_of p.name) (text_of h.0.world.name) in
       let wrapped = wrapper-short path h.0.wraps.inner in
       let is : length (declarations_bytes x.1) ≡ length (declarations_bytes (wrapper path h.0.wraps.inner)) = ap (λ (ds : Declarations). length (declarations_bytes ds)) h.0.wraps.is in
       let named : unit_of (option_to_list (option_and_then (path_of_world r) (world_at r e.1.0))) ≡ unit_of (path ∷ []) =
       ap (λ (o : Option World). unit_of (option_to_list (option_and_then (path_of_world r) o))) h.0.there ∙ ap (λ (o : Option Text). unit_of (option_to_list o))
-      (path-is e listed h.0.world h.0.there) in
+      (path-is e (own e (Contains-append_left (e ∷ []) es e (contains-one e))) h.0.world h.0.there) in
       let a = sum_by-cons type-extent x xs in
-      let b = sum_by-cons world-weight e es in
-      let text = one-text (text_of e.0) in
-      let long = one-text path in
-      omega (arith, short, inner, label, wrapped, is, named, a, b, text, long, rest)
+      omega (arith, short, inner, ap length h.0.label, wrapped, is, named, a, sum_by-cons world-weight e es, one-text (text_of e.0), one-text path, rest)
 
   long-lacks : (canonical : Bool) (interfaces more_interfaces : List Listed) (worlds more_worlds : List ListedWorld) → p.interfaces.entries ≡ interfaces ++ more_interfaces
-      → p.worlds.entries ≡ worlds ++ more_worlds
-      → AreLong (HoldsMembers r canonical (identity_of p.name) interfaces worlds) → limit < package_weight r n
+      → p.worlds.entries ≡ worlds ++ more_worlds → AreLong (HoldsMembers r canonical (identity_of p.name) interfaces worlds) → limit < package_weight r n
   long-lacks canonical interfaces more_interfaces worlds more_worlds are those h =
       let a = interfaces-light canonical interfaces h.hold.interface_types h.hold.interfaces_are in
       let b = worlds-light canonical worlds h.hold.world_types (λ e c. subst (λ (es : List ListedWorld). Contains es e) (sym those) (Contains-append_left worlds more_worlds e c)) h.hold.worlds_are in
@@ -208,13 +182,10 @@ module _ (r : Resolve) (v : IsValid r) (n : ℕ) (p : Package) (at : package_at 
       let short = exporting-short zero (h.hold.interface_types ++ h.hold.world_types) in
       let both = sum_by-append type-extent h.hold.interface_types h.hold.world_types in
       let front = ap (sum_by interface-weight) are ∙ sum_by-append interface-weight interfaces more_interfaces in
-      let back = ap (sum_by world-weight) those ∙ sum_by-append world-weight worlds more_worlds in
-      let whole = weight-is in
-      let long = h.long in
-      omega (arith, is, short, both, front, back, whole, long, a, b)
+      omega (arith, is, short, both, front, ap (sum_by world-weight) those ∙ sum_by-append world-weight worlds more_worlds, weight-is, h.long, a, b)
 
   pub interfaces-lack : (canonical : Bool) → InterfacesLackRoom r canonical p.interfaces.entries → limit < package_weight r n
-  interfaces-lack canonical (InterfacesLackRoom.too_heavy e c heavy) = let within = interface-within e c in omega (arith, within, heavy)
+  interfaces-lack canonical (InterfacesLackRoom.too_heavy e c heavy) = omega (arith, interface-within e c, heavy)
   interfaces-lack canonical (InterfacesLackRoom.too_long first rest are long) = long-lacks canonical first rest [] p.worlds.entries are refl (record {
     parts = long.parts;
     hold = no-worlds_yet r v n p at canonical first long.parts long.hold;
@@ -229,9 +200,7 @@ module _ (r : Resolve) (v : IsValid r) (n : ℕ) (p : Package) (at : package_at 
       by-lack : WorldsLackRoom r canonical (identity_of p.name) p.interfaces.entries p.worlds.entries → limit < package_weight r n
       by-lack (WorldsLackRoom.too_heavy e c heavy) =
           let w = found-in r.worlds.items e.1.0 (lt-ltb e.1.0 (length r.worlds.items) (are-worlds r v n p at e c)) in
-          let within = world-within e c w.0 w.1 in
-          let over = heavy w.0 w.1 in
-          omega (arith, within, over)
+          omega (arith, world-within e c w.0 w.1, heavy w.0 w.1)
       by-lack (WorldsLackRoom.too_long first rest are long) = long-lacks canonical p.interfaces.entries [] first rest (sym (append-nil p.interfaces.entries)) are long
 
   pub all-lack : (canonical : Bool) (parts : List Part) → HoldsPackage r canonical p parts → fits_component parts ≡ false → limit < package_weight r n

@@ -66,9 +66,6 @@ pub next-refused : {X : Type 0} (r : Resolve) (canonical : Bool) (entries left r
 next-refused r canonical entries left rest parts e error given h is refuses same =
     first-refused r entries h.done rest e canonical error given (h.split ∙ ap (λ (es : List Listed). h.done ++ es) is) h.differ refuses same
 
-pub all-held : (r : Resolve) (canonical : Bool) (entries left : List Listed) (parts : List Part) → IsBegun r canonical entries left parts → left ≡ [] → HoldsInterfaces r canonical entries parts
-all-held r canonical entries left parts h is = search std_rules
-
 -- ---- worlds
 
 pub world-added : (r : Resolve) (canonical : Bool) (p : PackageIdentity) (e : ListedWorld) (w : World) (declared : Declarations) (old new : List Part) → world_at r e.1.0 ≡ Some w
@@ -95,8 +92,7 @@ pub record WorldsBegun (r : Resolve) (p : PackageIdentity) (canonical : Bool) (e
   pub differ : canonical ≡ true → HaveNoClash r done
 
 pub next-world : (r : Resolve) (p : PackageIdentity) (canonical : Bool) (entries left rest : List ListedWorld) (parts parts' : List Part) (e : ListedWorld)
-    → WorldsBegun r p canonical entries left parts parts'
-    → left ≡ e ∷ rest → Contains entries e
+    → WorldsBegun r p canonical entries left parts parts' → left ≡ e ∷ rest → Contains entries e
 next-world r p canonical entries left rest parts parts' e h is =
     subst (λ (es : List ListedWorld). Contains es e) (sym (h.split ∙ ap (λ (es : List ListedWorld). h.done ++ es) is))
     (Contains-append_right h.done (e ∷ rest) e (Contains-append_left (e ∷ []) rest e (contains-one e)))
@@ -127,6 +123,5 @@ world-refused r p canonical entries left rest parts middle e error (Err d) h is 
     (record { before = h.done; refused = e; after = rest; are = h.split ∙ ap (λ (es : List ListedWorld). h.done ++ es) is; differ = h.differ; refuses = refuses })
 
 pub all-worlds_apart : (r : Resolve) (p : PackageIdentity) (canonical : Bool) (entries left : List ListedWorld) (parts parts' : List Part)
-    → WorldsBegun r p canonical entries left parts parts' → left ≡ []
-    → canonical ≡ true → HaveNoClash r entries
+    → WorldsBegun r p canonical entries left parts parts' → left ≡ [] → canonical ≡ true → HaveNoClash r entries
 all-worlds_apart r p canonical entries left parts parts' h is asked = subst (HaveNoClash r) (sym (h.split ∙ ap (λ (es : List ListedWorld). h.done ++ es) is ∙ append-nil h.done)) (h.differ asked)

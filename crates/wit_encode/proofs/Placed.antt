@@ -4,7 +4,7 @@ use Rattle.std.proofs.Common.{rules as std_rules, ◌≡◌, refl, sym, ap, subs
 use Rattle.std.proofs.lemmas.{Bool.eq-eqb, Bool.cases_Bool, Bool.cond-true, Bool.cond-false, Bool.and_from as both, List.Folds.list_all-append}
 use Rattle.std.proofs.lemmas.Option.{slice_get_within}
 use Rattle.std.specs.{List.list_all, List.Contains, List.filter, Option.option_map_or, Cmp.Derive.both_true, BTreeMap.insert_entry, BTreeMap.is_at}
-use Rattle.base_lemmas.proofs.{Bools.left_of, Bools.left_of as first_true, Bools.right_of as second_true, Elements.all_weaker, Lists.length_of_map}
+use Rattle.base_lemmas.proofs.{Bools.left_of, Bools.left_of as first_true, Bools.right_of as second_true, Elements.all_weaker, Lists.length_of_map, Options.some_is}
 use Rattle.wit_model.specs.{Tree.Place, Lookup.place_of, Lookup.type_at, Uses.owner_interface}
 use Rattle.wit_model.specs.declared.model.{Resolve.Resolve, TypeDef.TypeDef, TypeOwner.TypeOwner}
 use Rattle.comp_bytes.specs.declared.forms.ComponentTypeRef.{ComponentTypeRef}
@@ -52,7 +52,7 @@ types_in (d ∷ ds) = cond (describes is_type d) 1 0 + types_in ds
 types-both : (xs ys : List Declaration) → types_in (xs ++ ys) ≡ types_in xs + types_in ys
 unfolding types_in
 types-both [] ys = omega arith
-types-both (x ∷ xs) ys = let more = types-both xs ys in omega (arith, more)
+types-both (x ∷ xs) ys = omega (arith, types-both xs ys)
 
 no-types : (ds : List Declaration) → types_in ds ≡ 0 → list_all (λ d. not (describes is_type d)) ds ≡ true
 unfolding types_in
@@ -60,46 +60,41 @@ no-types [] e = refl
 no-types (d ∷ ds) e = by (describes is_type d) refl (no-types ds)
   where
     by : (b : Bool) → describes is_type d ≡ b → (types_in ds ≡ 0 → list_all (λ d. not (describes is_type d)) ds ≡ true) → list_all (λ d. not (describes is_type d)) (d ∷ ds) ≡ true
-    by true is more = absurd (let one : ◌≡◌ {A = ℕ} (cond (describes is_type d) 1 0) 1 = ap (λ (b : Bool). cond b 1 0) is in let z : ⊥ = omega (arith, one, e) in z)
-    by false is more = both_true (ap not is) (more (let none : ◌≡◌ {A = ℕ} (cond (describes is_type d) 1 0) 0 = ap (λ (b : Bool). cond b 1 0) is in omega (arith, none, e)))
+    by true is more = absurd (omega (arith, ap {B = ℕ} (λ (b : Bool). cond b 1 0) is, e))
+    by false is more = both_true (ap not is) (more (omega (arith, ap {B = ℕ} (λ (b : Bool). cond b 1 0) is, e)))
 
 -- an export of a type is shown, and nothing else
 same-types : (a b : InstanceScope) → a ≡ b → length b.shown.types ≡ length a.shown.types + 0
 same-types a b e = ap (λ (s : InstanceScope). length s.shown.types) (sym e) ∙ (let y : length a.shown.types ≡ length a.shown.types + 0 = omega arith in y)
 
-some-same : (a b : InstanceScope) → Some a ≡ Some b → a ≡ b
-some-same a b e = cc
-
 type-shown : (place : Place) (name : ExternName) (described : ComponentTypeRef) (s s' : InstanceScope) → show_type place name described s ≡ Some s'
     → length s'.shown.types ≡ length s.shown.types + 1
 type-shown place name described s s' e =
     let b = unbind (named_type s.slots place name.text described) _ s' e in
-    ap (λ (z : InstanceScope). length z.shown.types) (sym (some-same _ s' b.then)) ∙ length-append s.shown.types _
+    ap (λ (z : InstanceScope). length z.shown.types) (sym (some_is _ s' b.then)) ∙ length-append s.shown.types _
 
 step-types : (place : Place) (outer : List Slot) (s s' : InstanceScope) (d : Declaration) → instance_step place outer s d ≡ Some s'
     → length s'.shown.types ≡ length s.shown.types + cond (describes is_type d) 1 0
-step-types place outer s s' (Declaration.defined q) e = let b = unbind (definition s.slots q) _ s' e in same-types _ s' (some-same _ s' b.then)
-step-types place outer s s' (Declaration.function q) e = let b = unbind (function_signature s.slots q) _ s' e in same-types _ s' (some-same _ s' b.then)
+step-types place outer s s' (Declaration.defined q) e = let b = unbind (definition s.slots q) _ s' e in same-types _ s' (some_is _ s' b.then)
+step-types place outer s s' (Declaration.function q) e = let b = unbind (function_signature s.slots q) _ s' e in same-types _ s' (some_is _ s' b.then)
 step-types place outer s s' (Declaration.alias_of (Alias.of_outer scopes n)) e = let b = unbind (slice_get outer n) _ s' e in same-types _ s' (unprovided _ _ s' b.then)
-step-types place outer s s' (Declaration.alias_of (Alias.of_export m n)) e = absurd (let z : ⊥ = cc in z)
-step-types place outer s s' (Declaration.imported name described) e = absurd (let z : ⊥ = cc in z)
+step-types place outer s s' (Declaration.alias_of (Alias.of_export m n)) e = absurd cc
+step-types place outer s s' (Declaration.imported name described) e = absurd cc
 step-types place outer s s' (Declaration.exported name (refs.Func n)) e =
     let b = unbind (function_in (slice_get s.slots n)) _ s' (unwhen (is_simple name) (show_function name n s) s' e) in
-    ap (λ (z : InstanceScope). length z.shown.types) (sym (some-same _ s' b.then)) ∙ (let y : length s.shown.types ≡ length s.shown.types + 0 = omega arith in y)
+    ap (λ (z : InstanceScope). length z.shown.types) (sym (some_is _ s' b.then)) ∙ (let y : length s.shown.types ≡ length s.shown.types + 0 = omega arith in y)
 step-types place outer s s' (Declaration.exported name (refs.TypeEq n)) e = type-shown place name (refs.TypeEq n) s s' (unwhen (is_simple name) (show_type place name (refs.TypeEq n) s) s' e)
 step-types place outer s s' (Declaration.exported name refs.SubResource) e = type-shown place name refs.SubResource s s' (unwhen (is_simple name) (show_type place name refs.SubResource s) s' e)
-step-types place outer s s' (Declaration.exported name (refs.Component n)) e = absurd (let q = unwhen (is_simple name) (show_type place name (refs.Component n) s) s' e in let z : ⊥ = cc in z)
-step-types place outer s s' (Declaration.exported name (refs.Instance n)) e = absurd (let q = unwhen (is_simple name) (show_type place name (refs.Instance n) s) s' e in let z : ⊥ = cc in z)
+step-types place outer s s' (Declaration.exported name (refs.Component n)) e = absurd (let q = unwhen (is_simple name) (show_type place name (refs.Component n) s) s' e in cc)
+step-types place outer s s' (Declaration.exported name (refs.Instance n)) e = absurd (let q = unwhen (is_simple name) (show_type place name (refs.Instance n) s) s' e in cc)
 
 steps-types : (place : Place) (outer : List Slot) (s s' : InstanceScope) (ds : List Declaration) → instance_steps place outer s ds ≡ Some s'
     → length s'.shown.types ≡ length s.shown.types + types_in ds
 unfolding types_in
-steps-types place outer s s' [] e = same-types s s' (some-same s s' e)
+steps-types place outer s s' [] e = same-types s s' (some_is s s' e)
 steps-types place outer s s' (d ∷ ds) e =
     let b = unbind (instance_step place outer s d) _ s' e in
-    let one = step-types place outer s b.item d b.is in
-    let rest = steps-types place outer b.item s' ds b.then in
-    omega (arith, one, rest)
+    omega (arith, step-types place outer s b.item d b.is, steps-types place outer b.item s' ds b.then)
 
 -- ---- an instance type that is open
 
@@ -110,7 +105,7 @@ module _ (r : Resolve) (outer : Declarations) (inner : Option OpenInterface) (so
 types-inside : (r : Resolve) (outer : Declarations) (inner : Option OpenInterface) → IsSome inner → (encoder_scope r outer inner).is_sound ≡ true
     → length (exports_in r outer inner) ≡ types_in (declared_inside inner)
 unfolding inner_contents
-types-inside r outer None some sound = absurd (let z : ⊥ = cc in z)
+types-inside r outer None some sound = absurd cc
 types-inside r outer (Some current) some sound =
     let place : Place = place_of r (owner.Interface current.interface) in
     let a : InnerAt place outer current.declared = inner-at place outer current.declared (followed r outer (Some current) sound) in
@@ -121,7 +116,7 @@ types-inside r outer (Some current) some sound =
 
 slots-inside : (r : Resolve) (outer : Declarations) (inner : Option OpenInterface) → IsSome inner → (encoder_scope r outer inner).is_sound ≡ true
     → type_slots (declared_inside inner) ≡ slots_in r outer inner
-slots-inside r outer None some sound = absurd (let z : ⊥ = cc in z)
+slots-inside r outer None some sound = absurd cc
 slots-inside r outer (Some current) some sound =
     let place : Place = place_of r (owner.Interface current.interface) in
     inner-index place outer current.declared (inner-at place outer current.declared (followed r outer (Some current) sound))
@@ -146,14 +141,13 @@ types-in-order r r' outer outer' inner inner' some some' none keeps same =
     let ds : List Declaration = declared_inside inner' in
     let g : GrowsBy Declarations.no_more (from_list ds) =
     keeps (Told.declared Declarations.no_more) (subst (λ (zs : List Declaration). GrowsBy Declarations.no_more (from_list zs)) (sym none) (grows-none Declarations.no_more)) in
-    let all : ds ≡ g.more = one-list ds g.more g.are in
     let unused : function_slots (from_list ds) ≡ [] =
     sym (functions-inside r' outer' inner' some') ∙ same ∙ functions-inside r outer inner some ∙ ap (λ (zs : List Declaration). function_slots (from_list zs)) none in
     record {
       types = ds;
       functions = [];
       are = sym (append-nil ds);
-      no_function = subst (λ (zs : List Declaration). list_all (λ d. not (describes is_function d)) zs ≡ true) (sym all)
+      no_function = subst (λ (zs : List Declaration). list_all (λ d. not (describes is_function d)) zs ≡ true) (sym (one-list ds g.more g.are))
           (all_weaker takes_index (λ d. not (describes is_function d)) taken-no-function g.more g.indexes);
       no_type = refl;
       beside = types-beside Declarations.no_more (from_list ds) g unused refl;
@@ -178,12 +172,12 @@ module _ (r r₀ r₁ : Resolve) (o₀ o₁ o₂ : Declarations) (i₀ i₁ i₂
         | inl e ↦ inl (sym (functions-inside r₁ o₁ i₁ some₁) ∙ e ∙ functions-inside r₀ o₀ i₀ some₀)
         | inr n ↦ inr (
           sym (functions-inside r₁ o₁ i₁ some₁) ∙ n.0 ∙ ap (λ (xs : List ℕ). xs ++ index ∷ []) (functions-inside r₀ o₀ i₀ some₀),
-          (let l = list-slots behind in let count = slots-inside r₁ o₁ i₁ some₁ sound₁ in let last = n.1 in omega (arith, l, count, last)),
+          (omega (arith, list-slots behind, slots-inside r₁ o₁ i₁ some₁ sound₁, n.1)),
         )
       ] in
       let count : types_in (declared_inside i₂) ≡ types_in ds = sym (types-inside r o₂ i₂ some₂ sound₂) ∙ ap length same ∙ types-inside r o₀ i₀ some₀ sound₀ in
       let whole : declared_inside i₂ ≡ ds ++ (g.more ++ d ∷ []) = shown ∙ ap (λ (zs : List Declaration). zs ++ d ∷ []) all ∙ append_assoc ds g.more (d ∷ []) in
-      let added : types_in (g.more ++ d ∷ []) ≡ 0 = (let both = ap types_in (sym whole) ∙ count in let parts = types-both ds (g.more ++ d ∷ []) in omega (arith, both, parts)) in
+      let added : types_in (g.more ++ d ∷ []) ≡ 0 = (omega (arith, ap types_in (sym whole) ∙ count, types-both ds (g.more ++ d ∷ []))) in
       record {
         types = s.types;
         functions = s.functions ++ (g.more ++ d ∷ []);
@@ -194,8 +188,6 @@ module _ (r r₀ r₁ : Resolve) (o₀ o₁ o₂ : Declarations) (i₀ i₁ i₂
             (function-beside (from_list ds) (from_list behind) index d g last (eq-eqb index index refl) refl s.beside);
       }
 
--- ---- what the page is for
-
 -- ---- aliases
 
 -- what passes one test passes the other, and one more does
@@ -203,16 +195,13 @@ filters-one : {X : Type 0} (p q : X → Bool) → ((x : X) → p x ≡ true → 
 filters-one p q h [] z c absent present = none-in z c
 filters-one p q h (x ∷ xs) z (zero, l, same) absent present =
     let a = ap length (cond-false (p x) (x ∷ filter p xs) (filter p xs) (ap p same ∙ absent)) in
-    let b = ap length (cond-true (q x) (x ∷ filter q xs) (filter q xs) (ap q same ∙ present)) in
-    let rest = filters-more p q h xs in
-    omega (arith, a, b, rest)
+    omega (arith, a, ap length (cond-true (q x) (x ∷ filter q xs) (filter q xs) (ap q same ∙ present)), filters-more p q h xs)
 filters-one p q h (x ∷ xs) z (suc k, l, same) absent present = by (p x) refl (filters-one p q h xs z (k, omega (arith, l), same) absent present)
   where
     by : (b : Bool) → p x ≡ b → length (filter p xs) + 1 ≤ length (filter q xs) → length (filter p (x ∷ xs)) + 1 ≤ length (filter q (x ∷ xs))
     by true e more =
         let a = ap length (cond-true (p x) (x ∷ filter p xs) (filter p xs) e) in
-        let b = ap length (cond-true (q x) (x ∷ filter q xs) (filter q xs) (h x e)) in
-        omega (arith, a, b, more)
+        omega (arith, a, ap length (cond-true (q x) (x ∷ filter q xs) (filter q xs) (h x e)), more)
     by false e more = elim (cases_Bool (q x)) [
       | inl f ↦ (let a = ap length (cond-false (p x) (x ∷ filter p xs) (filter p xs) e) in let b = ap length (cond-true (q x) (x ∷ filter q xs) (filter q xs) f) in omega (arith, a, b, more))
       | inr f ↦ (let a = ap length (cond-false (p x) (x ∷ filter p xs) (filter p xs) e) in let b = ap length (cond-false (q x) (x ∷ filter q xs) (filter q xs) f) in omega (arith, a, b, more))
@@ -237,11 +226,7 @@ alias-few r a x is = filters-one (is_brought r a) (is_brought r (with_alias a x)
 aliases-few : (r : Resolve) (a : Around) (made : List Aliased) → AreAliases r a made
     → declaration_count (with_aliases a made).declared + length (brought_numbers r a) ≤ declaration_count a.declared + length (brought_numbers r (with_aliases a made))
 aliases-few r a [] are = omega arith
-aliases-few r a (x ∷ made) are =
-    let one = alias-few r a x are.0 in
-    let held : declaration_count (with_alias a x).declared ≡ declaration_count a.declared + 1 = one-appended a.declared (alias_declared x) in
-    let rest = aliases-few r (with_alias a x) made are.1 in
-    omega (arith, one, held, rest)
+aliases-few r a (x ∷ made) are = omega (arith, alias-few r a x are.0, one-appended a.declared (alias_declared x), aliases-few r (with_alias a x) made are.1)
 
 aliases-listed : (a : Around) (made : List Aliased) → (with_aliases a made).instances ≡ a.instances
 aliases-listed a [] = refl
@@ -267,9 +252,9 @@ aliases-counted test none a (x ∷ made) = aliases-counted test none (with_alias
 
 one-instance : (ds inner : Declarations) → declaration_count (append ds (Declarations.instance inner Declarations.no_more)) ≡ declaration_count ds + 1
 one-instance Declarations.no_more inner = omega arith
-one-instance (Declarations.declares d rest) inner = let h = one-instance rest inner in omega (arith, h)
-one-instance (Declarations.component i rest) inner = let h = one-instance rest inner in omega (arith, h)
-one-instance (Declarations.instance i rest) inner = let h = one-instance rest inner in omega (arith, h)
+one-instance (Declarations.declares d rest) inner = omega (arith, one-instance rest inner)
+one-instance (Declarations.component i rest) inner = omega (arith, one-instance rest inner)
+one-instance (Declarations.instance i rest) inner = omega (arith, one-instance rest inner)
 
 -- ---- what is listed
 
@@ -312,10 +297,7 @@ grown-listed r a b g = ap (λ (z : Around). z.instances) g.is ∙ aliases-listed
 
 pub grown-few : (r : Resolve) (a b : Around) → GrowsAround r a b → declaration_count b.declared + length (brought_numbers r a) ≤ declaration_count a.declared + length (brought_numbers r b)
 grown-few r a b g =
-    let f = aliases-few r a g.made g.are in
-    let c : declaration_count b.declared ≡ declaration_count (with_aliases a g.made).declared = ap (λ (z : Around). declaration_count z.declared) g.is in
-    let m : length (brought_numbers r b) ≡ length (brought_numbers r (with_aliases a g.made)) = ap (λ z. length (brought_numbers r z)) g.is in
-    omega (arith, f, c, m)
+    omega (arith, aliases-few r a g.made g.are, ap (λ (z : Around). declaration_count z.declared) g.is, ap (λ z. length (brought_numbers r z)) g.is)
 
 -- the instance type, and the declaration that uses it
 module _ (r : Resolve) (a before : Around) (g : GrowsAround r a before) (inner : Declarations) (d : Declaration) (outer : Declarations)
@@ -348,12 +330,7 @@ module _ (r : Resolve) (a before : Around) (g : GrowsAround r a before) (inner :
   pub placed-few : (i number : ℕ) (listed known : List (ℕ × ℕ)) → listed ≡ insert_entry nat_cmp a.instances i number → known ≡ before.known
       → declaration_count outer + length (brought_numbers r a) ≤ declaration_count a.declared + (length (brought_numbers r (record { declared = outer; instances = listed; known = known })) + 2)
   placed-few i number listed known listed-is known-is =
-      let f = grown-few r a before g in
-      let b : declaration_count outer ≡ declaration_count (declared_after behind d) = ap declaration_count made in
-      let c : declaration_count (declared_after behind d) ≡ declaration_count behind + 1 = one-appended behind d in
-      let e : declaration_count behind ≡ declaration_count before.declared + 1 = one-instance before.declared inner in
-      let h = more in
-      omega (arith, f, b, c, e, h)
+      omega (arith, grown-few r a before g, ap declaration_count made, one-appended behind d, one-instance before.declared inner, more)
     where
       more : length (brought_numbers r before) ≤ length (brought_numbers r (record { declared = outer; instances = listed; known = known }))
       more =
@@ -364,7 +341,4 @@ module _ (r : Resolve) (a before : Around) (g : GrowsAround r a before) (inner :
 -- behind an instance type, one declaration more than there were with aliases
 pub one-behind : (before : Around) (inner outer : Declarations) → outer ≡ append before.declared (Declarations.instance inner Declarations.no_more)
     → declaration_count outer ≤ declaration_count before.declared + 1
-one-behind before inner outer is =
-    let c = one-instance before.declared inner in
-    let b : declaration_count outer ≡ declaration_count (append before.declared (Declarations.instance inner Declarations.no_more)) = ap declaration_count is in
-    omega (arith, b, c)
+one-behind before inner outer is = omega (arith, ap declaration_count is, one-instance before.declared inner)

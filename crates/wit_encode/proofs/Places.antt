@@ -26,8 +26,8 @@ list-both (x ∷ xs) ys = ap (λ (z : Declarations). Declarations.declares x z) 
 
 pub one-list : (xs ys : List Declaration) → from_list xs ≡ from_list ys → xs ≡ ys
 one-list [] [] e = refl
-one-list [] (y ∷ ys) e = absurd (let z : ⊥ = cc in z)
-one-list (x ∷ xs) [] e = absurd (let z : ⊥ = cc in z)
+one-list [] (y ∷ ys) e = absurd cc
+one-list (x ∷ xs) [] e = absurd cc
 one-list (x ∷ xs) (y ∷ ys) e =
     let first : x ≡ y = cc in
     let rest : from_list xs ≡ from_list ys = cc in
@@ -66,9 +66,7 @@ beside-both n (Declarations.declares d rest) b h k =
     (or-more (not (is_function_type d)) (begins_with (is_function_of n) rest) (begins_with (is_function_of n) (append rest b)) (left_of here (are_beside (n + declaration_slots d) rest) h)
     (begins-more (is_function_of n) rest b))
     (beside-both (n + declaration_slots d) rest b (right_of here (are_beside (n + declaration_slots d) rest) h) (subst (λ (m : ℕ). are_beside m b ≡ true) far k))
-beside-both n (Declarations.component inner rest) b h k =
-    let far : n + (1 + type_slots_of rest) ≡ n + 1 + type_slots_of rest = omega arith in
-    beside-both (n + 1) rest b h (subst (λ (m : ℕ). are_beside m b ≡ true) far k)
+beside-both n (Declarations.component inner rest) b h k = beside-both (n + 1) rest b h (subst (λ (m : ℕ). are_beside m b ≡ true) (omega arith) k)
 beside-both n (Declarations.instance inner rest) b h k =
     let far : n + (1 + type_slots_of rest) ≡ n + 1 + type_slots_of rest = omega arith in
     both_true (begins-more (is_instance_at n) rest b (left_of (begins_with (is_instance_at n) rest) (are_beside (n + 1) rest) h))
@@ -91,7 +89,7 @@ beside-plain n (d ∷ ds) e = by (is_function_type d) refl (beside-plain (n + de
 
     by : (b : Bool) → is_function_type d ≡ b → (slots_from is_function_type (n + declaration_slots d) (from_list ds) ≡ [] → are_beside (n + declaration_slots d) (from_list ds) ≡ true)
         → are_beside n (from_list (d ∷ ds)) ≡ true
-    by true is more = absurd (let q : n ∷ slots_from is_function_type (n + declaration_slots d) (from_list ds) ≡ [] = rest true is in let z : ⊥ = cc in z)
+    by true is more = absurd (cc (rest true is))
     by false is more = both_true (ap (λ (b : Bool). not b || begins_with (is_function_of n) (from_list ds)) is) (more (rest false is))
 
 -- ---- the type of a function, and what has it
@@ -104,10 +102,10 @@ none-taken (d ∷ ds) all e = search std_rules
 -- The one type of a function among these is at index i, and that is the last.
 beside-last : (n i : ℕ) (ds : List Declaration) (d : Declaration) → list_all takes_index ds ≡ true → slots_from is_function_type n (from_list ds) ≡ i ∷ [] → n + type_slots ds ≡ i + 1
     → describes (is_function_of i) d ≡ true → is_function_type d ≡ false → are_beside n (from_list (ds ++ d ∷ [])) ≡ true
-beside-last n i [] d all e last has plain = absurd (let z : ⊥ = cc in z)
+beside-last n i [] d all e last has plain = absurd cc
 beside-last n i (x ∷ ds) d all e last has plain =
     by (is_function_type x) refl
-    (λ q. beside-last (n + declaration_slots x) i ds d (right_of (takes_index x) (list_all takes_index ds) all) q (let l = last in omega (arith, l)) has plain)
+    (λ q. beside-last (n + declaration_slots x) i ds d (right_of (takes_index x) (list_all takes_index ds) all) q (omega (arith, last)) has plain)
   where
     one : declaration_slots x ≡ 1
     one = eqb-true (declaration_slots x) 1 (left_of (takes_index x) (list_all takes_index ds) all)
@@ -125,8 +123,7 @@ beside-last n i (x ∷ ds) d all e last has plain =
     by true is more =
         let q : n ∷ slots_from is_function_type (n + declaration_slots x) (from_list ds) ≡ i ∷ [] = rest true is in
         let same : i ≡ n = cc in
-        let one' = one in
-        let none : ds ≡ [] = none-taken ds (right_of (takes_index x) (list_all takes_index ds) all) (omega (arith, one', same, last)) in
+        let none : ds ≡ [] = none-taken ds (right_of (takes_index x) (list_all takes_index ds) all) (omega (arith, one, same, last)) in
         subst (λ (zs : List Declaration). are_beside n (from_list (x ∷ zs ++ d ∷ [])) ≡ true) (sym none)
         (both_true (or-right (not (is_function_type x)) (describes (is_function_of n) d)
         (subst (λ (k : ℕ). describes (is_function_of k) d ≡ true) same has)) (beside-one (n + declaration_slots x) d plain))
@@ -142,10 +139,10 @@ added-slots : (before after : Declarations) (g : GrowsBy before after) (xs : Lis
 added-slots before after g xs e = append_cancel_left (function_slots before) _ xs (sym (slots-both is_function_type 0 before (from_list g.more)) ∙ ap function_slots (sym g.are) ∙ e)
 
 slots-added : (a : Declarations) (ds : List Declaration) → type_slots_of (append a (from_list ds)) ≡ type_slots_of a + type_slots ds
-slots-added Declarations.no_more ds = let l = list-slots ds in omega (arith, l)
-slots-added (Declarations.declares d rest) ds = let more = slots-added rest ds in omega (arith, more)
-slots-added (Declarations.component inner rest) ds = let more = slots-added rest ds in omega (arith, more)
-slots-added (Declarations.instance inner rest) ds = let more = slots-added rest ds in omega (arith, more)
+slots-added Declarations.no_more ds = omega (arith, list-slots ds)
+slots-added (Declarations.declares d rest) ds = omega (arith, slots-added rest ds)
+slots-added (Declarations.component inner rest) ds = omega (arith, slots-added rest ds)
+slots-added (Declarations.instance inner rest) ds = omega (arith, slots-added rest ds)
 
 -- types alone
 pub types-beside : (before after : Declarations) → GrowsBy before after → function_slots after ≡ function_slots before → StaysBeside before after
@@ -160,9 +157,7 @@ function-beside before after i d g (inl same) has plain h = beside-after after d
 function-beside before after i d g (inr new) has plain h =
     let n : ℕ = 0 + type_slots_of before in
     let count : n + type_slots g.more ≡ i + 1 = (
-    let all : type_slots_of after ≡ type_slots_of before + type_slots g.more = ap type_slots_of g.are ∙ slots-added before g.more in
-    let last = new.1 in
-    omega (arith, all, last)
+    omega (arith, ap type_slots_of g.are ∙ slots-added before g.more, new.1)
     ) in
     let whole : append before (from_list (g.more ++ d ∷ [])) ≡ declared_after after d =
     ap (append before) (from_list-push g.more d) ∙ sym (append-twice before (from_list g.more) (Declarations.declares d Declarations.no_more))

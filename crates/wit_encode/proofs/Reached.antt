@@ -12,9 +12,9 @@ use Rattle.wit_model.specs.declared.model.{Resolve.Resolve, World.World, WorldId
 use Rattle.wit_model.proofs.{Tables.grow_at, Checks.below_at, InOrder.found_stands, OnePath.found-in, PartsLemmas.owner_same as same-owner, Owners.named_met, Owners.numbered_at as numbered-at, Elements.contains-get, Elements.contains-flat, Elements.has-contains}
 use Rattle.encode_types.specs.Kinds.{parts_of}
 use Rattle.encode_types.specs.{Plan.foreign_owner, Plan.Reaches, Plan.itself, Plan.through, MetKinds.ReachedFrom, MetKinds.referred, Table.interface_of_owner}
-use Rattle.encode_shown.proofs.{Items.typed-item, Zips.given-contains, Basics.valid-references}
+use Rattle.encode_shown.proofs.{Items.typed-item, Zips.given-contains, Basics.valid-references, Used.contains-flat-from as from-flat}
 use Rattle.wit_encode.specs.OwnerScope.{IsTypeOf, functions_of}
-use Rattle.encode_types.proofs.{Lists.none-in, Planning.part-number}
+use Rattle.encode_types.proofs.{Planning.part-number}
 use Rattle.wit_encode.proofs.Owned.{stays, part-met, own-interface, alias-part, named-listed}
 use Rattle.wit_encode.proofs.ListedTypes.{owned-listed, listed-type}
 use Rattle.wit_encode.proofs.{OwnerScope.function-ranges, OwnerScope.function-refers, OwnerScope.type-stays, OwnerScope.types-stay, WorldShown.own-type}
@@ -24,15 +24,6 @@ use Rattle.base_lemmas.proofs.Lists.{slice_take as get-take, within_there as the
 use Rattle.wit_model.specs.declared.model.WorldItem.TheVariants as item
 use Rattle.wit_model.specs.declared.model.TypeOwner.TheVariants as owner
 use Rattle.wit_model.specs.declared.model.«Type».TheVariants as ty
-
--- ---- lists
-
-pub from-flat : {X Y : Type 0} (f : X → List Y) (xs : List X) (y : Y) → Contains (flat_map f xs) y → (x : X) × Contains xs x × Contains (f x) y
-from-flat f [] y c = none-in y c
-from-flat f (x ∷ xs) y c = elim (Contains-append_cases (f x) (flat_map f xs) y c) [
-  | inl a ↦ (x, (0, omega arith, refl), a)
-  | inr b ↦ (let z = from-flat f xs y b in (z.0, (suc z.1.0, (let l = z.1.1 in omega (arith, l)), z.1.2), z.2))
-]
 
 -- ---- what stands inside a number
 
@@ -45,7 +36,7 @@ module _ (r : Resolve) (v : IsValid r) where
       (λ m low. ap (λ o. unwrap_or o []) (get-take (inside_of r) n m low)) (below_at r (valid-references r v) n def is))
     where
       here : slice_get (numbered_from 0 r.types.items) n ≡ Some (n, def)
-      here = let zero_n : 0 + n ≡ n = omega arith in subst (λ (m : ℕ). slice_get (numbered_from 0 r.types.items) n ≡ Some (m, def)) zero_n (numbered-at 0 r.types.items n def is)
+      here = subst (λ (m : ℕ). slice_get (numbered_from 0 r.types.items) n ≡ Some (m, def)) (omega arith) (numbered-at 0 r.types.items n def is)
 
   named-inside : (n : ℕ) (def : TypeDef) → type_at r n ≡ Some def → is_some def.name ≡ true → inside_number r n ≡ n ∷ []
   named-inside n def is named = inside-step n def is ∙ ap (λ b. n ∷ (if b then [] else flat_map (inside_number r) (kind_numbers def.kind))) named
@@ -60,7 +51,7 @@ module _ (r : Resolve) (v : IsValid r) where
   smaller n def is m c = ltb-true m n (all-contained (λ m. nat_lt m n) (kind_numbers def.kind) m (below_at r (valid-references r v) n def is) c)
 
   pub part-at : (n : ℕ) (def : TypeDef) → type_at r n ≡ Some def → (m : ℕ) → Contains (kind_numbers def.kind) m → (d : TypeDef) × (type_at r m ≡ Some d)
-  part-at n def is m c = there-at r.types.items m (let a = smaller n def is m c in let b = within r.types.items n def is in omega (arith, a, b))
+  part-at n def is m c = there-at r.types.items m (omega (arith, smaller n def is m c, within r.types.items n def is))
 
   -- what a type refers to that stands unnamed inside a number stands inside it too
   inside-down : (fuel a : ℕ) → a < fuel → (da : TypeDef) → type_at r a ≡ Some da → (k : ℕ) (dk : TypeDef) → type_at r k ≡ Some dk → is_some dk.name ≡ false → (j : ℕ)
@@ -76,7 +67,7 @@ module _ (r : Resolve) (v : IsValid r) where
       go down true named = head (subst (λ (xs : List ℕ). Contains xs k) (named-inside a da is named) h)
         where
           head : Contains (a ∷ []) k → Contains (inside_number r a) j
-          head (zero, m, e) = let wrong : true ≡ false = sym named ∙ (ap (λ (d : TypeDef). is_some d.name) (at-head e) ∙ none) in let z : ⊥ = cc in absurd z
+          head (zero, m, e) = let wrong : true ≡ false = sym named ∙ (ap (λ (d : TypeDef). is_some d.name) (at-head e) ∙ none) in absurd cc
           head (suc i, m, e) = absurd (omega (arith, m))
       go down false bare = subst (λ (xs : List ℕ). Contains xs j) (sym (unnamed-inside a da is bare)) (later (parts (subst (λ (xs : List ℕ). Contains xs k) (unnamed-inside a da is bare) h)))
         where
@@ -91,8 +82,7 @@ module _ (r : Resolve) (v : IsValid r) where
           parts (suc i, m, e) =
               let f = from-flat (inside_number r) (kind_numbers da.kind) k (i, omega (arith, m), e) in
               let p = part-at a da is f.0 f.1 in
-              let low = smaller a da is f.0 f.1 in
-              contains-flat (inside_number r) (kind_numbers da.kind) f.0 j f.1 (down f.0 (omega (arith, low, l)) p.0 p.1 f.2)
+              contains-flat (inside_number r) (kind_numbers da.kind) f.0 j f.1 (down f.0 (omega (arith, smaller a da is f.0 f.1, l)) p.0 p.1 f.2)
 
   -- ---- the way down
 
@@ -135,7 +125,7 @@ module _ (r : Resolve) (v : IsValid r) where
         (subst (λ (a : TypeOwner). same_owner d.owner a ≡ true) (sym (same-owner def.owner o owned)) (belongs (owner_interface d.owner) refl (second_true _ _ target)))
       where
         belongs : (j : Option ℕ) → owner_interface d.owner ≡ j → option_map_or (λ j. option_map_or (λ other. is_some other.name) (interface_at r j) false) j false ≡ true → same_owner d.owner o ≡ true
-        belongs None q g = let wrong : ⊥ = cc in absurd wrong
+        belongs None q g = absurd cc
         belongs (Some j) q g = own-interface o d.owner j q f
 
     walk : (t : ValueType) (n : ℕ) → Reaches r (interface_of_owner o) t n → ((id : TypeId) → t ≡ ty.Id id → IsCounted id.0 × Stays id.0) → IsCounted n × Stays n
@@ -165,8 +155,7 @@ module _ (r : Resolve) (v : IsValid r) where
               own_there = (part-at id.0 def at id'.0 number).1;
             }
             go true named =
-                let owned : same_owner def.owner o ≡ true = named_met r (valid-references r v) id.0 def at o named ∙ stay in
-                let listed = h.listed id.0 def at named owned in
+                let listed = h.listed id.0 def at named (named_met r (valid-references r v) id.0 def at o named ∙ stay) in
                 let part = part-at id.0 def at id'.0 number in
                 record { root = id'.0; def = part.0; there = part.1; all = of-kind id.0 listed def at id'.0 number; inside = inside-itself id'.0 part.0 part.1; own_def = part.0; own_there = part.1 }
 
@@ -255,7 +244,7 @@ module _ (r : Resolve) (v : IsValid r) where
     where
       there : (n : ℕ) (def : TypeDef) → type_at r n ≡ Some def → (x : Option (String Global)) → def.name ≡ x → is_some x ≡ true
           → option_map_or (λ name. is_listed r n (text_of name) (owner.World w)) x false ≡ true → Contains (world_type_numbers world) n
-      there n def at None e named listed = absurd (let z : ⊥ = cc in z)
+      there n def at None e named listed = absurd cc
       there n def at (Some name) e named listed =
           has-contains (world_type_numbers world) n
           (found_stands (is_name_key (text_of name)) item_type n world.imports.entries (first_true (is_id n (option_and_then item_type (get_by (is_name_key (text_of name)) world.imports))) _

@@ -1,11 +1,11 @@
 -- What the types and functions of an interface meet, and what maps learn of it, type by type and function by function.
 use Rattle.encode_types.specs.{Aliases.AliasesMet, Known.Around}
 use Rattle.encode_types.proofs.Aliasing.{met-more}
-use Rattle.std.proofs.Common.{rules as std_rules, ◌≡◌, refl, sym, subst, ap, ◌∙◌, ℕ, suc, ◌+◌, ◌<◌, ◌≤◌, true, ◌&&◌, inl, inr, List, [], ◌∷◌, ◌++◌, map, take, length, get_or, Option, option_to_list, Result, OnOk, arith}
+use Rattle.std.proofs.Common.{rules as std_rules, ◌≡◌, sym, subst, ap, ◌∙◌, ℕ, ◌+◌, ◌<◌, ◌≤◌, true, ◌&&◌, inl, inr, List, [], ◌∷◌, ◌++◌, map, take, length, get_or, Option, option_to_list, Result, OnOk, arith}
 use Rattle.std.proofs.lemmas.Grind.{flat_map-append}
 use Rattle.std.proofs.lemmas.{List.take_more, List.take_all, List.map-append, List.Sorted.IsPermutation-sym, List.Sorted.length_permutation}
 use Rattle.std.proofs.lemmas.List.Elements.{Contains-append_left, Contains-append_right, Contains-append_cases}
-use Rattle.std.specs.{Prelude.IsPermutation, Prelude.flat_map, List.Contains, Option.option_eq, Cmp.Lexicographic.pointwise, Set.is_member}
+use Rattle.std.specs.{Prelude.IsPermutation, Prelude.flat_map, List.Contains, Option.option_eq, Cmp.Lexicographic.pointwise}
 use mathlib.Core.Bool.{beq}
 use Rattle.wit_model.specs.{Parts.function_types, Valid.IsValid}
 use Rattle.wit_model.specs.declared.model.{Resolve.Resolve, Function.Function, TypeDefKind.TypeDefKind, InterfaceId.InterfaceId, «Type».«Type» as ValueType}
@@ -24,6 +24,8 @@ use Rattle.wit_encode.proofs.Counting.{Began}
 use Rattle.wit_model.proofs.Elements.{contains-flat}
 use Rattle.base_lemmas.proofs.Bools.{left_of as first_true, right_of as second_true}
 use Rattle.base_lemmas.proofs.Elements.{any-at, contains-map, map_from as from-map}
+use Rattle.encode_shown.proofs.Used.{contains-flat-from as from-flat}
+use Rattle.std.proofs.Common.{append-nil}
 use Rattle.wit_model.specs.declared.model.«Type».TheVariants as ty
 
 -- ---- what is learnt
@@ -66,8 +68,7 @@ from-types r own types i a b l p = subst (λ (ts : List TypeId). LearnsFrom r ow
 
 -- one function more
 pub from-function : {X : Type 0} (view : X → Function) (r : Resolve) (own own' : Option InterfaceId) (xs : List X) (i : ℕ) (x : X) (a b c : TypeEncodingMaps) → i < length xs → x ≡ get_or xs i x
-    → own' ≡ own
-    → LearnsFrom r own (flat_map function_types (map view (take i xs))) a b → LearnsFrom r own' (function_types (view x)) b c
+    → own' ≡ own → LearnsFrom r own (flat_map function_types (map view (take i xs))) a b → LearnsFrom r own' (function_types (view x)) b c
     → LearnsFrom r own (flat_map function_types (map view (take (i + 1) xs))) a c
 from-function view r own own' xs i x a b c l is e p q =
     subst (λ (ts : List ValueType). LearnsFrom r own ts a c) (sym (more ∙ flat_map-append function_types (map view (take i xs)) (view x ∷ [])))
@@ -78,12 +79,8 @@ from-function view r own own' xs i x a b c l is e p q =
         ∙ (ap (flat_map function_types) (map-append view (take i xs) (get_or xs i x ∷ []))
         ∙ ap (λ y. flat_map function_types (map view (take i xs) ++ view y ∷ [])) (sym is))
 
-    append-none : {Y : Type 0} (ys : List Y) → ys ≡ ys ++ []
-    append-none [] = refl
-    append-none (y ∷ ys) = ap (λ zs. y ∷ zs) (append-none ys)
-
     one : function_types (view x) ≡ flat_map function_types (view x ∷ [])
-    one = append-none (function_types (view x))
+    one = sym (append-nil (function_types (view x)))
 
 pub from-functions : {X : Type 0} (view : X → Function) (r : Resolve) (own : Option InterfaceId) (xs : List X) (i : ℕ) (a b : TypeEncodingMaps) → length xs ≤ i
     → LearnsFrom r own (flat_map function_types (map view (take i xs))) a b → LearnsFrom r own (flat_map function_types (map view xs)) a b
@@ -100,19 +97,11 @@ same-types f key e =
     let result = optional_same a.result_type b.result_type (second_true (pointwise same_param a.params b.params) (option_eq same_type a.result_type b.result_type) rest) in
     λ i. params i ++ option_to_list (result i)
 
-from-flat : {X Y : Type 0} (f : X → List Y) (xs : List X) (y : Y) → Contains (flat_map f xs) y → (x : X) × Contains xs x × Contains (f x) y
-from-flat f [] y c = none-in y c
-from-flat {X} f (x ∷ xs) y c = elim (Contains-append_cases (f x) (flat_map f xs) y c) [ inl h ↦ (x, (0, omega arith, refl), h) | inr h ↦ later (from-flat f xs y h) ]
-  where
-    later : (z : X) × Contains xs z × Contains (f z) y → (z : X) × Contains (x ∷ xs) z × Contains (f z) y
-    later (z, (k, l, e), d) = (z, (suc k, omega (arith, l), e), d)
-
 module _ (r : Resolve) (scope : Scope) (own : Option InterfaceId) (m m' : TypeEncodingMaps) (d d' : Definitions) (types : List TypeId) (fs : List Function) (b : Began m)
     (a : AddsFunctions r scope m m' d d' fs) (l : LearnsFrom r own (referred types fs) m m') (known : AllKnown m' types) (once : IsOnce m') where
   function-ready : (f : Function) → Contains fs f → AllReady m' (function_types f)
   function-ready f c =
-      let here : is_member are_same (map key_of fs) (key_of f) ≡ true = any-at (are_same (key_of f)) (map key_of fs) (key_of f) (contains-map key_of fs f c) (same_equiv.refl (key_of f)) in
-      let held = a.learnt (key_of f) here in
+      let held = a.learnt (key_of f) (any-at (are_same (key_of f)) (map key_of fs) (key_of f) (contains-map key_of fs f c) (same_equiv.refl (key_of f))) in
       elim (l.learns.keys held.0 held.1 held.3) [
         | inl h ↦ none-in (held.0, held.1) (subst (λ (es : List (ListKey × ℕ)). Contains (map {B = List ℕ × ℕ} (λ e. (e.0.0.items, e.1)) es) (held.0, held.1)) b.keys h)
         | inr h ↦ subst (AllReady m') (sym (same-types f h.key (alike (names_of m'.names) (key_of f) (key_view h.key) held.0 once.names_.table held.2 h.is))) h.ready
@@ -125,7 +114,7 @@ module _ (r : Resolve) (scope : Scope) (own : Option InterfaceId) (m m' : TypeEn
   ]
     where
       type-ready : (x : TypeId) × Contains types x × (ty.Id x ≡ t) → (id : TypeId) → t ≡ ty.Id id → IsKnown m' id.0
-      type-ready (x, h, e) id q = let same : x ≡ id = cc in subst (λ (y : TypeId). IsKnown m' y.0) same (known x h)
+      type-ready (x, h, e) id q = subst (λ (y : TypeId). IsKnown m' y.0) (cc) (known x h)
 
   -- what the types and functions of an interface meet
   pub interface-kinds : IsValid r → HeldKinds r own (referred types fs) m'
@@ -169,7 +158,7 @@ permuted-few r own types fs gs ds p d = record {
   numbers = d.numbers;
   apart = d.apart;
   met = λ n c. let x = d.met n c in (x.0, refers-too r own types fs gs p gs fs (forth r own types fs gs p) x.0 x.1, x.2);
-  few = (let x = d.few in let y = length_permutation fs gs p in omega (arith, x, y));
+  few = omega (arith, d.few, length_permutation fs gs p);
 }
 
 pub permuted-types : (r : Resolve) (own : Option InterfaceId) (S : Pairs) (types : List TypeId) (fs gs : List Function) (ds : Declarations) → IsPermutation fs gs → DefinesTypes r own S types gs ds

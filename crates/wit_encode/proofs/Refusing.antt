@@ -34,13 +34,13 @@ slots-one x = search std_rules
 
 slots-few : (ds : List Declaration) → type_slots ds ≤ length ds
 slots-few [] = omega arith
-slots-few (d ∷ ds) = let a = slots-one d in let b = slots-few ds in omega arith
+slots-few (d ∷ ds) = omega (arith, slots-one d, slots-few ds)
 
 pub outer-slots-few : (ds : Declarations) → type_slots_of ds ≤ declaration_count ds
 outer-slots-few Declarations.no_more = omega arith
 outer-slots-few (Declarations.declares d rest) = let a = slots-one d in let b = outer-slots-few rest in omega arith
 outer-slots-few (Declarations.component inner rest) = let b = outer-slots-few rest in omega arith
-outer-slots-few (Declarations.instance inner rest) = let b = outer-slots-few rest in omega arith
+outer-slots-few (Declarations.instance inner rest) = omega (arith, outer-slots-few rest)
 
 pub counts-refused : (held slots : ℕ) → slots ≤ held + 1 → fits_counts (held + 1) slots ≡ false → limit ≤ held
 counts-refused held slots few e = search std_rules
@@ -64,9 +64,7 @@ behind-outer r outer d request unfit e = refused-by r (fits_declaration d) (decl
 -- labels that are the same texts
 labels-fit : {T B : Type 0} (R : Bor Text × T → B → Type 0) (label : B → Text) → ((x : Bor Text × T) (y : B) → R x y → x.0.now ≡ label y) → (xs : List (Bor Text × T)) (ys : List B) → AllZip R xs ys
     → fits_labels (map labeled xs) ≡ fits_names (map label ys)
-labels-fit {T} {B} R label same xs ys z =
-    let labels : map (λ (x : Labeled T). x.label) (map labeled xs) ≡ map label ys = labels-same xs ys z in
-    fits-by (map labeled xs) ∙ ap fits_names labels
+labels-fit {T} {B} R label same xs ys z = fits-by (map labeled xs) ∙ ap fits_names (labels-same xs ys z)
   where
     labels-same : (xs : List (Bor Text × T)) (ys : List B) → AllZip R xs ys → map (λ (x : Labeled T). x.label) (map labeled xs) ≡ map label ys
     labels-same [] [] h = refl
@@ -116,7 +114,7 @@ module _ (r : Resolve) (res : Result ℕ Error) (refused : res ≡ Err errors.Si
 
 -- an outer alias fits, and so does an alias around but for its name
 pub alias-inside : (r : Resolve) (ds : List Declaration) (n slot : ℕ) → fits_next ds (Declaration.alias_of (Alias.of_outer 1 slot)) ≡ false → LacksRoomBehind r (length ds) (import_of n)
-alias-inside r ds n slot e = behind r ds (Declaration.alias_of (Alias.of_outer 1 slot)) (import_of n) (λ h. absurd (let z : ⊥ = cc in z)) e
+alias-inside r ds n slot e = behind r ds (Declaration.alias_of (Alias.of_outer 1 slot)) (import_of n) (λ h. absurd cc) e
 
 pub alias-behind : (r : Resolve) (outer : Declarations) (n : ℕ) → (fits_type_name r n && fits_added outer 1) ≡ false → LacksRoomBehind r (declaration_count outer) (import_of n)
 alias-behind r outer n e = refused-by r (fits_type_name r n) (declaration_count outer) (type_slots_of outer + 1) (import_of n) (let a = outer-slots-few outer in omega arith) (λ h. h) e
@@ -146,7 +144,7 @@ pub kept-inside : (outer : Declarations) (inner : Option OpenInterface) (current
 kept-inside outer inner current ds is e = search std_rules
 
 pub kept-outside : (outer outer' : Declarations) (inner : Option OpenInterface) → inner ≡ None → outer' ≡ outer → held_in outer' inner ≤ held_in outer inner
-kept-outside outer outer' inner is e = let same : held_in outer' inner ≡ held_in outer inner = ap (λ (o : Declarations). held_in o inner) e in omega (arith, same)
+kept-outside outer outer' inner is e = omega (arith, ap (λ (o : Declarations). held_in o inner) e)
 
 -- the name of a function
 pub function-named : (name : ExternName) (f : Text × Function) → name.text ≡ f.0 → name.implements ≡ None → name.version_suffix ≡ None → name.external_id ≡ optional_text f.1.external_id
@@ -188,7 +186,7 @@ no-room {r} {r'} {own} {own'} {ts} {fs} {m} {before} {Q} outer inner e none fres
         numbers = p.room.numbers;
         apart = p.room.new.apart;
         met = p.room.met;
-        lacks = elim h [ inl u ↦ inl u | inr l ↦ inr (let x = p.room.held in omega (arith, l, x, none, few)) ];
+        lacks = elim h [ inl u ↦ inl u | inr l ↦ inr (omega (arith, l, p.room.held, none, few)) ];
       })
       | inr full ↦ inr (around full)
     ]
@@ -201,7 +199,7 @@ pub one-appended : (ds : Declarations) (d : Declaration) → declaration_count (
 one-appended Declarations.no_more d = omega arith
 one-appended (Declarations.declares e rest) d = let h = one-appended rest d in omega arith
 one-appended (Declarations.component inner rest) d = let h = one-appended rest d in omega arith
-one-appended (Declarations.instance inner rest) d = let h = one-appended rest d in omega arith
+one-appended (Declarations.instance inner rest) d = omega (arith, one-appended rest d)
 
 pub outer-pushed : (outer outer' : Declarations) (d : Declaration) → outer' ≡ append outer (Declarations.declares d Declarations.no_more) → declaration_count outer' ≤ declaration_count outer + 1
 outer-pushed outer outer' d e = search (std_rules, one-appended)

@@ -26,17 +26,15 @@ shows-inside place outer ds name i s followed simple h =
     let a = inner-at place outer ds followed in
     let f : Text × FunctionMeaning = (name.text, record { signature = s; external_id = name.external_id }) in
     let after : InstanceScope = record { slots = a.scope.slots; shown = record { types = a.scope.shown.types; functions = a.scope.shown.functions ++ f ∷ [] } } in
-    let there : function_in (slice_get a.scope.slots i) ≡ Some s = ap (λ zs. function_in (slice_get zs i)) (sym a.slots) ∙ function-there (inner_contents place outer ds).slots i s h in
     let step : instance_step place (outer_slots outer) a.scope (Declaration.exported name (refs.Func i)) ≡ Some after =
     ap (λ b. follow.when b (show_function name i a.scope)) simple
     ∙ bind (function_in (slice_get a.scope.slots i)) s (λ g. Some (record {
       slots = a.scope.slots;
       shown = record {
         types = a.scope.shown.types;
-        functions =
-            a.scope.shown.functions ++ (name.text, record { signature = g; external_id = name.external_id }) ∷ [];
+        functions = a.scope.shown.functions ++ (name.text, record { signature = g; external_id = name.external_id }) ∷ [];
       };
-    })) there in
+    })) (ap (λ zs. function_in (slice_get zs i)) (sym a.slots) ∙ function-there (inner_contents place outer ds).slots i s h) in
     let next = steps.steps-more place (outer_slots outer) new_instance a.scope after ds (Declaration.exported name (refs.Func i)) a.is step in
     record {
       slots = ap (λ o. option_map_or (λ s. s.slots) o []) next ∙ sym a.slots;

@@ -15,7 +15,7 @@ use Rattle.comp_meaning.specs.Follow.{Slot, ShownType, InstanceScope, is_simple,
 use Rattle.encode_shown.specs.Views.{name_slot, shown_type, types_of}
 use Rattle.encode_types.specs.{Resources.Names, Resources.is_met_owner, Resources.resource_names, Standing.is_slot_of}
 use Rattle.wit_encode.proofs.{Steps.unbind, Steps.unwhen, Naming.one-home, Naming.names-agree, ListedTypes.listed-type, ListedTypes.listed-key}
-use Rattle.base_lemmas.proofs.{Elements.all-contained, Elements.contains-later, Elements.contains-one, Elements.last_of as one-contained, Numbers.same-number}
+use Rattle.base_lemmas.proofs.{Elements.all-contained, Elements.contains-later, Elements.contains-one, Elements.last_of as one-contained, Numbers.same-number, Elements.first-contained}
 use Rattle.comp_meaning.proofs.FollowLemmas.{provided_is as unprovided}
 use Rattle.wit_model.specs.Tree as tree
 use Rattle.wit_model.specs.declared.model.TypeOwner.TheVariants as owner
@@ -55,7 +55,7 @@ module _ (place : Place) where
           (ok, Contains-append_right s.slots (found.1 ∷ []) found.1 (contains-one found.1))
 
   function-more : (s s' : InstanceScope) (name : ExternName) (n : _) → show_function name n s ≡ Some s' → AllNamed s → AllNamed s'
-  function-more s s' name n e all = let f = unbind (function_in (slice_get s.slots n)) _ s' e in subst AllNamed (some-same _ s' f.then) all
+  function-more s s' name n e all = subst AllNamed (some-same _ s' (unbind (function_in (slice_get s.slots n)) _ s' e).then) all
 
   step-named : (outer : List Slot) (s s' : InstanceScope) (d : Declaration) → instance_step place outer s d ≡ Some s' → AllNamed s → AllNamed s'
   step-named outer s s' (Declaration.defined d) e all = let t = unbind (definition s.slots d) _ s' e in subst AllNamed (some-same _ s' t.then) (slot-more s (Slot.value t.item) all)
@@ -63,8 +63,8 @@ module _ (place : Place) where
   step-named outer s s' (Declaration.alias_of (Alias.of_outer scopes n)) e all =
       let slot = unbind (slice_get outer n) _ s' e in
       subst AllNamed (unprovided _ _ s' slot.then) (slot-more s slot.item all)
-  step-named outer s s' (Declaration.alias_of (Alias.of_export m name)) e all = absurd (let z : ⊥ = cc in z)
-  step-named outer s s' (Declaration.imported name described) e all = absurd (let z : ⊥ = cc in z)
+  step-named outer s s' (Declaration.alias_of (Alias.of_export m name)) e all = absurd cc
+  step-named outer s s' (Declaration.imported name described) e all = absurd cc
   step-named outer s s' (Declaration.exported name (refs.Func n)) e all = function-more s s' name n (unwhen (is_simple name) (show_function name n s) s' e) all
   step-named outer s s' (Declaration.exported name (refs.TypeEq n)) e all = type-more s s' name (refs.TypeEq n) (unwhen (is_simple name) (show_type place name (refs.TypeEq n) s) s' e) all
   step-named outer s s' (Declaration.exported name refs.SubResource) e all = type-more s s' name refs.SubResource (unwhen (is_simple name) (show_type place name refs.SubResource s) s' e) all
@@ -87,7 +87,7 @@ module _ (place : Place) where
 
         by : (b : Bool) → resources place name ≡ b → slot ≡ name_slot b place name
         by false q = e
-        by true q = absurd (let z : false ≡ true = sym (ap not q) ∙ kept in cc)
+        by true q = absurd (cc (sym (ap not q) ∙ kept))
     name-slot name slot (inr e) h = e ∙ ap (λ b. name_slot b place name) (sym (ap (is_slot_of resources) (sym e) ∙ h))
 
     pub shown-slots : (outer : List Slot) (ds : List Declaration) (s : InstanceScope) → instance_steps place outer new_instance ds ≡ Some s → list_all (is_slot_of resources) s.slots ≡ true
@@ -102,8 +102,8 @@ module _ (place : Place) where
         → ((t : ShownType) → Contains ts t → t.slot ≡ name_slot (resources place t.name) place t.name)
         → ((e : String Global × TypeId) → Contains es e → resources place (text_of e.0) ≡ is_resource r e.1.0) → ts ≡ map (shown_type r place) es
     types-shown r [] [] same slots are = refl
-    types-shown r [] (t ∷ ts) same slots are = absurd (let z : ⊥ = cc in z)
-    types-shown r (e ∷ es) [] same slots are = absurd (let z : ⊥ = cc in z)
+    types-shown r [] (t ∷ ts) same slots are = absurd cc
+    types-shown r (e ∷ es) [] same slots are = absurd cc
     types-shown r (e ∷ es) (t ∷ ts) same slots are = λ i. first i ∷ types-shown r es ts rest (λ u c. slots u (contains-later t ts u c)) (λ x c. are x (contains-later e es x c)) i
       where
         one : ◌≡◌ {A = Text × TypeMeaning} (t.name, t.meaning) (text_of e.0, type_meaning_at r e.1.0)
@@ -113,10 +113,7 @@ module _ (place : Place) where
         rest = cc
 
         slot : t.slot ≡ name_slot (is_resource r e.1.0) place (text_of e.0)
-        slot = slots t (contains-front t ts) ∙ (ap (λ n. name_slot (resources place n) place n) (ap (λ x. x.0) one) ∙ ap (λ b. name_slot b place (text_of e.0)) (are e (contains-front e es)))
-          where
-            contains-front : {X : Type 0} (x : X) (xs : List X) → Contains (x ∷ xs) x
-            contains-front x xs = Contains-append_left (x ∷ []) xs x (contains-one x)
+        slot = slots t (first-contained t ts) ∙ (ap (λ n. name_slot (resources place n) place n) (ap (λ x. x.0) one) ∙ ap (λ b. name_slot b place (text_of e.0)) (are e (first-contained e es)))
 
         first : t ≡ shown_type r place e
         first = λ i. record { name = (one i).0; meaning = (one i).1; slot = slot i }

@@ -11,6 +11,7 @@ use Rattle.wit_encode.specs.declared.interface.{Foreign.Foreign, OpenInterface.O
 use Rattle.wit_encode.specs.Instance.{around_at, encoder_scope, is_slot_of, is_sound_in, outer_contents, outer_scope, outer_slots, resources_in}
 use Rattle.wit_encode.proofs.{Components.steps-instance, Importing.stands, Importing.wide, Outside.OuterAt, Outside.outer-at}
 use Rattle.base_lemmas.proofs.Bools.{left_of as first_true, right_of as second_true}
+use Rattle.base_lemmas.proofs.Options.{some_is}
 use Rattle.comp_meaning.specs.Follow as follow
 
 -- what is sound, in parts
@@ -53,10 +54,7 @@ unfolding outer_contents
 instance-sound r outer es h =
     let a : OuterAt outer = outer-at outer (first_true (is_some (outer_scope outer)) (list_all (is_slot_of (resources_in r None)) (outer_slots outer)) h) in
     slot-sound r outer (append outer (Declarations.instance (from_list es) Declarations.no_more)) (Slot.instance es (length a.scope.slots)) h refl
-    (λ s e. steps-instance new_scope s outer es e ∙ ap (λ (z : follow.Scope). Some (in_scope (Slot.instance es (length z.slots)) s)) (same s a.scope (sym e ∙ a.is)))
-  where
-    same : (s t : follow.Scope) → Some s ≡ Some t → s ≡ t
-    same s t e = cc
+    (λ s e. steps-instance new_scope s outer es e ∙ ap (λ (z : follow.Scope). Some (in_scope (Slot.instance es (length z.slots)) s)) (some_is s a.scope (sym e ∙ a.is)))
 
 -- behind aliases, and an instance type
 pub closed-sound : {E : Type 0} (res : Result ℕ E) (r : Resolve) (a : Around) (outer outer' : Declarations) (foreign : Foreign) (es : List Declaration) → GrowsAround r a (around_at outer foreign)

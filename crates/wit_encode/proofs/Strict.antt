@@ -27,7 +27,7 @@ pub provided-true : {A : Type 0} (b : Bool) (x : A) → b ≡ true → provided 
 provided-true b x e = ap (λ z. provided z x) e
 
 pub slot-at : (test : Slot → Bool) (slots : List Slot) (i : ℕ) (x : Slot) → list_all test slots ≡ true → slice_get slots i ≡ Some x → test x ≡ true
-slot-at test [] i x h e = absurd (let z : ⊥ = cc in z)
+slot-at test [] i x h e = absurd cc
 slot-at test (y ∷ ys) zero x h e = let s : y ≡ x = cc in ap test (sym s) ∙ first_true (test y) (list_all test ys) h
 slot-at test (y ∷ ys) (suc i) x h e = slot-at test ys i x (second_true (test y) (list_all test ys) h) e
 
@@ -114,8 +114,7 @@ module _ (resources : Names) (slots : List Slot) (sound : list_all (is_slot_of r
       bind (each (case_type slots) (map labeled cases.items)) cs (λ cs. provided (is_filled (map labeled cases.items)) (variant_tree cs)) (cases-strict cases.items cs z values)
       ∙ provided-true (is_filled (map labeled cases.items)) (variant_tree cs)
       (zip-filled (CaseStands (SlotsStand slots)) labeled (λ c. (c.0, is_given c.1)) cases.items cs z
-      (first_true (is_filled (map (λ c. (c.0, is_given c.1)) cs)) (are_values resources (child_list (given (map (λ c. c.1) cs)))) g))
-      ∙ ap Some (sym e)
+      (first_true (is_filled (map (λ c. (c.0, is_given c.1)) cs)) (are_values resources (child_list (given (map (λ c. c.1) cs)))) g)) ∙ ap Some (sym e)
   definition-strict (form.List x) t (u, h, e) f = search (std_rules, bind, value-strict, first_true)
   definition-strict (form.FixedLengthList x n) t (u, h, e) f = search (std_rules, bind, value-strict, first_true, second_true, provided-true)
   definition-strict (form.Map x y) t (a, b, h, k, e) f = search (std_rules, second_true, bind, value-strict, first_true, provided-true)
@@ -143,7 +142,7 @@ module _ (resources : Names) (slots : List Slot) (sound : list_all (is_slot_of r
 
 module _ (slots : List Slot) where
   stands-once : (i : ℕ) (t u : Tree) → SlotsStand slots i (tree t) → SlotsStand slots i (tree u) → t ≡ u
-  stands-once i t u h k = let e : Some (tree t) ≡ Some (tree u) = sym h ∙ k in cc
+  stands-once i t u h k = cc (sym h ∙ k)
 
   part-once : (x : ComponentValType) (t u : Tree) → StandsFor (SlotsStand slots) x t → StandsFor (SlotsStand slots) x u → t ≡ u
   part-once x t u h k = search std_rules

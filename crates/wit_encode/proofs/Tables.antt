@@ -55,7 +55,7 @@ table-imports r own v t n def i is f = subst (λ (s : Scope). IsImportable s i.0
 -- the parts of a type are in range
 pub table-parts : (r : Resolve) → IsValid r → (n : ℕ) (def : TypeDef) → n < length r.types.items → type_at r n ≡ Some def → AllInRange r (parts_of def.kind)
 table-parts r valid n def inside is p c id e =
-    let below : id.0 < n = part-smaller r (valid-layered r valid) n def id is (subst (λ (x : ValueType). Contains (parts_of def.kind) x) e c) in omega arith
+    omega (arith, part-smaller r (valid-layered r valid) n def id is (subst (λ (x : ValueType). Contains (parts_of def.kind) x) e c))
 
 -- what is in range of two lists is in range of both, one after the other
 pub both-in_range : (r : Resolve) (xs ys : List ValueType) → AllInRange r xs → AllInRange r ys → AllInRange r (xs ++ ys)
@@ -69,7 +69,7 @@ more-in_range r ps i p lt is all here =
     (subst (AllInRange r) (sym (map-append (λ q. q.ty) (take i ps) (p ∷ []))) (both-in_range r (map (λ q. q.ty) (take i ps)) (p.ty ∷ []) all (λ t c id e. here id (one-contained p.ty t c ∙ e))))
 
 pub none-in_range : (r : Resolve) → AllInRange r []
-none-in_range r t c = let l = c.1 in absurd (omega arith)
+none-in_range r t c = absurd (omega (arith, c.1))
 
 -- ---- what is well formed
 
@@ -125,4 +125,4 @@ more-defined r ps i p lt is all here =
     (subst (AllDefined r) (sym (map-append (λ q. q.ty) (take i ps) (p ∷ []))) (both-defined r (map (λ q. q.ty) (take i ps)) (p.ty ∷ []) all (λ t c id e. here id (one-contained p.ty t c ∙ e))))
 
 pub none-defined : (r : Resolve) → AllDefined r []
-none-defined r t c = let l = c.1 in absurd (omega arith)
+none-defined r t c = absurd (omega (arith, c.1))

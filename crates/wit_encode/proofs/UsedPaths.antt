@@ -39,8 +39,7 @@ module _ (r : Resolve) (v : IsValid r) (n k : ℕ) where
   unfolding named_kinds
   target-used number def at h =
       let rule = second_true (not (is_named_kind def.kind) || is_some def.name) (passes (is_named_number r) (alias_target def.kind)) (type-passes named_kinds r v.rules.named_kinds number def at) in
-      let named_ = ap (passes (λ (d : TypeDef). is_some d.name)) (sym h.3) ∙ (ap (passes (is_named_number r)) (sym h.2) ∙ rule) in
-      let name = some-of h.1.name named_ in
+      let name = some-of h.1.name (ap (passes (λ (d : TypeDef). is_some d.name)) (sym h.3) ∙ (ap (passes (is_named_number r)) (sym h.2) ∙ rule)) in
       contains-flat (met_by (met_of r)) (kind_numbers def.kind) h.0 h.0 (alias-number def.kind h.0 h.2) (named-meets r (valid-references r v) h.0 h.1 name.0 h.3 name.1)
 
   -- so it isn't of the interface itself
@@ -49,16 +48,13 @@ module _ (r : Resolve) (v : IsValid r) (n k : ℕ) where
   other-owner number def at owned h other all =
       let stays = all-contained (has_owner r def.owner) (used_by_type r def) h.0 all (target-used number def at h) in
       let same : same_owner h.1.owner def.owner ≡ true = ap (λ o. option_map_or (λ (d : TypeDef). same_owner d.owner def.owner) o false) (sym h.3) ∙ stays in
-      let own : owner_interface h.1.owner ≡ Some n = ap owner_interface (same-owner h.1.owner def.owner same ∙ owned) in
-      let number_ : k ≡ n = some-same k n (sym h.4 ∙ own) in
-      let wrong : true ≡ false = sym (same-number n) ∙ ap (λ m. m == n) (sym number_) ∙ other in
-      let z : ⊥ = cc in z
+      cc (sym (same-number n) ∙ ap (λ m. m == n) (sym (some-same k n (sym h.4 ∙ (ap owner_interface (same-owner h.1.owner def.owner same ∙ owned))))) ∙ other)
 
   listed-use : (def : TypeDef) (number : ℕ) (name : String Global) → type_at r number ≡ Some def → def.name ≡ Some name → def.owner ≡ owner.Interface (record { 0 = n }) → used_interface r def ≡ Some k
       → (k == n) ≡ false → is_named_at r k ≡ true
   listed-use def number name at named owned used other =
       or-cases (is_none def.name) (list_all (has_owner r def.owner) (used_by_type r def) || is_use r def) (owner-kept r v number def at)
-      (λ none. let wrong : false ≡ true = ap is_none (sym named) ∙ none in let z : ⊥ = cc in absurd z)
+      (λ none. cc (ap is_none (sym named) ∙ none))
       (λ rest. or-cases (list_all (has_owner r def.owner) (used_by_type r def)) (is_use r def) rest (λ all. absurd (other-owner number def at owned (target-of def used) other all))
       (λ is. of-used def used is))
 

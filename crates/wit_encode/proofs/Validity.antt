@@ -1,5 +1,5 @@
 -- What a valid `Resolve` gives for encoding.
-use Rattle.std.proofs.Common.{rules as std_rules, ◌≡◌, refl, sym, subst, ap, ◌∙◌, ℕ, zero, suc, ◌+◌, ◌<◌, ◌⊎◌, inl, inr, Bool, true, false, cond, not, ◌&&◌, ◌||◌, T, ltb→lt, List, [], ◌∷◌, length, flat_map, slice_get, unwrap_or, Option, Some, None, String, arith, ◌++◌, map, option_map, option_to_list}
+use Rattle.std.proofs.Common.{rules as std_rules, ◌≡◌, refl, sym, subst, ap, ◌∙◌, ℕ, ◌+◌, ◌<◌, ◌⊎◌, inl, inr, Bool, true, false, cond, not, ◌&&◌, ◌||◌, T, ltb→lt, List, [], ◌∷◌, length, unwrap_or, Option, Some, None, String, arith, ◌++◌, map, option_map, option_to_list}
 use Rattle.std.proofs.lemmas.{Bool.or_left as or-first, Bool.or_right as or-second, Bool.lt-ltb, List.Folds.list_all-append, Option.slice_get_within}
 use Rattle.std.proofs.lemmas.List.Elements.{Contains-append_left, Contains-append_right}
 use Rattle.std.specs.declared.alloc.Global.{Global}
@@ -12,7 +12,7 @@ use Rattle.wit_model.specs.Types.{type_tree, number_tree, no_tree, trees_of, tre
 use Rattle.wit_model.specs.Meaning.{Signature}
 use Rattle.wit_model.specs.declared.model.{Resolve.Resolve, Param.Param, TypeDef.TypeDef, TypeOwner.TypeOwner, TypeId.TypeId}
 use Rattle.wit_model.specs.declared.model.{InterfaceId.InterfaceId, «Type».«Type» as ValueType, TypeDefKind.TypeDefKind}
-use Rattle.wit_model.proofs.{Entries.each_from_at, Entries.lists_pass, Resources.resource_step, PartsLemmas.owner_same as same-owner, ValidLemmas.type_passes}
+use Rattle.wit_model.proofs.{Entries.each_from_at, Entries.lists_pass, Resources.resource_step, PartsLemmas.owner_same as same-owner, ValidLemmas.type_passes, Elements.contains-flat}
 use Rattle.wit_model.proofs.{TreeTable.kept_numbers, TreeTable.kept_trees_at, OnePath.found-in}
 use Rattle.encode_types.specs.Plan.{IsLayered, InRange, AllInRange, Reaches, itself, foreign_owner}
 use Rattle.encode_types.specs.Scope.{IsImportable, Scope}
@@ -26,7 +26,7 @@ use Rattle.wit_encode.proofs.Forming.{Agree, kind-formed, kind-alike, values-of,
 use Rattle.wit_encode.proofs.ImportsStand.{below-there as below-contains}
 use Rattle.encode_shown.proofs.Basics.{valid-references}
 use Rattle.base_lemmas.proofs.{Bools.left_of as first_true, Bools.not_or as unnamed-of, Bools.right_of as second_true, Options.nameless}
-use Rattle.base_lemmas.proofs.Elements.{contains-one}
+use Rattle.base_lemmas.proofs.Elements.{contains-one, get-contains}
 use Rattle.wit_model.specs.declared.model.TypeOwner.TheVariants as owner
 use Rattle.wit_model.specs.declared.model.«Type».TheVariants as ty
 
@@ -91,11 +91,6 @@ valid-ownerless r v n def is none = search (std_rules, second_true, each_from_at
 pub foreign-interface : (own : Option InterfaceId) (a : TypeOwner) (i : InterfaceId) → foreign_owner own a ≡ Some i → a ≡ owner.Interface i
 foreign-interface own x i e = search std_rules
 
-contains-flat_map : {X Y : Type 0} (f : X → List Y) (xs : List X) (n : ℕ) (x : X) (y : Y) → slice_get xs n ≡ Some x → Contains (f x) y → Contains (flat_map f xs) y
-contains-flat_map f [] n x y e c = let wrong : ⊥ = cc in absurd wrong
-contains-flat_map f (z ∷ xs) zero x y e c = Contains-append_left (f z) (flat_map f xs) y (subst (λ w. Contains (f w) y) (sym (ap (λ o. unwrap_or o z) e)) c)
-contains-flat_map f (z ∷ xs) (suc n) x y e c = Contains-append_right (f z) (flat_map f xs) y (contains-flat_map f xs n x y e c)
-
 pub same-back : (a b : TypeOwner) → same_owner a b ≡ true → same_owner b a ≡ true
 same-back a b e = let q = same-owner a b e in subst (λ (x : TypeOwner). same_owner b x ≡ true) (sym q) (subst (λ (x : TypeOwner). same_owner x b ≡ true) q e)
 
@@ -119,8 +114,7 @@ OwnersMet r met ts = (t : ValueType) → Contains ts t → (id : TypeId) → t �
 pub parts-in_range : (r : Resolve) → IsValid r → (n : ℕ) (def : TypeDef) → type_at r n ≡ Some def → AllInRange r (parts_of def.kind)
 parts-in_range r v n def is t c id e =
     let below : id.0 < n = part-smaller r (valid-layered r v) n def id is (subst (λ (x : ValueType). Contains (parts_of def.kind) x) e c) in
-    let within : n < length r.types.items = slice_get_within r.types.items n def is in
-    omega arith
+    omega (arith, slice_get_within r.types.items n def is)
 
 module _ (r : Resolve) (v : IsValid r) (names : Names) (met : TypeOwner → Bool) (agree : NamesAgree r names met) where
   number-agrees : (n : ℕ) (def : TypeDef) → type_at r n ≡ Some def → (is_some def.name ≡ true → met def.owner ≡ true) → is_resource_tree names (number_tree r n) ≡ is_resource r n
@@ -167,7 +161,7 @@ module _ (r : Resolve) (v : IsValid r) (o : TypeOwner) where
       owned = foreign-interface (interface_of_owner o) def.owner i f
 
       go : (name : Option (String Global)) → def.name ≡ name → IsImportable (table_scope r o) i.0 n
-      go None e = let wrong = ap (λ a. same_owner a owner.None) (sym owned) ∙ valid-ownerless r v n def is e in let z : ⊥ = cc in absurd z
+      go None e = let wrong = ap (λ a. same_owner a owner.None) (sym owned) ∙ valid-ownerless r v n def is e in absurd cc
       go (Some name) e = record {
         def = def;
         name = name;
@@ -179,7 +173,7 @@ module _ (r : Resolve) (v : IsValid r) (o : TypeOwner) where
 
   pub declared-there : (n : ℕ) (def : TypeDef) → type_at r n ≡ Some def → (name : String Global) → def.name ≡ Some name → same_owner def.owner o ≡ true
       → Contains (table_scope r o).declarations (text_of name, type_meaning r def)
-  declared-there n def is name e s = contains-flat_map (declaration_in r o) r.types.items n def (text_of name, type_meaning r def) is
+  declared-there n def is name e s = contains-flat (declaration_in r o) r.types.items def (text_of name, type_meaning r def) (get-contains r.types.items n def is)
       (subst (λ (b : Bool). Contains (cond b (named_declaration r def.name def) []) (text_of name, type_meaning r def)) (sym (same-back def.owner o s))
       (subst (λ (x : Option (String Global)). Contains (named_declaration r x def) (text_of name, type_meaning r def)) (sym e) (contains-one (text_of name, type_meaning r def))))
 
@@ -213,4 +207,4 @@ module _ (r : Resolve) (v : IsValid r) (o : TypeOwner) where
       either-owner : (a b c : Bool) → (a || (b && c)) ≡ true → (a ≡ true) ⊎ (c ≡ true)
       either-owner true b c h = inl refl
       either-owner false true c h = inr h
-      either-owner false false c h = let wrong : ⊥ = cc in absurd wrong
+      either-owner false false c h = absurd cc

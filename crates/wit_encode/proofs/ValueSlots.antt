@@ -44,11 +44,8 @@ slots-counted test n [] = refl
 slots-counted test n (d ∷ ds) =
     let more = slots-counted test (n + declaration_slots d) ds in
     let both = length-append (cond (test d) (n ∷ []) []) (slots_from test (n + declaration_slots d) (from_list ds)) in
-    let here = one-long (test d) n in
-    let one : count_by test (d ∷ []) ≡ count_by test [] + cond (test d) 1 0 = count-push test [] d in
     let none : count_by test [] ≡ 0 = refl in
-    let all : count_by test (d ∷ ds) ≡ count_by test (d ∷ []) + count_by test ds = sum_by-append (λ x. cond (test x) 1 0) (d ∷ []) ds in
-    omega (arith, more, both, here, one, none, all)
+    omega (arith, more, both, one-long (test d) n, count-push test [] d, none, sum_by-append (λ x. cond (test x) 1 0) (d ∷ []) ds)
 
 pub slots-declared : (test : Declaration → Bool) (n : ℕ) (ds : Declarations) → length (slots_from test n ds) ≡ count_declared test ds
 slots-declared test n Declarations.no_more = refl
@@ -86,7 +83,7 @@ targets-kept ds d e = targets-push ds d ∙ ap (λ (o : Option ℕ). targets_of 
 
 pub list-slots : (ds : List Declaration) → 0 + type_slots_of (from_list ds) ≡ type_slots ds
 list-slots [] = refl
-list-slots (d ∷ ds) = let more = list-slots ds in omega arith
+list-slots (d ∷ ds) = omega (arith, list-slots ds)
 
 pub slots-more : (test : Declaration → Bool) (ds : List Declaration) (d : Declaration)
     → slots_from test 0 (from_list (ds ++ d ∷ [])) ≡ slots_from test 0 (from_list ds) ++ cond (test d) (type_slots ds ∷ []) []
@@ -140,7 +137,7 @@ is_name (named place name) = true
 is_name (node form ts) = false
 
 plain-from : (t : Tree) → is_name t ≡ false → IsPlain t
-plain-from t e place name h = let q : true ≡ false = sym (ap is_name h) ∙ e in absurd (let z : ⊥ = cc in z)
+plain-from t e place name h = cc (sym (ap is_name h) ∙ e)
 
 abbrev are_plain : Option Tree → Type 0
 are_plain o = option_map_or is_name o false ≡ false
@@ -166,7 +163,7 @@ abbrev Front : List Slot → List Slot → Type 0
 Front xs ys = (more : List Slot) × (ys ≡ xs ++ more)
 
 get-front : (xs more : List Slot) (i : ℕ) (x : Slot) → slice_get xs i ≡ Some x → slice_get (xs ++ more) i ≡ Some x
-get-front [] more i x e = absurd (let z : ⊥ = cc in z)
+get-front [] more i x e = absurd cc
 get-front (y ∷ xs) more zero x e = e
 get-front (y ∷ xs) more (suc i) x e = get-front xs more i x e
 
@@ -244,21 +241,21 @@ outer-front : (s s' : Scope) (d : Declaration) → component_step s d ≡ Some s
 outer-front s s' (Declaration.defined q) e = let b = unbind (definition s.slots q) _ s' e in one-front s.slots s'.slots (Slot.value b.item) (ap (λ (z : Scope). z.slots) (some-same _ s' b.then))
 outer-front s s' (Declaration.function q) e = search std_rules
 outer-front s s' (Declaration.alias_of (Alias.of_export m name)) e = search std_rules
-outer-front s s' (Declaration.alias_of (Alias.of_outer scopes n)) e = absurd (let z : ⊥ = cc in z)
+outer-front s s' (Declaration.alias_of (Alias.of_outer scopes n)) e = absurd cc
 outer-front s s' (Declaration.imported name (refs.Instance n)) e = instance-front import_ name n s s' e
 outer-front s s' (Declaration.imported name (refs.Func n)) e = function-front import_ name n s s' e
 outer-front s s' (Declaration.imported name (refs.TypeEq n)) e = type-front name (refs.TypeEq n) s s' e
 outer-front s s' (Declaration.imported name refs.SubResource) e = type-front name refs.SubResource s s' e
 outer-front s s' (Declaration.exported name (refs.Instance n)) e = instance-front export_ name n s s' e
 outer-front s s' (Declaration.exported name (refs.Func n)) e = function-front export_ name n s s' e
-outer-front s s' _ e = absurd (let z : ⊥ = cc in z)
+outer-front s s' _ e = absurd cc
 
 outer-fronts : (s s' : Scope) (ds : Declarations) → component_steps s ds ≡ Some s' → Front s.slots s'.slots
 outer-fronts s s' Declarations.no_more e = same-front s.slots s'.slots (ap (λ (z : Scope). z.slots) (some-same s s' e))
 outer-fronts s s' (Declarations.declares d rest) e =
     let b = unbind (component_step s d) _ s' e in
     then-front s.slots b.item.slots s'.slots (outer-front s b.item d b.is) (outer-fronts b.item s' rest b.then)
-outer-fronts s s' (Declarations.component inner rest) e = absurd (let z : ⊥ = cc in z)
+outer-fronts s s' (Declarations.component inner rest) e = absurd cc
 outer-fronts s s' (Declarations.instance inner rest) e =
     let b = unbind (flat inner) _ s' e in
     let x = Slot.instance b.item (length s.slots) in
@@ -286,9 +283,8 @@ outer-values s s' (Declarations.declares d rest) i e c =
       | inl here ↦ holds-front b.item.slots s'.slots i (outer-fronts b.item s' rest b.then) (outer-new s b.item d i b.is here)
       | inr more ↦ outer-values b.item s' rest i b.then (subst (λ (n : ℕ). Contains (slots_from is_value_type n rest) i) (sym count) more)
     ]
-outer-values s s' (Declarations.component inner rest) i e c = absurd (let z : ⊥ = cc in z)
+outer-values s s' (Declarations.component inner rest) i e c = absurd cc
 outer-values s s' (Declarations.instance inner rest) i e c =
     let b = unbind (flat inner) _ s' e in
     let x = Slot.instance b.item (length s.slots) in
-    let count : length (in_scope x s).slots ≡ length s.slots + 1 = length-append s.slots (x ∷ []) in
-    outer-values (in_scope x s) s' rest i b.then (subst (λ (n : ℕ). Contains (slots_from is_value_type n rest) i) (sym count) c)
+    outer-values (in_scope x s) s' rest i b.then (subst (λ (n : ℕ). Contains (slots_from is_value_type n rest) i) (sym (length-append s.slots (x ∷ []))) c)

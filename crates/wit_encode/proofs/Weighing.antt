@@ -6,7 +6,7 @@ use Rattle.std.proofs.lemmas.List.{Elements.Contains-append_left, Elements.Conta
 use Rattle.std.specs.{Prelude.sum_by, Prelude.AllPairs, Prelude.if◌then◌else◌, List.Contains, List.list_all, Option.option_map_or}
 use Rattle.std.specs.declared.alloc.Global.{Global}
 use Rattle.indexmap.specs.IndexMap.{values}
-use Rattle.wit_model.specs.{Text.Text, Text.text_of, Text.optional_text, Text.text_eq, Tree.Tree, Tree.is_given, Tree.children, Tree.child_list}
+use Rattle.wit_model.specs.{Text.Text, Text.text_of, Text.optional_text, Text.text_eq, Tree.Tree, Tree.is_given, Tree.children, Tree.child_list, Tree.Place}
 use Rattle.wit_model.specs.{Lookup.type_at, Lookup.interface_at, Lookup.place_of, Parts.same_owner, Parts.kind_numbers}
 use Rattle.wit_model.specs.{Types.trees_of, Types.tree_of, Types.number_tree, Types.declared_by, Types.tree_of_declaration, Uses.once, Uses.alias_target}
 use Rattle.wit_model.specs.{Meant.signature_of, Valid.IsValid, Valid.as_interface, Valid.functions_of_interface, Valid.named_kinds, Valid.function_names}
@@ -20,11 +20,12 @@ use Rattle.encode_types.specs.Room.{Request, IsUnfit, LacksPart, its_definition,
 use Rattle.encode_types.specs.{Plan.foreign_owner, Table.interface_of_owner, MetKinds.ReachedFrom, MetKinds.referred, Distinct.are_same, Distinct.key_of}
 use Rattle.wit_encode.specs.{Order.is_function_of, Order.by_resource, Order.functions_in_order, Encoders.InterfaceLacksRoom, RoomLaws.LackingInterfacesAreHeavy}
 use Rattle.wit_encode.proofs.{Validity.valid-layered, Mapped.contains-filter, Mapped.from-filter}
-use Rattle.wit_encode.proofs.Reached.{from-flat, part-at, IsOwner, IsCounted, Stays, met-counted, counted-in, named-own, all-numbers, interface-owner}
+use Rattle.wit_encode.proofs.Reached.{part-at, IsOwner, IsCounted, Stays, met-counted, counted-in, named-own, all-numbers, interface-owner}
 use Rattle.encode_types.proofs.{Encoding.tabled, Lists.none-in, Rooms.are-different, Rooms.counts-few, Pairs.pairs-head, Pairs.pairs-tail}
 use Rattle.base_lemmas.proofs.{Bools.left_of as first_true, Bools.right_of as second_true, Lists.map_of_map as map-twice, Numbers.equal, Numbers.same-number}
 use Rattle.base_lemmas.proofs.Elements.{all-contained, contains-later, contains-map, contains-one, map_from as from-map}
 use Rattle.wit_model.proofs.{OnePath.interface-passes as interface_passes, TreeLemmas.child_list_of_children as listed, ValidLemmas.type_passes}
+use Rattle.encode_shown.proofs.Used.{contains-flat-from as from-flat}
 use Rattle.wit_model.specs.declared.model.TypeDefKind.TheVariants as kind
 use Rattle.wit_model.specs.declared.model.«Type».TheVariants as ty
 use Rattle.wit_model.specs.declared.model.Handle.TheVariants as handle
@@ -35,33 +36,28 @@ use Rattle.wit_model.specs.declared.model.TypeOwner.TheVariants as owner
 abbrev pub named-unit : Text → ℕ
 named-unit t = unit_of (t ∷ [])
 
-one-text : (t : Text) → named-unit t ≡ 64 + length t
-one-text t = ap (λ n. 64 + n) (sum_by-cons length t [] ∙ (let z : length t + 0 ≡ length t = omega arith in z))
-
 next-text : (t : Text) (ts : List Text) → sum_by named-unit (t ∷ ts) ≡ (64 + length t) + sum_by named-unit ts
-next-text t ts = sum_by-cons named-unit t ts ∙ ap (λ n. n + sum_by named-unit ts) (one-text t)
+next-text t ts = omega (arith, sum_by-cons named-unit t ts, sum_by-cons length t [])
 
 -- what doesn't fit is larger than the limit
 pub over : (total : ℕ) (fits : Bool) → (total ≤ limit → fits ≡ true) → fits ≡ false → limit < total
 over total fits h e = search std_rules
 
 pub fits-text : {A : Type 0} (t : List A) → length t ≤ limit → fits_length t ≡ true
-fits-text t h = let less : length t < 2 ^ 32 = omega arith in lt-ltb (length t) (2 ^ 32) less
+fits-text t h = lt-ltb (length t) (2 ^ 32) (omega arith)
 
 each-fits : (ts : List Text) → sum_by named-unit ts ≤ limit → list_all fits_length ts ≡ true
 each-fits [] h = refl
 each-fits (t ∷ ts) h =
     let next = next-text t ts in
-    let here : length t ≤ limit = omega arith in
-    let rest : sum_by named-unit ts ≤ limit = omega arith in
-    both-true _ _ (fits-text t here) (each-fits ts rest)
+    both-true _ _ (fits-text t (omega arith)) (each-fits ts (omega arith))
 
-as-many : (ts : List Text) → 64 * length ts ≤ sum_by named-unit ts
+pub as-many : (ts : List Text) → 64 * length ts ≤ sum_by named-unit ts
 as-many [] = omega arith
-as-many (t ∷ ts) = let h = as-many ts in let next = next-text t ts in omega arith
+as-many (t ∷ ts) = omega (arith, as-many ts, next-text t ts)
 
 names-fit : (ts : List Text) → sum_by named-unit ts ≤ limit → fits_names ts ≡ true
-names-fit ts h = let many = as-many ts in let few : length ts ≤ limit = omega arith in both-true _ _ (fits-text ts few) (each-fits ts h)
+names-fit ts h = let many = as-many ts in both-true _ _ (fits-text ts (omega arith)) (each-fits ts h)
 
 names-heavy : (ts : List Text) → fits_names ts ≡ false → limit < sum_by named-unit ts
 names-heavy ts e = over (sum_by named-unit ts) (fits_names ts) (names-fit ts) e
@@ -76,7 +72,7 @@ export-fits text id h = both-true _ _ (fits-text text (omega arith)) (given-fits
 
 -- ---- definitions that don't fit are heavy
 
-abbrev members-weight : TypeDefKind → ℕ
+abbrev pub members-weight : TypeDefKind → ℕ
 members-weight k = sum_by named-unit (members_of k)
 
 heavy : (ts : List Tree) (k : TypeDefKind) → ((t : ValueType) → k ≡ kind.Type_ t → fits_tree (tree_of ts t) ≡ true) → fits_tree (tree_of_declaration (declared_by ts k)) ≡ false
@@ -90,29 +86,33 @@ heavy ts (kind.Flags x) alias e = names-heavy (map (λ f. text_of f.name) x.flag
 heavy ts (kind.Enum x) alias e = names-heavy (map (λ c. text_of c.name) x.cases.items) e
 heavy ts (kind.Tuple x) alias e = over (members-weight (kind.Tuple x)) _
     (λ low. fits-text (child_list (children (map (tree_of ts) x.types.items))) (let many = as-many (members_of (kind.Tuple x)) in
-    let is : length (child_list (children (map (tree_of ts) x.types.items))) ≡ length (map (tree_of ts) x.types.items) = ap length (listed (map (tree_of ts) x.types.items)) in
-    let a = length-map x.types.items (tree_of ts) in let b : length (members_of (kind.Tuple x)) ≡ length x.types.items = length-map x.types.items (λ t. []) in omega arith)) e
-heavy ts (kind.Handle (handle.Own id)) alias e = absurd (let z : ⊥ = cc in z)
-heavy ts (kind.Type_ t) alias e = let h = alias t refl in absurd (let z : ⊥ = cc in z)
-heavy ts _ alias e = absurd (let z : ⊥ = cc in z)
+    let b : length (members_of (kind.Tuple x)) ≡ length x.types.items = length-map x.types.items (λ t. []) in
+    omega (arith, ap length (listed (map (tree_of ts) x.types.items)), length-map x.types.items (tree_of ts), b))) e
+heavy ts (kind.Handle (handle.Own id)) alias e = absurd cc
+heavy ts (kind.Type_ t) alias e = let h = alias t refl in absurd cc
+heavy ts _ alias e = absurd cc
 
-module _ (r : Resolve) (v : IsValid r) where
-  -- what another name stands for is a primitive or a name
-  fits-number : (m : ℕ) (d : TypeDef) → type_at r m ≡ Some d → is_some d.name ≡ true → fits_tree (number_tree r m) ≡ true
-  fits-number m d at named = ap fits_tree (tabled r (valid-layered r v) m d at) ∙ go d.name named
+-- what another name stands for is a primitive or a name: what holds of each name holds of it
+module _ (r : Resolve) (v : IsValid r) {A : Type 0} (f : Tree → A) (x : A) (of_name : (p : Place) (name : Text) → f (Rattle.wit_model.specs.Tree.named p name) ≡ x) where
+  number-is : (m : ℕ) (d : TypeDef) → type_at r m ≡ Some d → is_some d.name ≡ true → f (number_tree r m) ≡ x
+  number-is m d at named = ap f (tabled r (valid-layered r v) m d at) ∙ go d.name named
     where
       go : (name : Option (String Global)) → is_some name ≡ true
-          → fits_tree (option_map_or (λ name. Rattle.wit_model.specs.Tree.named (place_of r d.owner) (text_of name)) name (tree_of_declaration (declared_by (trees_of r) d.kind))) ≡ true
-      go None e = absurd (let z : ⊥ = cc in z)
-      go (Some name) e = refl
+          → f (option_map_or (λ name. Rattle.wit_model.specs.Tree.named (place_of r d.owner) (text_of name)) name (tree_of_declaration (declared_by (trees_of r) d.kind))) ≡ x
+      go None e = absurd cc
+      go (Some name) e = of_name (place_of r d.owner) (text_of name)
 
-  alias-fits : (n : ℕ) (def : TypeDef) → type_at r n ≡ Some def → (t : ValueType) → def.kind ≡ kind.Type_ t → fits_tree (tree_of (trees_of r) t) ≡ true
+  pub alias-is : (n : ℕ) (def : TypeDef) → type_at r n ≡ Some def → (id : TypeId) → def.kind ≡ kind.Type_ (ty.Id id) → f (number_tree r id.0) ≡ x
   unfolding named_kinds
-  alias-fits n def at (ty.Id id) e =
+  alias-is n def at id e =
       let rule = second_true (not (is_named_kind def.kind) || is_some def.name) (passes (is_named_number r) (alias_target def.kind)) (type_passes named_kinds r v.rules.named_kinds n def at) in
       let target : is_named_number r id.0 ≡ true = ap (λ k. passes (is_named_number r) (alias_target k)) (sym e) ∙ rule in
       let part = part-at r v n def at id.0 (subst (λ (k : TypeDefKind). Contains (kind_numbers k) id.0) (sym e) (contains-one id.0)) in
-      fits-number id.0 part.0 part.1 (ap (passes (λ (d : TypeDef). is_some d.name)) (sym part.1) ∙ target)
+      number-is id.0 part.0 part.1 (ap (passes (λ (d : TypeDef). is_some d.name)) (sym part.1) ∙ target)
+
+module _ (r : Resolve) (v : IsValid r) where
+  alias-fits : (n : ℕ) (def : TypeDef) → type_at r n ≡ Some def → (t : ValueType) → def.kind ≡ kind.Type_ t → fits_tree (tree_of (trees_of r) t) ≡ true
+  alias-fits n def at (ty.Id id) e = alias-is r v fits_tree true (λ p name. refl) n def at id e
   alias-fits n def at _ e = refl
 
   kind-heavy : (n : ℕ) (def : TypeDef) → type_at r n ≡ Some def → fits_tree (kind_tree r def.kind) ≡ false → limit < members-weight def.kind
@@ -134,11 +134,7 @@ sum-among g (x ∷ xs) ys apart among =
     let s = split ys x (among x (0, omega arith, refl)) in
     let rest = sum-among g xs (s.0 ++ s.1) (pairs-tail Differ x xs apart)
     (λ n c. without s.0 s.1 n (pairs-head Differ x xs n apart c) (subst (λ (zs : List ℕ). Contains zs n) s.2 (among n (contains-later x xs n c)))) in
-    let whole = ap (sum_by g) s.2 ∙ sum_by-append g s.0 (x ∷ s.1) in
-    let parts = sum_by-append g s.0 s.1 in
-    let first = sum_by-cons g x xs in
-    let other = sum_by-cons g x s.1 in
-    omega (arith, rest, whole, parts, first, other)
+    omega (arith, rest, ap (sum_by g) s.2 ∙ sum_by-append g s.0 (x ∷ s.1), sum_by-append g s.0 s.1, sum_by-cons g x xs, sum_by-cons g x s.1)
   where
     without : (xs ys : List ℕ) (n : ℕ) → Differ x n → Contains (xs ++ x ∷ ys) n → Contains (xs ++ ys) n
     without front back n d c = elim (Contains-append_cases front (x ∷ back) n c) [
@@ -147,7 +143,7 @@ sum-among g (x ∷ xs) ys apart among =
     ]
       where
         behind : (n : ℕ) → Differ x n → (zs : List ℕ) → Contains (x ∷ zs) n → Contains zs n
-        behind n d zs (zero, l, e) = let same : nat_eq x n ≡ true = subst (λ (m : ℕ). nat_eq x m ≡ true) e (same-number x) in absurd (let z : ⊥ = cc in z)
+        behind n d zs (zero, l, e) = let same : nat_eq x n ≡ true = subst (λ (m : ℕ). nat_eq x m ≡ true) e (same-number x) in absurd cc
         behind n d zs (suc i, l, e) = (i, omega (arith, l), e)
 
 pub contains-once : (ns : List ℕ) (n : ℕ) → Contains ns n → Contains (once ns) n
@@ -161,10 +157,7 @@ contains-once (m ∷ ns) n (suc i, l, e) = go (n == m) refl (contains-once ns n 
 
 pub at-least : {X : Type 0} (g : X → ℕ) (xs : List X) → ((x : X) → Contains xs x → 64 ≤ g x) → 64 * length xs ≤ sum_by g xs
 at-least g [] h = omega arith
-at-least g (x ∷ xs) h =
-    let rest = at-least g xs (λ y c. h y (later y c)) in
-    let here = h x (0, omega arith, refl) in
-    let next = sum_by-cons g x xs in omega arith
+at-least g (x ∷ xs) h = omega (arith, at-least g xs (λ y c. h y (later y c)), h x (0, omega arith, refl), sum_by-cons g x xs)
   where
     later : (y : _) → Contains xs y → Contains (x ∷ xs) y
     later y (i, l, e) = (suc i, omega (arith, l), e)
@@ -185,8 +178,7 @@ ordered-sum [] fs = refl
 ordered-sum (t ∷ ts) fs =
     let both = sum_by-append keyed-weight (filter (is_function_of t) fs) (by_resource ts (filter (λ f. not (is_function_of t f)) fs)) in
     let rest = ordered-sum ts (filter (λ f. not (is_function_of t f)) fs) in
-    let whole = sum_by-filter_both (is_function_of t) (λ f. not (is_function_of t f)) (λ f. refl) keyed-weight fs in
-    omega (arith, both, rest, whole)
+    omega (arith, both, rest, sum_by-filter_both (is_function_of t) (λ f. not (is_function_of t f)) (λ f. refl) keyed-weight fs)
 
 ordered-among : (ts : List TypeId) (fs : List Named) (f : Named) → Contains (by_resource ts fs) f → Contains fs f
 ordered-among [] fs f c = c
@@ -213,8 +205,7 @@ pub type-heavy : (r : Resolve) (f : Function) → fits_request r (function_type 
 type-heavy r f e =
     let names = names-heavy (map (λ p. text_of p.name) f.params.items) (ap fits_names
     (sym (map-twice (λ (p : Text × Tree). p.0) (λ p. (text_of p.name, tree_of (trees_of r) p.ty)) f.params.items)) ∙ e) in
-    let same = params-sum f.params.items in
-    omega (arith, names, same)
+    omega (arith, names, params-sum f.params.items)
 
 name-heavy : (f : Function) → fits_name (function_name (text_of f.name, f)) ≡ false → limit < function_weight f
 name-heavy f e = search std_rules
@@ -250,23 +241,19 @@ module _ (r : Resolve) (v : IsValid r) (o : TypeOwner) (ns : List ℕ) (all : Li
   counted-least n m =
       let c = (counted n m).0 in
       let at = ap (λ t. option_map_or (λ d. if is_brought r o n then unit_of (name_texts d) else definition_weight d) t 0) c.own_there in
-      let low : (b : Bool) → 64 ≤ (if b then unit_of (name_texts c.own_def) else definition_weight c.own_def) = (λ b. heavy-either b c.own_def) in
-      let here = low (is_brought r o n) in
-      omega (arith, at, here)
+      omega (arith, at, heavy-either (is_brought r o n) c.own_def)
     where
       heavy-either : (b : Bool) (d : TypeDef) → 64 ≤ (if b then unit_of (name_texts d) else definition_weight d)
       heavy-either true d = omega arith
       heavy-either false d = omega arith
 
   pub part-heavy-of : (n : ℕ) (d : TypeDef) → MetBy n → type_at r n ≡ Some d → LacksPart r (interface_of_owner o) (IsUnfit r) n d → limit < weighs n
-  part-heavy-of n d m at (its_definition f u) = let w = own-weight n d m at f in let h = kind-heavy r v n d at u in omega (arith, w, h)
+  part-heavy-of n d m at (its_definition f u) = omega (arith, own-weight n d m at f, kind-heavy r v n d at u)
   part-heavy-of n d m at (its_name f name is u) =
-      let w = own-weight n d m at f in
       let long = over (length (text_of name) + sum_by length (option_to_list (optional_text d.external_id))) _ (export-fits (text_of name) (optional_text d.external_id)) u in
-      let texts = sum_by-append length (name_texts d) (option_to_list (optional_text d.external_id)) in
       let first : sum_by length (name_texts d) ≡ length (text_of name) = ap (λ x. sum_by length (option_to_list (optional_text x))) is
       ∙ (sum_by-cons length (text_of name) [] ∙ (let z : length (text_of name) + 0 ≡ length (text_of name) = omega arith in z)) in
-      omega (arith, w, long, texts, first)
+      omega (arith, own-weight n d m at f, long, sum_by-append length (name_texts d) (option_to_list (optional_text d.external_id)), first)
   part-heavy-of n d m at (its_import j f u) = long-name d.name refl (sym (ap (λ (o : Option TypeDef). option_map_or (λ x. fits_given (optional_text x.name)) o true) at) ∙ u)
     where
       weighs-is : weighs n ≡ (if is_brought r o n then unit_of (name_texts d) else definition_weight d)
@@ -274,17 +261,15 @@ module _ (r : Resolve) (v : IsValid r) (o : TypeOwner) (ns : List ℕ) (all : Li
 
       either : (b : Bool) → sum_by length (name_texts d) ≤ (if b then unit_of (name_texts d) else definition_weight d)
       either true = omega arith
-      either false = let parts = sum_by-append length (name_texts d) (option_to_list (optional_text d.external_id)) in omega (arith, parts)
+      either false = omega (arith, sum_by-append length (name_texts d) (option_to_list (optional_text d.external_id)))
 
       long-name : (name : Option (String Global)) → d.name ≡ name → fits_given (optional_text d.name) ≡ false → limit < weighs n
-      long-name None is e = let none : fits_given (optional_text d.name) ≡ true = ap (λ x. fits_given (optional_text x)) is in absurd (let z : ⊥ = cc in z)
+      long-name None is e = let none : fits_given (optional_text d.name) ≡ true = ap (λ x. fits_given (optional_text x)) is in absurd cc
       long-name (Some name) is e =
           let long = over (length (text_of name)) (fits_length (text_of name)) (fits-text (text_of name)) (sym (ap (λ x. fits_given (optional_text x)) is) ∙ e) in
           let first : sum_by length (name_texts d) ≡ length (text_of name) = ap (λ x. sum_by length (option_to_list (optional_text x))) is
           ∙ (sum_by-cons length (text_of name) [] ∙ (let z : length (text_of name) + 0 ≡ length (text_of name) = omega arith in z)) in
-          let some = either (is_brought r o n) in
-          let w = weighs-is in
-          omega (arith, w, long, some, first)
+          omega (arith, weighs-is, long, either (is_brought r o n), first)
 
 module _ (r : Resolve) (v : IsValid r) (i : InterfaceId) (def : Interface) (home : interface_at r i.0 ≡ Some def) where
   abbrev o : TypeOwner
@@ -324,7 +309,7 @@ module _ (r : Resolve) (v : IsValid r) (i : InterfaceId) (def : Interface) (home
   weight-is = ap (λ t. option_map_or (λ x. instance_weight r i.0 x (functions_of_interface x)) t 0) home
 
   function-within : (f : Named) → Contains fs f → function_weight f.1 ≤ whole_instance_weight r i.0
-  function-within f c = let one = one-of keyed-weight fs f c in let sum = functions-sum in let w = weight-is in omega (arith, one, sum, w)
+  function-within f c = omega (arith, one-of keyed-weight fs f c, functions-sum, weight-is)
 
   abbrev Met : ℕ → Type 0
   Met n = ReachedFrom r (Some i) (referred (values def.types) (map (λ f. f.1) fs)) n
@@ -339,7 +324,7 @@ module _ (r : Resolve) (v : IsValid r) (i : InterfaceId) (def : Interface) (home
   in-numbers n m = counted-once r v (owner.Interface i) (interface_type_numbers def) (functions_of_interface def) home-owner (values def.types) (map (λ f. f.1) fs) listed-here in-map n m
 
   number-within : (n : ℕ) → Met n → weigh n ≤ whole_instance_weight r i.0
-  number-within n m = let one = one-of weigh (instance_numbers r def (functions_of_interface def)) n (in-numbers n m) in let w = weight-is in omega (arith, one, w)
+  number-within n m = omega (arith, one-of weigh (instance_numbers r def (functions_of_interface def)) n (in-numbers n m), weight-is)
 
   at-least-one : (n : ℕ) → Met n → 64 ≤ weigh n
   at-least-one n m = counted-least r v (owner.Interface i) (interface_type_numbers def) (functions_of_interface def) home-owner (values def.types) (map (λ f. f.1) fs) listed-here in-map n m
@@ -361,11 +346,8 @@ module _ (r : Resolve) (v : IsValid r) (i : InterfaceId) (def : Interface) (home
         let each = at-least weigh h.numbers (λ n c. at-least-one n (h.met n c)) in
         let fun = at-least keyed-weight fs (λ f c. function-least f) in
         let sum = functions-sum in
-        let w = weight-is in
-        let two = counts-few r (Some i) h.numbers in
         let keys = distinct_count-le are_same (map (λ (f : Named). key_of f.1) fs) in
-        let many-keys = length-map fs (λ (f : Named). key_of f.1) in
-        omega (arith, numbers, each, fun, sum, w, two, keys, many-keys, many, light)
+        omega (arith, numbers, each, fun, sum, weight-is, counts-few r (Some i) h.numbers, keys, length-map fs (λ (f : Named). key_of f.1), many, light)
         )
   ]
     where

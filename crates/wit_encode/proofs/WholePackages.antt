@@ -62,8 +62,6 @@ exported-at top =
 pub exported-behind : (ps more : List Part) → list_all is_custom more ≡ true → exported_types (sections_of_parts (ps ++ more)) ≡ exported_types (sections_of_parts ps)
 exported-behind ps more h = search (std_rules, parts-behind, steps-behind, customs-are)
 
--- ---- what the page is for
-
 -- ---- what stands in a package
 
 module _ (r : Resolve) (v : IsValid r) (n : ℕ) (p : Package) (at : package_at r n ≡ Some p) where

@@ -40,8 +40,7 @@ pub record Widened (a : Around) (al : Aliased) (x : Slot) : Type 0 where
 
 -- the alias takes the slot that the instance shows
 pub alias-step : (s : follow.Scope) (al : Aliased) (x : Slot) (instance : Instance) → slice_get s.instances al.instance ≡ Some instance → is_some instance.interface ≡ true
-    → find_type al.name instance.view.types ≡ Some x
-    → component_step s (alias_declared al) ≡ Some (in_scope x s)
+    → find_type al.name instance.view.types ≡ Some x → component_step s (alias_declared al) ≡ Some (in_scope x s)
 alias-step s al x instance at path found =
     let shown : exported_slot al.name (Some instance) ≡ Some x = bind (find_type al.name instance.view.types) x _ found ∙ ap (λ b. provided b x) path in
     bind (exported_slot al.name (slice_get s.instances al.instance)) x (λ slot. Some (in_scope slot s)) (ap (exported_slot al.name) at ∙ shown)
@@ -57,7 +56,7 @@ widened a al x instance at path found = go (outer_scope a.declared) refl
     instances_of o = option_map_or (λ s. s.instances) o []
 
     go : (o : Option follow.Scope) → outer_scope a.declared ≡ o → Widened a al x
-    go None q = let nothing : slice_get [] al.instance ≡ Some instance = sym (ap (λ o. slice_get (instances_of o) al.instance) q) ∙ at in absurd (let z : ⊥ = cc in z)
+    go None q = let nothing : slice_get [] al.instance ≡ Some instance = sym (ap (λ o. slice_get (instances_of o) al.instance) q) ∙ at in absurd cc
     go (Some s) q =
         let step = alias-step s al x instance (sym (ap (λ o. slice_get (instances_of o) al.instance) q) ∙ at) path found in
         let next : outer_scope (with_alias a al).declared ≡ Some (in_scope x s) = steps-more new_scope s (in_scope x s) a.declared (alias_declared al) q step in

@@ -1,5 +1,5 @@
 -- What the calls of an encoder of a world do to its component type.
-use Rattle.std.proofs.Common.{rules as std_rules, ◌≡◌, refl, sym, subst, ap, ◌∙◌, ℕ, ◌+◌, Bool, true, ◌&&◌, cond, List, [], ◌∷◌, ◌++◌, append-nil, option_to_list, filter_map, Result, Ok, Err, IfOk, OnErr, Option, Some, None, slice_get, length, arith}
+use Rattle.std.proofs.Common.{rules as std_rules, ◌≡◌, refl, sym, subst, ap, ◌∙◌, ℕ, ◌+◌, Bool, true, ◌&&◌, cond, List, [], ◌∷◌, ◌++◌, append-nil, option_to_list, filter_map, Result, IfOk, OnErr, Option, Some, None, slice_get, length, arith}
 use Rattle.std.specs.{List.list_all, List.list_any, Option.option_map_or, Prelude.◌≤◌}
 use Rattle.wit_model.specs.{Text.Text, Lookup.place_of, Types.number_tree, Meaning.Signature, Meaning.TypeMeaning, Parts.is_resource, Parts.numbered_from, Rules.text_is}
 use Rattle.wit_model.specs.Tree.{Tree, here, of_interface, named}
@@ -25,6 +25,7 @@ use Rattle.wit_encode.proofs.WorldShown.{Extends, SoundOutside, Widens, WorldCal
 use Rattle.encode_types.proofs.Around.{around-same}
 use Rattle.encode_names.specs.WorldSteps.{seen_type}
 use Rattle.encode_names.proofs.WorldSteps.{named-slot as named-plain, type-step}
+use Rattle.base_lemmas.proofs.Options.{some_is, if_ok, some_same}
 use Rattle.wit_model.specs.declared.model.TypeOwner.TheVariants as owner
 use Rattle.comp_bytes.specs.declared.forms.ComponentTypeRef.TheVariants as refs
 use Rattle.comp_meaning.specs.Follow as follow
@@ -42,10 +43,7 @@ module _ (r : Resolve) (w : WorldId) (a : Around) (sound : SoundOutside r w a) w
 
   -- the slot of a new declaration has the next number
   index-next : type_slots_of a.declared ≡ length (outer_slots a.declared)
-  index-next =
-      let count = steps-count new_scope sound.scope a.declared sound.followed in
-      let same : length (outer_slots a.declared) ≡ length sound.scope.slots = ap length same-slots in
-      omega (arith, count, same)
+  index-next = omega (arith, steps-count new_scope sound.scope a.declared sound.followed, ap length same-slots)
 
   -- one declaration that adds a slot
   declared-widens : (outer : Declarations) (d : Declaration) (x : Slot) (types : List Seen) (next : follow.Scope) → component_step sound.scope d ≡ Some next → Extends sound.scope next x types
@@ -67,14 +65,15 @@ module _ (r : Resolve) (w : WorldId) (a : Around) (sound : SoundOutside r w a) w
 
   -- what has been defined afterwards
   definitions-after : (outer : Declarations) (d : Declaration) (x : Slot) (types : List Seen) → Widens r w a (after_declaring a outer) x types → outer ≡ declared_after a.declared d → (n u k : List ℕ)
+      (es : List (Text × TypeMeaning))
       → (world_definitions a.declared).types ++ cond (is_value_type d) (type_slots_of a.declared ∷ []) [] ≡ n → (world_definitions a.declared).exported ++ option_to_list (target_of d) ≡ u
       → (world_definitions a.declared).functions ++ cond (is_function_type d) (type_slots_of a.declared ∷ []) [] ≡ k
-      → world_definitions outer ≡ record { types = n; exported = u; functions = k; exports = (world_definitions a.declared).exports ++ filter_map declared_type types }
-  definitions-after outer d x types m e n u k t q f = λ i. record {
+      → (world_definitions a.declared).exports ++ filter_map declared_type types ≡ es → world_definitions outer ≡ record { types = n; exported = u; functions = k; exports = es }
+  definitions-after outer d x types m e n u k es t q f s = λ i. record {
     types = (ap (λ z. (world_definitions z).types) e ∙ slots-next is_value_type a.declared d ∙ t) i;
     exported = (ap (λ z. (world_definitions z).exported) e ∙ targets-push a.declared d ∙ q) i;
     functions = (ap (λ z. (world_definitions z).functions) e ∙ slots-next is_function_type a.declared d ∙ f) i;
-    exports = exports-more r w a (after_declaring a outer) x types m sound i;
+    exports = (exports-more r w a (after_declaring a outer) x types m sound ∙ s) i;
   }
 
 -- ---- definitions
@@ -105,18 +104,14 @@ module _ {E : Type 0} (res : Result ℕ E) (r : Resolve) (w : WorldId) (count : 
         → is_slot_of (world_resources r w) x ≡ true → IsOf x P → (Widens r w a next x types → outer ≡ declared_after a.declared d → counts) → Declared d → OnErr res (outer ≡ a.declared)
         → Leads P counts
     declares d x types after P counts step extends plain none index kept is q ok err =
-        world-calls res r w count a next maps P counts x types is_sound is (each-ok res (λ k h.
+        world-calls res r w count a next maps P counts x types is_sound is (if_ok _ _ (λ k h.
         let m = declared-widens r w a sound outer d x types after step extends plain kept h.1 in (
           h.0 ∙ index-next r w a sound,
           m,
           keeps-both (direction_of d) (λ ns. keeps-plain r count (interfaces_in ns) (aliases_in ns) a outer d h.1 none plain)
               (ap directions_of h.1 ∙ directions-more a.declared d) (λ ds. grows-more ds a.declared outer d h.1 index),
           q m h.1,
-        )) ok) (same-around err)
-      where
-        each-ok : {E : Type 0} {P Q : ℕ → Type 0} (res : Result ℕ E) → ((k : ℕ) → P k → Q k) → IfOk res P → IfOk res Q
-        each-ok (Ok k) f h = f k h
-        each-ok (Err e) f h = h
+        )) res ok) (same-around err)
 
     pub defines-value : (d : ComponentDefinedType) (t : Tree) → Follows (SlotsStand (outer_slots a.declared)) d t → IsFormed scope t → Declared (Declaration.defined (raw_defined d))
         → OnErr res (outer ≡ a.declared)
@@ -126,19 +121,10 @@ module _ {E : Type 0} (res : Result ℕ E) (r : Resolve) (w : WorldId) (count : 
         ∙ definition-strict (world_resources r w) (outer_slots a.declared) (slots-sound r w a sound) d t h f.formed in
         declares (Declaration.defined (raw_defined d)) (Slot.value t) [] (in_scope (Slot.value t) sound.scope) _ _
         (bind (definition sound.scope.slots (raw_defined d)) t (λ u. Some (in_scope (Slot.value u) sound.scope)) strict) (slot-extends sound.scope (Slot.value t) refl) refl refl refl
-        (formed-value (world_resources r w) t f.formed)
-        (defines-of (outer_slots a.declared) d t h)
-        (λ m e. definitions-after r w a sound outer (Declaration.defined (raw_defined d)) (Slot.value t) [] m e ((world_definitions a.declared).types ++ length (outer_slots a.declared) ∷ [])
-        (world_definitions a.declared).exported (world_definitions a.declared).functions
+        (formed-value (world_resources r w) t f.formed) (defines-of (outer_slots a.declared) d t h)
+        (λ m e. definitions-after r w a sound outer (Declaration.defined (raw_defined d)) (Slot.value t) [] m e _ _ _ _
         (ap (λ (k : ℕ). (world_definitions a.declared).types ++ k ∷ []) (index-next r w a sound)) (append-nil (world_definitions a.declared).exported)
-        (append-nil (world_definitions a.declared).functions)
-        ∙ (λ i. record {
-          types = (world_definitions a.declared).types ++ length (outer_slots a.declared) ∷ [];
-          exported = (world_definitions a.declared).exported;
-          functions =
-              (world_definitions a.declared).functions;
-          exports = append-nil (world_definitions a.declared).exports i;
-        }))
+        (append-nil (world_definitions a.declared).functions) (append-nil (world_definitions a.declared).exports))
         ok err
 
     pub defines-function : (d : ComponentFuncType) (s : Signature) → FollowsFunction (SlotsStand (outer_slots a.declared)) d s → IsFormedSignature scope s
@@ -149,19 +135,10 @@ module _ {E : Type 0} (res : Result ℕ E) (r : Resolve) (w : WorldId) (count : 
         ∙ function-strict (world_resources r w) (outer_slots a.declared) (slots-sound r w a sound) d s h f.params f.result_ in
         declares (Declaration.function (raw_function d)) (Slot.function s) [] (in_scope (Slot.function s) sound.scope) _ _
         (bind (function_signature sound.scope.slots (raw_function d)) s (λ u. Some (in_scope (Slot.function u) sound.scope)) strict) (slot-extends sound.scope (Slot.function s) refl)
-        refl refl refl refl
-        (function-of (outer_slots a.declared) d s h)
-        (λ m e. definitions-after r w a sound outer (Declaration.function (raw_function d)) (Slot.function s) [] m e (world_definitions a.declared).types (world_definitions a.declared).exported
-        ((world_definitions a.declared).functions ++ length (outer_slots a.declared) ∷ [])
+        refl refl refl refl (function-of (outer_slots a.declared) d s h)
+        (λ m e. definitions-after r w a sound outer (Declaration.function (raw_function d)) (Slot.function s) [] m e _ _ _ _
         (append-nil (world_definitions a.declared).types) (append-nil (world_definitions a.declared).exported)
-        (ap (λ (k : ℕ). (world_definitions a.declared).functions ++ k ∷ []) (index-next r w a sound))
-        ∙ (λ i. record {
-          types = (world_definitions a.declared).types;
-          exported = (world_definitions a.declared).exported;
-          functions =
-              (world_definitions a.declared).functions ++ length (outer_slots a.declared) ∷ [];
-          exports = append-nil (world_definitions a.declared).exports i;
-        }))
+        (ap (λ (k : ℕ). (world_definitions a.declared).functions ++ k ∷ []) (index-next r w a sound)) (append-nil (world_definitions a.declared).exports))
         ok err
 
     -- ---- types of the world, which are imported
@@ -169,16 +146,11 @@ module _ {E : Type 0} (res : Result ℕ E) (r : Resolve) (w : WorldId) (count : 
     abbrev ShownAs : Option ℕ → ExternName → Type 0
     ShownAs slot name = ExportsOne scope (world_definitions a.declared) (world_definitions outer) slot name
 
-    some-standing : (u m : Standing) → Some u ≡ Some m → m ≡ u
-    some-standing u m e = cc
-
     -- a declaration that is followed as it says
     imports-declared : (described : ComponentTypeRef) {slot : Option ℕ} → described_slot described ≡ slot → (name : ExternName) (d : Text × TypeMeaning) (x : Slot) → described_name name described ≡ []
-        → takes_index (Declaration.imported name described) ≡ true
-        → IsDeclared scope d → name ≡ exported_name d → is_slot_of (world_resources r w) x ≡ true
+        → takes_index (Declaration.imported name described) ≡ true → IsDeclared scope d → name ≡ exported_name d → is_slot_of (world_resources r w) x ≡ true
         → standing_at (Some x) ≡ Some (tree (named here name.text)) → named_type (outer_slots a.declared) here name.text described ≡ Some (d.1.declaration, x)
-        → Declared (Declaration.imported name described)
-        → OnErr res (outer ≡ a.declared) → Leads (λ m. m ≡ tree (named here name.text)) (ShownAs slot name)
+        → Declared (Declaration.imported name described) → OnErr res (outer ≡ a.declared) → Leads (λ m. m ≡ tree (named here name.text)) (ShownAs slot name)
     imports-declared described {slot} from name d x plain index declared is kept stands found ok err =
         let there : named_type sound.scope.slots here name.text described ≡ Some (d.1.declaration, x) = ap (λ zs. named_type zs here name.text described) (sym (same-slots r w a sound)) ∙ found in
         let seen : Seen = seen_type name d.1.declaration in
@@ -195,27 +167,19 @@ module _ {E : Type 0} (res : Result ℕ E) (r : Resolve) (w : WorldId) (count : 
         let meaning : TypeMeaning = record { declaration = d.1.declaration; external_id = name.external_id } in
         let meant : (name.text, meaning) ≡ d = λ j. (ap (λ (n : ExternName). n.text) is j, record { declaration = d.1.declaration; external_id = ap (λ (n : ExternName). n.external_id) is j }) in
         declares (Declaration.imported name described) x (seen ∷ []) after _ _ (type-step name described sound.scope d.1.declaration x there (ap is_simple is)) extends plain refl index kept
-        (record { gives = λ m e. stands ∙ ap Some (sym e); only = λ m e. some-standing _ m (sym stands ∙ e) })
+        (record { gives = λ m e. stands ∙ ap Some (sym e); only = λ m e. some_is m _ (sym e ∙ stands) })
         (λ m e. record {
           declaration = d;
           there = declared.there;
           named_ = is;
-          one_more = definitions-after r w a sound outer (Declaration.imported name described) x (seen ∷ []) m e (world_definitions a.declared).types
-              ((world_definitions a.declared).exported ++ option_to_list slot) (world_definitions a.declared).functions
+          one_more = definitions-after r w a sound outer (Declaration.imported name described) x (seen ∷ []) m e _ _ _ _
               (append-nil (world_definitions a.declared).types) (ap (λ o. (world_definitions a.declared).exported ++ option_to_list o) from) (append-nil (world_definitions a.declared).functions)
-              ∙ (λ j. record {
-                types = (world_definitions a.declared).types;
-                exported = (world_definitions a.declared).exported ++ option_to_list slot;
-                functions =
-                    (world_definitions a.declared).functions;
-                exports = (world_definitions a.declared).exports ++ meant j ∷ [];
-              });
+              (ap (λ y. (world_definitions a.declared).exports ++ y ∷ []) meant);
         })
         ok err
 
     pub imports-type : (k : ℕ) (name : ExternName) → DeclaresSlot scope (SlotsStand (outer_slots a.declared)) name k → Declared (Declaration.imported name (refs.TypeEq k))
-        → OnErr res (outer ≡ a.declared)
-        → Leads (λ m. m ≡ tree (named here name.text)) (ShownAs (Some k) name)
+        → OnErr res (outer ≡ a.declared) → Leads (λ m. m ≡ tree (named here name.text)) (ShownAs (Some k) name)
     imports-type k name s ok err =
         let its : DeclaredAs scope (outer_slots a.declared) name (refs.TypeEq k) s.declaration = declared-slot scope (outer_slots a.declared) (slots-sound r w a sound) name k s in
         imports-declared (refs.TypeEq k) refl name s.declaration its.slot refl refl s.declared s.named_ its.kept its.stands its.found ok err
@@ -289,7 +253,7 @@ module _ (r : Resolve) (w : WorldId) (count : ℕ) (a : Around) (maps : TypeEnco
       let x : Slot = source.slot in
       let foreign = foreign-slot r w al.number.0 x source.fits in
       let instance_there : slice_get s.scope.instances source.number ≡ Some source.instance = sym (ap (λ o. slice_get (option_map_or (λ z. z.instances) o []) source.number) s.followed) ∙ source.at in
-      let same_number : al.instance ≡ source.number = one-some al.instance source.number (sym is.instance ∙ source.listed) in
+      let same_number : al.instance ≡ source.number = some_same al.instance source.number (sym is.instance ∙ source.listed) in
       let step = alias-step s.scope al x source.instance (ap (slice_get s.scope.instances) same_number ∙ instance_there) source.path
       (ap (λ t. follow.find_type t source.instance.view.types) is.text ∙ source.found) in
       let followed : outer_scope (with_alias a al).declared ≡ Some (in_scope x s.scope) = steps-more new_scope s.scope (in_scope x s.scope) a.declared (alias_declared al) s.followed step in
@@ -311,8 +275,7 @@ module _ (r : Resolve) (w : WorldId) (count : ℕ) (a : Around) (maps : TypeEnco
         stands = λ k e. slot-stands r w id.0 (slice_get (outer_slots (with_alias a al).declared) k) (known-right r (with_alias a al).known (outer_slots (with_alias a al).declared) id.0 k right e);
         grows = record {
           kept = λ i q h. subst (λ (zs : List Slot). SlotsStand zs i q) (sym more) (slots-kept x (outer_slots a.declared) i q h);
-          more = (let l : length (outer_slots (with_alias a al).declared) ≡ length (outer_slots a.declared ++ x ∷ []) = ap length more in let n = longer (outer_slots a.declared) x in
-              omega (arith, l, n));
+          more = omega (arith, ap length more, longer (outer_slots a.declared) x);
           around_ = around-same (λ i. record { declared = wide.instances i; instances = []; known = [] });
           own_ = keeps-both [] (λ ns. keeps-alias r count (interfaces_in ns) (aliases_in ns) a al is) (directions-more a.declared (alias_declared al))
               (λ ds. grows-more ds a.declared (with_alias a al).declared (alias_declared al) refl refl);
@@ -320,24 +283,14 @@ module _ (r : Resolve) (w : WorldId) (count : ℕ) (a : Around) (maps : TypeEnco
         scope_stays = scope-stays r w a (with_alias a al) x [] wide s count;
         around_stays = λ i. record { declared = wide.instances i; instances = []; known = [] };
         counted = definitions-after r w a s (with_alias a al).declared (alias_declared al) x []
-            (declared-widens r w a s (with_alias a al).declared (alias_declared al) x [] (in_scope x s.scope) step (slot-extends s.scope x foreign.plain) refl foreign.kept refl) refl
-            (world_definitions a.declared).types (world_definitions a.declared).exported (world_definitions a.declared).functions (append-nil (world_definitions a.declared).types)
-            (append-nil (world_definitions a.declared).exported) (append-nil (world_definitions a.declared).functions)
-            ∙ (λ i. record {
-              types = (world_definitions a.declared).types;
-              exported = (world_definitions a.declared).exported;
-              functions = (world_definitions a.declared).functions;
-              exports =
-                  append-nil (world_definitions a.declared).exports i;
-            });
+            (declared-widens r w a s (with_alias a al).declared (alias_declared al) x [] (in_scope x s.scope) step (slot-extends s.scope x foreign.plain) refl foreign.kept refl) refl _ _ _ _
+            (append-nil (world_definitions a.declared).types) (append-nil (world_definitions a.declared).exported) (append-nil (world_definitions a.declared).functions)
+            (append-nil (world_definitions a.declared).exports);
       }
     where
-      one-some : (x y : ℕ) → Some x ≡ Some y → x ≡ y
-      one-some x y e = cc
-
       longer : (xs : List Slot) (x : Slot) → length xs ≤ length (xs ++ x ∷ [])
       longer [] x = omega arith
-      longer (y ∷ xs) x = let l = longer xs x in omega (arith, l)
+      longer (y ∷ xs) x = omega (arith, longer xs x)
 
   pub world-imports : (a' : Around) → ReachesAround r id a a' → ImportsTo a'
   world-imports a' (as_before e) = subst ImportsTo (sym e) was-known
@@ -345,7 +298,7 @@ module _ (r : Resolve) (w : WorldId) (count : ℕ) (a : Around) (maps : TypeEnco
 
 -- one declaration more at most is held
 pub reached-held : {r : Resolve} {id : TypeId} {a a' : Around} → ReachesAround r id a a' → declaration_count a'.declared ≤ declaration_count a.declared + 1
-reached-held {r} {id} {a} {a'} (as_before e) = let same : declaration_count a'.declared ≡ declaration_count a.declared = ap (λ (z : Around). declaration_count z.declared) e in omega (arith, same)
+reached-held {r} {id} {a} {a'} (as_before e) = omega (arith, ap (λ (z : Around). declaration_count z.declared) e)
 reached-held {r} {id} {a} {a'} (aliased al is of_id e) = outer-pushed a.declared a'.declared (alias_declared al) (ap (λ (z : Around). z.declared) e)
 
 -- the slot of a new declaration has the next number, where what has been declared is sound

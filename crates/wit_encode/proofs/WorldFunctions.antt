@@ -1,17 +1,17 @@
 -- A world that has no room in a component type weighs more than the largest number of 32 bits.
-use Rattle.std.proofs.Common.{rules as std_rules, ◌≡◌, refl, sym, subst, ap, ◌∙◌, append-nil, append_assoc, ℕ, zero, ◌≤◌, inl, inr, Bool, true, List, [], ◌∷◌, ◌++◌, map, filter_map, slice_get, take, Option, Some, None, option_to_list, length, arith, suc, ◌+◌, ◌*◌, ◌<◌, ◌⊎◌, false, not, ◌&&◌, nat_lt, flat_map, length-append, option_map, String}
+use Rattle.std.proofs.Common.{rules as std_rules, ◌≡◌, refl, sym, subst, ap, ◌∙◌, append-nil, append_assoc, ℕ, zero, ◌≤◌, inl, inr, Bool, true, List, [], ◌∷◌, ◌++◌, map, filter_map, slice_get, take, Option, Some, None, option_to_list, length, arith, suc, ◌+◌, ◌*◌, ◌<◌, ◌⊎◌, false, not, ◌&&◌, nat_lt, flat_map, length-append, option_map}
 use Rattle.std.proofs.lemmas.{List.map-append, Bool.ltb-true, Bool.ltb-false, List.Sums.sum_by-cons, List.Sums.sum_by-append}
 use Rattle.std.proofs.lemmas.List.{Concat.flat_map-append, Filters.sum_by-filter_both, Kept.AllPairs-filter}
 use Rattle.std.proofs.lemmas.List.Elements.{Contains-append_left, Contains-append_right, filter_map-append, Contains-append_cases, All-contains, filter_passes}
 use Rattle.std.specs.List.{Contains, cons_option, filter}
-use Rattle.std.specs.{Option.option_map_or, Prelude.if◌then◌else◌, Prelude.sum_by, Prelude.AllPairs, Prelude.option_and_then, Prelude.unwrap_or}
+use Rattle.std.specs.{Option.option_map_or, Prelude.if◌then◌else◌, Prelude.sum_by, Prelude.AllPairs, Prelude.unwrap_or}
 use Rattle.indexmap.specs.IndexMap.{values}
 use Rattle.wit_model.specs.Lookup.{world_at, interface_at, interface_path, canonical_path, canonical_suffix, key_text, type_at}
 use Rattle.wit_model.specs.Meaning.{Signature}
-use Rattle.wit_model.specs.{Meant.signature_of, Meant.item_external_id, Parts.function_types, Parts.same_owner, Calls.implemented, Calls.named_interface}
+use Rattle.wit_model.specs.{Meant.signature_of, Meant.item_external_id, Parts.function_types, Parts.same_owner, Calls.implemented}
 use Rattle.wit_model.specs.Rules.{item_type, passes, is_member, is_name_key, interface_type_numbers, world_type_numbers, owner_in_range}
 use Rattle.wit_model.specs.{Uses.item_interface, Uses.items_of, Uses.has, Uses.once, Text.Text, Text.text_of, Text.text_eq, Text.optional_text}
-use Rattle.wit_model.specs.Valid.{IsValid, as_interface, as_world, function_names, functions_of_interface, functions_of_world, item_function, numbers_in_range}
+use Rattle.wit_model.specs.Valid.{IsValid, as_interface, as_world, function_names, functions_of_interface, functions_of_world, item_function}
 use Rattle.wit_model.specs.Weight.{number_weight, function_weight, instance_numbers, whole_instance_weight, implemented_texts, item_weight, brought_into, world_numbers, world_weight}
 use Rattle.wit_model.specs.declared.model.{Resolve.Resolve, World.World, WorldId.WorldId, Function.Function, TypeDef.TypeDef, TypeId.TypeId}
 use Rattle.wit_model.specs.declared.model.{WorldKey.WorldKey, WorldItem.WorldItem, Interface.Interface, InterfaceId.InterfaceId, TypeOwner.TypeOwner}
@@ -28,18 +28,20 @@ use Rattle.wit_encode.specs.{Encoders.declared_after, OwnerScope.IsScopeOf, Whol
 use Rattle.wit_encode.specs.{Instance.CanEncodeFunction, WorldItems.HasShown, WorldItems.IsNext, WorldItems.all_done, WorldItems.types_among}
 use Rattle.wit_encode.specs.Worlds.{WorldEncoder, is_sound_outside, world_around, world_definitions, world_encoder_view, world_view_of}
 use Rattle.wit_encode.specs.WorldRoom.{functions_among, type_ids_among, IsMetAmong, IsTypeAmong, count_among, entries_in, WorldLacksRoom, an_interface, a_name, a_type, a_function, too_many, LackingWorldsAreHeavy}
-use Rattle.wit_encode.proofs.{Components.steps-more, Components.see-slots, Reached.from-flat, Reached.IsOwner, Reached.interface-owner, Reached.world-owner}
+use Rattle.wit_encode.proofs.{Components.steps-more, Components.see-slots, Reached.IsOwner, Reached.interface-owner, Reached.world-owner, Naming.valid-owner_in_range}
 use Rattle.wit_encode.proofs.WorldShown.{function-listed, function-there, items_meet_standing, types-shown, no-type-exported}
 use Rattle.wit_encode.proofs.{Directions.order-next, Meeting.meets-unnamed, Exporting.shows-nothing, OwnerScope.functions_encode, OwnerScope.table_is_scope}
 use Rattle.wit_encode.proofs.{Extents.bytes-few, Mapped.from-filter}
 use Rattle.wit_encode.proofs.Weighing.{Differ, sum-among, contains-once, at-least, one-of, type-heavy, counted-once, counted-least, part-heavy-of, lacking-heavy}
-use Rattle.encode_shown.proofs.{Basics.valid-references, Items.typed-item, Zips.given-contains}
+use Rattle.encode_shown.proofs.{Basics.valid-references, Items.typed-item, Zips.given-contains, Used.contains-flat-from as from-flat}
 use Rattle.comp_bytes.specs.declared.forms.ComponentTypeRef.{ComponentTypeRef}
-use Rattle.std.specs.declared.alloc.Global.{Global}
 use Rattle.wit_model.proofs.{PathParts.canonical_paths_join, OnePath.found-in}
-use Rattle.wit_model.proofs.{Elements.contains-filter_map, Elements.has-contains, Elements.contains-has, ValidLemmas.type_passes, ValidLemmas.world_passes}
-use Rattle.base_lemmas.proofs.{Bools.left_of as first_true, Bools.right_of as second_true, Numbers.same-number}
+use Rattle.wit_model.proofs.{Elements.contains-filter_map, Elements.has-contains, Elements.contains-has, ValidLemmas.world_passes}
+use Rattle.base_lemmas.proofs.{Bools.left_of as first_true, Numbers.same-number}
 use Rattle.base_lemmas.proofs.Elements.{all-contained, contains-later, contains-map, contains-one, map_from as from-map}
+use Rattle.std.proofs.Math.Seq.{take-append_seam}
+use Rattle.std.proofs.Common.{String}
+use Rattle.std.specs.declared.alloc.Global.{Global}
 use Rattle.wit_model.specs.declared.model.WorldItem.TheVariants as item
 use Rattle.wit_model.specs.declared.model.TypeOwner.TheVariants as owner
 use Rattle.comp_bytes.specs.declared.forms.ComponentTypeRef.TheVariants as refs
@@ -51,8 +53,7 @@ use Rattle.wit_model.specs.declared.model.WorldKey.TheVariants as key
 -- ---- nothing has been encoded
 
 pub starts : (r : Resolve) (w : World) (e : WorldEncoder) → world_at r e.world.0 ≡ Some w → e.resolve.now ≡ r → e.outer ≡ Declarations.no_more → e.foreign.instances.entries ≡ []
-    → e.foreign.known.entries ≡ [] → e.instances ≡ 0
-    → e.maps.id_to_index.entries ≡ [] → Agrees r (world_view_of r e) → HasShown r w e ([], [])
+    → e.foreign.known.entries ≡ [] → e.instances ≡ 0 → e.maps.id_to_index.entries ≡ [] → Agrees r (world_view_of r e) → HasShown r w e ([], [])
 starts r w e there packages outer instances known count ids agree = search std_rules
 
 -- ---- the place of the next item
@@ -60,10 +61,6 @@ starts r w e there packages outer instances known count ids agree = search std_r
 pub at-length : {A : Type 0} (xs ys : List A) (y : A) → slice_get (xs ++ y ∷ ys) (length xs) ≡ Some y
 at-length [] ys y = refl
 at-length (x ∷ xs) ys y = at-length xs ys y
-
-pub taken-front : {A : Type 0} (xs ys : List A) → take (length xs) (xs ++ ys) ≡ xs
-taken-front [] ys = refl
-taken-front (x ∷ xs) ys = ap (λ zs. x ∷ zs) (taken-front xs ys)
 
 abbrev pub second : Entry → WorldItem
 second x = x.1
@@ -92,7 +89,7 @@ pub next-place : (r : Resolve) (w : World) (direction : Direction) (done : Entri
 next-place r w direction done e n = let m = next-item r w direction done e n in ap (λ xs. slice_get xs (length (done_items done))) m.1 ∙ at-length (done_items done) m.0 e.1
 
 pub before-next : (r : Resolve) (w : World) (direction : Direction) (done : Entries) (e : Entry) → IsNext r w direction done e → take (length (done_items done)) (items_of w) ≡ done_items done
-before-next r w direction done e n = let m = next-item r w direction done e n in ap (take (length (done_items done))) m.1 ∙ taken-front (done_items done) (e.1 ∷ m.0)
+before-next r w direction done e n = let m = next-item r w direction done e n in ap (take (length (done_items done))) m.1 ∙ take-append_seam (done_items done) (e.1 ∷ m.0)
 
 -- the next entry is one of the world
 pub next-entry : (r : Resolve) (w : World) (direction : Direction) (done : Entries) (e : Entry) → IsNext r w direction done e → Contains (w.imports.entries ++ w.exports.entries) e
@@ -164,8 +161,7 @@ see-instances export_ seen s = refl
 
 -- what a function brings
 pub nothing-brought : {A : Type 0} (given : List Entry → List A) → ((es gs : List Entry) → given (es ++ gs) ≡ given es ++ given gs) → (direction : Direction) (done : Entries) (x : Entry)
-    → given (x ∷ []) ≡ []
-    → given (all_done (with_entry direction done x)) ≡ given (all_done done)
+    → given (x ∷ []) ≡ [] → given (all_done (with_entry direction done x)) ≡ given (all_done done)
 nothing-brought given split import_ done x none =
     split (done.0 ++ x ∷ []) done.1 ∙ ap (λ xs. xs ++ given done.1) (split done.0 (x ∷ []) ∙ ap (λ xs. given done.0 ++ xs) none ∙ append-nil (given done.0)) ∙ sym (split done.0 done.1)
 nothing-brought given split export_ done x none =
@@ -240,15 +236,17 @@ pub declared-few : (direction : Direction) (name : ExternName) (described : Comp
 declared-few import_ name described = bytes-few.imports name described
 declared-few export_ name described = bytes-few.exports name described
 
--- ---- what the page is for
-
 -- ---- names that don't fit are long
 
 abbrev pub long : Option Text → ℕ
 long t = sum_by length (option_to_list t)
 
 some-long : (t : Text) → long (Some t) ≡ length t
-some-long t = sum_by-cons length t [] ∙ (let z : length t + 0 ≡ length t = omega arith in z)
+some-long t = omega (arith, sum_by-cons length t [])
+
+pub long-is : (o : Option Text) → long o ≡ length (unwrap_or o [])
+long-is None = refl
+long-is (Some t) = some-long t
 
 pub name-fits : (name : ExternName) (total : ℕ) → length name.text ≤ total → long name.implements ≤ total → long name.version_suffix ≤ total → long name.external_id ≤ total → total ≤ limit
     → fits_name name ≡ true
@@ -259,95 +257,48 @@ module _ (r : Resolve) (n : ℕ) where
   no-suffix : canonical_path r n ≡ None → canonical_suffix r n ≡ None
   no-suffix = search std_rules
 
-  path-long : (length (unwrap_or (canonical_path r n) []) ≤ long (interface_path r n)) × (long (canonical_suffix r n) ≤ long (interface_path r n))
-  path-long = go (canonical_path r n) (canonical_suffix r n) refl (canonical_paths_join r n) no-suffix
-    where
-      suffix : (s : Option Text) → long s ≡ length (unwrap_or s [])
-      suffix None = refl
-      suffix (Some t) = some-long t
-
-      go : (c s : Option Text) → canonical_path r n ≡ c → interface_path r n ≡ option_map (λ path. path ++ unwrap_or s []) c → (c ≡ None → s ≡ None)
-          → (length (unwrap_or c []) ≤ long (interface_path r n)) × (long s ≤ long (interface_path r n))
-      go None s is e none = (omega arith, (let z = ap long (none refl) in omega (arith, z)))
-      go (Some p) s is e none =
-          let whole = ap long e ∙ (some-long (p ++ unwrap_or s []) ∙ length-append p (unwrap_or s [])) in
-          let end = suffix s in
-          (omega (arith, whole), omega (arith, whole, end))
-
   -- both together
   path-both : length (unwrap_or (canonical_path r n) []) + long (canonical_suffix r n) ≤ long (interface_path r n)
   path-both = go (canonical_path r n) (canonical_suffix r n) refl (canonical_paths_join r n) no-suffix
     where
-      suffix : (s : Option Text) → long s ≡ length (unwrap_or s [])
-      suffix None = refl
-      suffix (Some t) = some-long t
-
       go : (c s : Option Text) → canonical_path r n ≡ c → interface_path r n ≡ option_map (λ path. path ++ unwrap_or s []) c → (c ≡ None → s ≡ None)
           → length (unwrap_or c []) + long s ≤ long (interface_path r n)
-      go None s is e none = let z = ap long (none refl) in omega (arith, z)
-      go (Some p) s is e none =
-          let whole = ap long e ∙ (some-long (p ++ unwrap_or s []) ∙ length-append p (unwrap_or s [])) in
-          let end = suffix s in
-          omega (arith, whole, end)
+      go None s is e none = omega (arith, ap long (none refl))
+      go (Some p) s is e none = omega (arith, ap long e ∙ (some-long (p ++ unwrap_or s []) ∙ length-append p (unwrap_or s [])), long-is s)
 
   pub written-long : (canonical : Bool) → length (written_path r canonical n) ≤ long (interface_path r n)
-  written-long true = path-long.0
-  written-long false = go (interface_path r n)
-    where
-      go : (o : Option Text) → length (unwrap_or o []) ≤ long o
-      go None = omega arith
-      go (Some t) = let z = some-long t in omega (arith, z)
+  written-long true = omega (arith, path-both)
+  written-long false = omega (arith, long-is (interface_path r n))
 
   pub suffix-long : (canonical : Bool) → long (written_suffix r canonical (Some n)) ≤ long (interface_path r n)
-  suffix-long true = path-long.1
+  suffix-long true = omega (arith, path-both)
   suffix-long false = omega arith
 
   pub written-both : (canonical : Bool) → length (written_path r canonical n) + long (written_suffix r canonical (Some n)) ≤ long (interface_path r n)
   written-both true = path-both
-  written-both false = let path = written-long false in omega (arith, path)
+  written-both false = omega (arith, written-long false)
+
+-- an interface under a label is implemented, or inline
+pub implemented-as : (r : Resolve) (name : String Global) (i : WorldItem) (n : ℕ) → item_interface i ≡ Some n → (implemented r (key.Name name) i ≡ None) ⊎ (implemented r (key.Name name) i ≡ Some n)
+implemented-as r name i n at = search std_rules
 
 -- an item of an interface
 interface-name : (r : Resolve) (canonical : Bool) (k : WorldKey) (i : WorldItem) (id : InterfaceId) (external : Option Text) (texts : ℕ)
     → item_interface i ≡ Some id.0 → item_external_id r i ≡ external
     → texts ≡ length (key_text r k) + (sum_by length (implemented_texts r k id.0) + long external) → texts ≤ limit → fits_name (name_of_item r canonical (k, i)) ≡ true
-interface-name r canonical (key.Interface j) i id external texts at given sum low = name-fits (name_of_item r canonical (key.Interface j, i)) texts
-    (let a = written-long r j.0 canonical in let b = path-text in omega (arith, a, b, sum))
-    (omega arith)
-    (let a = suffix-long r j.0 canonical in let b = path-text in omega (arith, a, b, sum))
-    (let a = ap long given in omega (arith, a, sum)) low
+interface-name r canonical (key.Interface j) i id external texts at given sum low =
+    let path : long (interface_path r j.0) ≡ length (key_text r (key.Interface j)) = long-is (interface_path r j.0) in
+    name-fits (name_of_item r canonical (key.Interface j, i)) texts (omega (arith, written-long r j.0 canonical, path, sum)) (omega arith)
+    (omega (arith, suffix-long r j.0 canonical, path, sum)) (omega (arith, ap long given, sum)) low
+interface-name r canonical (key.Name name) i id external texts at given sum low = by (implemented-as r name i id.0 at)
   where
-    path-text : long (interface_path r j.0) ≡ length (key_text r (key.Interface j))
-    path-text = go (interface_path r j.0)
-      where
-        go : (o : Option Text) → long o ≡ length (unwrap_or o [])
-        go None = refl
-        go (Some t) = some-long t
-interface-name r canonical (key.Name name) i id external texts at given sum low = by (implemented r (key.Name name) i) refl (implemented-here (interface_at r id.0) refl)
-  where
-    implemented-here : (o : Option Interface) → interface_at r id.0 ≡ o → (implemented r (key.Name name) i ≡ None) ⊎ (implemented r (key.Name name) i ≡ Some id.0)
-    implemented-here o is = named o is (ap (option_and_then (named_interface r)) at)
-      where
-        named : (o : Option Interface) → interface_at r id.0 ≡ o → implemented r (key.Name name) i ≡ named_interface r id.0 → (implemented r (key.Name name) i ≡ None)
-            ⊎ (implemented r (key.Name name) i ≡ Some id.0)
-        named None is e = inl (e ∙ ap (option_and_then (λ (i : Interface). option_map (λ name. id.0) i.name)) is)
-        named (Some x) is e = go x.name (e ∙ ap (option_and_then (λ (i : Interface). option_map (λ name. id.0) i.name)) is)
-          where
-            go : (n : Option (String Global)) → implemented r (key.Name name) i ≡ option_map (λ name. id.0) n → (implemented r (key.Name name) i ≡ None) ⊎ (implemented r (key.Name name) i ≡ Some id.0)
-            go None e = inl e
-            go (Some y) e = inr e
-
-    by : (o : Option ℕ) → implemented r (key.Name name) i ≡ o → (implemented r (key.Name name) i ≡ None) ⊎ (implemented r (key.Name name) i ≡ Some id.0)
-        → fits_name (name_of_item r canonical (key.Name name, i)) ≡ true
-    by o q (inl none) = name-fits (name_of_item r canonical (key.Name name, i)) texts
-        (omega (arith, sum))
-        (let a = ap (λ o. long (option_map (written_path r canonical) o)) none in omega (arith, a))
-        (let a = ap (λ o. long (written_suffix r canonical o)) none ∙ ap long (no-suffix-written r canonical) in omega (arith, a))
-        (let a = ap long given in omega (arith, a, sum)) low
-    by o q (inr there) = name-fits (name_of_item r canonical (key.Name name, i)) texts
-        (omega (arith, sum))
+    by : (implemented r (key.Name name) i ≡ None) ⊎ (implemented r (key.Name name) i ≡ Some id.0) → fits_name (name_of_item r canonical (key.Name name, i)) ≡ true
+    by (inl none) = name-fits (name_of_item r canonical (key.Name name, i)) texts (omega (arith, sum))
+        (omega (arith, ap (λ o. long (option_map (written_path r canonical) o)) none))
+        (omega (arith, ap (λ o. long (written_suffix r canonical o)) none ∙ ap long (no-suffix-written r canonical))) (omega (arith, ap long given, sum)) low
+    by (inr there) = name-fits (name_of_item r canonical (key.Name name, i)) texts (omega (arith, sum))
         (let a = ap (λ o. long (option_map (written_path r canonical) o)) there ∙ some-long (written_path r canonical id.0) in let b = written-long r id.0 canonical in omega (arith, a, b, sum))
-        (let a = ap (λ o. long (written_suffix r canonical o)) there in let b = suffix-long r id.0 canonical in omega (arith, a, b, sum))
-        (let a = ap long given in omega (arith, a, sum)) low
+        (omega (arith, ap (λ o. long (written_suffix r canonical o)) there, suffix-long r id.0 canonical, sum)) (omega (arith, ap long given, sum)) low
 
 -- ---- type numbers of interfaces
 
@@ -371,11 +322,7 @@ each ns = sum_by (λ n. 64) ns
 pub each-least : (g : ℕ → ℕ) (ns : List ℕ) → ((n : ℕ) → Contains ns n → 64 ≤ g n) → each ns ≤ sum_by g ns
 each-least g [] h = omega arith
 each-least g (n ∷ ns) h =
-    let rest = each-least g ns (λ m c. h m (contains-later n ns m c)) in
-    let here = h n (0, omega arith, refl) in
-    let a = sum_by-cons g n ns in
-    let b = sum_by-cons (λ n. 64) n ns in
-    omega (arith, rest, here, a, b)
+    omega (arith, each-least g ns (λ m c. h m (contains-later n ns m c)), h n (0, omega arith, refl), sum_by-cons g n ns, sum_by-cons (λ n. 64) n ns)
 
 module _ (r : Resolve) where
   abbrev entry-weight : Entry → ℕ
@@ -385,14 +332,8 @@ module _ (r : Resolve) where
   entries-weigh : (es : List Entry) (ns : List ℕ) → AllPairs Differ ns → ((n : ℕ) → Contains ns n → StandsAmong r es n) → 64 * count_among es + each ns ≤ sum_by entry-weight es
   entries-weigh [] [] apart h = omega arith
   entries-weigh [] (n ∷ ns) apart h = none-in (h n (0, omega arith, refl)).2 (h n (0, omega arith, refl)).3
-  entries-weigh ((k, item.Function f) ∷ es) ns apart h =
-      let rest = entries-weigh es ns apart h in
-      let next = sum_by-cons entry-weight (k, item.Function f) es in
-      omega (arith, rest, next)
-  entries-weigh ((k, item.Type_ id) ∷ es) ns apart h =
-      let rest = entries-weigh es ns apart h in
-      let next = sum_by-cons entry-weight (k, item.Type_ id) es in
-      omega (arith, rest, next)
+  entries-weigh ((k, item.Function f) ∷ es) ns apart h = omega (arith, entries-weigh es ns apart h, sum_by-cons entry-weight (k, item.Function f) es)
+  entries-weigh ((k, item.Type_ id) ∷ es) ns apart h = omega (arith, entries-weigh es ns apart h, sum_by-cons entry-weight (k, item.Type_ id) es)
   entries-weigh ((k, item.Interface id stability docs external) ∷ es) ns apart h =
       let own = numbers-of-interface r id.0 in
       let first = filter (has own) ns in
@@ -401,17 +342,14 @@ module _ (r : Resolve) where
       let heavy = each-least (number_weight r (as_interface id.0)) first (λ n c. let x = h n (from-filter (has own) ns n c) in number-least r (as_interface id.0) n x.0 x.1) in
       let inside = sum-among (number_weight r (as_interface id.0)) first own (AllPairs-filter Differ (has own) ns apart)
       (λ n c. has-contains own n (All-contains (λ n. has own n ≡ true) first n (filter_passes (has own) ns) c)) in
-      let whole = whole-least r id.0 in
       let both = sum_by-filter_both (has own) (λ n. not (has own n)) (λ n. refl) (λ n. 64) ns in
-      let next = sum_by-cons entry-weight (k, item.Interface id stability docs external) es in
-      omega (arith, rest, heavy, inside, whole, both, next)
+      omega (arith, rest, heavy, inside, whole-least r id.0, both, sum_by-cons entry-weight (k, item.Interface id stability docs external) es)
     where
       later : (n : ℕ) → Contains (filter (λ n. not (has (numbers-of-interface r id.0) n)) ns) n → StandsAmong r ((k, item.Interface id stability docs external) ∷ es) n → StandsAmong r es n
       later n c (d, at, j, (zero, l, e), there) =
           let out = All-contains (λ n. not (has (numbers-of-interface r id.0) n) ≡ true) (filter (λ n. not (has (numbers-of-interface r id.0) n)) ns) n
           (filter_passes (λ n. not (has (numbers-of-interface r id.0) n)) ns) c in
-          let in_ = contains-has (numbers-of-interface r id.0) n (subst (λ (m : ℕ). Contains (numbers-of-interface r m) n) (sym e) there) in
-          absurd (let z : ⊥ = cc in z)
+          cc (contains-has (numbers-of-interface r id.0) n (subst (λ (m : ℕ). Contains (numbers-of-interface r m) n) (sym e) there))
       later n c (d, at, j, (suc p, l, e), there) = (d, at, j, (p, omega (arith, l), e), there)
 
 -- ---- a world
@@ -468,7 +406,7 @@ module _ (r : Resolve) (v : IsValid r) (w : WorldId) (def : World) (home : world
       (counted-once r v (owner.World w) (world_type_numbers def) (functions_of_world def) own (type_ids_among es) (functions_among es) listed among n m))
 
   entry-within : (e : Entry) → Contains es e → entry-weight r e ≤ total
-  entry-within e c = let one = one-of (entry-weight r) es e c in omega (arith, one)
+  entry-within e c = omega (arith, one-of (entry-weight r) es e c)
 
   -- ---- functions
 
@@ -480,19 +418,16 @@ module _ (r : Resolve) (v : IsValid r) (w : WorldId) (def : World) (home : world
   keyed e c = all-contained is-keyed es e (world_passes function_names r v.rules.function_names w.0 def home) c
 
   function-name : (canonical : Bool) (k : WorldKey) (f : Function) → Contains es (k, item.Function f) → function_weight f ≤ limit → fits_name (name_of_item r canonical (k, item.Function f)) ≡ true
-  function-name canonical (key.Interface i) f c low = let h = keyed (key.Interface i, item.Function f) c in absurd (let z : ⊥ = cc in z)
+  function-name canonical (key.Interface i) f c low = let h = keyed (key.Interface i, item.Function f) c in absurd cc
   function-name canonical (key.Name name) f c low =
       let same = text_same (text_of name) (text_of f.name) (first_true (text_eq (text_of name) (text_of f.name)) _ (keyed (key.Name name, item.Function f) c)) in
       let parts = sum_by-cons length (text_of f.name) (option_to_list (optional_text f.external_id)) in
-      name-fits (name_of_item r canonical (key.Name name, item.Function f)) (function_weight f)
-      (let a = ap length same in omega (arith, a, parts))
-      (omega arith)
-      (let a = ap long (no-suffix-written r canonical) in omega (arith, a))
-      (omega (arith, parts)) low
+      name-fits (name_of_item r canonical (key.Name name, item.Function f)) (function_weight f) (omega (arith, ap length same, parts)) (omega arith)
+      (omega (arith, ap long (no-suffix-written r canonical))) (omega (arith, parts)) low
 
   item-name : (canonical : Bool) (k : WorldKey) (i : WorldItem) → Contains es (k, i) → item_type i ≡ None → entry-weight r (k, i) ≤ limit → fits_name (name_of_item r canonical (k, i)) ≡ true
   item-name canonical k (item.Function f) c none low = function-name canonical k f c low
-  item-name canonical k (item.Type_ id) c none low = absurd (let z : ⊥ = cc in z)
+  item-name canonical k (item.Type_ id) c none low = absurd cc
   item-name canonical k (item.Interface id stability docs external) c none low =
       let texts = sum_by length (key_text r k ∷ (implemented_texts r k id.0 ++ option_to_list (optional_text external))) in
       let first = sum_by-cons length (key_text r k) (implemented_texts r k id.0 ++ option_to_list (optional_text external)) in
@@ -501,22 +436,17 @@ module _ (r : Resolve) (v : IsValid r) (w : WorldId) (def : World) (home : world
 
   -- ---- types of interfaces
 
-  owner-there : (n : ℕ) (d : TypeDef) → type_at r n ≡ Some d → owner_in_range r d.owner ≡ true
-  unfolding numbers_in_range
-  owner-there n d at = second_true _ _ (second_true _ _ (type_passes numbers_in_range r v.rules.numbers_in_range n d at))
-
   stands-among : (n : ℕ) → IsTypeAmong r es n → StandsAmong r es n
   stands-among n t = (
     t.def,
     t.there,
     t.interface.0,
     t.among,
-    subst (λ (o : Option Interface). Contains (option_map_or (λ d. instance_numbers r d (functions_of_interface d)) o []) n)
-        (sym found.1) inside,
+    subst (λ (o : Option Interface). Contains (option_map_or (λ d. instance_numbers r d (functions_of_interface d)) o []) n) (sym found.1) inside,
   )
     where
       found : (d : Interface) × (interface_at r t.interface.0 ≡ Some d)
-      found = found-in r.interfaces.items t.interface.0 (subst (λ (o : TypeOwner). owner_in_range r o ≡ true) t.owned (owner-there n t.def t.there))
+      found = found-in r.interfaces.items t.interface.0 (subst (λ (o : TypeOwner). owner_in_range r o ≡ true) t.owned (valid-owner_in_range r v n t.def t.there))
 
       owned : same_owner t.def.owner (owner.Interface t.interface) ≡ true
       owned = subst (λ (o : TypeOwner). same_owner o (owner.Interface t.interface) ≡ true) (sym t.owned) (same-number t.interface.0)
@@ -529,47 +459,36 @@ module _ (r : Resolve) (v : IsValid r) (w : WorldId) (def : World) (home : world
   no-lack : total ≤ limit → WorldLacksRoom r def → ⊥
   no-lack light (an_interface i d c at lacks) =
       let e = from-flat (λ (e : Entry). option_to_list (item_interface e.1)) es i.0 c in
-      let heavy = lacking-heavy r i d v at lacks in
-      let part = of-interface e.0 i.0 e.2 in
-      let one = entry-within e.0 e.1 in
-      absurd (omega (arith, heavy, part, one, light))
+      absurd (omega (arith, lacking-heavy r i d v at lacks, of-interface e.0 i.0 e.2, entry-within e.0 e.1, light))
     where
       of-interface : (e : Entry) (n : ℕ) → Contains (option_to_list (item_interface e.1)) n → whole_instance_weight r n ≤ entry-weight r e
-      of-interface (k, item.Interface id stability docs external) n (zero, l, e) = let same = ap (whole_instance_weight r) e in omega (arith, same)
+      of-interface (k, item.Interface id stability docs external) n (zero, l, e) = omega (arith, ap (whole_instance_weight r) e)
       of-interface (k, item.Interface id stability docs external) n (suc p, l, e) = absurd (omega (arith, l))
       of-interface (k, item.Function f) n c = none-in n c
       of-interface (k, item.Type_ id) n c = none-in n c
-  no-lack light (a_name canonical e c none unfit) =
-      let one = entry-within e c in
-      let fits = item-name canonical e.0 e.1 c none (omega (arith, one, light)) in
-      absurd (let z : ⊥ = cc in z)
+  no-lack light (a_name canonical e c none unfit) = cc (item-name canonical e.0 e.1 c none (omega (arith, entry-within e c, light)))
   no-lack light (a_type n d m at lacks) =
       let heavy = part-heavy-of r v (owner.World w) (world_type_numbers def) (functions_of_world def) own (type_ids_among es) (functions_among es) listed among n d m at lacks in
-      let one = one-of weigh numbers n (counted n m) in
-      absurd (omega (arith, heavy, one, light))
+      absurd (omega (arith, heavy, one-of weigh numbers n (counted n m), light))
   no-lack light (a_function f c unfit) =
       let e = given-contains (λ (e : Entry). item_function e.1) es f c in
-      let heavy = type-heavy r f unfit in
-      let part = of-function e.0 e.2 in
-      let one = entry-within e.0 e.1 in
-      absurd (omega (arith, heavy, part, one, light))
+      absurd (omega (arith, type-heavy r f unfit, of-function e.0 e.2, entry-within e.0 e.1, light))
     where
       of-function : (e : Entry) → item_function e.1 ≡ Some f → entry-weight r e ≡ function_weight f
       of-function (k, item.Function g) e = let same : g ≡ f = cc in ap function_weight same
-      of-function (k, item.Interface id stability docs external) e = absurd (let z : ⊥ = cc in z)
-      of-function (k, item.Type_ id) e = absurd (let z : ⊥ = cc in z)
+      of-function (k, item.Interface id stability docs external) e = absurd cc
+      of-function (k, item.Type_ id) e = absurd cc
   no-lack light (too_many m) =
       let met = sum-among weigh m.met numbers m.are_met.different (λ n c. counted n (m.are_met.all n c)) in
       let met-each = at-least weigh m.met (λ n c. counted-least r v (owner.World w) (world_type_numbers def) (functions_of_world def) own (type_ids_among es) (functions_among es) listed among n
       (m.are_met.all n c)) in
       let brought = entries-weigh r es m.brought m.are_brought.different (λ n c. stands-among n (m.are_brought.all n c)) in
       let brought-each = at-least (λ (n : ℕ). 64) m.brought (λ n c. omega arith) in
-      let many = m.many in
-      absurd (omega (arith, met, met-each, brought, brought-each, many, light))
+      absurd (omega (arith, met, met-each, brought, brought-each, m.many, light))
 
 pub lacking-worlds-heavy : LackingWorldsAreHeavy
 lacking-worlds-heavy r w def v home lacks = by-order (nat_lt limit (world_weight r w.0)) refl
   where
     by-order : (b : Bool) → nat_lt limit (world_weight r w.0) ≡ b → limit < world_weight r w.0
     by-order true f = ltb-true limit (world_weight r w.0) f
-    by-order false f = let light = ltb-false limit (world_weight r w.0) f in let is = weight-is r v w def home in absurd (no-lack r v w def home (omega (arith, light, is)) lacks)
+    by-order false f = absurd (no-lack r v w def home (omega (arith, ltb-false limit (world_weight r w.0) f, weight-is r v w def home)) lacks)

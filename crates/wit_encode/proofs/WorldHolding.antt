@@ -1,7 +1,7 @@
 -- Which types of listed interfaces have an alias in a component type, and how much it holds beside them.
 use Rattle.std.proofs.Common.{rules as std_rules, ◌≡◌, refl, sym, subst, ap, ◌∙◌, ℕ, ◌+◌, inl, inr, Bool, true, false, ◌⊎◌, List, [], ◌∷◌, ◌++◌, map, flat_map, append-nil, append_assoc, length, None, is_some, slice_get, arith, zero, suc, ◌*◌, ◌≤◌, ◌&&◌, length-append, Some}
-use Rattle.std.proofs.lemmas.{List.map-append, List.length-map, Bool.cases_Bool, Bool.cond-true, Bool.cond-false, Bool.and_from as both}
-use Rattle.std.proofs.lemmas.List.{Concat.flat_map-append, Kept.AllPairs-filter}
+use Rattle.std.proofs.lemmas.{List.map-append, List.length-map, Bool.cases_Bool, Bool.and_from as both}
+use Rattle.std.proofs.lemmas.List.{Concat.flat_map-append, Kept.AllPairs-filter, Sums.length-filter, Sums.sum_by-le-sum_by}
 use Rattle.std.proofs.lemmas.List.Elements.{Contains-append_left, Contains-append_right, Contains-append_cases, filter_map-append, All-contains, filter_passes}
 use Rattle.std.specs.{Prelude.nat_eq, Prelude.cond, Prelude.AllPairs, List.AllZip, List.Contains, List.filter, BTreeMap.is_at, BTreeMap.insert_entry}
 use Rattle.std.specs.{Set.is_member, Set.distinct_count, Option.option_map_or, Ordering.nat_cmp}
@@ -174,7 +174,7 @@ counts-declared test outer d e = count-more test outer d ∙ none (count_declare
   where
     none : (n : ℕ) (b : Bool) → b ≡ false → n + cond b 1 0 ≡ n
     none n false q = omega arith
-    none n true q = absurd (let z : ⊥ = cc in z)
+    none n true q = absurd cc
 
 pub towards-alias : (direction : Direction) (name : ExternName) (described : ComponentTypeRef) → alias_in (declared_towards direction name described) ≡ []
 towards-alias import_ name described = refl
@@ -199,8 +199,7 @@ keeps-on r e e' ts g ns k = keeps-told listed ns (map place_and_number k.has.mad
 
 -- a function: its type, and then its import or export
 pub function-defined : (r : Resolve) (e e' : WorldEncoder) (es : List Entry) (scope : Scope) → scope.own_interface ≡ None → (k : WorldKey) (i : WorldItem) (f : Function) → i ≡ item.Function f
-    → (key : FunctionKey) (n : ℕ)
-    → (direction : Direction) (name : ExternName) (outer : Declarations) → HasDefined r e es → IsOnce e.maps → IsKeyOf key f
+    → (key : FunctionKey) (n : ℕ) → (direction : Direction) (name : ExternName) (outer : Declarations) → HasDefined r e es → IsOnce e.maps → IsKeyOf key f
     → AddsFunction r scope e.maps e'.maps (world_definitions e.outer) (world_definitions e'.outer) key n → LearnsMet r None (function_types f) e.maps e'.maps
     → instances_declared e'.outer ≡ instances_declared e.outer → outer ≡ declared_after e'.outer (declared_towards direction name (refs.Func n)) → GoesOnMet r e e' (function_types f)
     → HasDefined r (record e' { outer = outer }) (es ++ (k, i) ∷ [])
@@ -216,20 +215,17 @@ function-defined r e e' es scope own k i f is key n direction name outer h once 
     (adds-alike (sym own) refl refl refl refl values_ targets_ functions_ (adds-function key n f is_key once a))
     (from-met r None (function_types f) e.maps e'.maps learns) refl (ap instances_declared made ∙ (instances-kept e'.outer d ∙ stays))
     (keeps-plain r e'.instances (interfaces_among es) (map place_and_number h.keeps.has.made) (world_around e') outer d made (towards-alias direction name (refs.Func n))
-    (no-function-name direction name n)
-    (keeps-on r e e' (function_types f) goes (interfaces_among es) h.keeps)) goes.imports)
+    (no-function-name direction name n) (keeps-on r e e' (function_types f) goes (interfaces_among es) h.keeps)) goes.imports)
 
 -- a type
 pub type-defined : (r : Resolve) (e e' : WorldEncoder) (es : List Entry) (scope : Scope) → scope.own_interface ≡ None → (k : WorldKey) (i : WorldItem) (id : TypeId) → i ≡ item.Type_ id
     → HasDefined r e es
     → AddsTypes r scope e.maps e'.maps (world_definitions e.outer) (world_definitions e'.outer) → LearnsMet r None (ty.Id id ∷ []) e.maps e'.maps
-    → instances_declared e'.outer ≡ instances_declared e.outer
-    → GoesOnMet r e e' (ty.Id id ∷ []) → HasDefined r e' (es ++ (k, i) ∷ [])
+    → instances_declared e'.outer ≡ instances_declared e.outer → GoesOnMet r e e' (ty.Id id ∷ []) → HasDefined r e' (es ++ (k, i) ∷ [])
 type-defined r e e' es scope own k i id is h a learns stays goes =
     subst (λ (j : WorldItem). HasDefined r e' (es ++ (k, j) ∷ [])) (sym is)
     (defines-more r e e' es h (k, item.Type_ id) [] (ty.Id id ∷ []) refl (type-referred k id) (adds-alike (sym own) refl refl refl refl refl refl refl (adds-types a))
-    (from-met r None (ty.Id id ∷ []) e.maps e'.maps learns) refl stays
-    (keeps-on r e e' (ty.Id id ∷ []) goes (interfaces_among es) h.keeps) goes.imports)
+    (from-met r None (ty.Id id ∷ []) e.maps e'.maps learns) refl stays (keeps-on r e e' (ty.Id id ∷ []) goes (interfaces_among es) h.keeps) goes.imports)
 
 -- nothing has been defined by a new encoder
 pub none-defined : (r : Resolve) (e : WorldEncoder) → e.outer ≡ Declarations.no_more → e.maps.id_to_index.entries ≡ [] → e.maps.def_to_index.entries ≡ [] → e.maps.func_type_map.entries ≡ []
@@ -254,14 +250,10 @@ pub defines-once : (r : Resolve) → IsValid r → (w : World) (e : WorldEncoder
     → are_beside 0 e.outer ≡ true → DefinesOnce r e.outer (all_done done)
 defines-once r v w e done s h places = record {
   keys = k.keys;
-  function_types =
-      (let a = slots-declared is_function_type 0 e.outer in
-      let b = slots-many r (SlotsStand (outer_slots e.outer)) e.maps k e.outer slots in
-      omega (arith, a, b));
+  function_types = omega (arith, slots-declared is_function_type 0 e.outer, slots-many r (SlotsStand (outer_slots e.outer)) e.maps k e.outer slots);
   different = k.different;
   same = λ q. both-ways (is_member are_same k.keys q) (is_member are_same (map key_of (functions_among es)) q)
-      (λ m. elim (h.adds.known q (k.known q m)) [ inl c ↦ absurd (knows-none h.began q h.no_keys c) | inr c ↦ c ])
-      (λ m. k.all q (h.adds.learnt q m));
+      (λ m. elim (h.adds.known q (k.known q m)) [ inl c ↦ absurd (knows-none h.began q h.no_keys c) | inr c ↦ c ]) (λ m. k.all q (h.adds.learnt q m));
   slots = slots;
   value_types = defines-types r v None (no_interface r) (SlotsStand (outer_slots e.outer)) h.began e.maps nothing_defined (world_definitions e.outer) (type_ids_among es) (functions_among es) e.outer
       h.adds.slots s.agree (slots-once (outer_slots e.outer)) plain h.adds.slots.types h.adds.slots.exported h.no_numbers h.no_kinds held names;
@@ -311,9 +303,7 @@ pub count-both : (es fs : List Entry) → count_among (es ++ fs) ≡ count_among
 count-both es fs =
     let a : length (functions_among (es ++ fs)) ≡ length (functions_among es) + length (functions_among fs) =
     ap length (filter_map-append _ es fs) ∙ length-append (functions_among es) (functions_among fs) in
-    let b : length (interfaces_among (es ++ fs)) ≡ length (interfaces_among es) + length (interfaces_among fs) =
-    ap length (flat_map-append _ es fs) ∙ length-append (interfaces_among es) (interfaces_among fs) in
-    omega (arith, a, b)
+    omega (arith, a, ap length (flat_map-append _ es fs) ∙ length-append (interfaces_among es) (interfaces_among fs))
 
 -- the entries of the world are those that have been encoded, the next one, and others
 pub next-among : (r : Resolve) (w : World) (direction : Direction) (done : Entries) (x : Entry) → IsNext r w direction done x → (rest : List Entry) × (entries_in w ≡ all_done done ++ x ∷ rest)
@@ -402,24 +392,19 @@ held-after : (r p p' : Resolve) (e e' : WorldEncoder) (es : List Entry) (n : ℕ
     → HoldsFor r None e.maps e'.maps (held_beside p (world_around e)) (held_beside p' (world_around e')) 0
     → declaration_count e'.outer ≤ 2 * length e'.maps.id_to_index.entries + (length (brought_numbers r (world_around e')) + (2 * count_among es + n))
 held-after r p p' e e' es n q q' h keys f =
-    let before : held_beside p (world_around e) ≡ held_beside r (world_around e) = ap (λ z. held_beside z (world_around e)) q in
-    let after : held_beside p' (world_around e') ≡ held_beside r (world_around e') = ap (λ z. held_beside z (world_around e')) q' in
-    let few = h.held in
-    let more = holds-few n keys f in
-    omega (arith, before, after, few, more)
+    omega (arith, ap (λ z. held_beside z (world_around e)) q, ap (λ z. held_beside z (world_around e')) q', h.held, holds-few n keys f)
 
 -- the type of a function brings one key at most
 pub one-key : {r : Resolve} {scope : Scope} {m m' : TypeEncodingMaps} {d d' : Definitions} {key : FunctionKey} {i : ℕ} → AddsFunction r scope m m' d d' key i
     → length m'.func_type_map.entries ≤ length m.func_type_map.entries + 1
 one-key {r} {scope} {m} {m'} a = elim a.keys [
-  | inl same ↦ (let l : length m'.func_type_map.entries ≡ length m.func_type_map.entries = ap length same.1.lists in omega (arith, l))
-  | inr more ↦ (let l = lists-longer (λ (v : ListKey). v.0.items) m.func_type_map.entries m'.func_type_map.entries (more.1.list, _) more.1.more in omega (arith, l))
+  | inl same ↦ omega (arith, ap length same.1.lists)
+  | inr more ↦ omega (arith, lists-longer (λ (v : ListKey). v.0.items) m.func_type_map.entries m'.func_type_map.entries (more.1.list, _) more.1.more)
 ]
 
 -- a function: its type, and then its import or export
 pub function-few : (r p p' : Resolve) (e e' : WorldEncoder) (es : List Entry) (k : WorldKey) (i : WorldItem) (f : Function) (direction : Direction) (name : ExternName) (described : ComponentTypeRef)
-    (outer : Declarations)
-    → i ≡ item.Function f → p ≡ r → p' ≡ r → e'.foreign.instances.entries ≡ e.foreign.instances.entries → HoldsFew r e es
+    (outer : Declarations) → i ≡ item.Function f → p ≡ r → p' ≡ r → e'.foreign.instances.entries ≡ e.foreign.instances.entries → HoldsFew r e es
     → length e'.maps.func_type_map.entries ≤ length e.maps.func_type_map.entries + 1
     → HoldsFor r None e.maps e'.maps (held_beside p (world_around e)) (held_beside p' (world_around e')) 0 → outer ≡ declared_after e'.outer (declared_towards direction name described)
     → HoldsFew r (record e' { outer = outer }) (es ++ (k, i) ∷ [])
@@ -428,9 +413,7 @@ function-few r p p' e e' es k i f direction name described outer is q q' same h 
       listed = listed-front e' es ((k, item.Function f) ∷ []) (same-listed e e' es same h.listed);
       held =
           (let x = held-after r p p' e e' es 1 q q' h keys held in
-          let y = outer-pushed e'.outer outer (declared_towards direction name described) made in
-          let z = count-both es ((k, item.Function f) ∷ []) in
-          omega (arith, x, y, z));
+          omega (arith, x, outer-pushed e'.outer outer (declared_towards direction name described) made, count-both es ((k, item.Function f) ∷ [])));
     })
 
 -- a type
@@ -441,10 +424,7 @@ pub type-few : (r p p' : Resolve) (e e' : WorldEncoder) (es : List Entry) (k : W
 type-few r p p' e e' es k i id is q q' same h keys held =
     subst (λ (j : WorldItem). HoldsFew r e' (es ++ (k, j) ∷ [])) (sym is) (record {
       listed = listed-front e' es ((k, item.Type_ id) ∷ []) (same-listed e e' es same h.listed);
-      held =
-          (let x = held-after r p p' e e' es 0 q q' h (let l : length e'.maps.func_type_map.entries ≡ length e.maps.func_type_map.entries = ap length keys in omega (arith, l)) held in
-          let z = count-both es ((k, item.Type_ id) ∷ []) in
-          omega (arith, x, z));
+      held = omega (arith, held-after r p p' e e' es 0 q q' h (omega (arith, ap length keys)) held, count-both es ((k, item.Type_ id) ∷ []));
     })
 
 -- nothing is held by a new encoder
@@ -476,11 +456,7 @@ module _ (r : Resolve) (w : World) (e : WorldEncoder) (done : Entries) (directio
       record { different = b.different; all = λ m c. subst (λ (ys : List Entry). IsTypeAmong r ys m) (sym among.1) (type-front r es (x ∷ among.0) m (b.all m c)) }
 
   counted : count_among es + count_among (x ∷ []) ≤ count_among all
-  counted =
-      let a : count_among all ≡ count_among (es ++ x ∷ among.0) = ap count_among among.1 in
-      let b = count-both es (x ∷ among.0) in
-      let c = count-both (x ∷ []) among.0 in
-      omega (arith, a, b, c)
+  counted = omega (arith, ap count_among among.1, count-both es (x ∷ among.0), count-both (x ∷ []) among.0)
 
   -- the component type is full
   pub full : (a : Around) → a.instances ≡ e.foreign.instances.entries → (met : List ℕ) → AllPairs (λ x y. nat_eq x y ≡ false) met → ((m : ℕ) → Contains met m → IsMetAmong r all m)
@@ -490,7 +466,7 @@ module _ (r : Resolve) (w : World) (e : WorldEncoder) (done : Entries) (directio
     brought = brought_numbers r a;
     are_met = record { different = apart; all = are };
     are_brought = brought-all a same;
-    many = (let c = counted in omega (arith, held, over, c));
+    many = omega (arith, held, over, counted);
   })
 
   module _ (e' : WorldEncoder) (same : e'.foreign.instances.entries ≡ e.foreign.instances.entries) where
@@ -511,12 +487,8 @@ module _ (r : Resolve) (w : World) (e : WorldEncoder) (done : Entries) (directio
               ])
               (let before : held_beside p (world_around e) ≡ held_beside r (world_around e) = ap (λ z. held_beside z (world_around e)) q in
               let after : held_beside p' (world_around e') ≡ held_beside r (world_around e') = ap (λ z. held_beside z (world_around e')) q' in
-              let few = h.held in
-              let more = f.held in
-              let two = counts-few r None f.numbers in
               let a = length-append (known-numbers e.maps) f.numbers in
-              let b = length-map e.maps.id_to_index.entries (λ (y : ℕ × ℕ). y.0) in
-              omega (arith, before, after, few, more, two, a, b, fits))
+              omega (arith, before, after, h.held, f.held, counts-few r None f.numbers, a, length-map e.maps.id_to_index.entries (λ (y : ℕ × ℕ). y.0), fits))
               over
 
           either : (a : Request) → (IsUnfit r a → WorldLacksRoom r w) → LacksRoomBehind p' (declaration_count e'.outer) a → WorldLacksRoom r w
@@ -548,9 +520,7 @@ module _ (r : Resolve) (w : World) (e : WorldEncoder) (done : Entries) (directio
 
         overfull : limit ≤ declaration_count e'.outer → WorldLacksRoom r w
         overfull over = full (world_around e') same (known-numbers e'.maps) (known-once e'.maps once) (λ m c. met-after m (known-number e'.maps m c))
-            (let a = held-after r p p' e e' es k q q' h keys held in
-            let b = length-map e'.maps.id_to_index.entries (λ (y : ℕ × ℕ). y.0) in
-            omega (arith, a, b, few))
+            (omega (arith, held-after r p p' e e' es k q q' h keys held, length-map e'.maps.id_to_index.entries (λ (y : ℕ × ℕ). y.0), few))
             over
 
         by : (b : Bool) → fits ≡ b → (b && fits_counts (declaration_count e'.outer + 1) slots) ≡ false → WorldLacksRoom r w
@@ -585,9 +555,8 @@ pub function-name-lacks : (r p p' : Resolve) (w : World) (e e' : WorldEncoder) (
 function-name-lacks r p p' w e e' done direction canonical k i f name index is n d h same once q q' keys learns held named refused =
     let m : IsNext r w direction done (k, item.Function f) = subst (λ (j : WorldItem). IsNext r w direction done (k, j)) is n in
     let among = next-among r w direction done (k, item.Function f) m in
-    let few = outer-slots-few e'.outer in
     name-lacks r w e done direction (k, item.Function f) m d h e' same p p' q q' (function_types f) (function-referred k f) 1 (omega arith) keys once learns held (fits_name name)
-    (type_slots_of e'.outer + 0) (omega (arith, few))
+    (type_slots_of e'.outer + 0) (omega (arith, outer-slots-few e'.outer))
     (λ u. a_name canonical (k, item.Function f) (subst (λ (ys : List Entry). Contains ys (k, item.Function f)) (sym among.1) (there (all_done done) among.0)) refl
     (ap fits_name (sym (named ∙ ap (λ (j : WorldItem). name_of_item r canonical (k, j)) is)) ∙ u)) (towards direction refused)
   where
@@ -608,24 +577,21 @@ type-lacks r p p' w e e' done direction k i id is n d h same once q q' lacks =
     let m : IsNext r w direction done (k, item.Type_ id) = subst (λ (j : WorldItem). IsNext r w direction done (k, j)) is n in
     call-lacks r w e done direction (k, item.Type_ id) m d h e' same once p p' q q' (ty.Id id ∷ []) (type-referred k id) [] 0 (omega arith) (λ a c u. none-in a c) lacks
 
--- ---- what the page is for
+-- ---- which types of listed interfaces have an alias in a component type, and how much it holds beside them
 
 -- what passes one test passes the other
 pub filters-more : {X : Type 0} (p q : X → Bool) → ((x : X) → p x ≡ true → q x ≡ true) → (xs : List X) → length (filter p xs) ≤ length (filter q xs)
-filters-more p q h [] = omega arith
-filters-more p q h (x ∷ xs) = elim (cases_Bool (p x)) [
-  | inl e ↦ (let rest = filters-more p q h xs in let a = ap length (cond-true (p x) (x ∷ filter p xs) (filter p xs) e) in let b = ap length (cond-true (q x) (x ∷ filter q xs) (filter q xs) (h x e)) in
-      omega (arith, rest, a, b))
-  | inr e ↦ (let rest = filters-more p q h xs in let a = ap length (cond-false (p x) (x ∷ filter p xs) (filter p xs) e) in elim (cases_Bool (q x)) [
-    | inl f ↦ (let b = ap length (cond-true (q x) (x ∷ filter q xs) (filter q xs) f) in omega (arith, rest, a, b))
-    | inr f ↦ (let b = ap length (cond-false (q x) (x ∷ filter q xs) (filter q xs) f) in omega (arith, rest, a, b))
-  ])
-]
+filters-more p q h xs = omega (arith, length-filter p xs, length-filter q xs, sum_by-le-sum_by (λ x. cond (p x) 1 0) (λ x. cond (q x) 1 0) xs (λ x. each (p x) (q x) (h x)))
+  where
+    each : (b c : Bool) → (b ≡ true → c ≡ true) → cond b 1 0 ≤ cond c 1 0
+    each false c h = omega arith
+    each true true h = omega arith
+    each true false h = cc (h refl)
 
 -- a type that has an alias keeps one
 known-kept : (n t m : ℕ) (es : List (ℕ × ℕ)) → known_slot es n ≡ None → is_some (known_slot es m) ≡ true → is_some (known_slot (insert_entry nat_cmp es n t) m) ≡ true
 known-kept n t m es none there = elim (cases_Bool (is_at (nat_cmp m) n)) [
-  | inl same ↦ (let one : m ≡ n = at-same m n same in ap is_some (ap (known_slot (insert_entry nat_cmp es n t)) one ∙ new-slot n t es none))
+  | inl same ↦ (ap is_some (ap (known_slot (insert_entry nat_cmp es n t)) (at-same m n same) ∙ new-slot n t es none))
   | inr other ↦ ap is_some (other-slot n t m es other none) ∙ there
 ]
 
@@ -637,21 +603,19 @@ brought-kept r a x is m h =
 
 -- a call that makes one alias at most
 pub reached-beside : {r : Resolve} {id : TypeId} {a a' : Around} → ReachesAround r id a a' → held_beside r a' ≤ held_beside r a + 1
-reached-beside {r} {id} {a} {a'} (as_before e) = let same = ap (held_beside r) e in omega (arith, same)
+reached-beside {r} {id} {a} {a'} (as_before e) = omega (arith, ap (held_beside r) e)
 reached-beside {r} {id} {a} {a'} (aliased x is n e) =
-    let held : declaration_count a'.declared ≤ declaration_count a.declared + 1 = reached-held (aliased x is n e) in
     let more : length (brought_numbers r a) ≤ length (brought_numbers r (with_alias a x)) =
     filters-more (is_brought r a) (is_brought r (with_alias a x)) (brought-kept r a x is) (below (length r.types.items)) in
-    let same : length (brought_numbers r a') ≡ length (brought_numbers r (with_alias a x)) = ap (λ z. length (brought_numbers r z)) e in
-    omega (arith, held, more, same)
+    omega (arith, reached-held (aliased x is n e), more, ap (λ z. length (brought_numbers r z)) e)
 
 -- one declaration more at most, and the same aliases
 -- what a call leaves that has declared nothing
 pub reached-kept : (r : Resolve) (a a' : Around) → a' ≡ a → held_beside r a' ≤ held_beside r a
-reached-kept r a a' e = let same = ap (held_beside r) e in omega (arith, same)
+reached-kept r a a' e = omega (arith, ap (held_beside r) e)
 
 pub beside-kept : (r : Resolve) (a : Around) (outer : Declarations) → outer ≡ a.declared → held_beside r (record a { declared = outer }) ≤ held_beside r a
-beside-kept r a outer e = let same : held_beside r (record a { declared = outer }) ≡ held_beside r a = ap (λ (o : Declarations). held_beside r (record a { declared = o })) e in omega (arith, same)
+beside-kept r a outer e = omega (arith, ap (λ (o : Declarations). held_beside r (record a { declared = o })) e)
 
 pub beside-more : (r : Resolve) (a : Around) (outer : Declarations) → declaration_count outer ≤ declaration_count a.declared + 1 → held_beside r (record a { declared = outer }) ≤ held_beside r a + 1
 beside-more r a outer h = omega (arith, h)

@@ -62,15 +62,12 @@ module _ (r : Resolve) (w : WorldId) (count : ℕ) (maps : TypeEncodingMaps) whe
   aliases-leave a (x ∷ made) sound are =
       let one = alias-leaves a x sound are.0 in
       let rest = aliases-leave (with_alias a x) made (ap (λ (s : Scope). s.is_sound) one.scope_stays ∙ sound) are.1 in
-      let low = one.more in
-      let high = rest.more in
       record {
         scope_stays = rest.scope_stays ∙ one.scope_stays;
         kept = λ i m h. rest.kept i m (one.kept i m h);
-        more = omega (arith, low, high);
+        more = omega (arith, one.more, rest.more);
         counted = rest.counted ∙ one.counted;
-        instances =
-            rest.instances ∙ one.instances;
+        instances = rest.instances ∙ one.instances;
       }
 
 -- aliases are no imports or exports
@@ -88,8 +85,7 @@ abbrev pub with_outer : WorldEncoder → Declarations → Foreign → WorldEncod
 with_outer e outer foreign = record e { outer = outer; foreign = foreign }
 
 pub aliases-shown : (r : Resolve) (w : World) (e : WorldEncoder) (done : Entries) → HasShown r w e done → (outer : Declarations) (foreign : Foreign)
-    → GrowsAround e.resolve.now (world_around e) (around_at outer foreign)
-    → HasShown r w (with_outer e outer foreign) done
+    → GrowsAround e.resolve.now (world_around e) (around_at outer foreign) → HasShown r w (with_outer e outer foreign) done
 aliases-shown r w e done h outer foreign g =
     let q : Resolve = e.resolve.now in
     let sound : is_sound_outside q e.world (world_around e) ≡ true = subst (λ (z : Resolve). is_sound_outside z e.world (world_around e) ≡ true) (sym h.packages_) h.sound in
@@ -115,8 +111,6 @@ aliases-shown r w e done h outer foreign g =
     (λ m known. elim (h.alone m known) [ inl none ↦ inl none | inr c ↦ inr (subst (λ (es : List Entry). Contains (types_among (es ++ done.1)) m) (sym same) c) ]) in
     subst (λ (es : List Entry). HasShown r w (with_outer e outer foreign) (es, done.1)) same left
 
--- ---- what the page is for
-
 -- ---- the interface of an item
 
 no-type : (x : Entry) (n : ℕ) → item_interface x.1 ≡ Some n → types_among (x ∷ []) ≡ []
@@ -128,20 +122,15 @@ key-path x path = search std_rules
 -- ---- entries
 
 one-more : {A : Type 0} (given : List Entry → List A) → ((es gs : List Entry) → given (es ++ gs) ≡ given es ++ given gs) → (direction : Direction) (done : Entries) (x : Entry) (y : A)
-    → given (x ∷ []) ≡ y ∷ []
-    → length (given (all_done (with_entry direction done x))) ≡ length (given (all_done done)) + 1
+    → given (x ∷ []) ≡ y ∷ [] → length (given (all_done (with_entry direction done x))) ≡ length (given (all_done done)) + 1
 one-more given split import_ done x y one =
     let a = ap length (split (done.0 ++ x ∷ []) done.1) ∙ length-append (given (done.0 ++ x ∷ [])) (given done.1) in
     let b = ap length (split done.0 (x ∷ [])) ∙ length-append (given done.0) (given (x ∷ [])) in
-    let c : length (given (x ∷ [])) ≡ 1 = ap length one in
-    let d = ap length (split done.0 done.1) ∙ length-append (given done.0) (given done.1) in
-    omega (arith, a, b, c, d)
+    omega (arith, a, b, ap length one, ap length (split done.0 done.1) ∙ length-append (given done.0) (given done.1))
 one-more given split export_ done x y one =
     let a = ap length (split done.0 (done.1 ++ x ∷ [])) ∙ length-append (given done.0) (given (done.1 ++ x ∷ [])) in
     let b = ap length (split done.1 (x ∷ [])) ∙ length-append (given done.1) (given (x ∷ [])) in
-    let c : length (given (x ∷ [])) ≡ 1 = ap length one in
-    let d = ap length (split done.0 done.1) ∙ length-append (given done.0) (given done.1) in
-    omega (arith, a, b, c, d)
+    omega (arith, a, b, ap length one, ap length (split done.0 done.1) ∙ length-append (given done.0) (given done.1))
 
 -- an entry that is done is an old one or the new one
 done-cases : (direction : Direction) (done : Entries) (x : Entry) (j : ℕ) → Contains (interfaces_among (all_done (with_entry direction done x))) j → Contains (interfaces_among (all_done done)) j
@@ -189,7 +178,7 @@ done-entry r w direction done x n y c = by direction n (Contains-append_cases do
     front es ds rest e d = subst (λ (zs : List Entry). Contains zs y) (sym e) (Contains-append_left ds (x ∷ rest) y d)
 
     empty : (es : List Entry) → es ≡ [] → Contains es y → ⊥
-    empty es e (k, l, q) = let none : length es ≡ 0 = ap length e in omega (arith, l, none)
+    empty es e (k, l, q) = omega (arith, l, ap length e)
 
     by : (direction : Direction) → IsNext r w direction done x → Contains done.0 y ⊎ Contains done.1 y → Contains (w.imports.entries ++ w.exports.entries) y
     by import_ n (inl d) = Contains-append_left w.imports.entries w.exports.entries y (front w.imports.entries done.0 n.rest n.next d)
@@ -221,8 +210,7 @@ module _ (r : Resolve) (v : IsValid r) (w : World) (e : WorldEncoder) (done : En
       (stand-before r v w e done h direction x n j (interfaces-ready r v e.world w h.world_ place x.1 (next-place r w direction done x n) j (uses-of r x.1 i.0 j is c)) (used-path r v i.0 j c))
 
   module _ (canonical : Bool) (ds : List Declaration) (view : View) (k : ℕ) (outer : Declarations) (followed : instance_view (home_of r i.0) (outer_slots e.outer) ds ≡ Some view)
-      (shows : ShowsInterface r i.0 view)
-      (index : k ≡ type_slots_of e.outer)
+      (shows : ShowsInterface r i.0 view) (index : k ≡ type_slots_of e.outer)
       (declared : outer ≡ declared_after (append e.outer (Declarations.instance (from_list ds) Declarations.no_more)) (declared_towards direction (name_of_item r canonical x) (refs.Instance k))) where
     abbrev s : follow.Scope
     s = h.scope
@@ -252,14 +240,11 @@ module _ (r : Resolve) (v : IsValid r) (w : World) (e : WorldEncoder) (done : En
     instances-there = ap (λ o. option_map_or (λ z. z.instances) o []) h.followed
 
     number : k ≡ length s.slots
-    number =
-        let count : length s.slots ≡ length new_scope.slots + type_slots_of e.outer = steps-count new_scope s e.outer h.followed in
-        index ∙ (let same : type_slots_of e.outer ≡ length s.slots = omega (arith, count) in same)
+    number = index ∙ (let same : type_slots_of e.outer ≡ length s.slots = omega (arith, steps-count new_scope s e.outer h.followed) in same)
 
     steps : StepsTo r (with_entry direction done x) (in_scope slot s) after (declared_towards direction (name_of_item r canonical x) (refs.Instance (length s.slots)))
     steps = interfaces_are_shown r canonical direction done s x i.0 ds view v (record { number = e.world.0; world = w; there = h.world_; listed = next-entry r w direction done x n }) is h.shows
-        (turn r w direction done x n)
-        (subst (λ (zs : List Slot). instance_view (home_of r i.0) zs ds ≡ Some view) slots-there followed) shows
+        (turn r w direction done x n) (subst (λ (zs : List Slot). instance_view (home_of r i.0) zs ds ≡ Some view) slots-there followed) shows
 
     next : outer_scope outer ≡ Some after
     next =
@@ -280,11 +265,7 @@ module _ (r : Resolve) (v : IsValid r) (w : World) (e : WorldEncoder) (done : En
 
     -- there is room for one instance more
     pub room-behind : e.instances < type_slots_of outer
-    room-behind =
-        let count : length after.slots ≡ length new_scope.slots + type_slots_of outer = steps-count new_scope after outer next in
-        let l : length after.slots ≡ length s.slots + 1 = ap length after-slots ∙ length-append s.slots (slot ∷ []) in
-        let before = h.typed in
-        omega (arith, count, l, before)
+    room-behind = omega (arith, steps-count new_scope after outer next, ap length after-slots ∙ length-append s.slots (slot ∷ []), h.typed)
 
     module _ (foreign : Foreign) (known : foreign.known ≡ e.foreign.known) (listed : foreign.instances.entries ≡ insert_entry nat_cmp e.foreign.instances.entries i.0 e.instances) where
       abbrev e' : WorldEncoder
@@ -332,9 +313,7 @@ module _ (r : Resolve) (v : IsValid r) (w : World) (e : WorldEncoder) (done : En
       types-same = nothing-brought types_among (filter_map-append _) direction done x (no-type x i.0 is)
 
       old-key : (j : ℕ) → is_at (nat_cmp j) i.0 ≡ false → j ≡ i.0 → ⊥
-      old-key j other same =
-          let wrong : true ≡ false = sym (ap is_eq (equal-self nat_cmp_total i.0)) ∙ subst (λ (m : ℕ). is_at (nat_cmp m) i.0 ≡ false) same other in
-          let z : ⊥ = cc in z
+      old-key j other same = cc (sym (ap is_eq (equal-self nat_cmp_total i.0)) ∙ subst (λ (m : ℕ). is_at (nat_cmp m) i.0 ≡ false) same other)
 
       pub interface-behind : HasShown r w e' (with_entry direction done x)
       interface-behind = record {
@@ -358,9 +337,8 @@ module _ (r : Resolve) (v : IsValid r) (w : World) (e : WorldEncoder) (done : En
               | inl old ↦ h.stand j old p
               | inr new ↦ absurd (old-key j other (only-one i.0 j (subst (λ (ns : List ℕ). Contains ns j) (among-one x i.0 is) new)))
             ]);
-        count = (let c : e.instances ≡ length (interfaces_among (all_done done)) = h.count in let more = one-more interfaces_among (flat_map-append _) direction done x i.0 (among-one x i.0 is) in
-            let same : e.instances + 1 ≡ length (interfaces_among (all_done (with_entry direction done x))) = omega (arith, c, more) in same);
-        typed = (let before = h.typed in let l : length after.slots ≡ length s.slots + 1 = ap length after-slots ∙ length-append s.slots (slot ∷ []) in omega (arith, before, l));
+        count = omega (arith, h.count, one-more interfaces_among (flat_map-append _) direction done x i.0 (among-one x i.0 is));
+        typed = omega (arith, h.typed, ap length after-slots ∙ length-append s.slots (slot ∷ []));
         known = λ m c. h.known m (subst (λ (ns : List ℕ). Contains ns m) types-same c);
         alone = λ m q. elim (h.alone m q) [ inl none ↦ inl none | inr c ↦ inr (subst (λ (ns : List ℕ). Contains ns m) (sym types-same) c) ];
       }
@@ -401,10 +379,9 @@ module _ (r : Resolve) (v : IsValid r) (w : World) (e e' : WorldEncoder) (done :
 
   pub interface-encoded : (e'' : WorldEncoder) → ListsInstance (record e' { outer = outer }) e'' i → HasShown r w e'' (with_entry direction done x)
   interface-encoded e'' lists =
-      let same : e'.instances ≡ e.instances = ap (λ (z : WorldEncoder). z.instances) rest in
       let all : e'' ≡ record between { outer = outer; foreign = record e'.foreign { instances = e''.foreign.instances }; instances = e.instances + 1 } = lists.rest
       ∙ (λ j. record (rest j) { outer = outer; foreign = record e'.foreign { instances = e''.foreign.instances }; instances = (rest j).instances + 1 }) in
       subst (λ (z : WorldEncoder). HasShown r w z (with_entry direction done x)) (sym all)
       (interface-behind r v w between done shown-between direction x n i is canonical encodes.part.declared encodes.part.is_instance.view k outer
       encodes.part.is_instance.followed encodes.shows encodes.part.index declared-then (record e'.foreign { instances = e''.foreign.instances }) refl
-      (lists.listed ∙ ap (insert_entry nat_cmp e'.foreign.instances.entries i.0) same))
+      (lists.listed ∙ ap (insert_entry nat_cmp e'.foreign.instances.entries i.0) (ap (λ (z : WorldEncoder). z.instances) rest)))

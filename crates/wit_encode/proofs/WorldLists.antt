@@ -35,12 +35,13 @@ use Rattle.wit_encode.proofs.{Referring.from-none, Refusing.counts-refused, Refu
 use Rattle.wit_encode.proofs.WorldHolding.{defines-behind, interfaces-more, towards-alias, towards-function, towards-target, towards-value, count-both, full, known-number, known-numbers, known-once, met-before, next-among}
 use Rattle.wit_encode.proofs.{Exporting.learnt-apart, Exporting.learnt-one, Exporting.was-or-learnt, Numbers.gives-one, Numbers.once-before, Numbers.one-mapped}
 use Rattle.wit_encode.proofs.WorldShown.{type_seen, types-shown, items_meet_standing, no-type-exported, own-type, parts-listed, type-key}
-use Rattle.wit_encode.proofs.WorldFunctions.{at-length, before-next, done_items, next-entry, next-place, scope-of, second, stand-before, taken-front, types-given}
+use Rattle.wit_encode.proofs.WorldFunctions.{at-length, before-next, done_items, next-entry, next-place, scope-of, second, stand-before, types-given}
 use Rattle.base_lemmas.proofs.Elements.{zip-append, contains-one, first-contained as contains-first, last_of as one-contained}
 use Rattle.base_lemmas.proofs.{Bools.left_of as first_true, Bools.right_of as second_true, Numbers.equal, Numbers.same-number, Options.there as some-of}
 use Rattle.std.specs.declared.alloc.Global.{Global}
 use Rattle.encode_shown.proofs.{Used.contains-flat-from, Basics.valid-references}
-use Rattle.wit_model.proofs.{Elements.contains-get, PartsLemmas.owner_same as same-owner}
+use Rattle.wit_model.proofs.{Elements.contains-get, PartsLemmas.owner_same as same-owner, OnePath.one-number}
+use Rattle.std.proofs.Math.Seq.{take-append_seam}
 use Rattle.wit_model.specs.declared.model.WorldItem.TheVariants as item
 use Rattle.comp_bytes.specs.declared.forms.ComponentTypeRef.TheVariants as refs
 use Rattle.wit_model.specs.declared.model.TypeOwner.TheVariants as owner
@@ -120,8 +121,7 @@ module _ (r : Resolve) (e e' e'' : WorldEncoder) (x : Entry) (i : InterfaceId) (
       keeps-then = subst (λ (n : ℕ). KeepsBehind r n (world_around e'') (interfaces_among es ++ i.0 ∷ []) (map place_and_number h.keeps.has.made) (length (interfaces_among es)))
           (sym (ap (λ (z : WorldEncoder). z.instances) lists.rest ∙ ap (λ n. n + 1) counted))
           (keeps-instance r e.instances (interfaces_among es) i.0 (map place_and_number h.keeps.has.made) before (world_around e'')
-          inner described outer-then (towards-alias direction name (refs.Instance k))
-          (ap length (interface-name direction name k))
+          inner described outer-then (towards-alias direction name (refs.Instance k)) (ap length (interface-name direction name k))
           (listed-then ∙ (λ j. insert_entry nat_cmp (sym (grown-listed r (world_around e) before encodes.part.aliases.grown) j) i.0 (counted j))) known-then keeps-before)
 
       asked-then : (t : ℕ) → is_some (known_slot e''.foreign.known.entries t) ≡ true → (is_some (known_slot e.foreign.known.entries t) ≡ true) ⊎ IsAskedBy r x t
@@ -144,8 +144,7 @@ module _ (r : Resolve) (e e' e'' : WorldEncoder) (x : Entry) (i : InterfaceId) (
         is = refl;
         ordered = encodes.part.is_instance;
         function_types = encodes.part.function_types;
-        value_types =
-            encodes.part.value_types;
+        value_types = encodes.part.value_types;
         few = encodes.part.few;
         places = encodes.part.places;
       }
@@ -161,10 +160,7 @@ module _ (r : Resolve) (e e' e'' : WorldEncoder) (x : Entry) (i : InterfaceId) (
         let a : declaration_count e''.outer + length (brought_numbers r (world_around e)) ≤ declaration_count e.outer + (length (brought_numbers r (world_around e'')) + 2) =
         placed-few r (world_around e) before encodes.part.aliases.grown inner described e''.outer outer-then i.0 e'.instances e''.foreign.instances.entries e''.foreign.known.entries listed-then
         known-then in
-        let o : length e''.maps.id_to_index.entries ≡ length e.maps.id_to_index.entries = ap (λ (z : TypeEncodingMaps). length z.id_to_index.entries) same-maps in
-        let p = count-both es (x ∷ []) in
-        let q = count-one x i.0 is in
-        omega (arith, few, a, o, p, q));
+        omega (arith, few, a, ap (λ (z : TypeEncodingMaps). length z.id_to_index.entries) same-maps, count-both es (x ∷ []), count-one x i.0 is));
   }
     where
       here : Contains (interfaces_among (es ++ x ∷ [])) i.0
@@ -174,8 +170,7 @@ module _ (r : Resolve) (e e' e'' : WorldEncoder) (x : Entry) (i : InterfaceId) (
 -- ---- no room
 
 module _ (r : Resolve) (w : World) (e : WorldEncoder) (done : Entries) (direction : Direction) (x : Entry) (n : IsNext r w direction done x) (d : HasDefined r e (all_done done))
-    (h : HoldsFew r e (all_done done))
-    (once : IsOnce e.maps) (i : InterfaceId) (is : item_interface x.1 ≡ Some i.0) where
+    (h : HoldsFew r e (all_done done)) (once : IsOnce e.maps) (i : InterfaceId) (is : item_interface x.1 ≡ Some i.0) where
   abbrev known : List ℕ
   known = known-numbers e.maps
 
@@ -185,13 +180,9 @@ module _ (r : Resolve) (w : World) (e : WorldEncoder) (done : Entries) (directio
   over-behind a g more one over =
       full r w e done direction x n d h (record a { declared = more }) (grown-listed r (world_around e) a g) known (known-once e.maps once)
       (λ m c. met-before r w e done direction x n d h m (known-number e.maps m c))
-      (let few = h.held in
-      let f = grown-few r (world_around e) a g in
-      let o : length known ≡ length e.maps.id_to_index.entries = length-map e.maps.id_to_index.entries (λ (y : ℕ × ℕ). y.0) in
-      let q = count-one x i.0 is in
+      (let o : length known ≡ length e.maps.id_to_index.entries = length-map e.maps.id_to_index.entries (λ (y : ℕ × ℕ). y.0) in
       let same : length (brought_numbers r (record a { declared = more })) ≡ length (brought_numbers r a) = refl in
-      omega (arith, few, f, o, q, one, same))
-      over
+      omega (arith, h.held, grown-few r (world_around e) a g, o, count-one x i.0 is, one, same)) over
 
   among : (rest : List Entry) × (entries_in w ≡ all_done done ++ x ∷ rest)
   among = next-among r w direction done x n
@@ -224,10 +215,9 @@ module _ (r : Resolve) (w : World) (e : WorldEncoder) (done : Entries) (directio
       by : (b : Bool) → fits_name name ≡ b → (b && fits_counts (declaration_count a.declared + 1) (type_slots_of a.declared + 0)) ≡ false → WorldLacksRoom r w
       by false u g = a_name canonical x (subst (λ (es : List Entry). Contains es x) (sym among.1) (there (all_done done) among.0)) (no-type x i.0 is) (ap fits_name (sym named) ∙ u)
       by true u g =
-          let few = outer-slots-few a.declared in
           over-behind encodes.part.before encodes.part.aliases.grown a.declared
           (one-behind encodes.part.before (from_list encodes.part.declared) a.declared (ap (λ (z : Around). z.declared) encodes.part.one_more))
-          (counts-refused (declaration_count a.declared) (type_slots_of a.declared + 0) (omega (arith, few)) g)
+          (counts-refused (declaration_count a.declared) (type_slots_of a.declared + 0) (omega (arith, outer-slots-few a.declared)) g)
 
 -- ---- The imports of a world, or its exports, one after the other.
 
@@ -290,7 +280,7 @@ goes-on r canonical e e' e'' direction entries rest more x a g is encodes named 
   names = names-then r canonical g.front (x ∷ []) e.outer e'.outer e''.outer g.names named;
   defines = λ es h. subst (HasDefined r e'') (append_assoc es g.front (x ∷ [])) (defines (es ++ g.front) (g.defines es h));
   holds = λ es h. subst (HoldsFew r e'') (append_assoc es g.front (x ∷ [])) (holds (es ++ g.front) (g.holds es h));
-  written = (let both = sum_by-append (item_extent r canonical) g.front (x ∷ []) in learnt-most (omega (arith, both)) (learnt-then g.written written));
+  written = learnt-most (omega (arith, sum_by-append (item_extent r canonical) g.front (x ∷ []))) (learnt-then g.written written);
 }
   where
     by : (direction : Direction) (w : World) → HasShown r w e' (so_far direction w g.front) → entries_of direction w ≡ g.front ++ x ∷ more
@@ -337,7 +327,7 @@ pub written-whole : (r : Resolve) (canonical : Bool) (e e' : WorldEncoder) (dire
     → AddsLearnt r (items_extent r canonical entries) e.maps e'.maps e.outer e'.outer
 written-whole r canonical e e' direction entries rest g none = search std_rules
 
--- ---- what the page is for
+-- ---- a type of a world, imported behind what has been
 
 module _ (r : Resolve) (v : IsValid r) (w : World) (e : WorldEncoder) (done : Entries) (h : HasShown r w e done) (k : WorldKey) (id : TypeId) (n : IsNext r w import_ done (k, item.Type_ id)) where
   abbrev entry : Entry
@@ -378,9 +368,6 @@ module _ (r : Resolve) (v : IsValid r) (w : World) (e : WorldEncoder) (done : En
       def there in
       subst (λ (o : Option World). passes (is_listed_in_world m (text_of x)) o ≡ true) h.world_ listed
 
-  two-ids : (a b : ℕ) (o : Option ℕ) → is_id a o ≡ true → is_id b o ≡ true → a ≡ b
-  two-ids a b y p q = search std_rules
-
   -- a declaration of the world under this name is that of the type
   declared-alone : (y : Text × TypeMeaning) → Contains (world_view_of r e).scope.declarations y → y.0 ≡ text_of name → y ≡ (text_of name, type_meaning r own.def)
   declared-alone y c same =
@@ -396,9 +383,8 @@ module _ (r : Resolve) (v : IsValid r) (w : World) (e : WorldEncoder) (done : En
           let text : text_of x ≡ text_of name = ap (λ (z : Text × TypeMeaning). z.0) is ∙ same in
           let theirs : is_listed_in_world m (text_of name) w ≡ true = subst (λ (t : Text). is_listed_in_world m t w ≡ true) text (listed-at m def x there named owned) in
           let ours : is_listed_in_world id.0 (text_of name) w ≡ true = listed-at id.0 own.def name own.there name-is own.owned in
-          let one : m ≡ id.0 = two-ids m id.0 _ (first_true (is_id m _) _ theirs) (first_true (is_id id.0 _) _ ours) in
-          let def_same : def ≡ own.def = same-some def own.def (sym there ∙ ap (type_at r) one ∙ own.there) in
-          sym is ∙ (λ i. (text i, type_meaning r (def_same i)))
+          let one : m ≡ id.0 = one-number m id.0 _ (first_true (is_id m _) _ theirs) (first_true (is_id id.0 _) _ ours) in
+          sym is ∙ (λ i. (text i, type_meaning r ((same-some def own.def (sym there ∙ ap (type_at r) one ∙ own.there)) i)))
 
       by-owner : (def : TypeDef) (m : ℕ) → type_at r m ≡ Some def → (b : Bool) → same_owner home def.owner ≡ b → Contains (cond b (named_declaration r def.name def) []) y
           → y ≡ (text_of name, type_meaning r own.def)
@@ -417,17 +403,17 @@ module _ (r : Resolve) (v : IsValid r) (w : World) (e : WorldEncoder) (done : En
 
   fresh : IsKnown e.maps id.0 → ⊥
   fresh q = elim (h.alone id.0 q) [
-    | inl none ↦ (let wrong : Some (text_of name) ≡ None = sym named ∙ none in let z : ⊥ = cc in z)
+    | inl none ↦ (cc (sym named ∙ none))
     | inr c ↦ (let ours = listed-at id.0 own.def name own.there name-is own.owned in
         let once : (count_by (λ m. m == id.0) (world_type_numbers w) == 1) ≡ true = second_true (is_id id.0 _) _ ours in
         let before : Contains (types_among done.0) id.0 = subst (λ (es : List Entry). Contains (types_among es) id.0) (ap (λ (es : List Entry). done.0 ++ es) n.begun ∙ append-nil done.0) c in
         once-before (world_type_numbers w) (length (types_among done.0)) id.0
         (ap (λ ns. slice_get ns (length (types_among done.0))) types-of-world ∙ at-length (types_among done.0) (types_among n.rest) id.0) once
-        (subst (λ (ns : List ℕ). Contains ns id.0) (sym (ap (take (length (types_among done.0))) types-of-world ∙ taken-front (types_among done.0) (id.0 ∷ types_among n.rest))) before))
+        (subst (λ (ns : List ℕ). Contains ns id.0) (sym (ap (take (length (types_among done.0))) types-of-world ∙ take-append_seam (types_among done.0) (id.0 ∷ types_among n.rest))) before))
   ]
 
   meets-no-other : (t : ValueType) (m : ℕ) → t ≡ ty.Id id → Meets r None e.maps t m → (m ≡ id.0 → ⊥) → own_name r (world_view_of r e).scope m ≡ None
-  meets-no-other _ _ q (at_once id' lacks) other = let same : id' ≡ id = cc in absurd (other (ap (λ (y : TypeId). y.0) same))
+  meets-no-other _ _ q (at_once id' lacks) other = absurd (other (ap (λ (y : TypeId). y.0) cc))
   meets-no-other _ _ q (further id' def t m lacks there f c more) other = meets-unnamed r (valid-references r v) (world_view_of r e).scope e.maps t m parts more
     where
       same : id' ≡ id
@@ -478,8 +464,7 @@ module _ (r : Resolve) (v : IsValid r) (w : World) (e : WorldEncoder) (done : En
         { key = key_text r k; shown = Shown.declares (type_meaning_at r id.0).declaration; external_id = (type_meaning_at r id.0).external_id }
     seen-right =
         let meaning : type_meaning r own.def ≡ type_meaning_at r id.0 = ap (λ (o : Option TypeDef). option_map_or (type_meaning r) o no_type) (sym own.there) in
-        let text : text_of name ≡ key_text r k = type-key r v e.world w h.world_ k id imported own name name-is in
-        λ i. type_seen (text i, meaning i)
+        λ i. type_seen ((type-key r v e.world w h.world_ k id imported own name name-is) i, meaning i)
 
     abbrev nothing_viewed : View
     nothing_viewed = record { types = []; functions = [] }
@@ -517,7 +502,7 @@ module _ (r : Resolve) (v : IsValid r) (w : World) (e : WorldEncoder) (done : En
             ⊎ Contains (types_among (all_done (done.0 ++ entry ∷ [], done.1))) m
         by-number m met true q = inr (subst (λ (ns : List ℕ). Contains ns m) (sym types-then)
             (Contains-append_right (types_among (all_done done)) (id.0 ∷ []) m (subst (λ (x : ℕ). Contains (id.0 ∷ []) x) (sym (equal m id.0 q)) (contains-one id.0))))
-        by-number m met false q = inl (met-no-other m met (λ same. let wrong : true ≡ false = sym (subst (λ (x : ℕ). (m == x) ≡ true) same (same-number m)) ∙ q in let z : ⊥ = cc in z))
+        by-number m met false q = inl (met-no-other m met (λ same. cc (sym (subst (λ (x : ℕ). (m == x) ≡ true) same (same-number m)) ∙ q)))
 
 -- ---- the call, by the item and the list that it stands in
 
@@ -530,8 +515,7 @@ type-next r v w e done h k id export_ n = absurd (no-type-exported r v e.world w
     (Contains-append_right done.1 ((k, item.Type_ id) ∷ n.rest) (k, item.Type_ id) (contains-first (k, item.Type_ id) n.rest))))
 
 pub type-encodable : (r : Resolve) → IsValid r → (w : World) (e : WorldEncoder) (done : Entries) → HasShown r w e done → (k : WorldKey) (id : TypeId) (i : WorldItem) → i ≡ item.Type_ id
-    → (direction : Direction) → IsNext r w direction done (k, i)
-    → CanEncode r (world_view_of r e).scope (ty.Id id ∷ [])
+    → (direction : Direction) → IsNext r w direction done (k, i) → CanEncode r (world_view_of r e).scope (ty.Id id ∷ [])
 type-encodable r v w e done h k id i is direction n =
     let m : IsNext r w direction done (k, item.Type_ id) = subst (λ (j : WorldItem). IsNext r w direction done (k, j)) is n in
     can-encode-type r v w e done h k id (subst (λ (z : Direction). IsNext r w z done (k, item.Type_ id)) (type-next r v w e done h k id direction m) m)

@@ -1,5 +1,5 @@
 -- What an encoder of a world shows after a call that defines, imports and reaches types.
-use Rattle.std.proofs.Common.{rules as std_rules, ◌≡◌, refl, sym, subst, ap, ◌∙◌, ℕ, true, ◌&&◌, if◌then◌else◌, List, [], ◌∷◌, ◌++◌, append-nil, filter_map, Result, Ok, Err, IfOk, OnOk, OnErr, Some, length, arith, zero, suc, ◌<◌, ◌≤◌, ◌⊎◌, inl, inr, false, slice_get, take, option_to_list, Option, None, String, map}
+use Rattle.std.proofs.Common.{rules as std_rules, ◌≡◌, refl, sym, subst, ap, ◌∙◌, ℕ, true, ◌&&◌, if◌then◌else◌, List, [], ◌∷◌, ◌++◌, append-nil, filter_map, Result, Ok, Err, IfOk, OnOk, OnErr, Some, length, arith, zero, suc, ◌<◌, ◌≤◌, ◌⊎◌, inl, inr, slice_get, take, option_to_list, Option, None, String, map}
 use Rattle.std.proofs.lemmas.{List.Elements.filter_map-append, List.Elements.Contains-append_cases, Option.same_Some as some-same, List.Concat.flat_map-append}
 use Rattle.std.proofs.lemmas.{List.Folds.list_all-append, Bool.and_from as both, List.map-append}
 use Rattle.std.specs.{List.list_all, List.Contains, List.AllZip, Option.option_map_or, Option.is_some, Prelude.option_and_then}
@@ -24,7 +24,7 @@ use Rattle.wit_encode.proofs.{Contents.IsOf, Contents.Grew, Contents.grew-adds, 
 use Rattle.wit_encode.proofs.Meeting.{named-meets, unnamed-meets, part-uses}
 use Rattle.wit_encode.proofs.{Numbers.after-at, Naming.named-owner, Owned.part-met, Directions.begins-here, Directions.numbers_of, Directions.order-then}
 use Rattle.wit_encode.proofs.OwnerScope.{AllStay, IsUse, Stay, function-refers, named-stays, type-stays, types-stay, use-at, use-foreign}
-use Rattle.base_lemmas.proofs.{Bools.left_of as first_true, Bools.right_of as second_true, Options.some_same as one-some}
+use Rattle.base_lemmas.proofs.{Bools.left_of as first_true, Bools.right_of as second_true, Options.some_same as one-some, Lists.slice_take, Options.there as some-of}
 use Rattle.base_lemmas.proofs.Elements.{all-contained, contains-one, get-contains, last_of as one-contained, map_from as contains-mapped, zip_long}
 use Rattle.std.specs.declared.alloc.Global.{Global}
 use Rattle.indexmap.specs.IndexMap.{values}
@@ -33,7 +33,7 @@ use Rattle.wit_model.specs.Parts.{met_by, met_of, same_owner, function_types, fu
 use Rattle.wit_model.specs.Rules.{is_use, in_list, passes, package_number, text_is, key_in_range, item_in_range, entries_in_range, item_type, uses_stand_before, used_interfaces, used_types, used_by_number, import_stands, export_stands}
 use Rattle.wit_model.specs.Uses.{used_interface, interface_used_by, has, item_interface, items_of}
 use Rattle.wit_model.specs.Valid.{IsValid, numbers_in_range, order_of_items, world_items, is_place, functions_of_world, item_function}
-use Rattle.wit_model.proofs.{Owners.met_step, OnePath.found-in, PartsLemmas.owner_same as same-owner}
+use Rattle.wit_model.proofs.{Owners.met_step, OnePath.found-in, PartsLemmas.owner_same as same-owner, TextLemmas.named_too}
 use Rattle.wit_model.proofs.{Elements.contains-filter_map, Elements.contains-get, Elements.contains-flat, Elements.has-contains, ValidLemmas.world_passes}
 use Rattle.encode_shown.proofs.{Items.typed-item, Zips.given-contains, Basics.valid-references}
 use Rattle.encode_shown.specs.Views.{ShowsItem}
@@ -189,16 +189,10 @@ world-calls (Err q) r w count a a' m P counts x types sound is h e = search std_
 -- ---- beginnings of lists
 
 taken-at : {A : Type 0} (xs : List A) (k p : ℕ) (x : A) → slice_get (take k xs) p ≡ Some x → (p < k) × (slice_get xs p ≡ Some x)
-taken-at xs zero p x h = absurd (let z : ⊥ = cc in z)
-taken-at [] (suc k) p x h = absurd (let z : ⊥ = cc in z)
+taken-at xs zero p x h = absurd cc
+taken-at [] (suc k) p x h = absurd cc
 taken-at (y ∷ ys) (suc k) zero x h = (omega arith, h)
-taken-at (y ∷ ys) (suc k) (suc p) x h = let m = taken-at ys k p x h in let l = m.0 in (omega (arith, l), m.1)
-
-at-taken : {A : Type 0} (xs : List A) (k p : ℕ) (x : A) → slice_get xs p ≡ Some x → p < k → slice_get (take k xs) p ≡ Some x
-at-taken xs zero p x h l = absurd (omega (arith, l))
-at-taken [] (suc k) p x h l = absurd (let z : ⊥ = cc in z)
-at-taken (y ∷ ys) (suc k) zero x h l = h
-at-taken (y ∷ ys) (suc k) (suc p) x h l = at-taken ys k p x h (omega (arith, l))
+taken-at (y ∷ ys) (suc k) (suc p) x h = let m = taken-at ys k p x h in (omega (arith, m.0), m.1)
 
 -- what is given before a place is given before a later one
 given-later : {A B : Type 0} (f : A → Option B) (xs : List A) (p k : ℕ) (y : B) → p ≤ k → Contains (filter_map f (take p xs)) y → Contains (filter_map f (take k xs)) y
@@ -206,8 +200,7 @@ given-later f xs p k y l c =
     let found = given-contains f (take p xs) y c in
     let place = contains-get (take p xs) found.0 found.1 in
     let there = taken-at xs p place.0 found.0 place.1 in
-    let low = there.0 in
-    contains-filter_map f (take k xs) found.0 y (get-contains (take k xs) place.0 found.0 (at-taken xs k place.0 found.0 there.1 (omega (arith, l, low))))
+    contains-filter_map f (take k xs) found.0 y (get-contains (take k xs) place.0 found.0 (slice_take xs k place.0 (omega (arith, l, there.0)) ∙ there.1))
     (subst (λ o. Contains (option_to_list o) y) (sym found.2) (contains-one y))
 
 -- ---- a use of another interface
@@ -277,40 +270,34 @@ module _ (r : Resolve) (v : IsValid r) (id : WorldId) (w : World) (there : world
     use-stands n def is t id' c def' is' uses u =
         let used : interface_used_by r t.id'.0 ≡ Some u.interface.0 = ap (λ m. option_and_then (used_interface r) (type_at r m)) t.same ∙ ap (option_and_then (used_interface r)) is ∙ used-of r def id'
         def' u.interface uses c is' u.owns in
-        let low = t.before in
         record {
           interface = u.interface;
           owns = u.owns;
-          stands = stand u.interface.0 (given-later item_interface items t.place k u.interface.0 (omega (arith, low))
+          stands = stand u.interface.0 (given-later item_interface items t.place k u.interface.0 (omega (arith, t.before))
               (interfaces-ready t.place (item.Type_ t.id') t.at u.interface.0 (subst (λ o. Contains (option_to_list o) u.interface.0) (sym used) (contains-one u.interface.0))))
               (subst (λ (o : TypeOwner). is_named_interface r o ≡ true) u.owns (named-owner r v def' u.named_));
         }
 
     part-listed : (n : ℕ) (def : TypeDef) → type_at r n ≡ Some def → Among n → (name : Option (String Global)) → def.name ≡ name → (id' : TypeId) → Contains (parts_of def.kind) (ty.Id id')
-        → Stay r v home id'.0
-        → (x : ℕ) → Contains (met_by (met_of r) id'.0) x → Contains (types_before (suc k)) x
+        → Stay r v home id'.0 → (x : ℕ) → Contains (met_by (met_of r) id'.0) x → Contains (types_before (suc k)) x
     part-listed n def is a None e id' c stay x d = a.listed x (subst (λ (ns : List ℕ). Contains ns x) (sym (unnamed-meets r (valid-references r v) n def is e))
         (part-uses r (valid-references r v) def id' x c d))
     part-listed n def is a (Some name) e id' c stay x d =
         let t = type-item (suc k) n (a.listed n (named-meets r (valid-references r v) n def name is e)) in
-        let low = t.before in
         let used : Contains (used_by_number r t.id'.0) x = subst (λ (o : Option TypeDef). Contains (option_map_or (used_by_type r) o []) x) (sym (ap (type_at r) t.same ∙ is))
         (part-uses r (valid-references r v) def id' x c d) in
-        given-later item_type items t.place (suc k) x (omega (arith, low))
+        given-later item_type items t.place (suc k) x (omega (arith, t.before))
         (types-ready t.place (item.Type_ t.id') t.at x (contains-filter (has_owner r home) (used_by_number r t.id'.0) x (all-contained (has_owner r home) (met_by (met_of r) id'.0) x stay d) used))
-
-    name-there : {A P : Type 0} (o : Option A) → is_some o ≡ true → ((a : A) → o ≡ Some a → P) → P
-    name-there None e f = absurd (let z : ⊥ = cc in z)
-    name-there (Some a) e f = f a refl
 
     part-meets : (n : ℕ) (def : TypeDef) → type_at r n ≡ Some def → Among n → (id' : TypeId) → Contains (parts_of def.kind) (ty.Id id') → Meets id'.0
     part-meets n def is a id' c = part-met r v home n def is id' c a.own
         (λ stay. inl (record { own = stay; listed = part-listed n def is a def.name refl id' c stay }))
-        (λ named here uses. inr (λ def' is'. name-there def.name named (λ name e.
-        use-stands n def is (type-item (suc k) n (a.listed n (named-meets r (valid-references r v) n def name is e))) id' c def' is' uses (use-at r v home n def is id' c named here uses def' is'))))
+        (λ named here uses. inr (λ def' is'. let name = some-of def.name named in
+        use-stands n def is (type-item (suc k) n (a.listed n (named-meets r (valid-references r v) n def name.0 is name.1))) id' c def' is' uses
+        (use-at r v home n def is id' c named here uses def' is')))
 
     standing-foreign : (def : TypeDef) → StandingUse def → foreign_owner None def.owner ≡ None → ⊥
-    standing-foreign def u f = let e : foreign_owner None (owner.Interface u.interface) ≡ None = ap (foreign_owner None) (sym u.owns) ∙ f in let z : ⊥ = cc in z
+    standing-foreign def u f = cc (ap (foreign_owner None) (sym u.owns) ∙ f)
 
     reached-meets : (t : ValueType) (n : ℕ) → ((id' : TypeId) → t ≡ ty.Id id' → Meets id'.0) → Reaches r None t n → Meets n
     reached-meets _ _ p (itself id') = p id' refl
@@ -329,18 +316,12 @@ module _ (r : Resolve) (v : IsValid r) (id : WorldId) (w : World) (there : world
 
         owned : (o : TypeOwner) → foreign_owner None o ≡ Some i → o ≡ owner.Interface i
         owned (owner.Interface j) e = ap owner.Interface (some-same j i e)
-        owned (owner.World x) e = absurd (let z : ⊥ = cc in z)
-        owned owner.None e = absurd (let z : ⊥ = cc in z)
+        owned (owner.World x) e = absurd cc
+        owned owner.None e = absurd cc
 
         unnamed-home : (name : Option (String Global)) → def.name ≡ name → Among n → Contains scope.instances i.0
-        unnamed-home None e a =
-            let none : foreign_owner None def.owner ≡ None = ap (foreign_owner None) (same-owner def.owner owner.None (valid-ownerless r v n def is e)) in
-            let wrong : None ≡ Some i = sym none ∙ foreign in
-            absurd (let z : ⊥ = cc in z)
-        unnamed-home (Some name) e a =
-            let own : def.owner ≡ home = named-stays r v home n def is a.own (ap is_some e) in
-            let wrong : None ≡ Some i = ap (foreign_owner None) (sym own) ∙ foreign in
-            absurd (let z : ⊥ = cc in z)
+        unnamed-home None e a = cc (sym (ap (foreign_owner None) (same-owner def.owner owner.None (valid-ownerless r v n def is e))) ∙ foreign)
+        unnamed-home (Some name) e a = cc (ap (foreign_owner None) (sym (named-stays r v home n def is a.own (ap is_some e))) ∙ foreign)
 
         same-interface : (j : InterfaceId) → owner.Interface j ≡ owner.Interface i → j ≡ i
         same-interface j e = cc
@@ -376,15 +357,11 @@ module _ (r : Resolve) (v : IsValid r) (id : WorldId) (w : World) (there : world
   ]
     where
       exported : (k : WorldKey) → export_stands r k (item.Type_ id') ≡ true → IsTypeOf r home id'
-      exported (key.Name name) h = absurd (let z : ⊥ = cc in z)
-      exported (key.Interface i) h = absurd (let z : ⊥ = cc in z)
-
-      has-text : (o : Option (String Global)) (t : Text) → text_is o t ≡ true → is_some o ≡ true
-      has-text None t h = absurd (let z : ⊥ = cc in z)
-      has-text (Some x) t h = refl
+      exported (key.Name name) h = absurd cc
+      exported (key.Interface i) h = absurd cc
 
       imported : (k : WorldKey) → import_stands r id.0 k (item.Type_ id') ≡ true → item_in_range r (item.Type_ id') ≡ true → IsTypeOf r home id'
-      imported (key.Interface i) h range = absurd (let z : ⊥ = cc in z)
+      imported (key.Interface i) h range = absurd cc
       imported (key.Name name) h range =
           let found = found-in r.types.items id'.0 range in
           let test : (text_is found.0.name (text_of name) && same_owner found.0.owner home) ≡ true =
@@ -392,7 +369,7 @@ module _ (r : Resolve) (v : IsValid r) (id : WorldId) (w : World) (there : world
           record {
             def = found.0;
             there = found.1;
-            named_ = has-text found.0.name (text_of name) (first_true (text_is found.0.name (text_of name)) _ test);
+            named_ = named_too found.0.name (text_of name) (first_true (text_is found.0.name (text_of name)) _ test);
             owned = same-owner found.0.owner home (second_true (text_is found.0.name (text_of name)) _ test);
           }
 
@@ -413,8 +390,7 @@ module _ (r : Resolve) (v : IsValid r) (id : WorldId) (w : World) (there : world
 
   -- the named types that the parts of a type meet stand before it, but for those of other interfaces
   pub parts-listed : (k : ℕ) (t : TypeId) → slice_get items k ≡ Some (item.Type_ t) → (own : IsTypeOf r home t) → (id' : TypeId) → Contains (parts_of own.def.kind) (ty.Id id') → (def' : TypeDef)
-      → type_at r id'.0 ≡ Some def' → foreign_owner None def'.owner ≡ None
-      → (x : ℕ) → Contains (met_by (met_of r) id'.0) x → Contains (types_before k) x
+      → type_at r id'.0 ≡ Some def' → foreign_owner None def'.owner ≡ None → (x : ℕ) → Contains (met_by (met_of r) id'.0) x → Contains (types_before k) x
   parts-listed k t at own id' c def' at' f x d = part-met r v home t.0 own.def own.there id' c (type-stays r v home t own t (contains-one (ty.Id t)))
       (λ stay. types-ready k (item.Type_ t) at x (contains-filter (has_owner r home) (used_by_number r t.0) x (all-contained (has_owner r home) (met_by (met_of r) id'.0) x stay d)
       (subst (λ (o : Option TypeDef). Contains (option_map_or (used_by_type r) o []) x) (sym own.there) (part-uses r (valid-references r v) own.def id' x c d))))
@@ -426,8 +402,8 @@ module _ (r : Resolve) (v : IsValid r) (id : WorldId) (w : World) (there : world
       (second_true (list_all (λ e. import_stands r id.0 e.0 e.1) w.imports.entries) _ entries-stand) c)
     where
       wrong : (k : WorldKey) → export_stands r k (item.Type_ t) ≡ true → ⊥
-      wrong (key.Name name) h = let z : ⊥ = cc in z
-      wrong (key.Interface i) h = let z : ⊥ = cc in z
+      wrong (key.Name name) h = cc
+      wrong (key.Interface i) h = cc
 
   -- a type is imported under its name
   pub type-key : (k : WorldKey) (t : TypeId) → Contains w.imports.entries (k, item.Type_ t) → (own : IsTypeOf r home t) (name : String Global) → own.def.name ≡ Some name → text_of name ≡ key_text r k
@@ -435,7 +411,7 @@ module _ (r : Resolve) (v : IsValid r) (id : WorldId) (w : World) (there : world
       (first_true (list_all (λ e. import_stands r id.0 e.0 e.1) w.imports.entries) _ entries-stand) c)
     where
       of : (k : WorldKey) → import_stands r id.0 k (item.Type_ t) ≡ true → text_of name ≡ key_text r k
-      of (key.Interface i) h = absurd (let z : ⊥ = cc in z)
+      of (key.Interface i) h = absurd cc
       of (key.Name n) h =
           let test : (text_is own.def.name (text_of n) && same_owner own.def.owner home) ≡ true =
           subst (λ (o : Option TypeDef). passes (λ def. text_is def.name (text_of n) && same_owner def.owner home) o ≡ true) own.there h in
@@ -453,17 +429,15 @@ module _ (r : Resolve) (v : IsValid r) (id : WorldId) (w : World) (there : world
 
         itself-before : Contains (types_before (suc k)) id'.0
         itself-before = contains-filter_map item_type (take (suc k) items) (item.Type_ id') id'.0
-            (get-contains (take (suc k) items) k (item.Type_ id') (at-taken items (suc k) k (item.Type_ id') at (omega arith))) (contains-one id'.0)
+            (get-contains (take (suc k) items) k (item.Type_ id') (slice_take items (suc k) k (omega arith) ∙ at)) (contains-one id'.0)
 
         met-alone : (name : Option (String Global)) → own.def.name ≡ name → (x : ℕ) → Contains (met_by (met_of r) id'.0) x → id'.0 ≡ x
-        met-alone None e x d = absurd (let wrong : false ≡ true = sym (ap is_some e) ∙ own.named_ in let z : ⊥ = cc in z)
+        met-alone None e x d = absurd (cc (sym (ap is_some e) ∙ own.named_))
         met-alone (Some name) e x d = one-contained id'.0 x (subst (λ (ns : List ℕ). Contains ns x)
             (met_step r (valid-references r v) id'.0 own.def own.there ∙ ap (λ o. option_map_or (λ x. id'.0 ∷ []) o (used_by_type r own.def)) e) d)
 
         alone : (id'' : TypeId) → ty.Id id' ≡ ty.Id id'' → (x : ℕ) → Contains (met_by (met_of r) id''.0) x → id'.0 ≡ x
-        alone id'' e x d =
-            let same : id'' ≡ id' = cc in
-            met-alone own.def.name refl x (subst (λ (y : TypeId). Contains (met_by (met_of r) y.0) x) same d)
+        alone id'' e x d = met-alone own.def.name refl x (subst (λ (y : TypeId). Contains (met_by (met_of r) y.0) x) (cc) d)
 
     function-stands : (f : Function) → slice_get items k ≡ Some (item.Function f) → InstancesStand r scope (function_types f)
     function-stands f at = met-stand scope k stand s (function_types f) (λ id' c. record {
@@ -478,8 +452,6 @@ items_meet_standing r id w k i scope v there at s stand = by i at
     by (item.Interface n stability docs external_id) at m def j met is f = none-in met.0 met.1
     by (item.Type_ id') at m def j met is f = type-stands r v id w there k scope s stand id' at m def j met is f
     by (item.Function f') at m def j met is f = function-stands r v id w there k scope s stand f' at m def j met is f
-
--- ---- what the page is for
 
 -- ---- the types that have been imported are known from what has been exported
 
@@ -521,9 +493,7 @@ module _ (r : Resolve) (w : World) (e e' : WorldEncoder) (done : Entries) (h : H
     -- the scope of the component type
     adds : AddsTypes h.scope sound-there.scope (map type_seen types)
     adds =
-        let more = grows.more in
         let before : length (outer_slots e.outer) ≡ length h.scope.slots = ap (λ o. length (option_map_or (λ s. s.slots) o [])) h.followed in
-        let after : length (outer_slots e'.outer) ≡ length sound-there.scope.slots = ap (λ o. length (option_map_or (λ s. s.slots) o [])) sound-there.followed in
         record {
           more_types = ap (λ o. types_seen (option_map_or (λ s. s.imports) o [])) (sym sound-there.followed) ∙ types-back (seen_imports e'.outer) ∙ ap (map type_seen) exported
               ∙ map-append type_seen (filter_map declared_type (seen_imports e.outer)) types
@@ -537,7 +507,7 @@ module _ (r : Resolve) (w : World) (e e' : WorldEncoder) (done : Entries) (h : H
           used_stay = ap (λ o. option_map_or (λ s. s.used) o []) (sym sound-there.followed) ∙ ap (λ (o : Others). o.used) others-same ∙ ap (λ o. option_map_or (λ s. s.used) o []) h.followed;
           same_instance_types = ap (λ o. instance_types (option_map_or (λ s. s.slots) o [])) (sym sound-there.followed) ∙ ap (λ (o : Others). o.instance_types) others-same ∙ ap
               (λ o. instance_types (option_map_or (λ s. s.slots) o [])) h.followed;
-          more_slots = omega (arith, more, before, after);
+          more_slots = omega (arith, grows.more, before, ap (λ o. length (option_map_or (λ s. s.slots) o [])) sound-there.followed);
         }
 
     module _ (more : List Entry) (shown : AllZip (ShowsItem r) more (map type_seen types)) (no_interface : interfaces_among more ≡ []) where
@@ -566,7 +536,7 @@ module _ (r : Resolve) (w : World) (e e' : WorldEncoder) (done : Entries) (h : H
         sound = sound-after;
         stand = λ i c p. subst (λ (xs : List ℕ). Contains xs i) (sym standing-same) (h.stand i (subst (λ (xs : List ℕ). Contains xs i) same-interfaces c) p);
         count = ap (λ (o : Others). o.instance_count) others-same ∙ h.count ∙ ap length (sym same-interfaces);
-        typed = (let same : e'.instances ≡ e.instances = ap (λ (o : Others). o.instance_count) others-same in let before = h.typed in let more = adds.more_slots in omega (arith, same, before, more));
+        typed = omega (arith, ap (λ (o : Others). o.instance_count) others-same, h.typed, adds.more_slots);
         known = known;
         alone = λ n k. subst (λ (s : Scope). (own_name r s n ≡ None) ⊎ Contains (types_among (all_done (done.0 ++ more, done.1))) n) (sym scope-same) (alone n k);
       }

@@ -50,7 +50,7 @@ names-stay q ds es g = sym (named-alone es) ∙ ap (λ (a : Around). instance_na
   where
     none : (made : List Aliased) → AreAliases q (instances_around ds) made → with_aliases (instances_around ds) made ≡ instances_around ds
     none [] are = refl
-    none (x ∷ made) are = let wrong : ◌≡◌ {A = Option ℕ} None (Some x.instance) = are.0.instance in let z : ⊥ = cc in absurd z
+    none (x ∷ made) are = cc are.0.instance
 
 -- ---- items
 

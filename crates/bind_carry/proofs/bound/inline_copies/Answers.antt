@@ -1,6 +1,6 @@
 use Rattle.std.proofs.{Common.rules, Common.◌≤◌, Common.drop, Common.length, lemmas.List.drop_all}
 use Rattle.bind_copy.specs.Copies.{IsInterfaceUnder}
-use Rattle.bind_carry.proofs.Keeping.{all_kept}
+use Rattle.bind_carry.proofs.KeptPlaced.{all_kept}
 use Rattle.bind_carry.proofs.bound.inline_copies.Goals as goal
 
 pub returns-clause-copies : goal.returns-clause-copies

@@ -2,7 +2,7 @@ use Rattle.std.proofs.Common.{rules, ◌≡◌, ◌∙◌, ap, sym, length, map,
 use Rattle.std.proofs.lemmas.List.{length-map}
 use Rattle.bind_carry.specs.Marked.{mark_worlds}
 use Rattle.bind_carry.specs.{Which.new_interfaces, Numbers.interface_number, Numbers.numbers_of, Numbers.package_number, Numbers.world_number}
-use Rattle.bind_carry.proofs.Numbering.{numbers_long}
+use Rattle.bind_carry.proofs.CopiesPlaced.{numbers_long}
 use Rattle.bind_carry.proofs.carried.number_carried.Goals as goal
 
 pub returns-clause-numbered : goal.returns-clause-numbered

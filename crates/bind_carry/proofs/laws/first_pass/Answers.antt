@@ -1,4 +1,4 @@
-use Rattle.bind_carry.proofs.{FirstCarried.first_is_carried, FirstWorlds.first_is_copied, FirstWorldsCopied.first_worlds_are_copied}
+use Rattle.bind_carry.proofs.{FirstWorlds.first_is_carried, FirstWorlds.first_is_copied, FirstWorlds.first_worlds_are_copied}
 use Rattle.bind_carry.proofs.laws.first_pass.Goals as goal
 
 pub returns-clause-carried : goal.returns-clause-carried

@@ -2,7 +2,7 @@ use Rattle.std.proofs.Common.{arith, ◌≡◌, ◌<◌, ◌≤◌, ◌+◌, ◌
 use Rattle.std.proofs.lemmas.List.{drop_all, drop_more}
 use Rattle.std.specs.Vec.Iter.{into_iter_items}
 use Rattle.bind_carry.specs.{Moved.AreMovedSoFar, Fates.copied_types, Fates.IsCopiedType}
-use Rattle.bind_carry.proofs.{Counting.types_counted, MovedTypes.fate_moved, MovedTypes.fate_room, MovedTypes.no_types, Moving.all_moved, Moving.none_moved}
+use Rattle.bind_carry.proofs.{Counting.types_counted, Moving.fate_moved, Moving.fate_room, Moving.no_types, Moving.all_moved, Moving.none_moved}
 use Rattle.bind_carry.specs.declared.fate.Fate.TheVariants as fate
 use Rattle.bind_carry.proofs.moved.move_types.Goals as goal
 

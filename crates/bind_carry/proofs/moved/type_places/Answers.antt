@@ -2,7 +2,7 @@ use Rattle.std.proofs.Common.{rules, ◌≡◌, ◌∷◌, ◌++◌, ◌<◌, �
 use Rattle.std.proofs.lemmas.List.{drop_more}
 use Rattle.bind_carry.specs.Fates.{numbers_by}
 use Rattle.bind_carry.specs.declared.fate.Fate.TheVariants as fate
-use Rattle.bind_carry.proofs.MovedTypes.{number_more, place_more}
+use Rattle.bind_carry.proofs.Moving.{number_more, place_more}
 use Rattle.bind_carry.proofs.moved.type_places.Goals as goal
 
 pub loop-fate-preserved : goal.loop-fate-preserved

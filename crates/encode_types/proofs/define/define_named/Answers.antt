@@ -1,14 +1,18 @@
 use Rattle.comp_bytes.specs.RawOf.{raw_name}
-use Rattle.std.proofs.Common.{◌≡◌, ◌∙◌, ap, sym, subst, false, Some, inr, arith, rules}
+use Rattle.std.proofs.Common.{◌≡◌, ◌∙◌, refl, sym, subst, false, Some, inr, arith, rules}
 use Rattle.encode_types.specs.declared.maps.TypeEncodingMaps.{TypeEncodingMaps}
-use Rattle.encode_types.specs.{Maps.LearnsNumber, Scope.Scope, Counts.Definitions, Counts.ExportsOne, Counts.IsTarget, Kinds.has_definition}
-use Rattle.encode_types.proofs.{Owning.another-name, define.define_named.Given.Over, define.define_named.Goals.In_ok-slot, Agree.on_ok, Agree.learnt-one}
-use Rattle.encode_types.proofs.{Defining.counts-named, Defining.leaves-kept, Defining.leaves-trans, Writing.written-more, Writing.written-on}
+use Rattle.encode_types.specs.{Maps.LearnsNumber, Scope.Scope, Counts.Definitions, Counts.ExportsOne, Counts.IsTarget, Kinds.has_definition, Leaves.Leaves}
+use Rattle.encode_types.proofs.{Owning.another-name, define.define_named.Given.Over, define.define_named.Goals.In_ok-index, define.define_named.Goals.In_ok-slot}
+use Rattle.encode_types.proofs.{Agree.on_ok, Agree.learnt-one, Defining.counts-named, Defining.leaves-kept, Defining.leaves-beside, Defining.leaves-trans}
+use Rattle.encode_types.proofs.Writing.{written-more, written-on}
 use Rattle.encode_types.proofs.define.define_named.Goals as goal
 
+kept : (g : Over) (c : In_ok-index g) → Leaves c.args.resolve.now (g.E.ValtypeEncoder.view c.args.enc.now) (g.E.ValtypeEncoder.view c.define_kind.new.enc)
+kept g c = leaves-kept c.requires.agree c.define_kind.ensures.grows c.define_kind.ensures.scope_stays c.define_kind.ensures.maps_stay
+
 pub returns-clause-ok : goal.returns-clause-ok
-returns-clause-ok g c = on_ok c.remember_id.result _ _ (λ l. learnt-one (g.E.ValtypeEncoder.view c.args.enc.now).maps _ _ c.args.id _
-    (ap (λ (z : TypeEncodingMaps). z.id_to_index.entries) (c.export.ensures.maps_stay ∙ c.define_kind.ensures.maps_stay)) l) c.remember_id.ensures.ok
+returns-clause-ok g c = on_ok c.remember_id.result _ _
+    (λ l. learnt-one _ _ _ c.args.id _ refl (rw (c.export.ensures.maps_stay, c.define_kind.ensures.maps_stay) at l)) c.remember_id.ensures.ok
 
 target : (g : Over) (c : In_ok-slot g) → has_definition c.args.def.now.kind ≡ false → IsTarget c.args.resolve.now (g.E.ValtypeEncoder.view c.args.enc.now).maps c.in_ok-index.index
 target g c e =
@@ -30,22 +34,16 @@ returns-clause-counts g c = on_ok c.remember_id.result _ _
     c.remember_id.ensures.ok
 
 pub returns-clause-kinds : goal.returns-clause-kinds
-returns-clause-kinds g c = on_ok c.remember_id.result _ _ (λ l. l.rest.kinds ∙ ap (λ (z : TypeEncodingMaps). z.def_to_index.entries) (c.export.ensures.maps_stay ∙ c.define_kind.ensures.maps_stay))
-    c.remember_id.ensures.ok
+returns-clause-kinds g c = on_ok c.remember_id.result _ _
+    (λ l. (rw (c.export.ensures.maps_stay, c.define_kind.ensures.maps_stay) at l).rest.kinds) c.remember_id.ensures.ok
 
 pub returns-clause-leaves : goal.returns-clause-leaves
-returns-clause-leaves g c = leaves-trans (leaves-kept {v = g.E.ValtypeEncoder.view c.args.enc.now} {v' = g.E.ValtypeEncoder.view c.define_kind.new.enc} c.requires.agree c.define_kind.ensures.grows
-    c.define_kind.ensures.scope_stays c.define_kind.ensures.maps_stay) (leaves-trans
-    (leaves-kept {v = g.E.ValtypeEncoder.view c.define_kind.new.enc} {v' = g.E.ValtypeEncoder.view c.export.new.enc}
-    (leaves-kept {v = g.E.ValtypeEncoder.view c.args.enc.now} {v' = g.E.ValtypeEncoder.view c.define_kind.new.enc} c.requires.agree c.define_kind.ensures.grows c.define_kind.ensures.scope_stays
-    c.define_kind.ensures.maps_stay).agree c.export.ensures.grows c.export.ensures.scope_stays c.export.ensures.maps_stay) c.remember_id.ensures.leaves)
+returns-clause-leaves g c = leaves-trans
+    (leaves-beside (kept g (goal.at.returns-clause-leaves g c).In_ok-index) c.export.ensures.grows c.export.ensures.scope_stays c.export.ensures.maps_stay) c.remember_id.ensures.leaves
 
 pub returns-in_err-slot-clause-leaves : goal.returns-in_err-slot-clause-leaves
-returns-in_err-slot-clause-leaves g c = leaves-trans (leaves-kept {v = g.E.ValtypeEncoder.view c.args.enc.now} {v' = g.E.ValtypeEncoder.view c.define_kind.new.enc} c.requires.agree
-    c.define_kind.ensures.grows c.define_kind.ensures.scope_stays c.define_kind.ensures.maps_stay)
-    (leaves-kept {v = g.E.ValtypeEncoder.view c.define_kind.new.enc} {v' = g.E.ValtypeEncoder.view c.export.new.enc}
-    (leaves-kept {v = g.E.ValtypeEncoder.view c.args.enc.now} {v' = g.E.ValtypeEncoder.view c.define_kind.new.enc} c.requires.agree c.define_kind.ensures.grows c.define_kind.ensures.scope_stays
-    c.define_kind.ensures.maps_stay).agree c.export.ensures.grows c.export.ensures.scope_stays c.export.ensures.maps_stay)
+returns-in_err-slot-clause-leaves g c =
+    leaves-beside (kept g (goal.at.returns-in_err-slot-clause-leaves g c).In_ok-index) c.export.ensures.grows c.export.ensures.scope_stays c.export.ensures.maps_stay
 
 pub returns-clause-written : goal.returns-clause-written
 returns-clause-written g c = on_ok c.remember_id.result _ _ (λ l. written-on (written-more c.in_ok-index.ensures.written c.in_ok-slot.ensures.written) c.remember_id.ensures.written)

@@ -5,7 +5,7 @@ use Rattle.wit_model.specs.Lookup.{type_at}
 use Rattle.wit_model.specs.declared.model.InterfaceId.{InterfaceId}
 use Rattle.encode_types.specs.{Plan.foreign_owner, Maps.IsKnown, Room.unnamed_kind, Room.its_import}
 use Rattle.encode_types.proofs.Learning.{learns-none, learns-call-foreign}
-use Rattle.encode_types.proofs.{Defining.counts-none, Agree.not-known, Writing.writes-nothing, Writing.writes-number, Writing.foreign-extent, Writing.on-three}
+use Rattle.encode_types.proofs.{Defining.counts-none, Defining.leaves-none, Agree.not-known, Writing.writes-nothing, Writing.writes-number, Writing.foreign-extent, Writing.on-three}
 use Rattle.encode_types.proofs.Rooms.{holds-none, holds-number, lacks-number, counts-one, foreign-unkind, none-new, none-has}
 use Rattle.encode_types.proofs.{Encoding.learns-nothing, Encoding.tabled, Encoding.foreign-undefined, Encoding.foreign-unshown, define.define_number.Given.Over}
 use Rattle.encode_types.proofs.{define.define_number.Goals.After-foreign, Aliasing.met-none, Aliasing.met-one, Aliasing.imports-none, Aliasing.imports-one}
@@ -56,18 +56,21 @@ define_own-requires g c = λ _. (
       )),
 )
 
-pub returns-then-is_some-clause-counts : goal.returns-then-is_some-clause-counts
-returns-then-is_some-clause-counts g c = rw c.index_of.ensures.same (counts-none c.args.resolve.now (g.E.ValtypeEncoder.view c.args.enc.now).scope (g.E.ValtypeEncoder.view c.args.enc.now).maps
-    (g.E.ValtypeEncoder.view c.args.enc.now).definitions)
-
-pub returns-then-is_some-clause-ok : goal.returns-then-is_some-clause-ok
-returns-then-is_some-clause-ok g c =
+pub returns-then-is_some : goal.returns-then-is_some
+returns-then-is_some g c =
     let k : IsKnown (g.E.ValtypeEncoder.view c.args.enc.now).maps c.args.id.0 = some-from _ c.index_of.result (search rules) c.index_of.ensures.some in
-    rw c.index_of.ensures.same (record { known = k; only = learns-nothing _ _ })
-
-pub returns-then-is_some-clause-learns : goal.returns-then-is_some-clause-learns
-returns-then-is_some-clause-learns g c = rw c.index_of.ensures.same (learns-none c.args.resolve.now (g.E.ValtypeEncoder.view c.args.enc.now).scope.own_interface
-    (g.E.ValtypeEncoder.view c.args.enc.now).maps)
+    rw c.index_of.ensures.same (record {
+      ok = record { known = k; only = learns-nothing _ _ };
+      leaves = leaves-none c.requires.agree;
+      aliases = met-none refl;
+      imports = imports-none refl;
+      counts = counts-none _ _ _ _;
+      learns = learns-none _ _ _;
+      held = holds-none _ _ _ _;
+      written = writes-nothing _ _ _;
+      size = λ h. absurd (let z : ⊥ = cc in z);
+      refuses = tt;
+    })
 
 pub returns-in-Some-clause-learns : goal.returns-in-Some-clause-learns
 returns-in-Some-clause-learns g c =
@@ -77,10 +80,6 @@ returns-in-Some-clause-learns g c =
     (g.E.ValtypeEncoder.view c.args.enc.now).definitions (g.E.ValtypeEncoder.view c.import.new.enc).definitions c.args.id.0 c.index-def.result.now (there g a)
     (rw c.index_of.ensures.same at c.import.ensures.ok) (rw c.index_of.ensures.same at c.import.ensures.leaves.maps_grow) (rw c.index_of.ensures.same at c.import.ensures.counts)
     (rw c.index_of.ensures.same at c.import.ensures.kinds) c.in-Some.interface f
-
-pub returns-then-is_some-clause-held : goal.returns-then-is_some-clause-held
-returns-then-is_some-clause-held g c = rw c.index_of.ensures.same (holds-none c.args.resolve.now (g.E.ValtypeEncoder.view c.args.enc.now).scope.own_interface
-    (g.E.ValtypeEncoder.view c.args.enc.now).maps (g.E.ValtypeEncoder.view c.args.enc.now).held)
 
 unkind : (g : Over) (c : After-foreign g) (i : InterfaceId) → c.foreign.result ≡ Some i
     → unnamed_kind c.args.resolve.now (g.E.ValtypeEncoder.view c.args.enc.now).scope.own_interface c.args.id.0 ≡ None
@@ -113,9 +112,6 @@ returns-in-Some-clause-size g c = λ h.
     lacks-number c.args.resolve.now before.scope.own_interface c.args.id c.index-def.result.now before.maps before.held after.held after.lacks_room
     (there g a) (unknown g a) (none-new _ _ (unkind g a c.in-Some.interface c.in-Some.is)) (omega (arith, held, one)) (its_import c.in-Some.interface f refused.lacks)
 
-pub returns-then-is_some-clause-written : goal.returns-then-is_some-clause-written
-returns-then-is_some-clause-written g c = rw c.index_of.ensures.same (writes-nothing c.args.resolve.now 0 (g.E.ValtypeEncoder.view c.args.enc.now))
-
 pub returns-in-Some-clause-written : goal.returns-in-Some-clause-written
 returns-in-Some-clause-written g c =
     let a = (goal.at.returns-in-Some-clause-written g c).After-foreign in
@@ -133,9 +129,6 @@ returns-clause-written g c =
     (λ one counts w. writes-number counts.shows.learnt c.args.id.0 counts.shows.numbers one.known (unknown g a) w.extent)
     c.define_own.ensures.ok (rw c.index_of.ensures.same at c.define_own.ensures.counts) (rw c.index_of.ensures.same at c.define_own.ensures.written)
 
-pub returns-then-is_some-clause-aliases : goal.returns-then-is_some-clause-aliases
-returns-then-is_some-clause-aliases g c = rw c.index_of.ensures.same (met-none refl)
-
 pub returns-in-Some-clause-aliases : goal.returns-in-Some-clause-aliases
 returns-in-Some-clause-aliases g c =
     let a = (goal.at.returns-in-Some-clause-aliases g c).After-foreign in
@@ -144,9 +137,6 @@ returns-in-Some-clause-aliases g c =
 
 pub returns-clause-aliases : goal.returns-clause-aliases
 returns-clause-aliases g c = met-none (rw c.index_of.ensures.same at c.define_own.ensures.around_stays)
-
-pub returns-then-is_some-clause-imports : goal.returns-then-is_some-clause-imports
-returns-then-is_some-clause-imports g c = rw c.index_of.ensures.same (imports-none refl)
 
 pub returns-in-Some-clause-imports : goal.returns-in-Some-clause-imports
 returns-in-Some-clause-imports g c =

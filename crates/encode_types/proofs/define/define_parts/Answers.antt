@@ -1,15 +1,12 @@
 use Rattle.std.proofs.Common.{refl, ◌≡◌, ◌∙◌, sym, ap, subst, arith, get_or, length, rules}
 use Rattle.std.proofs.lemmas.List.Elements.{Contains-get_or}
-use Rattle.encode_types.specs.{Scope.Scope, Fits.Fits, Plan.IsOrderOf, Plan.foreign_owner, Plan.Reaches}
-use Rattle.wit_model.specs.declared.model.«Type».{«Type» as ValueType}
+use Rattle.encode_types.specs.{Scope.Scope, Fits.Fits, Plan.IsOrderOf, Plan.foreign_owner}
 use Rattle.encode_types.proofs.Learning.{learns-none, learns-then}
-use Rattle.encode_types.proofs.{Around.around-same, Defining.leaves-trans, Defining.leaves-kept, Defining.counts-trans, Defining.counts-none, Lists.none-in}
+use Rattle.encode_types.proofs.{Defining.leaves-trans, Defining.leaves-none, Defining.counts-trans, Defining.counts-none, Lists.none-in}
 use Rattle.encode_types.proofs.Encoding.{ready-now, known-more, ready-at-last, reaches-in_range, meets-reaches, learns-more, learns-at-last, learns-nothing}
-use Rattle.encode_types.proofs.{Rooms.holds-none, Rooms.holds-then, Rooms.room-after, Rooms.reaches-then, Rooms.learns-reached, define.define_parts.Given.Over}
+use Rattle.encode_types.proofs.{Rooms.holds-none, Rooms.holds-then, Rooms.room-after, Rooms.learns-reached, define.define_parts.Given.Over}
 use Rattle.encode_types.proofs.{define.define_parts.Goals.After-deref-n-items, Writing.writes-nothing, Writing.writes-then}
-use Rattle.encode_types.proofs.Aliasing.{met-none, makes-number, imports-none, imports-number}
-use Rattle.base_lemmas.proofs.Elements.{last_of as one-contained}
-use Rattle.wit_model.specs.declared.model.«Type».TheVariants as ty
+use Rattle.encode_types.proofs.Aliasing.{met-none, met-number, makes-number, imports-none, imports-number}
 use Rattle.encode_types.proofs.define.define_parts.Goals as goal
 
 ordered : (g : Over) (c : After-deref-n-items g)
@@ -46,16 +43,14 @@ define_number-requires g c = λ _. (
 
 pub loop-n-preserved : goal.loop-n-preserved
 loop-n-preserved g c = record {
-  known = known-more (g.E.ValtypeEncoder.view c.loop-n.enc).maps (g.E.ValtypeEncoder.view c.define_number.new.enc).maps c.deref-n-items.result.now c.loop-n.n-index c.loop-n-test.true
-      c.define_number.ensures.leaves.maps_grow c.loop-n.invariant.known c.in_ok-define_number.ensures.ok.known;
-  learns = learns-more (g.E.ValtypeEncoder.view c.args.enc.now).maps (g.E.ValtypeEncoder.view c.loop-n.enc).maps (g.E.ValtypeEncoder.view c.define_number.new.enc).maps c.deref-n-items.result.now
-      c.loop-n.n-index c.loop-n-test.true c.loop-n.invariant.learns c.in_ok-define_number.ensures.ok;
+  known = known-more _ _ _ c.loop-n.n-index c.loop-n-test.true c.define_number.ensures.leaves.maps_grow c.loop-n.invariant.known c.in_ok-define_number.ensures.ok.known;
+  learns = learns-more _ _ _ _ c.loop-n.n-index c.loop-n-test.true c.loop-n.invariant.learns c.in_ok-define_number.ensures.ok;
   learnt = learns-then (ap (λ (x : Scope). x.own_interface) c.loop-n.invariant.leaves.scope_stays) c.loop-n.invariant.learnt c.in_ok-define_number.ensures.learns;
   leaves = leaves-trans c.loop-n.invariant.leaves c.define_number.ensures.leaves;
-  aliases = makes-number (get_or c.deref-n-items.result.now c.loop-n.n-index 0) (ap (λ (x : Scope). x.own_interface) c.loop-n.invariant.leaves.scope_stays)
-      (ordered g (goal.at.loop-n-preserved g c).After-deref-n-items) (Contains-get_or _ _ 0 c.loop-n-test.true) c.loop-n.invariant.aliases c.define_number.ensures.aliases;
-  imports = imports-number (get_or c.deref-n-items.result.now c.loop-n.n-index 0) (ap (λ (x : Scope). x.own_interface) c.loop-n.invariant.leaves.scope_stays)
-      (ordered g (goal.at.loop-n-preserved g c).After-deref-n-items) (Contains-get_or _ _ 0 c.loop-n-test.true) c.loop-n.invariant.imports c.define_number.ensures.imports;
+  aliases = makes-number (ap (λ (x : Scope). x.own_interface) c.loop-n.invariant.leaves.scope_stays) (ordered g (goal.at.loop-n-preserved g c).After-deref-n-items) c.loop-n-test.true
+      c.loop-n.invariant.aliases c.define_number.ensures.aliases;
+  imports = imports-number (ap (λ (x : Scope). x.own_interface) c.loop-n.invariant.leaves.scope_stays) (ordered g (goal.at.loop-n-preserved g c).After-deref-n-items) c.loop-n-test.true
+      c.loop-n.invariant.imports c.define_number.ensures.imports;
   held = holds-then (ap (λ (x : Scope). x.own_interface) c.loop-n.invariant.leaves.scope_stays) c.loop-n.invariant.leaves.maps_grow c.define_number.ensures.leaves.maps_grow c.loop-n.invariant.held
       c.in_ok-define_number.ensures.held;
   written = writes-then c.loop-n.invariant.leaves.scope_stays c.loop-n.invariant.written c.in_ok-define_number.ensures.written;
@@ -63,29 +58,26 @@ loop-n-preserved g c = record {
 }
 
 pub returns-clause-ready : goal.returns-clause-ready
-returns-clause-ready g c = ready-at-last c.args.resolve.now (g.E.ValtypeEncoder.view c.args.enc.now).scope.own_interface (g.E.ValtypeEncoder.view c.args.enc.now).maps
-    (g.E.ValtypeEncoder.view c.loop-n.enc).maps c.args.types.now c.deref-n-items.result.now c.loop-n.n-index
-    (ordered g (goal.at.returns-clause-ready g c).After-deref-n-items) c.loop-n-test.false c.loop-n.invariant.leaves.maps_grow c.loop-n.invariant.known
+returns-clause-ready g c = ready-at-last _ _ _ _ _ _ _ (ordered g (goal.at.returns-clause-ready g c).After-deref-n-items) c.loop-n-test.false c.loop-n.invariant.leaves.maps_grow
+    c.loop-n.invariant.known
 
 pub returns-clause-learns : goal.returns-clause-learns
 returns-clause-learns g c = record {
   learns = c.loop-n.invariant.learnt;
-  only = learns-at-last c.args.resolve.now (g.E.ValtypeEncoder.view c.args.enc.now).scope.own_interface (g.E.ValtypeEncoder.view c.args.enc.now).maps (g.E.ValtypeEncoder.view c.loop-n.enc).maps
-      c.args.types.now c.deref-n-items.result.now c.loop-n.n-index
-      (ordered g (goal.at.returns-clause-learns g c).After-deref-n-items) c.loop-n-test.false c.loop-n.invariant.learns;
+  only = learns-at-last _ _ _ _ _ _ _ (ordered g (goal.at.returns-clause-learns g c).After-deref-n-items) c.loop-n-test.false c.loop-n.invariant.learns;
 }
 
 pub loop-n-init : goal.loop-n-init
 loop-n-init g c = rw c.order_of.ensures.same (record {
   known = λ j k. none-in j k;
   learns = learns-nothing _ (g.E.ValtypeEncoder.view c.args.enc.now).maps;
-  learnt = learns-none c.args.resolve.now (g.E.ValtypeEncoder.view c.args.enc.now).scope.own_interface (g.E.ValtypeEncoder.view c.args.enc.now).maps;
-  leaves = leaves-kept c.requires.agree (record { kept = λ i s h. h; more = omega arith; around_ = around-same refl; own_ = λ ns h. h }) refl refl;
+  learnt = learns-none _ _ _;
+  leaves = leaves-none c.requires.agree;
   aliases = met-none refl;
   imports = imports-none refl;
-  held = holds-none c.args.resolve.now (g.E.ValtypeEncoder.view c.args.enc.now).scope.own_interface (g.E.ValtypeEncoder.view c.args.enc.now).maps (g.E.ValtypeEncoder.view c.args.enc.now).held;
-  written = writes-nothing c.args.resolve.now 0 (g.E.ValtypeEncoder.view c.args.enc.now);
-  counts = counts-none c.args.resolve.now (g.E.ValtypeEncoder.view c.args.enc.now).scope (g.E.ValtypeEncoder.view c.args.enc.now).maps (g.E.ValtypeEncoder.view c.args.enc.now).definitions;
+  held = holds-none _ _ _ _;
+  written = writes-nothing _ _ _;
+  counts = counts-none _ _ _ _;
 })
 
 pub returns-in_err-define_number-clause-leaves : goal.returns-in_err-define_number-clause-leaves
@@ -95,35 +87,21 @@ pub returns-in_err-define_number-clause-size : goal.returns-in_err-define_number
 returns-in_err-define_number-clause-size g c = λ h.
     let o = ordered g (goal.at.returns-in_err-define_number-clause-size g c).After-deref-n-items in
     let before = g.E.ValtypeEncoder.view c.args.enc.now in
-    let n = get_or c.deref-n-items.result.now c.loop-n.n-index 0 in
-    let met = o.added n (Contains-get_or _ _ 0 c.loop-n-test.true) in
-    let keys : length (g.E.ValtypeEncoder.view c.loop-n.enc).maps.func_type_map.entries ≡ length (g.E.ValtypeEncoder.view c.args.enc.now).maps.func_type_map.entries =
-    ap length c.loop-n.invariant.counts.keys.lists in
+    let keys : length (g.E.ValtypeEncoder.view c.loop-n.enc).maps.func_type_map.entries ≡ length before.maps.func_type_map.entries = ap length c.loop-n.invariant.counts.keys.lists in
     room-after (ap (λ (x : Scope). x.own_interface) c.loop-n.invariant.leaves.scope_stays) c.loop-n.invariant.leaves.maps_grow c.loop-n.invariant.held
-    (learns-reached c.args.resolve.now before.scope.own_interface before.maps (g.E.ValtypeEncoder.view c.loop-n.enc).maps c.args.types.now c.deref-n-items.result.now c.loop-n.n-index o
-    c.loop-n.invariant.learns)
-    (λ k reached. (
-      met.0,
-      met.1,
-      reaches-then c.args.resolve.now before.scope.own_interface met.0 n (meets-reaches c.args.resolve.now before.scope.own_interface before.maps met.0 n met.2) k
-          (subst (λ (t : ValueType). Reaches c.args.resolve.now before.scope.own_interface t k) (sym (one-contained (ty.Id (record { 0 = n })) reached.0 reached.1)) reached.2),
-    ))
-    (λ q c. none-in q c) (omega (arith, keys)) (c.define_number.ensures.size (search rules))
+    (learns-reached _ _ _ _ _ _ c.loop-n.n-index o c.loop-n.invariant.learns) (met-number o c.loop-n-test.true) (λ q c. none-in q c) (omega (arith, keys))
+    (c.define_number.ensures.size (search rules))
 
 pub returns-in_err-define_number-clause-aliases : goal.returns-in_err-define_number-clause-aliases
-returns-in_err-define_number-clause-aliases g c =
-    makes-number (get_or c.deref-n-items.result.now c.loop-n.n-index 0) (ap (λ (x : Scope). x.own_interface) c.loop-n.invariant.leaves.scope_stays)
-    (ordered g (goal.at.returns-in_err-define_number-clause-aliases g c).After-deref-n-items) (Contains-get_or _ _ 0 c.loop-n-test.true)
-    c.loop-n.invariant.aliases c.define_number.ensures.aliases
+returns-in_err-define_number-clause-aliases g c = makes-number (ap (λ (x : Scope). x.own_interface) c.loop-n.invariant.leaves.scope_stays)
+    (ordered g (goal.at.returns-in_err-define_number-clause-aliases g c).After-deref-n-items) c.loop-n-test.true c.loop-n.invariant.aliases c.define_number.ensures.aliases
 
 pub returns-in_err-order-clause-aliases : goal.returns-in_err-order-clause-aliases
 returns-in_err-order-clause-aliases g c = rw c.order_of.ensures.same (met-none refl)
 
 pub returns-in_err-define_number-clause-imports : goal.returns-in_err-define_number-clause-imports
-returns-in_err-define_number-clause-imports g c =
-    imports-number (get_or c.deref-n-items.result.now c.loop-n.n-index 0) (ap (λ (x : Scope). x.own_interface) c.loop-n.invariant.leaves.scope_stays)
-    (ordered g (goal.at.returns-in_err-define_number-clause-imports g c).After-deref-n-items) (Contains-get_or _ _ 0 c.loop-n-test.true)
-    c.loop-n.invariant.imports c.define_number.ensures.imports
+returns-in_err-define_number-clause-imports g c = imports-number (ap (λ (x : Scope). x.own_interface) c.loop-n.invariant.leaves.scope_stays)
+    (ordered g (goal.at.returns-in_err-define_number-clause-imports g c).After-deref-n-items) c.loop-n-test.true c.loop-n.invariant.imports c.define_number.ensures.imports
 
 pub returns-in_err-order-clause-imports : goal.returns-in_err-order-clause-imports
 returns-in_err-order-clause-imports g c = rw c.order_of.ensures.same (imports-none refl)

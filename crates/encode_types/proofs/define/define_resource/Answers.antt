@@ -1,13 +1,12 @@
-use Rattle.std.proofs.Common.{◌∙◌, sym, ap, subst, None}
+use Rattle.std.proofs.Common.{refl, sym, subst, None}
 use Rattle.comp_bytes.specs.RawOf.{raw_name}
 use Rattle.encode_types.specs.declared.maps.TypeEncodingMaps.{TypeEncodingMaps}
 use Rattle.encode_types.specs.{Maps.LearnsNumber, Counts.Definitions, Counts.ExportsOne}
-use Rattle.encode_types.proofs.{Agree.on_ok, Agree.learnt-one, Defining.counts-resource, Defining.leaves-kept, Defining.leaves-trans, Writing.written-on}
+use Rattle.encode_types.proofs.{Agree.on_ok, Agree.learnt-one, Defining.counts-resource, Defining.leaves-before, Writing.written-on}
 use Rattle.encode_types.proofs.define.define_resource.Goals as goal
 
 pub returns-clause-ok : goal.returns-clause-ok
-returns-clause-ok g c = on_ok c.remember_id.result _ _ (λ l. learnt-one (g.E.ValtypeEncoder.view c.args.enc.now).maps _ _ c.args.id _
-    (ap (λ (z : TypeEncodingMaps). z.id_to_index.entries) c.export_resource.ensures.maps_stay) l) c.remember_id.ensures.ok
+returns-clause-ok g c = on_ok c.remember_id.result _ _ (λ l. learnt-one _ _ _ c.args.id _ refl (rw c.export_resource.ensures.maps_stay at l)) c.remember_id.ensures.ok
 
 pub returns-clause-counts : goal.returns-clause-counts
 returns-clause-counts g c = on_ok c.remember_id.result _ _
@@ -20,11 +19,11 @@ returns-clause-counts g c = on_ok c.remember_id.result _ _
     c.remember_id.ensures.ok
 
 pub returns-clause-kinds : goal.returns-clause-kinds
-returns-clause-kinds g c = on_ok c.remember_id.result _ _ (λ l. l.rest.kinds ∙ ap (λ (z : TypeEncodingMaps). z.def_to_index.entries) c.export_resource.ensures.maps_stay) c.remember_id.ensures.ok
+returns-clause-kinds g c = on_ok c.remember_id.result _ _ (λ l. (rw c.export_resource.ensures.maps_stay at l).rest.kinds) c.remember_id.ensures.ok
 
 pub returns-clause-leaves : goal.returns-clause-leaves
-returns-clause-leaves g c = leaves-trans (leaves-kept {v = g.E.ValtypeEncoder.view c.args.enc.now} {v' = g.E.ValtypeEncoder.view c.export_resource.new.self} c.requires.agree
-    c.export_resource.ensures.grows c.export_resource.ensures.scope_stays c.export_resource.ensures.maps_stay) c.remember_id.ensures.leaves
+returns-clause-leaves g c =
+    leaves-before c.remember_id.ensures.leaves c.requires.agree c.export_resource.ensures.grows c.export_resource.ensures.scope_stays c.export_resource.ensures.maps_stay
 
 pub returns-clause-written : goal.returns-clause-written
 returns-clause-written g c = on_ok c.remember_id.result _ _ (λ l. written-on c.in_ok-index.ensures.written c.remember_id.ensures.written) c.remember_id.ensures.ok

@@ -7,8 +7,7 @@ pub returns-in_ok-value-in-Some-clause-learns : goal.returns-in_ok-value-in-Some
 returns-in_ok-value-in-Some-clause-learns g c = rw c.in-Some.is c.in_ok-value-in-Some.ensures.learns
 
 pub returns-in-None-clause-counts : goal.returns-in-None-clause-counts
-returns-in-None-clause-counts g c = counts-none c.args.resolve.now (g.E.ValtypeEncoder.view c.args.enc.now).scope (g.E.ValtypeEncoder.view c.args.enc.now).maps
-    (g.E.ValtypeEncoder.view c.args.enc.now).definitions
+returns-in-None-clause-counts g c = counts-none _ _ _ _
 
 pub returns-in-None-clause-learns : goal.returns-in-None-clause-learns
 returns-in-None-clause-learns g c = met-nothing c.args.resolve.now (g.E.ValtypeEncoder.view c.args.enc.now).scope.own_interface _ (g.E.ValtypeEncoder.view c.args.enc.now).maps
@@ -23,8 +22,7 @@ pub returns-in-None-clause-written : goal.returns-in-None-clause-written
 returns-in-None-clause-written g c = writes-nothing c.args.resolve.now 0 (g.E.ValtypeEncoder.view c.args.enc.now)
 
 pub returns-in-None-clause-held : goal.returns-in-None-clause-held
-returns-in-None-clause-held g c = holds-none c.args.resolve.now (g.E.ValtypeEncoder.view c.args.enc.now).scope.own_interface (g.E.ValtypeEncoder.view c.args.enc.now).maps
-    (g.E.ValtypeEncoder.view c.args.enc.now).held
+returns-in-None-clause-held g c = holds-none _ _ _ _
 
 pub returns-in_ok-value-in-Some-clause-aliases : goal.returns-in_ok-value-in-Some-clause-aliases
 returns-in_ok-value-in-Some-clause-aliases g c = rw c.in-Some.is c.encode_valtype.ensures.aliases

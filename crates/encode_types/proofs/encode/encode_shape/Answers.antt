@@ -1,12 +1,12 @@
-use Rattle.std.proofs.Common.{◌≡◌, refl, rules, arith, ap, [], length, Result, Ok, Err, IfErr}
+use Rattle.std.proofs.Common.{◌≡◌, refl, rules, arith, ap, length, Result, Ok, Err, IfErr}
 use Rattle.std.specs.Result.{IsErr}
 use Rattle.wit_model.specs.declared.{error.Error.Error, error.Error.TheVariants.Size, model.Resolve.Resolve, model.TypeDefKind.TypeDefKind}
 use Rattle.comp_bytes.specs.Refusal.{IsMemoryOrSize}
 use Rattle.comp_bytes.specs.declared.forms.ComponentValType.{ComponentValType}
 use Rattle.encode_types.specs.{Kinds.parts_of, Kinds.kind_of, Kinds.kind_tree, View.View, Aliases.ImportsMet, Aliases.MakesMet}
-use Rattle.encode_types.specs.{Scope.Scope, Room.value_type, Leaves.Leaves, Leaves.LacksRoom, Leaves.LearnsFrom, Leaves.KindLacksRoom, Leaves.DefinesKind}
-use Rattle.encode_types.proofs.{Around.around-same, Aliasing.met-none, Aliasing.makes-same, Aliasing.imports-none, Aliasing.imports-same, Lists.none-in}
-use Rattle.encode_types.proofs.Defining.{leaves-kept, leaves-trans}
+use Rattle.encode_types.specs.{Scope.Scope, Room.value_type, Leaves.Leaves, Leaves.LearnsFrom, Leaves.KindLacksRoom, Leaves.DefinesKind}
+use Rattle.encode_types.proofs.{Aliasing.met-none, Aliasing.makes-same, Aliasing.imports-none, Aliasing.imports-same, Lists.none-in}
+use Rattle.encode_types.proofs.Defining.{leaves-none, leaves-beside}
 use Rattle.encode_types.proofs.{Rooms.room-more, Rooms.room-after, Rooms.only-reached, Rooms.lacks-request, Rooms.holds-same, encode.encode_shape.Given.Over}
 use Rattle.encode_types.proofs.encode.encode_shape.Goals.{After-define_parts, In_ok-define_parts, After-branch-index}
 use Rattle.encode_types.proofs.encode.encode_shape.Goals as goal
@@ -28,8 +28,7 @@ learnt : (g : Over) (c : In_ok-define_parts g)
 learnt g c = rw (c.deref.ensures.value, c.in_ok-parts.ensures) at c.in_ok-define_parts.ensures.learns
 
 leaves : (g : Over) (c : After-branch-index g) → Leaves c.args.resolve.now (g.E.ValtypeEncoder.view c.args.enc.now) (g.E.ValtypeEncoder.view c.define_shape.new.enc)
-leaves g c = leaves-trans c.define_parts.ensures.leaves (leaves-kept {v = g.E.ValtypeEncoder.view c.define_parts.new.enc} {v' = g.E.ValtypeEncoder.view c.define_shape.new.enc}
-    c.define_parts.ensures.leaves.agree c.define_shape.ensures.grows c.define_shape.ensures.scope_stays c.define_shape.ensures.maps_stay)
+leaves g c = leaves-beside c.define_parts.ensures.leaves c.define_shape.ensures.grows c.define_shape.ensures.scope_stays c.define_shape.ensures.maps_stay
 
 made : (g : Over) (c : After-define_parts g) → MakesMet c.args.resolve.now (parts_of (kind_of c.args.shape)) (g.E.ValtypeEncoder.view c.args.enc.now) (g.E.ValtypeEncoder.view c.define_parts.new.enc)
 made g c = rw (c.deref.ensures.value, c.in_ok-parts.ensures) at c.define_parts.ensures.aliases
@@ -67,20 +66,14 @@ returns g c =
 
 pub returns-in_err-parts : goal.returns-in_err-parts
 returns-in_err-parts g c =
-    let v = g.E.ValtypeEncoder.view c.args.enc.now in
-    refused c.args.resolve.now (kind_of c.args.shape) v v c.from_residual.result (search rules)
-    (leaves-kept {v = v} {v' = v} c.requires.agree (record { kept = λ i m h. h; more = omega arith; around_ = around-same refl; own_ = λ ns h. h }) refl refl)
-    (met-none refl) (imports-none refl)
-    (λ h. absurd (let z : ⊥ = search rules in z)) (search rules)
+    refused _ _ _ _ c.from_residual.result (search rules) (leaves-none c.requires.agree) (met-none refl) (imports-none refl) (λ h. absurd (let z : ⊥ = search rules in z)) (search rules)
 
 pub returns-in_err-define_parts : goal.returns-in_err-define_parts
 returns-in_err-define_parts g c =
     refused c.args.resolve.now (kind_of c.args.shape) _ _ c.from_residual-in_err-define_parts.result (search rules) c.define_parts.ensures.leaves
     (made g (goal.at.returns-in_err-define_parts g c).After-define_parts) (imported g (goal.at.returns-in_err-define_parts g c).After-define_parts)
     (λ h.
-    let lacks : LacksRoom c.args.resolve.now (parts_of (kind_of c.args.shape)) [] (g.E.ValtypeEncoder.view c.args.enc.now) (g.E.ValtypeEncoder.view c.define_parts.new.enc) =
-    (rw (c.deref.ensures.value, c.in_ok-parts.ensures) at (c.define_parts.ensures.size (search rules))) in
-    room-more refl (λ n x. x) (λ q k. none-in q k) (omega arith) lacks)
+    room-more refl (λ n x. x) (λ q k. none-in q k) (omega arith) (rw (c.deref.ensures.value, c.in_ok-parts.ensures) at (c.define_parts.ensures.size (search rules))))
     (search rules)
 
 pub returns-in_err-index : goal.returns-in_err-index

@@ -15,11 +15,7 @@ use Rattle.encode_types.proofs.func_type.encode_func_type.Goals as goal
 held : (g : Over) (c : In_ok-list g)
     → HoldsFor c.args.resolve.now (g.E.ValtypeEncoder.view c.args.enc.now).scope.own_interface (g.E.ValtypeEncoder.view c.args.enc.now).maps (g.E.ValtypeEncoder.view c.list_of_key.new.enc).maps
     (g.E.ValtypeEncoder.view c.args.enc.now).held (g.E.ValtypeEncoder.view c.list_of_key.new.enc).held 0
-held g c =
-    let few : length (g.E.ValtypeEncoder.view c.list_of_key.new.enc).maps.id_to_index.entries ≡ length (g.E.ValtypeEncoder.view c.args.enc.now).maps.id_to_index.entries =
-    ap length c.list_of_key.ensures.names.rest.numbers in
-    let same = c.list_of_key.ensures.held in
-    holds-shared (omega (arith, few)) c.list_of_key.ensures.names.rest.keys (omega (arith, same))
+held g c = let same = c.list_of_key.ensures.held in holds-shared (omega (arith, ap length c.list_of_key.ensures.names.rest.numbers)) c.list_of_key.ensures.names.rest.keys (omega (arith, same))
 
 written : (g : Over) (c : In_ok-list g) → WritesLearnt c.args.resolve.now 0 (g.E.ValtypeEncoder.view c.args.enc.now) (g.E.ValtypeEncoder.view c.list_of_key.new.enc)
 written g c =
@@ -34,36 +30,28 @@ lacks g c = key-lacking (g.E.ValtypeEncoder.view c.list_of_key.new.enc).maps c.k
 
 -- ---- where the key is known
 
-pub returns-in-Some-clause-ok : goal.returns-in-Some-clause-ok
-returns-in-Some-clause-ok g c = rw c.index_of_key.ensures.same (key-stands c.args.resolve.now (g.E.ValtypeEncoder.view c.list_of_key.new.enc).maps
-    (g.E.ValtypeEncoder.view c.list_of_key.new.enc).stands c.key_of-key.result c.args.func.now c.in-Some.index c.list_of_key.ensures.leaves.agree c.key_of-key.ensures
-    (c.in_ok-list.list.0.items, c.in_ok-list.ensures.list, c.in-Some.ensures.some))
-
-pub returns-in-Some-clause-counts : goal.returns-in-Some-clause-counts
-returns-in-Some-clause-counts g c = (
-  c.key_of-key.result,
-  c.key_of-key.ensures,
-  rw c.index_of_key.ensures.same (counts-found c.args.resolve.now (g.E.ValtypeEncoder.view c.args.enc.now).scope (g.E.ValtypeEncoder.view c.args.enc.now).maps
-      (g.E.ValtypeEncoder.view c.list_of_key.new.enc).maps (g.E.ValtypeEncoder.view c.args.enc.now).definitions (g.E.ValtypeEncoder.view c.list_of_key.new.enc).definitions c.key_of-key.result
-      c.in_ok-list.list.0.items c.in-Some.index c.requires.agree.once c.list_of_key.ensures.names c.list_of_key.ensures.known c.in_ok-list.ensures.list c.in-Some.ensures.some
-      c.list_of_key.ensures.counts),
-)
-
-pub returns-in-Some-clause-learns : goal.returns-in-Some-clause-learns
-returns-in-Some-clause-learns g c = rw c.index_of_key.ensures.same (met-names c.args.resolve.now (g.E.ValtypeEncoder.view c.args.enc.now).scope.own_interface (function_types c.args.func.now)
-    (g.E.ValtypeEncoder.view c.args.enc.now).maps (g.E.ValtypeEncoder.view c.list_of_key.new.enc).maps c.list_of_key.ensures.names)
-
-pub returns-in-Some-clause-leaves : goal.returns-in-Some-clause-leaves
-returns-in-Some-clause-leaves g c = rw c.index_of_key.ensures.same c.list_of_key.ensures.leaves
-
-pub returns-in-Some-clause-written : goal.returns-in-Some-clause-written
-returns-in-Some-clause-written g c = rw c.index_of_key.ensures.same (writes-most (omega arith) (written g (goal.at.returns-in-Some-clause-written g c).In_ok-list))
-
-pub returns-in-Some-clause-held : goal.returns-in-Some-clause-held
-returns-in-Some-clause-held g c = rw c.index_of_key.ensures.same (held g (goal.at.returns-in-Some-clause-held g c).In_ok-list)
-
-pub returns-in-Some-clause-aliases : goal.returns-in-Some-clause-aliases
-returns-in-Some-clause-aliases g c = rw c.index_of_key.ensures.same (met-none c.list_of_key.ensures.around_stays)
+pub returns-in-Some : goal.returns-in-Some
+returns-in-Some g c =
+    let at = goal.at.returns-in-Some g c in
+    let list = c.list_of_key.ensures in
+    rw c.index_of_key.ensures.same (record {
+      ok = key-stands _ _ (g.E.ValtypeEncoder.view c.list_of_key.new.enc).stands c.key_of-key.result _ _ list.leaves.agree c.key_of-key.ensures
+          (c.in_ok-list.list.0.items, c.in_ok-list.ensures.list, c.in-Some.ensures.some);
+      learns = met-names _ _ _ _ _ list.names;
+      leaves = list.leaves;
+      aliases = met-none list.around_stays;
+      imports = imports-none list.imports_stay;
+      counts = (
+        c.key_of-key.result,
+        c.key_of-key.ensures,
+        counts-found _ _ _ _ _ _ _ c.in_ok-list.list.0.items _ c.requires.agree.once list.names list.known c.in_ok-list.ensures.list c.in-Some.ensures.some list.counts,
+      );
+      last = inl (ap (λ (d : Definitions). d.functions) list.counts);
+      held = held g at.In_ok-list;
+      written = writes-most (omega arith) (written g at.In_ok-list);
+      size = λ h. absurd (let z : ⊥ = cc in z);
+      refuses = tt;
+    })
 
 -- ---- where it is new
 
@@ -147,9 +135,6 @@ returns-in_err-list-clause-aliases g c = met-none c.list_of_key.ensures.around_s
 
 -- ---- imports
 
-pub returns-in-Some-clause-imports : goal.returns-in-Some-clause-imports
-returns-in-Some-clause-imports g c = rw c.index_of_key.ensures.same (imports-none c.list_of_key.ensures.imports_stay)
-
 pub returns-clause-imports : goal.returns-clause-imports
 returns-clause-imports g c = imports-then (ap (λ (s : Scope). s.own_interface) c.list_of_key.ensures.leaves.scope_stays) (imports-none c.list_of_key.ensures.imports_stay)
     (rw c.index_of_key.ensures.same at c.define_key.ensures.imports)
@@ -158,9 +143,6 @@ pub returns-in_err-list-clause-imports : goal.returns-in_err-list-clause-imports
 returns-in_err-list-clause-imports g c = imports-none c.list_of_key.ensures.imports_stay
 
 -- ---- the last slot
-
-pub returns-in-Some-clause-last : goal.returns-in-Some-clause-last
-returns-in-Some-clause-last g c = rw c.index_of_key.ensures.same (inl (ap (λ (d : Definitions). d.functions) c.list_of_key.ensures.counts))
 
 pub returns-clause-last : goal.returns-clause-last
 returns-clause-last g c = ok-map c.define_key.result _ _

@@ -1,6 +1,6 @@
 use Rattle.std.proofs.Common.{◌≡◌, rules}
 use Rattle.encode_types.specs.View.{SameRest}
-use Rattle.encode_types.proofs.Agree.{changes-number, units-number, leaves-changed}
+use Rattle.encode_types.proofs.Agree.{leaves-number}
 use Rattle.encode_types.proofs.lend.remember_id.Goals as goal
 
 pub returns-clause-leaves : goal.returns-clause-leaves
@@ -8,7 +8,5 @@ returns-clause-leaves g c =
     let before : c.type_encoding_maps.result.now ≡ (g.E.ValtypeEncoder.view c.args.enc.now).maps = search rules in
     let after : (g.E.ValtypeEncoder.view (g.E.LendsMaps.with_maps c.args.enc.now c.remember_id.new.self)).maps ≡ c.remember_id.new.self = search rules in
     let rest : SameRest (g.E.ValtypeEncoder.view c.args.enc.now) (g.E.ValtypeEncoder.view (g.E.LendsMaps.with_maps c.args.enc.now c.remember_id.new.self)) = search rules in
-    leaves-changed _ _ _ rest
-    (changes-number c.remember_id.result c.args.resolve.now c.type_encoding_maps.result.now _ c.remember_id.new.self _ _ _ c.args.index before after rest.kept c.requires.agree c.args.id
-    c.requires.fresh c.remember_id.ensures.ok c.remember_id.ensures.err c.requires.stands)
-    (units-number c.remember_id.result c.type_encoding_maps.result.now _ c.remember_id.new.self _ before after c.args.id c.args.index c.remember_id.ensures.ok c.remember_id.ensures.err)
+    leaves-number c.remember_id.result _ _ _ c.args.index rest c.requires.agree c.args.id c.requires.fresh c.requires.stands
+    (rw (before, ← after) at c.remember_id.ensures.ok) (rw (before, ← after) at c.remember_id.ensures.err)

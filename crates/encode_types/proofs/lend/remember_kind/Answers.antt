@@ -1,6 +1,6 @@
 use Rattle.std.proofs.Common.{◌≡◌, rules}
 use Rattle.encode_types.specs.View.{SameRest}
-use Rattle.encode_types.proofs.Agree.{changes-kind, units-kind, leaves-changed}
+use Rattle.encode_types.proofs.Agree.{leaves-kind}
 use Rattle.encode_types.proofs.lend.remember_kind.Goals as goal
 
 pub returns-clause-leaves : goal.returns-clause-leaves
@@ -8,11 +8,8 @@ returns-clause-leaves g c =
     let before : c.type_encoding_maps.result.now ≡ (g.E.ValtypeEncoder.view c.args.enc.now).maps = search rules in
     let after : (g.E.ValtypeEncoder.view (g.E.LendsMaps.with_maps c.args.enc.now c.remember_kind.new.self)).maps ≡ c.remember_kind.new.self = search rules in
     let rest : SameRest (g.E.ValtypeEncoder.view c.args.enc.now) (g.E.ValtypeEncoder.view (g.E.LendsMaps.with_maps c.args.enc.now c.remember_kind.new.self)) = search rules in
-    leaves-changed _ _ _ rest
-    (changes-kind c.remember_kind.result c.args.resolve.now c.type_encoding_maps.result.now _ c.remember_kind.new.self _ _ _ c.args.index before after rest.kept c.requires.agree c.args.list.0.items
-    c.requires.fresh c.remember_kind.ensures.ok c.remember_kind.ensures.err c.requires.stands)
-    (units-kind c.remember_kind.result c.type_encoding_maps.result.now _ c.remember_kind.new.self _ before after c.args.list.0.items c.args.index c.remember_kind.ensures.ok
-    c.remember_kind.ensures.err)
+    leaves-kind c.remember_kind.result _ _ _ c.args.index rest c.requires.agree c.args.list.0.items c.requires.fresh c.requires.stands
+    (rw (before, ← after) at c.remember_kind.ensures.ok) (rw (before, ← after) at c.remember_kind.ensures.err)
 
 pub remember_kind-requires : goal.remember_kind-requires
 remember_kind-requires g c = let same : c.type_encoding_maps.result.now ≡ (g.E.ValtypeEncoder.view c.args.enc.now).maps = search rules in rw same c.requires.fresh

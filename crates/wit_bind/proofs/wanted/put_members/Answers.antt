@@ -7,4 +7,4 @@ pub returns-in-None-clause-ok : goal.returns-in-None-clause-ok
 returns-in-None-clause-ok c =
     let r = c.args.resolve.now in
     let none : None ≡ scope_of r c.args.scope.now = search rules in
-    puts_no_members r (choice_of r c.args.wanted.now) c.args.scope.now c.args.functions.now.entries c.args.map.now none
+    puts_no_members r (choice_of r c.args.wanted.now) c.args.scope.now c.args.functions.now.entries c.args.table.now.encodings none

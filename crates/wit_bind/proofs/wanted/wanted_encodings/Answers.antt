@@ -10,8 +10,8 @@ returns-clause-ok c =
     let w = choice_of r c.args.wanted.now in
     let all = entries_of_items r w c.args.items.now.entries in
     let rest = rest_all deref_pair c.loop-key.key-iterator c.next.new.self c.next.result c.in-None.is c.next.ensures.steps in
-    left_none all empty c.loop-key.map
-    (subst (λ es. IsLeft all (entries_of_items r w es) empty c.loop-key.map) rest c.loop-key.invariant)
+    left_none all empty c.loop-key.table.encodings
+    (subst (λ es. IsLeft all (entries_of_items r w es) empty c.loop-key.table.encodings) rest c.loop-key.invariant)
 
 pub loop-key-preserved : goal.loop-key-preserved
 loop-key-preserved c =
@@ -19,5 +19,5 @@ loop-key-preserved c =
     let w = choice_of r c.args.wanted.now in
     let all = entries_of_items r w c.args.items.now.entries in
     let next = rest_more deref_pair c.loop-key.key-iterator c.next.new.self c.next.result (c.in-Some.key, c.in-Some.item) c.in-Some.is c.next.ensures.steps in
-    left_next all (entries_of_item r w c.in-Some.key.now c.in-Some.item.now) (entries_of_items r w c.next.new.self) empty c.loop-key.map c.put_item.new.map
-    (subst (λ (es : List Entry). IsLeft all es empty c.loop-key.map) (ap (entries_of_items r w) next) c.loop-key.invariant) c.in_ok-put_item.ensures.ok
+    left_next all (entries_of_item r w c.in-Some.key.now c.in-Some.item.now) (entries_of_items r w c.next.new.self) empty c.loop-key.table.encodings c.put_item.new.table.encodings
+    (subst (λ (es : List Entry). IsLeft all es empty c.loop-key.table.encodings) (ap (entries_of_items r w) next) c.loop-key.invariant) c.in_ok-put_item.ensures.ok

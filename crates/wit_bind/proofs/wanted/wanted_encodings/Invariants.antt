@@ -5,4 +5,5 @@ use Rattle.wit_bind.proofs.wanted.wanted_encodings.Given as goal
 
 -- the items that are left still have to be put
 abbrev pub invariant-loop-key : goal.invariant-loop-key
-invariant-loop-key l = IsLeft (entries_of_items l.resolve (choice_of l.resolve l.wanted) l.items.entries) (entries_of_items l.resolve (choice_of l.resolve l.wanted) l.key-iterator) empty l.map
+invariant-loop-key l = IsLeft (entries_of_items l.resolve (choice_of l.resolve l.wanted) l.items.entries) (entries_of_items l.resolve (choice_of l.resolve l.wanted) l.key-iterator) empty
+    l.table.encodings

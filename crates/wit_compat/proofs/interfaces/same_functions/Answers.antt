@@ -1,70 +1,36 @@
-use Rattle.std.proofs.Common.{rules, ◌≡◌, refl, sym, ◌∙◌, length, map}
-use Rattle.std.proofs.{Math.ListN.length-map, lemmas.Map.Iter.rest_all, lemmas.Map.Iter.rest_more}
-use Rattle.std.specs.Map.Iter.{deref_pair}
-use Rattle.indexmap.specs.IndexMap.{keys}
-use Rattle.wit_model.specs.{Meant.function_meaning, Text.text_of}
-use Rattle.wit_model.proofs.AnyOrder.{distinct-texts}
-use Rattle.wit_compat.proofs.SameMaps.{at_end, entry, from_start, lengths_differ, next_there, not_found, one_more, under_is}
-use Rattle.wit_compat.proofs.Sided.{never, not_same}
+use Rattle.std.proofs.Common.{rules, ◌≡◌}
 use Rattle.base_lemmas.proofs.Elements.{contains-map}
+use Rattle.wit_model.specs.{Meant.function_meaning, Text.text_of}
+use Rattle.wit_compat.proofs.SameMaps.{all_found, found_under, from_start, lengths_apart, not_under, stands}
 use Rattle.wit_compat.proofs.interfaces.same_functions.Goals as goal
 
 pub returns-then-len-clause-exact : goal.returns-then-len-clause-exact
 returns-then-len-clause-exact c =
-    let es = c.args.functions.now.entries in
-    let fs = c.args.others.now.entries in
-    let f = function_meaning c.args.left.now.resolve.now in
-    let g = function_meaning c.args.right.now.resolve.now in
-    never _ (lengths_differ text_of text_of f g es fs
-    (distinct-texts (keys c.args.functions.now) c.len.ensures.unique) (distinct-texts (keys c.args.others.now) c.len-2.ensures.unique)
-    (λ same. let e : c.len.result ≡ c.len-2.result = search rules in search (rules, c.if-len.true)))
+    lengths_apart (function_meaning c.args.left.now.resolve.now) (function_meaning c.args.right.now.resolve.now) _ _ c.len.ensures.unique c.len-2.ensures.unique
+    (λ same. let e : c.len.result ≡ c.len-2.result = search rules in search (rules, c.if-len.true))
 
 pub loop-name-init : goal.loop-name-init
-loop-name-init c = record {
-  along = from_start text_of _ _ _ _ (search rules);
-  kept = c.requires.pairs;
-}
+loop-name-init c = record { along = from_start text_of _ _ _ _ (search rules); kept = c.requires.pairs }
 
 pub same_function_under-requires-clause-function : goal.same_function_under-requires-clause-function
 same_function_under-requires-clause-function c =
-    let es = c.args.functions.now.entries in
-    let next = rest_more deref_pair c.loop-name.name-iterator c.next.new.self c.next.result (c.in-Some.name, c.in-Some.function) c.in-Some.is c.next.ensures.steps in
-    c.requires.functions c.in-Some.function.now (contains-map (λ e. e.1) es (c.in-Some.name.now, c.in-Some.function.now)
-    (next_there text_of _ _ es c.loop-name.name-iterator c.next.new.self c.in-Some.name.now c.in-Some.function.now c.loop-name.invariant.along next))
+    c.requires.functions _ (contains-map (λ e. e.1) c.args.functions.now.entries _
+    (stands (function_meaning c.args.left.now.resolve.now) (function_meaning c.args.right.now.resolve.now) _ _ _ _ _ _ c.loop-name.invariant.along
+    c.in-Some.is c.next.ensures.steps))
 
 pub returns-then-not-branch-clause-exact : goal.returns-then-not-branch-clause-exact
 returns-then-not-branch-clause-exact c =
-    let es = c.args.functions.now.entries in
-    let fs = c.args.others.now.entries in
-    let f = function_meaning c.args.left.now.resolve.now in
-    let g = function_meaning c.args.right.now.resolve.now in
-    let next = rest_more deref_pair c.loop-name.name-iterator c.next.new.self c.next.result (c.in-Some.name, c.in-Some.function) c.in-Some.is c.next.ensures.steps in
-    never _ (not_found text_of f (map (entry text_of g) fs) es c.loop-name.name-iterator c.next.new.self c.in-Some.name.now c.in-Some.function.now c.loop-name.invariant.along next
-    (distinct-texts (keys c.args.functions.now) c.len.ensures.unique)
-    (λ found. not_same _ c.in_ok-same_function_under.ensures.exact (search rules) (sym (under_is text_of g (text_of c.in-Some.name.now) fs) ∙ found)))
+    not_under (function_meaning c.args.left.now.resolve.now) (function_meaning c.args.right.now.resolve.now) _ _ _ _ _ _ c.loop-name.invariant.along
+    c.in-Some.is c.next.ensures.steps c.len.ensures.unique _ c.in_ok-same_function_under.ensures.exact (search rules)
 
 pub loop-name-preserved : goal.loop-name-preserved
-loop-name-preserved c =
-    let es = c.args.functions.now.entries in
-    let fs = c.args.others.now.entries in
-    let f = function_meaning c.args.left.now.resolve.now in
-    let g = function_meaning c.args.right.now.resolve.now in
-    let next = rest_more deref_pair c.loop-name.name-iterator c.next.new.self c.next.result (c.in-Some.name, c.in-Some.function) c.in-Some.is c.next.ensures.steps in
-    record {
-      along = one_more text_of f (map (entry text_of g) fs) es c.loop-name.name-iterator c.next.new.self c.in-Some.name.now c.in-Some.function.now c.loop-name.invariant.along next
-          (under_is text_of g (text_of c.in-Some.name.now) fs ∙ c.in_ok-same_function_under.ensures.exact.0 (search rules));
-      kept = c.same_function_under.ensures.kept;
-    }
+loop-name-preserved c = record {
+  along = found_under (function_meaning c.args.left.now.resolve.now) (function_meaning c.args.right.now.resolve.now) _ _ _ _ _ _ c.loop-name.invariant.along
+      c.in-Some.is c.next.ensures.steps _ c.in_ok-same_function_under.ensures.exact (search rules);
+  kept = c.same_function_under.ensures.kept;
+}
 
 pub returns-clause-exact : goal.returns-clause-exact
 returns-clause-exact c =
-    let es = c.args.functions.now.entries in
-    let fs = c.args.others.now.entries in
-    let f = function_meaning c.args.left.now.resolve.now in
-    let g = function_meaning c.args.right.now.resolve.now in
-    let none = rest_all deref_pair c.loop-name.name-iterator c.next.new.self c.next.result c.in-None.is c.next.ensures.steps in
-    let same : length es ≡ length fs = search rules in (
-      λ t. at_end text_of f (map (entry text_of g) fs) es c.loop-name.name-iterator c.loop-name.invariant.along none (same ∙ sym (length-map fs (entry text_of g)))
-          (distinct-texts (keys c.args.functions.now) c.len.ensures.unique),
-      λ same. refl,
-    )
+    all_found (function_meaning c.args.left.now.resolve.now) (function_meaning c.args.right.now.resolve.now) _ _ _ _ _ c.loop-name.invariant.along
+    c.in-None.is c.next.ensures.steps (search rules) c.len.ensures.unique

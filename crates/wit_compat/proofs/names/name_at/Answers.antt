@@ -5,9 +5,7 @@ use Rattle.wit_compat.proofs.names.name_at.Goals as goal
 
 pub index-requires : goal.index-requires
 index-requires c =
-    let e = names_length c.args.resolve.now c.args.names.now.texts.items c.requires.names.texts in
-    let h = c.requires.in_range in
-    search (rules, e, h)
+    search (rules, names_length c.args.resolve.now c.args.names.now.texts.items c.requires.names.texts, c.requires.in_range)
 
 pub returns : goal.returns
 returns c =

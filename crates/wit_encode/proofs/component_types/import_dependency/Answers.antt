@@ -38,12 +38,11 @@ returns-in_err-slot-clause-size c = λ h.
 
 pub returns-in_err-import-clause-size : goal.returns-in_err-import-clause-size
 returns-in_err-import-clause-size c = λ h.
-    let refused = c.import.ensures.size (search rules) in
     let r = c.args.encoder.now.resolve.now in
     let found = found-in r.interfaces.items c.args.interface.0 (lt-ltb c.args.interface.0 (length r.interfaces.items) c.requires.in_range) in
     let encodes = c.in_ok-slot.ensures.ok found.0 found.1 in
     import-lacks r c.args.canonical_names (outside c.args.encoder.now) (outside c.encode_dependency.new.self) c.args.interface found.0 [] c.in_ok-slot.slot found.1 encodes.part _
-    c.in_ok-name.ensures.ok refused
+    c.in_ok-name.ensures.ok (c.import.ensures.size (search rules))
 
 pub returns-clause-written : goal.returns-clause-written
 returns-clause-written c =

@@ -1,7 +1,7 @@
-use Rattle.std.proofs.Common.{◌≡◌, ◌≤◌, ◌<◌, ◌⊎◌, ℕ, sym, subst, ap, ◌∙◌, length, map, List, [], Result, Err, arith, rules}
+use Rattle.std.proofs.Common.{◌≤◌, ◌<◌, ◌⊎◌, sym, subst, ap, ◌∙◌, length, map, List, [], arith, rules}
 use Rattle.std.proofs.{Math.ListN.length-map, lemmas.Bool.lt-ltb}
 use Rattle.wit_model.specs.{Lookup.interface_at, Weight.whole_instance_weight}
-use Rattle.wit_model.specs.declared.{error.Error.Error, model.Resolve.Resolve, model.InterfaceId.InterfaceId}
+use Rattle.wit_model.specs.declared.{model.Resolve.Resolve, model.InterfaceId.InterfaceId}
 use Rattle.comp_bytes.specs.Raw.{Declaration, Declarations, append}
 use Rattle.encode_types.specs.Known.{Around, UsedStand, standing_instances}
 use Rattle.wit_model.proofs.OnePath.{found-in}
@@ -15,7 +15,6 @@ use Rattle.wit_encode.proofs.{Imported.nothing_is_imported, Imported.exports_end
 use Rattle.wit_encode.proofs.{ImportsStand.imports_stand, WrittenNames.all-named}
 use Rattle.wit_encode.proofs.ImportLoop.{few-importable, moved, moved-held, path-in-range, reached-importable, reached-used}
 use Rattle.encode_names.specs.WorldNames.{name_of_interface}
-use Rattle.wit_model.specs.declared.error.Error.TheVariants as errors
 use Rattle.comp_bytes.specs.declared.forms.ComponentTypeRef.TheVariants as refs
 use Rattle.wit_encode.proofs.component_types.interface_type.Goals as goal
 
@@ -41,9 +40,7 @@ import_dependencies-requires-clause-few c =
     let ns = map (λ (id : InterfaceId). id.0) c.in_ok-reached.reached.items in
     let few : length ns ≤ 4294967295 = few-importable c.args.resolve.now c.requires.valid ns
     (reached-importable c.args.resolve.now c.requires.valid c.args.interface.0 ns c.in_ok-reached.ensures.reached) in
-    let same : length ns ≡ length c.in_ok-reached.reached.items = length-map c.in_ok-reached.reached.items (λ (id : InterfaceId). id.0) in
-    let value : length c.deref-2.result.now ≡ length c.in_ok-reached.reached.items = ap length c.deref-2.ensures.value in
-    omega (arith, few, same, value)
+    omega (arith, few, length-map c.in_ok-reached.reached.items (λ (id : InterfaceId). id.0), ap length c.deref-2.ensures.value)
 
 pub encode_instance-requires-clause-in_range : goal.encode_instance-requires-clause-in_range
 encode_instance-requires-clause-in_range c =
@@ -59,40 +56,54 @@ encode_instance-requires-clause-around c =
     (imports_stand c.args.resolve.now (outside after) (map (λ (id : InterfaceId). id.0) c.in_ok-reached.reached.items) c.args.interface.0 c.requires.valid imported
     (reached-used c.args.resolve.now c.args.interface.0 (map (λ (id : InterfaceId). id.0) c.in_ok-reached.reached.items) c.in_ok-reached.ensures.reached))
 
-pub returns-clause-shows : goal.returns-clause-shows
-returns-clause-shows c = λ path is.
+pub returns : goal.returns
+returns c =
     let r = c.args.resolve.now in
     let before = c.import_dependencies.new.encoder in
     let after = c.encode_instance.new.self in
     let same = c.import_dependencies.ensures.resolve ∙ c.new-encoder.ensures.resolve in
     let found = found-in r.interfaces.items c.args.interface.0 (lt-ltb c.args.interface.0 (length r.interfaces.items) (path-in-range r c.args.interface.0 c.requires.named)) in
-    let imported = moved r c.new-encoder.result.resolve.now c.in_ok-reached.reached.items c.deref-2.result.now (outside before) c.new-encoder.ensures.resolve c.deref-2.ensures.value
-    c.in_ok-import_dependencies.ensures.imported in
     let encodes = subst (λ (q : Resolve). EncodesInterface q (outside before) (outside after) c.args.interface found.0 c.in_ok-slot.slot) same
     (c.in_ok-slot.ensures.ok found.0 (ap (λ (q : Resolve). interface_at q c.args.interface.0) same ∙ found.1)) in
-    subst (ShowsComponent r c.args.interface.0 path)
-    (sym (c.in_ok-export.ensures.ok ∙ ap (λ n. append after.outer (Declarations.declares (Declaration.exported n (refs.Instance c.in_ok-slot.slot)) Declarations.no_more)) c.in_ok-name.ensures.ok))
-    (exports_end r c.args.canonical_names (outside before) (outside after) (map (λ (id : InterfaceId). id.0) c.in_ok-reached.reached.items) c.args.interface found.0 path c.in_ok-slot.slot
-    c.requires.valid is imported c.in_ok-reached.ensures.reached encodes)
-
-pub returns-clause-once : goal.returns-clause-once
-returns-clause-once c =
-    let r = c.args.resolve.now in
     let q = c.new-encoder.result.resolve.now in
-    let before = c.import_dependencies.new.encoder in
-    let after = c.encode_instance.new.self in
-    let same = c.import_dependencies.ensures.resolve ∙ c.new-encoder.ensures.resolve in
-    let found = found-in r.interfaces.items c.args.interface.0 (lt-ltb c.args.interface.0 (length r.interfaces.items) (path-in-range r c.args.interface.0 c.requires.named)) in
-    let encodes = subst (λ (q : Resolve). EncodesInterface q (outside before) (outside after) c.args.interface found.0 c.in_ok-slot.slot) same
-    (c.in_ok-slot.ensures.ok found.0 (ap (λ (q : Resolve). interface_at q c.args.interface.0) same ∙ found.1)) in
-    let defined = subst (λ (q : Resolve). DefinesImports q before.outer (map (λ (id : InterfaceId). id.0) c.deref-2.result.now)) c.new-encoder.ensures.resolve
-    (c.in_ok-import_dependencies.ensures.once (nothing-defined q c.new-encoder.result.outer c.new-encoder.ensures.outer)) in
-    export-defines r c.args.canonical_names (outside before) (outside after) c.args.interface found.0 c.in_ok-slot.slot c.export.new.self encodes
-    (c.in_ok-export.ensures.ok ∙ ap (λ n. append after.outer (Declarations.declares (Declaration.exported n (refs.Instance c.in_ok-slot.slot)) Declarations.no_more)) c.in_ok-name.ensures.ok)
-    (map (λ (id : InterfaceId). id.0) c.deref-2.result.now) found.1 (ap (map (λ (id : InterfaceId). id.0)) c.deref-2.ensures.value ∙ c.in_ok-reached.ensures.order) defined
-    (subst (λ (q : Resolve). HasImported q (outside before) (map (λ (id : InterfaceId). id.0) c.deref-2.result.now)) c.new-encoder.ensures.resolve c.in_ok-import_dependencies.ensures.imported)
-    (subst (λ (q : Resolve). HasImportAliases q (outside before) (map (λ (id : InterfaceId). id.0) c.deref-2.result.now)) c.new-encoder.ensures.resolve
-    (c.in_ok-import_dependencies.ensures.aliases (nothing-aliased q (IsMetAmong q []) (outside c.new-encoder.result) c.new-encoder.ensures.outer)))
+    record {
+      shows = λ path is.
+          let imported = moved r c.new-encoder.result.resolve.now c.in_ok-reached.reached.items c.deref-2.result.now (outside before) c.new-encoder.ensures.resolve c.deref-2.ensures.value
+          c.in_ok-import_dependencies.ensures.imported in
+          subst (ShowsComponent r c.args.interface.0 path)
+          (sym (c.in_ok-export.ensures.ok ∙ ap (λ n. append after.outer (Declarations.declares (Declaration.exported n (refs.Instance c.in_ok-slot.slot)) Declarations.no_more))
+          c.in_ok-name.ensures.ok))
+          (exports_end r c.args.canonical_names (outside before) (outside after) (map (λ (id : InterfaceId). id.0) c.in_ok-reached.reached.items) c.args.interface found.0 path c.in_ok-slot.slot
+          c.requires.valid is imported c.in_ok-reached.ensures.reached encodes);
+      names =
+          let start = c.new-encoder.result.outer in
+          let named = subst (λ (q : Resolve). NamesInterfaces q c.args.canonical_names (map (λ (id : InterfaceId). id.0) c.deref-2.result.now) start before.outer) c.new-encoder.ensures.resolve
+          c.in_ok-import_dependencies.ensures.named in
+          all-named r c.args.canonical_names (outside before) (outside after) (map (λ (id : InterfaceId). id.0) c.deref-2.result.now) c.args.interface found.0 c.in_ok-slot.slot start c.export.new.self
+          c.new-encoder.ensures.outer named (ap (map (λ (id : InterfaceId). id.0)) c.deref-2.ensures.value ∙ c.in_ok-reached.ensures.order) encodes
+          (c.in_ok-export.ensures.ok ∙ ap (λ n. append after.outer (Declarations.declares (Declaration.exported n (refs.Instance c.in_ok-slot.slot)) Declarations.no_more)) c.in_ok-name.ensures.ok);
+      once =
+          let defined = subst (λ (q : Resolve). DefinesImports q before.outer (map (λ (id : InterfaceId). id.0) c.deref-2.result.now)) c.new-encoder.ensures.resolve
+          (c.in_ok-import_dependencies.ensures.once (nothing-defined q c.new-encoder.result.outer c.new-encoder.ensures.outer)) in
+          export-defines r c.args.canonical_names (outside before) (outside after) c.args.interface found.0 c.in_ok-slot.slot c.export.new.self encodes
+          (c.in_ok-export.ensures.ok ∙ ap (λ n. append after.outer (Declarations.declares (Declaration.exported n (refs.Instance c.in_ok-slot.slot)) Declarations.no_more)) c.in_ok-name.ensures.ok)
+          (map (λ (id : InterfaceId). id.0) c.deref-2.result.now) found.1 (ap (map (λ (id : InterfaceId). id.0)) c.deref-2.ensures.value ∙ c.in_ok-reached.ensures.order) defined
+          (subst (λ (q : Resolve). HasImported q (outside before) (map (λ (id : InterfaceId). id.0) c.deref-2.result.now)) c.new-encoder.ensures.resolve c.in_ok-import_dependencies.ensures.imported)
+          (subst (λ (q : Resolve). HasImportAliases q (outside before) (map (λ (id : InterfaceId). id.0) c.deref-2.result.now)) c.new-encoder.ensures.resolve
+          (c.in_ok-import_dependencies.ensures.aliases (nothing-aliased q (IsMetAmong q []) (outside c.new-encoder.result) c.new-encoder.ensures.outer)));
+      differ = search rules;
+      light =
+          let ns = map (λ (id : InterfaceId). id.0) c.in_ok-reached.reached.items in
+          let imports = subst (λ (xs : List InterfaceId). AddsBytes (imports_extent q c.args.canonical_names (map (λ (id : InterfaceId). id.0) xs)) c.new-encoder.result.outer before.outer)
+          c.deref-2.ensures.value c.in_ok-import_dependencies.ensures.written in
+          component-few r before.resolve.now c.requires.valid c.args.interface ns c.args.canonical_names (c.import_dependencies.ensures.resolve ∙ c.new-encoder.ensures.resolve) c.requires.named
+          c.in_ok-reached.ensures.reached c.new-encoder.result.outer before.outer c.export.new.self c.new-encoder.ensures.outer
+          (subst (λ (z : Resolve). AddsBytes (imports_extent z c.args.canonical_names ns) c.new-encoder.result.outer before.outer) (sym c.import_dependencies.ensures.resolve) imports)
+          (adds-described (whole_instance_weight before.resolve.now c.args.interface.0) before.outer after.outer c.export.new.self _ _ (name_of_interface r c.args.canonical_names c.args.interface.0)
+          c.in_ok-slot.ensures.written c.in_ok-export.ensures.ok (bytes-few.exports _ (refs.Instance c.in_ok-slot.slot)) c.in_ok-name.ensures.ok);
+      size = search rules;
+      refuses = search rules;
+    }
 
 pub returns-in_err-refuse_equal_paths-clause-size : goal.returns-in_err-refuse_equal_paths-clause-size
 returns-in_err-refuse_equal_paths-clause-size c = λ refused. paths-fit c.args.resolve.now (map (λ (id : InterfaceId). id.0) c.deref.result.now) c.args.canonical_names
@@ -101,17 +112,15 @@ returns-in_err-refuse_equal_paths-clause-size c = λ refused. paths-fit c.args.r
 
 pub returns-in_err-import_dependencies-clause-size : goal.returns-in_err-import_dependencies-clause-size
 returns-in_err-import_dependencies-clause-size c = λ h.
-    let refused = c.import_dependencies.ensures.size (search rules) in
     let r = c.args.resolve.now in
     let q = c.new-encoder.result.resolve.now in
-    let lacks = refused (nothing-held q (outside c.new-encoder.result) c.new-encoder.ensures.outer) in
+    let lacks = (c.import_dependencies.ensures.size (search rules)) (nothing-held q (outside c.new-encoder.result) c.new-encoder.ensures.outer) in
     lacking-components-heavy r c.args.interface (map (λ (id : InterfaceId). id.0) c.in_ok-reached.reached.items) c.requires.valid c.requires.named c.in_ok-reached.ensures.reached
     (of_imports (subst (λ (xs : List InterfaceId). ImportsLackRoom r (map (λ (id : InterfaceId). id.0) xs)) c.deref-2.ensures.value
     (subst (λ (q : Resolve). ImportsLackRoom q (map (λ (id : InterfaceId). id.0) c.deref-2.result.now)) c.new-encoder.ensures.resolve lacks)))
 
 pub returns-in_err-slot-clause-size : goal.returns-in_err-slot-clause-size
 returns-in_err-slot-clause-size c = λ h.
-    let refused : ◌≡◌ {A = Result ℕ Error} c.encode_instance.result (Err errors.Size) = search rules in
     let r = c.args.resolve.now in
     let q = c.new-encoder.result.resolve.now in
     let ns = map (λ (id : InterfaceId). id.0) c.in_ok-reached.reached.items in
@@ -124,7 +133,7 @@ returns-in_err-slot-clause-size c = λ h.
     lacking-components-heavy r c.args.interface ns c.requires.valid c.requires.named c.in_ok-reached.ensures.reached
     (own-lacks r ns (outside before) imported held c.args.interface found.0 found.1
     (subst (λ (q : Resolve). InterfaceLacksRoom q c.args.interface found.0 ⊎ LacksInstanceRoom q c.args.interface (whole_interface found.0) (outside before)) same
-    (c.encode_instance.ensures.size refused found.0 (ap (λ (q : Resolve). interface_at q c.args.interface.0) same ∙ found.1))))
+    (c.encode_instance.ensures.size (search rules) found.0 (ap (λ (q : Resolve). interface_at q c.args.interface.0) same ∙ found.1))))
 
 pub returns-in_err-export-clause-size : goal.returns-in_err-export-clause-size
 returns-in_err-export-clause-size c = λ h.
@@ -143,37 +152,3 @@ returns-in_err-export-clause-size c = λ h.
     (c.in_ok-slot.ensures.ok found.0 (ap (λ (q : Resolve). interface_at q c.args.interface.0) same ∙ found.1)) in
     lacking-components-heavy r c.args.interface ns c.requires.valid c.requires.named c.in_ok-reached.ensures.reached
     (export-lacks r ns (outside before) imported held c.args.interface found.0 c.args.canonical_names (outside after) c.in_ok-slot.slot encodes _ c.in_ok-name.ensures.ok refused)
-
-pub returns-clause-light : goal.returns-clause-light
-returns-clause-light c =
-    let r = c.args.resolve.now in
-    let q = c.new-encoder.result.resolve.now in
-    let before = c.import_dependencies.new.encoder in
-    let after = c.encode_instance.new.self in
-    let ns = map (λ (id : InterfaceId). id.0) c.in_ok-reached.reached.items in
-    let imports = subst (λ (xs : List InterfaceId). AddsBytes (imports_extent q c.args.canonical_names (map (λ (id : InterfaceId). id.0) xs)) c.new-encoder.result.outer before.outer)
-    c.deref-2.ensures.value c.in_ok-import_dependencies.ensures.written in
-    component-few r before.resolve.now c.requires.valid c.args.interface ns c.args.canonical_names (c.import_dependencies.ensures.resolve ∙ c.new-encoder.ensures.resolve) c.requires.named
-    c.in_ok-reached.ensures.reached c.new-encoder.result.outer before.outer c.export.new.self
-    c.new-encoder.ensures.outer
-    (subst (λ (z : Resolve). AddsBytes (imports_extent z c.args.canonical_names ns) c.new-encoder.result.outer before.outer) (sym c.import_dependencies.ensures.resolve) imports)
-    (adds-described (whole_instance_weight before.resolve.now c.args.interface.0) before.outer after.outer c.export.new.self _ _ (name_of_interface r c.args.canonical_names c.args.interface.0)
-    c.in_ok-slot.ensures.written c.in_ok-export.ensures.ok (bytes-few.exports _ (refs.Instance c.in_ok-slot.slot)) c.in_ok-name.ensures.ok)
-
-pub returns-clause-names : goal.returns-clause-names
-returns-clause-names c =
-    let r = c.args.resolve.now in
-    let q = c.new-encoder.result.resolve.now in
-    let start = c.new-encoder.result.outer in
-    let before = c.import_dependencies.new.encoder in
-    let after = c.encode_instance.new.self in
-    let same = c.import_dependencies.ensures.resolve ∙ c.new-encoder.ensures.resolve in
-    let found = found-in r.interfaces.items c.args.interface.0 (lt-ltb c.args.interface.0 (length r.interfaces.items) (path-in-range r c.args.interface.0 c.requires.named)) in
-    let encodes = subst (λ (q : Resolve). EncodesInterface q (outside before) (outside after) c.args.interface found.0 c.in_ok-slot.slot) same
-    (c.in_ok-slot.ensures.ok found.0 (ap (λ (q : Resolve). interface_at q c.args.interface.0) same ∙ found.1)) in
-    let named = subst (λ (q : Resolve). NamesInterfaces q c.args.canonical_names (map (λ (id : InterfaceId). id.0) c.deref-2.result.now) start before.outer) c.new-encoder.ensures.resolve
-    c.in_ok-import_dependencies.ensures.named in
-    all-named r c.args.canonical_names (outside before) (outside after) (map (λ (id : InterfaceId). id.0) c.deref-2.result.now) c.args.interface found.0 c.in_ok-slot.slot start c.export.new.self
-    c.new-encoder.ensures.outer named
-    (ap (map (λ (id : InterfaceId). id.0)) c.deref-2.ensures.value ∙ c.in_ok-reached.ensures.order) encodes
-    (c.in_ok-export.ensures.ok ∙ ap (λ n. append after.outer (Declarations.declares (Declaration.exported n (refs.Instance c.in_ok-slot.slot)) Declarations.no_more)) c.in_ok-name.ensures.ok)

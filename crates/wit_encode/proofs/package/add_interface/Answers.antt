@@ -24,5 +24,4 @@ returns-clause-size c = λ h.
     interface-long c.args.resolve.now c.args.canonical_names (c.args.name.now, c.args.interface) declared old c.in_ok-component.ensures.shows c.in_ok-component.ensures.names
     c.in_ok-component.ensures.once c.in_ok-component.ensures.light
     (subst (λ (label : Text). (fits_component (old ++ Part.top_type (TopType.component declared) ∷ []) && fits_component (old ++ one_exported (top_slots old) (label, declared))) ≡ false)
-    c.deref.ensures
-    (c.export_component_type.ensures.size h))
+    c.deref.ensures (c.export_component_type.ensures.size h))

@@ -17,20 +17,21 @@ loop-name-preserved c =
     world-done c.args.resolve.now (identity_of c.args.package.now) c.args.canonical_names c.args.worlds.now.entries c.loop-name.name-iterator c.next.new.self c.args.builder.now c.loop-name.builder
     c.add_world.new.builder (c.in-Some.name.now, c.in-Some.world.now) c.loop-name.invariant next c.in_ok-add_world.ensures.adds c.in_ok-add_world.ensures.differ
 
-pub returns-in_err-add_world-clause-refuses : goal.returns-in_err-add_world-clause-refuses
-returns-in_err-add_world-clause-refuses c =
+pub returns-in_err-add_world : goal.returns-in_err-add_world
+returns-in_err-add_world c =
     let next = rest_more deref_pair c.loop-name.name-iterator c.next.new.self c.next.result (c.in-Some.name, c.in-Some.world) c.in-Some.is c.next.ensures.steps in
-    world-refused c.args.resolve.now (identity_of c.args.package.now) c.args.canonical_names c.args.worlds.now.entries c.loop-name.name-iterator c.next.new.self c.args.builder.now c.loop-name.builder
-    (c.in-Some.name.now, c.in-Some.world.now) c.in_err-add_world.field-0.0 c.from_residual.result c.loop-name.invariant next c.in_err-add_world.ensures.refuses c.from_residual.ensures.1
+    record {
+      adds = search rules;
+      differ = search rules;
+      size = λ h.
+          next-world_lacks c.args.resolve.now (identity_of c.args.package.now) c.args.canonical_names c.args.worlds.now.entries c.loop-name.name-iterator c.next.new.self c.args.builder.now
+          c.loop-name.builder (c.in-Some.name.now, c.in-Some.world.now) c.loop-name.invariant next (c.add_world.ensures.size (search rules));
+      refuses = world-refused c.args.resolve.now (identity_of c.args.package.now) c.args.canonical_names c.args.worlds.now.entries c.loop-name.name-iterator c.next.new.self
+          c.args.builder.now c.loop-name.builder
+          (c.in-Some.name.now, c.in-Some.world.now) c.in_err-add_world.field-0.0 c.from_residual.result c.loop-name.invariant next c.in_err-add_world.ensures.refuses c.from_residual.ensures.1;
+    }
 
 pub returns-clause-differ : goal.returns-clause-differ
 returns-clause-differ c =
     all-worlds_apart c.args.resolve.now (identity_of c.args.package.now) c.args.canonical_names c.args.worlds.now.entries c.loop-name.name-iterator c.args.builder.now c.loop-name.builder
     c.loop-name.invariant (search rules)
-
-pub returns-in_err-add_world-clause-size : goal.returns-in_err-add_world-clause-size
-returns-in_err-add_world-clause-size c = λ h.
-    let next = rest_more deref_pair c.loop-name.name-iterator c.next.new.self c.next.result (c.in-Some.name, c.in-Some.world) c.in-Some.is c.next.ensures.steps in
-    next-world_lacks c.args.resolve.now (identity_of c.args.package.now) c.args.canonical_names c.args.worlds.now.entries c.loop-name.name-iterator c.next.new.self c.args.builder.now
-    c.loop-name.builder
-    (c.in-Some.name.now, c.in-Some.world.now) c.loop-name.invariant next (c.add_world.ensures.size (search rules))

@@ -18,48 +18,37 @@ add_worlds-requires-clause-in_range c =
 pub returns-in_err-builder-clause-refuses : goal.returns-in_err-builder-clause-refuses
 returns-in_err-builder-clause-refuses c = package-at c.args.resolve.now c.args.package.0 c.args.canonical_names c.from_residual.result (λ p is.
     let r = c.args.resolve.now in
-    let own = c.index-own.result.now in
-    let at : package_at r c.args.package.0 ≡ Some own = slice_get_read _ _ _ _ refl c.requires.in_range c.index-own.ensures in
-    let same = some-same own p (sym at ∙ is) in
+    let same = some-same c.index-own.result.now p (sym (slice_get_read _ _ _ _ refl c.requires.in_range c.index-own.ensures) ∙ is) in
     interfaces-refused r p c.args.canonical_names c.in_err-builder.field-0.0 c.from_residual.result
     (subst (λ (q : Package). RefusesInterfaces r q.interfaces.entries c.args.canonical_names c.in_err-builder.field-0.0) same c.in_err-builder.ensures.refuses) c.from_residual.ensures.1)
 
 pub returns-in_err-add_worlds-clause-refuses : goal.returns-in_err-add_worlds-clause-refuses
 returns-in_err-add_worlds-clause-refuses c = package-at c.args.resolve.now c.args.package.0 c.args.canonical_names c.from_residual-in_err-add_worlds.result (λ p is.
     let r = c.args.resolve.now in
-    let own = c.index-own.result.now in
-    let at : package_at r c.args.package.0 ≡ Some own = slice_get_read _ _ _ _ refl c.requires.in_range c.index-own.ensures in
-    let same = some-same own p (sym at ∙ is) in
+    let same = some-same c.index-own.result.now p (sym (slice_get_read _ _ _ _ refl c.requires.in_range c.index-own.ensures) ∙ is) in
     worlds-refused r p c.args.canonical_names c.in_err-add_worlds.field-0.0 c.from_residual-in_err-add_worlds.result
     (λ asked. subst (λ (q : Package). HaveNoEqualPaths r q.interfaces.entries) same (c.in_ok-builder.ensures.differ asked))
     (subst (λ (q : Package). RefusesWorlds r q.worlds.entries c.args.canonical_names c.in_err-add_worlds.field-0.0) same c.in_err-add_worlds.ensures.refuses)
     c.from_residual-in_err-add_worlds.ensures.1)
 
-pub returns-clause-holds : goal.returns-clause-holds
-returns-clause-holds c = λ p is.
+pub returns : goal.returns
+returns c =
     let r = c.args.resolve.now in
     let own = c.index-own.result.now in
     let at : package_at r c.args.package.0 ≡ Some own = slice_get_read _ _ _ _ refl c.requires.in_range c.index-own.ensures in
-    subst (λ (q : Package). HoldsPackage r c.args.canonical_names q c.add_worlds.new.builder) (some-same own p (sym at ∙ is))
-    (package-held r c.requires.valid c.args.package.0 own at c.args.canonical_names c.in_ok-builder.builder c.add_worlds.new.builder c.in_ok-builder.ensures.holds c.in_ok-add_worlds.ensures.adds)
-
-pub returns-clause-means : goal.returns-clause-means
-returns-clause-means c = λ p is some.
-    let r = c.args.resolve.now in
-    let own = c.index-own.result.now in
-    let at : package_at r c.args.package.0 ≡ Some own = slice_get_read _ _ _ _ refl c.requires.in_range c.index-own.ensures in
-    let same = some-same own p (sym at ∙ is) in
-    parts-mean r c.requires.valid c.args.package.0 p is c.args.canonical_names c.add_worlds.new.builder
-    (subst (λ (q : Package). HoldsPackage r c.args.canonical_names q c.add_worlds.new.builder) same
-    (package-held r c.requires.valid c.args.package.0 own at c.args.canonical_names c.in_ok-builder.builder c.add_worlds.new.builder c.in_ok-builder.ensures.holds
-    c.in_ok-add_worlds.ensures.adds)) some
-
-pub returns-clause-differ : goal.returns-clause-differ
-returns-clause-differ c = λ asked p is.
-    let r = c.args.resolve.now in
-    let own = c.index-own.result.now in
-    let at : package_at r c.args.package.0 ≡ Some own = slice_get_read _ _ _ _ refl c.requires.in_range c.index-own.ensures in
-    subst (HasNoClashes r) (some-same own p (sym at ∙ is)) (record { interfaces = c.in_ok-builder.ensures.differ asked; worlds = c.in_ok-add_worlds.ensures.differ asked })
+    record {
+      means = λ p is some. parts-mean r c.requires.valid c.args.package.0 p is c.args.canonical_names c.add_worlds.new.builder
+          (subst (λ (q : Package). HoldsPackage r c.args.canonical_names q c.add_worlds.new.builder) (some-same own p (sym at ∙ is))
+          (package-held r c.requires.valid c.args.package.0 own at c.args.canonical_names c.in_ok-builder.builder c.add_worlds.new.builder c.in_ok-builder.ensures.holds
+          c.in_ok-add_worlds.ensures.adds)) some;
+      holds = λ p is. subst (λ (q : Package). HoldsPackage r c.args.canonical_names q c.add_worlds.new.builder) (some-same own p (sym at ∙ is))
+          (package-held r c.requires.valid c.args.package.0 own at c.args.canonical_names c.in_ok-builder.builder c.add_worlds.new.builder c.in_ok-builder.ensures.holds
+          c.in_ok-add_worlds.ensures.adds);
+      differ = λ asked p is.
+          subst (HasNoClashes r) (some-same own p (sym at ∙ is)) (record { interfaces = c.in_ok-builder.ensures.differ asked; worlds = c.in_ok-add_worlds.ensures.differ asked });
+      size = search rules;
+      refuses = search rules;
+    }
 
 pub returns-in_err-builder-clause-size : goal.returns-in_err-builder-clause-size
 returns-in_err-builder-clause-size c = λ h.

@@ -9,14 +9,18 @@ loop-name-preserved c =
     next-done c.args.resolve.now c.args.canonical_names c.args.interfaces.now.entries c.loop-name.name-iterator c.next.new.self c.loop-name.builder c.add_interface.new.builder
     (c.in-Some.name.now, c.in-Some.interface.now) c.loop-name.invariant next c.in_ok-add_interface.ensures.adds c.in_ok-add_interface.ensures.differ
 
-pub returns-in_err-add_interface-clause-refuses : goal.returns-in_err-add_interface-clause-refuses
-returns-in_err-add_interface-clause-refuses c =
+pub returns-in_err-add_interface : goal.returns-in_err-add_interface
+returns-in_err-add_interface c =
     let next = rest_more deref_pair c.loop-name.name-iterator c.next.new.self c.next.result (c.in-Some.name, c.in-Some.interface) c.in-Some.is c.next.ensures.steps in
-    next-refused c.args.resolve.now c.args.canonical_names c.args.interfaces.now.entries c.loop-name.name-iterator c.next.new.self c.loop-name.builder (c.in-Some.name.now, c.in-Some.interface.now)
-    c.in_err-add_interface.field-0.0 c.from_residual.result c.loop-name.invariant next c.in_err-add_interface.ensures.refuses c.from_residual.ensures.1
-
-pub returns-in_err-add_interface-clause-size : goal.returns-in_err-add_interface-clause-size
-returns-in_err-add_interface-clause-size c = λ h.
-    let next = rest_more deref_pair c.loop-name.name-iterator c.next.new.self c.next.result (c.in-Some.name, c.in-Some.interface) c.in-Some.is c.next.ensures.steps in
-    next-lacks c.args.resolve.now c.args.canonical_names c.args.interfaces.now.entries c.loop-name.name-iterator c.next.new.self c.loop-name.builder (c.in-Some.name.now, c.in-Some.interface.now)
-    c.loop-name.invariant next (c.add_interface.ensures.size (search rules))
+    record {
+      holds = search rules;
+      differ = search rules;
+      size = λ h.
+          next-lacks c.args.resolve.now c.args.canonical_names c.args.interfaces.now.entries c.loop-name.name-iterator c.next.new.self c.loop-name.builder (c.in-Some.name.now, c.in-Some.interface.now)
+          c.loop-name.invariant next (c.add_interface.ensures.size (search rules));
+      refuses = next-refused c.args.resolve.now c.args.canonical_names c.args.interfaces.now.entries c.loop-name.name-iterator c.next.new.self c.loop-name.builder (
+        c.in-Some.name.now,
+        c.in-Some.interface.now,
+      )
+          c.in_err-add_interface.field-0.0 c.from_residual.result c.loop-name.invariant next c.in_err-add_interface.ensures.refuses c.from_residual.ensures.1;
+    }

@@ -25,27 +25,40 @@ encode_items-requires-2-clause-begins c = record {
   are = refl;
 }
 
-pub returns-clause-shows : goal.returns-clause-shows
-returns-clause-shows c = λ w is. world-shown c.args.resolve.now c.requires.valid w c.encode_items-2.new.self
-    (c.in_ok-encode_items-2.ensures.ok w (c.in_ok-encode_items.ensures.ok w (c.new-encoder.ensures.starts w is)))
-
-pub returns-clause-names : goal.returns-clause-names
-returns-clause-names c = λ w is.
-    let same : c.index-def.result.now ≡ w = some-same c.index-def.result.now w (sym (there (goal.at.returns-clause-names c).After-index-def) ∙ is) in
-    subst (λ (z : World). WritesNames c.args.resolve.now c.args.canonical_names z c.encode_items-2.new.self.outer) same
-    (subst (λ (ds : Declarations). NamesMore c.args.resolve.now c.args.canonical_names (c.index-def.result.now.imports.entries ++ c.index-def.result.now.exports.entries) ds
-    c.encode_items-2.new.self.outer) c.new-encoder.ensures.empty
-    (names-then c.args.resolve.now c.args.canonical_names c.index-def.result.now.imports.entries c.index-def.result.now.exports.entries c.new-encoder.result.outer c.encode_items.new.self.outer
-    c.encode_items-2.new.self.outer c.in_ok-encode_items.ensures.names c.in_ok-encode_items-2.ensures.names))
-
-pub returns-clause-once : goal.returns-clause-once
-returns-clause-once c = λ w is.
+pub returns : goal.returns
+returns c =
     let r = c.args.resolve.now in
-    let same : c.index-def.result.now ≡ w = some-same c.index-def.result.now w (sym (there (goal.at.returns-clause-once c).After-index-def) ∙ is) in
-    let imported = subst (λ (z : World). HasDefined r c.encode_items.new.self z.imports.entries) same (c.in_ok-encode_items.ensures.once [] c.new-encoder.ensures.defines) in
-    let exported = subst (λ (z : World). HasDefined r c.encode_items-2.new.self (w.imports.entries ++ z.exports.entries)) same (c.in_ok-encode_items-2.ensures.once w.imports.entries imported) in
-    defines-once r c.requires.valid w c.encode_items-2.new.self (ended export_ w) (c.in_ok-encode_items-2.ensures.ok w (c.in_ok-encode_items.ensures.ok w (c.new-encoder.ensures.starts w is))) exported
-    (c.in_ok-encode_items-2.ensures.places (c.in_ok-encode_items.ensures.places (subst (λ (z : Declarations). are_beside 0 z ≡ true) (sym c.new-encoder.ensures.empty) refl)))
+    record {
+      shows = λ w is. world-shown c.args.resolve.now c.requires.valid w c.encode_items-2.new.self
+          (c.in_ok-encode_items-2.ensures.ok w (c.in_ok-encode_items.ensures.ok w (c.new-encoder.ensures.starts w is)));
+      once = λ w is.
+          let same : c.index-def.result.now ≡ w = some-same c.index-def.result.now w (sym (there (goal.at.returns c).After-index-def) ∙ is) in
+          let imported = subst (λ (z : World). HasDefined r c.encode_items.new.self z.imports.entries) same (c.in_ok-encode_items.ensures.once [] c.new-encoder.ensures.defines) in
+          let exported = subst (λ (z : World). HasDefined r c.encode_items-2.new.self (w.imports.entries ++ z.exports.entries)) same (c.in_ok-encode_items-2.ensures.once w.imports.entries imported) in
+          defines-once r c.requires.valid w c.encode_items-2.new.self (ended export_ w) (c.in_ok-encode_items-2.ensures.ok w (c.in_ok-encode_items.ensures.ok w (c.new-encoder.ensures.starts
+          w is))) exported
+          (c.in_ok-encode_items-2.ensures.places (c.in_ok-encode_items.ensures.places (subst (λ (z : Declarations). are_beside 0 z ≡ true) (sym c.new-encoder.ensures.empty) refl)));
+      light =
+          let w = c.index-def.result.now in
+          let at = there (goal.at.returns c).After-index-def in
+          let after = c.encode_items-2.new.self in
+          let shown = c.in_ok-encode_items-2.ensures.ok w (c.in_ok-encode_items.ensures.ok w (c.new-encoder.ensures.starts w at)) in
+          let exported : HasDefined r after (w.imports.entries ++ w.exports.entries) =
+          c.in_ok-encode_items-2.ensures.once w.imports.entries (c.in_ok-encode_items.ensures.once [] c.new-encoder.ensures.defines) in
+          let both = sum_by-append (item_extent r c.args.canonical_names) w.imports.entries w.exports.entries in
+          world-few r c.requires.valid c.args.world w at c.args.canonical_names exported.began c.new-encoder.result.maps after.maps c.new-encoder.result.outer after.outer shown.agree.once
+          exported.no_numbers exported.learns.only c.new-encoder.ensures.empty
+          (learnt-most (omega (arith, both)) (learnt-then c.in_ok-encode_items.ensures.written c.in_ok-encode_items-2.ensures.written));
+      size = search rules;
+      names = λ w is.
+          let same : c.index-def.result.now ≡ w = some-same c.index-def.result.now w (sym (there (goal.at.returns c).After-index-def) ∙ is) in
+          subst (λ (z : World). WritesNames c.args.resolve.now c.args.canonical_names z c.encode_items-2.new.self.outer) same
+          (subst (λ (ds : Declarations). NamesMore c.args.resolve.now c.args.canonical_names (c.index-def.result.now.imports.entries ++ c.index-def.result.now.exports.entries) ds
+          c.encode_items-2.new.self.outer) c.new-encoder.ensures.empty
+          (names-then c.args.resolve.now c.args.canonical_names c.index-def.result.now.imports.entries c.index-def.result.now.exports.entries c.new-encoder.result.outer c.encode_items.new.self.outer
+          c.encode_items-2.new.self.outer c.in_ok-encode_items.ensures.names c.in_ok-encode_items-2.ensures.names));
+      refuses = search rules;
+    }
 
 pub returns-in_err-encode_items-clause-size : goal.returns-in_err-encode_items-clause-size
 returns-in_err-encode_items-clause-size c = λ h.
@@ -56,25 +69,10 @@ returns-in_err-encode_items-clause-size c = λ h.
 
 pub returns-in_err-encode_items-2-clause-size : goal.returns-in_err-encode_items-2-clause-size
 returns-in_err-encode_items-2-clause-size c = λ h.
-    let refused = c.encode_items-2.ensures.size (search rules) in
     let r = c.args.resolve.now in
     let w = c.index-def.result.now in
     let at = there (goal.at.returns-in_err-encode_items-2-clause-size c).After-index-def in
     lacking-worlds-heavy r c.args.world w c.requires.valid at
-    (refused w (c.in_ok-encode_items.ensures.ok w (c.new-encoder.ensures.starts w at))
+    ((c.encode_items-2.ensures.size (search rules)) w (c.in_ok-encode_items.ensures.ok w (c.new-encoder.ensures.starts w at))
     (subst (HasDefined r c.encode_items.new.self) (sym (append-nil w.imports.entries)) (c.in_ok-encode_items.ensures.once [] c.new-encoder.ensures.defines))
     (subst (HoldsFew r c.encode_items.new.self) (sym (append-nil w.imports.entries)) (c.in_ok-encode_items.ensures.few [] c.new-encoder.ensures.few)))
-
-pub returns-clause-light : goal.returns-clause-light
-returns-clause-light c =
-    let r = c.args.resolve.now in
-    let w = c.index-def.result.now in
-    let at = there (goal.at.returns-clause-light c).After-index-def in
-    let after = c.encode_items-2.new.self in
-    let shown = c.in_ok-encode_items-2.ensures.ok w (c.in_ok-encode_items.ensures.ok w (c.new-encoder.ensures.starts w at)) in
-    let exported : HasDefined r after (w.imports.entries ++ w.exports.entries) =
-    c.in_ok-encode_items-2.ensures.once w.imports.entries (c.in_ok-encode_items.ensures.once [] c.new-encoder.ensures.defines) in
-    let both = sum_by-append (item_extent r c.args.canonical_names) w.imports.entries w.exports.entries in
-    world-few r c.requires.valid c.args.world w at c.args.canonical_names exported.began c.new-encoder.result.maps after.maps c.new-encoder.result.outer after.outer shown.agree.once
-    exported.no_numbers exported.learns.only c.new-encoder.ensures.empty
-    (learnt-most (omega (arith, both)) (learnt-then c.in_ok-encode_items.ensures.written c.in_ok-encode_items-2.ensures.written))

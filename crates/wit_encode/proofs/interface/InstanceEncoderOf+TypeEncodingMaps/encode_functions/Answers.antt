@@ -60,29 +60,33 @@ pub encode_function-requires-clause-used : goal.encode_function-requires-clause-
 encode_function-requires-clause-used c = used-kept c.args.resolve.now c.args.self.now.maps c.loop-entry.self.maps c.entry-item.result.2.now c.loop-entry.invariant.grow
     (c.requires.used c.entry-item.result (contains-at c.args.functions.now c.loop-entry.entry-index c.entry-item.result c.loop-entry-test.true c.entry-item.is))
 
-pub returns-clause-shows : goal.returns-clause-shows
-returns-clause-shows c = c.loop-entry.invariant.shows
-    ∙ ap (λ fs. (contents_of c.args.resolve.now c.args.self.now.outer c.args.self.now.inner).shown.functions ++ map (λ f. meaning_of c.args.resolve.now (placed_function f)) fs)
-    (take_all c.loop-entry.entry-index c.args.functions.now c.loop-entry-test.false)
-
-pub returns-clause-counts : goal.returns-clause-counts
-returns-clause-counts c = functions-all (λ (f : ℕ × Bor (String Global) × Bor Function). f.2.now) c.args.functions.now c.loop-entry.entry-index c.loop-entry-test.false c.loop-entry.invariant.counts
+pub returns : goal.returns
+returns c = record {
+  continues = search rules;
+  aliases = search rules;
+  shows = c.loop-entry.invariant.shows
+      ∙ ap (λ fs. (contents_of c.args.resolve.now c.args.self.now.outer c.args.self.now.inner).shown.functions ++ map (λ f. meaning_of c.args.resolve.now (placed_function f)) fs)
+      (take_all c.loop-entry.entry-index c.args.functions.now c.loop-entry-test.false);
+  counts = functions-all (λ (f : ℕ × Bor (String Global) × Bor Function). f.2.now) c.args.functions.now c.loop-entry.entry-index c.loop-entry-test.false c.loop-entry.invariant.counts;
+  learns = from-functions (λ (f : ℕ × Bor (String Global) × Bor Function). f.2.now) c.args.resolve.now (own_of c.args.self.now.inner) c.args.functions.now c.loop-entry.entry-index
+      c.args.self.now.maps c.loop-entry.self.maps c.loop-entry-test.false c.loop-entry.invariant.learns;
+  types_stay = search rules;
+  names_stay = search rules;
+  held = holds-most (omega (arith, c.loop-entry.invariant.within)) c.loop-entry.invariant.held;
+  places = c.loop-entry.invariant.places;
+  written =
+      let all = functions-whole (function_extent c.args.resolve.now) placed_function c.args.functions.now c.loop-entry.entry-index c.loop-entry-test.false in
+      writes-most (omega (arith, all)) c.loop-entry.invariant.written;
+  size = search rules;
+  refuses = search rules;
+}
 
 pub returns-in_err-encode_function-clause-continues : goal.returns-in_err-encode_function-clause-continues
 returns-in_err-encode_function-clause-continues c = record {
   packages_ = search rules;
   inside = search rules;
-  continues =
-      continues-trans c.loop-entry.invariant.continues c.encode_function.ensures.continues.continues refl;
+  continues = continues-trans c.loop-entry.invariant.continues c.encode_function.ensures.continues.continues refl;
 }
-
-pub returns-clause-learns : goal.returns-clause-learns
-returns-clause-learns c = from-functions (λ (f : ℕ × Bor (String Global) × Bor Function). f.2.now) c.args.resolve.now (own_of c.args.self.now.inner) c.args.functions.now c.loop-entry.entry-index
-    c.args.self.now.maps c.loop-entry.self.maps
-    c.loop-entry-test.false c.loop-entry.invariant.learns
-
-pub returns-clause-held : goal.returns-clause-held
-returns-clause-held c = holds-most (let w = c.loop-entry.invariant.within in omega arith) c.loop-entry.invariant.held
 
 pub returns-in_err-encode_function-clause-size : goal.returns-in_err-encode_function-clause-size
 returns-in_err-encode_function-clause-size c = λ h.
@@ -122,14 +126,6 @@ loop-entry-init c = record {
   types_stay = search rules;
   places = λ s. s;
 }
-
-pub returns-clause-places : goal.returns-clause-places
-returns-clause-places c = c.loop-entry.invariant.places
-
-pub returns-clause-written : goal.returns-clause-written
-returns-clause-written c =
-    let all = functions-whole (function_extent c.args.resolve.now) placed_function c.args.functions.now c.loop-entry.entry-index c.loop-entry-test.false in
-    writes-most (omega (arith, all)) c.loop-entry.invariant.written
 
 pub returns-in_err-encode_function-clause-aliases : goal.returns-in_err-encode_function-clause-aliases
 returns-in_err-encode_function-clause-aliases c =

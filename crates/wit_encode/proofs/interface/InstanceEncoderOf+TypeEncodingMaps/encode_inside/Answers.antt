@@ -18,8 +18,7 @@ begun c = opened-with c.args.interface c.new-2.result c.replace-foreign.result c
 
 pub encode_parts-outcome-requires-clause-types : goal.encode_parts-outcome-requires-clause-types
 encode_parts-outcome-requires-clause-types c = λ t h. subst (λ (o : Option OpenInterface). CanEncode c.args.self.now.resolve.now (encoder_scope c.args.self.now.resolve.now c.args.self.now.outer o)
-    (ty.Id t ∷ []))
-    (sym (begun (goal.at.encode_parts-outcome-requires-clause-types c).After-new-2)) (c.requires.types t h)
+    (ty.Id t ∷ [])) (sym (begun (goal.at.encode_parts-outcome-requires-clause-types c).After-new-2)) (c.requires.types t h)
 
 pub encode_parts-outcome-requires-clause-functions : goal.encode_parts-outcome-requires-clause-functions
 encode_parts-outcome-requires-clause-functions c = λ f h. subst (λ (o : Option OpenInterface). CanEncodeFunction c.args.self.now.resolve.now
@@ -45,24 +44,6 @@ around-grown c =
     (subst (λ (o : Option OpenInterface). AliasesMet c.args.self.now.resolve.now (own_of o) ts (around_of c.args.self.now.outer o) (around_of after.outer after.inner))
     (opened-with c.args.interface c.new-2.result c.replace-foreign.result c.args.self.now.foreign c.new-2.ensures c.replace-foreign.ensures.value) c.encode_parts-outcome.ensures.aliases)
 
-pub returns-clause-reaches : goal.returns-clause-reaches
-returns-clause-reaches c = around-grown (goal.at.returns-clause-reaches c).In-Some
-
-pub returns-in_err-outcome-in-Some-clause-reaches : goal.returns-in_err-outcome-in-Some-clause-reaches
-returns-in_err-outcome-in-Some-clause-reaches c = around-grown (goal.at.returns-in_err-outcome-in-Some-clause-reaches c).In-Some
-
-pub returns-clause-ok : goal.returns-clause-ok
-returns-clause-ok c =
-    let r = c.args.self.now.resolve.now in
-    let after = c.encode_parts-outcome.new.self in
-    let known = c.args.self.now.foreign in
-    let continues = continued (goal.at.returns-clause-ok c).In-Some in
-    let shows = subst (λ (o : Option OpenInterface). (contents_of c.args.self.now.resolve.now after.outer after.inner).shown.functions
-    ≡ (contents_of c.args.self.now.resolve.now c.args.self.now.outer o).shown.functions ++ map (λ f. meaning_of c.args.self.now.resolve.now (placed_function f)) c.args.functions.now)
-    (begun (goal.at.returns-clause-ok c).After-new-2) c.in_ok-outcome-in-Some.ensures.shows in
-    closed-instance r c.requires.valid c.args.self.now.outer after.outer c.args.interface c.requires.listed.def (listed-there r c.args.interface c.args.types.now c.requires.listed) known after.inner
-    c.in-Some.current _ _ _ (sym c.replace-inner.ensures.value ∙ c.in-Some.is) c.encode_parts-outcome.ensures.continues.inside continues shows c.in_ok-outcome-in-Some.ensures.exported
-
 began : (c : In-Some) → Began c.replace-saved.new.dest
 began c =
     let same = c.replace-saved.ensures.after in
@@ -87,27 +68,51 @@ counted c new continues =
     (sym c.replace-inner.ensures.value ∙ c.in-Some.is) new
     (interface-kinds r _ (Some c.args.interface) c.replace-saved.new.dest after.maps _ _ c.args.types.now fs new c.in_ok-outcome-in-Some.ensures.counts c.in_ok-outcome-in-Some.ensures.learns
     c.in_ok-outcome-in-Some.ensures.known c.encode_parts-outcome.ensures.continues.continues.agree.once c.requires.valid)
-    (subst (λ (o : Option OpenInterface). AddsFunctions c.args.self.now.resolve.now
-    (encoder_scope c.args.self.now.resolve.now c.args.self.now.outer o)
-    c.replace-saved.new.dest after.maps
-    (definitions_with (contents_of c.args.self.now.resolve.now c.args.self.now.outer o))
+    (subst (λ (o : Option OpenInterface). AddsFunctions c.args.self.now.resolve.now (encoder_scope c.args.self.now.resolve.now c.args.self.now.outer o)
+    c.replace-saved.new.dest after.maps (definitions_with (contents_of c.args.self.now.resolve.now c.args.self.now.outer o))
     (definitions_with (contents_of c.args.self.now.resolve.now after.outer after.inner)) fs)
     (opened-with c.args.interface c.new-2.result c.replace-foreign.result c.args.self.now.foreign c.new-2.ensures c.replace-foreign.ensures.value) c.in_ok-outcome-in-Some.ensures.counts)
     (subst (λ (z : Contents). MapsAgree r after.maps (SlotsStand z.slots)) there.at continues.agree) (first_true _ _ there.sound) c.in_ok-outcome-in-Some.ensures.defined
 
-pub returns-clause-function_types : goal.returns-clause-function_types
-returns-clause-function_types c = (counted c (began (goal.at.returns-clause-function_types c).In-Some) (continued (goal.at.returns-clause-function_types c).In-Some)).keys
-
-pub returns-clause-value_types : goal.returns-clause-value_types
-returns-clause-value_types c = (counted c (began (goal.at.returns-clause-value_types c).In-Some) (continued (goal.at.returns-clause-value_types c).In-Some)).types
-
-pub returns-clause-few : goal.returns-clause-few
-returns-clause-few c =
+pub returns : goal.returns
+returns c =
     let after = c.encode_parts-outcome.new.self in
-    let new = began (goal.at.returns-clause-few c).In-Some in
-    declares-few c.args.self.now.resolve.now c.args.interface c.args.types.now c.args.functions.now c.replace-saved.new.dest after.maps after.outer after.inner c.new-2.result c.in-Some.current new
-    c.new-2.ensures (sym c.replace-inner.ensures.value ∙ c.in-Some.is) c.in_ok-outcome-in-Some.ensures.learns.only c.in_ok-outcome-in-Some.ensures.held
-    (counted c new (continued (goal.at.returns-clause-few c).In-Some)).known
+    let made = counted c (began (goal.at.returns c).In-Some) (continued (goal.at.returns c).In-Some) in
+    record {
+      closed = search rules;
+      resolve = search rules;
+      reaches = around-grown (goal.at.returns c).In-Some;
+      maps = search rules;
+      ok =
+          let r = c.args.self.now.resolve.now in
+          let known = c.args.self.now.foreign in
+          let continues = continued (goal.at.returns c).In-Some in
+          let shows = subst (λ (o : Option OpenInterface). (contents_of c.args.self.now.resolve.now after.outer after.inner).shown.functions
+          ≡ (contents_of c.args.self.now.resolve.now c.args.self.now.outer o).shown.functions ++ map (λ f. meaning_of c.args.self.now.resolve.now (placed_function f)) c.args.functions.now)
+          (begun (goal.at.returns c).After-new-2) c.in_ok-outcome-in-Some.ensures.shows in
+          closed-instance r c.requires.valid c.args.self.now.outer after.outer c.args.interface c.requires.listed.def (listed-there r c.args.interface c.args.types.now c.requires.listed)
+          known after.inner
+          c.in-Some.current _ _ _ (sym c.replace-inner.ensures.value ∙ c.in-Some.is) c.encode_parts-outcome.ensures.continues.inside continues shows c.in_ok-outcome-in-Some.ensures.exported;
+      function_types = made.keys;
+      value_types = made.types;
+      few =
+          let new = began (goal.at.returns c).In-Some in
+          declares-few c.args.self.now.resolve.now c.args.interface c.args.types.now c.args.functions.now c.replace-saved.new.dest after.maps after.outer after.inner c.new-2.result
+          c.in-Some.current new
+          c.new-2.ensures (sym c.replace-inner.ensures.value ∙ c.in-Some.is) c.in_ok-outcome-in-Some.ensures.learns.only c.in_ok-outcome-in-Some.ensures.held
+          (counted c new (continued (goal.at.returns c).In-Some)).known;
+      places = subst (λ (o : Option OpenInterface). StandInOrder (declared_inside o)) (sym c.replace-inner.ensures.value ∙ c.in-Some.is)
+          (c.in_ok-outcome-in-Some.ensures.places c.new-2.ensures);
+      written = taken c.args.self.now.resolve.now c.args.interface _ _ c.replace-saved.new.dest after.maps c.args.self.now.outer after.outer after.inner c.new-2.result c.in-Some.current
+          (began (goal.at.returns c).In-Some).numbers c.new-2.ensures
+          (sym c.replace-inner.ensures.value ∙ c.in-Some.is) c.encode_parts-outcome.ensures.continues.continues.agree.once c.in_ok-outcome-in-Some.ensures.learns.only
+          c.in_ok-outcome-in-Some.ensures.written.extent;
+      size = search rules;
+      refuses = search rules;
+    }
+
+pub returns-in_err-outcome-in-Some-clause-reaches : goal.returns-in_err-outcome-in-Some-clause-reaches
+returns-in_err-outcome-in-Some-clause-reaches c = around-grown (goal.at.returns-in_err-outcome-in-Some-clause-reaches c).In-Some
 
 pub encode_parts-outcome-requires-clause-begins : goal.encode_parts-outcome-requires-clause-begins
 encode_parts-outcome-requires-clause-begins c = record {
@@ -128,17 +133,4 @@ returns-in_err-outcome-in-Some-clause-size c = λ h.
       after = around_at c.encode_parts-outcome.new.self.outer c.in-Some.current.foreign;
       grown = around-grown (goal.at.returns-in_err-outcome-in-Some-clause-size c).In-Some;
       full = full;
-    })
-    (c.encode_parts-outcome.ensures.size (search rules))
-
-pub returns-clause-written : goal.returns-clause-written
-returns-clause-written c =
-    let after = c.encode_parts-outcome.new.self in
-    taken c.args.self.now.resolve.now c.args.interface _ _ c.replace-saved.new.dest after.maps c.args.self.now.outer after.outer after.inner c.new-2.result c.in-Some.current
-    (began (goal.at.returns-clause-written c).In-Some).numbers c.new-2.ensures
-    (sym c.replace-inner.ensures.value ∙ c.in-Some.is) c.encode_parts-outcome.ensures.continues.continues.agree.once c.in_ok-outcome-in-Some.ensures.learns.only
-    c.in_ok-outcome-in-Some.ensures.written.extent
-
-pub returns-clause-places : goal.returns-clause-places
-returns-clause-places c = subst (λ (o : Option OpenInterface). StandInOrder (declared_inside o)) (sym c.replace-inner.ensures.value ∙ c.in-Some.is)
-    (c.in_ok-outcome-in-Some.ensures.places c.new-2.ensures)
+    }) (c.encode_parts-outcome.ensures.size (search rules))

@@ -12,31 +12,7 @@ use Rattle.wit_encode.proofs.interface.InstanceEncoderOf+TypeEncodingMaps.encode
 pub encode_functions-requires-clause-encodable : goal.encode_functions-requires-clause-encodable
 encode_functions-requires-clause-encodable c = λ f h. subst (λ (s : Scope). CanEncodeFunction c.args.resolve.now s f.2.now)
     (same-scope c.args.resolve.now c.args.self.now.resolve.now c.encode_types.new.self.resolve.now c.args.self.now.outer c.encode_types.new.self.outer c.args.self.now.inner
-    c.encode_types.new.self.inner c.requires.begins.packages_ c.encode_types.ensures.leaves.scope_stays)
-    (c.requires.functions f h)
-
-pub returns-clause-counts : goal.returns-clause-counts
-returns-clause-counts c =
-    parts-counted c.encode_functions.result c.args.resolve.now c.args.self.now.resolve.now c.encode_types.new.self.resolve.now c.args.self.now.outer
-    c.encode_types.new.self.outer c.encode_functions.new.self.outer c.args.self.now.inner c.encode_types.new.self.inner c.encode_functions.new.self.inner
-    c.args.self.now.maps c.encode_types.new.self.maps c.encode_functions.new.self.maps
-    (map (λ f. f.2.now) c.args.functions.now) c.requires.begins.packages_ c.encode_types.ensures.leaves.scope_stays c.in_ok-encode_types.ensures.counts
-    c.encode_functions.ensures.counts
-
-pub encode_functions-requires-clause-used : goal.encode_functions-requires-clause-used
-encode_functions-requires-clause-used c = λ f h. listed-used c.args.resolve.now c.encode_types.new.self.maps c.args.types.now f.2.now c.in_ok-encode_types.ensures.known (c.requires.uses f h)
-
-pub returns-clause-exported : goal.returns-clause-exported
-returns-clause-exported c = exported-after c.encode_functions.result c.args.resolve.now c.args.self.now.resolve.now c.encode_types.new.self.resolve.now c.args.self.now.outer
-    c.encode_types.new.self.outer c.encode_functions.new.self.outer
-    c.args.self.now.inner c.encode_types.new.self.inner c.encode_functions.new.self.inner (declarations_in c.args.resolve.now (own_of c.args.self.now.inner)) c.requires.begins.packages_
-    c.encode_types.ensures.leaves.scope_stays c.in_ok-encode_types.ensures.exported c.encode_functions.ensures.types_stay
-
-pub returns-clause-defined : goal.returns-clause-defined
-returns-clause-defined c =
-    parts-named c.encode_functions.result c.args.resolve.now c.args.self.now.resolve.now c.encode_types.new.self.resolve.now c.args.self.now.outer
-    c.encode_types.new.self.outer c.args.self.now.inner c.encode_types.new.self.inner c.encode_types.new.self.maps c.encode_functions.new.self.maps _
-    c.encode_types.ensures.leaves.scope_stays c.in_ok-encode_types.ensures.defined c.encode_functions.ensures.names_stay
+    c.encode_types.new.self.inner c.requires.begins.packages_ c.encode_types.ensures.leaves.scope_stays) (c.requires.functions f h)
 
 types-continue : (c : After-encode_types)
     → Continues c.args.resolve.now c.args.resolve.now c.args.self.now.outer c.encode_types.new.self.outer c.args.self.now.inner c.encode_types.new.self.inner c.args.self.now.maps
@@ -46,68 +22,68 @@ types-continue c = after-types c.args.resolve.now c.args.self.now.resolve.now c.
     c.args.self.now.maps c.encode_types.new.self.maps c.requires.begins.packages_ c.encode_types.ensures.leaves.scope_stays c.encode_types.ensures.leaves.agree
     c.encode_types.ensures.leaves.grows.around_
 
+pub returns : goal.returns
+returns c =
+    let types = map (λ t. ty.Id t) c.args.types.now in
+    let others = flat_map function_types (map (λ f. f.2.now) c.args.functions.now) in
+    record {
+      continues = record {
+        packages_ = search rules;
+        inside = search rules;
+        continues = continues-trans (types-continue (goal.at.returns c).After-encode_types) c.encode_functions.ensures.continues.continues refl;
+      };
+      aliases = makes-then (ap (λ (s : Scope). s.own_interface) c.encode_types.ensures.leaves.scope_stays) (met-more (reached-left types others) c.encode_types.ensures.aliases)
+          (met-more (reached-right types others) c.encode_functions.ensures.aliases);
+      shows = search rules;
+      counts = parts-counted c.encode_functions.result c.args.resolve.now c.args.self.now.resolve.now c.encode_types.new.self.resolve.now c.args.self.now.outer
+          c.encode_types.new.self.outer c.encode_functions.new.self.outer c.args.self.now.inner c.encode_types.new.self.inner c.encode_functions.new.self.inner
+          c.args.self.now.maps c.encode_types.new.self.maps c.encode_functions.new.self.maps
+          (map (λ f. f.2.now) c.args.functions.now) c.requires.begins.packages_ c.encode_types.ensures.leaves.scope_stays c.in_ok-encode_types.ensures.counts
+          c.encode_functions.ensures.counts;
+      known = on_ok c.encode_functions.result _ _ (λ l. λ t h. known-grow c.encode_types.new.self.maps c.encode_functions.new.self.maps t.0 l.learns.grow
+          (c.in_ok-encode_types.ensures.known t h)) c.encode_functions.ensures.learns;
+      learns = on_ok c.encode_functions.result _ _ (λ l. from-then (ap (λ (s : Scope). s.own_interface) c.encode_types.ensures.leaves.scope_stays) c.in_ok-encode_types.ensures.learns l)
+          c.encode_functions.ensures.learns;
+      exported = exported-after c.encode_functions.result c.args.resolve.now c.args.self.now.resolve.now c.encode_types.new.self.resolve.now c.args.self.now.outer
+          c.encode_types.new.self.outer c.encode_functions.new.self.outer
+          c.args.self.now.inner c.encode_types.new.self.inner c.encode_functions.new.self.inner (declarations_in c.args.resolve.now (own_of c.args.self.now.inner)) c.requires.begins.packages_
+          c.encode_types.ensures.leaves.scope_stays c.in_ok-encode_types.ensures.exported c.encode_functions.ensures.types_stay;
+      defined = parts-named c.encode_functions.result c.args.resolve.now c.args.self.now.resolve.now c.encode_types.new.self.resolve.now c.args.self.now.outer
+          c.encode_types.new.self.outer c.args.self.now.inner c.encode_types.new.self.inner c.encode_types.new.self.maps c.encode_functions.new.self.maps _
+          c.encode_types.ensures.leaves.scope_stays c.in_ok-encode_types.ensures.defined c.encode_functions.ensures.names_stay;
+      held = on-both c.encode_functions.result _ _ _ (λ l h. holds-most (omega arith)
+          (holds-then (ap (λ (s : Scope). s.own_interface) c.encode_types.ensures.leaves.scope_stays) c.encode_types.ensures.leaves.maps_grow l.learns.grow c.in_ok-encode_types.ensures.held h))
+          c.encode_functions.ensures.learns c.encode_functions.ensures.held;
+      places = on_ok c.encode_functions.result _ _
+          (λ p none. p (types-in-order c.args.self.now.resolve.now c.encode_types.new.self.resolve.now c.args.self.now.outer c.encode_types.new.self.outer c.args.self.now.inner
+          c.encode_types.new.self.inner
+          c.requires.inside
+          (open-still c.args.self.now.inner c.encode_types.new.self.inner (ap (λ (s : Scope). s.own_interface) c.encode_types.ensures.leaves.scope_stays) c.requires.inside) none
+          c.encode_types.ensures.leaves.grows.own_ c.in_ok-encode_types.ensures.counts.functions)) c.encode_functions.ensures.places;
+      written = on_ok c.encode_functions.result _ _ (λ w. writes-most (omega arith) (writes-then c.encode_types.ensures.leaves.scope_stays c.in_ok-encode_types.ensures.written w))
+          c.encode_functions.ensures.written;
+      size = λ h.
+          let same = c.in_ok-encode_types.ensures.counts.keys in
+          lacks-behind (ap (λ (s : Scope). s.own_interface) c.encode_types.ensures.leaves.scope_stays) c.encode_types.ensures.leaves.maps_grow
+          (only-more (reached-left types others) c.in_ok-encode_types.ensures.learns.only) (reached-right types others) (map placed_function c.args.functions.now) c.in_ok-encode_types.ensures.held
+          (knows-along c.encode_types.new.self.maps c.args.self.now.maps (sym same.lists) (sym same.names_)) (c.encode_functions.ensures.size h);
+      refuses = search rules;
+    }
+
+pub encode_functions-requires-clause-used : goal.encode_functions-requires-clause-used
+encode_functions-requires-clause-used c = λ f h. listed-used c.args.resolve.now c.encode_types.new.self.maps c.args.types.now f.2.now c.in_ok-encode_types.ensures.known (c.requires.uses f h)
+
 pub returns-in_err-encode_types-clause-continues : goal.returns-in_err-encode_types-clause-continues
 returns-in_err-encode_types-clause-continues c = record {
   packages_ = search rules;
   inside = search rules;
-  continues =
-      types-continue (goal.at.returns-in_err-encode_types-clause-continues c).After-encode_types;
+  continues = types-continue (goal.at.returns-in_err-encode_types-clause-continues c).After-encode_types;
 }
-
-pub returns-clause-continues : goal.returns-clause-continues
-returns-clause-continues c = record {
-  packages_ = search rules;
-  inside = search rules;
-  continues =
-      continues-trans (types-continue (goal.at.returns-clause-continues c).After-encode_types) c.encode_functions.ensures.continues.continues refl;
-}
-
-pub returns-clause-learns : goal.returns-clause-learns
-returns-clause-learns c = on_ok c.encode_functions.result _ _ (λ l. from-then (ap (λ (s : Scope). s.own_interface) c.encode_types.ensures.leaves.scope_stays) c.in_ok-encode_types.ensures.learns l)
-    c.encode_functions.ensures.learns
-
-pub returns-clause-known : goal.returns-clause-known
-returns-clause-known c = on_ok c.encode_functions.result _ _ (λ l. λ t h. known-grow c.encode_types.new.self.maps c.encode_functions.new.self.maps t.0 l.learns.grow
-    (c.in_ok-encode_types.ensures.known t h)) c.encode_functions.ensures.learns
 
 pub returns-in_err-encode_types-clause-size : goal.returns-in_err-encode_types-clause-size
 returns-in_err-encode_types-clause-size c = λ h. lacks-types (map placed_function c.args.functions.now) c.requires.begins.agree.once
     (reached-left (map (λ t. ty.Id t) c.args.types.now) (flat_map function_types (map (λ f. f.2.now) c.args.functions.now))) (c.encode_types.ensures.size (search rules))
 
-pub returns-clause-size : goal.returns-clause-size
-returns-clause-size c = λ h.
-    let types = map (λ t. ty.Id t) c.args.types.now in
-    let others = flat_map function_types (map (λ f. f.2.now) c.args.functions.now) in
-    let same = c.in_ok-encode_types.ensures.counts.keys in
-    lacks-behind (ap (λ (s : Scope). s.own_interface) c.encode_types.ensures.leaves.scope_stays) c.encode_types.ensures.leaves.maps_grow
-    (only-more (reached-left types others) c.in_ok-encode_types.ensures.learns.only) (reached-right types others) (map placed_function c.args.functions.now) c.in_ok-encode_types.ensures.held
-    (knows-along c.encode_types.new.self.maps c.args.self.now.maps (sym same.lists) (sym same.names_)) (c.encode_functions.ensures.size h)
-
-pub returns-clause-held : goal.returns-clause-held
-returns-clause-held c = on-both c.encode_functions.result _ _ _
-    (λ l h. holds-most (omega arith)
-    (holds-then (ap (λ (s : Scope). s.own_interface) c.encode_types.ensures.leaves.scope_stays) c.encode_types.ensures.leaves.maps_grow l.learns.grow c.in_ok-encode_types.ensures.held h))
-    c.encode_functions.ensures.learns c.encode_functions.ensures.held
-
-pub returns-clause-written : goal.returns-clause-written
-returns-clause-written c = on_ok c.encode_functions.result _ _ (λ w. writes-most (omega arith) (writes-then c.encode_types.ensures.leaves.scope_stays c.in_ok-encode_types.ensures.written w))
-    c.encode_functions.ensures.written
-
 pub returns-in_err-encode_types-clause-aliases : goal.returns-in_err-encode_types-clause-aliases
 returns-in_err-encode_types-clause-aliases c = met-more (reached-left (map (λ t. ty.Id t) c.args.types.now) (flat_map function_types (map (λ f. f.2.now) c.args.functions.now)))
     c.encode_types.ensures.aliases
-
-pub returns-clause-aliases : goal.returns-clause-aliases
-returns-clause-aliases c =
-    let types = map (λ t. ty.Id t) c.args.types.now in
-    let others = flat_map function_types (map (λ f. f.2.now) c.args.functions.now) in
-    makes-then (ap (λ (s : Scope). s.own_interface) c.encode_types.ensures.leaves.scope_stays) (met-more (reached-left types others) c.encode_types.ensures.aliases)
-    (met-more (reached-right types others) c.encode_functions.ensures.aliases)
-
-pub returns-clause-places : goal.returns-clause-places
-returns-clause-places c = on_ok c.encode_functions.result _ _
-    (λ p none. p (types-in-order c.args.self.now.resolve.now c.encode_types.new.self.resolve.now c.args.self.now.outer c.encode_types.new.self.outer c.args.self.now.inner c.encode_types.new.self.inner
-    c.requires.inside
-    (open-still c.args.self.now.inner c.encode_types.new.self.inner (ap (λ (s : Scope). s.own_interface) c.encode_types.ensures.leaves.scope_stays) c.requires.inside) none
-    c.encode_types.ensures.leaves.grows.own_ c.in_ok-encode_types.ensures.counts.functions))
-    c.encode_functions.ensures.places

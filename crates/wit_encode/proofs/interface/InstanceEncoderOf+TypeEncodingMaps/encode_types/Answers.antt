@@ -94,7 +94,6 @@ returns-clause-learns c = from-types c.args.resolve.now (own_of c.args.self.now.
 pub returns-in_err-encode_valtype-clause-size : goal.returns-in_err-encode_valtype-clause-size
 returns-in_err-encode_valtype-clause-size c = λ h.
     let t : TypeId = get_or c.args.types.now c.loop-id.id-index (record { 0 = 0 }) in
-    let keys : length c.loop-id.self.maps.func_type_map.entries ≡ length c.args.self.now.maps.func_type_map.entries = ap length c.loop-id.invariant.counts.keys.lists in
     room-after (ap (λ (z : Scope). z.own_interface) c.loop-id.invariant.leaves.scope_stays) c.loop-id.invariant.leaves.maps_grow c.loop-id.invariant.held
     (only-more (λ n x. (x.0, map-taken (λ (t : TypeId). ty.Id t) c.args.types.now c.loop-id.id-index x.0 x.1, x.2)) c.loop-id.invariant.learns.only)
     (λ n x. (
@@ -102,8 +101,7 @@ returns-in_err-encode_valtype-clause-size c = λ h.
       subst (Contains (map (λ (t : TypeId). ty.Id t) c.args.types.now)) (one-contained (ty.Id t) x.0 x.1)
           (contains-map (λ (t : TypeId). ty.Id t) c.args.types.now t (Contains-get_or c.args.types.now c.loop-id.id-index (record { 0 = 0 }) c.loop-id-test.true)),
       x.2,
-    ))
-    (λ q k. k) (omega (arith, keys)) (c.encode_valtype.ensures.size (search rules))
+    )) (λ q k. k) (omega (arith, ap length c.loop-id.invariant.counts.keys.lists)) (c.encode_valtype.ensures.size (search rules))
 
 pub returns-in_err-encode_valtype-clause-aliases : goal.returns-in_err-encode_valtype-clause-aliases
 returns-in_err-encode_valtype-clause-aliases c = makes-then (ap (λ (z : Scope). z.own_interface) c.loop-id.invariant.leaves.scope_stays) c.loop-id.invariant.aliases

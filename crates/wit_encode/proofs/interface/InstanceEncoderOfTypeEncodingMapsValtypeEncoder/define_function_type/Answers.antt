@@ -1,4 +1,4 @@
-use Rattle.std.proofs.Common.{inl, refl, sym, ap, ◌∙◌}
+use Rattle.std.proofs.Common.{rules, inl, refl, sym, ap, ◌∙◌}
 use Rattle.wit_encode.proofs.{Placed.inside-called, Extents.bytes-few, BytesWritten.inside-more, BytesWritten.outside-more, BytesWritten.when-ok}
 use Rattle.wit_encode.proofs.Within.{function-within, function-without, slot-function}
 use Rattle.wit_encode.proofs.Refusing.{function-inside, function-outside, held-inside, held-outside, on-size, kept-inside, kept-outside}
@@ -6,79 +6,60 @@ use Rattle.wit_encode.specs.Instance.{around_of, stands_in}
 use Rattle.encode_types.proofs.Around.{slots-grow}
 use Rattle.wit_encode.proofs.interface.InstanceEncoderOfTypeEncodingMapsValtypeEncoder.define_function_type.Goals as goal
 
-pub returns-in-Some-clause-ok : goal.returns-in-Some-clause-ok
-returns-in-Some-clause-ok c = (function-within c.define_function_inside.result c.args.self.now.resolve.now c.args.self.now.outer c.args.self.now.inner c.in-Some.current
-    c.define_function_inside.new.inner c.in-Some.is c.args.def c.requires c.define_function_inside.ensures.ok c.define_function_inside.ensures.err).ok
+pub returns-in-Some : goal.returns-in-Some
+returns-in-Some c =
+    let calls = function-within c.define_function_inside.result c.args.self.now.resolve.now c.args.self.now.outer c.args.self.now.inner c.in-Some.current
+    c.define_function_inside.new.inner c.in-Some.is c.args.def c.requires c.define_function_inside.ensures.ok c.define_function_inside.ensures.err in
+    record {
+      ok = calls.ok;
+      grows = slots-grow calls.grows (ap (around_of c.args.self.now.outer) (sym c.in-Some.is))
+          (inside-called c.define_function_inside.result c.args.self.now.inner c.in-Some.current (record c.in-Some.current { declared = c.define_function_inside.new.inner }) _ c.in-Some.is refl
+          c.define_function_inside.ensures.ok c.define_function_inside.ensures.err);
+      scope_stays = calls.scope_stays;
+      around_stays = ap (around_of c.args.self.now.outer) (sym c.in-Some.is);
+      imports_stay = search rules;
+      maps_stay = search rules;
+      counts = slot-function c.define_function_inside.result _ _ _ _ _ _ _ calls.ok calls.counted;
+      held = held-inside c.args.self.now.outer c.args.self.now.inner c.in-Some.current c.define_function_inside.new.inner c.in-Some.is c.define_function_inside.ensures.held;
+      written = when-ok c.define_function_inside.result _ _
+          (λ i made s f. record {
+            extent = inside-more c.args.self.now.outer c.args.self.now.inner c.in-Some.current c.define_function_inside.new.inner _ _ c.in-Some.is made.1
+                (bytes-few.functions _ c.args.def s f);
+          }) c.define_function_inside.ensures.ok;
+      size = λ h s f. record {
+        lacks = inl (function-inside c.args.self.now.resolve.now c.define_function_inside.result h (stands_in c.args.self.now.resolve.now c.args.self.now.outer c.args.self.now.inner)
+            c.define_function_inside.new.inner c.args.def c.define_function_inside.ensures.size s f);
+        held = kept-inside c.args.self.now.outer c.args.self.now.inner c.in-Some.current c.define_function_inside.new.inner c.in-Some.is
+            (on-size c.define_function_inside.result _ c.define_function_inside.ensures.err h);
+      };
+      refuses = search rules;
+    }
 
-pub returns-in-Some-clause-grows : goal.returns-in-Some-clause-grows
-returns-in-Some-clause-grows c = slots-grow (function-within c.define_function_inside.result c.args.self.now.resolve.now c.args.self.now.outer c.args.self.now.inner c.in-Some.current
-    c.define_function_inside.new.inner c.in-Some.is c.args.def c.requires c.define_function_inside.ensures.ok c.define_function_inside.ensures.err).grows
-    (ap (around_of c.args.self.now.outer) (sym c.in-Some.is))
-    (inside-called c.define_function_inside.result c.args.self.now.inner c.in-Some.current (record c.in-Some.current { declared = c.define_function_inside.new.inner }) _ c.in-Some.is refl
-    c.define_function_inside.ensures.ok c.define_function_inside.ensures.err)
-
-pub returns-in-Some-clause-scope_stays : goal.returns-in-Some-clause-scope_stays
-returns-in-Some-clause-scope_stays c = (function-within c.define_function_inside.result c.args.self.now.resolve.now c.args.self.now.outer c.args.self.now.inner c.in-Some.current
-    c.define_function_inside.new.inner c.in-Some.is c.args.def c.requires c.define_function_inside.ensures.ok c.define_function_inside.ensures.err).scope_stays
-
-pub returns-in-Some-clause-counts : goal.returns-in-Some-clause-counts
-returns-in-Some-clause-counts c = let calls = (function-within c.define_function_inside.result c.args.self.now.resolve.now c.args.self.now.outer c.args.self.now.inner c.in-Some.current
-    c.define_function_inside.new.inner c.in-Some.is c.args.def c.requires c.define_function_inside.ensures.ok c.define_function_inside.ensures.err) in
-    slot-function c.define_function_inside.result _ _ _ _ _ _ _ calls.ok calls.counted
-
-pub returns-clause-ok : goal.returns-clause-ok
-returns-clause-ok c = (function-without c.define_function_outside.result c.args.self.now.resolve.now c.args.self.now.outer c.args.self.now.inner c.define_function_outside.new.outer c.in-None.is
-    c.args.def c.requires c.define_function_outside.ensures.ok c.define_function_outside.ensures.err).ok
-
-pub returns-clause-grows : goal.returns-clause-grows
-returns-clause-grows c = slots-grow (function-without c.define_function_outside.result c.args.self.now.resolve.now c.args.self.now.outer c.args.self.now.inner c.define_function_outside.new.outer
-    c.in-None.is c.args.def c.requires c.define_function_outside.ensures.ok c.define_function_outside.ensures.err).grows
-    (ap (around_of c.define_function_outside.new.outer) c.in-None.is ∙ sym (ap (around_of c.args.self.now.outer) c.in-None.is)) (λ ns h. h)
-
-pub returns-clause-scope_stays : goal.returns-clause-scope_stays
-returns-clause-scope_stays c = (function-without c.define_function_outside.result c.args.self.now.resolve.now c.args.self.now.outer c.args.self.now.inner c.define_function_outside.new.outer
-    c.in-None.is c.args.def c.requires c.define_function_outside.ensures.ok c.define_function_outside.ensures.err).scope_stays
-
-pub returns-clause-counts : goal.returns-clause-counts
-returns-clause-counts c = let calls = (function-without c.define_function_outside.result c.args.self.now.resolve.now c.args.self.now.outer c.args.self.now.inner c.define_function_outside.new.outer
-    c.in-None.is c.args.def c.requires c.define_function_outside.ensures.ok c.define_function_outside.ensures.err) in
-    slot-function c.define_function_outside.result _ _ _ _ _ _ _ calls.ok calls.counted
-
-pub returns-in-Some-clause-held : goal.returns-in-Some-clause-held
-returns-in-Some-clause-held c = held-inside c.args.self.now.outer c.args.self.now.inner c.in-Some.current c.define_function_inside.new.inner c.in-Some.is c.define_function_inside.ensures.held
-
-pub returns-clause-held : goal.returns-clause-held
-returns-clause-held c = held-outside c.args.self.now.outer c.define_function_outside.new.outer c.args.self.now.inner c.in-None.is c.define_function_outside.ensures.held
-
-pub returns-in-Some-clause-size : goal.returns-in-Some-clause-size
-returns-in-Some-clause-size c = λ h s f. record {
-  lacks = inl (function-inside c.args.self.now.resolve.now c.define_function_inside.result h (stands_in c.args.self.now.resolve.now c.args.self.now.outer c.args.self.now.inner)
-      c.define_function_inside.new.inner c.args.def c.define_function_inside.ensures.size s f);
-  held = kept-inside c.args.self.now.outer c.args.self.now.inner c.in-Some.current c.define_function_inside.new.inner c.in-Some.is
-      (on-size c.define_function_inside.result _ c.define_function_inside.ensures.err h);
-}
-
-pub returns-clause-size : goal.returns-clause-size
-returns-clause-size c = λ h s f. record {
-  lacks = inl (function-outside c.args.self.now.resolve.now c.define_function_outside.result h c.define_function_outside.new.outer c.args.self.now.inner c.in-None.is
-      (stands_in c.args.self.now.resolve.now c.args.self.now.outer c.args.self.now.inner) c.args.def c.define_function_outside.ensures.size s f);
-  held = kept-outside c.args.self.now.outer c.define_function_outside.new.outer c.args.self.now.inner c.in-None.is (on-size c.define_function_outside.result _ c.define_function_outside.ensures.err h);
-}
-
-pub returns-in-Some-clause-around_stays : goal.returns-in-Some-clause-around_stays
-returns-in-Some-clause-around_stays c = ap (around_of c.args.self.now.outer) (sym c.in-Some.is)
-
-pub returns-clause-around_stays : goal.returns-clause-around_stays
-returns-clause-around_stays c = ap (around_of c.define_function_outside.new.outer) c.in-None.is ∙ sym (ap (around_of c.args.self.now.outer) c.in-None.is)
-
-pub returns-in-Some-clause-written : goal.returns-in-Some-clause-written
-returns-in-Some-clause-written c = when-ok c.define_function_inside.result _ _
-    (λ i made s f. record {
-      extent = inside-more c.args.self.now.outer c.args.self.now.inner c.in-Some.current c.define_function_inside.new.inner _ _ c.in-Some.is made.1
-          (bytes-few.functions _ c.args.def s f);
-    }) c.define_function_inside.ensures.ok
-
-pub returns-clause-written : goal.returns-clause-written
-returns-clause-written c = when-ok c.define_function_outside.result _ _
-    (λ i made s f. record { extent = outside-more c.args.self.now.outer c.define_function_outside.new.outer c.args.self.now.inner _ _ c.in-None.is made.1 (bytes-few.functions _ c.args.def s f) })
-    c.define_function_outside.ensures.ok
+pub returns : goal.returns
+returns c =
+    let calls = function-without c.define_function_outside.result c.args.self.now.resolve.now c.args.self.now.outer c.args.self.now.inner c.define_function_outside.new.outer c.in-None.is
+    c.args.def c.requires c.define_function_outside.ensures.ok c.define_function_outside.ensures.err in
+    record {
+      ok = calls.ok;
+      grows = slots-grow calls.grows
+          (ap (around_of c.define_function_outside.new.outer) c.in-None.is ∙ sym (ap (around_of c.args.self.now.outer) c.in-None.is)) (λ ns h. h);
+      scope_stays = calls.scope_stays;
+      around_stays = ap (around_of c.define_function_outside.new.outer) c.in-None.is ∙ sym (ap (around_of c.args.self.now.outer) c.in-None.is);
+      imports_stay = search rules;
+      maps_stay = search rules;
+      counts = slot-function c.define_function_outside.result _ _ _ _ _ _ _ calls.ok calls.counted;
+      held = held-outside c.args.self.now.outer c.define_function_outside.new.outer c.args.self.now.inner c.in-None.is c.define_function_outside.ensures.held;
+      written = when-ok c.define_function_outside.result _ _
+          (λ i made s f. record {
+            extent = outside-more c.args.self.now.outer c.define_function_outside.new.outer c.args.self.now.inner _ _ c.in-None.is made.1 (bytes-few.functions _
+                c.args.def s f);
+          })
+          c.define_function_outside.ensures.ok;
+      size = λ h s f. record {
+        lacks = inl (function-outside c.args.self.now.resolve.now c.define_function_outside.result h c.define_function_outside.new.outer c.args.self.now.inner c.in-None.is
+            (stands_in c.args.self.now.resolve.now c.args.self.now.outer c.args.self.now.inner) c.args.def c.define_function_outside.ensures.size s f);
+        held = kept-outside c.args.self.now.outer c.define_function_outside.new.outer c.args.self.now.inner c.in-None.is (on-size c.define_function_outside.result _
+            c.define_function_outside.ensures.err h);
+      };
+      refuses = search rules;
+    }

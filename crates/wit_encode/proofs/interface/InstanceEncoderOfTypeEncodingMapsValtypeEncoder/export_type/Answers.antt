@@ -8,30 +8,29 @@ use Rattle.comp_bytes.specs.declared.forms.ComponentTypeRef.TheVariants as refs
 use Rattle.wit_model.specs.declared.error.Error.TheVariants as errors
 use Rattle.wit_encode.proofs.interface.InstanceEncoderOfTypeEncodingMapsValtypeEncoder.export_type.Goals as goal
 
-pub returns-clause-ok : goal.returns-clause-ok
-returns-clause-ok c =
+pub returns : goal.returns
+returns c =
     let res : Result ℕ Error = Ok c.in_ok-slot-in-Some.slot in
-    (type-within res c.args.self.now.resolve.now c.args.self.now.outer c.args.self.now.inner c.in-Some.current c.export_inside.new.inner c.in-Some.is c.args.index (raw_name c.args.name) c.requires
-    c.in_ok-slot-in-Some.ensures.ok tt).ok
-
-pub returns-clause-grows : goal.returns-clause-grows
-returns-clause-grows c =
-    let res : Result ℕ Error = Ok c.in_ok-slot-in-Some.slot in
-    slots-grow (type-within res c.args.self.now.resolve.now c.args.self.now.outer c.args.self.now.inner c.in-Some.current c.export_inside.new.inner c.in-Some.is c.args.index (raw_name c.args.name)
-    c.requires c.in_ok-slot-in-Some.ensures.ok tt).grows (ap (around_of c.args.self.now.outer) (sym c.in-Some.is))
-    (inside-called res c.args.self.now.inner c.in-Some.current (record c.in-Some.current { declared = c.export_inside.new.inner }) _ c.in-Some.is refl c.in_ok-slot-in-Some.ensures.ok tt)
-
-pub returns-clause-scope_stays : goal.returns-clause-scope_stays
-returns-clause-scope_stays c =
-    let res : Result ℕ Error = Ok c.in_ok-slot-in-Some.slot in
-    (type-within res c.args.self.now.resolve.now c.args.self.now.outer c.args.self.now.inner c.in-Some.current c.export_inside.new.inner c.in-Some.is c.args.index (raw_name c.args.name) c.requires
-    c.in_ok-slot-in-Some.ensures.ok tt).scope_stays
-
-pub returns-clause-counts : goal.returns-clause-counts
-returns-clause-counts c =
-    let res : Result ℕ Error = Ok c.in_ok-slot-in-Some.slot in
-    (type-within res c.args.self.now.resolve.now c.args.self.now.outer c.args.self.now.inner c.in-Some.current c.export_inside.new.inner c.in-Some.is c.args.index (raw_name c.args.name) c.requires
-    c.in_ok-slot-in-Some.ensures.ok tt).counted
+    let made = type-within res c.args.self.now.resolve.now c.args.self.now.outer c.args.self.now.inner c.in-Some.current c.export_inside.new.inner c.in-Some.is c.args.index
+    (raw_name c.args.name) c.requires
+    c.in_ok-slot-in-Some.ensures.ok tt in
+    record {
+      ok = made.ok;
+      grows = slots-grow made.grows (ap (around_of c.args.self.now.outer) (sym c.in-Some.is))
+          (inside-called res c.args.self.now.inner c.in-Some.current (record c.in-Some.current { declared = c.export_inside.new.inner }) _ c.in-Some.is refl c.in_ok-slot-in-Some.ensures.ok tt);
+      scope_stays = made.scope_stays;
+      around_stays = ap (around_of c.args.self.now.outer) (sym c.in-Some.is);
+      imports_stay = search rules;
+      maps_stay = search rules;
+      counts = made.counted;
+      held = held-inside c.args.self.now.outer c.args.self.now.inner c.in-Some.current c.export_inside.new.inner c.in-Some.is c.export_inside.ensures.held;
+      written = record {
+        extent = inside-more c.args.self.now.outer c.args.self.now.inner c.in-Some.current c.export_inside.new.inner _ _ c.in-Some.is c.in_ok-slot-in-Some.ensures.ok.1
+            (bytes-few.exports (raw_name c.args.name) (refs.TypeEq c.args.index));
+      };
+      size = search rules;
+      refuses = search rules;
+    }
 
 pub returns-in_err-slot-in-Some-clause-scope_stays : goal.returns-in_err-slot-in-Some-clause-scope_stays
 returns-in_err-slot-in-Some-clause-scope_stays c = ap (encoder_scope c.args.self.now.resolve.now c.args.self.now.outer)
@@ -45,20 +44,8 @@ returns-in_err-slot-in-Some-clause-size c = λ h.
       held = kept-inside c.args.self.now.outer c.args.self.now.inner c.in-Some.current c.export_inside.new.inner c.in-Some.is c.in_err-slot-in-Some.ensures.err;
     }
 
-pub returns-clause-held : goal.returns-clause-held
-returns-clause-held c = held-inside c.args.self.now.outer c.args.self.now.inner c.in-Some.current c.export_inside.new.inner c.in-Some.is c.export_inside.ensures.held
-
 pub returns-in_err-slot-in-Some-clause-held : goal.returns-in_err-slot-in-Some-clause-held
 returns-in_err-slot-in-Some-clause-held c = held-inside c.args.self.now.outer c.args.self.now.inner c.in-Some.current c.export_inside.new.inner c.in-Some.is c.export_inside.ensures.held
 
-pub returns-clause-around_stays : goal.returns-clause-around_stays
-returns-clause-around_stays c = ap (around_of c.args.self.now.outer) (sym c.in-Some.is)
-
 pub returns-in_err-slot-in-Some-clause-around_stays : goal.returns-in_err-slot-in-Some-clause-around_stays
 returns-in_err-slot-in-Some-clause-around_stays c = ap (around_of c.args.self.now.outer) (sym c.in-Some.is)
-
-pub returns-clause-written : goal.returns-clause-written
-returns-clause-written c = record {
-  extent = inside-more c.args.self.now.outer c.args.self.now.inner c.in-Some.current c.export_inside.new.inner _ _ c.in-Some.is c.in_ok-slot-in-Some.ensures.ok.1
-      (bytes-few.exports (raw_name c.args.name) (refs.TypeEq c.args.index));
-}

@@ -1,7 +1,7 @@
 use Rattle.std.proofs.Common.{inl, sym, ap, ◌∙◌, subst, arith, Option, Some, rules, refl}
 use Rattle.std.proofs.lemmas.Option.{slice_get_within}
-use Rattle.wit_encode.proofs.{Placed.inside-called, interface.InstanceEncoderOfTypeEncodingMapsValtypeEncoder.import_type.Goals.After-alias_inside}
-use Rattle.wit_encode.proofs.Importing.{ImportsTo, imported, imported-stands, import-source, none-outside}
+use Rattle.wit_encode.proofs.{Placed.inside-called}
+use Rattle.wit_encode.proofs.Importing.{imported, imported-stands, import-source, none-outside}
 use Rattle.wit_encode.proofs.Refusing.{alias-inside, alias-outside, held-inside, on-size, kept-inside}
 use Rattle.wit_encode.proofs.BytesWritten.{imported-more, when-ok}
 use Rattle.wit_encode.specs.declared.interface.OpenInterface.{OpenInterface}
@@ -20,80 +20,64 @@ pub unreachable-requires : goal.unreachable-requires
 unreachable-requires c = none-outside c.args.self.now.resolve.now c.args.self.now.outer c.args.interface.0 c.args.id.0
     (subst (λ (o : Option OpenInterface). IsImportable (encoder_scope c.args.self.now.resolve.now c.args.self.now.outer o) c.args.interface.0 c.args.id.0) c.in-None.is c.requires)
 
-imports : (c : After-alias_inside)
-    → ImportsTo c.alias_inside.result c.args.self.now.resolve.now c.args.self.now.outer c.reach.new.outer c.args.self.now.inner c.in-Some.current c.reach.new.foreign c.alias_inside.new.inner
-    c.in-Some.is c.args.self.now.inner c.args.id.0
-imports c = imported c.alias_inside.result c.args.self.now.resolve.now c.args.self.now.outer c.reach.new.outer c.args.self.now.inner c.in-Some.current c.reach.new.foreign c.alias_inside.new.inner
+pub returns : goal.returns
+returns c =
+    let imports = imported c.alias_inside.result c.args.self.now.resolve.now c.args.self.now.outer c.reach.new.outer c.args.self.now.inner c.in-Some.current c.reach.new.foreign
+    c.alias_inside.new.inner
     c.in-Some.is c.args.interface.0 c.args.id c.in_ok-slot-in-Some.slot c.requires
-    c.reach.ensures.reaches c.in_ok-slot-in-Some.ensures.slot c.alias_inside.ensures.ok c.alias_inside.ensures.err
-
-pub returns-clause-ok : goal.returns-clause-ok
-returns-clause-ok c = imported-stands c.alias_inside.result c.args.self.now.resolve.now c.args.self.now.outer c.reach.new.outer c.args.self.now.inner c.in-Some.current c.reach.new.foreign
-    c.alias_inside.new.inner c.in-Some.is c.args.id.0 (imports c)
-
-pub returns-clause-grows : goal.returns-clause-grows
-returns-clause-grows c =
-    let g = (imports (goal.at.returns-clause-grows c).After-alias_inside).grows in
+    c.reach.ensures.reaches c.in_ok-slot-in-Some.ensures.slot c.alias_inside.ensures.ok c.alias_inside.ensures.err in
     record {
-      kept = g.kept;
-      more = g.more;
-      around_ = subst (λ (o : Option OpenInterface). GrowsAround c.args.self.now.resolve.now (around_of c.args.self.now.outer o)
-          (around_at c.reach.new.outer c.reach.new.foreign)) (sym c.in-Some.is) (reaches-grows c.reach.ensures.reaches);
-      own_ = inside-called c.alias_inside.result c.args.self.now.inner c.in-Some.current
-          (record { interface = c.in-Some.current.interface; declared = c.alias_inside.new.inner; foreign = c.reach.new.foreign }) _
-          c.in-Some.is refl c.alias_inside.ensures.ok c.alias_inside.ensures.err;
+      ok = imported-stands c.alias_inside.result c.args.self.now.resolve.now c.args.self.now.outer c.reach.new.outer c.args.self.now.inner c.in-Some.current c.reach.new.foreign
+          c.alias_inside.new.inner c.in-Some.is c.args.id.0 imports;
+      grows =
+          let g = imports.grows in
+          record {
+            kept = g.kept;
+            more = g.more;
+            around_ = subst (λ (o : Option OpenInterface). GrowsAround c.args.self.now.resolve.now (around_of c.args.self.now.outer o)
+                (around_at c.reach.new.outer c.reach.new.foreign)) (sym c.in-Some.is) (reaches-grows c.reach.ensures.reaches);
+            own_ = inside-called c.alias_inside.result c.args.self.now.inner c.in-Some.current
+                (record { interface = c.in-Some.current.interface; declared = c.alias_inside.new.inner; foreign = c.reach.new.foreign }) _
+                c.in-Some.is refl c.alias_inside.ensures.ok c.alias_inside.ensures.err;
+          };
+      reaches = subst (λ (o : Option OpenInterface). ReachesAround c.args.self.now.resolve.now c.args.id (around_of c.args.self.now.outer o) (around_at c.reach.new.outer
+          c.reach.new.foreign)) (sym c.in-Some.is)
+          c.reach.ensures.reaches;
+      imports = record { each = λ n h. inl h };
+      scope_stays = imports.scope_stays;
+      maps_stay = search rules;
+      counts = imports.counted;
+      held = held-inside c.args.self.now.outer c.args.self.now.inner c.in-Some.current c.alias_inside.new.inner c.in-Some.is c.alias_inside.ensures.held;
+      written = when-ok c.alias_inside.result _ _
+          (λ i made def at. record {
+            extent = imported-more (around_at c.args.self.now.outer c.in-Some.current.foreign) (around_at c.reach.new.outer c.reach.new.foreign) c.args.self.now.inner c.in-Some.current
+                c.alias_inside.new.inner c.in_ok-slot-in-Some.slot def c.reach.ensures.reaches at c.in-Some.is made.1;
+          }) c.alias_inside.ensures.ok;
+      size = λ h. record {
+        lacks = inl (alias-inside c.args.self.now.resolve.now c.alias_inside.new.inner c.args.id.0 c.in_ok-slot-in-Some.slot (c.alias_inside.ensures.size h));
+        held = kept-inside c.args.self.now.outer c.args.self.now.inner c.in-Some.current c.alias_inside.new.inner c.in-Some.is (on-size c.alias_inside.result _ c.alias_inside.ensures.err h);
+      };
+      refuses = search rules;
     }
 
-pub returns-clause-scope_stays : goal.returns-clause-scope_stays
-returns-clause-scope_stays c = (imports (goal.at.returns-clause-scope_stays c).After-alias_inside).scope_stays
-
-pub returns-clause-counts : goal.returns-clause-counts
-returns-clause-counts c = (imports (goal.at.returns-clause-counts c).After-alias_inside).counted
-
-pub returns-clause-size : goal.returns-clause-size
-returns-clause-size c = λ h. record {
-  lacks = inl (alias-inside c.args.self.now.resolve.now c.alias_inside.new.inner c.args.id.0 c.in_ok-slot-in-Some.slot (c.alias_inside.ensures.size h));
-  held = kept-inside c.args.self.now.outer c.args.self.now.inner c.in-Some.current c.alias_inside.new.inner c.in-Some.is (on-size c.alias_inside.result _ c.alias_inside.ensures.err h);
+pub returns-in_err-slot-in-Some : goal.returns-in_err-slot-in-Some
+returns-in_err-slot-in-Some c = record {
+  ok = search rules;
+  grows = search rules;
+  reaches = subst (λ (o : Option OpenInterface). ReachesAround c.args.self.now.resolve.now c.args.id (around_of c.args.self.now.outer o) (around_at c.reach.new.outer c.reach.new.foreign))
+      (sym c.in-Some.is)
+      c.reach.ensures.reaches;
+  imports = record { each = λ n h. inl h };
+  scope_stays = ap (λ (z : Around). scope_with c.args.self.now.resolve.now (Some c.in-Some.current.interface) z
+      (inner_contents (place_in c.args.self.now.resolve.now (Some c.in-Some.current.interface)) z.declared c.in-Some.current.declared)) c.in_err-slot-in-Some.ensures.err
+      ∙ ap (encoder_scope c.args.self.now.resolve.now c.args.self.now.outer) (sym c.in-Some.is);
+  maps_stay = search rules;
+  counts = search rules;
+  held = held-inside c.args.self.now.outer c.args.self.now.inner c.in-Some.current c.in-Some.current.declared c.in-Some.is (omega arith);
+  written = search rules;
+  size = λ h. record {
+    lacks = alias-outside c.args.self.now.resolve.now c.reach.new.outer (Some (record c.in-Some.current { foreign = c.reach.new.foreign })) c.args.id.0 (c.reach.ensures.size (search rules));
+    held = kept-inside c.args.self.now.outer c.args.self.now.inner c.in-Some.current c.in-Some.current.declared c.in-Some.is refl;
+  };
+  refuses = search rules;
 }
-
-pub returns-clause-held : goal.returns-clause-held
-returns-clause-held c = held-inside c.args.self.now.outer c.args.self.now.inner c.in-Some.current c.alias_inside.new.inner c.in-Some.is c.alias_inside.ensures.held
-
-pub returns-in_err-slot-in-Some-clause-held : goal.returns-in_err-slot-in-Some-clause-held
-returns-in_err-slot-in-Some-clause-held c = held-inside c.args.self.now.outer c.args.self.now.inner c.in-Some.current c.in-Some.current.declared c.in-Some.is (omega arith)
-
-pub returns-in_err-slot-in-Some-clause-scope_stays : goal.returns-in_err-slot-in-Some-clause-scope_stays
-returns-in_err-slot-in-Some-clause-scope_stays c =
-    ap (λ (z : Around). scope_with c.args.self.now.resolve.now (Some c.in-Some.current.interface) z
-    (inner_contents (place_in c.args.self.now.resolve.now (Some c.in-Some.current.interface)) z.declared c.in-Some.current.declared)) c.in_err-slot-in-Some.ensures.err
-    ∙ ap (encoder_scope c.args.self.now.resolve.now c.args.self.now.outer) (sym c.in-Some.is)
-
-pub returns-in_err-slot-in-Some-clause-size : goal.returns-in_err-slot-in-Some-clause-size
-returns-in_err-slot-in-Some-clause-size c = λ h. record {
-  lacks = alias-outside c.args.self.now.resolve.now c.reach.new.outer (Some (record c.in-Some.current { foreign = c.reach.new.foreign })) c.args.id.0 (c.reach.ensures.size (search rules));
-  held = kept-inside c.args.self.now.outer c.args.self.now.inner c.in-Some.current c.in-Some.current.declared c.in-Some.is refl;
-}
-
-pub returns-clause-written : goal.returns-clause-written
-returns-clause-written c = when-ok c.alias_inside.result _ _
-    (λ i made def at. record {
-      extent = imported-more (around_at c.args.self.now.outer c.in-Some.current.foreign) (around_at c.reach.new.outer c.reach.new.foreign) c.args.self.now.inner c.in-Some.current
-          c.alias_inside.new.inner c.in_ok-slot-in-Some.slot def
-          c.reach.ensures.reaches at c.in-Some.is made.1;
-    }) c.alias_inside.ensures.ok
-
-pub returns-clause-reaches : goal.returns-clause-reaches
-returns-clause-reaches c =
-    subst (λ (o : Option OpenInterface). ReachesAround c.args.self.now.resolve.now c.args.id (around_of c.args.self.now.outer o) (around_at c.reach.new.outer c.reach.new.foreign)) (sym c.in-Some.is)
-    c.reach.ensures.reaches
-
-pub returns-in_err-slot-in-Some-clause-reaches : goal.returns-in_err-slot-in-Some-clause-reaches
-returns-in_err-slot-in-Some-clause-reaches c =
-    subst (λ (o : Option OpenInterface). ReachesAround c.args.self.now.resolve.now c.args.id (around_of c.args.self.now.outer o) (around_at c.reach.new.outer c.reach.new.foreign)) (sym c.in-Some.is)
-    c.reach.ensures.reaches
-
-pub returns-clause-imports : goal.returns-clause-imports
-returns-clause-imports c = record { each = λ n h. inl h }
-
-pub returns-in_err-slot-in-Some-clause-imports : goal.returns-in_err-slot-in-Some-clause-imports
-returns-in_err-slot-in-Some-clause-imports c = record { each = λ n h. inl h }

@@ -1,4 +1,4 @@
-use Rattle.std.proofs.Common.{◌≡◌, ◌⊎◌, sym, subst, Some, [], OnErr, OnOk}
+use Rattle.std.proofs.Common.{rules, ◌≡◌, ◌⊎◌, sym, subst, Some, [], OnErr, OnOk}
 use Rattle.std.specs.Prelude.{IfOk}
 use Rattle.wit_model.specs.Lookup.{interface_at}
 use Rattle.wit_model.specs.declared.model.Interface.{Interface}
@@ -6,41 +6,32 @@ use Rattle.encode_types.specs.{Known.Around, Known.UsedStand, Known.standing_ins
 use Rattle.wit_encode.specs.Instance.{EncodesDependency, AliasesForTypes, LacksInstanceRoom, types_alone_of, around_at}
 use Rattle.wit_encode.specs.WrittenBytes.{AddsBytes, types_extent}
 use Rattle.comp_bytes.specs.Raw.{Declarations}
+use Rattle.wit_encode.proofs.Opening.{around-moves}
 use Rattle.wit_encode.proofs.world.WorldEncoderOf+TypeEncodingMaps.define_dependency.Goals as goal
 
 pub encode_dependency-outcome-requires-clause-around : goal.encode_dependency-outcome-requires-clause-around
 encode_dependency-outcome-requires-clause-around c =
     let q = c.args.self.now.resolve.now in
     subst (λ (z : Around). UsedStand q (standing_instances q z) c.args.interface.0)
-    (λ j. record { declared = sym c.replace.ensures.value j; instances = (sym c.replace-2.ensures.value j).instances.entries; known = (sym c.replace-2.ensures.value j).known.entries })
-    c.requires.around
+    (around-moves (sym c.replace.ensures.value) (sym c.replace-2.ensures.value)) c.requires.around
 
-pub returns-clause-ok : goal.returns-clause-ok
-returns-clause-ok c =
+pub returns : goal.returns
+returns c =
     let q = c.args.self.now.resolve.now in
     let after = c.encode_dependency-outcome.new.self in
-    subst (λ (z : Around). IfOk c.encode_dependency-outcome.result (λ k. (def : Interface) → interface_at q c.args.interface.0 ≡ Some def
-    → EncodesDependency q z (around_at after.outer after.foreign) c.args.interface def k))
-    (λ j. record { declared = c.replace.ensures.value j; instances = (c.replace-2.ensures.value j).instances.entries; known = (c.replace-2.ensures.value j).known.entries })
-    c.encode_dependency-outcome.ensures.ok
-
-pub returns-clause-size : goal.returns-clause-size
-returns-clause-size c = λ refused.
-    let q = c.args.self.now.resolve.now in
-    subst (λ (z : Around). (def : Interface) → interface_at q c.args.interface.0 ≡ Some def → HasNoRoom q (Some c.args.interface) (types_alone_of def) []
-    ⊎ LacksInstanceRoom q c.args.interface (types_alone_of def) z)
-    (λ j. record { declared = c.replace.ensures.value j; instances = (c.replace-2.ensures.value j).instances.entries; known = (c.replace-2.ensures.value j).known.entries })
-    (c.encode_dependency-outcome.ensures.size refused)
-
-pub returns-clause-written : goal.returns-clause-written
-returns-clause-written c =
-    subst (λ (z : Declarations). OnOk c.encode_dependency-outcome.result (AddsBytes (types_extent c.args.self.now.resolve.now c.args.interface.0) z c.encode_dependency-outcome.new.self.outer))
-    c.replace.ensures.value c.encode_dependency-outcome.ensures.written
-
-pub returns-clause-err : goal.returns-clause-err
-returns-clause-err c =
-    let q = c.args.self.now.resolve.now in
-    let after = c.encode_dependency-outcome.new.self in
-    subst (λ (z : Around). OnErr c.encode_dependency-outcome.result (AliasesForTypes q c.args.interface z (around_at after.outer after.foreign)))
-    (λ j. record { declared = c.replace.ensures.value j; instances = (c.replace-2.ensures.value j).instances.entries; known = (c.replace-2.ensures.value j).known.entries })
-    c.encode_dependency-outcome.ensures.err
+    record {
+      ok = subst (λ (z : Around). IfOk c.encode_dependency-outcome.result (λ k. (def : Interface) → interface_at q c.args.interface.0 ≡ Some def
+          → EncodesDependency q z (around_at after.outer after.foreign) c.args.interface def k))
+          (around-moves c.replace.ensures.value c.replace-2.ensures.value) c.encode_dependency-outcome.ensures.ok;
+      err = subst (λ (z : Around). OnErr c.encode_dependency-outcome.result (AliasesForTypes q c.args.interface z (around_at after.outer after.foreign)))
+          (around-moves c.replace.ensures.value c.replace-2.ensures.value) c.encode_dependency-outcome.ensures.err;
+      written = subst (λ (z : Declarations). OnOk c.encode_dependency-outcome.result (AddsBytes (types_extent c.args.self.now.resolve.now c.args.interface.0) z
+          c.encode_dependency-outcome.new.self.outer))
+          c.replace.ensures.value c.encode_dependency-outcome.ensures.written;
+      size = λ refused.
+          subst (λ (z : Around). (def : Interface) → interface_at q c.args.interface.0 ≡ Some def → HasNoRoom q (Some c.args.interface) (types_alone_of def) []
+          ⊎ LacksInstanceRoom q c.args.interface (types_alone_of def) z) (around-moves c.replace.ensures.value c.replace-2.ensures.value)
+          (c.encode_dependency-outcome.ensures.size refused);
+      rest = search rules;
+      refuses = search rules;
+    }

@@ -1,6 +1,6 @@
-use Rattle.std.proofs.Common.{◌≡◌, ◌∙◌, ◌<◌, ◌⊎◌, ℕ, true, ap, sym, subst, length, [], ◌∷◌, Result, Err, rules, arith}
+use Rattle.std.proofs.Common.{◌≡◌, ◌∙◌, ◌<◌, ◌⊎◌, true, ap, sym, subst, length, [], ◌∷◌, rules, arith}
 use Rattle.std.proofs.lemmas.{Option.slice_get_within, Result.on_ok_weaker as on-each}
-use Rattle.wit_model.{specs.declared.error.Error.Error, specs.declared.model.Resolve.Resolve, specs.Lookup.interface_at, specs.Weight.whole_instance_weight}
+use Rattle.wit_model.{specs.declared.model.Resolve.Resolve, specs.Lookup.interface_at, specs.Weight.whole_instance_weight}
 use Rattle.comp_bytes.specs.Raw.{Declarations}
 use Rattle.wit_encode.specs.{Places.are_beside, Encoders.InterfaceLacksRoom, Encoders.declared_after, WorldItems.entry_of, WorldItems.towards, Instance.EncodesInterface, Instance.LacksInstanceRoom, Instance.whole_interface, Worlds.WorldEncoder, Worlds.world_around, WrittenNames.NamesMore, WrittenBytes.AddsBytes, WrittenBytes.AddsLearnt, WrittenBytes.items_extent, WrittenBytes.whole_extent}
 use Rattle.wit_encode.proofs.{Places.part-beside, Places.towards-instance, WorldHolding.towards-function, WrittenNames.interface-names, Refusing.never-size}
@@ -10,23 +10,22 @@ use Rattle.wit_encode.proofs.BytesWritten.{adds-described, interface-item, learn
 use Rattle.wit_encode.proofs.WorldFunctions.{declared-few}
 use Rattle.encode_names.specs.{WorldSteps.declared_towards, WorldNames.name_of_item}
 use Rattle.encode_types.specs.Known.{UsedStand, standing_instances}
-use Rattle.wit_model.specs.declared.error.Error.TheVariants as errors
 use Rattle.comp_bytes.specs.declared.forms.ComponentTypeRef.TheVariants as refs
 use Rattle.wit_encode.proofs.world.WorldEncoderOf+TypeEncodingMaps.encode_interface.Goals as goal
 
-pub define_instance-requires-clause-in_range : goal.define_instance-requires-clause-in_range
-define_instance-requires-clause-in_range c =
+pub define_instance-requires : goal.define_instance-requires
+define_instance-requires c =
     let next = c.requires.next in
-    let there = interface-there c.args.resolve.now c.requires.valid next.world c.args.self.now next.done next.shown (towards c.args.placed.direction) (entry_of c.args.placed) next.next
-    c.args.interface c.requires.item in
-    subst (λ (q : Resolve). c.args.interface.0 < length q.interfaces.items) (sym next.shown.packages_) (slice_get_within c.args.resolve.now.interfaces.items c.args.interface.0 there.0 there.1)
-
-pub define_instance-requires-clause-around : goal.define_instance-requires-clause-around
-define_instance-requires-clause-around c =
-    let next = c.requires.next in
-    subst (λ (q : Resolve). UsedStand q (standing_instances q (world_around c.args.self.now)) c.args.interface.0) (sym next.shown.packages_)
-    (used-stand c.args.resolve.now c.requires.valid next.world c.args.self.now next.done next.shown (towards c.args.placed.direction) (entry_of c.args.placed) next.next c.args.interface
-    c.requires.item)
+    record {
+      valid = search rules;
+      in_range =
+          let there = interface-there c.args.resolve.now c.requires.valid next.world c.args.self.now next.done next.shown (towards c.args.placed.direction) (entry_of c.args.placed) next.next
+          c.args.interface c.requires.item in
+          subst (λ (q : Resolve). c.args.interface.0 < length q.interfaces.items) (sym next.shown.packages_) (slice_get_within c.args.resolve.now.interfaces.items c.args.interface.0 there.0 there.1);
+      around = subst (λ (q : Resolve). UsedStand q (standing_instances q (world_around c.args.self.now)) c.args.interface.0) (sym next.shown.packages_)
+          (used-stand c.args.resolve.now c.requires.valid next.world c.args.self.now next.done next.shown (towards c.args.placed.direction) (entry_of c.args.placed) next.next c.args.interface
+          c.requires.item);
+    }
 
 pub list_instance-requires : goal.list_instance-requires
 list_instance-requires c =
@@ -37,95 +36,64 @@ list_instance-requires c =
     (c.in_ok-declare.ensures.ok ∙ ap (λ n. declared_after c.define_instance.new.self.outer (declared_towards (towards c.args.placed.direction) n (refs.Instance c.in_ok-slot.slot)))
     c.in_ok-name.ensures.ok)
 
-pub returns-clause-ok : goal.returns-clause-ok
-returns-clause-ok c = on-each c.list_instance.result (λ lists w done h next.
-    interface-encoded c.args.resolve.now c.requires.valid w c.args.self.now c.define_instance.new.self done h (towards c.args.placed.direction) c.args.placed.canonical_names (entry_of c.args.placed)
-    next c.args.interface
-    c.requires.item c.in_ok-slot.slot c.define_instance.ensures.rest c.in_ok-slot.ensures.ok c.declare.new.outer
-    (c.in_ok-declare.ensures.ok ∙ ap (λ n. declared_after c.define_instance.new.self.outer (declared_towards (towards c.args.placed.direction) n (refs.Instance c.in_ok-slot.slot)))
-    c.in_ok-name.ensures.ok)
-    c.list_instance.new.self lists) c.list_instance.ensures.ok
-
-pub returns-clause-names : goal.returns-clause-names
-returns-clause-names c = on-each c.list_instance.result (λ lists.
+pub returns : goal.returns
+returns c =
+    let r = c.args.resolve.now in
+    let canonical = c.args.placed.canonical_names in
+    let entry = entry_of c.args.placed in
     let next = c.requires.next in
-    let q = c.args.self.now.resolve.now in
-    let there = interface-there c.args.resolve.now c.requires.valid next.world c.args.self.now next.done next.shown (towards c.args.placed.direction) (entry_of c.args.placed) next.next
-    c.args.interface c.requires.item in
-    let named = interface-names c.args.resolve.now q c.args.placed.canonical_names (entry_of c.args.placed) c.args.interface (world_around c.args.self.now) (world_around c.define_instance.new.self)
-    there.0 c.declare.new.outer
-    (towards c.args.placed.direction) _ c.in_ok-slot.slot c.requires.item (c.in_ok-slot.ensures.ok there.0 (ap (λ (z : Resolve). interface_at z c.args.interface.0) next.shown.packages_ ∙ there.1))
-    c.in_ok-declare.ensures.ok c.in_ok-name.ensures.ok in
-    subst (λ (z : WorldEncoder). NamesMore c.args.resolve.now c.args.placed.canonical_names (entry_of c.args.placed ∷ []) c.args.self.now.outer z.outer) (sym lists.rest) named)
-    c.list_instance.ensures.ok
-
-pub returns-clause-once : goal.returns-clause-once
-returns-clause-once c = on-each c.list_instance.result (λ lists es h.
-    let next = c.requires.next in
-    let there = interface-there c.args.resolve.now c.requires.valid next.world c.args.self.now next.done next.shown (towards c.args.placed.direction) (entry_of c.args.placed) next.next
-    c.args.interface c.requires.item in
-    let encodes = subst (λ (q : Resolve). EncodesInterface q (world_around c.args.self.now) (world_around c.define_instance.new.self) c.args.interface there.0 c.in_ok-slot.slot) next.shown.packages_
-    (c.in_ok-slot.ensures.ok there.0 (ap (λ (q : Resolve). interface_at q c.args.interface.0) next.shown.packages_ ∙ there.1)) in
-    interface-defined c.args.resolve.now c.args.self.now c.define_instance.new.self c.list_instance.new.self (entry_of c.args.placed) c.args.interface there.0 c.in_ok-slot.slot
-    (towards c.args.placed.direction) _ c.declare.new.outer
-    c.requires.item there.1 c.define_instance.ensures.rest encodes c.in_ok-declare.ensures.ok lists es h) c.list_instance.ensures.ok
-
-pub returns-clause-few : goal.returns-clause-few
-returns-clause-few c = on-each c.list_instance.result (λ lists es h.
-    let next = c.requires.next in
-    let there = interface-there c.args.resolve.now c.requires.valid next.world c.args.self.now next.done next.shown (towards c.args.placed.direction) (entry_of c.args.placed) next.next
-    c.args.interface c.requires.item in
-    let encodes = subst (λ (q : Resolve). EncodesInterface q (world_around c.args.self.now) (world_around c.define_instance.new.self) c.args.interface there.0 c.in_ok-slot.slot) next.shown.packages_
-    (c.in_ok-slot.ensures.ok there.0 (ap (λ (q : Resolve). interface_at q c.args.interface.0) next.shown.packages_ ∙ there.1)) in
-    interface-few c.args.resolve.now c.args.self.now c.define_instance.new.self c.list_instance.new.self (entry_of c.args.placed) c.args.interface there.0 c.in_ok-slot.slot
-    (towards c.args.placed.direction) _ c.declare.new.outer
-    c.requires.item there.1 c.define_instance.ensures.rest encodes c.in_ok-declare.ensures.ok lists es h) c.list_instance.ensures.ok
-
-pub returns-clause-size : goal.returns-clause-size
-returns-clause-size c = λ refused. never-size c.list_instance.result c.list_instance.ensures.memory refused
+    let direction = towards c.args.placed.direction in
+    let there = interface-there r c.requires.valid next.world c.args.self.now next.done next.shown direction entry next.next c.args.interface c.requires.item in
+    let part = c.in_ok-slot.ensures.ok there.0 (ap (λ (q : Resolve). interface_at q c.args.interface.0) next.shown.packages_ ∙ there.1) in
+    let encodes = subst (λ (q : Resolve). EncodesInterface q (world_around c.args.self.now) (world_around c.define_instance.new.self) c.args.interface there.0 c.in_ok-slot.slot)
+    next.shown.packages_ part in
+    record {
+      ok = on-each c.list_instance.result (λ lists w done h n.
+          interface-encoded r c.requires.valid w c.args.self.now c.define_instance.new.self done h direction canonical entry n c.args.interface c.requires.item c.in_ok-slot.slot
+          c.define_instance.ensures.rest c.in_ok-slot.ensures.ok c.declare.new.outer
+          (c.in_ok-declare.ensures.ok ∙ ap (λ n. declared_after c.define_instance.new.self.outer (declared_towards direction n (refs.Instance c.in_ok-slot.slot))) c.in_ok-name.ensures.ok)
+          c.list_instance.new.self lists) c.list_instance.ensures.ok;
+      once = on-each c.list_instance.result (λ lists es h.
+          interface-defined r c.args.self.now c.define_instance.new.self c.list_instance.new.self entry c.args.interface there.0 c.in_ok-slot.slot direction _ c.declare.new.outer
+          c.requires.item there.1 c.define_instance.ensures.rest encodes c.in_ok-declare.ensures.ok lists es h) c.list_instance.ensures.ok;
+      few = on-each c.list_instance.result (λ lists es h.
+          interface-few r c.args.self.now c.define_instance.new.self c.list_instance.new.self entry c.args.interface there.0 c.in_ok-slot.slot direction _ c.declare.new.outer
+          c.requires.item there.1 c.define_instance.ensures.rest encodes c.in_ok-declare.ensures.ok lists es h) c.list_instance.ensures.ok;
+      written = on-each c.list_instance.result (λ lists.
+          let whole = interface-item r canonical c.args.placed.key.now c.args.placed.item.now c.args.interface.0 c.requires.item in
+          let one = subst (λ (q : Resolve). AddsBytes (whole_extent q c.args.interface.0) c.args.self.now.outer c.define_instance.new.self.outer) next.shown.packages_
+          c.in_ok-slot.ensures.written in
+          let both = adds-described (whole_instance_weight r c.args.interface.0) c.args.self.now.outer c.define_instance.new.self.outer c.declare.new.outer _ _
+          (name_of_item r canonical entry) one c.in_ok-declare.ensures.ok (declared-few direction _ (refs.Instance c.in_ok-slot.slot)) c.in_ok-name.ensures.ok in
+          subst (λ (z : WorldEncoder). AddsLearnt r (items_extent r canonical (entry ∷ [])) c.args.self.now.maps z.maps c.args.self.now.outer z.outer) (sym lists.rest)
+          (subst (λ (z : WorldEncoder). AddsLearnt r (items_extent r canonical (entry ∷ [])) c.args.self.now.maps z.maps c.args.self.now.outer c.declare.new.outer)
+          (sym c.define_instance.ensures.rest) (learnt-most (omega (arith, whole)) (learnt-beside c.args.self.now.maps _ _ both)))) c.list_instance.ensures.ok;
+      size = λ refused. never-size c.list_instance.result c.list_instance.ensures.memory refused;
+      names = on-each c.list_instance.result (λ lists.
+          subst (λ (z : WorldEncoder). NamesMore r canonical (entry ∷ []) c.args.self.now.outer z.outer) (sym lists.rest)
+          (interface-names r c.args.self.now.resolve.now canonical entry c.args.interface (world_around c.args.self.now) (world_around c.define_instance.new.self) there.0
+          c.declare.new.outer direction _ c.in_ok-slot.slot c.requires.item part c.in_ok-declare.ensures.ok c.in_ok-name.ensures.ok)) c.list_instance.ensures.ok;
+      places = on-each c.list_instance.result (λ lists h.
+          subst (λ (z : Declarations). are_beside 0 z ≡ true) (sym (ap (λ (z : WorldEncoder). z.outer) lists.rest ∙ c.in_ok-declare.ensures.ok))
+          (part-beside c.args.self.now.resolve.now (world_around c.args.self.now) (world_around c.define_instance.new.self) c.args.interface there.0 _ _ c.in_ok-slot.slot part.part _
+          (towards-instance direction _ c.in_ok-slot.slot) (towards-function direction _ (refs.Instance c.in_ok-slot.slot)) h)) c.list_instance.ensures.ok;
+      refuses = search rules;
+    }
 
 pub returns-in_err-slot-clause-size : goal.returns-in_err-slot-clause-size
 returns-in_err-slot-clause-size c = λ h.
-    let refused : ◌≡◌ {A = Result ℕ Error} c.define_instance.result (Err errors.Size) = search rules in
     λ w done shown next d few.
     let there = interface-there c.args.resolve.now c.requires.valid w c.args.self.now done shown (towards c.args.placed.direction) (entry_of c.args.placed) next c.args.interface c.requires.item in
     instance-lacks c.args.resolve.now w c.args.self.now done (towards c.args.placed.direction) (entry_of c.args.placed) next d few shown.agree.once c.args.interface c.requires.item there.0 there.1
     (subst (λ (q : Resolve). InterfaceLacksRoom q c.args.interface there.0 ⊎ LacksInstanceRoom q c.args.interface (whole_interface there.0) (world_around c.args.self.now)) shown.packages_
-    (c.define_instance.ensures.size refused there.0 (ap (λ (q : Resolve). interface_at q c.args.interface.0) shown.packages_ ∙ there.1)))
+    (c.define_instance.ensures.size (search rules) there.0 (ap (λ (q : Resolve). interface_at q c.args.interface.0) shown.packages_ ∙ there.1)))
 
 pub returns-in_err-declare-clause-size : goal.returns-in_err-declare-clause-size
 returns-in_err-declare-clause-size c = λ h.
-    let refused = c.declare.ensures.size (search rules) in
     λ w done shown next d few.
     let there = interface-there c.args.resolve.now c.requires.valid w c.args.self.now done shown (towards c.args.placed.direction) (entry_of c.args.placed) next c.args.interface c.requires.item in
     let encodes = subst (λ (q : Resolve). EncodesInterface q (world_around c.args.self.now) (world_around c.define_instance.new.self) c.args.interface there.0 c.in_ok-slot.slot) shown.packages_
     (c.in_ok-slot.ensures.ok there.0 (ap (λ (q : Resolve). interface_at q c.args.interface.0) shown.packages_ ∙ there.1)) in
     placed-lacks c.args.resolve.now w c.args.self.now done (towards c.args.placed.direction) (entry_of c.args.placed) next d few shown.agree.once c.args.interface c.requires.item
     c.args.placed.canonical_names _ c.in_ok-slot.slot
-    (world_around c.define_instance.new.self) there.0 encodes c.in_ok-name.ensures.ok refused
-
-pub returns-clause-written : goal.returns-clause-written
-returns-clause-written c = on-each c.list_instance.result (λ lists.
-    let r = c.args.resolve.now in
-    let whole = interface-item r c.args.placed.canonical_names c.args.placed.key.now c.args.placed.item.now c.args.interface.0 c.requires.item in
-    let one = subst (λ (q : Resolve). AddsBytes (whole_extent q c.args.interface.0) c.args.self.now.outer c.define_instance.new.self.outer) c.requires.next.shown.packages_
-    c.in_ok-slot.ensures.written in
-    let both = adds-described (whole_instance_weight r c.args.interface.0) c.args.self.now.outer c.define_instance.new.self.outer c.declare.new.outer _ _
-    (name_of_item r c.args.placed.canonical_names (entry_of c.args.placed)) one c.in_ok-declare.ensures.ok
-    (declared-few (towards c.args.placed.direction) _ (refs.Instance c.in_ok-slot.slot)) c.in_ok-name.ensures.ok in
-    let here : AddsLearnt r (items_extent r c.args.placed.canonical_names (entry_of c.args.placed ∷ [])) c.args.self.now.maps c.args.self.now.maps c.args.self.now.outer c.declare.new.outer =
-    learnt-most (omega (arith, whole)) (learnt-beside c.args.self.now.maps _ _ both) in
-    subst (λ (z : WorldEncoder). AddsLearnt r (items_extent r c.args.placed.canonical_names (entry_of c.args.placed ∷ [])) c.args.self.now.maps z.maps c.args.self.now.outer z.outer) (sym lists.rest)
-    (subst (λ (z : WorldEncoder). AddsLearnt r (items_extent r c.args.placed.canonical_names (entry_of c.args.placed ∷ [])) c.args.self.now.maps z.maps c.args.self.now.outer c.declare.new.outer)
-    (sym c.define_instance.ensures.rest) here))
-    c.list_instance.ensures.ok
-
-pub returns-clause-places : goal.returns-clause-places
-returns-clause-places c = on-each c.list_instance.result (λ lists h.
-    let next = c.requires.next in
-    let direction = towards c.args.placed.direction in
-    let there = interface-there c.args.resolve.now c.requires.valid next.world c.args.self.now next.done next.shown direction (entry_of c.args.placed) next.next c.args.interface c.requires.item in
-    let encodes = c.in_ok-slot.ensures.ok there.0 (ap (λ (q : Resolve). interface_at q c.args.interface.0) next.shown.packages_ ∙ there.1) in
-    subst (λ (z : Declarations). are_beside 0 z ≡ true) (sym (ap (λ (z : WorldEncoder). z.outer) lists.rest ∙ c.in_ok-declare.ensures.ok))
-    (part-beside c.args.self.now.resolve.now (world_around c.args.self.now) (world_around c.define_instance.new.self) c.args.interface there.0 _ _ c.in_ok-slot.slot encodes.part _
-    (towards-instance direction _ c.in_ok-slot.slot) (towards-function direction _ (refs.Instance c.in_ok-slot.slot)) h)) c.list_instance.ensures.ok
+    (world_around c.define_instance.new.self) there.0 encodes c.in_ok-name.ensures.ok (c.declare.ensures.size (search rules))

@@ -25,38 +25,26 @@ loop-key-preserved c =
       places = λ h. c.in_ok-encode_item.ensures.places (c.loop-key.invariant.places h);
     }
 
-pub returns-clause-ok : goal.returns-clause-ok
-returns-clause-ok c = goes-whole c.args.resolve.now c.args.canonical_names c.args.self.now c.loop-key.self (towards c.args.direction) c.args.items.now.entries c.loop-key.key-iterator c.requires.begins
-    c.loop-key.invariant.going
-    (rest_all deref_pair c.loop-key.key-iterator c.next.new.self c.next.result c.in-None.is c.next.ensures.steps)
-
-pub returns-clause-names : goal.returns-clause-names
-returns-clause-names c = names-whole c.args.resolve.now c.args.canonical_names c.args.self.now c.loop-key.self (towards c.args.direction) c.args.items.now.entries c.loop-key.key-iterator
-    c.loop-key.invariant.going
-    (rest_all deref_pair c.loop-key.key-iterator c.next.new.self c.next.result c.in-None.is c.next.ensures.steps)
-
-pub returns-clause-once : goal.returns-clause-once
-returns-clause-once c = defines-whole c.args.resolve.now c.args.canonical_names c.args.self.now c.loop-key.self (towards c.args.direction) c.args.items.now.entries c.loop-key.key-iterator
-    c.loop-key.invariant.going
-    (rest_all deref_pair c.loop-key.key-iterator c.next.new.self c.next.result c.in-None.is c.next.ensures.steps)
-
-pub returns-clause-few : goal.returns-clause-few
-returns-clause-few c = holds-whole c.args.resolve.now c.args.canonical_names c.args.self.now c.loop-key.self (towards c.args.direction) c.args.items.now.entries c.loop-key.key-iterator
-    c.loop-key.invariant.going
-    (rest_all deref_pair c.loop-key.key-iterator c.next.new.self c.next.result c.in-None.is c.next.ensures.steps)
+pub returns : goal.returns
+returns c = record {
+  ok = goes-whole c.args.resolve.now c.args.canonical_names c.args.self.now c.loop-key.self (towards c.args.direction) c.args.items.now.entries c.loop-key.key-iterator c.requires.begins
+      c.loop-key.invariant.going (rest_all deref_pair c.loop-key.key-iterator c.next.new.self c.next.result c.in-None.is c.next.ensures.steps);
+  once = defines-whole c.args.resolve.now c.args.canonical_names c.args.self.now c.loop-key.self (towards c.args.direction) c.args.items.now.entries c.loop-key.key-iterator
+      c.loop-key.invariant.going (rest_all deref_pair c.loop-key.key-iterator c.next.new.self c.next.result c.in-None.is c.next.ensures.steps);
+  few = holds-whole c.args.resolve.now c.args.canonical_names c.args.self.now c.loop-key.self (towards c.args.direction) c.args.items.now.entries c.loop-key.key-iterator
+      c.loop-key.invariant.going (rest_all deref_pair c.loop-key.key-iterator c.next.new.self c.next.result c.in-None.is c.next.ensures.steps);
+  written = written-whole c.args.resolve.now c.args.canonical_names c.args.self.now c.loop-key.self (towards c.args.direction) c.args.items.now.entries c.loop-key.key-iterator
+      c.loop-key.invariant.going (rest_all deref_pair c.loop-key.key-iterator c.next.new.self c.next.result c.in-None.is c.next.ensures.steps);
+  size = search rules;
+  names = names-whole c.args.resolve.now c.args.canonical_names c.args.self.now c.loop-key.self (towards c.args.direction) c.args.items.now.entries c.loop-key.key-iterator
+      c.loop-key.invariant.going (rest_all deref_pair c.loop-key.key-iterator c.next.new.self c.next.result c.in-None.is c.next.ensures.steps);
+  places = c.loop-key.invariant.places;
+  refuses = search rules;
+}
 
 pub returns-in_err-encode_item-clause-size : goal.returns-in_err-encode_item-clause-size
 returns-in_err-encode_item-clause-size c = λ h.
-    let refused = c.encode_item.ensures.size (search rules) in
     let is = rest_more deref_pair c.loop-key.key-iterator c.next.new.self c.next.result (c.in-Some.key, c.in-Some.item) c.in-Some.is c.next.ensures.steps in
     goes-lacks c.args.resolve.now c.args.canonical_names c.args.self.now c.loop-key.self (towards c.args.direction) c.args.items.now.entries c.loop-key.key-iterator c.next.new.self
     (c.in-Some.key.now, c.in-Some.item.now)
-    c.requires.begins c.loop-key.invariant.going is refused
-
-pub returns-clause-written : goal.returns-clause-written
-returns-clause-written c = written-whole c.args.resolve.now c.args.canonical_names c.args.self.now c.loop-key.self (towards c.args.direction) c.args.items.now.entries c.loop-key.key-iterator
-    c.loop-key.invariant.going
-    (rest_all deref_pair c.loop-key.key-iterator c.next.new.self c.next.result c.in-None.is c.next.ensures.steps)
-
-pub returns-clause-places : goal.returns-clause-places
-returns-clause-places c = c.loop-key.invariant.places
+    c.requires.begins c.loop-key.invariant.going is (c.encode_item.ensures.size (search rules))

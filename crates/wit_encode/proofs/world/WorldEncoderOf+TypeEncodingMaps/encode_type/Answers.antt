@@ -14,28 +14,36 @@ encode_valtype-requires c =
     (towards c.args.placed.direction) next.next in
     λ _. ((refl, tt), rw next.shown.packages_ (can, next.shown.agree))
 
-pub returns-clause-ok : goal.returns-clause-ok
-returns-clause-ok c = λ w done h next. type-encoded c.args.resolve.now c.requires.valid w c.args.self.now c.encode_valtype.new.enc done h c.args.placed.key.now c.args.id c.args.placed.item.now
-    c.requires.item (towards c.args.placed.direction) next
-    c.encode_valtype.ensures.leaves c.in_ok-encode_valtype.ensures.learns.only c.in_ok-encode_valtype.ensures.counts.shows c.in_ok-encode_valtype.ensures.knows
-
-pub returns-clause-once : goal.returns-clause-once
-returns-clause-once c = λ es h. type-defined c.args.resolve.now c.args.self.now c.encode_valtype.new.enc es (world_encoder_view c.args.self.now).scope refl c.args.placed.key.now c.args.placed.item.now
-    c.args.id c.requires.item h
-    c.in_ok-encode_valtype.ensures.counts c.in_ok-encode_valtype.ensures.learns (ap (λ (s : Scope). s.others.declared) c.encode_valtype.ensures.leaves.scope_stays)
-    (record {
-      packages_ = c.requires.next.shown.packages_;
-      packages_stay = ap (λ (s : Scope). s.packages) c.encode_valtype.ensures.leaves.scope_stays;
-      keeps =
-          λ ns. c.encode_valtype.ensures.leaves.grows.own_ (Told.numbers (zero ∷ ns));
-      imports = c.encode_valtype.ensures.imports;
-    })
-
-pub returns-clause-few : goal.returns-clause-few
-returns-clause-few c = λ es h. type-few c.args.resolve.now c.args.self.now.resolve.now c.encode_valtype.new.enc.resolve.now c.args.self.now c.encode_valtype.new.enc es c.args.placed.key.now
-    c.args.placed.item.now c.args.id c.requires.item
-    c.requires.next.shown.packages_ (ap (λ (s : Scope). s.packages) c.encode_valtype.ensures.leaves.scope_stays ∙ c.requires.next.shown.packages_)
-    (ap (λ (s : Scope). s.others.listed) c.encode_valtype.ensures.leaves.scope_stays) h c.in_ok-encode_valtype.ensures.counts.keys.lists c.in_ok-encode_valtype.ensures.held
+pub returns : goal.returns
+returns c = record {
+  ok = λ w done h next. type-encoded c.args.resolve.now c.requires.valid w c.args.self.now c.encode_valtype.new.enc done h c.args.placed.key.now c.args.id c.args.placed.item.now
+      c.requires.item (towards c.args.placed.direction) next
+      c.encode_valtype.ensures.leaves c.in_ok-encode_valtype.ensures.learns.only c.in_ok-encode_valtype.ensures.counts.shows c.in_ok-encode_valtype.ensures.knows;
+  once = λ es h. type-defined c.args.resolve.now c.args.self.now c.encode_valtype.new.enc es (world_encoder_view c.args.self.now).scope refl c.args.placed.key.now c.args.placed.item.now
+      c.args.id c.requires.item h
+      c.in_ok-encode_valtype.ensures.counts c.in_ok-encode_valtype.ensures.learns (ap (λ (s : Scope). s.others.declared) c.encode_valtype.ensures.leaves.scope_stays)
+      (record {
+        packages_ = c.requires.next.shown.packages_;
+        packages_stay = ap (λ (s : Scope). s.packages) c.encode_valtype.ensures.leaves.scope_stays;
+        keeps = λ ns. c.encode_valtype.ensures.leaves.grows.own_ (Told.numbers (zero ∷ ns));
+        imports = c.encode_valtype.ensures.imports;
+      });
+  few = λ es h. type-few c.args.resolve.now c.args.self.now.resolve.now c.encode_valtype.new.enc.resolve.now c.args.self.now c.encode_valtype.new.enc es c.args.placed.key.now
+      c.args.placed.item.now c.args.id c.requires.item
+      c.requires.next.shown.packages_ (ap (λ (s : Scope). s.packages) c.encode_valtype.ensures.leaves.scope_stays ∙ c.requires.next.shown.packages_)
+      (ap (λ (s : Scope). s.others.listed) c.encode_valtype.ensures.leaves.scope_stays) h c.in_ok-encode_valtype.ensures.counts.keys.lists c.in_ok-encode_valtype.ensures.held;
+  written =
+      let types : AddsLearnt c.args.resolve.now 0 c.args.self.now.maps c.encode_valtype.new.enc.maps c.args.self.now.outer c.encode_valtype.new.enc.outer =
+      record { few = c.in_ok-encode_valtype.ensures.written.extent } in
+      learnt-most (omega arith) types;
+  size = search rules;
+  names = type-names c.args.resolve.now c.args.self.now.resolve.now c.args.placed.canonical_names (entry_of c.args.placed) c.args.id c.args.self.now.outer c.encode_valtype.new.enc.outer
+      c.requires.item c.encode_valtype.ensures.leaves.grows.around_;
+  places = types-beside c.args.self.now.outer c.encode_valtype.new.enc.outer
+      (c.encode_valtype.ensures.leaves.grows.own_ (Told.declared c.args.self.now.outer) (grows-none c.args.self.now.outer))
+      c.in_ok-encode_valtype.ensures.counts.functions;
+  refuses = search rules;
+}
 
 pub returns-in_err-encode_valtype-clause-size : goal.returns-in_err-encode_valtype-clause-size
 returns-in_err-encode_valtype-clause-size c = λ h.
@@ -44,18 +52,3 @@ returns-in_err-encode_valtype-clause-size c = λ h.
     (towards c.args.placed.direction) c.args.placed.key.now c.args.placed.item.now c.args.id c.requires.item next d few
     (ap (λ (s : Scope). s.others.listed) c.encode_valtype.ensures.leaves.scope_stays) shown.agree.once shown.packages_
     (ap (λ (s : Scope). s.packages) c.encode_valtype.ensures.leaves.scope_stays ∙ shown.packages_) (c.encode_valtype.ensures.size refused)
-
-pub returns-clause-names : goal.returns-clause-names
-returns-clause-names c = type-names c.args.resolve.now c.args.self.now.resolve.now c.args.placed.canonical_names (entry_of c.args.placed) c.args.id c.args.self.now.outer c.encode_valtype.new.enc.outer
-    c.requires.item c.encode_valtype.ensures.leaves.grows.around_
-
-pub returns-clause-written : goal.returns-clause-written
-returns-clause-written c =
-    let types : AddsLearnt c.args.resolve.now 0 c.args.self.now.maps c.encode_valtype.new.enc.maps c.args.self.now.outer c.encode_valtype.new.enc.outer =
-    record { few = c.in_ok-encode_valtype.ensures.written.extent } in
-    learnt-most (omega arith) types
-
-pub returns-clause-places : goal.returns-clause-places
-returns-clause-places c = types-beside c.args.self.now.outer c.encode_valtype.new.enc.outer
-    (c.encode_valtype.ensures.leaves.grows.own_ (Told.declared c.args.self.now.outer) (grows-none c.args.self.now.outer))
-    c.in_ok-encode_valtype.ensures.counts.functions
