@@ -5,7 +5,7 @@ pub mod CopiesPlaced
 pub mod KeptPlaced
 -- What a union adds, once it is added, has all that is carried by path. Serves laws::of_unions; crates above.
 pub mod FirstOfUnion
--- Entries whose keys are new stand behind those that were there. Serves KeysGained, NamesGained, NamesMerged, SecondPass and 1 more; crates above.
+-- Entries whose keys are new stand behind those that were there. Serves KeysGained, NamesGained, NamesMerged, SecondCarried and 1 more; crates above.
 pub mod InsertedBehind
 -- Names that a package gains weren't there, so they come behind what was. Serves Addable, NamesCopied, NamesMerged, PackagesFrom and 2 more; crates above.
 pub mod NamesGained
@@ -17,26 +17,26 @@ pub mod Marking
 pub mod CountedCopies
 -- How many are copied. Serves bound::bind_items, fates::copy_types, moved::move_types, union::planned and 1 more; crates above.
 pub mod Counting
--- Names that a package gains join those that it had. Serves FirstInterfaces, FirstWorlds, NamesCopied, SecondPass; crates above.
+-- Names that a package gains join those that it had. Serves FirstInterfaces, FirstWorlds, NamesCopied, SecondCarried; crates above.
 pub mod Joined
 -- With its owner, all that a type or a function refers to is carried: by the rule on owners, from the smaller numbers on. Serves laws::parts.
 pub mod PartsCarried
 -- What becomes of types in the end, place by place: a type without a name is copied exactly where all its parts are carried, if anything is added. Serves FirstInterfaces, PassedTypes, Ready,
 -- SecondPass and 1 more.
 pub mod SettledParts
--- Types that a pass copies: each stands under its new number, and all its parts are carried. Serves FirstInterfaces, FirstNumbers, FirstWorlds, SecondPass.
+-- Types that a pass copies: each stands under its new number, and all its parts are carried. Serves FirstInterfaces, FirstNumbers, FirstWorlds, SecondCarried and 1 more.
 pub mod PassedTypes
--- What is copied of interfaces: each stands under its new number, with its types and its functions. Serves FirstNumbers, FirstWorlds, KeysGained, SecondPass and 1 more; crates above.
+-- What is copied of interfaces: each stands under its new number, with its types and its functions. Serves FirstNumbers, FirstWorlds, KeysGained, SecondCarried and 2 more; crates above.
 pub mod FirstInterfaces
 -- A valid `Resolve` is in range. Serves union::planned, union::union_of; crates above.
 pub mod Ranges
--- Worlds that are carried by path have numbers of their own, and packages stand in packages of their names. Serves FirstWorlds, KeysGained, NamesCopied, NamesMerged and 4 more; crates above.
+-- Worlds that are carried by path have numbers of their own, and packages stand in packages of their names. Serves FirstWorlds, KeysGained, NamesCopied, NamesMerged and 5 more; crates above.
 pub mod FirstNumbers
 -- The pass over what the bound world gains begins as it should: what it copies is of the bound world, or of an inline interface that is gained. Serves bound::bind_types; crates above.
 pub mod SecondInitial
 -- What is carried of a `Resolve` in range can be copied, and so can what the bound world gains. Serves bound::bind_items, union::planned; crates above.
 pub mod Ready
--- What validity says of the keys of a world, and when a key is new under other numbers. Serves KeysGained, SecondPass, UnionKeys; crates above.
+-- What validity says of the keys of a world, and when a key is new under other numbers. Serves KeysGained, SecondCarried, SecondItems, SecondPass and 1 more; crates above.
 pub mod WorldEntries
 -- Keys of the other's bound world stay apart under both numberings, and what is gained of them comes behind what was there. Serves bound::keys_under; crates above.
 pub mod KeysGained
@@ -53,11 +53,15 @@ pub mod NamesCopied
 pub mod UnionDistinct
 -- Each package of the other stands in one of what is merged: in a new one with all its names, or in the own one of its name, behind the names that were there. Serves MergedUnion.
 pub mod PackagesStand
--- Each package that is merged is an own one to which nothing comes, or one of the other stands in it. Serves SecondPass.
+-- Each package that is merged is an own one to which nothing comes, or one of the other stands in it. Serves SecondCarried.
 pub mod PackagesFrom
+-- What the second pass looks at: items that are types, labels, lists, and inline interfaces that are shown once. Serves SecondCarried, SecondPass, WhatComes.
+pub mod SecondItems
 -- The second pass, over what the bound world gains: it is carried and copied as the laws on unions ask for it, and the bound world stands as it was, with what it gains behind what it had. Serves
--- laws::second_pass; crates above.
+-- SecondCarried; crates above.
 pub mod SecondPass
+-- What the second pass carries, and that it is copied and joined as the laws on unions ask for it: interfaces, worlds, and the bound world with what it gains. Serves laws::second_pass; crates above.
+pub mod SecondCarried
 -- What a union adds, once it is added, is merged. Serves merged::merged_unions; crates above.
 pub mod MergedUnion
 -- Things that are moved one after the other to the places that were made for them. Serves moved::move_types, moved::type_places, union::planned, union::union_of and 1 more.

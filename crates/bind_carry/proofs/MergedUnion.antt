@@ -1,6 +1,6 @@
 -- What a union adds, once it is added, is merged.
 use Rattle.bind_add.proofs.Gains.{set_length}
-use Rattle.bind_carry.proofs.{FirstOfUnion.unions_have_the_second, PackagesStand.package_stands, SecondPass.passes_merged}
+use Rattle.bind_carry.proofs.{FirstOfUnion.unions_have_the_second, PackagesStand.package_stands, SecondCarried.passes_merged}
 use Rattle.bind_carry.specs.{MergedUnion.UnionsAreMerged, Which.AreMatchedAll}
 use Rattle.bind_match.specs.Matching.{own_interface_of, own_package_of, own_world_of}
 use Rattle.std.proofs.Common.{List, ap, length, refl, subst, sym, ℕ, ◌++◌, ◌+◌, ◌∙◌, ◌≡◌, ◌≤◌}

@@ -13,7 +13,7 @@ use Rattle.bind_carry.specs.Fates.{are_carried, carries, copies, is_carried, set
 use Rattle.bind_carry.specs.First.{adds_any, beside_first, fate_in, fate_named, fate_of, first_fates, flag_under, is_named_at, second_from, second_in}
 use Rattle.bind_carry.specs.MadeOf.{owned, type_parts, unnamed, IsMadeOf, IsMadeUp, IsOwnedBy}
 use Rattle.bind_carry.specs.declared.fate.Fate.{Fate}
-use Rattle.bind_carry.proofs.{CopiesPlaced.some_same, PartsCarried.no_home, Ranges.is_in_range, FirstInterfaces.named_no_copy, SecondPass.number_type, SecondPass.type_number, SecondPass.unmet_new, SettledParts.settled_all, SettledParts.settled_long}
+use Rattle.bind_carry.proofs.{CopiesPlaced.some_same, PartsCarried.no_home, Ranges.is_in_range, FirstInterfaces.named_no_copy, SecondItems.number_type, SecondItems.type_number, SecondItems.unmet_new, SettledParts.settled_all, SettledParts.settled_long}
 use Rattle.bind_carry.proofs.SecondInitial.{second_long, unified_at, unified_long, unified_set, IsUnified}
 use Rattle.base_lemmas.proofs.{Bools.left_of, Bools.right_of, Elements.all-contained, Elements.get-contains, Lists.within_there, Numbers.equal}
 use Rattle.wit_model.specs.declared.model.TypeOwner.TheVariants as owner

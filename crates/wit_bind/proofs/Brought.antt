@@ -21,11 +21,11 @@ use Rattle.bind_carry.specs.{ReadyItems.IsKeyReady, BoundGains.bound_fates, Firs
 use Rattle.bind_carry.specs.{Marked.AreChosen, Packaged.IsPackageCarried, Renumbered.first_of, Renumbered.is_copied, TooLong.CarriedThings, TooLong.TypeFates}
 use Rattle.bind_carry.specs.{First.first_fates, First.flag_under, Numbers.interface_number, Numbers.numbers_of, Numbers.package_number, Numbers.world_number}
 use Rattle.bind_carry.specs.{SecondPass.second_pass_of, SecondPass.IsSecondPass, Whole.home_under, Whole.IsInterfaceCarried, Whole.IsWorldCarried}
-use Rattle.bind_carry.proofs.{Joined.new_same, FirstNumbers.names, FirstWorlds.first_is_copied, SecondPass.type_from, SecondPass.second_is_copied}
+use Rattle.bind_carry.proofs.{Joined.new_same, FirstNumbers.names, FirstWorlds.first_is_copied, SecondCarried.type_from, SecondCarried.second_is_copied}
 use Rattle.bind_carry.proofs.{UnionKeys.carried_path, CopiesPlaced.copied_home, CopiesPlaced.copy_placed, WorldEntries.export_keyed, WorldEntries.import_keyed}
 use Rattle.bind_carry.proofs.{InsertedBehind.all_behind, InsertedBehind.filter_passes, SecondPass.known as second_known, SecondPass.stood_how as second_stood}
 use Rattle.bind_carry.proofs.{FirstInterfaces.stood_how as first_stood, FirstWorlds.first_worlds_are_copied, KeptPlaced.kept_placed, KeptPlaced.IsKeptAt}
-use Rattle.bind_carry.proofs.{SecondPass.carried_number, SecondPass.inline_at, SecondPass.inline_place, SecondPass.chosen, SecondPass.long}
+use Rattle.bind_carry.proofs.{SecondCarried.carried_number, SecondCarried.inline_at, SecondCarried.inline_place, SecondPass.chosen, SecondPass.long}
 use Rattle.bind_union.proofs.{ViewTests.numbers_under, ViewTests.one_given, ViewTests.numbers_same, Images.same_declarations, Lists.no_true}
 use Rattle.bind_union.proofs.Carrying.{carried_types, kind_carried, references_of, refers_below, same_identity, tree_same}
 use Rattle.wit_bind.specs.Brings.{entry_notes, function_notes, function_type_notes, inline_notes, interface_notes, item_notes, type_notes, type_notes_at, unnamed_notes, InterfaceNotes, Notes, key_texts, world_notes, BringsEntries, IsTypeOf}
@@ -35,7 +35,7 @@ use Rattle.base_lemmas.proofs.{Numbers.same-number, Options.nameless as named_no
 use Rattle.bind_clash.proofs.PathsMatched.{world-path-of, IsPathOf}
 use Rattle.bind_match.specs.declared.matches.Matches.{Matches}
 use Rattle.wit_model.specs.declared.model.WorldKey.TheVariants as key
-use Rattle.bind_carry.proofs.SecondPass as second_joined
+use Rattle.bind_carry.proofs.SecondCarried as second_joined
 
 -- ---- What is copied keeps its documentation, its stability and its external ids, in its order.
 

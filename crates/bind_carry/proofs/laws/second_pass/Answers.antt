@@ -1,4 +1,4 @@
-use Rattle.bind_carry.proofs.SecondPass.{bound_stands, interface_from, passes_merged, second_is_copied, type_from, world_from}
+use Rattle.bind_carry.proofs.SecondCarried.{bound_stands, interface_from, passes_merged, second_is_copied, type_from, world_from}
 use Rattle.bind_carry.proofs.laws.second_pass.Goals as goal
 
 pub returns-clause-copied : goal.returns-clause-copied
