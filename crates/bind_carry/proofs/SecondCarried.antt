@@ -355,7 +355,7 @@ module _ (own other merged : Resolve) (valid_own : IsValid own) (valid_other : I
       x : IsWorldType other valid_other other_world v s.other_at e.0 id.0
       x = (pass.typed _ _ _ valid_own valid_other _ _ _ _ _ _ _ _ _ _ _ s) e held id.0 is_type
 
-      b : Before id.0 x.def
+      b : pass.Before own other merged valid_own valid_other world other_world w v m c first_numbers p copied interfaces types s id.0 x.def
       b = (pass.was _ _ _ valid_own valid_other _ _ _ _ _ _ _ _ _ _ _ s) id.0 x.def x.found
 
       in_before : slice_get before id.0 ≡ Some (fate.Copied (as_world world))

@@ -124,7 +124,7 @@ pub is_shown : (y : WorldItem) (i : ℕ) → item_interface y ≡ Some i → is_
 is_shown y i e = ap (is_id i) e ∙ same-number i
 
 -- the item that is met is the first that shows the interface
-record IsMetFirst (here es : List (WorldKey × WorldItem)) (n : ℕ) : Type 0 where
+pub record IsMetFirst (here es : List (WorldKey × WorldItem)) (n : ℕ) : Type 0 where
   pub place : ℕ
   pub entry : WorldKey × WorldItem
   pub there : slice_get es place ≡ Some entry

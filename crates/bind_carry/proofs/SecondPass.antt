@@ -5,7 +5,7 @@ use Rattle.bind_carry.proofs.{CopiesPlaced.stands_under, CopiesPlaced.uncopied_u
 use Rattle.bind_carry.proofs.FirstNumbers.{named_of_path, names, there_of_path}
 use Rattle.bind_carry.proofs.SecondInitial.{IsKnown, IsUnified, gained_adds, gained_flag, gained_inline_alone, gained_long, is_gained, is_shown_new, second_at, second_long, unified_at, unified_long, unified_set}
 use Rattle.bind_carry.proofs.WorldEntries.{any_new_same, any_place, export_keyed, import_keyed, import_range, label_new}
-use Rattle.bind_carry.proofs.SecondItems.{type_number, number_type, label_found, label_held, beside_carries, beside_no_copy, interface_meant, is_shown, met_first, named_text, found_some, own_under, unmet_new, one_import, not_both}
+use Rattle.bind_carry.proofs.SecondItems.{IsMetFirst, type_number, number_type, label_found, label_held, beside_carries, beside_no_copy, interface_meant, is_shown, met_first, named_text, found_some, own_under, unmet_new, one_import, not_both}
 use Rattle.bind_carry.specs.{BoundGains.gains_any, BoundGains.type_under_key, BoundGains.unified, Fates.FallBelow, FirstPass.IsFirstPass, InRange.IsInRange, Initial.IsInitial, Marked.AreChosen, Marked.is_inline_at, Marked.is_shown_in, Renumbered.first_of, Renumbered.is_copied, Renumbered.is_matched, Renumbered.met_under, Renumbered.second_of, SecondPass.IsSecondPass, Shown.AreShownBelow, Shown.any_new, Shown.type_in, declared.fate.Fate.Fate, declared.plan.Carried.Carried}
 use Rattle.bind_carry.specs.Fates.{carries, copies, is_carried, settled_from, stood}
 use Rattle.bind_carry.specs.First.{beside_first, first_fates, flag_under, is_named_at, second_from, second_in}
@@ -224,12 +224,12 @@ module _ (own other merged : Resolve) (valid_own : IsValid own) (valid_other : I
   named_carried_there a i there named = search (std_rules, or_right, is_named_there, known)
 
   -- What a type was by path, and what becomes of it before own types are looked for.
-  record Before (n : ℕ) (def : TypeDef) : Type 0 where
-    old : Fate
-    at_old : slice_get before_fates n ≡ Some old
-    number : ℕ
-    at_number : slice_get first_numbers n ≡ Some number
-    stands : slice_get before n ≡ Some (second_in other world other_world copied interfaces def.owner (beside_first old number))
+  pub record Before (n : ℕ) (def : TypeDef) : Type 0 where
+    pub old : Fate
+    pub at_old : slice_get before_fates n ≡ Some old
+    pub number : ℕ
+    pub at_number : slice_get first_numbers n ≡ Some number
+    pub stands : slice_get before n ≡ Some (second_in other world other_world copied interfaces def.owner (beside_first old number))
 
   pub was : (n : ℕ) (def : TypeDef) → type_at other n ≡ Some def → Before n def
   was n def at =
