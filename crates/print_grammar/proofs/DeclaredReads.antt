@@ -36,17 +36,7 @@ alias_body_reads Future h {ts = ts} e = word_reads WordKey.Future by_type refl r
 alias_body_reads (FutureOf ty) h e = angled (type_calls ty) WordKey.Future by_type refl refl by_str by_str e (λ f. type_reads ty h f) (λ b r. ReadsType.future_of r)
 alias_body_reads Stream h {ts = ts} e = word_reads WordKey.Stream by_type refl refl e ReadsType.stream
 alias_body_reads (StreamOf ty) h e = angled (type_calls ty) WordKey.Stream by_type refl refl by_str by_str e (λ f. type_reads ty h f) (λ b r. ReadsType.stream_of r)
-alias_body_reads (PrimitiveType p) h e = type_reads (PrimitiveType p) h e
-alias_body_reads (Name name) h e = type_reads (Name name) h e
-alias_body_reads (Handle resource) h e = type_reads (Handle resource) h e
-alias_body_reads (Own resource) h e = type_reads (Own resource) h e
-alias_body_reads (Borrow resource) h e = type_reads (Borrow resource) h e
-alias_body_reads (TupleOf types) h e = type_reads (TupleOf types) h e
-alias_body_reads (OptionOf ty) h e = type_reads (OptionOf ty) h e
-alias_body_reads Result h e = type_reads Result h e
-alias_body_reads (ResultOk ok) h e = type_reads (ResultOk ok) h e
-alias_body_reads (ResultErr err) h e = type_reads (ResultErr err) h e
-alias_body_reads (ResultOf ok err) h e = type_reads (ResultOf ok err) h e
+alias_body_reads ty h e = type_reads ty h e
 
 -- ---- blocks
 

@@ -136,18 +136,8 @@ pub line_begins : (call : OutputCall) {more : List OutputCall} {ts : List Token}
 line_begins (PushStr text) h f = absurd cc
 line_begins IndentStart h f = absurd cc
 line_begins Newline h f = absurd cc
-line_begins IndentIfNeeded h f = record { at = λ level. blanks_in_front true level (f.at level) }
 line_begins IndentEnd h f = record { at = λ level. blanks_in_front true (level - 1) (f.at level) }
-line_begins (IndentAndPrint text) h f = record { at = λ level. blanks_in_front true level (f.at level) }
-line_begins (Keyword text) h f = record { at = λ level. blanks_in_front true level (f.at level) }
-line_begins (Ty text kind) h f = record { at = λ level. blanks_in_front true level (f.at level) }
-line_begins (Param text) h f = record { at = λ level. blanks_in_front true level (f.at level) }
-line_begins (Case text) h f = record { at = λ level. blanks_in_front true level (f.at level) }
-line_begins GenericArgsStart h f = record { at = λ level. blanks_in_front true level (f.at level) }
-line_begins GenericArgsEnd h f = record { at = λ level. blanks_in_front true level (f.at level) }
-line_begins (Doc line) h f = record { at = λ level. blanks_in_front true level (f.at level) }
-line_begins Semicolon h f = record { at = λ level. blanks_in_front true level (f.at level) }
-line_begins (Str text) h f = record { at = λ level. blanks_in_front true level (f.at level) }
+line_begins _ h f = record { at = λ level. blanks_in_front true level (f.at level) }
 
 -- ---- what ends a type, a signature or an entry
 
