@@ -1,7 +1,7 @@
 -- A list of tokens is at most one file, and a text at most one.
-use Rattle.std.proofs.Common.{rules as std_rules, ◌≡◌, List, ℕ, refl, subst, [], ◌∷◌, ap, sym, Bool, true, false}
+use Rattle.std.proofs.Common.{rules as std_rules, ◌≡◌, List, ℕ, refl, subst, [], ◌∷◌, ap, sym, ◌∙◌, Bool, true, false}
 use Rattle.print_grammar.specs.{Token.Token, Token.Tokens, Token.Front, Token.Mark, Grammar.ReadsUse.use_names, Grammar.ReadsPath.full}
-use Rattle.print_grammar.specs.{Token.Front.Ended, Token.Front.Skipped, Token.Front.Found, Grammar.ReadsSignature.func}
+use Rattle.print_grammar.specs.{Token.Front.Ended, Token.Front.Skipped, Token.Front.Found, Token.Front.Unknown, Token.front_of_text, Grammar.ReadsSignature.func}
 use Rattle.print_grammar.specs.Token.{Tokens.no_tokens, Tokens.skip, Tokens.token, Mark.Colon, Mark.Semi, Mark.OpenBrace, Mark.CloseBrace}
 use Rattle.print_grammar.specs.{Keyword.Keyword, Grammar.ReadsFile.file}
 use Rattle.print_grammar.specs.{Token.Token.Punctuation, Token.Token.Key, Grammar.ReadsNested.nested_package, Reading.IsReading, Reading.OneReading}
@@ -17,36 +17,22 @@ use Rattle.print_grammar.proofs.PrefixUnique.{use_no_at, declared_no_at, id_no_a
 
 -- ---- A text has at most one list of tokens.
 
-same_skip : (f : Front) (a b : List ℕ) → f ≡ Skipped a → f ≡ Skipped b → b ≡ a
-same_skip f a b p q = cc
+-- what is known of tokens by what stands at the front of their text
+abbrev BeginAt : Front → List Token → Type 0
+BeginAt Ended tokens = tokens ≡ []
+BeginAt (Skipped rest) tokens = Tokens rest tokens
+BeginAt (Found t rest) tokens = (more : List Token) × (tokens ≡ t ∷ more) × Tokens rest more
+BeginAt Unknown tokens = ⊥
 
-same_rest : (f : Front) (s t : Token) (a b : List ℕ) → f ≡ Found s a → f ≡ Found t b → b ≡ a
-same_rest f s t a b p q = cc
-
-same_token : (f : Front) (s t : Token) (a b : List ℕ) → f ≡ Found s a → f ≡ Found t b → s ≡ t
-same_token f s t a b p q = cc
-
-skip_no_end : (f : Front) (a : List ℕ) → f ≡ Skipped a → f ≡ Ended → ⊥
-skip_no_end f a p q = cc
-
-found_no_end : (f : Front) (t : Token) (a : List ℕ) → f ≡ Found t a → f ≡ Ended → ⊥
-found_no_end f t a p q = cc
-
-found_no_skip : (f : Front) (t : Token) (a b : List ℕ) → f ≡ Found t a → f ≡ Skipped b → ⊥
-found_no_skip f t a b p q = cc
+begin_at : {text : List ℕ} {tokens : List Token} → Tokens text tokens → (f : Front) → front_of_text text ≡ f → BeginAt f tokens
+begin_at (no_tokens p) f e = rw (sym e ∙ p) refl
+begin_at (skip p a) f e = rw (sym e ∙ p) a
+begin_at (token p a) f e = rw (sym e ∙ p) (_, refl, a)
 
 pub tokens-unique : {text : List ℕ} {xs ys : List Token} → Tokens text xs → Tokens text ys → xs ≡ ys
-tokens-unique (no_tokens p) (no_tokens q) = refl
-tokens-unique (no_tokens p) (skip q b) = absurd (skip_no_end _ _ q p)
-tokens-unique (no_tokens p) (token q b) = absurd (found_no_end _ _ _ q p)
-tokens-unique (skip p a) (no_tokens q) = absurd (skip_no_end _ _ p q)
-tokens-unique (skip p a) (skip {tokens = ts} q b) = tokens-unique a (subst (λ x. Tokens x ts) (same_skip _ _ _ p q) b)
-tokens-unique (skip p a) (token q b) = absurd (found_no_skip _ _ _ _ q p)
-tokens-unique (token p a) (no_tokens q) = absurd (found_no_end _ _ _ p q)
-tokens-unique (token p a) (skip q b) = absurd (found_no_skip _ _ _ _ p q)
-tokens-unique (token p a) (token {tokens = ts} q b) =
-    let h = tokens-unique a (subst (λ x. Tokens x ts) (same_rest _ _ _ _ _ p q) b) in
-    let e = same_token _ _ _ _ _ p q in cc
+tokens-unique (no_tokens p) y = sym (begin_at y _ p)
+tokens-unique (skip p a) y = tokens-unique a (begin_at y _ p)
+tokens-unique (token p a) y = let r = begin_at y _ p in cc (tokens-unique a r.2, r.1)
 
 -- ---- what the page is for
 
@@ -64,27 +50,17 @@ declared_or_id x i = search std_rules
 -- ---- interfaces
 
 member-unique : Unique ReadsMember
-member-unique _ _ _ _ _ (member_use p a) (member_use {after = rest} {path = path} {names = names} q b) =
-    let h = prefix-unique (use_no_at a) (use_no_at b) p q in
-    let k = use-unique a (subst (λ x. ReadsUse x path names rest) (sym h.1) b) in
-    let e = h.0 in let f = k.0 in let g = k.1 in (cc, k.2)
-member-unique _ _ _ _ _ (member_use p a) (member_type {after = rest} {declared = d} q b) =
-    absurd (use_or_declared a (subst (λ x. ReadsDeclared x d rest) (sym (prefix-unique (use_no_at a) (declared_no_at b) p q).1) b))
-member-unique _ _ _ _ _ (member_use {after = rest} {path = path} {names = names} p a) (member_function q j b) =
-    absurd (use_or_id (subst (λ x. ReadsUse x path names rest) (prefix-unique (use_no_at a) (id_no_at _ j) p q).1 a) j)
-member-unique _ _ _ _ _ (member_type {after = rest} {declared = d} p a) (member_use q b) =
-    absurd (use_or_declared b (subst (λ x. ReadsDeclared x d rest) (prefix-unique (declared_no_at a) (use_no_at b) p q).1 a))
-member-unique _ _ _ _ _ (member_type p a) (member_type {after = rest} {declared = d} q b) =
-    let h = prefix-unique (declared_no_at a) (declared_no_at b) p q in
-    let k = declared-unique a (subst (λ x. ReadsDeclared x d rest) (sym h.1) b) in
-    let e = h.0 in let f = k.0 in (cc, k.1)
-member-unique _ _ _ _ _ (member_type {after = rest} {declared = d} p a) (member_function q j b) =
-    absurd (declared_or_id (subst (λ x. ReadsDeclared x d rest) (prefix-unique (declared_no_at a) (id_no_at _ j) p q).1 a) j)
-member-unique _ _ _ _ _ (member_function p i a) (member_use {after = rest} {path = path} {names = names} q b) =
-    absurd (use_or_id (subst (λ x. ReadsUse x path names rest) (sym (prefix-unique (id_no_at _ i) (use_no_at b) p q).1) b) i)
-member-unique _ _ _ _ _ (member_function p i a) (member_type {after = rest} {declared = d} q b) =
-    absurd (declared_or_id (subst (λ x. ReadsDeclared x d rest) (sym (prefix-unique (id_no_at _ i) (declared_no_at b) p q).1) b) i)
-member-unique _ _ _ _ _ (member_function p i a) (member_function q j b) = let h = function-unique p i a q j b in let e = h.0 in let f = h.1 in let g = h.2 in (cc, h.3)
+member-unique _ _ _ _ _ (member_use p a) (member_use q b) =
+    let h = prefix-unique (use_no_at a) (use_no_at b) p q in let k = use-unique a (rw (← h.1) at b) in (cc (h.0, k.0, k.1), k.2)
+member-unique _ _ _ _ _ (member_use p a) (member_type q b) = absurd (use_or_declared (rw (prefix-unique (use_no_at a) (declared_no_at b) p q).1 at a) b)
+member-unique _ _ _ _ _ (member_use p a) (member_function q j b) = absurd (use_or_id (rw (prefix-unique (use_no_at a) (id_no_at _ j) p q).1 at a) j)
+member-unique _ _ _ _ _ (member_type p a) (member_use q b) = absurd (use_or_declared b (rw (prefix-unique (declared_no_at a) (use_no_at b) p q).1 at a))
+member-unique _ _ _ _ _ (member_type p a) (member_type q b) =
+    let h = prefix-unique (declared_no_at a) (declared_no_at b) p q in let k = declared-unique a (rw (← h.1) at b) in (cc (h.0, k.0), k.1)
+member-unique _ _ _ _ _ (member_type p a) (member_function q j b) = absurd (declared_or_id (rw (prefix-unique (declared_no_at a) (id_no_at _ j) p q).1 at a) j)
+member-unique _ _ _ _ _ (member_function p i a) (member_use q b) = absurd (use_or_id (rw (prefix-unique (use_no_at b) (id_no_at _ i) q p).1 at b) i)
+member-unique _ _ _ _ _ (member_function p i a) (member_type q b) = absurd (declared_or_id (rw (prefix-unique (declared_no_at b) (id_no_at _ i) q p).1 at b) i)
+member-unique _ _ _ _ _ (member_function p i a) (member_function q j b) = let h = function-unique p i a q j b in (cc (h.0, h.1, h.2), h.3)
 
 -- nothing but a prefix stands before these
 mark_use : {mark : Mark} {x y : List Token} {p : PathTree} {names : List UsedName} → ReadsUse (Punctuation mark ∷ x) p names y → ⊥

@@ -1,5 +1,5 @@
 -- A list of tokens begins with at most one type, where what follows doesn't go on with it.
-use Rattle.std.proofs.Common.{◌≡◌, refl, sym, ap, ◌∙◌, subst, ℕ, true, false, nat_lt, List, [], ◌∷◌, ◌++◌, append-nil, append_assoc, codes, Some, ◌^◌, Bool}
+use Rattle.std.proofs.Common.{rules as std_rules, ◌≡◌, refl, sym, ap, ◌∙◌, subst, ℕ, true, false, nat_lt, List, [], ◌∷◌, ◌++◌, append-nil, append_assoc, codes, Some, ◌^◌, Bool}
 use Rattle.std.proofs.lemmas.Bool.{ltb-true}
 use Rattle.wit_model.specs.Names.{is_label, begins_with_letter}
 use Rattle.print_grammar.specs.{Keyword.Keyword, Keyword.Primitive, Keyword.primitive_text, Keyword.escaped, WellNamed.is_well_type, WellNamed.are_well_types}
@@ -240,53 +240,35 @@ mutual
   type-unique first second (tuple a) (tuple b) = let h = types-unique a b in (ap TypeTree.TupleOf h.0, h.1)
   type-unique first second (option a) (option b) = let h = type-unique refl refl a b in (ap TypeTree.OptionOf h.0, cc)
   type-unique first second (list a) (list b) = let h = type-unique refl refl a b in (ap TypeTree.ListOf h.0, cc)
-  type-unique first second (list a) (fixed_list b) = let h = type-unique refl refl a b in absurd (let e = h.1 in cc)
-  type-unique first second (fixed_list a) (list b) = let h = type-unique refl refl a b in absurd (let e = h.1 in cc)
-  type-unique first second (fixed_list a) (fixed_list b) = let h = type-unique refl refl a b in let e = h.0 in let r = h.1 in (cc, cc)
-  type-unique first second (map a c) (map {after = rest} {v = w} b d) =
-      let h = type-unique refl refl a b in
-      let k = type-unique refl refl c (subst (λ x. ReadsType x w (Punctuation Greater ∷ rest)) (sym (tail_same h.1)) d) in
-      let e = h.0 in let f = k.0 in let r = k.1 in (cc, cc)
+  type-unique first second (list a) (fixed_list b) = let h = type-unique refl refl a b in absurd (cc h.1)
+  type-unique first second (fixed_list a) (list b) = let h = type-unique refl refl a b in absurd (cc h.1)
+  type-unique first second (fixed_list a) (fixed_list b) = let h = type-unique refl refl a b in (cc (h.0, h.1), cc h.1)
+  type-unique first second (map a c) (map b d) =
+      let h = type-unique refl refl a b in let k = type-unique refl refl c (rw (← tail_same h.1) at d) in (cc (h.0, k.0), cc k.1)
   type-unique first second future future = (refl, refl)
-  type-unique first second future (future_of b) = absurd (cc first)
-  type-unique first second (future_of a) future = absurd (cc second)
   type-unique first second (future_of a) (future_of b) = let h = type-unique refl refl a b in (ap TypeTree.FutureOf h.0, cc)
   type-unique first second stream stream = (refl, refl)
-  type-unique first second stream (stream_of b) = absurd (cc first)
-  type-unique first second (stream_of a) stream = absurd (cc second)
   type-unique first second (stream_of a) (stream_of b) = let h = type-unique refl refl a b in (ap TypeTree.StreamOf h.0, cc)
   type-unique first second result result = (refl, refl)
-  type-unique first second result (result_ok b) = absurd (cc first)
-  type-unique first second result (result_of b d) = absurd (cc first)
-  type-unique first second result (result_err b) = absurd (cc first)
-  type-unique first second (result_ok a) result = absurd (cc second)
   type-unique first second (result_ok a) (result_ok b) = let h = type-unique refl refl a b in (ap TypeTree.ResultOk h.0, cc)
-  type-unique first second (result_ok a) (result_of b d) = let h = type-unique refl refl a b in absurd (let e = h.1 in cc)
-  type-unique first second (result_of a c) result = absurd (cc second)
-  type-unique first second (result_of a c) (result_ok b) = let h = type-unique refl refl a b in absurd (let e = h.1 in cc)
-  type-unique first second (result_of a c) (result_of {after = rest} {err = w} b d) =
-      let h = type-unique refl refl a b in
-      let k = type-unique refl refl c (subst (λ x. ReadsType x w (Punctuation Greater ∷ rest)) (sym (tail_same h.1)) d) in
-      let e = h.0 in let f = k.0 in let r = k.1 in (cc, cc)
+  type-unique first second (result_ok a) (result_of b d) = let h = type-unique refl refl a b in absurd (cc h.1)
+  type-unique first second (result_of a c) (result_ok b) = let h = type-unique refl refl a b in absurd (cc h.1)
+  type-unique first second (result_of a c) (result_of b d) =
+      let h = type-unique refl refl a b in let k = type-unique refl refl c (rw (← tail_same h.1) at d) in (cc (h.0, k.0), cc k.1)
+  type-unique first second (result_err a) (result_err b) = let h = type-unique refl refl a b in (ap TypeTree.ResultErr h.0, cc)
   type-unique first second (result_ok a) (result_err b) = elim a [ ]
   type-unique first second (result_of a c) (result_err b) = elim a [ ]
   type-unique first second (result_err a) (result_ok b) = elim b [ ]
   type-unique first second (result_err a) (result_of b d) = elim b [ ]
-  type-unique first second (result_err a) result = absurd (cc second)
-  type-unique first second (result_err a) (result_err b) = let h = type-unique refl refl a b in (ap TypeTree.ResultErr h.0, cc)
+  type-unique first second x y = search std_rules
 
   pub types-unique : {before after rest : List Token} {t s : TypeTrees} → ReadsTypes before t after → ReadsTypes before s rest → (t ≡ s) × (after ≡ rest)
-  types-unique (last_type a) (last_type b) = let h = type-unique refl refl a b in let e = h.0 in let r = h.1 in (cc, cc)
-  types-unique (last_type a) (last_type_with_comma b) = let h = type-unique refl refl a b in let r = h.1 in absurd cc
-  types-unique (last_type a) (next_type b d) = let h = type-unique refl refl a b in let r = h.1 in absurd cc
-  types-unique (last_type_with_comma a) (last_type b) = let h = type-unique refl refl a b in let r = h.1 in absurd cc
-  types-unique (last_type_with_comma a) (last_type_with_comma b) = let h = type-unique refl refl a b in let e = h.0 in let r = h.1 in (cc, cc)
-  types-unique (last_type_with_comma a) (next_type {after = rest} {types = types} b d) =
-      let h = type-unique refl refl a b in absurd (no_types_at_end (subst (λ x. ReadsTypes x types rest) (sym (tail_same h.1)) d))
-  types-unique (next_type a c) (last_type b) = let h = type-unique refl refl a b in let r = h.1 in absurd cc
-  types-unique (next_type {after = after} {types = types} a c) (last_type_with_comma b) =
-      let h = type-unique refl refl a b in absurd (no_types_at_end (subst (λ x. ReadsTypes x types after) (tail_same h.1) c))
-  types-unique (next_type a c) (next_type {after = rest} {types = types} b d) =
-      let h = type-unique refl refl a b in
-      let k = types-unique c (subst (λ x. ReadsTypes x types rest) (sym (tail_same h.1)) d) in
-      let e = h.0 in let f = k.0 in let r = k.1 in (cc, cc)
+  types-unique (last_type a) (last_type b) = let h = type-unique refl refl a b in (cc h.0, cc h.1)
+  types-unique (last_type a) (last_type_with_comma b) = let h = type-unique refl refl a b in absurd (cc h.1)
+  types-unique (last_type a) (next_type b d) = let h = type-unique refl refl a b in absurd (cc h.1)
+  types-unique (last_type_with_comma a) (last_type b) = let h = type-unique refl refl a b in absurd (cc h.1)
+  types-unique (last_type_with_comma a) (last_type_with_comma b) = let h = type-unique refl refl a b in (cc h.0, cc h.1)
+  types-unique (last_type_with_comma a) (next_type b d) = let h = type-unique refl refl a b in absurd (no_types_at_end (rw (← tail_same h.1) at d))
+  types-unique (next_type a c) (last_type b) = let h = type-unique refl refl a b in absurd (cc h.1)
+  types-unique (next_type a c) (last_type_with_comma b) = let h = type-unique refl refl a b in absurd (no_types_at_end (rw (tail_same h.1) at c))
+  types-unique (next_type a c) (next_type b d) = let h = type-unique refl refl a b in let k = types-unique c (rw (← tail_same h.1) at d) in (cc (h.0, k.0), k.1)
