@@ -13,7 +13,7 @@ use Rattle.print_grammar.specs.Grammar.{ReadsPrefix.prefix, ReadsResourceMember.
 use Rattle.print_grammar.specs.Grammar.{ReadsUsedName.same_name, ReadsUsedName.other_name, ReadsUse.use_names, ReadsCase.case_alone, ReadsCase.case_of}
 use Rattle.print_grammar.specs.Grammar.ReadsDeclared.{record_, variant, flags, enum, alias, resource, resource_with}
 use Rattle.print_grammar.proofs.TypeTokens.{id-unique, tail_same, type-unique, begins_with_at, no_less}
-use Rattle.print_grammar.proofs.ListsUnique.{Same, Unique, UniqueBefore, Never, head_same, listed-unique, repeated-unique, no_id_mark, no_id_key, arguments-unique, signature-unique}
+use Rattle.print_grammar.proofs.ListsUnique.{Same, Unique, UniqueBefore, Never, head_same, listed-unique, repeated-same, no_id_mark, no_id_key, arguments-unique, signature-unique}
 
 -- ---- gates and external ids
 
@@ -221,7 +221,7 @@ declared-unique (flags i l) (flags j m) = let h = listed-unique label-unique (λ
 declared-unique (enum i l) (enum j m) = let h = listed-unique label-unique (λ ts. refl) (λ e. cc e) label-never l m in let e = id-unique i j in let f = h.0 in (cc, h.1)
 declared-unique (alias i a) (alias j b) = let h = type-unique refl refl a b in let e = id-unique i j in let f = h.0 in (cc, tail_same h.1)
 declared-unique (resource i) (resource j) = let e = id-unique i j in (cc, refl)
-declared-unique (resource_with i l) (resource_with j m) = let h = repeated-unique resource_member-unique resource_member-never l m in let e = id-unique i j in let f = h.0 in (cc, h.1)
+declared-unique (resource_with i l) (resource_with j m) = let h = repeated-same resource_member-unique resource_member-never refl l m in let e = id-unique i j in let f = h.0 in (cc, h.1)
 
 -- no use and no declared type begins with `@`
 pub use_no_at : {before after : List Token} {p : PathTree} {names : List UsedName} → ReadsUse before p names after → begins_with_at before ≡ false
