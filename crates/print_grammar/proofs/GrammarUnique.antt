@@ -13,7 +13,7 @@ use Rattle.print_grammar.specs.Grammar.ReadsExtern.{extern_path, extern_function
 use Rattle.print_grammar.specs.Grammar.ReadsWorldMember.{world_use, world_type, world_import, world_export}
 use Rattle.print_grammar.proofs.TypeTokens.{id-unique, tail_same, begins_with_at}
 use Rattle.print_grammar.proofs.ListsUnique.{Same, Unique, Never, head_same, repeated-same, no_id_key, signature-unique}
-use Rattle.print_grammar.proofs.PrefixUnique.{use_no_at, declared_no_at, id_no_at, version-unique, gates-unique, prefix-unique, all_prefix, no_prefix, path-unique, use-unique, function-unique, declared-unique, mark_or_id}
+use Rattle.print_grammar.proofs.PrefixUnique.{use_no_at, declared_no_at, id_no_at, version-unique, gates-unique, prefix-unique, all_prefix, no_prefix, path-unique, use-unique, named-unique, declared-unique, mark_or_id}
 
 -- ---- A text has at most one list of tokens.
 
@@ -60,7 +60,8 @@ member-unique _ _ _ _ _ (member_type p a) (member_type q b) =
 member-unique _ _ _ _ _ (member_type p a) (member_function q j b) = absurd (declared_or_id (rw (prefix-unique (declared_no_at a) (id_no_at _ j) p q).1 at a) j)
 member-unique _ _ _ _ _ (member_function p i a) (member_use q b) = absurd (use_or_id (rw (prefix-unique (use_no_at b) (id_no_at _ i) q p).1 at b) i)
 member-unique _ _ _ _ _ (member_function p i a) (member_type q b) = absurd (declared_or_id (rw (prefix-unique (declared_no_at b) (id_no_at _ i) q p).1 at b) i)
-member-unique _ _ _ _ _ (member_function p i a) (member_function q j b) = let h = function-unique p i a q j b in (cc (h.0, h.1, h.2), h.3)
+member-unique _ _ _ _ _ (member_function p i a) (member_function q j b) =
+    let h = named-unique p i q j in let s = signature-unique refl refl a (rw (← h.2) at b) in (cc (h.0, h.1, s.0), tail_same s.1)
 
 -- nothing but a prefix stands before these
 mark_use : {mark : Mark} {x y : List Token} {p : PathTree} {names : List UsedName} → ReadsUse (Punctuation mark ∷ x) p names y → ⊥
