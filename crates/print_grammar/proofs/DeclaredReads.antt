@@ -15,9 +15,9 @@ use Rattle.print_output.specs.OutputCall.{OutputCall, is_one_line}
 use Rattle.print_output.specs.OutputCall.OutputCall.{Keyword, Ty, Param, Case, Str, Semicolon, IndentStart, IndentEnd, Newline}
 use Rattle.print_output.specs.declared.type_kind.TypeKind.{TypeKind}
 use Rattle.print_grammar.proofs.{TokenFacts.id_token, TokenFacts.id_is, PrefixReads.docs_read, PrefixReads.prefix_reads}
-use Rattle.print_grammar.proofs.Printing.{Follows, Printed, Ended, relist, three_lists, word_call, id_call, line_begins, semicolon_call, paren_call, comma, space, line_feed, equals, open_brace, close_brace, open_paren}
+use Rattle.print_grammar.proofs.Printing.{Follows, Printed, Ended, relist, three_lists, word_call, id_call, line_begins, semicolon_call, greater_call, comma_call, paren_call, comma, space, line_feed, equals, open_brace, close_brace, open_paren}
 use Rattle.print_grammar.proofs.Printing.Prints.{by_keyword, by_type, by_param, by_case, by_str}
-use Rattle.print_grammar.proofs.TypeTokens.{type_reads, angled, angled_two, angled_length, word_reads}
+use Rattle.print_grammar.proofs.TypeTokens.{type_reads, opened, length_call, word_reads}
 use Rattle.print_grammar.proofs.SignatureReads.{colon_call, space_before, arguments_reads, arguments_end, signature_reads}
 use Rattle.base_lemmas.proofs.Bools.{left_of, right_of}
 use Rattle.print_output.specs.declared.type_kind.TypeKind.TheVariants as kind
@@ -26,16 +26,17 @@ use Rattle.print_output.specs.declared.type_kind.TypeKind.TheVariants as kind
 
 pub alias_body_reads : (ty : TypeTree) → is_well_type ty ≡ true → {more : List OutputCall} {ts : List Token} → Ended more ts
     → Printed false (alias_body_calls ty ++ more) (λ before. ReadsType before (type_as_read ty) ts)
-alias_body_reads (ListOf ty) h e = angled (type_calls ty) WordKey.List_ by_type refl refl by_str by_str e (λ f. type_reads ty h f) (λ b r. ReadsType.list r)
-alias_body_reads (FixedListOf ty n) h e = angled_length (type_calls ty) n WordKey.List_ by_type refl refl by_str by_str by_str (right_of (is_well_type ty) _ h) e (λ f. type_reads ty (left_of _ _ h) f)
-    (λ b r. ReadsType.fixed_list r)
+alias_body_reads (ListOf ty) h e = let i = type_reads ty h (greater_call by_str e.follows) in simp append_assoc (_, opened WordKey.List_ by_type refl refl by_str i.1, ReadsType.list i.2)
+alias_body_reads (FixedListOf ty n) h e =
+    let i = type_reads ty (left_of _ _ h) (length_call n (right_of (is_well_type ty) _ h) by_str by_str (greater_call by_str e.follows)) in
+    simp append_assoc (_, opened WordKey.List_ by_type refl refl by_str i.1, ReadsType.fixed_list i.2)
 alias_body_reads (MapOf key value) h e =
-    angled_two (type_calls key) (type_calls value) {P = λ after before. ReadsType before (type_as_read key) after} WordKey.Map by_type refl refl by_str by_str e
-    (λ rest after f. type_reads key (left_of _ _ h) f) (λ f. type_reads value (right_of (is_well_type key) _ h) f) (λ b c r s. ReadsType.map r s)
-alias_body_reads Future h {ts = ts} e = word_reads WordKey.Future by_type refl refl e ReadsType.future
-alias_body_reads (FutureOf ty) h e = angled (type_calls ty) WordKey.Future by_type refl refl by_str by_str e (λ f. type_reads ty h f) (λ b r. ReadsType.future_of r)
-alias_body_reads Stream h {ts = ts} e = word_reads WordKey.Stream by_type refl refl e ReadsType.stream
-alias_body_reads (StreamOf ty) h e = angled (type_calls ty) WordKey.Stream by_type refl refl by_str by_str e (λ f. type_reads ty h f) (λ b r. ReadsType.stream_of r)
+    let v = type_reads value (right_of (is_well_type key) _ h) (greater_call by_str e.follows) in
+    let i = type_reads key (left_of _ _ h) (comma_call v.1) in simp append_assoc (_, opened WordKey.Map by_type refl refl by_str i.1, ReadsType.map i.2 v.2)
+alias_body_reads Future h e = word_reads WordKey.Future by_type refl refl e ReadsType.future
+alias_body_reads (FutureOf ty) h e = let i = type_reads ty h (greater_call by_str e.follows) in simp append_assoc (_, opened WordKey.Future by_type refl refl by_str i.1, ReadsType.future_of i.2)
+alias_body_reads Stream h e = word_reads WordKey.Stream by_type refl refl e ReadsType.stream
+alias_body_reads (StreamOf ty) h e = let i = type_reads ty h (greater_call by_str e.follows) in simp append_assoc (_, opened WordKey.Stream by_type refl refl by_str i.1, ReadsType.stream_of i.2)
 alias_body_reads ty h e = type_reads ty h e
 
 -- ---- blocks
