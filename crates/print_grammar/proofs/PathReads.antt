@@ -1,5 +1,5 @@
 -- What is printed of a path and of a use is read as it.
-use Rattle.std.proofs.Common.{rules as std_rules, ◌≡◌, refl, ap, subst, ℕ, true, false, nat_lt, length, List, [], ◌∷◌, ◌++◌, codes, Option, Some, None, map}
+use Rattle.std.proofs.Common.{rules as std_rules, ◌≡◌, refl, ap, subst, ℕ, true, false, nat_lt, length, List, [], ◌∷◌, ◌++◌, append_assoc, codes, Option, Some, None, map}
 use Rattle.wit_model.specs.{Names.is_label, Names.is_version_text, Rules.passes}
 use Rattle.print_grammar.specs.{Keyword.escaped, Token.Token, WellNamed.is_well_path, WellNamed.is_well_used, WellNamed.is_well_use, WellNamed.are_well_some}
 use Rattle.print_grammar.specs.{Keyword.Keyword.As, Keyword.Keyword.Use, Token.Token.Punctuation, Token.Token.Key, Token.Token.VersionText}
@@ -12,7 +12,7 @@ use Rattle.print_output.specs.OutputCall.OutputCall.{Keyword, Ty, Str, Semicolon
 use Rattle.print_output.specs.declared.type_kind.TypeKind.{TypeKind}
 use Rattle.print_grammar.proofs.{TokenFacts.id_at, TokenFacts.slash_at, TokenFacts.id_token, TokenFacts.id_is, TextOf.text_of}
 use Rattle.print_grammar.proofs.VersionFacts.{version_at, ends_version}
-use Rattle.print_grammar.proofs.Printing.{Follows, Printed, EndsWord, Ended, relist, two_lists, word_call, id_call, colon, dot, semi, line_feed, at_sign, open_brace, close_brace}
+use Rattle.print_grammar.proofs.Printing.{Follows, Printed, EndsWord, Ended, relist, word_call, id_call, colon, dot, semi, line_feed, at_sign, open_brace, close_brace}
 use Rattle.print_grammar.proofs.{Printing.Prints.by_keyword, Printing.Prints.by_type, SignatureReads.listed_reads, SignatureReads.space_before}
 use Rattle.base_lemmas.proofs.{Bools.left_of, Bools.right_of, Lists.identity}
 use Rattle.print_output.specs.declared.type_kind.TypeKind.TheVariants as kind
@@ -91,9 +91,4 @@ use_reads path names h {more} f =
     let braced : Follows false (Str (codes ".{") ∷ (separated (Str (codes ", ")) (map used_name_calls names) ++ (Str (codes "}") ∷ Semicolon ∷ more))) (Punctuation Dot ∷ Punctuation OpenBrace ∷ n.0) =
     record { at = λ level. dot (open_brace (n.1.at level)) } in
     let p = path_reads path (left_of _ _ h) braced (λ level. refl) (λ level. refl) in
-    relist (ap (λ x. Keyword (codes "use") ∷ space_call ∷ x) (two_lists (path_calls path) (Str (codes ".{")) (separated (Str (codes ", ")) (map used_name_calls names))
-    (Str (codes "}") ∷ Semicolon ∷ []) more)) (
-      Key Use ∷ p.0,
-      word_call (Key Use) by_keyword refl refl (λ level. refl) (space_before p.1),
-      ReadsUse.use_names p.2 n.2,
-    )
+    relist (_, word_call (Key Use) (by_keyword {text = codes "use"}) refl refl (λ level. refl) (space_before p.1), ReadsUse.use_names p.2 n.2) (simp append_assoc)

@@ -231,9 +231,8 @@ external_id_reads (Some cs) h f =
 -- What is printed in front of an item is read as it, without its documentation.
 pub prefix_reads : (emits_docs : Bool) (prefix : Prefix) → is_well_prefix prefix ≡ true → {more : List OutputCall} {ts : List Token} → Follows true more ts
     → Printed true (prefix_calls emits_docs prefix ++ more) (λ before. ReadsPrefix before (bare_prefix type_as_read prefix) ts)
-prefix_reads emits_docs prefix h {more} f =
-    let e = external_id_reads prefix.external_id (right_of (is_well_gates prefix.gates) _ (right_of (list_all is_one_line prefix.docs) _ h)) f in
-    let g = gates_read prefix.gates (left_of _ _ (right_of (list_all is_one_line prefix.docs) _ h)) e.1 in
-    relist (append_assoc (doc_calls emits_docs prefix.docs ++ gates_calls prefix.gates) (external_id_calls prefix.external_id) more
-    ∙ append_assoc (doc_calls emits_docs prefix.docs) (gates_calls prefix.gates) (external_id_calls prefix.external_id ++ more))
-    (g.0, docs_read emits_docs prefix.docs (left_of _ _ h) g.1, ReadsPrefix.prefix g.2 e.2)
+prefix_reads emits_docs prefix h f =
+    let w = right_of (list_all is_one_line prefix.docs) _ h in
+    let e = external_id_reads prefix.external_id (right_of (is_well_gates prefix.gates) _ w) f in
+    let g = gates_read prefix.gates (left_of _ _ w) e.1 in
+    relist (g.0, docs_read emits_docs prefix.docs (left_of _ _ h) g.1, ReadsPrefix.prefix g.2 e.2) (simp append_assoc)

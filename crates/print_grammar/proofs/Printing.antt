@@ -22,15 +22,8 @@ abbrev pub EndsWord : List OutputCall → Type 0
 EndsWord calls = (level : ℕ) → ends_word (text_of false level calls) ≡ true
 
 -- the same calls, put together otherwise
-pub relist : {begun : Bool} {P : List Token → Type 0} {calls others : List OutputCall} → calls ≡ others → Printed begun others P → Printed begun calls P
-relist {begun} {P} e p = subst (λ x. Printed begun x P) (sym e) p
-
--- two lists, with a call between and more behind
-pub two_lists : (first : List OutputCall) (call : OutputCall) (second third more : List OutputCall) → (first ++ (call ∷ (second ++ third))) ++ more ≡ first ++ (call ∷ (second ++ (third ++ more)))
-two_lists first call second third more = append_assoc first (call ∷ (second ++ third)) more ∙ ap (λ x. first ++ (call ∷ x)) (append_assoc second third more)
-
-pub three_lists : (first second third more : List OutputCall) → ((first ++ second) ++ third) ++ more ≡ first ++ (second ++ (third ++ more))
-three_lists first second third more = append_assoc (first ++ second) third more ∙ append_assoc first second (third ++ more)
+pub relist : {begun : Bool} {P : List Token → Type 0} {calls others : List OutputCall} → Printed begun others P → calls ≡ others → Printed begun calls P
+relist {begun} {P} p e = subst (λ x. Printed begun x P) (sym e) p
 
 -- ---- marks
 

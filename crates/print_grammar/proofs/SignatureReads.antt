@@ -25,13 +25,10 @@ pub listed_reads : {X : Type 0} (calls : X → List OutputCall) (well : X → Bo
     → ((x : X) → well x ≡ true → (more : List OutputCall) (ts : List Token) → Ended more ts → Printed false (calls x ++ more) (λ before. Reads before (read x) ts))
     → (x : X) (xs : List X) → list_all well (x ∷ xs) ≡ true → {more : List OutputCall} {after : List Token} → Ended more (Punctuation close ∷ after)
     → Printed false (separated (Str (codes ", ")) (map calls (x ∷ xs)) ++ more) (λ before. Listed Reads (Punctuation close) before (map read (x ∷ xs)) after)
-listed_reads calls well read Reads close each x [] h {more} {after} e =
-    let i = each x (left_of _ _ h) more (Punctuation close ∷ after) e in
-    relist (ap (λ t. t ++ more) (append-nil (calls x))) (i.0, i.1, last i.2)
-listed_reads calls well read Reads close each x (y ∷ ys) h {more} e =
+listed_reads calls well read Reads close each x [] h e = let i = each x (left_of _ _ h) _ _ e in simp append-nil (i.0, i.1, last i.2)
+listed_reads calls well read Reads close each x (y ∷ ys) h e =
     let r = listed_reads calls well read Reads close each y ys (right_of (well x) _ h) e in
-    let i = each x (left_of _ _ h) (Str (codes ", ") ∷ (separated (Str (codes ", ")) (map calls (y ∷ ys)) ++ more)) (Punctuation Comma ∷ r.0) (comma_call r.1) in
-    relist (append_assoc (calls x) (Str (codes ", ") ∷ separated (Str (codes ", ")) (map calls (y ∷ ys))) more) (i.0, i.1, next i.2 r.2)
+    let i = each x (left_of _ _ h) _ _ (comma_call r.1) in relist (i.0, i.1, next i.2 r.2) (simp append_assoc)
 
 param_reads : (p : ParamTree) → is_well_param p ≡ true → (more : List OutputCall) (ts : List Token) → Ended more ts
     → Printed false (param_calls p ++ more) (λ before. ReadsParam before (bare_param type_as_read p) ts)
@@ -39,16 +36,18 @@ param_reads p h more ts e =
     let i = type_reads p.ty (right_of (is_label p.name) _ h) e in
     (id_token p.name ∷ Punctuation Colon ∷ i.0, id_call p.name by_param (left_of _ _ h) (λ level. refl) (colon_call i.1), ReadsParam.param (id_is p.name) i.2)
 
+-- an open parenthesis
+pub open_call : {more : List OutputCall} {ts : List Token} → Follows false more ts → Follows false (Str (codes "(") ∷ more) (Punctuation OpenParen ∷ ts)
+open_call f = record { at = λ level. open_paren (f.at level) }
+
 -- parameters in parentheses
 pub args_reads : (params : List ParamTree) → list_all is_well_param params ≡ true → {more : List OutputCall} {after : List Token} → Follows false more after
     → Printed false (Str (codes "(") ∷ ((separated (Str (codes ", ")) (map param_calls params) ++ (Str (codes ")") ∷ [])) ++ more))
     (λ before. ReadsParams before (map (bare_param type_as_read) params) after)
-args_reads [] h {more} {after} f =
-    (Punctuation OpenParen ∷ Punctuation CloseParen ∷ after, record { at = λ level. open_paren (close_paren (f.at level)) }, ReadsParams.no_params)
-args_reads (p ∷ ps) h {more} f =
+args_reads [] h f = (_, open_call (paren_call f).follows, ReadsParams.no_params)
+args_reads (p ∷ ps) h f =
     let i = listed_reads param_calls is_well_param (bare_param type_as_read) ReadsParam CloseParen param_reads p ps h (paren_call f) in
-    relist (ap (λ x. Str (codes "(") ∷ x) (append_assoc (separated (Str (codes ", ")) (map param_calls (p ∷ ps))) (Str (codes ")") ∷ []) more))
-    (Punctuation OpenParen ∷ i.0, record { at = λ level. open_paren (i.1.at level) }, ReadsParams.params i.2)
+    relist (_, open_call i.1, ReadsParams.params i.2) (simp append_assoc)
 
 pub result_reads : (result : Option TypeTree) → passes is_well_type result ≡ true → {more : List OutputCall} {ts : List Token} → Ended more ts
     → Printed false (result_calls result ++ more) (λ before. ReadsResult before (option_map type_as_read result) ts)
@@ -64,11 +63,8 @@ ReadsArguments params result after before = (between : List Token) × ReadsParam
 pub arguments_reads : (params : List ParamTree) (result : Option TypeTree) → list_all is_well_param params ≡ true → passes is_well_type result ≡ true
     → {more : List OutputCall} {ts : List Token} → Ended more ts
     → Printed false (params_calls params result ++ more) (ReadsArguments params result ts)
-arguments_reads params result h g {more} e =
-    let r = result_reads result g e in
-    let i = args_reads params h r.1 in
-    relist (ap (λ x. Str (codes "(") ∷ x) (append_assoc (separated (Str (codes ", ")) (map param_calls params) ++ (Str (codes ")") ∷ [])) (result_calls result) more))
-    (i.0, i.1, (r.0, i.2, r.2))
+arguments_reads params result h g e =
+    let r = result_reads result g e in let i = args_reads params h r.1 in relist (i.0, i.1, (r.0, i.2, r.2)) (simp append_assoc)
 
 -- no word goes on into parameters
 pub arguments_end : (params : List ParamTree) (result : Option TypeTree) (more : List OutputCall) → EndsWord (params_calls params result ++ more)

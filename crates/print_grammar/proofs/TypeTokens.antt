@@ -16,7 +16,7 @@ use Rattle.print_output.specs.OutputCall.OutputCall.{PushStr, Ty, GenericArgsSta
 use Rattle.print_grammar.proofs.TokenFacts.{word_at, mark_at, id_token, id_is}
 use Rattle.print_grammar.proofs.VersionFacts.{number_at, ends_version}
 use Rattle.print_grammar.proofs.{TextOf.text_of, Printing.Prints.by_type, Printing.Prints.by_push, Printing.Prints.by_start, Printing.Prints.by_end}
-use Rattle.print_grammar.proofs.Printing.{Follows, Printed, Prints, Ended, relist, two_lists, word_call, id_call, call_is, less_call, greater_call, comma_call, no_word, printed_text, comma, less, space}
+use Rattle.print_grammar.proofs.Printing.{Follows, Printed, Prints, Ended, relist, word_call, id_call, call_is, less_call, greater_call, comma_call, no_word, printed_text, comma, less, space}
 use Rattle.std.specs.Fmt.{decimal}
 use Rattle.base_lemmas.proofs.Bools.{left_of, right_of}
 use Rattle.print_output.specs.declared.type_kind.TypeKind.TheVariants as kind
@@ -105,13 +105,10 @@ mutual
   types_reads : (types : TypeTrees) → are_well_types types ≡ true → {more : List OutputCall} {ts : List Token} → Ended more (Punctuation Greater ∷ ts)
       → Printed false (types_calls types ++ more) (λ before. ReadsTypes before (types_as_read types) ts)
   types_reads NoTypes h e = absurd cc
-  types_reads (AndTypes ty NoTypes) h {more} e =
-      let i = type_reads ty (left_of _ _ h) e in
-      relist (ap (λ x. x ++ more) (append-nil (type_calls ty))) (i.0, i.1, last_type i.2)
-  types_reads (AndTypes ty (AndTypes other types)) h {more} e =
+  types_reads (AndTypes ty NoTypes) h e = let i = type_reads ty (left_of _ _ h) e in simp append-nil (i.0, i.1, last_type i.2)
+  types_reads (AndTypes ty (AndTypes other types)) h e =
       let r = types_reads (AndTypes other types) (right_of (is_well_type ty) _ h) e in
-      let i = type_reads ty (left_of _ _ h) (comma_call r.1) in
-      relist (append_assoc (type_calls ty) (Str (codes ", ") ∷ types_calls (AndTypes other types)) more) (i.0, i.1, next_type i.2 r.2)
+      let i = type_reads ty (left_of _ _ h) (comma_call r.1) in relist (i.0, i.1, next_type i.2 r.2) (simp append_assoc)
 
 -- ---- what the page is for
 
