@@ -15,6 +15,7 @@ use Rattle.print_grammar.specs.Grammar.{ReadsResult.no_result, ReadsResult.with_
 use Rattle.print_grammar.specs.Grammar.{ReadsResourceMember.constructor_, ReadsResourceMember.method, ReadsResourceMember.static, ReadsAllNested.nested_end}
 use Rattle.print_grammar.specs.Grammar.ReadsDeclared.{variant, flags, enum, alias, resource_with}
 use Rattle.print_output.specs.Render.{render}
+use Rattle.print_grammar.proofs.Scanned.{scanned}
 
 abbrev declared_text : List ℕ
 declared_text = codes "package a:b;" ++ (10 ∷ 10 ∷ (codes "interface i {"
@@ -39,21 +40,7 @@ declared_tokens =
     ∷ Punctuation Greater ∷ Punctuation Semi ∷ Punctuation CloseBrace ∷ []
 
 pub declared-tokens : Tokens declared_text declared_tokens
-declared-tokens =
-    token refl (skip refl (token refl (token refl (token refl (token refl (skip refl (skip refl (token refl (skip refl (token refl (skip refl (token
-    refl (skip refl (skip refl (skip refl (token refl (skip refl (token refl (skip refl (token refl (skip refl (skip refl (skip refl (skip refl (skip
-    refl (token refl (token refl (token refl (token refl (skip refl (token refl (token refl (token refl (skip refl (skip refl (skip refl (skip refl
-    (skip refl (token refl (token refl (skip refl (token refl (token refl (token refl (token refl (skip refl (skip refl (skip refl (skip refl (skip
-    refl (token refl (token refl (skip refl (token refl (skip refl (token refl (skip refl (token refl (token refl (token refl (skip refl (token refl
-    (skip refl (token refl (token refl (skip refl (skip refl (skip refl (token refl (skip refl (skip refl (skip refl (skip refl (token refl (skip
-    refl (token refl (skip refl (token refl (skip refl (skip refl (skip refl (skip refl (skip refl (token refl (token refl (skip refl (skip refl
-    (skip refl (skip refl (skip refl (token refl (token refl (token refl (token refl (token refl (skip refl (skip refl (skip refl (token refl (skip
-    refl (skip refl (skip refl (skip refl (token refl (skip refl (token refl (skip refl (token refl (skip refl (skip refl (skip refl (skip refl (skip
-    refl (token refl (token refl (skip refl (skip refl (skip refl (token refl (skip refl (skip refl (skip refl (skip refl (token refl (skip refl
-    (token refl (skip refl (token refl (skip refl (skip refl (skip refl (skip refl (skip refl (token refl (token refl (skip refl (skip refl (skip
-    refl (token refl (skip refl (skip refl (skip refl (skip refl (token refl (skip refl (token refl (skip refl (token refl (skip refl (token refl
-    (token refl (token refl (token refl (token refl (skip refl (token refl (skip refl (skip refl (no_tokens
-    refl)))))))))))))))))))))))))))))))))))))))))))))))))))))))))))))))))))))))))))))))))))))))))))))))))))))))))))))))))))))))))))))))))))))))))))))))))))))))))))))))
+declared-tokens = scanned 200 _ _ refl
 
 abbrev bare : Prefix
 bare = record { docs = []; gates = Ungated; external_id = None }

@@ -15,10 +15,10 @@ use Rattle.print_output.specs.OutputCall.{OutputCall, is_one_line}
 use Rattle.print_output.specs.OutputCall.OutputCall.{Keyword, Ty, Param, Case, Str, Semicolon, IndentStart, IndentEnd, Newline}
 use Rattle.print_output.specs.declared.type_kind.TypeKind.{TypeKind}
 use Rattle.print_grammar.proofs.{TokenFacts.id_token, TokenFacts.id_is, PrefixReads.docs_read, PrefixReads.prefix_reads}
-use Rattle.print_grammar.proofs.Printing.{Follows, Printed, Ended, relist, word_call, id_call, line_begins, semicolon_call, greater_call, comma_call, paren_call, comma, space, line_feed, equals, open_brace, close_brace, open_paren}
+use Rattle.print_grammar.proofs.Printing.{Follows, Printed, Ended, relist, word_call, id_call, line_begins, semicolon_call, greater_call, comma_call, open_call, equals_call, paren_call, comma, space, line_feed, equals, open_brace, close_brace, open_paren}
 use Rattle.print_grammar.proofs.Printing.Prints.{by_keyword, by_type, by_param, by_case, by_str}
 use Rattle.print_grammar.proofs.TypeTokens.{type_reads, opened, length_call, word_reads}
-use Rattle.print_grammar.proofs.SignatureReads.{colon_call, space_before, open_call, arguments_reads, arguments_end, signature_reads}
+use Rattle.print_grammar.proofs.SignatureReads.{colon_call, space_before, arguments_reads, arguments_end, signature_reads}
 use Rattle.base_lemmas.proofs.Bools.{left_of, right_of}
 use Rattle.print_output.specs.declared.type_kind.TypeKind.TheVariants as kind
 
@@ -205,10 +205,9 @@ module _ (emits_docs : Bool) where
       (λ b r. ReadsDeclared.enum (id_is name) r)
   declared_reads (AliasOf name ty) h more ts f =
       let i = alias_body_reads ty (right_of (is_label name) _ h) (semicolon_call f) in
-      let body : Follows false (Str (codes " = ") ∷ (alias_body_calls ty ++ (Semicolon ∷ more))) (Punctuation Equals ∷ i.0) = record { at = λ level. space (equals (space (i.1.at level))) } in
       relist (
         _,
-        line_begins (Keyword (codes "type")) refl (word_call (Key WordKey.Type_) by_keyword refl refl (λ level. refl) (space_before (id_call name (by_type {kind = alias_kind ty}) (left_of _ _ h) (λ level. refl) body))),
+        line_begins (Keyword (codes "type")) refl (word_call (Key WordKey.Type_) by_keyword refl refl (λ level. refl) (space_before (id_call name (by_type {kind = alias_kind ty}) (left_of _ _ h) (λ level. refl) (equals_call i.1)))),
         ReadsDeclared.alias (id_is name) i.2,
       ) (simp append_assoc)
   declared_reads (ResourceOf name members) h more ts f = resource_reads name members (left_of _ _ h) (right_of (is_label name) _ h) more ts f

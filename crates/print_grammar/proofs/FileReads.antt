@@ -92,19 +92,15 @@ module _ (emits_docs : Bool) where
   abbrev AllNested : List PackageTree → List Token → Type 0
   AllNested trees before = ReadsAllNested before (map (bare_package type_as_read) trees)
 
-  more_nested_read : (trees : List PackageTree) → list_all is_well_package trees ≡ true → Printed true (more_nested_calls emits_docs trees) (AllNested trees)
-  more_nested_read [] h = ([], nothing_follows, ReadsAllNested.nested_end)
-  more_nested_read (tree ∷ trees) h =
-      let r = more_nested_read trees (right_of (is_well_package tree) _ h) in
-      let i = nested_reads tree (left_of _ _ h) (more_nested_calls emits_docs trees) r.0 r.1 in
-      (i.0, empty_line (empty_line i.1), ReadsAllNested.next_nested i.2 r.2)
+  more_nested_read : (trees : List PackageTree) → Printed true (nested_calls emits_docs trees) (AllNested trees) → Printed true (more_nested_calls emits_docs trees) (AllNested trees)
+  more_nested_read [] p = p
+  more_nested_read (tree ∷ trees) p = (p.0, empty_line (empty_line p.1), p.2)
 
   nested_read : (trees : List PackageTree) → list_all is_well_package trees ≡ true → Printed true (nested_calls emits_docs trees) (AllNested trees)
   nested_read [] h = ([], nothing_follows, ReadsAllNested.nested_end)
   nested_read (tree ∷ trees) h =
-      let r = more_nested_read trees (right_of (is_well_package tree) _ h) in
-      let i = nested_reads tree (left_of _ _ h) (more_nested_calls emits_docs trees) r.0 r.1 in
-      (i.0, i.1, ReadsAllNested.next_nested i.2 r.2)
+      let r = more_nested_read trees (nested_read trees (right_of (is_well_package tree) _ h)) in
+      let i = nested_reads tree (left_of _ _ h) _ _ r.1 in (i.0, i.1, ReadsAllNested.next_nested i.2 r.2)
 
   -- ---- the file
 
@@ -130,14 +126,7 @@ file_begins : (emits_docs : Bool) (file : FileTree) → first_indents (file_call
 file_begins false file = refl
 file_begins true file = go file.main.head.docs
   where
-    go : (docs : List (List ℕ))
-        → first_indents (file_calls true (record {
-          main = record {
-            head = record { docs = docs; namespace = file.main.head.namespace; name = file.main.head.name; version = file.main.head.version };
-            items = file.main.items;
-          };
-          nested = file.nested;
-        })) ≡ true
+    go : (docs : List (List ℕ)) → first_indents (file_calls true (record file { main = record file.main { head = record file.main.head { docs = docs } } })) ≡ true
     go [] = refl
     go (line ∷ docs) = refl
 

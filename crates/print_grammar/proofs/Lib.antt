@@ -15,6 +15,7 @@ pub mod PrefixReads
 -- A list of tokens begins with at most one type, where what follows doesn't go on with it. Serves DeclaredReads, GrammarUnique, ListsUnique, PrefixUnique and 1 more.
 pub mod TypeTokens
 -- What is printed of a signature is read as it: lists with commas between, parameters, results. Serves DeclaredReads, FileReads, MemberReads, PathReads.
+pub mod Scanned
 pub mod SignatureReads
 -- What is printed of a declared type is read as it. Serves FileReads, MemberReads.
 pub mod DeclaredReads

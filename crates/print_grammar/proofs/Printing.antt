@@ -154,3 +154,11 @@ greater_call {more = more} p f = record { follows = call_is p (λ level. greater
 -- a closing parenthesis
 pub paren_call : {more : List OutputCall} {ts : List Token} → Follows false more ts → Ended (Str (codes ")") ∷ more) (Punctuation CloseParen ∷ ts)
 paren_call f = record { follows = record { at = λ level. close_paren (f.at level) }; word = λ level. refl }
+
+-- an open parenthesis
+pub open_call : {more : List OutputCall} {ts : List Token} → Follows false more ts → Follows false (Str (codes "(") ∷ more) (Punctuation OpenParen ∷ ts)
+open_call f = record { at = λ level. open_paren (f.at level) }
+
+-- an equals sign between spaces
+pub equals_call : {more : List OutputCall} {ts : List Token} → Follows false more ts → Follows false (Str (codes " = ") ∷ more) (Punctuation Equals ∷ ts)
+equals_call f = record { at = λ level. space (equals (space (f.at level))) }

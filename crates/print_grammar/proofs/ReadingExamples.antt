@@ -13,6 +13,7 @@ use Rattle.print_grammar.specs.{Tree.Gates.Ungated, Tree.ItemTree.WorldItem, Gra
 use Rattle.print_grammar.specs.Grammar.{ReadsFile.file, ReadsItems.no_items, ReadsItems.next_item, ReadsWorldMember.world_import, ReadsWorldMember.world_export}
 use Rattle.print_grammar.specs.Grammar.{ReadsHead.head, ReadsAllNested.nested_end, ReadsExtern.extern_function, ReadsParams.no_params, ReadsResult.no_result}
 use Rattle.std.specs.List.{flat_map}
+use Rattle.print_grammar.proofs.Scanned.{scanned}
 use Rattle.print_output.specs.{OutputCall.body_calls, Render.render}
 
 -- a world that imports a function and exports one
@@ -45,12 +46,7 @@ two_functions = record {
 }
 
 pub two-functions-tokens : Tokens two_functions_text two_functions_tokens
-two-functions-tokens =
-    token refl (skip refl (token refl (token refl (token refl (token refl (skip refl (skip refl
-    (token refl (skip refl (token refl (skip refl (token refl (skip refl (skip refl (skip refl
-    (token refl (skip refl (token refl (token refl (skip refl (token refl (token refl (token refl (token refl (skip refl (skip refl (skip refl (skip refl
-    (token refl (skip refl (token refl (token refl (skip refl (token refl (token refl (token refl (token refl (skip refl
-    (token refl (skip refl (no_tokens refl)))))))))))))))))))))))))))))))))))))))))
+two-functions-tokens = scanned 200 _ _ refl
 
 pub no-parameters : (after : List Token) → ReadsSignature (Key Func ∷ Punctuation OpenParen ∷ Punctuation CloseParen ∷ Punctuation Semi ∷ after) no_parameters (Punctuation Semi ∷ after)
 no-parameters after = func no_params no_result

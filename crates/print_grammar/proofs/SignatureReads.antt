@@ -9,7 +9,7 @@ use Rattle.print_grammar.specs.Grammar.Listed.{last, next}
 use Rattle.print_output.specs.{OutputCall.OutputCall, OutputCall.OutputCall.Str}
 use Rattle.print_grammar.proofs.{TokenFacts.id_token, TokenFacts.id_is, Printing.Prints.by_keyword, Printing.Prints.by_param, TypeTokens.type_reads}
 use Rattle.print_grammar.proofs.TextOf.{text_of}
-use Rattle.print_grammar.proofs.Printing.{Follows, Printed, EndsWord, Ended, relist, word_call, id_call, comma_call, paren_call, colon, space, open_paren, close_paren, arrow}
+use Rattle.print_grammar.proofs.Printing.{Follows, Printed, EndsWord, Ended, relist, word_call, id_call, comma_call, open_call, paren_call, colon, space, open_paren, close_paren, arrow}
 use Rattle.base_lemmas.proofs.Bools.{left_of, right_of}
 
 -- a colon and a space
@@ -35,10 +35,6 @@ param_reads : (p : ParamTree) → is_well_param p ≡ true → (more : List Outp
 param_reads p h more ts e =
     let i = type_reads p.ty (right_of (is_label p.name) _ h) e in
     (id_token p.name ∷ Punctuation Colon ∷ i.0, id_call p.name by_param (left_of _ _ h) (λ level. refl) (colon_call i.1), ReadsParam.param (id_is p.name) i.2)
-
--- an open parenthesis
-pub open_call : {more : List OutputCall} {ts : List Token} → Follows false more ts → Follows false (Str (codes "(") ∷ more) (Punctuation OpenParen ∷ ts)
-open_call f = record { at = λ level. open_paren (f.at level) }
 
 -- parameters in parentheses
 pub args_reads : (params : List ParamTree) → list_all is_well_param params ≡ true → {more : List OutputCall} {after : List Token} → Follows false more after

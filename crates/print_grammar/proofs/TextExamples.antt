@@ -20,6 +20,7 @@ use Rattle.print_grammar.specs.Grammar.{ReadsParams.no_params, ReadsDeprecated.n
 use Rattle.print_grammar.specs.Grammar.{ReadsVersion.no_version, ReadsVersion.with_version, ReadsMember.member_type, ReadsMember.member_function}
 use Rattle.print_grammar.specs.Grammar.{ReadsExternalId.no_external_id, ReadsExternalId.external_id, ReadsAllNested.nested_end, ReadsAllNested.next_nested}
 use Rattle.print_output.specs.Render.{render}
+use Rattle.print_grammar.proofs.Scanned.{scanned}
 
 abbrev bare : Prefix
 bare = record { docs = []; gates = Ungated; external_id = None }
@@ -42,11 +43,7 @@ primitives_tokens =
     ∷ Punctuation Greater ∷ []
 
 pub primitives-tokens : Tokens primitives_text primitives_tokens
-primitives-tokens =
-    token refl (token refl (token refl (token refl (skip refl (token refl (token refl (skip refl (token refl (token refl (skip refl (token refl
-    (token refl (skip refl (token refl (token refl (skip refl (token refl (token refl (skip refl (token refl (token refl (skip refl (token refl
-    (token refl (skip refl (token refl (token refl (skip refl (token refl (token refl (skip refl (token refl (token refl (skip refl (token refl
-    (token refl (skip refl (token refl (token refl (skip refl (token refl (token refl (no_tokens refl)))))))))))))))))))))))))))))))))))))))))))
+primitives-tokens = scanned 200 _ _ refl
 
 abbrev primitives : TypeTree
 primitives = TupleOf (AndTypes (PrimitiveType Bool_) (AndTypes (PrimitiveType U8)
@@ -81,16 +78,7 @@ forms_tokens =
 
 pub forms-tokens : Tokens forms_text forms_tokens
 unfolding cut
-forms-tokens =
-    token refl (token refl (token refl (token refl (token refl (token refl (token refl (skip refl (token refl (token refl (token refl (token refl
-    (token refl (skip refl (token refl (token refl (token refl (token refl (skip refl (token refl (token refl (token refl (skip refl (token refl
-    (token refl (token refl (token refl (skip refl (token refl (token refl (token refl (skip refl (token refl (token refl (skip refl (token refl
-    (token refl (token refl (token refl (token refl (skip refl (token refl (token refl (token refl (token refl (skip refl (token refl (token refl
-    (token refl (skip refl (token refl (token refl (token refl (token refl (skip refl (token refl (token refl (token refl (skip refl (token refl
-    (token refl (skip refl (token refl (token refl (token refl (token refl (token refl (skip refl (token refl (token refl (skip refl (token refl
-    (token refl (token refl (token refl (token refl (skip refl (token refl (token refl (token refl (token refl (token refl (skip refl (token refl
-    (token refl (token refl (token refl (token refl (no_tokens
-    refl))))))))))))))))))))))))))))))))))))))))))))))))))))))))))))))))))))))))))))))))))))))))
+forms-tokens = scanned 200 _ _ refl
 
 abbrev forms : TypeTree
 forms = TupleOf (AndTypes (OptionOf (Name (codes "t"))) (AndTypes (ListOf (PrimitiveType U8))
@@ -146,14 +134,7 @@ escapes_tokens =
     ∷ Punctuation Comma ∷ Punctuation CloseBrace ∷ Punctuation CloseBrace ∷ []
 
 pub escapes-tokens : Tokens escapes_text escapes_tokens
-escapes-tokens =
-    token refl (skip refl (token refl (token refl (token refl (token refl (skip refl (skip refl (token refl (skip refl (token refl (skip refl (token
-    refl (skip refl (skip refl (skip refl (token refl (token refl (token refl (token refl (skip refl (token refl (skip refl (token refl (token refl
-    (skip refl (skip refl (skip refl (token refl (token refl (token refl (token refl (token refl (skip refl (skip refl (skip refl (token refl (skip
-    refl (token refl (skip refl (token refl (skip refl (skip refl (skip refl (skip refl (skip refl (token refl (token refl (skip refl (token refl
-    (token refl (skip refl (skip refl (skip refl (skip refl (skip refl (token refl (token refl (skip refl (token refl (token refl (skip refl (skip
-    refl (skip refl (token refl (skip refl (token refl (skip refl (skip refl (no_tokens
-    refl)))))))))))))))))))))))))))))))))))))))))))))))))))))))))))))))))))))
+escapes-tokens = scanned 200 _ _ refl
 
 abbrev escapes : FileTree
 escapes = record {
@@ -198,11 +179,7 @@ inner_tokens =
 
 pub inner-tokens : Tokens inner_text inner_tokens
 unfolding cut
-inner-tokens =
-    token refl (skip refl (token refl (token refl (token refl (token refl (skip refl (skip refl (token refl (skip refl (token refl (token refl (token
-    refl (token refl (token refl (skip refl (token refl (skip refl (skip refl (skip refl (token refl (skip refl (token refl (skip refl (token refl
-    (skip refl (skip refl (skip refl (skip refl (skip refl (token refl (token refl (skip refl (token refl (token refl (token refl (token refl (skip
-    refl (skip refl (skip refl (token refl (skip refl (token refl (skip refl (no_tokens refl))))))))))))))))))))))))))))))))))))))))))))
+inner-tokens = scanned 200 _ _ refl
 
 abbrev inner : FileTree
 inner = record {
