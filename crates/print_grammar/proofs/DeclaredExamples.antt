@@ -5,7 +5,7 @@ use Rattle.print_grammar.specs.{Keyword.Keyword, Calls.file_calls, Tree.Gates.Un
 use Rattle.print_grammar.specs.{Keyword.Primitive.U8, Token.Token, Token.Tokens, Grammar.ReadsLabel.label, Grammar.ReadsHead.head, Grammar.ReadsFile.file}
 use Rattle.print_grammar.specs.{Token.Token.Word, Token.Token.Key, Token.Token.Punctuation, Tree.TypeTree.PrimitiveType, Tree.TypeTree.Name, Tree.TypeTree.Own}
 use Rattle.print_grammar.specs.Token.Mark.{OpenBrace, CloseBrace, OpenParen, CloseParen, Less, Greater, Colon, Semi, Comma, Equals, Arrow}
-use Rattle.print_grammar.specs.{Token.Tokens.no_tokens, Token.Tokens.skip, Token.Tokens.token, Grammar.ReadsParams.no_params, Grammar.ReadsParams.params}
+use Rattle.print_grammar.specs.{Grammar.ReadsParams.no_params, Grammar.ReadsParams.params}
 use Rattle.print_grammar.specs.{Tree.Prefix, Tree.ResourceMember, Tree.FileTree, Grammar.ReadsExternalId.no_external_id, Grammar.ReadsItem.interface_item}
 use Rattle.print_grammar.specs.Tree.{Declared.VariantOf, Declared.FlagsOf, Declared.EnumOf, Declared.AliasOf, Declared.ResourceOf, ItemTree.InterfaceItem}
 use Rattle.print_grammar.specs.{Tree.MemberTree.TypeMember, Grammar.ReadsGates.no_gates, Grammar.ReadsPrefix.prefix, Grammar.ReadsMember.member_type}

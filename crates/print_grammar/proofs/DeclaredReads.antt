@@ -1,12 +1,12 @@
 -- What is printed of a declared type is read as it.
-use Rattle.std.proofs.Common.{◌≡◌, refl, ap, ◌∙◌, ℕ, ◌+◌, ◌-◌, Bool, true, false, ◌&&◌, nat_lt, length, List, [], ◌∷◌, ◌++◌, append-nil, append_assoc, codes, Option, Some, None, map}
+use Rattle.std.proofs.Common.{◌≡◌, refl, ℕ, ◌+◌, ◌-◌, Bool, true, false, ◌&&◌, nat_lt, length, List, [], ◌∷◌, ◌++◌, append-nil, append_assoc, codes, Option, Some, None, map}
 use Rattle.std.specs.{List.list_all, List.flat_map, Prelude.option_map}
 use Rattle.wit_model.specs.{Names.is_label, Names.begins_with_letter, Rules.passes}
 use Rattle.print_grammar.specs.{Keyword.Keyword as WordKey, Keyword.escaped, Token.Token.Punctuation, Token.Token.Key, Token.Token, Token.spelled, Tree.ResourceMember.Constructor, Tree.ResourceMember.Method, Tree.ResourceMember.Static}
-use Rattle.print_grammar.specs.Calls.{type_calls, params_calls, alias_body_calls, alias_kind, payload_calls, field_calls, case_calls, label_calls, resource_member_calls, declared_calls, block_calls, prefix_calls, signature_calls, doc_calls, space as space_call}
-use Rattle.print_grammar.specs.Token.Mark.{Comma, Colon, Semi, Equals, OpenBrace, CloseBrace, OpenParen}
+use Rattle.print_grammar.specs.Calls.{alias_body_calls, alias_kind, payload_calls, field_calls, case_calls, label_calls, resource_member_calls, declared_calls, block_calls, prefix_calls, signature_calls, doc_calls}
+use Rattle.print_grammar.specs.Token.Mark.{Comma, Colon, Semi, OpenBrace, CloseBrace}
 use Rattle.print_grammar.specs.Tree.{TypeTree, Prefix, FieldTree, CaseTree, LabelTree, SignatureTree, ResourceMember, Declared}
-use Rattle.print_grammar.specs.Tree.TypeTree.{PrimitiveType, Name, Handle, Own, Borrow, TupleOf, OptionOf, ListOf, FixedListOf, MapOf, Result, ResultOk, ResultErr, ResultOf, Future, FutureOf, Stream, StreamOf}
+use Rattle.print_grammar.specs.Tree.TypeTree.{ListOf, FixedListOf, MapOf, Future, FutureOf, Stream, StreamOf}
 use Rattle.print_grammar.specs.Tree.Declared.{RecordOf, VariantOf, FlagsOf, EnumOf, AliasOf, ResourceOf}
 use Rattle.print_grammar.specs.AsRead.{type_as_read, bare_prefix, bare_field, bare_case, bare_label, bare_signature, bare_resource_member, bare_declared}
 use Rattle.print_grammar.specs.Grammar.{ReadsSignature, ReadsType, ReadsField, ReadsCase, ReadsLabel, ReadsResourceMember, ReadsDeclared, ReadsPrefix, Listed, Repeated, Listed.last_with_comma, Listed.next, Repeated.closed, Repeated.again}
@@ -15,7 +15,7 @@ use Rattle.print_output.specs.OutputCall.{OutputCall, is_one_line}
 use Rattle.print_output.specs.OutputCall.OutputCall.{Keyword, Ty, Param, Case, Str, Semicolon, IndentStart, IndentEnd, Newline}
 use Rattle.print_output.specs.declared.type_kind.TypeKind.{TypeKind}
 use Rattle.print_grammar.proofs.{TokenFacts.id_token, TokenFacts.id_is, PrefixReads.docs_read, PrefixReads.prefix_reads}
-use Rattle.print_grammar.proofs.Printing.{Follows, Printed, Ended, relist, word_call, id_call, line_begins, semicolon_call, greater_call, comma_call, open_call, equals_call, paren_call, comma, space, line_feed, equals, open_brace, close_brace, open_paren}
+use Rattle.print_grammar.proofs.Printing.{Follows, Printed, Ended, relist, word_call, id_call, line_begins, semicolon_call, greater_call, comma_call, open_call, equals_call, paren_call, comma, space, line_feed, open_brace, close_brace}
 use Rattle.print_grammar.proofs.Printing.Prints.{by_keyword, by_type, by_param, by_case, by_str}
 use Rattle.print_grammar.proofs.TypeTokens.{type_reads, opened, length_call, word_reads}
 use Rattle.print_grammar.proofs.SignatureReads.{colon_call, space_before, arguments_reads, arguments_end, signature_reads}

@@ -1,18 +1,18 @@
 -- What is printed of a file is read as it.
-use Rattle.std.proofs.Common.{rules as std_rules, ◌≡◌, refl, sym, ap, ◌∙◌, subst, ℕ, Bool, true, false, List, [], ◌∷◌, ◌++◌, append_assoc, codes, map}
+use Rattle.std.proofs.Common.{rules as std_rules, ◌≡◌, refl, sym, ◌∙◌, subst, ℕ, Bool, true, false, List, [], ◌∷◌, ◌++◌, append_assoc, codes, map}
 use Rattle.std.specs.List.{list_all, flat_map}
 use Rattle.wit_model.specs.Names.{is_label}
-use Rattle.print_grammar.specs.{Keyword.Keyword as WordKey, Keyword.escaped, AsRead.type_as_read, AsRead.bare_item, AsRead.bare_package, AsRead.file_as_read}
-use Rattle.print_grammar.specs.Calls.{doc_calls, gates_calls, version_calls, members_calls, world_members_calls, block_calls, line_after_calls, package_item_calls, package_outer_calls, package_calls, more_nested_calls, nested_calls, file_calls, space as space_call}
-use Rattle.print_grammar.specs.{Token.Token, Token.Tokens, Token.Token.Punctuation, Token.Token.Key, Token.Mark.Colon, Reading.IsReading, Reading.IsOnlyReading}
+use Rattle.print_grammar.specs.{Keyword.Keyword as WordKey, AsRead.type_as_read, AsRead.bare_item, AsRead.bare_package, AsRead.file_as_read}
+use Rattle.print_grammar.specs.Calls.{line_after_calls, package_item_calls, package_outer_calls, package_calls, more_nested_calls, nested_calls, file_calls}
+use Rattle.print_grammar.specs.{Token.Token, Token.Tokens, Token.Token.Key, Reading.IsReading, Reading.IsOnlyReading}
 use Rattle.print_grammar.specs.Token.Tokens.{no_tokens}
 use Rattle.print_grammar.specs.{Tree.ItemTree, Tree.PackageHead, Tree.PackageTree, Tree.FileTree, Tree.ItemTree.InterfaceItem, Tree.ItemTree.WorldItem}
 use Rattle.print_grammar.specs.Grammar.{ReadsItem, ReadsItems, ReadsHead, ReadsNested, ReadsAllNested, ReadsFile}
 use Rattle.print_grammar.specs.WellNamed.{is_well_gates, is_well_item, is_well_head, is_well_package, is_well_file}
 use Rattle.print_output.specs.{OutputCall.OutputCall, OutputCall.is_one_line, Render.render}
-use Rattle.print_output.specs.OutputCall.OutputCall.{Keyword, Ty, Str, Semicolon, IndentStart, IndentEnd, Newline}
+use Rattle.print_output.specs.OutputCall.OutputCall.{Keyword, Semicolon, IndentStart, IndentEnd, Newline}
 use Rattle.print_grammar.proofs.{GrammarUnique.reading-unique, TextOf.text_of, TextOf.rendered, PrefixReads.docs_read, PrefixReads.gates_read}
-use Rattle.print_grammar.proofs.{TokenFacts.id_token, TokenFacts.id_is, MemberReads.empty_line, MemberReads.members_read, MemberReads.world_members_read}
+use Rattle.print_grammar.proofs.{TokenFacts.id_is, MemberReads.empty_line, MemberReads.members_read, MemberReads.world_members_read}
 use Rattle.print_grammar.proofs.Printing.{Follows, Printed, EndsWord, relist, word_call, id_call, line_begins, indents, semicolon_call}
 use Rattle.print_grammar.proofs.{Printing.Prints.by_keyword, Printing.Prints.by_type, DeclaredReads.start_call, DeclaredReads.members_repeat}
 use Rattle.print_grammar.proofs.SignatureReads.{space_before}

@@ -1,5 +1,5 @@
 -- A list of tokens begins with at most one list, parameter list, result or signature.
-use Rattle.std.proofs.Common.{rules as std_rules, ◌≡◌, List, [], ◌∷◌, ℕ, refl, ap, sym, subst, true, Option, Some}
+use Rattle.std.proofs.Common.{rules as std_rules, ◌≡◌, List, [], ◌∷◌, ℕ, refl, ap, sym, true, Option, Some}
 use Rattle.print_grammar.specs.{Token.Token, Tree.TypeTree, Tree.ParamTree, Tree.SignatureTree, Grammar.ReadsParams.no_params, Grammar.ReadsParams.params}
 use Rattle.print_grammar.specs.{Token.Token.Punctuation, Token.Token.Key, Grammar.Repeated.closed, Grammar.Repeated.again}
 use Rattle.print_grammar.specs.{Token.Mark.Comma, Token.Mark.CloseParen}

@@ -1,5 +1,5 @@
 -- What is printed of a path and of a use is read as it.
-use Rattle.std.proofs.Common.{rules as std_rules, ◌≡◌, refl, ap, subst, ℕ, true, false, nat_lt, length, List, [], ◌∷◌, ◌++◌, append_assoc, codes, Option, Some, None, map}
+use Rattle.std.proofs.Common.{rules as std_rules, ◌≡◌, refl, subst, ℕ, true, false, nat_lt, length, List, [], ◌∷◌, ◌++◌, append_assoc, codes, Option, Some, None, map}
 use Rattle.wit_model.specs.{Names.is_label, Names.is_version_text, Rules.passes}
 use Rattle.print_grammar.specs.{Keyword.escaped, Token.Token, WellNamed.is_well_path, WellNamed.is_well_used, WellNamed.is_well_use, WellNamed.are_well_some}
 use Rattle.print_grammar.specs.{Keyword.Keyword.As, Keyword.Keyword.Use, Token.Token.Punctuation, Token.Token.Key, Token.Token.VersionText}

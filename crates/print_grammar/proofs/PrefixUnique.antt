@@ -1,11 +1,11 @@
 -- A list of tokens begins with at most one prefix, path, use or declared type.
-use Rattle.std.proofs.Common.{rules as std_rules, ◌≡◌, List, ◌∷◌, ℕ, refl, ap, sym, subst, ◌∙◌, Bool, true, false, Option, Some, codes}
+use Rattle.std.proofs.Common.{rules as std_rules, ◌≡◌, List, ◌∷◌, ℕ, refl, ap, sym, ◌∙◌, Bool, true, false, Option, Some, codes}
 use Rattle.std.proofs.lemmas.{Bool.Decides.Decides-eqb, Slice.Eq.slice_eq-Decides}
 use Rattle.wit_model.specs.Text.{text_eq}
-use Rattle.print_grammar.specs.{Keyword.Keyword, Token.Token, Token.Mark}
-use Rattle.print_grammar.specs.Token.{Token.Punctuation, Token.Key, Token.Word, Mark.At, Mark.Colon, Mark.Semi, Mark.Dot, Mark.CloseBrace}
-use Rattle.print_grammar.specs.Tree.{SignatureTree, Gates, Prefix, PathTree, UsedName, Declared}
-use Rattle.print_grammar.specs.Grammar.{IsId, Listed, ReadsVersion, ReadsVersionArgument, ReadsDeprecated, ReadsGates, ReadsExternalId, ReadsPrefix, ReadsPath, ReadsUsedName, ReadsUse, ReadsField, ReadsCase, ReadsLabel, ReadsResourceMember, ReadsDeclared, ReadsParams, ReadsSignature}
+use Rattle.print_grammar.specs.{Token.Token, Token.Mark}
+use Rattle.print_grammar.specs.Token.{Token.Punctuation, Token.Word, Mark.At, Mark.Colon, Mark.Semi, Mark.Dot, Mark.CloseBrace}
+use Rattle.print_grammar.specs.Tree.{Gates, Prefix, PathTree, UsedName, Declared}
+use Rattle.print_grammar.specs.Grammar.{IsId, ReadsVersion, ReadsVersionArgument, ReadsDeprecated, ReadsGates, ReadsExternalId, ReadsPrefix, ReadsPath, ReadsUsedName, ReadsUse, ReadsField, ReadsCase, ReadsLabel, ReadsResourceMember, ReadsDeclared}
 use Rattle.print_grammar.specs.Grammar.{ReadsVersion.no_version, ReadsVersion.with_version, ReadsDeprecated.not_deprecated, ReadsDeprecated.deprecated}
 use Rattle.print_grammar.specs.Grammar.{ReadsVersionArgument.version_argument, ReadsPath.local, ReadsPath.full, ReadsField.field, ReadsLabel.label}
 use Rattle.print_grammar.specs.Grammar.{ReadsGates.no_gates, ReadsGates.since, ReadsGates.unstable, ReadsExternalId.no_external_id, ReadsExternalId.external_id}
@@ -13,7 +13,7 @@ use Rattle.print_grammar.specs.Grammar.{ReadsPrefix.prefix, ReadsResourceMember.
 use Rattle.print_grammar.specs.Grammar.{ReadsUsedName.same_name, ReadsUsedName.other_name, ReadsUse.use_names, ReadsCase.case_alone, ReadsCase.case_of}
 use Rattle.print_grammar.specs.Grammar.ReadsDeclared.{record_, variant, flags, enum, alias, resource, resource_with}
 use Rattle.print_grammar.proofs.TypeTokens.{id-unique, tail_same, type-unique, begins_with_at, no_less}
-use Rattle.print_grammar.proofs.ListsUnique.{Same, Unique, UniqueBefore, Never, head_same, listed-unique, repeated-same, no_id_mark, no_id_key, arguments-unique, signature-unique}
+use Rattle.print_grammar.proofs.ListsUnique.{Same, Unique, UniqueBefore, Never, head_same, listed-unique, repeated-same, no_id_mark, arguments-unique, signature-unique}
 
 -- ---- gates and external ids
 

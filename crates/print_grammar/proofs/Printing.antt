@@ -1,10 +1,10 @@
 -- Calls whose text begins with tokens: one call, and then what follows it.
-use Rattle.std.proofs.Common.{rules as std_rules, ◌≡◌, refl, sym, ap, ◌∙◌, subst, ℕ, ◌-◌, Bool, true, false, not, List, [], ◌∷◌, ◌++◌, append_assoc, codes, Some}
+use Rattle.std.proofs.Common.{rules as std_rules, ◌≡◌, refl, sym, ap, ◌∙◌, subst, ℕ, ◌-◌, Bool, true, false, not, List, [], ◌∷◌, ◌++◌, codes, Some}
 use Rattle.wit_model.specs.Names.{is_label, begins_with_letter}
 use Rattle.print_grammar.specs.{Keyword.escaped, Token.Token, Token.Tokens, Token.spelled, Token.Token.Punctuation}
 use Rattle.print_grammar.specs.Token.Mark.{OpenBrace, CloseBrace, OpenParen, CloseParen, Less, Greater, Colon, Semi, Comma, Dot, Equals, At, Arrow}
 use Rattle.print_output.specs.{OutputCall.OutputCall, Render.front_of}
-use Rattle.print_output.specs.OutputCall.OutputCall.{PushStr, IndentIfNeeded, IndentStart, IndentEnd, Newline, IndentAndPrint, Keyword, Ty, Param, Case, GenericArgsStart, GenericArgsEnd, Doc, Semicolon, Str}
+use Rattle.print_output.specs.OutputCall.OutputCall.{PushStr, IndentStart, IndentEnd, Newline, Keyword, Ty, Param, Case, GenericArgsStart, GenericArgsEnd, Semicolon, Str}
 use Rattle.print_output.specs.declared.type_kind.TypeKind.{TypeKind}
 use Rattle.print_grammar.proofs.TextOf.{text_of}
 use Rattle.print_grammar.proofs.TokenFacts.{ends_by, token_at, mark_at, word_at, id_at, blank_at, blanks_at, ends_word, is_label_byte, id_token}

@@ -1,15 +1,15 @@
 -- What is printed of a signature is read as it: lists with commas between, parameters, results.
-use Rattle.std.proofs.Common.{◌≡◌, refl, ap, Bool, true, false, List, [], ◌∷◌, ◌++◌, append-nil, append_assoc, codes, Option, Some, None, map}
+use Rattle.std.proofs.Common.{◌≡◌, refl, Bool, true, false, List, [], ◌∷◌, ◌++◌, append-nil, append_assoc, codes, Option, Some, None, map}
 use Rattle.std.specs.{List.list_all, Prelude.option_map}
 use Rattle.wit_model.specs.{Names.is_label, Rules.passes}
 use Rattle.print_grammar.specs.{Keyword.Keyword.Func, Keyword.Keyword.Async, AsRead.type_as_read, AsRead.bare_param, AsRead.bare_signature, Token.Token, Token.Mark, Grammar.ReadsParam, Grammar.ReadsParams, Grammar.ReadsResult, Grammar.ReadsSignature, Grammar.Listed, Tree.TypeTree, Tree.ParamTree, Tree.SignatureTree, WellNamed.is_well_type, WellNamed.is_well_param, WellNamed.is_well_signature}
 use Rattle.print_grammar.specs.Calls.{type_calls, param_calls, params_calls, result_calls, signature_calls, separated, space as space_call}
-use Rattle.print_grammar.specs.Token.{Token.Punctuation, Token.Key, Mark.Comma, Mark.Colon, Mark.OpenParen, Mark.CloseParen, Mark.Arrow}
+use Rattle.print_grammar.specs.Token.{Token.Punctuation, Token.Key, Mark.Colon, Mark.CloseParen, Mark.Arrow}
 use Rattle.print_grammar.specs.Grammar.Listed.{last, next}
 use Rattle.print_output.specs.{OutputCall.OutputCall, OutputCall.OutputCall.Str}
 use Rattle.print_grammar.proofs.{TokenFacts.id_token, TokenFacts.id_is, Printing.Prints.by_keyword, Printing.Prints.by_param, TypeTokens.type_reads}
 use Rattle.print_grammar.proofs.TextOf.{text_of}
-use Rattle.print_grammar.proofs.Printing.{Follows, Printed, EndsWord, Ended, relist, word_call, id_call, comma_call, open_call, paren_call, colon, space, open_paren, close_paren, arrow}
+use Rattle.print_grammar.proofs.Printing.{Follows, Printed, EndsWord, Ended, relist, word_call, id_call, comma_call, open_call, paren_call, colon, space, arrow}
 use Rattle.base_lemmas.proofs.Bools.{left_of, right_of}
 
 -- a colon and a space

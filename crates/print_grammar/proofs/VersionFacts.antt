@@ -1,5 +1,5 @@
 -- The text of a version is one token.
-use Rattle.std.proofs.Common.{rules as std_rules, ◌≡◌, refl, sym, ap, ◌∙◌, subst, ℕ, ◌<◌, ◌^◌, Bool, true, false, ◌&&◌, ◌||◌, ◌==◌, not, List, [], ◌∷◌, ◌++◌, length, Option, Some, None, append-nil, append_assoc, inl, inr, arith, suc, get_or, Ok, Err, Result, nat_lt, unwrap_or}
+use Rattle.std.proofs.Common.{rules as std_rules, ◌≡◌, refl, sym, ap, ◌∙◌, subst, ℕ, ◌<◌, ◌^◌, Bool, true, false, ◌&&◌, ◌||◌, ◌==◌, not, List, [], ◌∷◌, ◌++◌, length, Option, Some, None, append-nil, append_assoc, inl, inr, arith, suc, get_or, Ok, Err, Result, nat_lt}
 use Rattle.std.proofs.lemmas.Bool.{cases_Bool, eqb-true, lt-ltb, and_from as both, and_right as and_false, false_from_ne_true as refuted, not-true as not_true, or_left}
 use Rattle.std.proofs.lemmas.{Bool.Decides.nat_tests, List.Folds.list_all-append}
 use Rattle.std.proofs.lemmas.{Fmt.decimal_is_IsNumeral, Fmt.decimal_nonempty, Fmt.first_decimal, Fmt.decimal_digit, List.Sums.AllPass-from_list_all}
