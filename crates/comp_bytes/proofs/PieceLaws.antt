@@ -64,35 +64,21 @@ module _ (contents : List ℕ) where
       → (whole (vector_at top_export_at contents) >>= λ es. Some (exports es)) ≡ Some p
   exports_out x e = search std_rules
 
+-- which of three was chosen, read in two ways
+by_id : {A B : Type 0} (a b c : Bool) {x y z : Option A} {x' y' z' : Option B} {p : A} {q : B} → (x ≡ Some p → x' ≡ Some q) → (y ≡ Some p → y' ≡ Some q) → (z ≡ Some p → z' ≡ Some q)
+    → cond a x (cond b y (cond c z None)) ≡ Some p → cond a x' (cond b y' (cond c z' None)) ≡ Some q
+by_id true b c f g h e = f e
+by_id false true c f g h e = g e
+by_id false false true f g h e = h e
+by_id false false false f g h e = absurd cc
+
 piece_into : (id : ℕ) (contents : List ℕ) (p : Piece) → piece_of id contents ≡ Some p → section_of id contents ≡ Some (raw_piece p)
 unfolding piece_of section_of
-piece_into id contents p = by_id (eqb id 0) (eqb id 7) (eqb id 0x0b)
-  where
-    by_id : (a b c : Bool)
-        → cond a (name_at contents >>= λ name. Some (custom name.0 name.1)) (cond b (whole (vector_at part_type_at contents) >>= λ ps. Some (types ps))
-        (cond c (whole (vector_at top_export_at contents) >>= λ es. Some (exports es)) None)) ≡ Some p
-        → cond a (name_at contents >>= λ name. Some (Section.custom name.0 name.1))
-        (cond b (whole (vector_at type_at contents) >>= λ ts. Some (Section.types ts)) (cond c (whole (vector_at top_export_at contents) >>= λ es. Some (Section.exports es)) None)) ≡ Some
-        (raw_piece p)
-    by_id true b c e = custom_into contents p e
-    by_id false true c e = types_section_into contents p e
-    by_id false false true e = exports_into contents p e
-    by_id false false false e = absurd cc
+piece_into id contents p = by_id (eqb id 0) (eqb id 7) (eqb id 0x0b) (custom_into contents p) (types_section_into contents p) (exports_into contents p)
 
 piece_out : (id : ℕ) (contents : List ℕ) (p : Piece) → section_of id contents ≡ Some (raw_piece p) → piece_of id contents ≡ Some p
 unfolding piece_of section_of
-piece_out id contents p = by_id (eqb id 0) (eqb id 7) (eqb id 0x0b)
-  where
-    by_id : (a b c : Bool)
-        → cond a (name_at contents >>= λ name. Some (Section.custom name.0 name.1))
-        (cond b (whole (vector_at type_at contents) >>= λ ts. Some (Section.types ts)) (cond c (whole (vector_at top_export_at contents) >>= λ es. Some (Section.exports es)) None)) ≡ Some
-        (raw_piece p)
-        → cond a (name_at contents >>= λ name. Some (custom name.0 name.1)) (cond b (whole (vector_at part_type_at contents) >>= λ ps. Some (types ps))
-        (cond c (whole (vector_at top_export_at contents) >>= λ es. Some (exports es)) None)) ≡ Some p
-    by_id true b c e = custom_out contents p e
-    by_id false true c e = types_section_out contents p e
-    by_id false false true e = exports_out contents p e
-    by_id false false false e = absurd cc
+piece_out id contents p = by_id (eqb id 0) (eqb id 7) (eqb id 0x0b) (custom_out contents p) (types_section_out contents p) (exports_out contents p)
 
 -- ---- components
 
