@@ -207,7 +207,8 @@ module _ (emits_docs : Bool) where
       let i = alias_body_reads ty (right_of (is_label name) _ h) (semicolon_call f) in
       relist (
         _,
-        line_begins (Keyword (codes "type")) refl (word_call (Key WordKey.Type_) by_keyword refl refl (λ level. refl) (space_before (id_call name (by_type {kind = alias_kind ty}) (left_of _ _ h) (λ level. refl) (equals_call i.1)))),
+        line_begins (Keyword (codes "type")) refl (word_call (Key WordKey.Type_) by_keyword refl refl (λ level. refl)
+            (space_before (id_call name (by_type {kind = alias_kind ty}) (left_of _ _ h) (λ level. refl) (equals_call i.1)))),
         ReadsDeclared.alias (id_is name) i.2,
       ) (simp append_assoc)
   declared_reads (ResourceOf name members) h more ts f = resource_reads name members (left_of _ _ h) (right_of (is_label name) _ h) more ts f

@@ -46,8 +46,8 @@ identifier_version : (b : ℕ) → (is_identifier_byte b || (b == 46)) ≡ true 
 identifier_version b h = or_left _ _ (or_left _ _ h)
 
 -- what the bytes of identifiers and the dots between them pass
-identifiers_pass : (Q : ℕ → Bool) (P : List ℕ → Bool) → ((b : ℕ) → (is_identifier_byte b || (b == 46)) ≡ true → Q b ≡ true) → ((part : List ℕ) → P part ≡ true → list_all is_identifier_byte part ≡ true)
-    → (text : List ℕ) → list_all P (parts text) ≡ true → list_all Q text ≡ true
+identifiers_pass : (Q : ℕ → Bool) (P : List ℕ → Bool) → ((b : ℕ) → (is_identifier_byte b || (b == 46)) ≡ true → Q b ≡ true)
+    → ((part : List ℕ) → P part ≡ true → list_all is_identifier_byte part ≡ true) → (text : List ℕ) → list_all P (parts text) ≡ true → list_all Q text ≡ true
 identifiers_pass Q P on_byte on_part text h = weaker_all _ Q on_byte text (parts_pass is_identifier_byte 46 text (weaker_all P _ on_part (parts text) h))
 
 build_part : (part : List ℕ) → is_build_identifier part ≡ true → list_all is_identifier_byte part ≡ true
