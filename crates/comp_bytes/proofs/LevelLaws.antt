@@ -16,11 +16,8 @@ use Rattle.comp_bytes.specs.declared.forms.ComponentTypeRef.TheVariants as refs
 
 free_is : (ds : List Declaration) → imports_nothing (from_list ds) ≡ import_free ds
 free_is [] = refl
-free_is (Declaration.defined d ∷ ds) = free_is ds
-free_is (Declaration.function f ∷ ds) = free_is ds
-free_is (Declaration.alias_of a ∷ ds) = free_is ds
 free_is (Declaration.imported name described ∷ ds) = refl
-free_is (Declaration.exported name described ∷ ds) = free_is ds
+free_is (_ ∷ ds) = free_is ds
 
 flat_into : (ds : List Declaration) (text : List ℕ) → Sequence IsDeclaration ds text → AreDeclarations (from_list ds) text
 flat_into [] text s = s

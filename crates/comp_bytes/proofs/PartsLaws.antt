@@ -100,8 +100,7 @@ sections_behind before p g = sections_of_parts-push (parts_of before) p ∙ ap (
 pub top_slots-append : (ps qs : List Part) → top_slots (ps ++ qs) ≡ top_slots ps + top_slots qs
 top_slots-append [] qs = omega arith
 top_slots-append (Part.top_type t ∷ ps) qs = omega (arith, top_slots-append ps qs)
-top_slots-append (Part.top_export e ∷ ps) qs = omega (arith, top_slots-append ps qs)
-top_slots-append (Part.custom name contents ∷ ps) qs = omega (arith, top_slots-append ps qs)
+top_slots-append (_ ∷ ps) qs = omega (arith, top_slots-append ps qs)
 
 pub top_slots-push : (ps : List Part) (p : Part) → top_slots (ps ++ p ∷ []) ≡ top_slots ps + top_slots (p ∷ [])
 top_slots-push ps p = top_slots-append ps (p ∷ [])

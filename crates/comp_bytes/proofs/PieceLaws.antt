@@ -108,11 +108,7 @@ pieces_out (suc fuel) (b ∷ bytes) (p ∷ ps) e =
     let same : ◌≡◌ {A = List Section} (first.0 ∷ others.0) (raw_piece p ∷ map raw_piece ps) = some_is (first.0 ∷ others.0) (raw_piece p ∷ map raw_piece ps) others.2 in
     let one : first.0 ≡ raw_piece p = cc in
     let more : others.0 ≡ map raw_piece ps = cc in
-    rw (
-      f.1,
-      piece_out f.0.0.0 f.0.0.1 p (first.1 ∙ ap (λ (s : Section). Some s) one),
-      pieces_out fuel f.0.1 ps (others.1 ∙ ap (λ (ss : List Section). Some ss) more),
-    ) refl
+    rw (f.1, piece_out f.0.0.0 f.0.0.1 p (first.1 ∙ ap (λ (s : Section). Some s) one), pieces_out fuel f.0.1 ps (others.1 ∙ ap (λ (ss : List Section). Some ss) more)) refl
 
 -- ---- any bound that is large enough
 
