@@ -27,13 +27,8 @@ module _ {X : Type 0} where
   attributed [] text n part old tag named counted new r some small e t a c b = absurd (omega arith)
   attributed (first ∷ others) text n part old tag named counted new r some small e t a c b =
       let bytes : u32_bytes (length (first ∷ others)) ≡ n ∷ [] = ap u32_bytes (sym e) ∙ bytes_1 n small in
-      let fits : length (first ∷ others) < 2 ^ 32 = omega arith in
-      let count : Appended (IsU32 (length (first ∷ others))) (u32_bytes (length (first ∷ others))) named counted = record {
-        items = c ∙ ap (λ (l : List ℕ). named ++ l) (sym bytes);
-        spelled = spells_u32 (length (first ∷ others)) fits;
-      } in
-      let vector = joined (IsU32 (length (first ∷ others))) (Sequence Attribute (first ∷ others)) (u32_bytes (length (first ∷ others))) (flat_map attribute_bytes (first ∷ others)) part part named
-      counted new r count b (λ h. h) in
-      let whole = joined (Name text) (Vector Attribute (first ∷ others)) (name_bytes text) (vector_bytes attribute_bytes (first ∷ others)) part (fits_length text && part) tag named new r a vector
-      (second_fails (fits_length text) part) in
-      tagged 2 (Joined (Name text) (Vector Attribute (first ∷ others))) (name_bytes text ++ vector_bytes attribute_bytes (first ∷ others)) (fits_length text && part) old tag new r t whole
+      let count : Appended (IsU32 (length (first ∷ others))) (u32_bytes (length (first ∷ others))) named counted =
+      record { items = c ∙ ap (λ (l : List ℕ). named ++ l) (sym bytes); spelled = spells_u32 (length (first ∷ others)) (omega arith) } in
+      let vector = joined (IsU32 (length (first ∷ others))) (Sequence Attribute (first ∷ others)) _ _ part part named counted new r count b (λ h. h) in
+      let whole = joined (Name text) (Vector Attribute (first ∷ others)) _ _ part (fits_length text && part) tag named new r a vector (second_fails (fits_length text) part) in
+      tagged 2 (Joined (Name text) (Vector Attribute (first ∷ others))) _ (fits_length text && part) old tag new r t whole

@@ -33,8 +33,7 @@ both_ends x y p = search std_rules
 
 sections_of_parts-push : (ps : List Part) (p : Part) → sections_of_parts (ps ++ p ∷ []) ≡ put_behind (sections_of_parts ps) p
 sections_of_parts-push [] (Part.top_type t) = refl
-sections_of_parts-push [] (Part.top_export e) = refl
-sections_of_parts-push [] (Part.custom name contents) = refl
+sections_of_parts-push [] _ = refl
 sections_of_parts-push (q ∷ ps) p = ap (with_part q) (sections_of_parts-push ps p) ∙ both_ends q (sections_of_parts ps) p
 
 -- the parts of sections with a part in front, or behind
@@ -50,8 +49,7 @@ parts_of-join x y = search (std_rules, map-append, append-nil)
 
 parts_of-put_behind : (sections : List Section) (p : Part) → parts_of (put_behind sections p) ≡ parts_of sections ++ p ∷ []
 parts_of-put_behind [] (Part.top_type t) = refl
-parts_of-put_behind [] (Part.top_export e) = refl
-parts_of-put_behind [] (Part.custom name contents) = refl
+parts_of-put_behind [] _ = refl
 parts_of-put_behind (s ∷ []) p = parts_of-join s p
 parts_of-put_behind (s ∷ t ∷ rest) p = ap (λ (xs : List Part). parts_in s ++ xs) (parts_of-put_behind (t ∷ rest) p) ∙ sym (append_assoc (parts_in s) (parts_of (t ∷ rest)) (p ∷ []))
 
