@@ -1,5 +1,5 @@
 -- A component under construction: what its bytes say, and one more part.
-use Rattle.std.proofs.Common.{rules as std_rules, ◌≡◌, ℕ, ◌+◌, ◌^◌, ◌<◌, Bool, true, false, List, [], ◌∷◌, ◌++◌, length, drop, Some, refl, sym, ap, subst, ◌∙◌, arith, append_assoc, length-append, length-drop}
+use Rattle.std.proofs.Common.{rules as std_rules, ◌≡◌, ℕ, ◌+◌, ◌^◌, ◌<◌, Bool, true, false, List, [], ◌∷◌, ◌++◌, length, drop, refl, sym, ap, ◌∙◌, arith, append_assoc, length-append, length-drop}
 use Rattle.std.proofs.lemmas.{Bool.false≢true, List.append-nil, List.Concat.flat_map-append}
 use Rattle.std.specs.List.{flat_map}
 use Rattle.comp_bytes.specs.{Form.Spellings, Form.Sequence, Form.Vector, Form.Name, Parts.Part, Parts.sections_of_parts, Parts.top_slots, Parts.parts_of}
@@ -104,12 +104,7 @@ next_of : (before sections : List Section) (g : Group) (p : Part) (done items : 
 next_of before sections g p done items count exports types grouped put ended begins spelled held slots =
     let b = grouped_behind before (sections ++ group_sections g) p grouped put in
     let all : types ≡ top_slots (parts_of (sections ++ group_sections g)) = omega (arith, slots, ap top_slots b.shows, top_slots-push (parts_of before) p) in
-    record {
-      sections = sections;
-      group = g;
-      built = record { grouped = b.grouped; ended = ended; begins = begins; spelled = spelled; held = held; slots = all };
-      shows = b.shows;
-    }
+    record { sections = sections; group = g; built = record { grouped = b.grouped; ended = ended; begins = begins; spelled = spelled; held = held; slots = all }; shows = b.shows }
 
 -- a type that joins the open section
 join_type_of : (sections : List Section) (g : Group) (done items : List ℕ) (count : ℕ) (exports : Bool) (types : ℕ) (t : TopType) → exports ≡ false
@@ -228,7 +223,8 @@ module _ (done items : List ℕ) (count : ℕ) (exports : Bool) (types : ℕ) (h
         let joined : flat_map section_bytes (all_sections ++ last ∷ []) ≡ flat_map section_bytes all_sections ++ text =
         flat_map-append section_bytes all_sections (last ∷ []) ∙ ap (λ (l : List ℕ). flat_map section_bytes all_sections ++ l) (append-nil text) in
         grown _ _ _ _ _ _ _ _ _ _
-        (next_of all_sections (all_sections ++ last ∷ []) (Group.of_types []) (Part.custom name contents) _ _ _ _ _ h.grouped (custom_apart name contents ∙ sym (append-nil (all_sections ++ last ∷ [])))
+        (next_of all_sections (all_sections ++ last ∷ []) (Group.of_types []) (Part.custom name contents) _ _ _ _ _ h.grouped
+        (custom_apart name contents ∙ sym (append-nil (all_sections ++ last ∷ [])))
         (λ empty. Ended-custom all_sections name contents) (ap (λ (l : List ℕ). begun (l ++ text)) closed_begins ∙ ap (λ (l : List ℕ). preamble ++ l) (sym joined))
         (rw joined (sequence_push IsSection all_sections last (flat_map section_bytes all_sections) text (closed_spelled few small) spelled))
         (refl, record { counted = refl; spelled = refl; written = refl }) (omega (arith, h.slots)))

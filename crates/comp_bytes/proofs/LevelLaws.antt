@@ -1,9 +1,9 @@
 -- Entries and types at the top are read as they are spelled, and are the raw forms that they stand for.
-use Rattle.std.proofs.Common.{rules as std_rules, ◌≡◌, refl, sym, ap, subst, ◌∙◌, ℕ, suc, arith, cond, eqb, List, [], ◌∷◌, ◌++◌, length, Some, None, inl, inr, append_assoc}
+use Rattle.std.proofs.Common.{rules as std_rules, ◌≡◌, refl, sym, ap, subst, ◌∙◌, ℕ, suc, arith, cond, eqb, List, [], ◌∷◌, ◌++◌, length, Some, None, append_assoc}
 use Rattle.std.proofs.lemmas.{Bool.ne_eqb, Bool.eqb-true, List.append-nil}
-use Rattle.comp_bytes.specs.{Raw.ExternName, Raw.Declaration, Raw.from_list, Raw.declaration_count, Raw.imports_nothing, Number.IsU32}
+use Rattle.comp_bytes.specs.{Raw.ExternName, Raw.Declaration, Raw.from_list, Raw.declaration_count, Raw.imports_nothing}
 use Rattle.comp_bytes.specs.Form.{Tagged, Joined, Sequence, Vector}
-use Rattle.comp_bytes.specs.{Spelling.IsDeclaration, Spelling.ComponentTypeOf, Spelling.InstanceTypeOf, Spelling.AreDeclarations, Laws.IsReadBy, Laws.Taken}
+use Rattle.comp_bytes.specs.{Spelling.IsDeclaration, Spelling.ComponentTypeOf, Spelling.InstanceTypeOf, Spelling.AreDeclarations, Laws.IsReadBy}
 use Rattle.comp_bytes.specs.Reading.{Reader, ◌>>=◌, u32_at, as_at, pair_at, tag_at, tagged_at, choose, vector_at, declaration_at}
 use Rattle.comp_bytes.specs.Levels.{Entry, plain, holds, PartType, wraps, shows, import_free, Held, IsEntry, IsWrapper, IsPartType, declarations_of, raw_part, held_at, entry_at, world_export, world_export_at, wrapper_at, part_behind_at, part_type_at}
 use Rattle.comp_bytes.proofs.{Readers.bind_some, Readers.when_some, HeldLaws.Sequence-from_list as flat_out, HeldLaws.declaration_count-from_list as count_is}

@@ -1,10 +1,10 @@
 -- A name of an import or an export, from what the steps that append it do.
-use Rattle.std.proofs.Common.{rules as std_rules, ◌≡◌, ℕ, ◌^◌, ◌<◌, ◌≤◌, Bool, ◌&&◌, List, [], ◌∷◌, ◌++◌, length, Result, sym, ap, ◌∙◌, arith}
+use Rattle.std.proofs.Common.{rules as std_rules, ◌≡◌, ℕ, ◌<◌, ◌≤◌, Bool, ◌&&◌, List, [], ◌∷◌, ◌++◌, length, Result, sym, ap, ◌∙◌, arith}
 use Rattle.std.specs.List.{flat_map}
 use Rattle.wit_model.specs.declared.error.Error.{Error}
 use Rattle.comp_bytes.specs.{Form.Joined, Form.Name, Form.Sequence, Form.Vector, Spelling.attribute, Spelling.attributes, Spelling.Attribute, Spelling.NameWith}
 use Rattle.comp_bytes.specs.{Number.IsU32, Fits.fits_length, Fits.fits_given, Fits.fits_attributes, Appending.Appended, Appending.Appends}
-use Rattle.comp_bytes.specs.{Raw.ExternName, Writing.u32_bytes, Writing.name_bytes, Writing.vector_bytes, Writing.attribute_bytes, Writing.attributed_bytes}
+use Rattle.comp_bytes.specs.{Raw.ExternName, Writing.u32_bytes, Writing.name_bytes, Writing.attribute_bytes, Writing.attributed_bytes}
 use Rattle.comp_bytes.proofs.{Appends.second_fails, Appends.joined, Appends.tagged, Writes.bytes_1, Writes.spells_u32, Sequences.both, Sequences.behind}
 
 pub length-attributes : (name : ExternName) → length (attributes name) ≤ 3

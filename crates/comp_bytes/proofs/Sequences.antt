@@ -1,5 +1,5 @@
 -- One item behind the items that a loop has appended.
-use Rattle.std.proofs.Common.{rules as std_rules, ◌≡◌, ℕ, ◌+◌, ◌<◌, Bool, false, List, [], ◌∷◌, ◌++◌, length, get_or, take, map, Result, Ok, Err, refl, sym, ap, subst, ◌∙◌, arith, append_assoc, add-one}
+use Rattle.std.proofs.Common.{rules as std_rules, ◌≡◌, ℕ, ◌+◌, ◌<◌, Bool, false, List, [], ◌∷◌, ◌++◌, length, get_or, take, map, Result, Ok, Err, sym, ap, subst, ◌∙◌, arith, append_assoc, add-one}
 use Rattle.std.proofs.Math.Seq.{take-suc}
 use Rattle.std.proofs.{Math.ListN.get_or-map, lemmas.List.append-nil, lemmas.List.Concat.flat_map-append, lemmas.List.length-map, lemmas.List.Folds.list_all_at as list_all-fails}
 use Rattle.std.specs.List.{flat_map, list_all}

@@ -1,5 +1,7 @@
 -- Tests of every byte of a text. Serves TokenFacts, VersionFacts.
 pub mod ByteTests
+-- The tokens of a text, computed: what the worked examples need. Serves no function, only DeclaredExamples, ReadingExamples, TextExamples.
+pub mod Scanned
 -- Worked examples: the tokens and the tree of a text with every kind of declared type but a record. Serves no function.
 mod DeclaredExamples
 -- The text that calls append, from the front on. Serves FileReads, PathReads, PrefixReads, Printing and 2 more.
@@ -15,7 +17,6 @@ pub mod PrefixReads
 -- A list of tokens begins with at most one type, where what follows doesn't go on with it. Serves DeclaredReads, GrammarUnique, ListsUnique, PrefixUnique and 1 more.
 pub mod TypeTokens
 -- What is printed of a signature is read as it: lists with commas between, parameters, results. Serves DeclaredReads, FileReads, MemberReads, PathReads.
-pub mod Scanned
 pub mod SignatureReads
 -- What is printed of a declared type is read as it. Serves FileReads, MemberReads.
 pub mod DeclaredReads

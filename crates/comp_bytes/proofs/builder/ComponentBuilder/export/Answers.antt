@@ -1,4 +1,4 @@
-use Rattle.std.proofs.Common.{◌≡◌, false, ◌<◌, refl, arith}
+use Rattle.std.proofs.Common.{refl, arith}
 use Rattle.comp_bytes.specs.Parts.{Part, plain_export}
 use Rattle.comp_bytes.proofs.BuiltLaws.{join_export_at, export_apart, start_export}
 use Rattle.comp_bytes.proofs.BuiltSizes.{size_passed, types_refused, count_refused, start_refused, name_refused}

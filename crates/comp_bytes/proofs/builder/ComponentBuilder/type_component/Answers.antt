@@ -1,4 +1,4 @@
-use Rattle.std.proofs.Common.{◌≡◌, true, ◌<◌, refl, arith}
+use Rattle.std.proofs.Common.{refl, arith}
 use Rattle.comp_bytes.specs.{Raw.TopType, Parts.Part}
 use Rattle.comp_bytes.proofs.BuiltLaws.{join_type_at, type_apart, start_type}
 use Rattle.comp_bytes.proofs.BuiltSizes.{size_passed, types_refused, count_refused, start_refused}

@@ -1,6 +1,5 @@
-use Rattle.std.proofs.Common.{◌∷◌, ◌<◌, ◌^◌, arith}
-use Rattle.comp_bytes.specs.{Raw.Declarations, Held.nested_in, Writing.body_bytes}
-use Rattle.comp_bytes.proofs.HeldLaws.{Added, add, component_type_held}
+use Rattle.std.proofs.Common.{◌<◌, ◌^◌, arith}
+use Rattle.comp_bytes.proofs.HeldLaws.{add, component_type_held}
 use Rattle.comp_bytes.proofs.component.ComponentType.component.Goals as goal
 
 pub invariant_of-self-2 : goal.invariant_of-self-2
