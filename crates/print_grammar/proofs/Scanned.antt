@@ -1,7 +1,8 @@
--- The tokens of a text, computed: what the worked examples need.
-use Rattle.std.proofs.Common.{rules as std_rules, ◌≡◌, List, [], ◌∷◌, ℕ, zero, suc, Option, Some, None, refl}
+-- What the worked examples share: the tokens of a text, computed, and small trees.
+use Rattle.std.proofs.Common.{rules as std_rules, ◌≡◌, List, [], ◌∷◌, ℕ, zero, suc, Option, Some, None, false, refl}
 use Rattle.std.specs.Option.{option_map}
 use Rattle.print_grammar.specs.Token.{Token, Tokens, Front, front_of_text, Tokens.no_tokens, Tokens.skip, Tokens.token}
+use Rattle.print_grammar.specs.Tree.{Prefix, SignatureTree, Gates.Ungated}
 use Rattle.print_grammar.specs.Token.Front.{Ended, Skipped, Found, Unknown}
 
 -- the tokens from what stands at the front of a text, by those of what follows it
@@ -29,3 +30,11 @@ scanned (suc n) text ts e = go (scanned n) (front_of_text text) refl e
     go next (Skipped rest) p q = skip p (next rest ts q)
     go next (Found t rest) p q = let m = behind t (scan n rest) ts q in rw m.2 (token p (next rest m.0 m.1))
     go next Unknown p q = absurd cc
+
+-- nothing in front of an item
+abbrev pub bare : Prefix
+bare = record { docs = []; gates = Ungated; external_id = None }
+
+-- a function without parameters and result
+abbrev pub no_parameters : SignatureTree
+no_parameters = record { is_async = false; params = []; result = None }
