@@ -15,7 +15,7 @@ use Rattle.print_output.specs.OutputCall.{OutputCall, is_one_line}
 use Rattle.print_output.specs.OutputCall.OutputCall.{Keyword, Ty, Param, Case, Str, Semicolon, IndentStart, IndentEnd, Newline}
 use Rattle.print_output.specs.declared.type_kind.TypeKind.{TypeKind}
 use Rattle.print_grammar.proofs.{TokenFacts.id_token, TokenFacts.id_is, PrefixReads.docs_read, PrefixReads.prefix_reads}
-use Rattle.print_grammar.proofs.Printing.{Follows, Printed, Ended, relist, word_call, id_call, line_begins, semicolon_call, greater_call, comma_call, open_call, equals_call, paren_call, comma, space, line_feed, open_brace, close_brace}
+use Rattle.print_grammar.proofs.Printing.{Follows, Printed, Ended, relist, word_call, id_call, line_begins, semicolon_call, greater_call, comma_call, open_call, equals_call, paren_call, space, line_feed, mark}
 use Rattle.print_grammar.proofs.Printing.Prints.{by_keyword, by_type, by_param, by_case, by_str}
 use Rattle.print_grammar.proofs.TypeTokens.{type_reads, opened, length_call, word_reads}
 use Rattle.print_grammar.proofs.SignatureReads.{colon_call, space_before, arguments_reads, arguments_end, signature_reads}
@@ -43,15 +43,15 @@ alias_body_reads ty h e = type_reads ty h e
 
 -- a block's end
 pub end_call : {more : List OutputCall} {ts : List Token} → Follows true more ts → Follows true (IndentEnd ∷ more) (Punctuation CloseBrace ∷ ts)
-end_call f = line_begins IndentEnd refl (record { at = λ level. close_brace (line_feed (f.at (level - 1))) })
+end_call f = line_begins IndentEnd refl (record { at = λ level. mark CloseBrace refl (line_feed (f.at (level - 1))) })
 
 -- a block's start
 pub start_call : {more : List OutputCall} {ts : List Token} → Follows true more ts → Follows false (IndentStart ∷ more) (Punctuation OpenBrace ∷ ts)
-start_call f = record { at = λ level. space (open_brace (line_feed (f.at (level + 1)))) }
+start_call f = record { at = λ level. space (mark OpenBrace refl (line_feed (f.at (level + 1)))) }
 
 -- an entry's end: a comma and a line's end
 comma_line : {more : List OutputCall} {ts : List Token} → Follows true more ts → Ended (Str (codes ",") ∷ Newline ∷ more) (Punctuation Comma ∷ ts)
-comma_line f = record { follows = record { at = λ level. comma (line_feed (f.at level)) }; word = λ level. refl }
+comma_line f = record { follows = record { at = λ level. mark Comma refl (line_feed (f.at level)) }; word = λ level. refl }
 
 -- a word, a name and a block
 pub block_reads : {word : List ℕ} (k : WordKey) (name : List ℕ) (of_kind : TypeKind) (body more : List OutputCall) {P Q : List Token → Type 0} → begins_with_letter word ≡ true

@@ -13,7 +13,7 @@ use Rattle.print_grammar.specs.{Tree.Gates.Ungated, Tree.Gates.Since, Tree.Gates
 use Rattle.print_grammar.specs.Grammar.{ReadsPrefix, ReadsExternalId, ReadsGates, ReadsDeprecated, ReadsVersionArgument}
 use Rattle.print_grammar.proofs.{TokenFacts.EndsToken, TokenFacts.ends_by, TokenFacts.token_at, TokenFacts.word_at, TokenFacts.id_is, VersionFacts.version_at}
 use Rattle.print_grammar.proofs.{Printing.Prints.by_str, Printing.Prints.by_keyword, TextOf.text_of}
-use Rattle.print_grammar.proofs.Printing.{Follows, Printed, EndsWord, relist, word_call, id_call, line_begins, open_call, equals_call, space, open_paren, close_paren, equals, at_sign, line_feed}
+use Rattle.print_grammar.proofs.Printing.{Follows, Printed, EndsWord, relist, word_call, id_call, line_begins, open_call, equals_call, space, line_feed, mark}
 use Rattle.base_lemmas.proofs.Bools.{left_of, right_of}
 use Rattle.wit_model.specs.{Names.is_label, Names.is_version_text, Names.begins_with_letter, Rules.passes}
 use Rattle.print_output.specs.{OutputCall.OutputCall, OutputCall.is_one_line, Render.doc_text}
@@ -157,7 +157,7 @@ docs_read true (line ∷ docs) h {more} f =
 attribute_call : (word : List ℕ) {more : List OutputCall} {ts : List Token} → begins_with_letter word ≡ true → spelled word ≡ Some (Word word) → EndsWord more → Follows false more ts
     → Follows true (Keyword (64 ∷ word) ∷ more) (Punctuation At ∷ Word word ∷ ts)
 attribute_call word {more} letter s ends f =
-    line_begins (Keyword (64 ∷ word)) refl (record { at = λ level. at_sign (word_at word (text_of false level more) (Word word) letter s (ends level) (f.at level)) })
+    line_begins (Keyword (64 ∷ word)) refl (record { at = λ level. mark At refl (word_at word (text_of false level more) (Word word) letter s (ends level) (f.at level)) })
 
 -- a version in parentheses, and a line's end
 argument_call : (version : List ℕ) {more : List OutputCall} {ts : List Token} → is_version_text version ≡ true → Follows true more ts
@@ -165,8 +165,8 @@ argument_call : (version : List ℕ) {more : List OutputCall} {ts : List Token} 
     (Punctuation OpenParen ∷ Word (codes "version") ∷ Punctuation Equals ∷ VersionText version ∷ Punctuation CloseParen ∷ ts)
 argument_call version {more} h f = record {
   at = λ level.
-      open_paren (word_at (codes "version") (32 ∷ 61 ∷ 32 ∷ (version ++ (41 ∷ 10 ∷ text_of true level more))) (Word (codes "version")) refl refl refl
-      (space (equals (space (version_at version (41 ∷ 10 ∷ text_of true level more) h refl (close_paren (line_feed (f.at level))))))));
+      mark OpenParen refl (word_at (codes "version") (32 ∷ 61 ∷ 32 ∷ (version ++ (41 ∷ 10 ∷ text_of true level more))) (Word (codes "version")) refl refl refl
+      (space (mark Equals refl (space (version_at version (41 ∷ 10 ∷ text_of true level more) h refl (mark CloseParen refl (line_feed (f.at level))))))));
 }
 
 deprecated_reads : (deprecated : Option (List ℕ)) → passes is_version_text deprecated ≡ true → {more : List OutputCall} {ts : List Token} → Follows true more ts
@@ -184,7 +184,7 @@ gates_read (Since version deprecated) h f =
     (_, attribute_call (codes "since") refl refl (λ level. refl) (argument_call version (left_of _ _ h) d.1), ReadsGates.since refl (ReadsVersionArgument.version_argument refl) d.2)
 gates_read (Unstable feature deprecated) h {more} f =
     let d = deprecated_reads deprecated (right_of (is_label feature) _ h) f in
-    let close : Follows false (Str (codes ")") ∷ Newline ∷ (deprecated_calls deprecated ++ more)) (Punctuation CloseParen ∷ d.0) = record { at = λ level. close_paren (line_feed (d.1.at level)) } in
+    let close : Follows false (Str (codes ")") ∷ Newline ∷ (deprecated_calls deprecated ++ more)) (Punctuation CloseParen ∷ d.0) = record { at = λ level. mark CloseParen refl (line_feed (d.1.at level)) } in
     let named = equals_call (id_call feature (by_str {text = escaped feature}) (left_of _ _ h) (λ level. refl) close) in
     let word = word_call (Word (codes "feature")) (by_keyword {text = codes "feature"}) refl refl (λ level. refl) named in
     (_, attribute_call (codes "unstable") refl refl (λ level. refl) (open_call word), ReadsGates.unstable refl refl (id_is feature) d.2)
@@ -199,8 +199,8 @@ string_call : (cs : List ℕ) {more : List OutputCall} {ts : List Token} → lis
     → Follows false (Str (codes "(\"") ∷ ((map character_call cs ++ (Str (codes "\")") ∷ Newline ∷ [])) ++ more)) (Punctuation OpenParen ∷ Quoted cs ∷ Punctuation CloseParen ∷ ts)
 string_call cs {more} {ts} h f = record {
   at = λ level.
-      open_paren (subst (λ x. Tokens (34 ∷ x) (Quoted cs ∷ Punctuation CloseParen ∷ ts)) (sym (text level))
-      (quoted_at cs (41 ∷ 10 ∷ text_of true level more) h (close_paren (line_feed (f.at level)))));
+      mark OpenParen refl (subst (λ x. Tokens (34 ∷ x) (Quoted cs ∷ Punctuation CloseParen ∷ ts)) (sym (text level))
+      (quoted_at cs (41 ∷ 10 ∷ text_of true level more) h (mark CloseParen refl (line_feed (f.at level)))));
 }
   where
     text : (level : ℕ) → text_of false level ((map character_call cs ++ (Str (codes "\")") ∷ Newline ∷ [])) ++ more) ≡ body cs ++ (34 ∷ 41 ∷ 10 ∷ text_of true level more)

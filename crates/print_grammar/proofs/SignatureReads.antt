@@ -9,12 +9,12 @@ use Rattle.print_grammar.specs.Grammar.Listed.{last, next}
 use Rattle.print_output.specs.{OutputCall.OutputCall, OutputCall.OutputCall.Str}
 use Rattle.print_grammar.proofs.{TokenFacts.id_token, TokenFacts.id_is, Printing.Prints.by_keyword, Printing.Prints.by_param, TypeTokens.type_reads}
 use Rattle.print_grammar.proofs.TextOf.{text_of}
-use Rattle.print_grammar.proofs.Printing.{Follows, Printed, EndsWord, Ended, relist, word_call, id_call, comma_call, open_call, paren_call, colon, space, arrow}
+use Rattle.print_grammar.proofs.Printing.{Follows, Printed, EndsWord, Ended, relist, word_call, id_call, comma_call, open_call, paren_call, space, arrow, mark}
 use Rattle.base_lemmas.proofs.Bools.{left_of, right_of}
 
 -- a colon and a space
 pub colon_call : {more : List OutputCall} {ts : List Token} → Follows false more ts → Follows false (Str (codes ": ") ∷ more) (Punctuation Colon ∷ ts)
-colon_call f = record { at = λ level. colon (space (f.at level)) }
+colon_call f = record { at = λ level. mark Colon refl (space (f.at level)) }
 
 -- a space
 pub space_before : {more : List OutputCall} {ts : List Token} → Follows false more ts → Follows false (space_call ∷ more) ts

@@ -16,7 +16,7 @@ use Rattle.print_output.specs.OutputCall.OutputCall.{PushStr, Str}
 use Rattle.print_grammar.proofs.TokenFacts.{word_at, mark_at, id_token, id_is}
 use Rattle.print_grammar.proofs.VersionFacts.{number_at, ends_version}
 use Rattle.print_grammar.proofs.{TextOf.text_of, Printing.Prints.by_type, Printing.Prints.by_push, Printing.Prints.by_start, Printing.Prints.by_end}
-use Rattle.print_grammar.proofs.Printing.{Follows, Printed, Prints, Ended, relist, word_call, id_call, call_is, less_call, greater_call, comma_call, no_word, printed_text, comma, less, space}
+use Rattle.print_grammar.proofs.Printing.{Follows, Printed, Prints, Ended, relist, word_call, id_call, call_is, less_call, greater_call, comma_call, no_word, printed_text, space, mark}
 use Rattle.std.specs.Fmt.{decimal}
 use Rattle.base_lemmas.proofs.Bools.{left_of, right_of}
 
@@ -52,7 +52,7 @@ opened k p letter s q f = word_call (Key k) p letter s (no_word q refl _) (less_
 -- the same in one call
 pushed : (word : List ℕ) {text : List ℕ} {more : List OutputCall} {ts : List Token} (k : Keyword) → text ≡ word ++ (60 ∷ []) → begins_with_letter word ≡ true → spelled word ≡ Some (Key k)
     → Follows false more ts → Follows false (PushStr text ∷ more) (Key k ∷ Punctuation Less ∷ ts)
-pushed word {more = more} k t letter s f = call_is by_push (λ level. rw (t, append_assoc) (word_at word (60 ∷ text_of false level more) (Key k) letter s refl (less (f.at level))))
+pushed word {more = more} k t letter s f = call_is by_push (λ level. rw (t, append_assoc) (word_at word (60 ∷ text_of false level more) (Key k) letter s refl (mark Less refl (f.at level))))
 
 -- the length of a list, after a comma
 abbrev pub length_text : ℕ → List ℕ
@@ -61,13 +61,13 @@ length_text n = codes ", " ++ decimal n
 pub length_call : {call end : OutputCall} (n : ℕ) {more : List OutputCall} {ts : List Token} → nat_lt n (2 ^ 64) ≡ true → Prints call (length_text n) → Prints end (62 ∷ [])
     → Ended (end ∷ more) (Punctuation Greater ∷ ts) → Ended (call ∷ end ∷ more) (Punctuation Comma ∷ Digits n ∷ Punctuation Greater ∷ ts)
 length_call {call} {end} n {more} small p q e = record {
-  follows = call_is p (λ level. comma (space (number_at n (text_of false level (end ∷ more)) (ltb-true n (2 ^ 64) small) (ap ends_version (printed_text q level more)) (e.follows.at level))));
+  follows = call_is p (λ level. mark Comma refl (space (number_at n (text_of false level (end ∷ more)) (ltb-true n (2 ^ 64) small) (ap ends_version (printed_text q level more)) (e.follows.at level))));
   word = no_word p refl (end ∷ more);
 }
 
 -- nothing for the first part of a result
 err_call : {more : List OutputCall} {ts : List Token} → Follows false more ts → Follows false (Str (codes "_, ") ∷ more) (Key Keyword.Underscore ∷ Punctuation Comma ∷ ts)
-err_call f = record { at = λ level. mark_at 95 (Key Keyword.Underscore) refl refl refl (λ d more. refl) (comma (space (f.at level))) }
+err_call f = record { at = λ level. mark_at 95 (Key Keyword.Underscore) refl refl refl (λ d more. refl) (mark Comma refl (space (f.at level))) }
 
 mutual
   pub type_reads : (ty : TypeTree) → is_well_type ty ≡ true → {more : List OutputCall} {ts : List Token} → Ended more ts
