@@ -1,6 +1,6 @@
 -- Tests of every byte of a text. Serves TokenFacts, VersionFacts.
 pub mod ByteTests
--- The tokens of a text, computed: what the worked examples need. Serves no function, only DeclaredExamples, ReadingExamples, TextExamples.
+-- What the worked examples share: the tokens of a text, computed, and small trees. Serves no function, only DeclaredExamples, ReadingExamples, TextExamples.
 pub mod Scanned
 -- Worked examples: the tokens and the tree of a text with every kind of declared type but a record. Serves no function.
 mod DeclaredExamples

@@ -184,7 +184,8 @@ gates_read (Since version deprecated) h f =
     (_, attribute_call (codes "since") refl refl (λ level. refl) (argument_call version (left_of _ _ h) d.1), ReadsGates.since refl (ReadsVersionArgument.version_argument refl) d.2)
 gates_read (Unstable feature deprecated) h {more} f =
     let d = deprecated_reads deprecated (right_of (is_label feature) _ h) f in
-    let close : Follows false (Str (codes ")") ∷ Newline ∷ (deprecated_calls deprecated ++ more)) (Punctuation CloseParen ∷ d.0) = record { at = λ level. mark CloseParen refl (line_feed (d.1.at level)) } in
+    let close : Follows false (Str (codes ")") ∷ Newline ∷ (deprecated_calls deprecated ++ more)) (Punctuation CloseParen ∷ d.0) =
+    record { at = λ level. mark CloseParen refl (line_feed (d.1.at level)) } in
     let named = equals_call (id_call feature (by_str {text = escaped feature}) (left_of _ _ h) (λ level. refl) close) in
     let word = word_call (Word (codes "feature")) (by_keyword {text = codes "feature"}) refl refl (λ level. refl) named in
     (_, attribute_call (codes "unstable") refl refl (λ level. refl) (open_call word), ReadsGates.unstable refl refl (id_is feature) d.2)

@@ -5,10 +5,10 @@ use Rattle.wit_model.specs.Names.{is_label, begins_with_letter}
 use Rattle.print_grammar.specs.{Keyword.Keyword, Keyword.Primitive, Keyword.primitive_text, Keyword.escaped, WellNamed.is_well_type, WellNamed.are_well_types}
 use Rattle.print_grammar.specs.Keyword.Primitive.{Bool_}
 use Rattle.print_grammar.specs.{Calls.type_calls, Calls.types_calls, AsRead.type_as_read, AsRead.types_as_read, Tree.TypeTree, Tree.TypeTrees}
-use Rattle.print_grammar.specs.{Tree.TypeTrees.NoTypes, Tree.TypeTrees.AndTypes, Grammar.ReadsType, Grammar.ReadsTypes, Grammar.IsId, Keyword.Keyword.As}
+use Rattle.print_grammar.specs.{Tree.TypeTrees.NoTypes, Tree.TypeTrees.AndTypes, Grammar.ReadsType, Grammar.ReadsTypes, Grammar.IsId}
 use Rattle.print_grammar.specs.{Token.Token, Token.spelled, Token.Mark, Token.Token.Punctuation, Token.Token.Key, Token.Token.Digits}
 use Rattle.print_grammar.specs.Grammar.{ReadsTypes.last_type, ReadsTypes.next_type, ReadsTypes.last_type_with_comma, IsId.plain, IsId.with_percent}
-use Rattle.print_grammar.specs.Token.Mark.{Less, Greater, Comma, OpenParen, CloseParen, CloseBrace, Semi, At, Arrow}
+use Rattle.print_grammar.specs.Token.Mark.{Less, Greater, Comma, CloseParen, CloseBrace, Semi, At}
 use Rattle.print_grammar.specs.Tree.TypeTree.{PrimitiveType, Name, Handle, Own, Borrow, TupleOf, OptionOf, ListOf, FixedListOf, MapOf, Result, ResultOk, ResultErr, ResultOf, Future, FutureOf, Stream, StreamOf}
 use Rattle.print_grammar.specs.Grammar.ReadsType.{primitive, named, named_with_percent, own, borrow, tuple, option, map, list, fixed_list, future, future_of, stream, stream_of, result, result_ok, result_of, result_err}
 use Rattle.print_output.specs.OutputCall.{OutputCall}
@@ -61,7 +61,9 @@ length_text n = codes ", " ++ decimal n
 pub length_call : {call end : OutputCall} (n : ℕ) {more : List OutputCall} {ts : List Token} → nat_lt n (2 ^ 64) ≡ true → Prints call (length_text n) → Prints end (62 ∷ [])
     → Ended (end ∷ more) (Punctuation Greater ∷ ts) → Ended (call ∷ end ∷ more) (Punctuation Comma ∷ Digits n ∷ Punctuation Greater ∷ ts)
 length_call {call} {end} n {more} small p q e = record {
-  follows = call_is p (λ level. mark Comma refl (space (number_at n (text_of false level (end ∷ more)) (ltb-true n (2 ^ 64) small) (ap ends_version (printed_text q level more)) (e.follows.at level))));
+  follows = call_is p (λ level.
+      let behind = number_at n (text_of false level (end ∷ more)) (ltb-true n (2 ^ 64) small) (ap ends_version (printed_text q level more)) (e.follows.at level) in
+      mark Comma refl (space behind));
   word = no_word p refl (end ∷ more);
 }
 
@@ -130,26 +132,14 @@ abbrev pub stops : List Token → Bool
 stops (Punctuation mark ∷ tokens) = is_stop mark
 stops tokens = false
 
--- whether tokens begin with `<`, `->`, `@`, `(` or `as`
+-- whether tokens begin with `<` or `@`
 abbrev pub begins_with_less : List Token → Bool
 begins_with_less (Punctuation Less ∷ tokens) = true
 begins_with_less tokens = false
 
-abbrev pub begins_with_arrow : List Token → Bool
-begins_with_arrow (Punctuation Arrow ∷ tokens) = true
-begins_with_arrow tokens = false
-
 abbrev pub begins_with_at : List Token → Bool
 begins_with_at (Punctuation At ∷ tokens) = true
 begins_with_at tokens = false
-
-abbrev pub begins_with_paren : List Token → Bool
-begins_with_paren (Punctuation OpenParen ∷ tokens) = true
-begins_with_paren tokens = false
-
-abbrev pub begins_with_as : List Token → Bool
-begins_with_as (Key As ∷ tokens) = true
-begins_with_as tokens = false
 
 pub no_less : (ts : List Token) → stops ts ≡ true → begins_with_less ts ≡ false
 no_less (Punctuation Less ∷ ts) h = absurd cc
