@@ -1,11 +1,12 @@
 -- What the worked examples share.
-use Rattle.std.proofs.Common.{ℕ, zero, suc, ◌+◌, nat_lt, cond, List, [], ◌∷◌, ◌++◌, Option, None, false}
+use Rattle.std.proofs.Common.{ℕ, zero, suc, ◌+◌, ◌/◌, ◌%◌, nat_lt, cond, List, [], ◌∷◌, ◌++◌, length, Option, None, false}
 use Rattle.std.specs.{Prelude.codes, Str.is_utf8, Str.chars}
 use Rattle.comp_bytes.specs.Reading.{◌>>=◌, unsigned_at, u32_at, last_byte_of, type_index_at, just_at, as_at, pair_at, choose, tagged_at, tag_at, closed_at, byte_at, optional_at, sequence_at, vector_at, counted_at, name_at, value_type_at, field_at, case_at, result_list_at, alias_at, with_attributes, attributed_at, extern_name_at, description_at, declaration_at, body_at, importless_at, component_and, instance_and, plain_and, declarations_at, type_at, top_export_at, section_of, frame_at, sections_of, component_of}
 use Rattle.semver.specs.Parse.{digits_from}
 use Rattle.wit_model.specs.{Names.PackageIdentity, Meaning.Signature, Meaning.Item, Meaning.WorldMeaning, Meaning.PackageMeaning, Meaning.WorldPackage}
 use Rattle.comp_meaning.specs.Reads.{package_meaning, world_package}
 use lib.Utf8.{encode}
+use Prim.Native.String.{String}
 
 -- package a:b; world foo { import host: func(); export guest: func(); }
 unfoldable pub one_world : List ℕ
@@ -23,11 +24,40 @@ unfoldable pub lists_of : ℕ → ℕ → List ℕ
 lists_of zero n = []
 lists_of (suc k) n = 1 ∷ 112 ∷ (index_bytes n ++ lists_of k (suc n))
 
+-- a text behind its length
+unfoldable pub text : String → List ℕ
+text s = length (codes s) ∷ codes s
+
+-- what a component begins with
+unfoldable pub preamble : List ℕ
+preamble = 0 ∷ 97 ∷ 115 ∷ 109 ∷ 13 ∷ 0 ∷ 1 ∷ 0 ∷ []
+
+-- an export, at the top, of a type under a label of one letter
+unfoldable pub exported_as : ℕ → ℕ → List ℕ
+exported_as letter n = 11 ∷ 7 ∷ 1 ∷ 0 ∷ 1 ∷ letter ∷ 3 ∷ n ∷ 0 ∷ []
+
+-- an instance type that declares t as u32, and the interface a:b/j of it at the top
+unfoldable pub type_t : List ℕ
+type_t = 1 ∷ 66 ∷ 2 ∷ 1 ∷ 121 ∷ 4 ∷ 0 ∷ 1 ∷ 116 ∷ 3 ∷ 0 ∷ 0 ∷ []
+
+unfoldable pub interface_j : List ℕ
+interface_j = 7 ∷ 25 ∷ 1 ∷ 65 ∷ 2 ∷ type_t ++ 4 ∷ 0 ∷ text "a:b/j" ++ 5 ∷ 0 ∷ exported_as 106 0
+
+-- the world a:b/w of so many declarations: its section at the top, and the component of it alone
+unfoldable pub world_section : ℕ → List ℕ → List ℕ
+world_section count declared =
+    let contents = 1 ∷ 65 ∷ 2 ∷ 1 ∷ 65 ∷ count ∷ declared ++ 4 ∷ 0 ∷ text "a:b/w" ++ 4 ∷ 0 ∷ [] in
+    7 ∷ cond (nat_lt (length contents) 128) (length contents ∷ []) ((length contents % 128 + 128) ∷ length contents / 128 ∷ []) ++ contents
+
+unfoldable pub world_of : ℕ → List ℕ → List ℕ
+world_of count declared = preamble ++ world_section count declared ++ exported_as 119 0
+
 -- what worked examples unfold
 unfoldable pub computes : ℕ
 unfolding unsigned_at u32_at last_byte_of type_index_at just_at as_at pair_at choose tagged_at tag_at closed_at byte_at optional_at sequence_at vector_at counted_at name_at value_type_at field_at
     case_at result_list_at alias_at with_attributes attributed_at extern_name_at description_at declaration_at body_at importless_at component_and instance_and plain_and declarations_at type_at
-    top_export_at section_of frame_at sections_of component_of is_utf8 chars encode one_world digits_from lists_of index_bytes
+    top_export_at section_of frame_at sections_of component_of is_utf8 chars encode one_world digits_from lists_of index_bytes text preamble
+    exported_as type_t interface_j world_section world_of
 computes = 0
 
 -- what bytes mean as a package, and as a world

@@ -184,5 +184,4 @@ pub functions_stand : SameFunctionsStandInEachOther
 functions_stand fs gs e g = both_ways same_function functions_decide fs gs e g
 
 pub functions_make_one_map : SameFunctionsAreOneMap
-functions_make_one_map fs gs e g =
-    Decides-at (same_functions fs gs) (stand_in same_function fs gs && stand_in same_function gs fs) (functions_stand fs gs e g) (make_one_map same_function functions_decide fs gs e g)
+functions_make_one_map fs gs e g = search (std_rules, Decides-at, functions_stand, make_one_map, functions_decide)

@@ -68,16 +68,7 @@ record IsKept (top : reads.Top) : Type 0 where
   within : (i n : ℕ) → slice_get top.slots i ≡ Some n → n < length top.types
 
 kept_type : (top next : reads.Top) (t : TopType) → top_type top t ≡ Some next → IsKept top → IsKept next
-kept_type top next (TopType.component ds) e k =
-    subst IsKept (some_is (record { types = top.types ++ ds ∷ []; slots = top.slots ++ length top.types ∷ []; exported = top.exported }) next e) (record {
-      counted = subst (λ fs. Counted (λ x. x.1) top.exported fs) (sym (map-append (λ _. true) top.types (ds ∷ []))) (one_mark_more (λ x. x.1) top.exported (map (λ _. true) top.types) true k.counted);
-      within = λ i n found.
-          let more = length-append top.types (ds ∷ []) in
-          elim (appended_at top.slots (length top.types) n i found) [
-            | inl before ↦ let low = k.within i n before in omega (arith, low, more)
-            | inr last ↦ omega (arith, last, more)
-          ];
-    })
+kept_type top next (TopType.component ds) e k = search (std_rules, some_is, Counted, map-append, one_mark_more, length-append, appended_at)
 kept_type top next _ e k = absurd cc
 
 kept_export : (top next : reads.Top) (x : TopExport) → reads.top_export top x ≡ Some next → IsKept top → IsKept next

@@ -3,7 +3,7 @@ use Rattle.std.proofs.Common.{zero, suc, ◌≡◌, ℕ, List, [], ◌∷◌, �
 use Rattle.std.specs.{Prelude.codes, Prelude.is_some, Prelude.if◌then◌else◌, FinMap.from_entries}
 use Rattle.comp_bytes.specs.{Raw.Declaration, Raw.Declarations, Raw.TopType, Raw.Section, Reading.plain_name, Reading.component_of}
 use Rattle.wit_model.specs.{Names.cut as cut_at, Tree.Tree, Tree.Primitive, Meaning.Item}
-use Rattle.comp_meaning.proofs.Computing.{computes, one_world, meaning, world_meaning_of, unit_function, a_b, foo}
+use Rattle.comp_meaning.proofs.Computing.{computes, one_world, meaning, world_meaning_of, unit_function, a_b, foo, preamble, text}
 use Rattle.comp_bytes.specs.declared.forms.ComponentTypeRef.TheVariants as refs
 
 raw_of_one_world : component_of one_world ≡ Some
@@ -59,10 +59,8 @@ unfolding computes
 no_prefix_between = refl
 
 asynchronous : List ℕ
-asynchronous =
-    0x00 ∷ 0x61 ∷ 0x73 ∷ 0x6d ∷ 0x0d ∷ 0x00 ∷ 0x01 ∷ 0x00 ∷ 0x07 ∷ 0x21 ∷ 0x01 ∷ 0x41 ∷ 0x02 ∷ 0x01 ∷ 0x41 ∷ 0x02 ∷ 0x01 ∷ 0x43 ∷ 0x01 ∷ 0x01 ∷ 0x6e ∷ 0x77 ∷ 0x00 ∷ 0x73 ∷
-    0x04 ∷ 0x00 ∷ 0x02 ∷ 0x67 ∷ 0x6f ∷ 0x01 ∷ 0x00 ∷ 0x04 ∷ 0x00 ∷ 0x07 ∷ 0x61 ∷ 0x3a ∷ 0x62 ∷ 0x2f ∷ 0x66 ∷ 0x6f ∷ 0x6f ∷ 0x04 ∷ 0x00 ∷ 0x0b ∷ 0x09 ∷ 0x01 ∷ 0x00 ∷ 0x03 ∷ 0x66 ∷ 0x6f ∷ 0x6f ∷ 0x03
-    ∷ 0x00 ∷ 0x00 ∷ []
+asynchronous = preamble ++ 7 ∷ 33 ∷ 1 ∷ 65 ∷ 2 ∷ 1 ∷ 65 ∷ 2 ∷ 1 ∷ 67 ∷ 1 ∷ 1 ∷ 110 ∷ 119 ∷ 0 ∷ 115 ∷ 4 ∷ 0 ∷ 2 ∷ 103 ∷ 111 ∷ 1 ∷ 0 ∷ 4 ∷ 0 ∷ text "a:b/foo" ++ 4 ∷ 0 ∷ 11 ∷ 9 ∷ 1 ∷ 0 ∷ text "foo" ++ 3
+    ∷ 0 ∷ 0 ∷ []
 
 reads_asynchronous : meaning asynchronous ≡ Some (record {
   identity = a_b;

@@ -1,5 +1,5 @@
 -- The tests of Same say whether two meanings are equal.
-use Rattle.std.proofs.Common.{◌≡◌, refl, sym, ap, subst, ◌∙◌, ℕ, Bool, true, false, ◌&&◌, eqb, List, [], ◌∷◌, map, Option, Some, None}
+use Rattle.std.proofs.Common.{rules as std_rules, ◌≡◌, refl, sym, ap, subst, ◌∙◌, ℕ, Bool, true, false, ◌&&◌, eqb, List, [], ◌∷◌, map, Option, Some, None}
 use Rattle.std.proofs.lemmas.{Bool.and_from, Bool.Decides.Decides-and, Bool.Decides.Decides-eqb, Slice.Eq.bytes_eq-Decides, Slice.Eq.slice_eq-Decides}
 use Rattle.std.specs.{Prelude.slice_get, Prelude.unwrap_or, Bool.Decides, Cmp.Lexicographic.pointwise, Cmp.Derive.Mapped.pointwise-map}
 use Rattle.wit_model.specs.Text.{Text, text_eq}
@@ -24,9 +24,7 @@ options_decide same d (Some x) (Some y) = (λ e. ap Some ((d x y).0 e), λ e. (d
 options_decide same d _ _ = (λ e. absurd cc, λ e. absurd cc)
 
 pairs_decide : {A B : Type 0} (same : A → A → Bool) (other : B → B → Bool) → DecidesEquality same → DecidesEquality other → (x y : A × B) → Decides (same x.0 y.0 && other x.1 y.1) (x ≡ y)
-pairs_decide same other d e x y =
-    let both = Decides-and (same x.0 y.0) (other x.1 y.1) (d x.0 y.0) (e x.1 y.1) in
-    (λ h. let parts = both.0 h in λ i. (parts.0 i, parts.1 i), λ p. both.1 (ap (λ z. z.0) p, ap (λ z. z.1) p))
+pairs_decide same other d e x y = search (std_rules, Decides-and)
 
 lists_decide : {A : Type 0} (same : A → A → Bool) → DecidesEquality same → (xs ys : List A) → Decides (pointwise same xs ys) (xs ≡ ys)
 lists_decide same d xs ys = slice_eq-Decides d xs ys (pointwise same xs ys) refl
@@ -42,22 +40,10 @@ numbered Primitive.bool = refl
 numbered _ = refl
 
 primitives_decide : (p q : Primitive) → Decides (eqb (primitive_number p) (primitive_number q)) (p ≡ q)
-primitives_decide p q = (
-  λ h. sym (numbered p) ∙ (ap primitive_of ((Decides-eqb (primitive_number p) (primitive_number q)).0 h) ∙ numbered q),
-  λ e. (Decides-eqb (primitive_number p) (primitive_number q)).1 (ap primitive_number e),
-)
+primitives_decide p q = search (std_rules, numbered, Decides-eqb)
 
 pub places_decide : DecidesEquality same_place
-places_decide p q = (place_is p q, λ e. subst (λ (x : Place). same_place p x ≡ true) e (itself p))
-  where
-    place_is : (p q : Place) → same_place p q ≡ true → p ≡ q
-    place_is (Place.of_interface a) (Place.of_interface b) e = ap Place.of_interface ((texts_decide a b).0 e)
-    place_is Place.here Place.here e = refl
-    place_is _ _ e = absurd cc
-
-    itself : (p : Place) → same_place p p ≡ true
-    itself (Place.of_interface a) = (texts_decide a a).1 refl
-    itself Place.here = refl
+places_decide p q = search std_rules
 
 cases_decide : (xs ys : List (Text × Bool)) → Decides (pointwise (λ x y. text_eq x.0 y.0 && same_bool x.1 y.1) xs ys) (xs ≡ ys)
 cases_decide = lists_decide (λ x y. text_eq x.0 y.0 && same_bool x.1 y.1) (pairs_decide text_eq same_bool texts_decide bools_decide)
@@ -77,9 +63,7 @@ form_is Form.map_of Form.map_of e = refl
 form_is Form.tuple_of Form.tuple_of e = refl
 form_is (Form.flags_of xs) (Form.flags_of ys) e = ap Form.flags_of ((labels_decide xs ys).0 e)
 form_is (Form.enum_of xs) (Form.enum_of ys) e = ap Form.enum_of ((labels_decide xs ys).0 e)
-form_is (Form.result_of a b) (Form.result_of c d) e =
-    let both = (Decides-and (same_bool a c) (same_bool b d) (bools_decide a c) (bools_decide b d)).0 e in
-    ap (λ x. Form.result_of x b) both.0 ∙ ap (Form.result_of c) both.1
+form_is (Form.result_of a b) (Form.result_of c d) e = search (std_rules, Decides-and, bools_decide)
 form_is (Form.future_of a) (Form.future_of b) e = ap Form.future_of ((bools_decide a b).0 e)
 form_is (Form.stream_of a) (Form.stream_of b) e = ap Form.stream_of ((bools_decide a b).0 e)
 form_is _ _ e = absurd cc
@@ -137,10 +121,7 @@ declarations_decide Declaration.resource Declaration.resource = (λ e. refl, λ 
 declarations_decide _ _ = (λ e. absurd cc, λ e. absurd cc)
 
 pub types_decide : DecidesEquality same_type
-types_decide a b =
-    let both = Decides-and (same_declaration a.declaration b.declaration) (same_option text_eq a.external_id b.external_id) (declarations_decide a.declaration b.declaration)
-    (options_decide text_eq texts_decide a.external_id b.external_id) in
-    (λ h. let parts = both.0 h in λ i. record { declaration = parts.0 i; external_id = parts.1 i }, λ e. both.1 (ap (λ x. x.declaration) e, ap (λ x. x.external_id) e))
+types_decide a b = search (std_rules, Decides-and, declarations_decide, options_decide, texts_decide)
 
 params_decide : (ps qs : List (Text × Tree)) → Decides (pointwise (λ x y. text_eq x.0 y.0 && same_tree x.1 y.1) ps qs) (ps ≡ qs)
 params_decide = lists_decide (λ x y. text_eq x.0 y.0 && same_tree x.1 y.1) (pairs_decide text_eq same_tree texts_decide trees_decide)
@@ -160,11 +141,7 @@ functions_decide a b =
     (λ h. let parts = both.0 h in λ i. record { signature = parts.0 i; external_id = parts.1 i }, λ e. both.1 (ap (λ x. x.signature) e, ap (λ x. x.external_id) e))
 
 pub identities_decide : DecidesEquality same_identity
-identities_decide a b =
-    let version = same_option text_eq a.version b.version in
-    let names = Decides-and (text_eq a.namespace b.namespace) (text_eq a.name b.name) (texts_decide a.namespace b.namespace) (texts_decide a.name b.name) in
-    let all = Decides-and (text_eq a.namespace b.namespace && text_eq a.name b.name) version names (options_decide text_eq texts_decide a.version b.version) in
-    (λ h. let parts = all.0 h in λ i. record { namespace = parts.0.0 i; name = parts.0.1 i; version = parts.1 i }, λ e. all.1 ((ap (λ x. x.namespace) e, ap (λ x. x.name) e), ap (λ x. x.version) e))
+identities_decide a b = search (std_rules, Decides-and, texts_decide, options_decide)
 
 -- ---- the types that views show
 

@@ -1,10 +1,10 @@
 -- A worked example: two packages.
-use Rattle.std.proofs.Common.{◌≡◌, ℕ, List, [], ◌∷◌, Option, Some, None, false, true, Bool, refl}
+use Rattle.std.proofs.Common.{◌≡◌, ℕ, List, [], ◌∷◌, ◌++◌, Option, Some, None, false, true, Bool, refl}
 use Rattle.std.specs.{Prelude.codes, FinMap.from_entries}
 use Rattle.wit_model.specs.Names.{cut as cut_at}
 use Rattle.wit_model.specs.Tree.{Tree, Primitive, Place, Declaration as TreeDeclaration, list_tree, own_tree, borrow_tree, result_tree}
 use Rattle.wit_model.specs.Meaning.{Signature, FunctionMeaning, Item, TypeMeaning, InterfaceMeaning, WorldMeaning, PackageMeaning}
-use Rattle.comp_meaning.proofs.Computing.{computes, meaning, world_meaning_of, a_b}
+use Rattle.comp_meaning.proofs.Computing.{computes, meaning, world_meaning_of, a_b, text, preamble, exported_as, world_section, world_of}
 
 -- Two packages: uses across them, a resource, an inline interface, a world's type, an interface under a label, an external id.
 tree-jt : Tree
@@ -71,37 +71,29 @@ whole-meaning = record {
       ∷ (codes "s:r/j", j-meaning) ∷ []);
 }
 
+s_type : List ℕ
+s_type = 1 ∷ 66 ∷ 10 ∷ 4 ∷ 0 ∷ 1 ∷ 114 ∷ 3 ∷ 1 ∷ 1 ∷ 105 ∷ 0 ∷ 4 ∷ 0 ∷ 1 ∷ 104 ∷ 3 ∷ 0 ∷ 1 ∷ 1 ∷ 105 ∷ 0 ∷ 1 ∷ 106 ∷ 1 ∷ 3 ∷ 0 ∷ 1 ∷ 64 ∷ 1 ∷ 1 ∷ 120 ∷ 125 ∷ 0 ∷ 4 ∷ 4 ∷ 0 ∷ text "[constructor]r"
+    ++ 1 ∷ 5 ∷ 1 ∷ 104 ∷ 0 ∷ 1 ∷ 67 ∷ 1 ∷ text "self" ++ 6 ∷ 1 ∷ 0 ∷ 4 ∷ 0 ∷ text "[method]r.m" ++ 1 ∷ 7 ∷ []
+
+w_declared : List ℕ
+w_declared = 1 ∷ 66 ∷ 4 ∷ 1 ∷ 121 ∷ 4 ∷ 2 ∷ 1 ∷ 116 ∷ 1 ∷ 2 ∷ text "pkg" ++ 3 ∷ 0 ∷ 0 ∷ 1 ∷ 64 ∷ 1 ∷ 1 ∷ 120 ∷ 1 ∷ 1 ∷ 0 ∷ 4 ∷ 0 ∷ 1 ∷ 102 ∷ 1 ∷ 2 ∷ 3 ∷ 2 ∷ 1 ∷ 112 ∷ 1 ∷ 0 ∷ text "s:r/j" ++ 5 ∷ 0
+    ∷ 2 ∷ 3 ∷ 0 ∷ 0 ∷ 1 ∷ 116 ∷ 3 ∷ 0 ∷ 1 ∷ 116 ∷ 3 ∷ 0 ∷ 1 ∷ 1 ∷ 64 ∷ 1 ∷ 1 ∷ 120 ∷ 2 ∷ 1 ∷ 0 ∷ 3 ∷ 0 ∷ 1 ∷ 102 ∷ 1 ∷ 3 ∷ 1 ∷ 66 ∷ 4 ∷ 2 ∷ 3 ∷ 2 ∷ 1 ∷ 1 ∷ 4 ∷ 0 ∷ 1 ∷ 116 ∷ 3 ∷ 0 ∷ 0 ∷ 1 ∷ 67 ∷ 1
+    ∷ 1 ∷ 120 ∷ 1 ∷ 1 ∷ 0 ∷ 4 ∷ 0 ∷ 1 ∷ 102 ∷ 1 ∷ 2 ∷ 4 ∷ 0 ∷ 1 ∷ 104 ∷ 5 ∷ 4 ∷ 4 ∷ 0 ∷ 1 ∷ 116 ∷ 1 ∷ 3 ∷ s_type ++ 4 ∷ 2 ∷ 1 ∷ 120 ∷ 1 ∷ 0 ∷ text "a:b/s" ++ 5 ∷ 5 ∷ s_type ++ 4 ∷ 0 ∷ text "a:b/s"
+    ++ 5 ∷ 6 ∷ []
+
 whole : List ℕ
-whole = 0 ∷ 97 ∷ 115 ∷ 109 ∷ 13 ∷ 0 ∷ 1 ∷ 0 ∷ 7 ∷ 110 ∷ 1 ∷ 65 ∷ 8 ∷ 1 ∷ 66 ∷ 2 ∷ 1 ∷ 121 ∷ 4 ∷ 2 ∷ 1 ∷ 116 ∷ 1 ∷ 2 ∷ 3 ∷ 112 ∷ 107 ∷ 103 ∷ 3 ∷ 0 ∷ 0 ∷ 3 ∷ 0 ∷ 5 ∷ 115 ∷ 58 ∷ 114 ∷ 47 ∷ 106 ∷ 5 ∷ 0
-    ∷ 2 ∷ 3 ∷ 0 ∷ 0 ∷ 1 ∷ 116 ∷ 1 ∷ 66 ∷ 2 ∷ 2 ∷ 3 ∷ 2 ∷ 1 ∷ 1 ∷ 4 ∷ 0 ∷ 1 ∷ 116 ∷ 3 ∷ 0 ∷ 0 ∷ 3 ∷ 0 ∷ 5 ∷ 115 ∷ 58 ∷ 114 ∷ 47 ∷ 107 ∷ 5 ∷ 2 ∷ 2 ∷ 3 ∷ 0 ∷ 1 ∷ 1 ∷ 116 ∷ 1 ∷ 66 ∷ 5 ∷ 2 ∷ 3 ∷ 2 ∷ 1 ∷ 3
-    ∷ 4 ∷ 0 ∷ 1 ∷ 116 ∷ 3 ∷ 0 ∷ 0 ∷ 1 ∷ 112 ∷ 1 ∷ 1 ∷ 64 ∷ 1 ∷ 1 ∷ 120 ∷ 2 ∷ 1 ∷ 0 ∷ 4 ∷ 0 ∷ 1 ∷ 102 ∷ 1 ∷ 3 ∷ 4 ∷ 0 ∷ 5 ∷ 97 ∷ 58 ∷ 98 ∷ 47 ∷ 105 ∷ 5 ∷ 4 ∷ 11 ∷ 7 ∷ 1 ∷ 0 ∷ 1 ∷ 105 ∷ 3 ∷ 0 ∷ 0 ∷ 7
-    ∷ 97 ∷ 1 ∷ 65 ∷ 2 ∷ 1 ∷ 66 ∷ 10 ∷ 4 ∷ 0 ∷ 1 ∷ 114 ∷ 3 ∷ 1 ∷ 1 ∷ 105 ∷ 0 ∷ 4 ∷ 0 ∷ 1 ∷ 104 ∷ 3 ∷ 0 ∷ 1 ∷ 1 ∷ 105 ∷ 0 ∷ 1 ∷ 106 ∷ 1 ∷ 3 ∷ 0 ∷ 1 ∷ 64 ∷ 1 ∷ 1 ∷ 120 ∷ 125 ∷ 0 ∷ 4 ∷ 4 ∷ 0 ∷ 14 ∷ 91
-    ∷ 99 ∷ 111 ∷ 110 ∷ 115 ∷ 116 ∷ 114 ∷ 117 ∷ 99 ∷ 116 ∷ 111 ∷ 114 ∷ 93 ∷ 114 ∷ 1 ∷ 5 ∷ 1 ∷ 104 ∷ 0 ∷ 1 ∷ 67 ∷ 1 ∷ 4 ∷ 115 ∷ 101 ∷ 108 ∷ 102 ∷ 6 ∷ 1 ∷ 0 ∷ 4 ∷ 0 ∷ 11 ∷ 91 ∷ 109 ∷ 101 ∷ 116 ∷ 104
-    ∷ 111 ∷ 100 ∷ 93 ∷ 114 ∷ 46 ∷ 109 ∷ 1 ∷ 7 ∷ 4 ∷ 0 ∷ 5 ∷ 97 ∷ 58 ∷ 98 ∷ 47 ∷ 115 ∷ 5 ∷ 0 ∷ 11 ∷ 7 ∷ 1 ∷ 0 ∷ 1 ∷ 115 ∷ 3 ∷ 2 ∷ 0 ∷ 7 ∷ 194 ∷ 2 ∷ 1 ∷ 65 ∷ 2 ∷ 1 ∷ 65 ∷ 13 ∷ 1 ∷ 66 ∷ 4 ∷ 1 ∷ 121 ∷ 4
-    ∷ 2 ∷ 1 ∷ 116 ∷ 1 ∷ 2 ∷ 3 ∷ 112 ∷ 107 ∷ 103 ∷ 3 ∷ 0 ∷ 0 ∷ 1 ∷ 64 ∷ 1 ∷ 1 ∷ 120 ∷ 1 ∷ 1 ∷ 0 ∷ 4 ∷ 0 ∷ 1 ∷ 102 ∷ 1 ∷ 2 ∷ 3 ∷ 2 ∷ 1 ∷ 112 ∷ 1 ∷ 0 ∷ 5 ∷ 115 ∷ 58 ∷ 114 ∷ 47 ∷ 106 ∷ 5 ∷ 0 ∷ 2 ∷ 3 ∷ 0
-    ∷ 0 ∷ 1 ∷ 116 ∷ 3 ∷ 0 ∷ 1 ∷ 116 ∷ 3 ∷ 0 ∷ 1 ∷ 1 ∷ 64 ∷ 1 ∷ 1 ∷ 120 ∷ 2 ∷ 1 ∷ 0 ∷ 3 ∷ 0 ∷ 1 ∷ 102 ∷ 1 ∷ 3 ∷ 1 ∷ 66 ∷ 4 ∷ 2 ∷ 3 ∷ 2 ∷ 1 ∷ 1 ∷ 4 ∷ 0 ∷ 1 ∷ 116 ∷ 3 ∷ 0 ∷ 0 ∷ 1 ∷ 67 ∷ 1 ∷ 1 ∷ 120 ∷ 1
-    ∷ 1 ∷ 0 ∷ 4 ∷ 0 ∷ 1 ∷ 102 ∷ 1 ∷ 2 ∷ 4 ∷ 0 ∷ 1 ∷ 104 ∷ 5 ∷ 4 ∷ 4 ∷ 0 ∷ 1 ∷ 116 ∷ 1 ∷ 3 ∷ 1 ∷ 66 ∷ 10 ∷ 4 ∷ 0 ∷ 1 ∷ 114 ∷ 3 ∷ 1 ∷ 1 ∷ 105 ∷ 0 ∷ 4 ∷ 0 ∷ 1 ∷ 104 ∷ 3 ∷ 0 ∷ 1 ∷ 1 ∷ 105 ∷ 0 ∷ 1 ∷ 106
-    ∷ 1 ∷ 3 ∷ 0 ∷ 1 ∷ 64 ∷ 1 ∷ 1 ∷ 120 ∷ 125 ∷ 0 ∷ 4 ∷ 4 ∷ 0 ∷ 14 ∷ 91 ∷ 99 ∷ 111 ∷ 110 ∷ 115 ∷ 116 ∷ 114 ∷ 117 ∷ 99 ∷ 116 ∷ 111 ∷ 114 ∷ 93 ∷ 114 ∷ 1 ∷ 5 ∷ 1 ∷ 104 ∷ 0 ∷ 1 ∷ 67 ∷ 1 ∷ 4 ∷ 115 ∷ 101
-    ∷ 108 ∷ 102 ∷ 6 ∷ 1 ∷ 0 ∷ 4 ∷ 0 ∷ 11 ∷ 91 ∷ 109 ∷ 101 ∷ 116 ∷ 104 ∷ 111 ∷ 100 ∷ 93 ∷ 114 ∷ 46 ∷ 109 ∷ 1 ∷ 7 ∷ 4 ∷ 2 ∷ 1 ∷ 120 ∷ 1 ∷ 0 ∷ 5 ∷ 97 ∷ 58 ∷ 98 ∷ 47 ∷ 115 ∷ 5 ∷ 5 ∷ 1 ∷ 66 ∷ 10 ∷ 4 ∷ 0
-    ∷ 1 ∷ 114 ∷ 3 ∷ 1 ∷ 1 ∷ 105 ∷ 0 ∷ 4 ∷ 0 ∷ 1 ∷ 104 ∷ 3 ∷ 0 ∷ 1 ∷ 1 ∷ 105 ∷ 0 ∷ 1 ∷ 106 ∷ 1 ∷ 3 ∷ 0 ∷ 1 ∷ 64 ∷ 1 ∷ 1 ∷ 120 ∷ 125 ∷ 0 ∷ 4 ∷ 4 ∷ 0 ∷ 14 ∷ 91 ∷ 99 ∷ 111 ∷ 110 ∷ 115 ∷ 116 ∷ 114 ∷ 117
-    ∷ 99 ∷ 116 ∷ 111 ∷ 114 ∷ 93 ∷ 114 ∷ 1 ∷ 5 ∷ 1 ∷ 104 ∷ 0 ∷ 1 ∷ 67 ∷ 1 ∷ 4 ∷ 115 ∷ 101 ∷ 108 ∷ 102 ∷ 6 ∷ 1 ∷ 0 ∷ 4 ∷ 0 ∷ 11 ∷ 91 ∷ 109 ∷ 101 ∷ 116 ∷ 104 ∷ 111 ∷ 100 ∷ 93 ∷ 114 ∷ 46 ∷ 109 ∷ 1 ∷ 7 ∷ 4
-    ∷ 0 ∷ 5 ∷ 97 ∷ 58 ∷ 98 ∷ 47 ∷ 115 ∷ 5 ∷ 6 ∷ 4 ∷ 0 ∷ 5 ∷ 97 ∷ 58 ∷ 98 ∷ 47 ∷ 119 ∷ 4 ∷ 0 ∷ 11 ∷ 7 ∷ 1 ∷ 0 ∷ 1 ∷ 119 ∷ 3 ∷ 4 ∷ 0 ∷ []
+whole = preamble ++ 7 ∷ 110 ∷ 1 ∷ 65 ∷ 8 ∷ 1 ∷ 66 ∷ 2 ∷ 1 ∷ 121 ∷ 4 ∷ 2 ∷ 1 ∷ 116 ∷ 1 ∷ 2 ∷ text "pkg" ++ 3 ∷ 0 ∷ 0 ∷ 3 ∷ 0 ∷ text "s:r/j" ++ 5 ∷ 0 ∷ 2 ∷ 3 ∷ 0 ∷ 0 ∷ 1 ∷ 116 ∷ 1 ∷ 66 ∷ 2 ∷ 2 ∷ 3 ∷ 2
+    ∷ 1 ∷ 1 ∷ 4 ∷ 0 ∷ 1 ∷ 116 ∷ 3 ∷ 0 ∷ 0 ∷ 3 ∷ 0 ∷ text "s:r/k" ++ 5 ∷ 2 ∷ 2 ∷ 3 ∷ 0 ∷ 1 ∷ 1 ∷ 116 ∷ 1 ∷ 66 ∷ 5 ∷ 2 ∷ 3 ∷ 2 ∷ 1 ∷ 3 ∷ 4 ∷ 0 ∷ 1 ∷ 116 ∷ 3 ∷ 0 ∷ 0 ∷ 1 ∷ 112 ∷ 1 ∷ 1 ∷ 64 ∷ 1 ∷ 1 ∷ 120
+    ∷ 2 ∷ 1 ∷ 0 ∷ 4 ∷ 0 ∷ 1 ∷ 102 ∷ 1 ∷ 3 ∷ 4 ∷ 0 ∷ text "a:b/i" ++ 5 ∷ 4 ∷ exported_as 105 0 ++ 7 ∷ 97 ∷ 1 ∷ 65 ∷ 2 ∷ s_type ++ 4 ∷ 0 ∷ text "a:b/s" ++ 5 ∷ 0 ∷ exported_as 115 2
+    ++ world_section 13 w_declared ++ exported_as 119 4
 
 reads_whole : meaning whole ≡ Some whole-meaning
-unfolding computes meaning cut_at whole whole-meaning s-meaning j-meaning w-meaning tree-jt tree-r taking plain alias-of
+unfolding computes meaning cut_at s_type w_declared whole whole-meaning s-meaning j-meaning w-meaning tree-jt tree-r taking plain alias-of
 reads_whole = refl
 
 -- its world alone
 whole_world : List ℕ
-whole_world = 0 ∷ 97 ∷ 115 ∷ 109 ∷ 13 ∷ 0 ∷ 1 ∷ 0 ∷ 7 ∷ 194 ∷ 2 ∷ 1 ∷ 65 ∷ 2 ∷ 1 ∷ 65 ∷ 13 ∷ 1 ∷ 66 ∷ 4 ∷ 1 ∷ 121 ∷ 4 ∷ 2 ∷ 1 ∷ 116 ∷ 1 ∷ 2 ∷ 3 ∷ 112 ∷ 107 ∷ 103 ∷ 3 ∷ 0 ∷ 0 ∷ 1 ∷ 64 ∷ 1 ∷ 1 ∷ 120 ∷ 1
-    ∷ 1 ∷ 0 ∷ 4 ∷ 0 ∷ 1 ∷ 102 ∷ 1 ∷ 2 ∷ 3 ∷ 2 ∷ 1 ∷ 112 ∷ 1 ∷ 0 ∷ 5 ∷ 115 ∷ 58 ∷ 114 ∷ 47 ∷ 106 ∷ 5 ∷ 0 ∷ 2 ∷ 3 ∷ 0 ∷ 0 ∷ 1 ∷ 116 ∷ 3 ∷ 0 ∷ 1 ∷ 116 ∷ 3 ∷ 0 ∷ 1 ∷ 1 ∷ 64 ∷ 1 ∷ 1 ∷ 120 ∷ 2 ∷ 1 ∷ 0 ∷ 3
-    ∷ 0 ∷ 1 ∷ 102 ∷ 1 ∷ 3 ∷ 1 ∷ 66 ∷ 4 ∷ 2 ∷ 3 ∷ 2 ∷ 1 ∷ 1 ∷ 4 ∷ 0 ∷ 1 ∷ 116 ∷ 3 ∷ 0 ∷ 0 ∷ 1 ∷ 67 ∷ 1 ∷ 1 ∷ 120 ∷ 1 ∷ 1 ∷ 0 ∷ 4 ∷ 0 ∷ 1 ∷ 102 ∷ 1 ∷ 2 ∷ 4 ∷ 0 ∷ 1 ∷ 104 ∷ 5 ∷ 4 ∷ 4 ∷ 0 ∷ 1 ∷ 116 ∷ 1
-    ∷ 3 ∷ 1 ∷ 66 ∷ 10 ∷ 4 ∷ 0 ∷ 1 ∷ 114 ∷ 3 ∷ 1 ∷ 1 ∷ 105 ∷ 0 ∷ 4 ∷ 0 ∷ 1 ∷ 104 ∷ 3 ∷ 0 ∷ 1 ∷ 1 ∷ 105 ∷ 0 ∷ 1 ∷ 106 ∷ 1 ∷ 3 ∷ 0 ∷ 1 ∷ 64 ∷ 1 ∷ 1 ∷ 120 ∷ 125 ∷ 0 ∷ 4 ∷ 4 ∷ 0 ∷ 14 ∷ 91 ∷ 99 ∷ 111 ∷ 110
-    ∷ 115 ∷ 116 ∷ 114 ∷ 117 ∷ 99 ∷ 116 ∷ 111 ∷ 114 ∷ 93 ∷ 114 ∷ 1 ∷ 5 ∷ 1 ∷ 104 ∷ 0 ∷ 1 ∷ 67 ∷ 1 ∷ 4 ∷ 115 ∷ 101 ∷ 108 ∷ 102 ∷ 6 ∷ 1 ∷ 0 ∷ 4 ∷ 0 ∷ 11 ∷ 91 ∷ 109 ∷ 101 ∷ 116 ∷ 104 ∷ 111 ∷ 100 ∷ 93
-    ∷ 114 ∷ 46 ∷ 109 ∷ 1 ∷ 7 ∷ 4 ∷ 2 ∷ 1 ∷ 120 ∷ 1 ∷ 0 ∷ 5 ∷ 97 ∷ 58 ∷ 98 ∷ 47 ∷ 115 ∷ 5 ∷ 5 ∷ 1 ∷ 66 ∷ 10 ∷ 4 ∷ 0 ∷ 1 ∷ 114 ∷ 3 ∷ 1 ∷ 1 ∷ 105 ∷ 0 ∷ 4 ∷ 0 ∷ 1 ∷ 104 ∷ 3 ∷ 0 ∷ 1 ∷ 1 ∷ 105 ∷ 0 ∷ 1 ∷ 106
-    ∷ 1 ∷ 3 ∷ 0 ∷ 1 ∷ 64 ∷ 1 ∷ 1 ∷ 120 ∷ 125 ∷ 0 ∷ 4 ∷ 4 ∷ 0 ∷ 14 ∷ 91 ∷ 99 ∷ 111 ∷ 110 ∷ 115 ∷ 116 ∷ 114 ∷ 117 ∷ 99 ∷ 116 ∷ 111 ∷ 114 ∷ 93 ∷ 114 ∷ 1 ∷ 5 ∷ 1 ∷ 104 ∷ 0 ∷ 1 ∷ 67 ∷ 1 ∷ 4 ∷ 115 ∷ 101
-    ∷ 108 ∷ 102 ∷ 6 ∷ 1 ∷ 0 ∷ 4 ∷ 0 ∷ 11 ∷ 91 ∷ 109 ∷ 101 ∷ 116 ∷ 104 ∷ 111 ∷ 100 ∷ 93 ∷ 114 ∷ 46 ∷ 109 ∷ 1 ∷ 7 ∷ 4 ∷ 0 ∷ 5 ∷ 97 ∷ 58 ∷ 98 ∷ 47 ∷ 115 ∷ 5 ∷ 6 ∷ 4 ∷ 0 ∷ 5 ∷ 97 ∷ 58 ∷ 98 ∷ 47 ∷ 119 ∷ 4
-    ∷ 0 ∷ 11 ∷ 7 ∷ 1 ∷ 0 ∷ 1 ∷ 119 ∷ 3 ∷ 0 ∷ 0 ∷ []
+whole_world = world_of 13 w_declared
 
 reads_whole_world : world_meaning_of whole_world ≡ Some (record {
   identity = a_b;
@@ -109,5 +101,5 @@ reads_whole_world : world_meaning_of whole_world ≡ Some (record {
   world = w-meaning;
   shown = from_entries ((codes "s:r/j", j-meaning) ∷ (codes "a:b/s", s-meaning) ∷ (codes "a:b/s", s-meaning) ∷ []);
 })
-unfolding computes world_meaning_of cut_at a_b whole_world s-meaning j-meaning w-meaning tree-jt tree-r taking plain alias-of
+unfolding computes world_meaning_of cut_at a_b s_type w_declared whole_world s-meaning j-meaning w-meaning tree-jt tree-r taking plain alias-of
 reads_whole_world = refl
