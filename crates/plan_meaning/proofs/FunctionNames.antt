@@ -57,17 +57,10 @@ module _ (r : Resolve) (m : ℕ) where
   result_of_own_is n def = λ i. unnamed def.name i && has_own_ok_is n def.kind i
 
   constructs_is : (n : ℕ) (f : Function) → planned.constructs (plan_of r m) n (planned_function f) ≡ rules.constructs r n f
-  constructs_is n f =
-      or_of_map (λ k. planned.part_is (plan_of r m) (planned.is_own_of n) k || planned.part_is (plan_of r m) (planned.is_result_of_own (plan_of r m) n) k) part_of false f.result
-      ∙ same_or (λ t. planned.part_is (plan_of r m) (planned.is_own_of n) (part_of t) || planned.part_is (plan_of r m) (planned.is_result_of_own (plan_of r m) n) (part_of t))
-      (λ t. rules.type_is r (rules.is_own_of n) t || rules.type_is r (rules.is_result_of_own r n) t) false
-      (λ t i. part_is (planned.is_own_of n) (rules.is_own_of n) (own_of_is n) t i || part_is (planned.is_result_of_own (plan_of r m) n) (rules.is_result_of_own r n) (result_of_own_is n) t i) f.result
+  constructs_is n f = search (std_rules, or_of_map, plan_of, same_or, part_is, own_of_is, result_of_own_is)
 
   takes_self_is : (n : ℕ) (f : Function) → planned.takes_self (plan_of r m) n (planned_function f) ≡ rules.takes_self r n f
-  takes_self_is n f =
-      or_there (λ (x : Text × ℕ). text_eq x.0 (codes "self") && planned.part_is (plan_of r m) (planned.is_borrow_of n) x.1) (λ (x : Param). (text_of x.name, part_of x.ty))
-      (λ p. text_eq (text_of p.name) (codes "self") && rules.type_is r (rules.is_borrow_of n) p.ty) false
-      (λ x. ap (λ b. text_eq (text_of x.name) (codes "self") && b) (part_is (planned.is_borrow_of n) (rules.is_borrow_of n) (borrow_of_is n) x.ty)) f.params.items 0
+  takes_self_is n f = search (std_rules, or_there, codes, plan_of, part_is, borrow_of_is)
 
   member_of_is : (n : ℕ) (name : Text) (f : Function) (k : FunctionKind) → planned.is_member_of (plan_of r m) n name (planned_function f) k ≡ rules.is_member_of r n name f k
   member_of_is n name f x = search (std_rules, constructs_is, takes_self_is)

@@ -41,10 +41,7 @@ module _ (t : Tables) (tables : AreTables t) (kept : List ℕ) (p : Plan) (keeps
   parts_kept = zip_map (Becomes t kept p) (tree_at t) (part_tree (trees_in p)) part_kept
 
   pub form_tree : (old n : ℕ) (form : Form) (olds : List ℕ) → old ≡ 14 + n → slice_get t.shapes n ≡ Some (node_shape form olds) → tree_at t old ≡ Tree.node form (children (map (tree_at t) olds))
-  form_tree old n form olds is there =
-      let trees = shape_trees (place_at t) t.shapes in
-      ap (tree_at t) is ∙ (part_behind trees n ∙ (ap (λ o. unwrap_or o no_tree) (tree_at_number (place_at t) t.shapes tables.shapes n (node_shape form olds) there) ∙ node_tree (place_at t)
-      trees form olds))
+  form_tree old n form olds is there = search (std_rules, part_behind, tree_at_number (place_at t) t.shapes tables.shapes n (node_shape form olds) there, node_tree)
 
   declared_kept : (d : Option ℕ) (kind : PlannedKind) → DeclaresKind t kept p d kind → declared_as (trees_in p) kind ≡ declaration_of t d
   declared_kept d kind (a_resource e k) = ap (declared_as (trees_in p)) k ∙ sym (ap (declaration_of t) e)

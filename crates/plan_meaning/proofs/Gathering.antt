@@ -24,8 +24,7 @@ one_types (x ∷ xs) h s t (zero, l, e) (suc j, k, f) p =
     alike s t (ap (λ y. agree y t) (sym e) ∙ all-contained (agree x) xs t (first_true (list_all (agree x) xs) _ h) (j, omega (arith, k), f)) p
 one_types (x ∷ xs) h s t (suc i, l, e) (zero, k, f) p =
     sym (alike t s (ap (λ y. agree y s) (sym f) ∙ all-contained (agree x) xs s (first_true (list_all (agree x) xs) _ h) (i, omega (arith, l), e)) (sym p))
-one_types (x ∷ xs) h s t (suc i, l, e) (suc j, k, f) p =
-    one_types xs (second_true (list_all (agree x) xs) _ h) s t (i, omega (arith, l), e) (j, omega (arith, k), f) p
+one_types (x ∷ xs) h s t (suc i, l, e) (suc j, k, f) p = search (std_rules, second_true, one_types xs (second_true (list_all (agree x) xs) _ h) s t (i, omega (arith, l), e) (j, omega (arith, k), f) p)
 
 -- ---- functions
 

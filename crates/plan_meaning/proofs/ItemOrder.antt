@@ -34,10 +34,7 @@ module _ (r : Resolve) (m : ℕ) where
   before_is w before x = λ i. list_all (has (item_interfaces_are before i)) (interfaces_are x i) && list_all (has (item_types_are before i)) (types_are w x i)
 
   world_is : (n : ℕ) (w : World) → each_after (planned.uses_stand_before (plan_of r m) n) [] (plan.items_of (planned_world w)) ≡ each_after (rules.uses_stand_before r n) [] (items_of w)
-  world_is n w =
-      ap (each_after (planned.uses_stand_before (plan_of r m) n) []) (items_are w)
-      ∙ (after_of_map (planned.uses_stand_before (plan_of r m) n) planned_item [] (items_of w)
-      ∙ ap (λ test. each_after test [] (items_of w)) (λ i before x. before_is n before x i))
+  world_is n w = search (std_rules, plan_of r m, plan_of r m, items_are w, after_of_map (planned.uses_stand_before (plan_of r m) n) planned_item [] (items_of w), before_is)
 
   pub order_of_items_kept : IsPlan (plan_of r m) → Keeps order_of_items r
   unfolding order_of_items

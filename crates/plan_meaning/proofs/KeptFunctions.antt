@@ -147,9 +147,7 @@ module _ (t : Tables) (tables : AreTables t) (known : ℕ → Fact) (kept : List
           number : is_id n (part_number part) ≡ true
 
         handle_type : (old m : ℕ) → old ≡ 14 + m → is_handle t known q sort name old ≡ true → (x : PlannedType) → IsKeptType t kept p m x → IsHandleType x
-        handle_type old m e h x (declared place label d there named home kind before good obeys) =
-            no_true (sym (ap (λ o. option_map_or (is_name t known q name) (option_and_then (held_in sort) o) false) (shape_there t old m (named_shape place label) e there)
-            ∙ ap (λ c. option_map_or (is_name t known q name) (cond c (only_of []) None) false) not_name) ∙ h)
+        handle_type old m e h x (declared place label d there named home kind before good obeys) = search (std_rules, no_true, shape_there)
         handle_type old m e h x (unnamed place form olds news there z none unowned kind part low) =
             let here = sym (ap (λ o. option_map_or (is_name t known q name) (option_and_then (held_in sort) o) false) (shape_there t old m (node_shape form olds) e there)) ∙ h in
             let parts = handle_parts form olds here in
@@ -215,10 +213,7 @@ module _ (t : Tables) (tables : AreTables t) (known : ℕ → Fact) (kept : List
           (ap (plan.is_borrow_kind n) is_type.kind ∙ is_type.number))) x.1 y.1 (second_true (text_eq x.0 (codes "self")) (is_handle t known q borrow_sort name x.1) h) z.0.1)
 
       member_is : (g : PlannedFunction) (kind : FunctionKind) → g.kind ≡ kind → resource_of kind ≡ Some n → is_member_of p n name g kind ≡ true → is_member p o g ≡ true
-      member_is g kind e own h =
-          ap (λ k. passes (λ m. option_map_or (λ r. is_member_of p m r g k) (resource_name p o m) false) (resource_of k)) e
-          ∙ (ap (passes (λ m. option_map_or (λ r. is_member_of p m r g kind) (resource_name p o m) false)) own
-          ∙ (ap (λ x. option_map_or (λ r. is_member_of p n r g kind) x false) resource_has_name ∙ h))
+      member_is g kind e own h = search (std_rules, resource_has_name)
 
       number_is : (kind : FunctionKind) → resource_of kind ≡ Some n → list_all (in_list p.types) (option_to_list (resource_of kind)) ≡ true
       number_is kind e = ap (λ x. list_all (in_list p.types) (option_to_list x)) e ∙ both (in_list p.types n) true (lt-ltb n (length p.types) (slice_get_within p.types n is.type_ is.there)) refl
@@ -231,15 +226,10 @@ module _ (t : Tables) (tables : AreTables t) (known : ℕ → Fact) (kept : List
 
       belongs : IsKindOf t known kept p o q name f g.kind → is_member p o g ≡ true
       belongs (of_none label e) = ap (passes (λ m. option_map_or (λ r. is_member_of p m r g g.kind) (resource_name p o m) false)) e
-      belongs (a_constructor id r e there named made) =
-          member_is r id.0 there g (call.Constructor id) e refl (both (text_eq g.name (constructor_name r)) (plan.constructs p id.0 g) (same_text g.name (constructor_name r) (is.named ∙ named))
-          (constructs_becomes r id.0 there f.result g.result is.becomes.result made))
-      belongs (a_method id r e there named self) =
-          member_is r id.0 there g (call.Method id) e refl (both (is_member_name (method_name r []) g) (takes_self p id.0 g) (name_behind (method_name r []) named)
-          (self_becomes r id.0 there f.params g.params is.becomes.params self))
+      belongs (a_constructor id r e there named made) = search (std_rules, member_is, both, same_text, named, constructs_becomes)
+      belongs (a_method id r e there named self) = search (std_rules, member_is, both, name_behind (method_name r []) named, named, self_becomes r id.0 there f.params g.params is.becomes.params self)
       belongs (an_async_method id r e there named self) =
-          member_is r id.0 there g (call.AsyncMethod id) e refl (both (is_member_name (method_name r []) g) (takes_self p id.0 g) (name_behind (method_name r []) named)
-          (self_becomes r id.0 there f.params g.params is.becomes.params self))
+          search (std_rules, member_is, both, name_behind (method_name r []) named, named, self_becomes r id.0 there f.params g.params is.becomes.params self)
       belongs (a_static id r e there named) = member_is r id.0 there g (call.Static id) e refl (name_behind (static_name r []) named)
       belongs (an_async_static id r e there named) = member_is r id.0 there g (call.AsyncStatic id) e refl (name_behind (static_name r []) named)
 
@@ -260,13 +250,7 @@ module _ (t : Tables) (tables : AreTables t) (known : ℕ → Fact) (kept : List
       name_is_label (an_async_static id r e there named) = ap (λ k. not (is_freestanding k) || is_label g.name) e
 
       labels_obey : are_member_labels (names_of g.params) ≡ true
-      labels_obey =
-          let trees = map (λ (x : Text × ℕ). (x.0, tree_at t x.1)) f.params in
-          let labels = are_labels (map (λ (x : Text × Tree). x.0) trees) in
-          let params = list_all (λ (x : Text × Tree). rules.is_parameter_type is.place x.1) trees in
-          let names = zip_map (ParamBecomes t kept p) (λ (x : Text × ℕ). x.0) (λ (y : Text × ℕ). y.0) (λ x y h. h.0) f.params g.params is.becomes.params in
-          member_labels (names_of g.params) (ap are_labels (names ∙ sym (map_of_map (λ (x : Text × Tree). x.0) (λ (x : Text × ℕ). (x.0, tree_at t x.1)) f.params))
-          ∙ first_true labels params (first_true (labels && params) (rules.is_result_type is.place (option_map (tree_at t) f.result)) is.obeys))
+      labels_obey = search (std_rules, zip_map, member_labels, map_of_map, first_true)
 
       function_passes : FunctionPasses p o g
       function_passes = record {

@@ -31,9 +31,7 @@ module _ (t : Tables) (tables : AreTables t) (kept : List ℕ) (p : Plan) (are :
   all_met = met_in p
 
   name_there : (n q : ℕ) (name : Text) → slice_get t.shapes n ≡ Some (named_shape q name) → tree_at t (14 + n) ≡ Tree.named (place_at t q) name
-  name_there n q name e =
-      let trees = shape_trees (place_at t) t.shapes in
-      part_behind trees n ∙ (ap (λ o. unwrap_or o no_tree) (tree_at_number (place_at t) t.shapes tables.shapes n (named_shape q name) e) ∙ name_tree (place_at t) trees q name)
+  name_there n q name e = search (std_rules, part_behind, tree_at_number (place_at t) t.shapes tables.shapes n (named_shape q name) e, name_tree)
 
   module _ (q : ℕ) where
     abbrev IsOwn : List ℕ → Type 0
@@ -60,13 +58,11 @@ module _ (t : Tables) (tables : AreTables t) (kept : List ℕ) (p : Plan) (are :
     met_low table new low ms more = ap (λ c. list_all (has_owner p (owners q)) (flat_map (met_by table) (cons_option (cond c None (Some (new - 14))) ms))) (lt-ltb new 14 low) ∙ more
 
     met_number : (table : List (List ℕ)) (new i : ℕ) → new ≡ 14 + i → IsOwn (met_by table i) → IsMetAs table new
-    met_number table new i to own ms more =
-        ap (λ o. list_all (has_owner p (owners q)) (flat_map (met_by table) (cons_option o ms))) (ap part_number to ∙ behind i) ∙ own_both (met_by table i) (flat_map (met_by table) ms) own more
+    met_number table new i to own ms more = search (std_rules, behind, own_both)
 
     part_of_form : (place : Place) (ks : List ℕ) → are_parts place (children (map (tree_at t) ks)) ≡ true → (k : ℕ) → Contains ks k → rules.is_part place (tree_at t k) ≡ true
     part_of_form place [] h k (i, low, e) = absurd (omega (arith, low))
-    part_of_form place (l ∷ ks) h k (zero, low, e) = ap (λ m. rules.is_part place (tree_at t m)) (sym e) ∙ first_true (rules.is_part place (tree_at t l))
-        (are_parts place (children (map (tree_at t) ks))) h
+    part_of_form place (l ∷ ks) h k (zero, low, e) = search (std_rules, first_true)
     part_of_form place (l ∷ ks) h k (suc i, low, e) = part_of_form place ks (second_true (rules.is_part place (tree_at t l)) (are_parts place (children (map (tree_at t) ks))) h) k
         (i, omega (arith, low), e)
 
@@ -150,15 +146,7 @@ module _ (t : Tables) (tables : AreTables t) (kept : List ℕ) (p : Plan) (are :
             no true h = no_true (sym none ∙ eq-eqb s r (owned.apart s r h))
 
         a_use : (s == r) ≡ false → IsNamedInterface p (owners s) → is_use p x ≡ true
-        a_use none is =
-            ap (λ k. option_map_or (λ m. option_map_or (λ u. not (same_owner u.owner x.owner) && option_map_or (has_name p) (owner_interface u.owner) false) (type_in p m) false)
-            (alias_number k) false) k
-            ∙ (ap (λ o. option_map_or (λ m. option_map_or (λ u. not (same_owner u.owner x.owner) && option_map_or (has_name p) (owner_interface u.owner) false) (type_in p m) false) o false)
-            (ap part_number to ∙ behind i)
-            ∙ (ap (λ o. option_map_or (λ u. not (same_owner u.owner x.owner) && option_map_or (has_name p) (owner_interface u.owner) false) o false) e
-            ∙ both (not (same_owner u.owner x.owner)) (option_map_or (has_name p) (owner_interface u.owner) false)
-            ((λ j. not (same_owner (owner_of j) (home j))) ∙ ap not (apart none))
-            (ap (λ y. option_map_or (has_name p) (owner_interface y) false) (owner_of ∙ is.is) ∙ is.named)))
+        a_use none is = search (std_rules, behind, both, owner_of, apart)
 
         by : (b : Bool) → (s == r) ≡ b → IsFine x
         by true same =
@@ -204,8 +192,7 @@ module _ (t : Tables) (tables : AreTables t) (kept : List ℕ) (p : Plan) (are :
   type_fine : (j n : ℕ) (x : PlannedType) → slice_get p.types j ≡ Some x → slice_get kept j ≡ Some n → IsKeptType t kept p n x → type_stays p x ≡ true
   type_fine j n x e stands (unnamed place form olds news there z name unowned kind part low) = search std_rules
   type_fine j n x e stands (declared r name d there named home kind before good obeys) =
-      or_right (same_owner x.owner owner.None) (list_all (has_owner p x.owner) (flat_map (met_by all_met) (kind_numbers x.kind)) || (is_some x.name && is_use p x))
-      (kind_fine j n x e stands r name there named (owned.owned j n x r name e stands there) d obeys kind)
+      search (std_rules, or_right, is_some x.name, kind_fine j n x e stands r name there named (owned.owned j n x r name e stands there) d obeys kind)
 
   stand : OwnersStand t kept p owners
   stand = record {

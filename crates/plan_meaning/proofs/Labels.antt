@@ -59,9 +59,7 @@ names_are g (e ∷ es) = ap (λ ts. text_of e.0 ∷ ts) (names_are g es)
 
 pub keys_apart : (ks fs : List (String Global)) → are_distinct (map text_of ks ++ map text_of fs) ≡ true
     → list_all (λ name. not (list_any (λ other. text_eq (text_of name) (text_of other)) fs)) ks ≡ true
-keys_apart ks fs h =
-    all_built text_of (λ x. not (list_any (text_eq x) (map text_of fs))) (λ name. not (list_any (λ other. text_eq (text_of name) (text_of other)) fs))
-    (λ name k. ap not (sym (any_of_map (text_eq (text_of name)) text_of fs)) ∙ k) ks (apart (map text_of ks) (map text_of fs) h)
+keys_apart ks fs h = search (std_rules, all_built, any_of_map, apart (map text_of ks) (map text_of fs) h)
 
 module _ (r : Resolve) (m : ℕ) (is : IsPlan (plan_of r m)) (bare : IsBare r) where
   abbrev labelled : TypeOwner → Function → Bool
@@ -102,9 +100,7 @@ module _ (r : Resolve) (m : ℕ) (is : IsPlan (plan_of r m)) (bare : IsBare r) w
   module _ (n : ℕ) (w : World) (name : is_label (text_of w.name) ≡ true) (at : world_at r n ≡ Some w)
       (functions : list_all (λ f. planned.function_labels (planned_function f)) (functions_of_world w) ≡ true) (bare_world : is_bare_world w ≡ true) where
     items_labelled : (list_all labelled_item (map (λ e. e.1) w.imports.entries) && list_all labelled_item (map (λ e. e.1) w.exports.entries)) ≡ true
-    items_labelled =
-        sym (list_all-append labelled_item (map (λ e. e.1) w.imports.entries) (map (λ e. e.1) w.exports.entries))
-        ∙ (sym (list_all_filter_map (λ f. planned.function_labels (planned_function f)) item_function (map (λ e. e.1) w.imports.entries ++ map (λ e. e.1) w.exports.entries)) ∙ functions)
+    items_labelled = search (std_rules, list_all-append, list_all_filter_map)
 
     bare_items : (list_all is_bare_item (map (λ e. e.1) w.imports.entries) && list_all is_bare_item (map (λ e. e.1) w.exports.entries)) ≡ true
     bare_items = second_true (is_bare w.docs w.stability) _ bare_world

@@ -60,12 +60,7 @@ module _ (r : Resolve) (m : ℕ) (is : IsPlan (plan_of r m)) where
       (interfaces : (n : ℕ) (e : String Global × InterfaceId) → lists_interface (plan_of r m) n (text_of e.0, e.1.0) ≡ true → q n e ≡ true)
       (worlds : (n : ℕ) (e : String Global × WorldId) → lists_world (plan_of r m) n (text_of e.0, e.1.0) ≡ true → s n e ≡ true) where
     pub members_pass : each_from (λ n p. list_all (q n) p.interfaces.entries && list_all (s n) p.worlds.entries) 0 r.packages.items ≡ true
-    members_pass = each_built planned_package (lists_members (plan_of r m)) (λ n p. list_all (q n) p.interfaces.entries && list_all (s n) p.worlds.entries)
-        (λ n p h. both _ _
-        (all_built (λ e. (text_of e.0, e.1.0)) (lists_interface (plan_of r m) n) (q n) (interfaces n) p.interfaces.entries (first_true _ _ h))
-        (all_built (λ e. (text_of e.0, e.1.0)) (lists_world (plan_of r m) n) (s n) (worlds n) p.worlds.entries
-        (second_true (list_all (lists_interface (plan_of r m) n) (map (λ e. (text_of e.0, e.1.0)) p.interfaces.entries)) _ h)))
-        r.packages.items is.members
+    members_pass = search (std_rules, each_built, plan_of, both, all_built, first_true, second_true)
 
   pub names_in_packages_kept : Keeps names_in_packages r
   unfolding names_in_packages

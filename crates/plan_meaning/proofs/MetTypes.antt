@@ -10,9 +10,7 @@ use Rattle.base_lemmas.proofs.{Elements.all-contained, Elements.all_weaker, Elem
 -- what is met at a type, by what is met at smaller numbers
 pub met_there : (p : Plan) (j : ℕ) (x : PlannedType) → slice_get p.types j ≡ Some x → met_by (met_in p) j ≡ met_at (take j (met_in p)) (j, x)
 unfolding met_in
-met_there p j x e =
-    let zero_more : 0 + j ≡ j = omega arith in
-    ap (λ o. unwrap_or o []) (grow_at met_at (numbered_from 0 p.types) j (j, x) (numbered_there 0 p.types j x e ∙ ap (λ m. Some (m, x)) zero_more))
+met_there p j x e = search (std_rules, grow_at, numbered_there 0 p.types j x e)
 
 pub flat_among : {A B : Type 0} (f : A → List B) (xs : List A) (y : B) → Contains (flat_map f xs) y → (x : A) × Contains xs x × Contains (f x) y
 flat_among f [] y c = none-in y c

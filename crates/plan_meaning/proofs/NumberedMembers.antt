@@ -96,10 +96,7 @@ module _ (t : Tables) (tables : AreTables t) (h : Homes) (stand : HomesStand t h
 
   module _ (known : ℕ → Fact) where
     pub interfaces_same : (seen : List NumberedSight) → AllByRecursion (IsKnownSight t known) seen → reads.are_interfaces (map (sight_of t) seen) ≡ are_interfaces t known seen
-    interfaces_same = all_same (IsKnownSight t known) (λ s. rules.is_interface (Place.of_interface s.path) s.view) (sight_of t)
-        (λ (s : NumberedSight). is_interface t known s.place s.view)
-        (λ s h. ap (λ place. rules.is_interface place (view_of t s.view)) (ap Place.of_interface (path_is t s.place (h.0.path, h.0.home)) ∙ sym (ap place_of h.0.home))
-        ∙ interface_same t tables.shapes known s.place s.view h.1)
+    interfaces_same = search (std_rules, all_same, path_is, interface_same)
 
     pub agree_same : (seen : List NumberedSight) → AllByRecursion (IsKnownSight t known) seen → all_agree (map (sight_of t) seen) ≡ agree_in_numbers seen
     agree_same seen all = all_agree_in_numbers t tables seen (only_sights t known seen all)
@@ -179,15 +176,7 @@ export_in_numbers t w scope shows = ap reads.exported_view shows.exports ∙ exp
 -- ---- laws
 
 pub packages_in_numbers : PackagesInNumbers
-packages_in_numbers t tables h stand known n identity there ms members z all =
-    ap (λ test. provided test (package_shown identity members))
-    (ap (λ seen. list_all (λ x. same_identity identity x.package_) members && (list_all (reads.stands_at_top identity members) seen && (all_agree seen && reads.are_interfaces seen)))
-    (all_sights t tables h stand ms members z)
-    ∙ test_same t tables h stand known n identity there ms members z (sights_of_members t ms) all)
+packages_in_numbers t tables h stand known n identity there ms members z all = search (std_rules, all_sights, test_same)
 
 pub one_world_in_numbers : OneWorldInNumbers
-one_world_in_numbers t tables h stand known n identity there name reads_ w scope shows all =
-    ap (λ test. provided test (world_shown identity name scope))
-    (ap (λ seen. all_agree seen && (reads.are_interfaces seen && not (list_any (λ s. text_eq s.path (path_in identity name)) seen))) (sights_in_numbers t w scope shows)
-    ∙ λ i. agree_same t tables h stand known (sights_of_scope t w) all i && (interfaces_same t tables h stand known (sights_of_scope t w) all i && not
-    (named_same t tables h stand known n identity there name reads_ (sights_of_scope t w) all i)))
+one_world_in_numbers t tables h stand known n identity there name reads_ w scope shows all = search (std_rules, sights_in_numbers t w scope shows, agree_same, interfaces_same, named_same)

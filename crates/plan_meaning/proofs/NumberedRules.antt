@@ -158,10 +158,7 @@ module _ (t : Tables) (table : IsTable t.shapes) (known : ℕ → Fact) (p : ℕ
         itself_same e = sym (ap (λ x. same_tree x (own_name here resource)) e) ∙ own_same k h.part h.seen
 
     function_of_same : (name : Text) (f : FunctionShape) → PartsOf Known f → rules.is_function_of here name (signature_over (tree_at t) f) resource ≡ is_function_of t known p name f resource
-    function_of_same name f h =
-        λ i. (text_eq name (constructor_name resource) && not f.is_async && constructs_same f.result h.1 i)
-        || (is_label_behind (method_name resource []) name && begins_same f.params h.0 i)
-        || is_label_behind (static_name resource []) name
+    function_of_same name f h = search (std_rules, constructs_same, begins_same)
 
   pub function_same : (resources : List Text) (name : Text) (f : FunctionShape) → PartsOf Known f
       → rules.is_function here resources name (signature_over (tree_at t) f) ≡ is_function t known p resources name f

@@ -148,8 +148,7 @@ module _ (t : Tables) (tables : AreTables t) where
   pub first_agree_in_numbers : (earlier seen : List NumberedSight) → AllByRecursion (IsSight t) earlier → AllByRecursion (IsSight t) seen
       → agree_with_first (map (sight_of t) earlier) (map (sight_of t) seen) ≡ agree_with_first_in_numbers earlier seen
   first_agree_in_numbers earlier [] he h = refl
-  first_agree_in_numbers earlier (s ∷ seen) he h =
-      search (std_rules, append_of_map, first_alike, all_end, first_agree_in_numbers (earlier ++ s ∷ []) seen (all_end (IsSight t) earlier s he h.0) h.1)
+  first_agree_in_numbers earlier (s ∷ seen) he h = search (std_rules, append_of_map, first_alike, all_end, first_agree_in_numbers (earlier ++ s ∷ []) seen (all_end (IsSight t) earlier s he h.0) h.1)
 
 pub each_number_tells : EachNumberTells
 each_number_tells t tables = numbers_tell t tables

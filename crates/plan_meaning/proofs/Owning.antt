@@ -30,13 +30,7 @@ module _ (r : Resolve) (m : ℕ) where
   target_is o = search (std_rules, or_there, plan_of, other_owner)
 
   use_is : (def : TypeDef) → planned.is_use (plan_of r m) (planned_type def) ≡ rules.is_use r def
-  use_is def =
-      ap (λ o. option_map_or (λ n. option_map_or (λ u. not (same_owner u.owner def.owner) && option_map_or (planned.has_name (plan_of r m)) (owner_interface u.owner) false) (type_in (plan_of r m) n)
-      false) o false) (alias_is def.kind)
-      ∙ same_or (λ n. option_map_or (λ u. not (same_owner u.owner def.owner) && option_map_or (planned.has_name (plan_of r m)) (owner_interface u.owner) false) (type_in (plan_of r m) n) false)
-      (λ n. option_map_or (λ target. not (same_owner target.owner def.owner) && option_map_or (λ i. option_map_or (λ other. is_some other.name) (interface_at r i) false) (owner_interface target.owner)
-      false) (type_at r n) false)
-      false (target_is def.owner) (alias_target def.kind)
+  use_is def = search (std_rules, plan_of r m, alias_is def.kind, same_or, is_some, target_is def.owner)
 
   type_stays_is : (def : TypeDef) → planned.type_stays (plan_of r m) (planned_type def) ≡ rules.type_stays r def
   type_stays_is def =
@@ -49,11 +43,7 @@ module _ (r : Resolve) (m : ℕ) where
 
   module _ (is : IsPlan (plan_of r m)) where
     falls : (n : ℕ) (i : Interface) → interface_at r n ≡ Some i → list_all (λ k. nat_lt k n) (direct_deps r n) ≡ true
-    falls n i e =
-        sym (used_within r n i e)
-        ∙ (sym (list_all_filter_map (λ k. nat_le k n) (λ id. uses.interface_used_by r id.0) (values i.types))
-        ∙ (ap (list_all (λ k. nat_le k n)) (sym (interfaces_used_are r m i))
-        ∙ each_there planned_interface (λ k x. list_all (λ j. nat_le j k) (plan.interfaces_used_by (plan_of r m) x)) r.interfaces.items is.uses_fall n i e))
+    falls n i e = search (std_rules, used_within r n i e, list_all_filter_map, nat_le, interfaces_used_are r m i, each_there, plan_of r m)
 
     pub owners_kept : Keeps owners r
     unfolding owners

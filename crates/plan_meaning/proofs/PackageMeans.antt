@@ -42,8 +42,7 @@ module _ (r : Resolve) (m : ℕ) where
   -- an entry of the plan, and what it is
   pub shown_is : (i : Interface) (k : Text) (x : InterfaceMeaning) → option_map (under i) (path_of_planned (plan_of r m) (planned_interface i)) ≡ Some (k, x)
       → (path_of_interface r i ≡ Some k) × (x ≡ meant.interface_meaning r i)
-  shown_is i k x e =
-      search (std_rules, some_path (path_of_planned (plan_of r m) (planned_interface i)) (under i) (k, x) e, plan_of r m, path_of_planned_is r m i, interface_is r m i)
+  shown_is i k x e = search (std_rules, some_path (path_of_planned (plan_of r m) (planned_interface i)) (under i) (k, x) e, plan_of r m, plan_of r m, path_of_planned_is r m i, interface_is r m i)
 
   pub shown_of : (i : Interface) (k : Text) → path_of_interface r i ≡ Some k → option_map (under i) (path_of_planned (plan_of r m) (planned_interface i)) ≡ Some (k, meant.interface_meaning r i)
   shown_of i k path = ap (option_map (under i)) (path_of_planned_is r m i ∙ path) ∙ ap (λ (y : InterfaceMeaning). Some (k, y)) (interface_is r m i)
@@ -148,14 +147,11 @@ module _ (r : Resolve) (m : ℕ) (is : IsPackagePlan (plan_of r m)) (v : IsValid
     where
       unseen : (b : Bool) → list_any (λ w. rules.is_shown_in w n) (map planned_world r.worlds.items) ≡ b → b ≡ false
       unseen false h = refl
-      unseen true h =
-          let w = any_get (λ w. rules.is_shown_in w n) (map planned_world r.worlds.items) h in
-          sym (shown_in r m is.plan v p at is.worlds n w.0 w.1 w.2 w.3 path) ∙ hidden
+      unseen true h = search (std_rules, any_get, shown_in)
 
   bare_means : (n : ℕ) (i : Interface) → interface_at r n ≡ Some i → is_some (interface_path r n) ≡ true → rules.is_foreign (plan_of r m) (planned_interface i) ≡ true → is_shown_in r p n ≡ false
       → types_alone (meant.interface_meaning r i) ≡ meant.interface_meaning r i
-  bare_means n i e path foreign hidden =
-      search (std_rules, plans_none n i e path foreign hidden, meant_function_entry r m, functions_are r m i, planned_function_entry r m)
+  bare_means n i e path foreign hidden = search (std_rules, plans_none n i e path foreign hidden, meant_function_entry r m, functions_are r m i, planned_function_entry r m)
 
   foreign_means : (n : ℕ) (i : Interface) → interface_at r n ≡ Some i → is_some (interface_path r n) ≡ true → rules.is_foreign (plan_of r m) (planned_interface i) ≡ true
       → foreign_meaning r p n ≡ meant.interface_meaning r i

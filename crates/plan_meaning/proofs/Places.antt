@@ -59,10 +59,7 @@ module _ (r : Resolve) (m : ℕ) (is : IsPlan (plan_of r m)) where
   interface_there n e h = search (std_rules, interface_listed r m is n e h)
 
   world_there : (n : ℕ) (e : String Global × WorldId) → planned.lists_world (plan_of r m) n (text_of e.0, e.1.0) ≡ true → world_belongs r n e ≡ true
-  world_there n e h =
-      let found = world_listed r m is n e h in
-      passes_both (λ w. text_eq (text_of w.name) (text_of e.0)) (λ w. is_id n (package_number w.package)) (λ w. is_id n (package_number w.package) && text_eq (text_of w.name) (text_of e.0))
-      (λ w a b. both _ _ b a) (world_at r e.1.0) found.1 found.2
+  world_there n e h = search (std_rules, world_listed r m is n e h, passes_both, both)
 
   names_differ : (p : Package) → members_differ (planned_package p) ≡ true → list_all (λ e. not (is_world_name p (text_of e.0)) || names_itself r e) p.interfaces.entries ≡ true
   names_differ p h =

@@ -37,9 +37,7 @@ times_more n x ns t rest h = search std_rules
 
 times_none : (n : ℕ) (xs : List PlannedItem) → has (filter_map plan.item_interface xs) n ≡ false → count_by (λ x. is_id n (plan.item_interface x)) xs ≡ 0
 times_none n [] h = refl
-times_none n (x ∷ xs) h =
-    sum_by-cons (λ y. cond (is_id n (plan.item_interface y)) 1 0) x xs
-    ∙ times_more n (plan.item_interface x) (filter_map plan.item_interface xs) (count_by (λ y. is_id n (plan.item_interface y)) xs) (times_none n xs) h
+times_none n (x ∷ xs) h = search (std_rules, sum_by-cons, times_more, count_by, times_none n xs)
 
 sum_none : (n : ℕ) (ws : List PlannedWorld) → list_any (λ w. planned.is_shown_in w n) ws ≡ false → sum_by (planned.times_shown n) ws ≡ 0
 sum_none n [] h = refl
@@ -162,6 +160,4 @@ module _ (r : Resolve) (m : ℕ) (is : IsPlan (plan_of r m)) (v : IsValid r) (p 
         (λ j uses_n. let user = user_stands r j n uses_n in let falls = uses_fall r v j n uses_n in leads_by fuel j user.0 (omega (arith, h, falls)) user.1)
 
     pub all_reached : (n : ℕ) (i : Interface) → interface_at r n ≡ Some i → has (reached_by_package r p) n ≡ true
-    all_reached n i e =
-        let lead = leads_by (length r.interfaces.items) n i (omega arith) e in
-        chains_reach r v starts lead.0 lead.1 n lead.2 lead.3
+    all_reached n i e = search (std_rules, leads_by (length r.interfaces.items) n i (omega arith) e, chains_reach)

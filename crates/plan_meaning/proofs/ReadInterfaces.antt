@@ -27,8 +27,7 @@ module _ (t : Tables) (kept : List ℕ) (p : Plan) (are : TypesAreKept t kept p)
 
   all_rise : (ns : List ℕ) (es : List (Text × ℕ)) → AllZip (IsKeptAs kept p) ns es → are_rising ns ≡ true → are_rising (numbers_of es) ≡ true
   all_rise [] [] z h = refl
-  all_rise (n ∷ ns) (e ∷ es) z h =
-      search (std_rules, both, later_rise, first_true, second_true, all_rise ns es z.1 (second_true (list_all (nat_lt n) ns) (are_rising ns) h))
+  all_rise (n ∷ ns) (e ∷ es) z h = search (std_rules, both, later_rise, first_true, second_true, all_rise ns es z.1 (second_true (list_all (nat_lt n) ns) (are_rising ns) h))
   all_rise _ _ z h = absurd z
 
   -- ---- types
@@ -51,26 +50,16 @@ module _ (t : Tables) (kept : List ℕ) (p : Plan) (are : TypesAreKept t kept p)
     types_are xs ns [] y z names = refl
     types_are [] ns (e ∷ es) y z names = absurd names
     types_are (x ∷ xs) [] (e ∷ es) y z names = absurd y
-    types_are (x ∷ xs) (n ∷ ns) (e ∷ es) y z names = both (is_type_of p (as_interface m) e) (list_all (is_type_of p (as_interface m)) es) (type_is x n e y.0 z.0 names.0)
-        (types_are xs ns es y.1 z.1 names.1)
+    types_are (x ∷ xs) (n ∷ ns) (e ∷ es) y z names = search (std_rules, both, type_is, types_are xs ns es y.1 z.1 names.1)
 
   -- ---- one interface
 
   module _ (b : Beside) (m : ℕ) (i : PlannedInterface) (is : IsReadInterface t kept p b m i) where
     shown_names : distinct (map (λ (x : NumberedType). x.name) is.view.types ++ map (λ (f : Text × NumberedFunction). f.0) is.view.functions) ≡ true
-    shown_names =
-        sym (ap distinct (λ j. map_of_map (λ (x : ShownType). x.name) (shown_type t) is.view.types j ++ map_of_map (λ (f : Text × FunctionMeaning). f.0) (shown_function t) is.view.functions j))
-        ∙ second_true
-        (list_all (λ x. is_label x.name && rules.is_declared (place_at t is.place) x.meaning.declaration) (view_of t is.view).types
-        && list_all (λ f. rules.is_function (place_at t is.place) (rules.resources_of (view_of t is.view).types) f.0 f.1.signature) (view_of t is.view).functions)
-        (distinct (map (λ x. x.name) (view_of t is.view).types ++ map (λ f. f.0) (view_of t is.view).functions)) is.obeys
+    shown_names = search (std_rules, map_of_map, second_true)
 
     pub has_labels : interface_labels i ≡ true
-    has_labels =
-        let functions = zip_map IsNamed (λ (f : Text × NumberedFunction). f.0) (λ (e : Text × PlannedFunction). e.0) (λ f e h. h.0) is.view.functions i.functions is.functions in
-        both (passes is_label i.name) (are_distinct (names_of i.types ++ names_of i.functions)) is.label
-        (ap are_distinct (λ j. zip_map HasName (λ (x : NumberedType). x.name) (λ (e : Text × ℕ). e.0) (λ x e h. h) is.view.types i.types is.names j ++ functions j)
-        ∙ (distinct_same (map (λ (x : NumberedType). x.name) is.view.types ++ map (λ (f : Text × NumberedFunction). f.0) is.view.functions) ∙ shown_names))
+    has_labels = search (std_rules, zip_map, both, distinct_same, shown_names)
 
 pub read_interfaces_pass : ReadInterfacesPass
 read_interfaces_pass t tables kept p are b owned read = record {

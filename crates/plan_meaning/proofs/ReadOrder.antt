@@ -44,8 +44,7 @@ same_declared z u h = search std_rules
 pub same_uses : (t : Tables) (xs ys : List NumberedType) → pointwise same_shown xs ys ≡ true
     → flat_map (λ (x : NumberedType). used_by t x.declared) xs ≡ flat_map (λ (x : NumberedType). used_by t x.declared) ys
 same_uses t [] [] h = refl
-same_uses t (x ∷ xs) (y ∷ ys) h =
-    search (std_rules, first_true, same_declared, second_true, same_uses t xs ys (second_true (same_shown x y) (pointwise same_shown xs ys) h))
+same_uses t (x ∷ xs) (y ∷ ys) h = search (std_rules, first_true, same_declared, second_true, same_uses t xs ys (second_true (same_shown x y) (pointwise same_shown xs ys) h))
 same_uses t _ _ h = no_true h
 
 pub has_front : (xs ys : List ℕ) (n : ℕ) → has xs n ≡ true → has (xs ++ ys) n ≡ true
@@ -166,8 +165,7 @@ module _ (t : Tables) (tables : AreTables t) (kept : List ℕ) (p : Plan) (are :
         → w.number < x.count
         → (is_type_seen x.seen.shown ≡ true → x.count ≡ w.number + 1 → ⊥) → (found : List ℕ) → (has found j ≡ true) ⊎ Waits (x ∷ rest) w.number → has found j ≡ true
     stands_first x rest j w follow low here found (inl h) = h
-    stands_first x rest j w follow low here found (inr (y, (zero, l, e), seen, count)) =
-        absurd (here (ap (λ (z : ReadItem). is_type_seen z.seen.shown) e ∙ seen) (ap (λ (z : ReadItem). z.count) e ∙ count))
+    stands_first x rest j w follow low here found (inr (y, (zero, l, e), seen, count)) = search std_rules
     stands_first x rest j w follow low here found (inr (y, (suc i, l, e), seen, count)) =
         let test = all-contained (λ (z : ReadItem). not (is_type_seen z.seen.shown) || nat_lt x.count z.count) rest y follow (i, omega (arith, l), e) in
         let above : x.count < y.count = ltb→lt x.count y.count (subst T (sym (sym (ap (λ v. not v || nat_lt x.count y.count) seen) ∙ test)) tt) in

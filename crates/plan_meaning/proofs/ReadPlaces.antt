@@ -1,5 +1,5 @@
 -- Packages, and the places of interfaces and worlds, that are read pass the tests of a plan on them.
-use Rattle.std.proofs.Common.{◌≡◌, refl, sym, ap, ◌∙◌, ℕ, ◌+◌, Bool, true, false, not, ◌&&◌, ◌||◌, ◌==◌, List, [], ◌∷◌, filter_map, flat_map, Option, Some, None, option_and_then, is_some, slice_get}
+use Rattle.std.proofs.Common.{rules as std_rules, ◌≡◌, refl, sym, ap, ◌∙◌, ℕ, ◌+◌, Bool, true, false, not, ◌&&◌, ◌||◌, ◌==◌, List, [], ◌∷◌, filter_map, flat_map, Option, Some, None, option_and_then, is_some, slice_get}
 use Rattle.std.proofs.lemmas.{Bool.eq-eqb, Bool.and_from as both, Bool.not-true as not_true, Bool.or_right, Option.same_Some as same-some}
 use Rattle.std.proofs.lemmas.{List.Folds.list_all-map, List.Sums.sum_by-cons, Slice.Eq.bytes_eq-Decides}
 use Rattle.std.specs.{Prelude.sum_by, List.AllByRecursion, List.list_all, List.list_any, Option.option_map_or, Option.option_eq}
@@ -73,11 +73,7 @@ module _ (t : Tables) (tables : AreTables t) (h : Homes) (homes : HomesStand t h
 
     all_worlds : (n : ℕ) (es : List (Text × ℕ)) → AllByRecursion (IsListedWorld t h p owners n) es → list_all (lists_world p n) es ≡ true
     all_worlds n [] a = refl
-    all_worlds n (e ∷ es) a =
-        both (lists_world p n e) (list_all (lists_world p n) es)
-        (ap (λ o. option_map_or (λ (w : PlannedWorld). text_eq w.name e.0 && is_id n w.package_) o false) a.0.there
-        ∙ ((λ j. text_eq (a.0.named j) e.0 && is_id n (a.0.home j)) ∙ both (text_eq e.0 e.0) (n == n) (same_text e.0 e.0 refl) (same-number n)))
-        (all_worlds n es a.1)
+    all_worlds n (e ∷ es) a = search (std_rules, both, same_text, same-number, all_worlds n es a.1)
 
     -- names of interfaces differ, as their numbers do
     other_names : (n : ℕ) (e : Text × ℕ) → IsListedInterface t h p owners n e → (es : List (Text × ℕ)) → AllByRecursion (IsListedInterface t h p owners n) es → has (numbers_of es) e.1 ≡ false
@@ -86,11 +82,7 @@ module _ (t : Tables) (tables : AreTables t) (h : Homes) (homes : HomesStand t h
     other_names n e is (x ∷ es) a none = go (text_eq e.0 x.0) refl (other_names n e is es a.1)
       where
         go : (b : Bool) → text_eq e.0 x.0 ≡ b → (has (numbers_of es) e.1 ≡ false → list_any (text_eq e.0) (names_of es) ≡ false) → list_any (text_eq e.0) (names_of (x ∷ es)) ≡ false
-        go true f more =
-            let same : e.0 ≡ x.0 = (bytes_eq-Decides e.0 x.0).0 f in
-            let place : is.place ≡ a.0.place = one_home is.place a.0.place n x.0 is.path a.0.path (is.home ∙ ap (λ y. Some (n, y)) same) a.0.home in
-            let number : x.1 ≡ e.1 = one_interface x.1 e.1 (sym a.0.owned ∙ (ap owners (sym place) ∙ is.owned)) in
-            never (has (numbers_of (x ∷ es)) e.1) (ap (λ b. b || has (numbers_of es) e.1) (eq-eqb x.1 e.1 number)) none
+        go true f more = search (std_rules, bytes_eq-Decides, one_home, one_interface, never, eq-eqb)
         go false f more = ap (λ b. b || list_any (text_eq e.0) (names_of es)) f ∙ more (none_second (x.1 == e.1) (has (numbers_of es) e.1) none)
 
     interface_names : (n : ℕ) (es : List (Text × ℕ)) → AllByRecursion (IsListedInterface t h p owners n) es → are_once (numbers_of es) ≡ true → are_distinct (names_of es) ≡ true
@@ -130,9 +122,7 @@ module _ (t : Tables) (tables : AreTables t) (h : Homes) (homes : HomesStand t h
       where
         go : (b : Bool) → has (filter_map item_interface (items_of w)) m ≡ b → ((times_shown m w == 0) || option_eq ◌==◌ w.package_ i.package_) ≡ true
         go false f = ap (λ k. (k == 0) || option_eq ◌==◌ w.package_ i.package_) (times_of item_interface m (items_of w) ∙ times_absent m (filter_map item_interface (items_of w)) f)
-        go true f =
-            let home = read.inline_home n w m i at (has-contains (filter_map item_interface (items_of w)) m f) e none in
-            or_right (times_shown m w == 0) (option_eq ◌==◌ w.package_ i.package_) (same_package w.package_ i.package_ (sym home))
+        go true f = search (std_rules, has-contains, or_right, same_package)
 
     placed : (m : ℕ) (i : PlannedInterface) → interface_in p m ≡ Some i → is_placed p m i ≡ true
     placed m i e = by (read.interfaces m i e)

@@ -99,24 +99,15 @@ module _ (t : Tables) (tables : AreTables t) (h : Homes) (homes : HomesStand t h
     package_used n k e = by (reasons.packages n k e)
       where
         lists : (is : HasHomes t h kept p b n) → IsPlacedInterface t h p b.owners is.number is.interface → has_items k.interfaces ≡ true
-        lists is (under_path q a name l path owned home named of_package there listed) =
-            let place : q ≡ is.place = one_place q is.place is.number owned is.owned in
-            let one = same-some (a, name) (n, is.name) (sym home ∙ (ap (home_at h) place ∙ is.home)) in
-            let same : l ≡ k = same-some l k (sym there ∙ (ap (package_in p) (ap (λ (x : ℕ × Text). x.0) one) ∙ e)) in
-            ap (λ (y : PlannedPackage). has_items y.interfaces) (sym same) ∙ filled l.interfaces (name, is.number) listed
-        lists is (inline q a w none owned unnamed there shown_there) =
-            let place : q ≡ is.place = one_place q is.place is.number owned is.owned in
-            no_true (ap is_some (sym none ∙ (ap (path_at t) place ∙ is.path.1)))
+        lists is (under_path q a name l path owned home named of_package there listed) = search (std_rules, one_place, same-some, filled)
+        lists is (inline q a w none owned unnamed there shown_there) = search (std_rules, one_place, no_true, is_some)
 
         by : (n ≡ p.main) ⊎ HasHomes t h kept p b n → ((n == p.main) || has_items k.interfaces) ≡ true
         by (inl same) = ap (λ v. v || has_items k.interfaces) (eq-eqb n p.main same)
         by (inr is) = or_right (n == p.main) (has_items k.interfaces) (lists is (read.places.interfaces is.number is.interface is.there))
 
     pub no_more : HoldsNoMore p
-    no_more = record {
-      types = each_by_number (λ n x. is_some x.name || (is_part p n && is_none x.external_id)) p.types type_used;
-      packages = each_by_number (λ n k. (n == p.main) || has_items k.interfaces) p.packages package_used;
-    }
+    no_more = search (std_rules, each_by_number, is_some, is_none, type_used, package_used)
 
   -- ---- interfaces that a world shows
 
@@ -287,11 +278,5 @@ module _ (t : Tables) (tables : AreTables t) (h : Homes) (homes : HomesStand t h
       ap (λ w. is_shown_in w n) (one-contained is.world by_world.world there) ∙ world_shows t tables h homes kept p b views is.read at.place n at.owned by_world
 
 pub read_world_plan_stands : ReadWorldPlanStands
-read_world_plan_stands t tables h homes kept p b views is = record {
-  plan = read_plan_stands t tables h homes kept p b views is.read;
-  no_more = no_more t tables h homes kept p b views is.read is.kept_for;
-  world = is.world;
-  alone = is.alone;
-  home = ap (is_id p.main) is.home ∙ same-number p.main;
-  shows = shows t tables h homes kept p b views is;
-}
+read_world_plan_stands t tables h homes kept p b views is =
+    search (std_rules, read_plan_stands t tables h homes kept p b views is.read, no_more t tables h homes kept p b views is.read is.kept_for, same-number p.main, shows t tables h homes kept p b views is)

@@ -72,38 +72,25 @@ module _ (t : Tables) (tables : AreTables t) (kept : List ℕ) (p : Plan) (are :
         )
       where
         labelled : (k : ℕ) (x : PlannedType) → slice_get t.shapes k ≡ Some (named_shape home key) → IsKeptType t kept p k x → is_label key ≡ true
-        labelled k x at (declared r other d at_other called home_x kind before good obeys) =
-            let one : named_shape r other ≡ named_shape home key = same-some (named_shape r other) (named_shape home key) (sym at_other ∙ at) in
-            ap (λ (s : Shape). is_label (first_label s.labels)) (sym one) ∙ good
-        labelled k x at (unnamed place form olds news at_form z none unowned kind part low) =
-            let one : node_shape form olds ≡ named_shape home key = same-some (node_shape form olds) (named_shape home key) (sym at_form ∙ at) in
-            no_true (sym (no_name form) ∙ eq-eqb (form_code form).sort 0 (ap (λ (s : Shape). s.sort) one))
+        labelled k x at (declared r other d at_other called home_x kind before good obeys) = search (rules, same-some)
+        labelled k x at (unnamed place form olds news at_form z none unowned kind part low) = search (rules, same-some, no_true, no_name, eq-eqb)
 
     imports_itself : (x : ReadItem) → Item x → import_stands p m x.entry ≡ true
     imports_itself x (by_path q n v id path shown key entry is) = ap (import_stands p m) entry ∙ both (n == n) (has_name p n) (same-number n) (named_there q n path is.owned is.interface is.there)
     imports_itself x (by_label q n v id shown good entry is) = ap (import_stands p m) entry ∙ both (is_label x.seen.key) (in_list p.interfaces n) good (there q n v is)
     imports_itself x (implementing_path q n v id path shown good entry is) = ap (import_stands p m) entry ∙ both (is_label x.seen.key) (in_list p.interfaces n) good (there q n v is)
     imports_itself x (a_function f g shown entry is) = ap (import_stands p m) entry ∙ function_stands x.seen.key x.count g is
-    imports_itself x (a_type d n shown entry is) =
-        let type_ = type_there x.seen.key x.count d x.seen.external_id n is in ap (import_stands p m) entry ∙ both (is_label x.seen.key) (is_type_of p (as_world m) (x.seen.key, n)) type_.0 type_.1
+    imports_itself x (a_type d n shown entry is) = search (rules, type_there x.seen.key x.count d x.seen.external_id n is, both)
 
     all_imports : (xs : List ReadItem) → AllByRecursion Item xs → list_all (import_stands p m) (map (λ (x : ReadItem). x.entry) xs) ≡ true
     all_imports [] a = refl
     all_imports (x ∷ xs) a = both (import_stands p m x.entry) (list_all (import_stands p m) (map (λ (y : ReadItem). y.entry) xs)) (imports_itself x a.0) (all_imports xs a.1)
 
     exports_itself : (x : ReadItem) → Item x → is_item t b.known home [] x.seen.key x.seen.shown ≡ true → not (is_type_seen x.seen.shown) ≡ true → export_stands p x.entry ≡ true
-    exports_itself x (by_path q n v id path shown key entry is) obeys none =
-        ap (export_stands p) entry ∙ both (n == n) (has_name p n) (same-number n) (named_there q n path is.owned is.interface is.there)
+    exports_itself x (by_path q n v id path shown key entry is) obeys none = search (rules, both, same-number, named_there)
     exports_itself x (by_label q n v id shown good entry is) obeys none = ap (export_stands p) entry ∙ both (is_label x.seen.key) (in_list p.interfaces n) good (there q n v is)
     exports_itself x (implementing_path q n v id path shown good entry is) obeys none = ap (export_stands p) entry ∙ both (is_label x.seen.key) (in_list p.interfaces n) good (there q n v is)
-    exports_itself x (a_function f g shown entry is) obeys none =
-        let r = is.read in
-        let item = sym (ap (is_item t b.known home [] x.seen.key) shown) ∙ obeys in
-        let good : is_label x.seen.key ≡ true = or_nothing (is_label x.seen.key) (second_true (is_signature t b.known home (function_at t f)) (is_label x.seen.key || false) item) in
-        let same : r.name ≡ x.seen.key = sym r.kept_function.named ∙ is.named in
-        ap (export_stands p) entry
-        ∙ both (is_function_key x.seen.key g) (is_freestanding g.kind) (function_stands x.seen.key x.count g is)
-        (stands_free t b.known kept p (as_world m) r.place r.name r.shape g.kind r.kept_function.kind (ap is_label same ∙ good))
+    exports_itself x (a_function f g shown entry is) obeys none = search (rules, or_nothing, second_true, both, function_stands, stands_free)
     exports_itself x (a_type d n shown entry is) obeys none = no_true (sym (ap (λ s. not (is_type_seen s)) shown) ∙ none)
 
     abbrev obeys_alone : NumberedSeen → Bool
@@ -139,10 +126,7 @@ module _ (t : Tables) (tables : AreTables t) (kept : List ℕ) (p : Plan) (are :
     same_keys x y (labelled_key e) (labelled_key f) h = sym (λ i. same_key (e i) (f i)) ∙ h
     same_keys x y (labelled_key e) (path_key q n f text is) h = no_true (sym (λ i. same_key (e i) (f i)) ∙ h)
     same_keys x y (path_key q n e text is) (labelled_key f) h = no_true (sym (λ i. same_key (e i) (f i)) ∙ h)
-    same_keys x y (path_key q n e text is) (path_key r k f other at) h =
-        let number : n ≡ k = eqb-true n k (sym (λ i. same_key (e i) (f i)) ∙ h) in
-        let place : q ≡ r = owned.apart q r (ap (same_owner (b.owners q)) (at ∙ (ap as_interface (sym number) ∙ sym is)) ∙ owner_itself (b.owners q)) in
-        same_text x.seen.key y.seen.key (text ∙ (ap (path_text t) place ∙ sym other))
+    same_keys x y (path_key q n e text is) (path_key r k f other at) h = search (rules, eqb-true, owner_itself (b.owners q), same_text)
 
     no_other_key : (x : ReadItem) → Item x → (ys : List ReadItem) → AllByRecursion Item ys
         → list_any (text_eq x.seen.key) (map (λ (s : NumberedSeen). s.key) (map (λ (y : ReadItem). y.seen) ys)) ≡ false
@@ -155,9 +139,7 @@ module _ (t : Tables) (tables : AreTables t) (kept : List ℕ) (p : Plan) (are :
       where
         differs : (v : Bool) → same_key x.entry.0 y.entry.0 ≡ v → same_key x.entry.0 y.entry.0 ≡ false
         differs false e = e
-        differs true e =
-            never (text_eq x.seen.key y.seen.key) (same_keys x y (key_is x is) (key_is y a.0) e)
-            (none_first (text_eq x.seen.key y.seen.key) (list_any (text_eq x.seen.key) (map (λ (s : NumberedSeen). s.key) (map (λ (z : ReadItem). z.seen) ys))) h)
+        differs true e = search (rules, never, same_keys, key_is, none_first)
 
     all_keys : (xs : List ReadItem) → AllByRecursion Item xs → distinct (map (λ (s : NumberedSeen). s.key) (map (λ (x : ReadItem). x.seen) xs)) ≡ true
         → keys_differ (map (λ (x : ReadItem). x.entry) xs) ≡ true
@@ -256,8 +238,7 @@ module _ (t : Tables) (tables : AreTables t) (kept : List ℕ) (p : Plan) (are :
         (ap (λ ss. distinct (map (λ (s : NumberedSeen). s.key) ss)) is.exports_seen ∙ (second_true ((imported && exported) && import_keys) export_keys front))
 
     types_rise : are_rising (world_types w) ≡ true
-    types_rise = ap (λ es. are_rising (filter_map item_type (map (λ (e : PlannedKey × PlannedItem). e.1) es))) (sym is.imports_listed) ∙ all_types m is.scope.home is.owned is.imports
-        is.imports_read is.follow
+    types_rise = search (rules, all_types m is.scope.home is.owned is.imports is.imports_read is.follow)
 
 pub read_worlds_pass : ReadWorldsPass
 read_worlds_pass t tables kept p are b owned views read = record {

@@ -41,9 +41,7 @@ module _ (r : Resolve) (m : ℕ) (below : Keeps references r) where
         go : (o : Option ℕ) → list_all (λ j. nat_lt j n) (option_to_list o) ≡ true
             → option_map_or (λ j. unwrap_or (slice_get (take n marks) j) false) o false ≡ option_map_or (parts.is_resource r) o false
         go None low = refl
-        go (Some j) low =
-            let less : j < n = ltb→lt j n (subst T (sym (first_true (nat_lt j n) true low)) tt) in
-            ap (λ o. unwrap_or o false) (slice_take marks n j less) ∙ same j less
+        go (Some j) low = search (std_rules, ltb→lt, first_true, slice_take)
 
     mark_is : (k : TypeDefKind) (x : PlannedType) → x.kind ≡ planned_kind k → list_all (λ j. nat_lt j n) (parts.kind_numbers k) ≡ true
         → marked_at (take n marks) x ≡ is_resource_kind (parts.is_resource r) k
@@ -58,10 +56,7 @@ module _ (r : Resolve) (m : ℕ) (below : Keeps references r) where
 
   unmarked : (n : ℕ) → length r.types.items ≤ n → plan.is_resource (plan_of r m) n ≡ false
   unfolding resource_marks
-  unmarked n h =
-      let made = grow_keeps marked_at [] (map planned_type r.types.items) in
-      let long : length (resource_marks (plan_of r m)) ≤ n = omega (arith, h, ap length made.1, made.2, length_of_map planned_type r.types.items) in
-      ap (λ o. unwrap_or o false) (slice_get_past (resource_marks (plan_of r m)) n long)
+  unmarked n h = search (std_rules, grow_keeps marked_at [] (map planned_type r.types.items), plan_of r m, plan_of r m, length_of_map planned_type r.types.items, slice_get_past)
 
   resource_step_is : (n : ℕ) → ((j : ℕ) → j < n → plan.is_resource (plan_of r m) j ≡ parts.is_resource r j) → plan.is_resource (plan_of r m) n ≡ parts.is_resource r n
   resource_step_is n same = go (type_at r n) refl

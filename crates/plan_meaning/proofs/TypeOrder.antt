@@ -50,9 +50,7 @@ key_is name x = search std_rules
 
 module _ (r : Resolve) (m : ℕ) (is : IsPlan (plan_of r m)) where
   named_of : (o : TypeOwner) (t : Text) (n : ℕ) → planned.is_type_of (plan_of r m) o (t, n) ≡ true → is_named_of r o n ≡ true
-  named_of o t n h =
-      passes_weaker (λ def. text_is def.name t && same_owner def.owner o) (λ def. is_some def.name && same_owner def.owner o)
-      (λ def k. both _ _ (named_too def.name t (first_true _ _ k)) (second_true (text_is def.name t) _ k)) (type_at r n) (own_type r m is o t n h)
+  named_of o t n h = search (std_rules, passes_weaker, is_some, both, named_too, first_true, second_true, own_type r m is o t n h)
 
   ordered : (ns : List ℕ) → are_rising ns ≡ true → are_in_order r ns ≡ true
   ordered ns rise = in_order (used_by_number r) (used_low r m is.types_fall) ns [] ns (λ k. refl) rise
@@ -81,10 +79,7 @@ module _ (r : Resolve) (m : ℕ) (is : IsPlan (plan_of r m)) where
   -- ---- types
 
   world_rises_at : (n : ℕ) (w : World) → world_at r n ≡ Some w → are_rising (world_type_numbers w) ≡ true
-  world_rises_at n w e =
-      ap are_rising (sym (world_types_are w))
-      ∙ all_get (λ x. are_rising (plan.world_types x)) (map planned_world r.worlds.items) n (planned_world w) is.world_types_rise
-      (get_of_map planned_world r.worlds.items n ∙ ap (option_map planned_world) e)
+  world_rises_at n w e = search (std_rules, world_types_are w, all_get, get_of_map planned_world r.worlds.items n)
 
   in_interface : (n : ℕ) (name : Text) (i : Interface) → are_rising (interface_type_numbers i) ≡ true → is_id n (number_under name (planned_interface i).types) ≡ true
       → is_listed_in_interface n name i ≡ true
