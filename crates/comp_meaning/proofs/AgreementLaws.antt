@@ -62,8 +62,7 @@ found_contains p (y ∷ ys) x e = by (p y) refl (found_contains p ys x) e
 
 into : (rest earlier : List Sight) → ((x : Sight) → Contains earlier x → list_all (agree x) rest ≡ true) → all_agree rest ≡ true → agree_with_first earlier rest ≡ true
 into [] earlier before all = refl
-into (s ∷ rest) earlier before all =
-    and_from (agrees_with_first earlier s) (agree_with_first (earlier ++ s ∷ []) rest)
+into (s ∷ rest) earlier before all = and_from (agrees_with_first earlier s) (agree_with_first (earlier ++ s ∷ []) rest)
     (and_from (option_map_or (λ f. same_types f s) (first_of s.path earlier) true) (not s.whole || option_map_or (λ f. same_in_functions f s) (first_whole s.path earlier) true)
     (types (first_of s.path earlier) refl) (implied s.whole _ (λ w. functions w (first_whole s.path earlier) refl)))
     (into rest (earlier ++ s ∷ []) (λ x c. elim (Contains-append_cases earlier (s ∷ []) x c) [
@@ -100,11 +99,9 @@ module _ (earlier : List Sight) (s : Sight) (known : Known earlier) (one : IsOnc
 
   -- it agrees with each of them
   with_each : (x : Sight) → Contains earlier x → agree x s ≡ true
-  with_each x c = agree_from x s
-      (λ path.
+  with_each x c = agree_from x s (λ path.
       let first = known.types x c in
-      type_join first.0 x s first.2 (with_types first.0 (ap (λ p. first_of p earlier) (sym path) ∙ first.1)))
-      (λ path mine yours.
+      type_join first.0 x s first.2 (with_types first.0 (ap (λ p. first_of p earlier) (sym path) ∙ first.1))) (λ path mine yours.
       let first = known.functions x c mine in
       let there = found_contains (λ y. text_eq x.path y.path && y.whole) earlier first.0 first.1 in
       function_join first.0 x s (known.once first.0 there.1) (known.once x c) one first.2 (with_functions yours first.0 (ap (λ p. first_whole p earlier) (sym path) ∙ first.1)))
@@ -128,10 +125,7 @@ module _ (earlier : List Sight) (s : Sight) (known : Known earlier) (one : IsOnc
       | inr last ↦ subst (λ (y : Sight). (f : Sight) × (first_whole y.path (earlier ++ s ∷ []) ≡ Some f) × (same_in_functions f y ≡ true)) (last_of s x last)
           (own_functions (ap (λ y. y.whole) (last_of s x last) ∙ w) (first_whole s.path earlier) refl)
     ];
-    once = λ x c. elim (Contains-append_cases earlier (s ∷ []) x c) [
-      | inl there ↦ known.once x there
-      | inr last ↦ subst IsOnce (last_of s x last) one
-    ];
+    once = λ x c. elim (Contains-append_cases earlier (s ∷ []) x c) [ inl there ↦ known.once x there | inr last ↦ subst IsOnce (last_of s x last) one ];
   }
     where
       own_types : (o : Option Sight) → first_of s.path earlier ≡ o → (f : Sight) × (first_of s.path (earlier ++ s ∷ []) ≡ Some f) × (same_types f s ≡ true)
@@ -140,8 +134,7 @@ module _ (earlier : List Sight) (s : Sight) (known : Known earlier) (one : IsOnc
 
       own_functions : s.whole ≡ true → (o : Option Sight) → first_whole s.path earlier ≡ o → (f : Sight) × (first_whole s.path (earlier ++ s ∷ []) ≡ Some f) × (same_in_functions f s ≡ true)
       own_functions w (Some f) e = (f, still_first (λ y. text_eq s.path y.path && y.whole) f e, with_functions w f e)
-      own_functions w None e =
-          (s, now_first (λ y. text_eq s.path y.path && y.whole) e (and_from (text_eq s.path s.path) s.whole (same_text s.path s.path refl) w), function_itself s one)
+      own_functions w None e = (s, now_first (λ y. text_eq s.path y.path && y.whole) e (and_from (text_eq s.path s.path) s.whole (same_text s.path s.path refl) w), function_itself s one)
 
 back : (rest earlier : List Sight) → Known earlier → ((x : Sight) → Contains rest x → IsOnce x) → agree_with_first earlier rest ≡ true
     → ((x : Sight) → Contains earlier x → list_all (agree x) rest ≡ true) × (all_agree rest ≡ true)
@@ -167,8 +160,7 @@ interfaces_once seen e x c =
     distinct_behind (map (λ t. t.name) x.view.types) (map (λ f. f.0) x.view.functions) (second_true _ (distinct (map (λ t. t.name) x.view.types ++ map (λ f. f.0) x.view.functions)) interface)
 
 pub first_agrees : FirstAgrees
-first_agrees seen interfaces = either_way (all_agree seen) (agree_with_first [] seen)
-    (λ all. into seen [] (λ x c. absurd (none_contained x c)) all)
+first_agrees seen interfaces = either_way (all_agree seen) (agree_with_first [] seen) (λ all. into seen [] (λ x c. absurd (none_contained x c)) all)
     (λ all. (back seen [] nothing_known (interfaces_once seen interfaces) all).1)
   where
     nothing_known : Known []

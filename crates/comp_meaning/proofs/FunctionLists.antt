@@ -35,10 +35,8 @@ module _ {X : Type 0} where
   pub one_value : (fs : List (Text × X)) → distinct (names fs) ≡ true → (k : Text) (v w : X) → Contains fs (k, v) → Contains fs (k, w) → v ≡ w
   one_value [] e k v w (i, low, h) d = absurd (omega (arith, low))
   one_value (f ∷ fs) e k v w (zero, low, h) (zero, small, g) = sym (ap (λ z. z.1) h) ∙ ap (λ z. z.1) g
-  one_value (f ∷ fs) e k v w (zero, low, h) (suc j, small, g) =
-      absurd (none_again f fs w e (subst (λ (n : Text). Contains fs (n, w)) (sym (ap (λ z. z.0) h)) (j, omega (arith, small), g)))
-  one_value (f ∷ fs) e k v w (suc i, low, h) (zero, small, g) =
-      absurd (none_again f fs v e (subst (λ (n : Text). Contains fs (n, v)) (sym (ap (λ z. z.0) g)) (i, omega (arith, low), h)))
+  one_value (f ∷ fs) e k v w (zero, low, h) (suc j, small, g) = absurd (none_again f fs w e (subst (λ (n : Text). Contains fs (n, w)) (sym (ap (λ z. z.0) h)) (j, omega (arith, small), g)))
+  one_value (f ∷ fs) e k v w (suc i, low, h) (zero, small, g) = absurd (none_again f fs v e (subst (λ (n : Text). Contains fs (n, v)) (sym (ap (λ z. z.0) g)) (i, omega (arith, low), h)))
   one_value (f ∷ fs) e k v w (suc i, low, h) (suc j, small, g) =
       one_value fs (second_true (not (is_named fs f.0)) (distinct (names fs)) e) k v w (i, omega (arith, low), h) (j, omega (arith, small), g)
 
@@ -89,8 +87,7 @@ module _ {X : Type 0} where
       one_number_first (λ x. position x.0 gs) fs f (map (λ _. true) gs) others (false_from_ne_true (list_any (λ x. eqb (position x.0 gs) (position f.0 gs)) fs) (λ s.
       let other = position_among gs fs (position f.0 gs) s in
       let same : other.0.0 ≡ f.0 = position_one gs other.0.0 f.0 (h other.0.0 other.0.1 (behind f fs other.0 other.1)) here other.2 in
-      none_again f fs other.0.1 e (subst (λ (n : Text). Contains fs (n, other.0.1)) same other.1)))
-      (true_mark gs (position f.0 gs) (position_low gs f.0 here))
+      none_again f fs other.0.1 e (subst (λ (n : Text). Contains fs (n, other.0.1)) same other.1))) (true_mark gs (position f.0 gs) (position_low gs f.0 here))
 
   -- ---- lists of which one stands in the other
 

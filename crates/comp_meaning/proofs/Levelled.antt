@@ -26,8 +26,7 @@ IsLevelled ds = (p : PartType) × (ds ≡ raw_part p)
 
 -- a wrapper, or nothing that wraps
 wrapped_or : (ds : Declarations)
-    → ((inner : Declarations) × (name : ExternName) × (ds ≡ Declarations.component inner (Declarations.declares (Declaration.exported name (refs.Component 0)) Declarations.no_more)))
-    ⊎ (wrapped ds ≡ None)
+    → ((inner : Declarations) × (name : ExternName) × (ds ≡ Declarations.component inner (Declarations.declares (Declaration.exported name (refs.Component 0)) Declarations.no_more))) ⊎ (wrapped ds ≡ None)
 wrapped_or x = search std_rules
 
 -- the world of a wrapper that is read has been followed
@@ -82,16 +81,16 @@ kept_export top next x e k =
     subst IsKept (some_is after next w.1) (record {
       counted = one_number_more (λ y. y.1) top.exported (x.exported_as.text, b.0) (map (λ _. true) top.types) k.counted (not-true (list_any (λ y. eqb y.1 b.0) top.exported) new.1)
           (true_mark top.types b.0 low);
-      within = λ i n found. elim (appended_at top.slots b.0 n i found) [
-        | inl before ↦ k.within i n before
-        | inr last ↦ omega (arith, last, low)
-      ];
+      within = λ i n found. elim (appended_at top.slots b.0 n i found) [ inl before ↦ k.within i n before | inr last ↦ omega (arith, last, low) ];
     })
 
-kept_section : (top next : reads.Top) (s : Section) → top_section top s ≡ Some next → IsKept top → IsKept next
-kept_section top next (Section.custom name contents) e k = subst IsKept (some_is top next e) k
-kept_section top next (Section.types ts) e k = steps_keep IsKept top_type kept_type ts top next e k
-kept_section top next (Section.exports es) e k = steps_keep IsKept reads.top_export kept_export es top next e k
+-- what types and exports keep stays behind a section
+module _ (P : reads.Top → Type 0) (types : (top next : reads.Top) (t : TopType) → top_type top t ≡ Some next → P top → P next)
+    (exports : (top next : reads.Top) (x : TopExport) → reads.top_export top x ≡ Some next → P top → P next) where
+  section_keeps : (top next : reads.Top) (s : Section) → top_section top s ≡ Some next → P top → P next
+  section_keeps top next (Section.custom name contents) e k = subst P (some_is top next e) k
+  section_keeps top next (Section.types ts) e k = steps_keep P top_type types ts top next e k
+  section_keeps top next (Section.exports es) e k = steps_keep P reads.top_export exports es top next e k
 
 abbrev empty_top : reads.Top
 empty_top = record { types = []; slots = []; exported = [] }
@@ -101,8 +100,7 @@ empty_kept = record { counted = record { below = λ n h. absurd cc; count = refl
 
 -- a type that is exported has been followed
 exported_levels : (types : List Declarations) (xs : List (Text × ℕ)) (found : List (Text × Declarations)) (members : List Member) → each (λ x. raw_found x (slice_get types x.1)) xs ≡ Some found
-    → each member found ≡ Some members
-    → (n : ℕ) → list_any (λ x. eqb x.1 n) xs ≡ true → (ds : Declarations) → slice_get types n ≡ Some ds → IsLevelled ds
+    → each member found ≡ Some members → (n : ℕ) → list_any (λ x. eqb x.1 n) xs ≡ true → (ds : Declarations) → slice_get types n ≡ Some ds → IsLevelled ds
 exported_levels types [] found members e f n h ds at = absurd cc
 exported_levels types (x ∷ xs) found members e f n h ds at =
     let one = bind_some (raw_found x (slice_get types x.1)) _ found e in
@@ -136,11 +134,6 @@ type_stays n ds top next x e h = search (std_rules, some_is, get_before, slice_g
 export_stays : (n : ℕ) (ds : Declarations) (top next : reads.Top) (x : TopExport) → reads.top_export top x ≡ Some next → Stands n ds top → Stands n ds next
 export_stays n ds top next x e h = search std_rules
 
-section_stays : (n : ℕ) (ds : Declarations) (top next : reads.Top) (s : Section) → top_section top s ≡ Some next → Stands n ds top → Stands n ds next
-section_stays n ds top next (Section.custom name contents) e h = subst (Stands n ds) (some_is top next e) h
-section_stays n ds top next (Section.types ts) e h = steps_keep (Stands n ds) top_type (type_stays n ds) ts top next e h
-section_stays n ds top next (Section.exports es) e h = steps_keep (Stands n ds) reads.top_export (export_stays n ds) es top next e h
-
 types_levels : (ts : List TopType) (top next : reads.Top) → steps top_type top ts ≡ Some next → AllLevelled next → (ps : List PartType) × (ts ≡ map (λ p. TopType.component (raw_part p)) ps)
 types_levels [] top next e all = ([], refl)
 types_levels (TopType.component ds ∷ ts) top next e all =
@@ -157,7 +150,7 @@ sections_levels (Section.custom name contents ∷ ss) top next e all =
     (levels.custom name contents ∷ more.0, ap (λ (rest : List Section). Section.custom name contents ∷ rest) more.1)
 sections_levels (Section.types ts ∷ ss) top next e all =
     let b = bind_some (steps top_type top ts) _ next e in
-    let here = types_levels ts top b.0 b.1 (λ n ds h. all n ds (steps_keep (Stands n ds) top_section (section_stays n ds) ss b.0 next b.2 h)) in
+    let here = types_levels ts top b.0 b.1 (λ n ds h. all n ds (steps_keep (Stands n ds) top_section (section_keeps (Stands n ds) (type_stays n ds) (export_stays n ds)) ss b.0 next b.2 h)) in
     let more = sections_levels ss b.0 next b.2 all in
     (levels.types here.0 ∷ more.0, ap (λ (xs : List TopType). Section.types xs ∷ ss) here.1 ∙ ap (λ (rest : List Section). raw_piece (levels.types here.0) ∷ rest) more.1)
 sections_levels (Section.exports es ∷ ss) top next e all =
@@ -172,7 +165,7 @@ only_levels ss found members e f =
     let b = bind_some (steps top_section empty_top ss) _ found e in
     let w = when_some (eqb (length b.0.exported) (length b.0.types) && distinct (map (λ x. x.0) b.0.exported)) (each (λ x. raw_found x (slice_get b.0.types x.1)) b.0.exported) found b.2 in
     let many = and_parts (eqb (length b.0.exported) (length b.0.types)) (distinct (map (λ x. x.0) b.0.exported)) w.0 in
-    let kept = steps_keep IsKept top_section kept_section ss empty_top b.0 b.1 empty_kept in
+    let kept = steps_keep IsKept top_section (section_keeps IsKept kept_type kept_export) ss empty_top b.0 b.1 empty_kept in
     let exported_each : all_taken (λ x. x.1) b.0.exported 0 (map (λ _. true) b.0.types) ≡ true =
     sym (exact (λ x. x.1) b.0.exported (map (λ _. true) b.0.types) kept.counted) ∙ (ap (eqb (length b.0.exported)) (all_marked b.0.types) ∙ many.0) in
     sections_levels ss empty_top b.0 b.1 (λ n ds h.

@@ -75,8 +75,7 @@ module _ {A : Type 0} (key : A → ℕ) where
   taken_more : (xs : List A) (x : A) (zs : List A) → HasOneMore xs x zs → (n k : ℕ) (fs : List Bool) → key x ≡ n + k → list_any (λ y. eqb (key y) (key x)) xs ≡ false → slice_get fs k ≡ Some true
       → taken zs n fs ≡ suc (taken xs n fs)
   taken_more xs x zs more n zero (true ∷ fs) e new h = search (std_rules, eq-eqb, taken_past)
-  taken_more xs x zs more n (suc k) (true ∷ fs) e new h =
-      search (std_rules, among_other, one_more, taken_more xs x zs more (suc n) k fs (omega (arith, e)) new h)
+  taken_more xs x zs more n (suc k) (true ∷ fs) e new h = search (std_rules, among_other, one_more, taken_more xs x zs more (suc n) k fs (omega (arith, e)) new h)
   taken_more xs x zs more n (suc k) (false ∷ fs) e new h = taken_more xs x zs more (suc n) k fs (omega (arith, e)) new h
   taken_more xs x zs more n _ _ e new h = absurd cc
 
@@ -126,7 +125,6 @@ module _ {A : Type 0} (key : A → ℕ) where
 
   pub taken_at : (xs : List A) (n k : ℕ) (fs : List Bool) → all_taken xs n fs ≡ true → slice_get fs k ≡ Some true → list_any (λ x. eqb (key x) (n + k)) xs ≡ true
   taken_at xs n zero (true ∷ fs) all h = search std_rules
-  taken_at xs n (suc k) (true ∷ fs) all h =
-      search (std_rules, second_true, taken_at xs (suc n) k fs (second_true (list_any (λ x. eqb (key x) n) xs) (all_taken xs (suc n) fs) all) h)
+  taken_at xs n (suc k) (true ∷ fs) all h = search (std_rules, second_true, taken_at xs (suc n) k fs (second_true (list_any (λ x. eqb (key x) n) xs) (all_taken xs (suc n) fs) all) h)
   taken_at xs n (suc k) (false ∷ fs) all h = search (std_rules, taken_at xs (suc n) k fs all h)
   taken_at xs n _ _ all h = absurd cc

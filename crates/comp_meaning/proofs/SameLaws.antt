@@ -15,13 +15,11 @@ texts_decide a b = bytes_eq-Decides a b
 
 bools_decide : DecidesEquality same_bool
 bools_decide true true = (λ e. refl, λ e. refl)
-bools_decide false false = (λ e. refl, λ e. refl)
-bools_decide _ _ = (λ e. absurd cc, λ e. absurd cc)
+bools_decide _ _ = search std_rules
 
 options_decide : {A : Type 0} (same : A → A → Bool) → DecidesEquality same → (a b : Option A) → Decides (same_option same a b) (a ≡ b)
-options_decide same d None None = (λ e. refl, λ e. refl)
 options_decide same d (Some x) (Some y) = (λ e. ap Some ((d x y).0 e), λ e. (d x y).1 (let same_value : x ≡ y = cc in same_value))
-options_decide same d _ _ = (λ e. absurd cc, λ e. absurd cc)
+options_decide same d _ _ = search std_rules
 
 pairs_decide : {A B : Type 0} (same : A → A → Bool) (other : B → B → Bool) → DecidesEquality same → DecidesEquality other → (x y : A × B) → Decides (same x.0 y.0 && other x.1 y.1) (x ≡ y)
 pairs_decide same other d e x y = search (std_rules, Decides-and)
@@ -54,24 +52,17 @@ labels_decide = lists_decide text_eq texts_decide
 form_is : (f g : Form) → same_form f g ≡ true → f ≡ g
 form_is (Form.record_of xs) (Form.record_of ys) e = ap Form.record_of ((labels_decide xs ys).0 e)
 form_is (Form.variant_of xs) (Form.variant_of ys) e = ap Form.variant_of ((cases_decide xs ys).0 e)
-form_is Form.list_of Form.list_of e = refl
 form_is (Form.fixed_list_of n) (Form.fixed_list_of m) e = ap Form.fixed_list_of ((Decides-eqb n m).0 e)
-form_is Form.option_of Form.option_of e = refl
-form_is Form.own_of Form.own_of e = refl
-form_is Form.borrow_of Form.borrow_of e = refl
-form_is Form.map_of Form.map_of e = refl
-form_is Form.tuple_of Form.tuple_of e = refl
 form_is (Form.flags_of xs) (Form.flags_of ys) e = ap Form.flags_of ((labels_decide xs ys).0 e)
 form_is (Form.enum_of xs) (Form.enum_of ys) e = ap Form.enum_of ((labels_decide xs ys).0 e)
 form_is (Form.result_of a b) (Form.result_of c d) e = search (std_rules, Decides-and, bools_decide)
 form_is (Form.future_of a) (Form.future_of b) e = ap Form.future_of ((bools_decide a b).0 e)
 form_is (Form.stream_of a) (Form.stream_of b) e = ap Form.stream_of ((bools_decide a b).0 e)
-form_is _ _ e = absurd cc
+form_is _ _ e = search std_rules
 
 pub form_itself : (f : Form) → same_form f f ≡ true
 form_itself (Form.record_of xs) = (labels_decide xs xs).1 refl
 form_itself (Form.variant_of xs) = (cases_decide xs xs).1 refl
-form_itself Form.list_of = refl
 form_itself (Form.fixed_list_of n) = (Decides-eqb n n).1 refl
 form_itself (Form.flags_of xs) = (labels_decide xs xs).1 refl
 form_itself (Form.enum_of xs) = (labels_decide xs xs).1 refl
@@ -93,12 +84,11 @@ mutual
   tree_is _ _ e = absurd cc
 
   trees_are : (ts us : Trees) → same_trees ts us ≡ true → ts ≡ us
-  trees_are Trees.no_children Trees.no_children e = refl
   trees_are (Trees.child t ts) (Trees.child u us) e =
       let head = first_true (same_tree t u) (same_trees ts us) e in
       let rest = second_true (same_tree t u) (same_trees ts us) e in
       ap (λ x. Trees.child x ts) (tree_is t u head) ∙ ap (Trees.child u) (trees_are ts us rest)
-  trees_are _ _ e = absurd cc
+  trees_are _ _ e = search std_rules
 
 mutual
   pub tree_itself : (t : Tree) → same_tree t t ≡ true
@@ -117,8 +107,7 @@ trees_decide t u = (tree_is t u, λ e. subst (λ (x : Tree). same_tree t x ≡ t
 
 pub declarations_decide : DecidesEquality same_declaration
 declarations_decide (Declaration.type_ t) (Declaration.type_ u) = (λ e. ap Declaration.type_ ((trees_decide t u).0 e), λ e. (trees_decide t u).1 (let same_tree_there : t ≡ u = cc in same_tree_there))
-declarations_decide Declaration.resource Declaration.resource = (λ e. refl, λ e. refl)
-declarations_decide _ _ = (λ e. absurd cc, λ e. absurd cc)
+declarations_decide _ _ = search std_rules
 
 pub types_decide : DecidesEquality same_type
 types_decide a b = search (std_rules, Decides-and, declarations_decide, options_decide, texts_decide)
