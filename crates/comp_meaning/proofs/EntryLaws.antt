@@ -68,9 +68,6 @@ kept_entry : (scope next : Scope) (x : Entry) → entry_step scope x ≡ Some ne
 kept_entry scope next (plain d) e k = kept_along scope next (step_of scope next d e) k
 kept_entry scope next (holds ds) e k = subst IsKept (some_is (in_scope (Slot.instance ds (length scope.slots)) scope) next e) (kept_slot scope (Slot.instance ds (length scope.slots)) k)
 
-new_kept : IsKept new_scope
-new_kept = record { below = λ n h. absurd cc; count = refl }
-
 -- none is left unused exactly where there are as many uses as instance types
 none_unused : (scope : Scope) → IsKept scope → eqb (length scope.used) (instance_types scope.slots) ≡ all_used scope.used 0 scope.slots
 none_unused scope k = search (std_rules, instances_marked, exact, used_marked)
@@ -92,7 +89,7 @@ scope_is es = ap (λ o. o >>= λ scope. provided (eqb (length scope.used) (insta
     by : (o : Option Scope) → steps entry_step new_scope es ≡ o
         → (o >>= λ scope. provided (eqb (length scope.used) (instance_types scope.slots)) scope) ≡ (o >>= λ scope. provided (all_used scope.used 0 scope.slots) scope)
     by None e = refl
-    by (Some scope) e = ap (λ b. provided b scope) (none_unused scope (steps_keep IsKept entry_step kept_entry es new_scope scope e new_kept))
+    by (Some scope) e = ap (λ b. provided b scope) (none_unused scope (steps_keep IsKept entry_step kept_entry es new_scope scope e (record { below = λ n h. absurd cc; count = refl })))
 
 -- ---- what is followed are entries
 

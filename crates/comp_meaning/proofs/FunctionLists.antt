@@ -9,7 +9,7 @@ use Rattle.base_lemmas.proofs.Bools.{both_ways as either_way, left_of as first_t
 use Rattle.wit_model.specs.Text.{Text, TextMap, text_eq, text_cmp}
 use Rattle.wit_model.proofs.{VersionLaws.same_text, Maps.one_map, Maps.there_some, AnyOrder.found-there as found_there, TextLemmas.text_same}
 use Rattle.comp_meaning.specs.{Rules.distinct, Same.same_function, Same.stand_in}
-use Rattle.comp_meaning.specs.{Reads.same_functions, SameLaws.DecidesEquality, SameLaws.SameFunctionsStandInEachOther, SameLaws.SameFunctionsAreOneMap}
+use Rattle.comp_meaning.specs.{SameLaws.DecidesEquality, SameLaws.SameFunctionsStandInEachOther, SameLaws.SameFunctionsAreOneMap}
 use Rattle.comp_meaning.proofs.SameLaws.{functions_decide}
 use Rattle.comp_meaning.proofs.Marks.{marks, all_taken, Counted, no_number, one_number_first, no_more, exact, taken_at, true_mark, all_marked}
 
@@ -92,10 +92,7 @@ module _ {X : Type 0} where
   -- ---- lists of which one stands in the other
 
   no_longer : (fs gs : List (Text × X)) → ((k : Text) (v : X) → Contains fs (k, v) → Contains gs (k, v)) → distinct (names fs) ≡ true → length fs ≤ length gs
-  no_longer fs gs stand e =
-      let c = counted gs fs (λ k v c. contained_name gs k v (stand k v c)) e in
-      let most = no_more (λ f. position f.0 gs) fs (map (λ _. true) gs) c in
-      omega (arith, most, all_marked gs)
+  no_longer fs gs stand e = omega (arith, no_more (λ f. position f.0 gs) fs (map (λ _. true) gs) (counted gs fs (λ k v c. contained_name gs k v (stand k v c)) e), all_marked gs)
 
   -- as many as the others, and all among them: so the others are among these
   the_others : (fs gs : List (Text × X)) → ((k : Text) (v : X) → Contains fs (k, v) → Contains gs (k, v)) → distinct (names fs) ≡ true → distinct (names gs) ≡ true → length fs ≡ length gs

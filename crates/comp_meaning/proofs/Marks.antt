@@ -20,9 +20,6 @@ pub all_marked : {A : Type 0} (xs : List A) → marks (map (λ _. true) xs) ≡ 
 all_marked [] = refl
 all_marked (x ∷ xs) = ap suc (all_marked xs)
 
-or_flip : (a b : Bool) → (a || b) ≡ (b || a)
-or_flip x b = search std_rules
-
 same_number : (a b : ℕ) → eqb (suc a) (suc b) ≡ eqb a b
 same_number a b = both_ways (eqb (suc a) (suc b)) (eqb a b) (λ e. let same = eqb-true (suc a) (suc b) e in eq-eqb a b (omega (arith, same))) (λ e. eq-eqb (suc a) (suc b) (ap suc (eqb-true a b e)))
 
@@ -93,7 +90,7 @@ module _ {A : Type 0} (key : A → ℕ) where
   one_number_more xs x fs c new h = let long = length-append xs (x ∷ []) in grown xs x (xs ++ x ∷ []) (among_more xs x) (omega (arith, long)) fs c new h
 
   pub one_number_first : (xs : List A) (x : A) (fs : List Bool) → Counted xs fs → list_any (λ y. eqb (key y) (key x)) xs ≡ false → slice_get fs (key x) ≡ Some true → Counted (x ∷ xs) fs
-  one_number_first xs x fs c new h = grown xs x (x ∷ xs) (λ n. or_flip (eqb (key x) n) (list_any (λ y. eqb (key y) n) xs)) refl fs c new h
+  one_number_first xs x fs c new h = grown xs x (x ∷ xs) (λ n. (search std_rules)) refl fs c new h
 
   -- none at all
   taken_none : (n : ℕ) (fs : List Bool) → taken [] n fs ≡ 0

@@ -1,9 +1,9 @@
 -- The tests of Same say whether two meanings are equal.
-use Rattle.std.proofs.Common.{rules as std_rules, ◌≡◌, refl, sym, ap, subst, ◌∙◌, ℕ, Bool, true, false, ◌&&◌, eqb, List, [], ◌∷◌, map, Option, Some, None}
+use Rattle.std.proofs.Common.{rules as std_rules, ◌≡◌, refl, sym, ap, subst, ◌∙◌, ℕ, Bool, true, ◌&&◌, eqb, List, [], ◌∷◌, map, Option, Some}
 use Rattle.std.proofs.lemmas.{Bool.and_from, Bool.Decides.Decides-and, Bool.Decides.Decides-eqb, Slice.Eq.bytes_eq-Decides, Slice.Eq.slice_eq-Decides}
 use Rattle.std.specs.{Prelude.slice_get, Prelude.unwrap_or, Bool.Decides, Cmp.Lexicographic.pointwise, Cmp.Derive.Mapped.pointwise-map}
 use Rattle.wit_model.specs.Text.{Text, text_eq}
-use Rattle.wit_model.specs.Tree.{Primitive, Place, Form, Tree, Trees, Declaration}
+use Rattle.wit_model.specs.Tree.{Primitive, Form, Tree, Trees, Declaration}
 use Rattle.comp_meaning.specs.Same.{same_option, same_bool, primitive_number, same_place, same_form, same_tree, same_trees, same_declaration, same_type, same_signature, same_function, same_identity}
 use Rattle.comp_meaning.specs.{Reads.same_shown, SameLaws.DecidesEquality, SameLaws.SameTypesAreEqual, SameLaws.named_meaning}
 use Rattle.base_lemmas.proofs.Bools.{left_of as first_true, right_of as second_true}
@@ -78,16 +78,12 @@ mutual
       let both = (Decides-and (same_place p q) (text_eq x y) (places_decide p q) (texts_decide x y)).0 e in
       ap (λ place. Tree.named place x) both.0 ∙ ap (Tree.named q) both.1
   tree_is (Tree.node f ts) (Tree.node g us) e =
-      let form = first_true (same_form f g) (same_trees ts us) e in
-      let parts = second_true (same_form f g) (same_trees ts us) e in
-      ap (λ x. Tree.node x ts) (form_is f g form) ∙ ap (Tree.node g) (trees_are ts us parts)
+      ap (λ x. Tree.node x ts) (form_is f g (first_true (same_form f g) (same_trees ts us) e)) ∙ ap (Tree.node g) (trees_are ts us (second_true (same_form f g) (same_trees ts us) e))
   tree_is _ _ e = absurd cc
 
   trees_are : (ts us : Trees) → same_trees ts us ≡ true → ts ≡ us
   trees_are (Trees.child t ts) (Trees.child u us) e =
-      let head = first_true (same_tree t u) (same_trees ts us) e in
-      let rest = second_true (same_tree t u) (same_trees ts us) e in
-      ap (λ x. Trees.child x ts) (tree_is t u head) ∙ ap (Trees.child u) (trees_are ts us rest)
+      ap (λ x. Trees.child x ts) (tree_is t u (first_true (same_tree t u) (same_trees ts us) e)) ∙ ap (Trees.child u) (trees_are ts us (second_true (same_tree t u) (same_trees ts us) e))
   trees_are _ _ e = search std_rules
 
 mutual
@@ -112,14 +108,12 @@ declarations_decide _ _ = search std_rules
 pub types_decide : DecidesEquality same_type
 types_decide a b = search (std_rules, Decides-and, declarations_decide, options_decide, texts_decide)
 
-params_decide : (ps qs : List (Text × Tree)) → Decides (pointwise (λ x y. text_eq x.0 y.0 && same_tree x.1 y.1) ps qs) (ps ≡ qs)
-params_decide = lists_decide (λ x y. text_eq x.0 y.0 && same_tree x.1 y.1) (pairs_decide text_eq same_tree texts_decide trees_decide)
-
 pub signatures_decide : DecidesEquality same_signature
 signatures_decide a b =
     let params = pointwise (λ x y. text_eq x.0 y.0 && same_tree x.1 y.1) a.params b.params in
     let result = same_option same_tree a.result b.result in
-    let front = Decides-and (same_bool a.is_async b.is_async) params (bools_decide a.is_async b.is_async) (params_decide a.params b.params) in
+    let front = Decides-and (same_bool a.is_async b.is_async) params (bools_decide a.is_async b.is_async)
+    ((lists_decide (λ x y. text_eq x.0 y.0 && same_tree x.1 y.1) (pairs_decide text_eq same_tree texts_decide trees_decide)) a.params b.params) in
     let all = Decides-and (same_bool a.is_async b.is_async && params) result front (options_decide same_tree trees_decide a.result b.result) in
     (λ h. let parts = all.0 h in λ i. record { is_async = parts.0.0 i; params = parts.0.1 i; result = parts.1 i }, λ e. all.1 ((ap (λ x. x.is_async) e, ap (λ x. x.params) e), ap (λ x. x.result) e))
 
