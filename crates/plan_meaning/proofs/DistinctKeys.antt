@@ -53,13 +53,10 @@ keys_distinct (e ∷ es) h = (other_keys e.0 es (first_true _ _ h), keys_distinc
 
 module _ (r : Resolve) (m : ℕ) (is : IsPlan (plan_of r m)) where
   package_keys : (n : ℕ) (p : Package) → package_at r n ≡ Some p → IsUnique string_eq p.interfaces × IsUnique string_eq p.worlds
-  package_keys n p e =
-      both_distinct (λ id. id.0) (λ id. id.0) p.interfaces.entries p.worlds.entries
-      (all_there planned_package members_differ r.packages.items is.members_differ n p e)
+  package_keys n p e = both_distinct (λ id. id.0) (λ id. id.0) p.interfaces.entries p.worlds.entries (all_there planned_package members_differ r.packages.items is.members_differ n p e)
 
   interface_keys : (n : ℕ) (i : Interface) → interface_at r n ≡ Some i → IsUnique string_eq i.types × IsUnique string_eq i.functions
-  interface_keys n i e =
-      both_distinct (λ id. id.0) planned_function i.types.entries i.functions.entries
+  interface_keys n i e = both_distinct (λ id. id.0) planned_function i.types.entries i.functions.entries
       (second_true (passes is_label (optional_text i.name)) _ (all_there planned_interface planned.interface_labels r.interfaces.items is.interface_labels n i e))
 
   world_keys : (n : ℕ) (w : World) → world_at r n ≡ Some w → IsUnique key_eq w.imports × IsUnique key_eq w.exports

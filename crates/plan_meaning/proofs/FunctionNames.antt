@@ -1,10 +1,10 @@
 -- Functions stand under their names, and those of a resource are named and shaped after it.
-use Rattle.std.proofs.Common.{rules as std_rules, ◌≡◌, refl, sym, ap, ◌∙◌, ℕ, Bool, true, false, ◌&&◌, ◌||◌, [], ◌∷◌, ◌++◌, Option, Some, None, is_none, is_some, String, codes}
+use Rattle.std.proofs.Common.{rules as std_rules, ◌≡◌, refl, sym, ap, ◌∙◌, ℕ, Bool, true, false, ◌&&◌, [], ◌∷◌, ◌++◌, Option, Some, None, is_none, is_some, String, codes}
 use Rattle.std.proofs.lemmas.{List.Folds.list_all-append, List.Folds.list_all-map, Bool.and_from as both}
 use Rattle.std.specs.{List.list_all, Option.option_map_or}
 use Rattle.std.specs.declared.alloc.Global.{Global}
 use Rattle.wit_model.specs.declared.model.{Resolve.Resolve, WorldItem.WorldItem, TypeDefKind.TypeDefKind, «Type».«Type» as ValueType, FunctionKind.FunctionKind}
-use Rattle.wit_model.specs.declared.model.{World.World, WorldKey.WorldKey, TypeDef.TypeDef, TypeOwner.TypeOwner, Param.Param, Function.Function}
+use Rattle.wit_model.specs.declared.model.{World.World, WorldKey.WorldKey, TypeDef.TypeDef, TypeOwner.TypeOwner, Function.Function}
 use Rattle.wit_model.specs.{Text.Text, Text.text_of, Text.text_eq, Text.optional_text, Tree.Form, Lookup.type_at, Lookup.world_at}
 use Rattle.wit_model.specs.{Rules.passes, Rules.is_name_key}
 use Rattle.wit_model.specs.{Types.number_of, Valid.Keeps, Valid.function_names, Valid.as_interface, Valid.as_world, Valid.item_function}
@@ -41,8 +41,7 @@ module _ (r : Resolve) (m : ℕ) where
   -- a test of the type that a part is
   module _ (test : PlannedType → Bool) (rule : TypeDef → Bool) (same : (def : TypeDef) → test (planned_type def) ≡ rule def) where
     part_is : (t : ValueType) → planned.part_is (plan_of r m) test (part_of t) ≡ rules.type_is r rule t
-    part_is t =
-        ap (λ o. option_map_or (λ n. option_map_or test (type_in (plan_of r m) n) false) o false) (number_part t)
+    part_is t = ap (λ o. option_map_or (λ n. option_map_or test (type_in (plan_of r m) n) false) o false) (number_part t)
         ∙ same_or (λ n. option_map_or test (type_in (plan_of r m) n) false) (λ n. option_map_or rule (type_at r n) false) false (or_there test planned_type rule false same r.types.items) (number_of t)
 
   own_ok : (n : ℕ) (ok err : Option ValueType)
@@ -90,12 +89,11 @@ module _ (r : Resolve) (m : ℕ) where
     world_right : (n : ℕ) (w : World) → world_at r n ≡ Some w → list_all (is_right n) (w.imports.entries ++ w.exports.entries) ≡ true
     world_right n w at =
         let members = entries_pass (rules.is_member r (as_world n)) w (world_holds r m (planned.is_member (plan_of r m)) (rules.is_member r) belongs is.functions_belong n w at) in
-        list_all-append (is_right n) w.imports.entries w.exports.entries
-        ∙ both _ _
+        list_all-append (is_right n) w.imports.entries w.exports.entries ∙ both _ _
         (all_two (λ e. planned.import_stands (plan_of r m) n (planned_key e.0, planned_item e.1)) (λ e. passes (rules.is_member r (as_world n)) (item_function e.1)) (is_right n)
         (λ e a b. passes_both (λ f. is_name_key (text_of f.name) e.0) (rules.is_member r (as_world n)) _ (λ f x y. both _ _ x y) (item_function e.1) (import_key n e.0 e.1 a) b) w.imports.entries
-        (imports_there r m is n w at) members.0)
-        (all_two (λ e. planned.export_stands (plan_of r m) (planned_key e.0, planned_item e.1)) (λ e. passes (rules.is_member r (as_world n)) (item_function e.1)) (is_right n)
+        (imports_there r m is n w at) members.0) (all_two (λ e. planned.export_stands (plan_of r m) (planned_key e.0, planned_item e.1))
+        (λ e. passes (rules.is_member r (as_world n)) (item_function e.1)) (is_right n)
         (λ e a b. passes_both (λ f. is_name_key (text_of f.name) e.0) (rules.is_member r (as_world n)) _ (λ f x y. both _ _ x y) (item_function e.1) (export_key e.0 e.1 a) b) w.exports.entries
         (exports_there r m is n w at) members.1)
 

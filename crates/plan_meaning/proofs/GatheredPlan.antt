@@ -1,15 +1,15 @@
 -- A plan that is gathered from views in numbers means what they mean.
-use Rattle.std.proofs.Common.{rules as std_rules, ◌≡◌, refl, sym, ap, subst, ◌∙◌, ℕ, ◌+◌, arith, Bool, true, false, not, ◌&&◌, ◌==◌, cond, List, [], ◌∷◌, ◌++◌, map, filter_map, Option, Some, None, option_map, unwrap_or, slice_get, rules}
+use Rattle.std.proofs.Common.{rules as std_rules, ◌≡◌, refl, sym, ap, subst, ◌∙◌, ℕ, ◌+◌, arith, Bool, true, false, not, ◌&&◌, ◌==◌, cond, List, [], ◌∷◌, ◌++◌, map, filter_map, Option, Some, None, option_map, slice_get, rules}
 use Rattle.std.proofs.lemmas.List.Elements.{Contains-append_right}
 use Rattle.std.specs.{Prelude.option_and_then, Option.option_map_or, FinMap.from_entries}
 use Rattle.std.specs.List.{AllByRecursion, AllZip, Contains, filter, flat_map, list_any}
 use Rattle.wit_model.specs.Text.{Text, TextMap, text_eq}
 use Rattle.wit_model.specs.{Tree.Form, Tree.Tree, Tree.Declaration, Tree.children, Meant.no_type, Meant.no_interface, Meant.no_world}
-use Rattle.wit_model.specs.{Types.no_tree, Meaning.FunctionMeaning, Meaning.TypeMeaning, Meaning.InterfaceMeaning, Meaning.WorldMeaning, Meaning.Item}
+use Rattle.wit_model.specs.{Meaning.FunctionMeaning, Meaning.TypeMeaning, Meaning.InterfaceMeaning, Meaning.WorldMeaning, Meaning.Item}
 use Rattle.wit_model.proofs.Elements.{contains-flat}
 use Rattle.comp_meaning.specs.{Follow.Scope, Follow.View, Follow.provided, SameLaws.named_meaning}
 use Rattle.comp_meaning.specs.Reads.{Part, Member, Sight, seen_meaning, is_of, package_with}
-use Rattle.plan_meaning.specs.{Shapes.node_shape, Shapes.part_tree, Shapes.shape_trees, Gathering.AreEnough, NumberedRules.Fact}
+use Rattle.plan_meaning.specs.{Shapes.node_shape, Shapes.part_tree, Gathering.AreEnough, NumberedRules.Fact}
 use Rattle.plan_meaning.specs.Plan.{Plan, PlannedKind, PlannedFunction, PlannedInterface, PlannedKey, PlannedItem, PlannedWorld, declared_as, trees_in}
 use Rattle.plan_meaning.specs.PlanMeaning.{type_meaning_in, function_meaning, interface_meaning_in, world_meaning_in, foreign_entry, shown_entry, plan_meaning, plan_world_meaning}
 use Rattle.plan_meaning.specs.NumberedViews.{FunctionShape, Tables, path_text, place_at, tree_at, signature_over, function_at, AreTables, NumberedType, NumberedFunction, NumberedView, view_of, declaration_of, shown_type, shown_function, NumberedSight, sight_of, IsSight, agree_in_numbers}
@@ -55,8 +55,7 @@ module _ (t : Tables) (tables : AreTables t) (kept : List ℕ) (p : Plan) (keeps
   type_entry e = (e.0, type_meaning_in p e.1)
 
   types_kept : (xs : List NumberedType) (es : List (Text × ℕ)) → AllZip (TypeListed t kept p) xs es → map type_entry es ≡ map named_meaning (map (shown_type t) xs)
-  types_kept xs es z =
-      zip_map (TypeListed t kept p) (λ x. named_meaning (shown_type t x)) type_entry (λ x e h i. (h.0 i, type_kept x.declared x.external_id e.1 h.1 i)) xs es z
+  types_kept xs es z = zip_map (TypeListed t kept p) (λ x. named_meaning (shown_type t x)) type_entry (λ x e h i. (h.0 i, type_kept x.declared x.external_id e.1 h.1 i)) xs es z
       ∙ sym (map_of_map named_meaning (shown_type t) xs)
 
   -- ---- functions and interfaces
@@ -118,9 +117,8 @@ module _ (t : Tables) (tables : AreTables t) (kept : List ℕ) (p : Plan) (keeps
   functions_alike : (q : ℕ) → HasPath t q → (seen : List NumberedSight) → AllByRecursion (IsSight t) seen
       → reads.functions_of (path_text t q) (map (sight_of t) seen) ≡ map (shown_function t) (functions_seen q seen)
   functions_alike q at [] all = refl
-  functions_alike q at (s ∷ seen) all =
-      by (text_eq (path_text t q) (path_text t s.place) && s.whole) (s.place == q && s.whole) (ap (λ b. b && s.whole) (path_number t tables q s.place at (all.0.path, all.0.home)))
-      (functions_alike q at seen all.1)
+  functions_alike q at (s ∷ seen) all = by (text_eq (path_text t q) (path_text t s.place) && s.whole) (s.place == q && s.whole)
+      (ap (λ b. b && s.whole) (path_number t tables q s.place at (all.0.path, all.0.home))) (functions_alike q at seen all.1)
     where
       by : (a b : Bool) → a ≡ b → reads.functions_of (path_text t q) (map (sight_of t) seen) ≡ map (shown_function t) (functions_seen q seen)
           → cond a (map (shown_function t) s.view.functions) (reads.functions_of (path_text t q) (map (sight_of t) seen)) ≡ map (shown_function t) (cond b s.view.functions (functions_seen q seen))
@@ -232,8 +230,7 @@ module _ (t : Tables) (tables : AreTables t) (kept : List ℕ) (p : Plan) (keeps
 
       gathered : (chosen : List NumberedSight) → AreChosen test seen chosen → (xs : List (Text × PlannedInterface)) → AllZip (SightBecomes t kept p seen) chosen xs
           → ◌≡◌ {A = TextMap InterfaceMeaning} (from_entries (map entry_of xs)) (from_entries (map (seen_meaning seen_all) shown))
-      gathered chosen are xs z =
-          ap from_entries (chosen_kept chosen (λ s c. (are.among s c).0) xs z)
+      gathered chosen are xs z = ap from_entries (chosen_kept chosen (λ s c. (are.among s c).0) xs z)
           ∙ one_view_is_enough seen_all (map (sight_of t) chosen) shown agree (λ s c. let from = into s c in subst (Contains seen_all) from.3 (contains-map (sight_of t) seen from.0 from.1))
           (enough chosen are)
 
@@ -296,11 +293,9 @@ module _ (t : Tables) (tables : AreTables t) (h : Homes) (stand : HomesStand t h
 
   foreign_means : ◌≡◌ {A = TextMap InterfaceMeaning} (from_entries (filter_map (foreign_entry p) p.interfaces))
       (from_entries (map (seen_meaning (flat_map reads.sights members)) (filter is_other (flat_map reads.sights members))))
-  foreign_means =
-      ap from_entries (filter_mapped (foreign_entry p) (foreign_interface p) (meant_entry p) (foreign_is p) p.interfaces)
-      ∙ (gathered t tables g.kept p g.keeps seen sights (is_foreign h n) (filter is_other (map (sight_of t) seen)) agree into back g.chosen g.chosen_are
-      (filter_map (foreign_interface p) p.interfaces) g.foreign
-      ∙ ap (λ ss. from_entries (map (seen_meaning ss) (filter is_other ss))) (sym (all_sights t tables h stand ms members z)))
+  foreign_means = ap from_entries (filter_mapped (foreign_entry p) (foreign_interface p) (meant_entry p) (foreign_is p) p.interfaces)
+      ∙ (gathered t tables g.kept p g.keeps seen sights (is_foreign h n) (filter is_other (map (sight_of t) seen)) agree into back g.chosen g.chosen_are (filter_map (foreign_interface p) p.interfaces)
+      g.foreign ∙ ap (λ ss. from_entries (map (seen_meaning ss) (filter is_other ss))) (sym (all_sights t tables h stand ms members z)))
 
   package_means : planned.package_meaning p g.main ≡ package_shown g.main.identity members
   package_means = λ i. record {
@@ -322,8 +317,7 @@ gathered_package_is_meant t tables h stand known n ms members z all are p g = pa
 
 pub gathered_world_is_meant : GatheredWorldIsMeant
 unfolding plan_world_meaning
-gathered_world_is_meant t tables h stand known n name w scope shows all are p g reads_ =
-    ap (option_and_then (λ k. option_map (planned.world_package p k) (plan.world_in p 0))) g.stands
+gathered_world_is_meant t tables h stand known n name w scope shows all are p g reads_ = ap (option_and_then (λ k. option_map (planned.world_package p k) (plan.world_in p 0))) g.stands
     ∙ (ap (option_map (planned.world_package p g.main)) g.first
     ∙ (ap Some means
     ∙ sym (one_world_in_numbers t tables h stand known n g.main.identity g.identity name reads_ w scope shows all ∙ ap (λ b. provided b (world_shown g.main.identity name scope)) are)))
@@ -332,18 +326,15 @@ gathered_world_is_meant t tables h stand known n name w scope shows all are p g 
     sights = only_sights t known (sights_of_scope t w) all
 
     agree : reads.all_agree (map (sight_of t) (sights_of_scope t w)) ≡ true
-    agree =
-        agree_same t tables h stand known (sights_of_scope t w) all
+    agree = agree_same t tables h stand known (sights_of_scope t w) all
         ∙ first_true (agree_in_numbers (sights_of_scope t w)) (are_interfaces t known (sights_of_scope t w) && not (list_any (λ s. is_named_in h n name s.place) (sights_of_scope t w))) are
 
     shown_means : ◌≡◌ {A = TextMap InterfaceMeaning} (from_entries (filter_map (shown_entry p) p.interfaces))
         (from_entries (map (seen_meaning (flat_map reads.of_instance scope.instances)) (flat_map reads.of_instance scope.instances)))
-    shown_means =
-        ap from_entries (filter_mapped (shown_entry p) (under_path p) (meant_entry p) (shown_is p) p.interfaces)
+    shown_means = ap from_entries (filter_mapped (shown_entry p) (under_path p) (meant_entry p) (shown_is p) p.interfaces)
         ∙ (gathered t tables g.kept p g.keeps (sights_of_scope t w) sights (λ s. true) (map (sight_of t) (sights_of_scope t w)) agree
-        (λ s c. let from = map_from (sight_of t) (sights_of_scope t w) s c in (from.0, from.1, refl, from.2))
-        (λ x c passes. contains-map (sight_of t) (sights_of_scope t w) x c) g.chosen g.chosen_are (filter_map (under_path p) p.interfaces) g.shown
-        ∙ ap (λ ss. from_entries (map (seen_meaning ss) ss)) (sym (sights_in_numbers t w scope shows)))
+        (λ s c. let from = map_from (sight_of t) (sights_of_scope t w) s c in (from.0, from.1, refl, from.2)) (λ x c passes. contains-map (sight_of t) (sights_of_scope t w) x c) g.chosen g.chosen_are
+        (filter_map (under_path p) p.interfaces) g.shown ∙ ap (λ ss. from_entries (map (seen_meaning ss) ss)) (sym (sights_in_numbers t w scope shows)))
 
     means : planned.world_package p g.main g.world ≡ world_shown g.main.identity name scope
     means = λ i. record { identity = g.main.identity; name = g.named i; world = world_kept t tables g.kept p g.keeps w g.world g.becomes scope shows i; shown = shown_means i }

@@ -20,8 +20,7 @@ alike s t h e = search (std_rules, bytes_eq-Decides, shown_types_decide, first_t
 one_types : (all : List Sight) → all_agree all ≡ true → (s t : Sight) → Contains all s → Contains all t → s.path ≡ t.path → types_of s ≡ types_of t
 one_types [] h s t (i, l, e) d p = absurd (omega (arith, l))
 one_types (x ∷ xs) h s t (zero, l, e) (zero, k, f) p = ap types_of (sym e ∙ f)
-one_types (x ∷ xs) h s t (zero, l, e) (suc j, k, f) p =
-    alike s t (ap (λ y. agree y t) (sym e) ∙ all-contained (agree x) xs t (first_true (list_all (agree x) xs) _ h) (j, omega (arith, k), f)) p
+one_types (x ∷ xs) h s t (zero, l, e) (suc j, k, f) p = alike s t (ap (λ y. agree y t) (sym e) ∙ all-contained (agree x) xs t (first_true (list_all (agree x) xs) _ h) (j, omega (arith, k), f)) p
 one_types (x ∷ xs) h s t (suc i, l, e) (zero, k, f) p =
     sym (alike t s (ap (λ y. agree y s) (sym f) ∙ all-contained (agree x) xs s (first_true (list_all (agree x) xs) _ h) (i, omega (arith, l), e)) (sym p))
 one_types (x ∷ xs) h s t (suc i, l, e) (suc j, k, f) p = search (std_rules, second_true, one_types xs (second_true (list_all (agree x) xs) _ h) s t (i, omega (arith, l), e) (j, omega (arith, k), f) p)
@@ -30,8 +29,7 @@ one_types (x ∷ xs) h s t (suc i, l, e) (suc j, k, f) p = search (std_rules, se
 
 -- no function stands twice in a view of an interface
 functions_once : (all : List Sight) → are_interfaces all ≡ true → (s : Sight) → Contains all s → HaveDistinctNames s.view.functions
-functions_once all h s c =
-    distinct_behind (map (λ (t : ShownType). t.name) s.view.types) (map (λ (f : Text × FunctionMeaning). f.0) s.view.functions)
+functions_once all h s c = distinct_behind (map (λ (t : ShownType). t.name) s.view.types) (map (λ (f : Text × FunctionMeaning). f.0) s.view.functions)
     (second_true _ (distinct (map (λ (t : ShownType). t.name) s.view.types ++ map (λ (f : Text × FunctionMeaning). f.0) s.view.functions))
     (all-contained (λ (x : Sight). is_interface (Place.of_interface x.path) x.view) all s h c))
 
@@ -44,11 +42,9 @@ abbrev MeanThose : Sight → List (Text × FunctionMeaning) → Type 0
 MeanThose s fs = ◌≡◌ {A = TextMap FunctionMeaning} (from_entries fs) (from_entries s.view.functions)
 
 -- Where all views agree, a view that shows functions shows those that the first of its path does.
-pub functions_mean_one : (all : List Sight) → all_agree all ≡ true → are_interfaces all ≡ true → (s : Sight) → Contains all s → s.whole ≡ true
-    → MeanThose s (functions_of s.path all)
+pub functions_mean_one : (all : List Sight) → all_agree all ≡ true → are_interfaces all ≡ true → (s : Sight) → Contains all s → s.whole ≡ true → MeanThose s (functions_of s.path all)
 functions_mean_one [] h i s (k, l, e) whole = absurd (omega (arith, l))
-functions_mean_one (x ∷ xs) h i s c whole =
-    by (text_eq s.path x.path && x.whole) refl c
+functions_mean_one (x ∷ xs) h i s c whole = by (text_eq s.path x.path && x.whole) refl c
     (λ d. functions_mean_one xs (second_true (list_all (agree x) xs) (all_agree xs) h) (second_true (is_interface (Place.of_interface x.path) x.view) (are_interfaces xs) i) s d whole)
   where
     once : (y : Sight) → Contains (x ∷ xs) y → HaveDistinctNames y.view.functions

@@ -25,8 +25,7 @@ module _ (r : Resolve) (m : ℕ) where
 
   types_are : (w : ℕ) (x : WorldItem) → planned.used_types (plan_of r m) w (planned_item x) ≡ rules.used_types r w x
   types_are w (item.Interface id stability docs external_id) = refl
-  types_are w (item.Function f) =
-      ap (λ ns. filter (plan.has_owner (plan_of r m) (as_world w)) (used_by_numbers (plan_of r m) ns)) (function_numbers_are f)
+  types_are w (item.Function f) = ap (λ ns. filter (plan.has_owner (plan_of r m) (as_world w)) (used_by_numbers (plan_of r m) ns)) (function_numbers_are f)
       ∙ (λ i. filter (λ n. has_owner_is r m (as_world w) n i) (used_are r m (parts.function_numbers f) i))
   types_are w (item.Type_ id) = search (std_rules, has_owner_is, or_there, plan_of, used_by_kind_is)
 

@@ -1,17 +1,17 @@
 -- Functions whose types are those of kept shapes pass the tests on their types and their resource.
-use Rattle.std.proofs.Common.{◌≡◌, inl, inr, refl, sym, ap, subst, ◌∙◌, ℕ, ◌+◌, arith, Bool, true, false, not, ◌&&◌, ◌||◌, ◌==◌, cond, List, [], ◌∷◌, length, map, drop, filter_map, Option, Some, None, option_map, option_to_list, is_none, slice_get, codes, rules as std_rules}
+use Rattle.std.proofs.Common.{◌≡◌, inl, inr, refl, sym, ap, subst, ◌∙◌, ℕ, ◌+◌, arith, Bool, true, false, not, ◌&&◌, ◌||◌, ◌==◌, cond, List, [], ◌∷◌, length, drop, filter_map, Option, Some, None, option_to_list, is_none, slice_get, codes, rules as std_rules}
 use Rattle.std.proofs.lemmas.{Bool.eqb-true, Bool.eq-eqb, Bool.lt-ltb, Bool.or_right, Bool.and_from as both, List.Folds.list_all-map}
 use Rattle.std.proofs.lemmas.Option.{slice_get_within}
 use Rattle.std.specs.{Prelude.nat_le, Prelude.nat_eq, Prelude.option_and_then, List.AllZip, List.list_all, List.starts_with, Option.option_map_or}
 use Rattle.wit_model.specs.declared.model.{TypeOwner.TypeOwner, FunctionKind.FunctionKind}
 use Rattle.wit_model.specs.{Text.Text, Text.text_eq, Lookup.resource_of}
-use Rattle.wit_model.specs.{Names.is_label, Names.constructor_name, Names.method_name, Names.static_name, Tree.Place, Tree.Form, Tree.Tree, Tree.levels}
+use Rattle.wit_model.specs.{Names.is_label, Names.method_name, Names.static_name, Tree.Place, Tree.Form, Tree.levels}
 use Rattle.wit_model.specs.Rules.{after_prefix, are_member_labels, in_list, is_freestanding, is_id, passes}
 use Rattle.wit_model.proofs.{VersionLaws.same_text, TextLemmas.text_same}
-use Rattle.comp_meaning.specs.Rules.{are_labels, is_label_behind, most_levels}
+use Rattle.comp_meaning.specs.Rules.{is_label_behind, most_levels}
 use Rattle.plan_meaning.specs.Shapes.{Shape, first_label, form_code, named_shape, node_shape, IsShape, a_name, a_node, part_tree}
 use Rattle.plan_meaning.specs.Plan.{Plan, PlannedType, PlannedFunction, formed, function_parts, part_number, type_in, trees_in}
-use Rattle.plan_meaning.specs.PlanRules.{is_borrow_of, is_member, is_member_of, is_member_name, is_own_of, is_result_of_own, is_shallow, names_of, part_is, resource_name, takes_self}
+use Rattle.plan_meaning.specs.PlanRules.{is_borrow_of, is_member, is_member_of, is_member_name, is_own_of, is_result_of_own, is_shallow, names_of, part_is, resource_name}
 use Rattle.plan_meaning.specs.Renumbering.{IsPart, a_primitive, a_shape}
 use Rattle.plan_meaning.specs.NumberedViews.{FunctionShape, Tables, tree_at, AreTables}
 use Rattle.plan_meaning.specs.NumberedRules.{Fact, shape_at, name_in, only_of, held_in, own_sort, borrow_sort, ok_in, begins_with_self, constructs, is_handle, is_name}
@@ -72,8 +72,7 @@ module _ (t : Tables) (tables : AreTables t) (known : ℕ → Fact) (kept : List
   -- ---- levels
 
   parts_shallow : (place : Place) (olds news : List ℕ) → AllZip Becoming olds news → list_all (λ k. rules.is_parameter_type place (tree_at t k)) olds ≡ true → list_all (is_shallow p) news ≡ true
-  parts_shallow place olds news z h =
-      sym (list_all-map (λ x. nat_le (levels x) most_levels) (part_tree (trees_in p)) news)
+  parts_shallow place olds news z h = sym (list_all-map (λ x. nat_le (levels x) most_levels) (part_tree (trees_in p)) news)
       ∙ (ap (list_all (λ x. nat_le (levels x) most_levels)) (parts_kept t tables kept p (keeps t tables kept p are) olds news z)
       ∙ (list_all-map (λ x. nat_le (levels x) most_levels) (tree_at t) olds
       ∙ all_weaker (λ k. rules.is_parameter_type place (tree_at t k)) (λ k. nat_le (levels (tree_at t k)) most_levels)
@@ -99,8 +98,7 @@ module _ (t : Tables) (tables : AreTables t) (known : ℕ → Fact) (kept : List
               let places = eqb-true place q (first_true (place == q) (text_eq label name) test) in
               let labels = text_same label name (second_true (place == q) (text_eq label name) test) in
               tables.shapes.apart m is.shape (named_shape q name) (there ∙ (ap Some same ∙ (λ i. Some (named_shape (places i) (labels i))))) is.shape_is
-          named m s there h (a_node form ks same low) =
-              no_true (sym (ap (λ (x : Shape). option_map_or (λ (y : ℕ × Text). y.0 == q && text_eq y.1 name) (name_in x) false) same
+          named m s there h (a_node form ks same low) = no_true (sym (ap (λ (x : Shape). option_map_or (λ (y : ℕ × Text). y.0 == q && text_eq y.1 name) (name_in x) false) same
               ∙ ap (λ b. option_map_or (λ (y : ℕ × Text). y.0 == q && text_eq y.1 name) (cond b (Some ((form_code form).number, first_label (form_code form).labels)) None) false) (no_name form)) ∙ h)
 
           by : (m : ℕ) → k ≡ 14 + m → (found : Option Shape) → slice_get t.shapes m ≡ found → k ≡ 14 + is.shape
@@ -178,8 +176,7 @@ module _ (t : Tables) (tables : AreTables t) (known : ℕ → Fact) (kept : List
       result_type old m i e ok h x (unnamed place form olds news there z none unowned kind part low) =
           let made = result_form form olds i (sym (ap (option_and_then ok_in) (shape_there t old m (node_shape form olds) e there)) ∙ ok) in
           let first = one_new i made.1 news (subst (λ (ks : List ℕ). AllZip Becoming ks news) made.3 z) in
-          both (is_none x.name) (plan.has_own_ok p n x.kind) (ap is_none none)
-          (ap (plan.has_own_ok p n) (kind ∙ (λ j. formed (made.2 j) (first.2 j))) ∙ own_becomes i first.0 h first.3)
+          both (is_none x.name) (plan.has_own_ok p n x.kind) (ap is_none none) (ap (plan.has_own_ok p n) (kind ∙ (λ j. formed (made.2 j) (first.2 j))) ∙ own_becomes i first.0 h first.3)
 
       result_becomes : (old new i : ℕ) → option_and_then ok_in (shape_at t old) ≡ Some i → is_handle t known q own_sort name i ≡ true → Becoming old new → part_is p (is_result_of_own p n) new ≡ true
       result_becomes old new i ok h b = by b.part
@@ -206,8 +203,7 @@ module _ (t : Tables) (tables : AreTables t) (known : ℕ → Fact) (kept : List
           → option_map_or (λ (y : Text × ℕ). text_eq y.0 (codes "self") && part_is p (is_borrow_of n) y.1) (slice_get ys 0) false ≡ true
       self_becomes [] ys z h = no_true h
       self_becomes (x ∷ xs) [] z h = absurd z
-      self_becomes (x ∷ xs) (y ∷ ys) z h =
-          both (text_eq y.0 (codes "self")) (part_is p (is_borrow_of n) y.1) (ap (λ u. text_eq u (codes "self")) z.0.0 ∙ first_true (text_eq x.0 (codes "self"))
+      self_becomes (x ∷ xs) (y ∷ ys) z h = both (text_eq y.0 (codes "self")) (part_is p (is_borrow_of n) y.1) (ap (λ u. text_eq u (codes "self")) z.0.0 ∙ first_true (text_eq x.0 (codes "self"))
           (is_handle t known q borrow_sort name x.1) h)
           ((handle_becomes Form.borrow_of borrow_sort borrow_form refl (is_borrow_of n) (λ x is_type. both (is_none x.name) (plan.is_borrow_kind n x.kind) (ap is_none is_type.none)
           (ap (plan.is_borrow_kind n) is_type.kind ∙ is_type.number))) x.1 y.1 (second_true (text_eq x.0 (codes "self")) (is_handle t known q borrow_sort name x.1) h) z.0.1)

@@ -4,12 +4,12 @@ use Rattle.std.proofs.lemmas.{Bool.eqb-true, Bool.eq-eqb, Bool.lt-ltb, Bool.or_r
 use Rattle.std.specs.{Prelude.nat_le, List.AllZip, List.Contains, List.cons_option, List.flat_map, List.list_all, Option.option_map_or}
 use Rattle.wit_model.specs.declared.model.TypeOwner.{TypeOwner}
 use Rattle.wit_model.specs.Text.{Text}
-use Rattle.wit_model.specs.{Tree.Place, Tree.Form, Tree.Tree, Tree.children, Tree.deepest, Types.no_tree, Parts.met_by, Parts.same_owner, Uses.owner_interface}
+use Rattle.wit_model.specs.{Tree.Place, Tree.Form, Tree.Tree, Tree.children, Tree.deepest, Parts.met_by, Parts.same_owner}
 use Rattle.comp_meaning.specs.Rules.{are_labels, are_parts, form_labels, is_named_form, most_levels}
 use Rattle.comp_meaning.proofs.SameLaws.{places_decide}
-use Rattle.plan_meaning.specs.Shapes.{Shape, node_shape, named_shape, shape_trees}
-use Rattle.plan_meaning.specs.Plan.{Plan, PlannedType, PlannedFunction, kind_numbers, part_number, alias_number, met_at, met_in, has_owner, type_in, function_parts}
-use Rattle.plan_meaning.specs.{PlanRules.function_stays, PlanRules.has_name, PlanRules.is_use, PlanRules.type_stays, NumberedRules.IsSeenFrom}
+use Rattle.plan_meaning.specs.Shapes.{Shape, node_shape, named_shape}
+use Rattle.plan_meaning.specs.Plan.{Plan, PlannedType, PlannedFunction, kind_numbers, part_number, met_at, met_in, has_owner, function_parts}
+use Rattle.plan_meaning.specs.{PlanRules.function_stays, PlanRules.is_use, PlanRules.type_stays, NumberedRules.IsSeenFrom}
 use Rattle.plan_meaning.specs.Renumbering.{IsPart, a_primitive, a_shape}
 use Rattle.plan_meaning.specs.NumberedViews.{FunctionShape, Tables, place_at, tree_at, signature_over, declaration_of, AllOf, PartsOf, AreTables, itself, inside}
 use Rattle.plan_meaning.specs.GatheredPlan.{Becomes, DeclaresKind, a_resource, a_form, FunctionBecomes}
@@ -21,7 +21,6 @@ use Rattle.plan_meaning.proofs.{NumberedRules.no_name, NumberedRules.shape_there
 use Rattle.plan_meaning.proofs.Words.{behind}
 use Rattle.base_lemmas.proofs.Bools.{left_of as first_true, right_of as second_true}
 use Rattle.base_lemmas.proofs.{Elements.all_at, Elements.all_by_number, Elements.all-contained, Elements.flat_all, Lists.slice_take}
-use Rattle.wit_model.specs.declared.model.TypeOwner.TheVariants as owner
 use Rattle.comp_meaning.specs.Rules as rules
 use Rattle.plan_meaning.specs.Plan as plan
 use Rattle.plan_meaning.specs.GatheredPlan as gathered
@@ -76,8 +75,7 @@ module _ (t : Tables) (tables : AreTables t) (kept : List ℕ) (p : Plan) (are :
     form_met : (table : List (List ℕ)) (n : ℕ) (form : Form) (olds news : List ℕ) → slice_get t.shapes n ≡ Some (node_shape form olds) → AllZip (Becomes t kept p) olds news
         → are_parts (place_at t q) (children (map (tree_at t) olds)) ≡ true → ((old : ℕ) → Contains olds old → IsSeenFrom t q old)
         → ((i m : ℕ) → slice_get kept i ≡ Some m → m < n → i < length p.types → IsPartHere (14 + m) → IsOwn (met_by table i)) → IsOwn (flat_map (met_by table) (filter_map part_number news))
-    form_met table n form olds news there z parts seen lookup =
-        flat_all (has_owner p (owners q)) (met_by table) (filter_map part_number news)
+    form_met table n form olds news there z parts seen lookup = flat_all (has_owner p (owners q)) (met_by table) (filter_map part_number news)
         ∙ numbers_pass t kept p olds news z (λ i. list_all (has_owner p (owners q)) (met_by table i)) (λ old c i m from at range.
         let low_old : old < 14 + n = all_at (λ k. k < 14 + n) olds (parts_before t tables kept p are n form olds there) old c in
         lookup i m at (omega (arith, from, low_old)) range (subst IsPartHere from (record { part = part_of_form (place_at t q) olds parts old c; seen = seen old c })))
@@ -85,19 +83,16 @@ module _ (t : Tables) (tables : AreTables t) (kept : List ℕ) (p : Plan) (are :
     type_met : (j n : ℕ) → Smaller j → (x : PlannedType) → slice_get p.types j ≡ Some x → slice_get kept j ≡ Some n → IsKeptType t kept p n x → IsPartHere (14 + n)
         → IsOwn (met_at (take j all_met) (j, x))
     type_met j n smaller x e stands (declared r name d there named home kind before good obeys) here =
-        let same_place : place_at t q ≡ place_at t r =
-        (places_decide (place_at t q) (place_at t r)).0 (sym (ap (rules.is_part (place_at t q)) (name_there n r name there)) ∙ here.part) in
+        let same_place : place_at t q ≡ place_at t r = (places_decide (place_at t q) (place_at t r)).0 (sym (ap (rules.is_part (place_at t q)) (name_there n r name there)) ∙ here.part) in
         let same : r ≡ q = here.seen r (itself (14 + n) n r name refl there) (sym same_place) in
         ap (λ o. list_all (has_owner p (owners q)) (option_map_or (λ y. j ∷ []) o (flat_map (met_by (take j all_met)) (kind_numbers x.kind)))) named
         ∙ both (has_owner p (owners q) j) true (named_here j n x r name e stands there same) refl
     type_met j n smaller x e stands (unnamed place form olds news there z name unowned kind part low) here =
-        let parts : are_parts (place_at t q) (children (map (tree_at t) olds)) ≡ true =
-        second_true (not (is_named_form form)) (are_parts (place_at t q) (children (map (tree_at t) olds)))
+        let parts : are_parts (place_at t q) (children (map (tree_at t) olds)) ≡ true = second_true (not (is_named_form form)) (are_parts (place_at t q) (children (map (tree_at t) olds)))
         (sym (ap (rules.is_part (place_at t q)) (form_tree t tables kept p (keeps t tables kept p are) (14 + n) n form olds refl there)) ∙ here.part) in
         ap (λ o. list_all (has_owner p (owners q)) (option_map_or (λ y. j ∷ []) o (flat_map (met_by (take j all_met)) (kind_numbers x.kind)))) name
         ∙ (ap (λ k. list_all (has_owner p (owners q)) (flat_map (met_by (take j all_met)) (kind_numbers k))) kind
-        ∙ form_met (take j all_met) n form olds news there z parts (λ old c r has. here.seen r (inside (14 + n) n old r form olds refl there c has))
-        (λ i m at less range here_old.
+        ∙ form_met (take j all_met) n form olds news there z parts (λ old c r has. here.seen r (inside (14 + n) n old r form olds refl there c has)) (λ i m at less range here_old.
         let before : i < j = are.rise i j m n at stands less in
         ap (λ o. list_all (has_owner p (owners q)) (unwrap_or o [])) (slice_take all_met j i before) ∙ smaller i m before range at here_old))
 
@@ -111,10 +106,8 @@ module _ (t : Tables) (tables : AreTables t) (kept : List ℕ) (p : Plan) (are :
     -- ---- functions
 
     function_own : (f : FunctionShape) (id : Option Text) (g : PlannedFunction) → FunctionBecomes t kept p f id g → PartsOf (IsSeenFrom t q) f
-        → rules.is_signature (place_at t q) (signature_over (tree_at t) f) ≡ true
-        → function_stays p (owners q) g ≡ true
-    function_own f id g b seen h =
-        flat_all (has_owner p (owners q)) (met_by all_met) (filter_map part_number (function_parts g))
+        → rules.is_signature (place_at t q) (signature_over (tree_at t) f) ≡ true → function_stays p (owners q) g ≡ true
+    function_own f id g b seen h = flat_all (has_owner p (owners q)) (met_by all_met) (filter_map part_number (function_parts g))
         ∙ numbers_pass t kept p (shape_parts f) (function_parts g) (function_zip t kept p f id g b) (λ i. list_all (has_owner p (owners q)) (met_by all_met i)) (λ old c i m from at range.
         let one = all-contained (λ k. rules.is_parameter_type (place_at t q) (tree_at t k)) (shape_parts f) old (signature_parts t (place_at t q) f h) c in
         all_own (suc i) i m (omega arith) range at (subst IsPartHere from
@@ -131,8 +124,7 @@ module _ (t : Tables) (tables : AreTables t) (kept : List ℕ) (p : Plan) (are :
     own_numbers h = ap (λ b. b || (is_some x.name && is_use p x)) (ap (λ o. list_all (has_owner p o) (flat_map (met_by all_met) (kind_numbers x.kind))) home ∙ h)
 
     alias_fine : (old new m i : ℕ) → x.kind ≡ plan.alias new → DeclaresKind t kept p (Some (14 + m)) x.kind → new ≡ 14 + i → (u : PlannedType) → slice_get p.types i ≡ Some u
-        → slice_get kept i ≡ Some m
-        → (s : ℕ) (other : Text) → slice_get t.shapes m ≡ Some (named_shape s other) → u.name ≡ Some other → IsFine x
+        → slice_get kept i ≡ Some m → (s : ℕ) (other : Text) → slice_get t.shapes m ≡ Some (named_shape s other) → u.name ≡ Some other → IsFine x
     alias_fine old new m i k kind to u e stands s other at called = by (s == r) refl
       where
         owner_of : u.owner ≡ owners s
@@ -156,8 +148,7 @@ module _ (t : Tables) (tables : AreTables t) (kept : List ℕ) (p : Plan) (are :
             own_numbers (ap (λ k. list_all (has_owner p (owners r)) (flat_map (met_by all_met) (kind_numbers k))) k ∙ met_number r all_met new i to own [] refl)
         by false none = elim (owned.used j n x r name m s other planned_there kept_there there kind at) [
           | inl same ↦ no_true (sym none ∙ eq-eqb s r same)
-          | inr path ↦
-              or_right (list_all (has_owner p x.owner) (flat_map (met_by all_met) (kind_numbers x.kind))) (is_some x.name && is_use p x)
+          | inr path ↦ or_right (list_all (has_owner p x.owner) (flat_map (met_by all_met) (kind_numbers x.kind))) (is_some x.name && is_use p x)
               (both (is_some x.name) (is_use p x) (ap is_some named) (a_use none (owned.outside s path (of_name i m u other e stands at))))
         ]
 
@@ -195,10 +186,7 @@ module _ (t : Tables) (tables : AreTables t) (kept : List ℕ) (p : Plan) (are :
       search (std_rules, or_right, is_some x.name, kind_fine j n x e stands r name there named (owned.owned j n x r name e stands there) d obeys kind)
 
   stand : OwnersStand t kept p owners
-  stand = record {
-    types = all_by_number (type_stays p) p.types (λ j x e. let is = are.each j x e in type_fine j is.0 x e is.1 is.2);
-    functions = λ q f id g b seen h. function_own q f id g b seen h;
-  }
+  stand = record { types = all_by_number (type_stays p) p.types (λ j x e. let is = are.each j x e in type_fine j is.0 x e is.1 is.2); functions = λ q f id g b seen h. function_own q f id g b seen h }
 
 pub kept_owners_stand : KeptOwnersStand
 kept_owners_stand t tables kept p are owners owned = stand t tables kept p are owners owned

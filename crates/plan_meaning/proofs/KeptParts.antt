@@ -37,8 +37,7 @@ kept_at t kept p are j m low at =
 
 module _ (t : Tables) (kept : List ℕ) (p : Plan) where
   pub function_zip : (f : FunctionShape) (id : Option Text) (g : PlannedFunction) → FunctionBecomes t kept p f id g → AllZip (Becomes t kept p) (shape_parts f) (function_parts g)
-  function_zip f id g is =
-      zip-append (Becomes t kept p) (map (λ (x : Text × ℕ). x.1) f.params) (map (λ (y : Text × ℕ). y.1) g.params) (option_to_list f.result) (option_to_list g.result)
+  function_zip f id g is = zip-append (Becomes t kept p) (map (λ (x : Text × ℕ). x.1) f.params) (map (λ (y : Text × ℕ). y.1) g.params) (option_to_list f.result) (option_to_list g.result)
       (along f.params g.params is.params) (given f.result g.result is.result)
     where
       along : (xs ys : List (Text × ℕ)) → AllZip (ParamBecomes t kept p) xs ys → AllZip (Becomes t kept p) (map (λ (x : Text × ℕ). x.1) xs) (map (λ (y : Text × ℕ). y.1) ys)

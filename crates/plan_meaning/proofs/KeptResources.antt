@@ -38,9 +38,8 @@ module _ (t : Tables) (tables : AreTables t) (kept : List ℕ) (p : Plan) (are :
     alias_mark old new low b = by b.part
       where
         by : IsPart kept old new → option_map_or (λ m. unwrap_or (slice_get (take j all_marks) m) false) (part_number new) false ≡ marks old
-        by (a_primitive small same) =
-            ap (λ c. option_map_or (λ m. unwrap_or (slice_get (take j all_marks) m) false) (cond c None (Some (new - 14))) false) (lt-ltb new 14 (omega (arith, small, same))) ∙ sym
-            (marked.primitives old small)
+        by (a_primitive small same) = ap (λ c. option_map_or (λ m. unwrap_or (slice_get (take j all_marks) m) false) (cond c None (Some (new - 14))) false) (lt-ltb new 14 (omega (arith, small, same)))
+            ∙ sym (marked.primitives old small)
         by (a_shape m i from there to) =
             let before : i < j = are.rise i j m n there stands (omega (arith, from, low)) in
             let range = b.range in
@@ -65,8 +64,7 @@ module _ (t : Tables) (tables : AreTables t) (kept : List ℕ) (p : Plan) (are :
   marks_are zero j n h low stands = absurd (omega (arith, h))
   marks_are (suc fuel) j n h low stands =
       let found = kept_at t kept p are j n low stands in
-      mark_there j found.0 found.1
-      ∙ type_mark j n (λ i m less within there. marks_are fuel i m (omega (arith, less, h)) within there) found.0 found.1 stands found.2
+      mark_there j found.0 found.1 ∙ type_mark j n (λ i m less within there. marks_are fuel i m (omega (arith, less, h)) within there) found.0 found.1 stands found.2
 
   -- ---- parts
 
@@ -80,8 +78,7 @@ module _ (t : Tables) (tables : AreTables t) (kept : List ℕ) (p : Plan) (are :
     where
       by : (b : Bool) → is_handle_form form ≡ b
           → cond (is_handle_form form) (list_all (is_resource p) (filter_map part_number news)) (list_all (λ m. not (is_resource p m)) (filter_map part_number news)) ≡ true
-      by true e =
-          ap (λ b. cond b (list_all (is_resource p) (filter_map part_number news)) (list_all (λ m. not (is_resource p m)) (filter_map part_number news))) e ∙ parts_tested (λ b. b) olds news z
+      by true e = ap (λ b. cond b (list_all (is_resource p) (filter_map part_number news)) (list_all (λ m. not (is_resource p m)) (filter_map part_number news))) e ∙ parts_tested (λ b. b) olds news z
           (is.handle e)
       by false e =
           ap (λ b. cond b (list_all (is_resource p) (filter_map part_number news)) (list_all (λ m. not (is_resource p m)) (filter_map part_number news))) e ∙ parts_tested not olds news z (is.other e)

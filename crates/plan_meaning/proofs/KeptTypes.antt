@@ -1,5 +1,5 @@
 -- Types of a plan that are those of kept shapes pass the tests on types.
-use Rattle.std.proofs.Common.{rules as std_rules, ◌≡◌, refl, sym, ap, subst, ◌∙◌, ℕ, ◌+◌, ◌-◌, ◌<◌, ◌≤◌, arith, true, false, not, ◌&&◌, ◌||◌, List, [], ◌∷◌, length, map, filter_map, Option, Some, is_some, slice_get}
+use Rattle.std.proofs.Common.{rules as std_rules, ◌≡◌, refl, sym, ap, subst, ◌∙◌, ℕ, ◌+◌, ◌-◌, ◌<◌, ◌≤◌, arith, true, false, not, ◌&&◌, List, [], ◌∷◌, length, map, filter_map, Option, Some, is_some, slice_get}
 use Rattle.std.proofs.lemmas.{Bool.lt-ltb, Bool.le-leb, Bool.leb-true, Bool.and_from as both, Option.slice_get_past as slice_past}
 use Rattle.std.proofs.lemmas.List.Folds.{list_all-map}
 use Rattle.std.specs.{Prelude.nat_le, Prelude.nat_lt, List.AllByRecursion, List.AllZip, List.list_all, Option.option_map_or}
@@ -105,8 +105,7 @@ module _ (t : Tables) (tables : AreTables t) (kept : List ℕ) (p : Plan) (are :
     shallow_form h = search (std_rules, leb-true, form_tree, keeps)
 
   parts_shallow : (olds news : List ℕ) → AllZip (Becomes t kept p) olds news → deepest (children (map (tree_at t) olds)) ≤ most_levels → list_all (is_shallow p) news ≡ true
-  parts_shallow olds news z h =
-      sym (list_all-map (λ x. nat_le (levels x) most_levels) (part_tree (trees_in p)) news)
+  parts_shallow olds news z h = sym (list_all-map (λ x. nat_le (levels x) most_levels) (part_tree (trees_in p)) news)
       ∙ (ap (list_all (λ x. nat_le (levels x) most_levels)) (parts_kept t tables kept p keeps olds news z) ∙ shallow_parts (map (tree_at t) olds) most_levels h)
 
   -- ---- what is declared as a form

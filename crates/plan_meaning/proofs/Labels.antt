@@ -50,8 +50,7 @@ missed x b h = search std_rules
 -- no name of the first list stands in the second
 pub apart : (xs ys : List Text) → are_distinct (xs ++ ys) ≡ true → list_all (λ x. not (list_any (text_eq x) ys)) xs ≡ true
 apart [] ys h = refl
-apart (x ∷ xs) ys h =
-    search (std_rules, both, missed, list_any-append, first_true, second_true, apart xs ys (second_true (not (list_any (text_eq x) (xs ++ ys))) _ h))
+apart (x ∷ xs) ys h = search (std_rules, both, missed, list_any-append, first_true, second_true, apart xs ys (second_true (not (list_any (text_eq x) (xs ++ ys))) _ h))
 
 pub names_are : {A B : Type 0} (g : A → B) (es : List (String Global × A)) → names_of (map (λ e. (text_of e.0, g e.1)) es) ≡ map text_of (keys_of es)
 names_are g [] = refl
@@ -69,12 +68,10 @@ module _ (r : Resolve) (m : ℕ) (is : IsPlan (plan_of r m)) (bare : IsBare r) w
       → list_all (λ f. planned.function_labels (planned_function f)) (functions_of_interface i) ≡ true
       → (passes (λ name. is_label (text_of name)) i.name && (is_stability i.stability && (list_all rules.function_labels (functions_of_interface i)
       && list_all (λ name. not (list_any (λ other. text_eq (text_of name) (text_of other)) (keys i.functions))) (keys i.types)))) ≡ true
-  interface_passes i h bare functions =
-      both _ _ (sym (name_is i.name) ∙ first_true (passes is_label (optional_text i.name)) _ h)
+  interface_passes i h bare functions = both _ _ (sym (name_is i.name) ∙ first_true (passes is_label (optional_text i.name)) _ h)
       (both _ _ (bare_stability i.docs i.stability (first_true (is_bare i.docs i.stability) _ bare))
       (both _ _ (all_two (λ f. planned.function_labels (planned_function f)) is_bare_function rules.function_labels function_passes (functions_of_interface i) functions
-      (second_true (is_bare i.docs i.stability) _ bare))
-      (keys_apart (keys i.types) (keys i.functions)
+      (second_true (is_bare i.docs i.stability) _ bare)) (keys_apart (keys i.types) (keys i.functions)
       (ap are_distinct (λ j. sym (names_are (λ id. id.0) i.types.entries) j ++ sym (names_are planned_function i.functions.entries) j) ∙ second_true (passes is_label (optional_text i.name)) _ h))))
 
   -- ---- items
@@ -93,8 +90,7 @@ module _ (r : Resolve) (m : ℕ) (is : IsPlan (plan_of r m)) (bare : IsBare r) w
 
   entries_pass : (test : WorldKey × WorldItem → Bool) → ((k : WorldKey) (x : WorldItem) → test (k, x) ≡ true → key_label k x ≡ true) → (es : List (WorldKey × WorldItem))
       → list_all test es ≡ true → list_all labelled_item (map (λ e. e.1) es) ≡ true → list_all is_bare_item (map (λ e. e.1) es) ≡ true → entries_labels es ≡ true
-  entries_pass test keys_pass es h functions bare =
-      all_two test (λ e. item_labels e.1) (λ e. key_label e.0 e.1 && item_labels e.1) (λ e a b. both _ _ (keys_pass e.0 e.1 a) b) es h
+  entries_pass test keys_pass es h functions bare = all_two test (λ e. item_labels e.1) (λ e. key_label e.0 e.1 && item_labels e.1) (λ e a b. both _ _ (keys_pass e.0 e.1 a) b) es h
       (sym (list_all-map item_labels (λ e. e.1) es) ∙ all_two labelled_item is_bare_item item_labels item_passes (map (λ e. e.1) es) functions bare)
 
   module _ (n : ℕ) (w : World) (name : is_label (text_of w.name) ≡ true) (at : world_at r n ≡ Some w)
@@ -106,21 +102,18 @@ module _ (r : Resolve) (m : ℕ) (is : IsPlan (plan_of r m)) (bare : IsBare r) w
     bare_items = second_true (is_bare w.docs w.stability) _ bare_world
 
     world_passes : (is_label (text_of w.name) && (is_stability w.stability && (entries_labels w.imports.entries && entries_labels w.exports.entries))) ≡ true
-    world_passes =
-        both _ _ name (both _ _ (bare_stability w.docs w.stability (first_true (is_bare w.docs w.stability) _ bare_world))
-        (both _ _
-        (entries_pass (λ e. planned.import_stands (plan_of r m) n (planned_key e.0, planned_item e.1)) (import_key n) w.imports.entries (imports_there r m is n w at)
-        (first_true _ _ items_labelled) (first_true _ _ bare_items))
-        (entries_pass (λ e. planned.export_stands (plan_of r m) (planned_key e.0, planned_item e.1)) export_key w.exports.entries (exports_there r m is n w at)
-        (second_true (list_all labelled_item (map (λ e. e.1) w.imports.entries)) _ items_labelled) (second_true (list_all is_bare_item (map (λ e. e.1) w.imports.entries)) _ bare_items))))
+    world_passes = both _ _ name (both _ _ (bare_stability w.docs w.stability (first_true (is_bare w.docs w.stability) _ bare_world))
+        (both _ _ (entries_pass (λ e. planned.import_stands (plan_of r m) n (planned_key e.0, planned_item e.1)) (import_key n) w.imports.entries (imports_there r m is n w at)
+        (first_true _ _ items_labelled) (first_true _ _ bare_items)) (entries_pass (λ e. planned.export_stands (plan_of r m) (planned_key e.0, planned_item e.1)) export_key w.exports.entries
+        (exports_there r m is n w at) (second_true (list_all labelled_item (map (λ e. e.1) w.imports.entries)) _ items_labelled)
+        (second_true (list_all is_bare_item (map (λ e. e.1) w.imports.entries)) _ bare_items))))
 
   pub labels_kept : Keeps labels r
   unfolding labels
-  labels_kept = keeps_three labels r refl
-      (each_by_number (λ n i. labels.interface_ r n i) r.interfaces.items (λ n i e. interface_passes i
-      (all_there planned_interface planned.interface_labels r.interfaces.items is.interface_labels n i e) (all_get is_bare_interface r.interfaces.items n i bare.interfaces e)
-      (interface_holds r m (λ o f. planned.function_labels f) labelled (λ o f h. h) is.functions_labelled n i e)))
+  labels_kept = keeps_three labels r refl (each_by_number (λ n i. labels.interface_ r n i) r.interfaces.items
+      (λ n i e. interface_passes i (all_there planned_interface planned.interface_labels r.interfaces.items is.interface_labels n i e)
+      (all_get is_bare_interface r.interfaces.items n i bare.interfaces e) (interface_holds r m (λ o f. planned.function_labels f) labelled (λ o f h. h) is.functions_labelled n i e)))
       (each_by_number (λ n w. labels.world_ r n w) r.worlds.items (λ n w e. world_passes n w (all_there planned_world (λ w. is_label w.name) r.worlds.items is.world_labels n w e) e
       (world_holds r m (λ o f. planned.function_labels f) labelled (λ o f h. h) is.functions_labelled n w e) (all_get is_bare_world r.worlds.items n w bare.worlds e)))
-      (each_by_number (λ n def. labels.type_ r n def) r.types.items (λ n def e.
-      type_passes def (all_there planned_type planned.type_labels r.types.items is.type_labels n def e) (all_get is_bare_type r.types.items n def bare.types e)))
+      (each_by_number (λ n def. labels.type_ r n def) r.types.items (λ n def e. type_passes def (all_there planned_type planned.type_labels r.types.items is.type_labels n def e)
+      (all_get is_bare_type r.types.items n def bare.types e)))

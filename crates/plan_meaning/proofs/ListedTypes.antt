@@ -44,8 +44,7 @@ key_there name item (x ∷ es) d (suc i, low, e) =
     go (is_under_label name x.0) refl later (not_true others (first_true (not others) (keys_differ es) d)) (key_there name item es (second_true (not others) (keys_differ es) d) later)
   where
     go : (b : Bool) → is_under_label name x.0 ≡ b → Contains es (plan.label name, item) → list_any (λ (other : PlannedKey × PlannedItem). same_key x.0 other.0) es ≡ false
-        → lookup (is_under_label name) es ≡ Some item
-        → cond b (Some x.1) (lookup (is_under_label name) es) ≡ Some item
+        → lookup (is_under_label name) es ≡ Some item → cond b (Some x.1) (lookup (is_under_label name) es) ≡ Some item
     go true f later absent rest = never (list_any (λ (other : PlannedKey × PlannedItem). same_key x.0 other.0) es) (no_key x.0 name item (under_same name x.0 f) es later) absent
     go false f later absent rest = rest
 
@@ -68,8 +67,7 @@ module _ (t : Tables) (tables : AreTables t) (kept : List ℕ) (p : Plan) (are :
   entry_of q k [] (n ∷ ns) es y z names c = absurd y
   entry_of q k (x ∷ xs) (n ∷ ns) [] y z names c = absurd z
   entry_of q k (x ∷ xs) (n ∷ ns) (a ∷ es) y z names (zero, low, e) = search std_rules
-  entry_of q k (x ∷ xs) (n ∷ ns) (a ∷ es) y z names (suc i, low, e) =
-      search (std_rules, contains-later, entry_of q k xs ns es y.1 z.1 names.1 (i, omega (arith, low), e))
+  entry_of q k (x ∷ xs) (n ∷ ns) (a ∷ es) y z names (suc i, low, e) = search (std_rules, contains-later, entry_of q k xs ns es y.1 z.1 names.1 (i, omega (arith, low), e))
 
   interface_lists : (j k q : ℕ) (name : Text) (m : ℕ) (i : PlannedInterface) (e : interface_in p m ≡ Some i) → slice_get kept j ≡ Some k → slice_get t.shapes k ≡ Some (named_shape q name)
       → Contains (read.interfaces m i e).read.numbers k → is_listed_in p j name (as_interface m) ≡ true
@@ -121,8 +119,7 @@ module _ (t : Tables) (tables : AreTables t) (kept : List ℕ) (p : Plan) (are :
       by : (k : ℕ) → slice_get kept j ≡ Some k → IsKeptType t kept p k x → is_listed p j x ≡ true
       by k at (unnamed place form olds news there z none unowned kind part low) =
           ap (λ o. option_map_or (λ name. is_listed_in p j name x.owner) o (same_owner x.owner owner.None)) none ∙ ap (λ o. same_owner o owner.None) unowned
-      by k at (declared q name d there called home kind before good obeys) =
-          ap (λ o. option_map_or (λ name. is_listed_in p j name x.owner) o (same_owner x.owner owner.None)) called
+      by k at (declared q name d there called home kind before good obeys) = ap (λ o. option_map_or (λ name. is_listed_in p j name x.owner) o (same_owner x.owner owner.None)) called
           ∙ (ap (is_listed_in p j name) (owned.owned j k x q name e at there) ∙ by_place k q name at there (read.names j k q x name e at there))
 
   pub types_are_listed : each_from (is_listed p) 0 p.types ≡ true

@@ -71,9 +71,7 @@ module _ (r : Resolve) (m : ℕ) where
         (ap (λ o. is_some (optional_text o)) is_named)
 
     is_item : (n : ℕ) (i : Interface) → interface_at r n ≡ Some i → has (filter_map uses.item_interface (items_of w)) n ≡ true
-    is_item n i e =
-        sym (shows_is n w)
-        ∙ (ap (λ y. planned.is_shown_in y n) same
+    is_item n i e = sym (shows_is n w) ∙ (ap (λ y. planned.is_shown_in y n) same
         ∙ item_by n i e i.name refl (λ t. option_map_or (λ k. is_id n (number_under t k.interfaces)) (option_and_then (package_in (plan_of r m)) (option_map (λ id. id.0) i.package)) false)
         (option_map_or (in_list (map planned_package r.packages.items)) (option_map (λ id. id.0) i.package) false)
         (each_there planned_interface (planned.is_placed (plan_of r m)) r.interfaces.items is.plan.interfaces_placed n i e))

@@ -2,20 +2,19 @@
 use Rattle.std.proofs.Common.{rules as std_rules, ◌≡◌, refl, sym, ap, ◌∙◌, ℕ, Bool, true, false, not, ◌&&◌, ◌||◌, ◌==◌, List, [], ◌∷◌, ◌++◌, map, Option, Some, None, option_map, slice_get}
 use Rattle.std.proofs.lemmas.{Bool.eqb-true, Bool.eq-eqb, Bool.and_from as both, Option.same_Some as same-some}
 use Rattle.std.specs.{List.AllByRecursion, List.AllZip, List.flat_map, List.list_all, List.list_any, Option.option_map_or}
-use Rattle.wit_model.specs.{Text.Text, Text.text_eq, Names.PackageIdentity, Names.path_in, Names.read_path, Tree.Place}
+use Rattle.wit_model.specs.{Text.Text, Text.text_eq, Names.PackageIdentity, Names.path_in, Names.read_path}
 use Rattle.wit_model.proofs.{NameLaws.read_path_is_spelled, VersionLaws.same_text, TextLemmas.text_same}
-use Rattle.comp_meaning.specs.{Follow.View, Follow.each, Follow.provided, Follow.place_of, Same.same_identity}
+use Rattle.comp_meaning.specs.{Follow.View, Follow.each, Same.same_identity}
 use Rattle.comp_meaning.specs.Reads.{Part, Member, Sight, is_of, all_agree, is_interface_part}
 use Rattle.comp_meaning.proofs.SameLaws.{identities_decide}
-use Rattle.plan_meaning.specs.NumberedViews.{Tables, path_text, AreTables, NumberedView, view_of, NumberedSight, sight_of, IsSight, agree_in_numbers}
-use Rattle.plan_meaning.specs.NumberedRules.{Fact, is_interface}
-use Rattle.plan_meaning.specs.NumberedWorlds.{path, NumberedSeen, seen_of, sights_of_scope, HasPath}
-use Rattle.plan_meaning.specs.NumberedMembers.{Homes, IsHomeOf, HomesStand, is_of_package, is_named_in, NumberedPart, world, interface, NumberedMember, sights_of_part, sights_of_members, ShowsInterface, ShowsPart, IsMember, shown_view, imported_view, exported_view, are_interfaces, is_interface_of, stands_at_top, package_shown, world_shown, IsKnownSight, ImportsInNumbers, ExportInNumbers, PackagesInNumbers, OneWorldInNumbers}
+use Rattle.plan_meaning.specs.NumberedViews.{Tables, path_text, AreTables, NumberedView, NumberedSight, sight_of, IsSight, agree_in_numbers}
+use Rattle.plan_meaning.specs.NumberedRules.{Fact}
+use Rattle.plan_meaning.specs.NumberedWorlds.{path, NumberedSeen, seen_of, HasPath}
+use Rattle.plan_meaning.specs.NumberedMembers.{Homes, IsHomeOf, HomesStand, is_of_package, is_named_in, NumberedPart, world, interface, NumberedMember, sights_of_part, sights_of_members, ShowsInterface, ShowsPart, IsMember, shown_view, imported_view, exported_view, are_interfaces, is_interface_of, stands_at_top, IsKnownSight, ImportsInNumbers, ExportInNumbers, PackagesInNumbers, OneWorldInNumbers}
 use Rattle.plan_meaning.proofs.{NumberedRules.interface_same, Lists.each_so, Lists.all_same}
 use Rattle.plan_meaning.proofs.{NumberedViews.all_agree_in_numbers, NumberedWorlds.path_is, NumberedWorlds.path_number, NumberedWorlds.sights_in_numbers}
 use Rattle.base_lemmas.proofs.{Bools.both_ways as either_way, Bools.left_of as first_true, Bools.right_of as second_true, Lists.append_of_map, Lists.map_of_map}
 use Rattle.base_lemmas.proofs.Numbers.{turned}
-use Rattle.comp_meaning.specs.Rules as rules
 use Rattle.comp_meaning.specs.Reads as reads
 
 pub only_sights : (t : Tables) (known : ℕ → Fact) (seen : List NumberedSight) → AllByRecursion (IsKnownSight t known) seen → AllByRecursion (IsSight t) seen
@@ -26,8 +25,7 @@ module _ (t : Tables) (tables : AreTables t) (h : Homes) (stand : HomesStand t h
 
   module _ (n : ℕ) (identity : PackageIdentity) (there : slice_get h.packages n ≡ Some identity) where
     package_number : (m : ℕ) (other : PackageIdentity) → slice_get h.packages m ≡ Some other → same_identity identity other ≡ (n == m)
-    package_number m other at =
-        either_way (same_identity identity other) (n == m)
+    package_number m other at = either_way (same_identity identity other) (n == m)
         (λ e. let same : identity ≡ other = (identities_decide identity other).0 e in eq-eqb n m (stand.apart n m other (there ∙ ap Some same) at))
         (λ e. (identities_decide identity other).1 (same-some identity other (sym there ∙ (ap (slice_get h.packages) (eqb-true n m e) ∙ at))))
 
@@ -39,9 +37,7 @@ module _ (t : Tables) (tables : AreTables t) (h : Homes) (stand : HomesStand t h
     unfolding of_read
     of_package p x =
         let home = stand.homes p x.0 x.1 in
-        ap (is_of identity) (path_is t p x)
-        ∙ (ap of_read home.reads
-        ∙ (package_number home.package_ home.identity home.stands
+        ap (is_of identity) (path_is t p x) ∙ (ap of_read home.reads ∙ (package_number home.package_ home.identity home.stands
         ∙ (turned n home.package_ ∙ sym (ap (λ o. option_map_or (λ (y : ℕ × Text). y.0 == n) o false) home.home))))
 
     -- the path of this name in the package
@@ -146,8 +142,7 @@ module _ (t : Tables) (tables : AreTables t) (h : Homes) (stand : HomesStand t h
               && (all_agree (map (sight_of t) seen) && reads.are_interfaces (map (sight_of t) seen))))
               ≡ (list_all (λ m. n == m.package_) ms && (list_all (stands_at_top h n ms) seen && (agree_in_numbers seen && are_interfaces t known seen)))
           by true e = λ i. packages_same ms members z i && (top_same ms members z e seen all i && (agree_same seen all i && interfaces_same seen all i))
-          by false e =
-              ap (λ b. b && (list_all (reads.stands_at_top identity members) (map (sight_of t) seen) && (all_agree (map (sight_of t) seen) && reads.are_interfaces (map (sight_of t) seen)))) e
+          by false e = ap (λ b. b && (list_all (reads.stands_at_top identity members) (map (sight_of t) seen) && (all_agree (map (sight_of t) seen) && reads.are_interfaces (map (sight_of t) seen)))) e
               ∙ sym (ap (λ b. b && (list_all (stands_at_top h n ms) seen && (agree_in_numbers seen && are_interfaces t known seen))) (sym (packages_same ms members z) ∙ e))
 
       named_same : (name : Text) → read_path (path_in identity name) ≡ Some (identity, name) → (seen : List NumberedSight) → AllByRecursion (IsKnownSight t known) seen

@@ -72,9 +72,7 @@ module _ (t : Tables) (tables : AreTables t) where
 
   function_number : (m n : ℕ) → m < length t.functions → n < length t.functions → PartsOf (IsOutsidePart t) (function_at t m) → PartsOf (IsOutsidePart t) (function_at t n)
       → same_signature (signature_at t m) (signature_at t n) ≡ (m == n)
-  function_number m n hm hn pm pn =
-      either_way (same_signature (signature_at t m) (signature_at t n)) (m == n)
-      (λ h.
+  function_number m n hm hn pm pn = either_way (same_signature (signature_at t m) (signature_at t n)) (m == n) (λ h.
       let shapes : function_at t m ≡ function_at t n = one_function (function_at t m) (function_at t n) pm pn ((signatures_decide (signature_at t m) (signature_at t n)).0 h) in
       eq-eqb m n (tables.apart m n (function_at t n) (function_there m hm ∙ ap Some shapes) (function_there n hn)))
       (λ h. (signatures_decide (signature_at t m) (signature_at t n)).1 (ap (signature_at t) (eqb-true m n h)))

@@ -8,7 +8,7 @@ use Rattle.plan_meaning.specs.{Shapes.form_code, Shapes.first_label, NumberedRul
 use Rattle.plan_meaning.specs.NumberedViews.{Tables, path_at, path_text, place_at, IsPart, AllOf, AreTables, NumberedType, NumberedView, view_of, declaration_of, shown_type, sight_of}
 use Rattle.plan_meaning.specs.NumberedWorlds.{NumberedKey, path, place_of_key, key_of, NumberedShown, instance, function, declares, NumberedSeen, shown_of, seen_of, NumberedInstance, instance_of, sights_of_instance, if_outside, used_by, used_by_view, others_than, uses_of, path_seen, stand_earlier, are_reached, are_once, resources_seen, is_item, are_imports, HasPath, KeyStands, ItemStands, DeclaresParts, UsesInNumbers, ReachedInNumbers, PathsInNumbers, WorldsInNumbers, SightsInNumbers}
 use Rattle.plan_meaning.proofs.NumberedRules.{no_name, declared_same, function_same, interface_same, by_shape}
-use Rattle.plan_meaning.proofs.Lists.{each_so, all_same}
+use Rattle.plan_meaning.proofs.Lists.{each_so, all_same, flat_along, all_flat}
 use Rattle.base_lemmas.proofs.{Elements.all_both as all_in_both, Lists.append_of_map, Lists.map_of_map}
 use Rattle.comp_meaning.specs.Rules as rules
 use Rattle.comp_meaning.specs.Reads as reads
@@ -43,27 +43,18 @@ module _ (t : Tables) (tables : AreTables t) where
 
   used_same : (d : Option ℕ) → AllOf (IsPart t) d → rules.used_by (declaration_of t d) ≡ map (path_text t) (used_by t d)
   used_same None h = refl
-  used_same (Some k) h =
-      by_shape t tables.shapes (λ x. rules.used_by (Declaration.type_ x)) (λ o. map (path_text t) (places_named (option_and_then name_in o))) k h (λ q e. refl)
+  used_same (Some k) h = by_shape t tables.shapes (λ x. rules.used_by (Declaration.type_ x)) (λ o. map (path_text t) (places_named (option_and_then name_in o))) k h (λ q e. refl)
       (λ n q name is there e. name_used q name)
       (λ n form ks is there e ranges. sym (ap (λ b. map (path_text t) (places_named (cond b (Some ((form_code form).number, first_label (form_code form).labels)) None))) (no_name form)))
 
   -- ---- what a view uses
 
-  used_by_types : (xs : List NumberedType) → AllByRecursion (λ (x : NumberedType). AllOf (IsPart t) x.declared) xs
-      → flat_map (λ x. rules.used_by x.meaning.declaration) (map (shown_type t) xs) ≡ map (path_text t) (flat_map (λ x. used_by t x.declared) xs)
-  used_by_types [] h = refl
-  used_by_types (x ∷ xs) h = (λ i. used_same x.declared h.0 i ++ used_by_types xs h.1 i) ∙ sym (append_of_map (path_text t) (used_by t x.declared) (flat_map (λ y. used_by t y.declared) xs))
-
   pub view_uses : (v : NumberedView) → DeclaresParts t v → rules.used_by_view (view_of t v) ≡ map (path_text t) (used_by_view t v)
-  view_uses v h = used_by_types v.types h
-
-  types_paths : (xs : List NumberedType) → AllByRecursion (HasPath t) (flat_map (λ x. used_by t x.declared) xs)
-  types_paths [] = tt
-  types_paths (x ∷ xs) = all_in_both (HasPath t) (used_by t x.declared) (flat_map (λ y. used_by t y.declared) xs) (used_paths x.declared) (types_paths xs)
+  view_uses v h = flat_along (λ (x : NumberedType). AllOf (IsPart t) x.declared) (λ x. rules.used_by x.meaning.declaration) (shown_type t) (path_text t) (λ x. used_by t x.declared)
+      (λ x. used_same x.declared) v.types h
 
   pub view_paths : (v : NumberedView) → AllByRecursion (HasPath t) (used_by_view t v)
-  view_paths v = types_paths v.types
+  view_paths v = all_flat (HasPath t) (λ x. used_by t x.declared) (λ x. used_paths x.declared) v.types
 
   -- ---- others than the own
 
@@ -130,12 +121,7 @@ module _ (t : Tables) (tables : AreTables t) where
   IsOver i = HasPath t i.0 × DeclaresParts t i.1
 
   later_uses : (ls : List (ℕ × NumberedView)) → AllByRecursion IsOver ls → flat_map (λ l. rules.used_by_view l.1) (map seen_view ls) ≡ map (path_text t) (flat_map (λ l. used_by_view t l.1) ls)
-  later_uses [] h = refl
-  later_uses (l ∷ ls) h = (λ i. view_uses l.1 h.0.1 i ++ later_uses ls h.1 i) ∙ sym (append_of_map (path_text t) (used_by_view t l.1) (flat_map (λ x. used_by_view t x.1) ls))
-
-  later_paths : (ls : List (ℕ × NumberedView)) → AllByRecursion (HasPath t) (flat_map (λ l. used_by_view t l.1) ls)
-  later_paths [] = tt
-  later_paths (l ∷ ls) = all_in_both (HasPath t) (used_by_view t l.1) (flat_map (λ x. used_by_view t x.1) ls) (view_paths l.1) (later_paths ls)
+  later_uses = flat_along IsOver (λ l. rules.used_by_view l.1) seen_view (path_text t) (λ l. used_by_view t l.1) (λ l h. view_uses l.1 h.1)
 
   pub reached_same : (imports : List (ℕ × NumberedView)) (exported : NumberedView) → AllByRecursion IsOver imports → DeclaresParts t exported
       → reads.are_reached (map seen_view imports) (view_of t exported) ≡ are_reached t imports exported
@@ -146,7 +132,8 @@ module _ (t : Tables) (tables : AreTables t) where
       (λ j. later_uses later h.1 j ++ view_uses exported he j) ∙ sym (append_of_map (path_text t) (flat_map (λ l. used_by_view t l.1) later) (used_by_view t exported)) in
       let one = ap (list_any (text_eq (path_text t i.0))) all
       ∙ has_path (flat_map (λ l. used_by_view t l.1) later ++ used_by_view t exported) i.0
-      (all_in_both (HasPath t) (flat_map (λ l. used_by_view t l.1) later) (used_by_view t exported) (later_paths later) (view_paths exported)) h.0.0 in
+      (all_in_both (HasPath t) (flat_map (λ l. used_by_view t l.1) later) (used_by_view t exported) (all_flat (HasPath t) (λ l. used_by_view t l.1) (λ l. view_paths l.1) later)
+      (view_paths exported)) h.0.0 in
       λ j. one j && reached_same later exported h.1 he j
 
 -- ---- worlds
@@ -185,8 +172,7 @@ module _ (t : Tables) (tables : AreTables t) (known : ℕ → Fact) (home : ℕ)
   keys_same ss = ap distinct (map_of_map (λ (s : Seen). s.key) (seen_of t) ss)
 
   order_same : (is es : List NumberedSeen) → AllStand is → AllStand es → rules.stand_earlier [] (map (seen_of t) is ++ map (seen_of t) es) ≡ stand_earlier t [] (is ++ es)
-  order_same is es hi he =
-      ap (rules.stand_earlier []) (sym (append_of_map (seen_of t) is es))
+  order_same is es hi he = ap (rules.stand_earlier []) (sym (append_of_map (seen_of t) is es))
       ∙ earlier_same t tables [] (is ++ es) tt (all_in_both (λ (s : NumberedSeen). ItemIsOver t tables s.shown) is es (all_over is hi) (all_over es he))
 
 pub worlds_in_numbers : WorldsInNumbers

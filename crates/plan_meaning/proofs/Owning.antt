@@ -2,18 +2,16 @@
 use Rattle.std.proofs.Common.{rules as std_rules, ◌≡◌, refl, sym, ap, ◌∙◌, ℕ, true, false, ◌&&◌, ◌||◌, not, nat_lt, nat_le, filter_map, Some, is_some}
 use Rattle.std.proofs.lemmas.Bool.{and_from as both}
 use Rattle.std.specs.{List.list_all, Option.option_map_or}
-use Rattle.indexmap.specs.IndexMap.{values}
 use Rattle.wit_model.specs.declared.model.{Resolve.Resolve, Interface.Interface, TypeDef.TypeDef, TypeOwner.TypeOwner, Function.Function}
-use Rattle.wit_model.specs.{Lookup.interface_at, Lookup.type_at, Uses.owner_interface, Uses.alias_target, Uses.direct_deps, Valid.Keeps, Valid.owners}
+use Rattle.wit_model.specs.{Lookup.interface_at, Lookup.type_at, Uses.owner_interface, Uses.direct_deps, Valid.Keeps, Valid.owners}
 use Rattle.wit_model.specs.{Parts.same_owner, Types.number_of}
 use Rattle.wit_model.proofs.{Lists.list_all_filter_map, Owners.used_within, Checks.keeps_three, RulesLemmas.each_by_number}
-use Rattle.plan_meaning.specs.{Plan.type_in, PlanRules.IsPlan, Built.planned_type, Built.planned_function, Built.planned_interface}
+use Rattle.plan_meaning.specs.{Plan.type_in, PlanRules.IsPlan, Built.planned_type, Built.planned_function}
 use Rattle.plan_meaning.proofs.{Lists.same_or, Lists.each_from_built, Lists.or_there, Lists.each_there, KindRules.has_text}
 use Rattle.plan_meaning.proofs.Words.{plan_of, alias_is, value_numbers_are, has_owner_is, used_are, used_by_kind_is, interfaces_used_are}
 use Rattle.plan_meaning.proofs.FunctionRules.{worlds_pass, interface_holds}
 use Rattle.wit_model.specs.declared.model.TypeOwner.TheVariants as owner
 use Rattle.wit_model.specs.Parts as parts
-use Rattle.wit_model.specs.Uses as uses
 use Rattle.wit_model.specs.Rules as rules
 use Rattle.plan_meaning.specs.Plan as plan
 use Rattle.plan_meaning.specs.PlanRules as planned
@@ -33,8 +31,7 @@ module _ (r : Resolve) (m : ℕ) where
   use_is def = search (std_rules, plan_of r m, alias_is def.kind, same_or, is_some, target_is def.owner)
 
   type_stays_is : (def : TypeDef) → planned.type_stays (plan_of r m) (planned_type def) ≡ rules.type_stays r def
-  type_stays_is def =
-      λ i. same_owner def.owner owner.None
+  type_stays_is def = λ i. same_owner def.owner owner.None
       || (list_all (λ n. has_owner_is r m def.owner n i) (used_by_kind_is r m def.kind i) || (has_text def.name i && use_is def i))
 
   stays : (o : TypeOwner) (f : Function) → planned.function_stays (plan_of r m) o (planned_function f) ≡ true → rules.function_stays r o f ≡ true
@@ -47,8 +44,7 @@ module _ (r : Resolve) (m : ℕ) where
 
     pub owners_kept : Keeps owners r
     unfolding owners
-    owners_kept = keeps_three owners r refl
-        (each_by_number (λ n i. owners.interface_ r n i) r.interfaces.items (λ n i e. both _ _
-        (interface_holds r m (planned.function_stays (plan_of r m)) (rules.function_stays r) stays is.functions_stay n i e) (falls n i e)))
+    owners_kept = keeps_three owners r refl (each_by_number (λ n i. owners.interface_ r n i) r.interfaces.items
+        (λ n i e. both _ _ (interface_holds r m (planned.function_stays (plan_of r m)) (rules.function_stays r) stays is.functions_stay n i e) (falls n i e)))
         (worlds_pass r m (planned.function_stays (plan_of r m)) (rules.function_stays r) stays is.functions_stay)
         (each_from_built planned_type (planned.type_stays (plan_of r m)) (rules.type_stays r) (λ def h. sym (type_stays_is def) ∙ h) r.types.items is.types_stay)

@@ -70,10 +70,9 @@ module _ (r : Resolve) (m : ℕ) where
 -- Entries that a plan gives for some interfaces, by their paths, and those of numbers: one map, where the numbers are those of these interfaces.
 module _ (r : Resolve) (v : IsValid r) (given : PlannedInterface → Option (Text × InterfaceMeaning)) (Passes : Interface → Type 0)
     (is : (i : Interface) (k : Text) (x : InterfaceMeaning) → given (planned_interface i) ≡ Some (k, x) → Passes i × (path_of_interface r i ≡ Some k) × (x ≡ meant.interface_meaning r i))
-    (of : (i : Interface) (k : Text) → Passes i → path_of_interface r i ≡ Some k → given (planned_interface i) ≡ Some (k, meant.interface_meaning r i))
-    (numbers : List ℕ) (means : ℕ → InterfaceMeaning)
-    (among : (n : ℕ) (i : Interface) → interface_at r n ≡ Some i → (k : Text) → path_of_interface r i ≡ Some k → Passes i → Contains numbers n × (means n ≡ meant.interface_meaning r i))
-    (back : (n : ℕ) → Contains numbers n → (is_some (interface_path r n) ≡ true) × ((i : Interface) → interface_at r n ≡ Some i → Passes i)) where
+    (of : (i : Interface) (k : Text) → Passes i → path_of_interface r i ≡ Some k → given (planned_interface i) ≡ Some (k, meant.interface_meaning r i)) (numbers : List ℕ)
+    (means : ℕ → InterfaceMeaning) (among : (n : ℕ) (i : Interface) → interface_at r n ≡ Some i → (k : Text) → path_of_interface r i ≡ Some k → Passes i → Contains numbers n
+    × (means n ≡ meant.interface_meaning r i)) (back : (n : ℕ) → Contains numbers n → (is_some (interface_path r n) ≡ true) × ((i : Interface) → interface_at r n ≡ Some i → Passes i)) where
   abbrev planned_entries : List (Text × InterfaceMeaning)
   planned_entries = filter_map given (map planned_interface r.interfaces.items)
 
@@ -141,8 +140,7 @@ module _ (r : Resolve) (m : ℕ) (is : IsPackagePlan (plan_of r m)) (v : IsValid
   -- without a world that shows it, an interface of another package has no functions
   plans_none : (n : ℕ) (i : Interface) → interface_at r n ≡ Some i → is_some (interface_path r n) ≡ true → rules.is_foreign (plan_of r m) (planned_interface i) ≡ true → is_shown_in r p n ≡ false
       → (planned_interface i).functions ≡ []
-  plans_none n i e path foreign hidden =
-      is.bare n (planned_interface i) (get_of_map planned_interface r.interfaces.items n ∙ ap (option_map planned_interface) e) foreign
+  plans_none n i e path foreign hidden = is.bare n (planned_interface i) (get_of_map planned_interface r.interfaces.items n ∙ ap (option_map planned_interface) e) foreign
       (unseen (list_any (λ w. rules.is_shown_in w n) (map planned_world r.worlds.items)) refl)
     where
       unseen : (b : Bool) → list_any (λ w. rules.is_shown_in w n) (map planned_world r.worlds.items) ≡ b → b ≡ false

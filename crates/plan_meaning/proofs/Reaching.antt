@@ -94,15 +94,12 @@ module _ (r : Resolve) (m : ℕ) (is : IsPlan (plan_of r m)) (v : IsValid r) (p 
   starts = map (λ id. id.0) (values p.interfaces) ++ flat_map (interfaces_of_world r) (worlds_of r p)
 
   listed_starts : (n : ℕ) (name : Text) → is_id n (number_under name (planned_package p).interfaces) ≡ true → has starts n ≡ true
-  listed_starts n name h =
-      list_any-append (λ k. k == n) (map (λ id. id.0) (values p.interfaces)) (flat_map (interfaces_of_world r) (worlds_of r p))
+  listed_starts n name h = list_any-append (λ k. k == n) (map (λ id. id.0) (values p.interfaces)) (flat_map (interfaces_of_world r) (worlds_of r p))
       ∙ or_left (has (map (λ id. id.0) (values p.interfaces)) n) _ (listed_number (λ (id : InterfaceId). id.0) p.interfaces.entries name n h)
 
   shown_starts : (n j : ℕ) (w : World) → world_at r j ≡ Some w → has (filter_map uses.item_interface (items_of w)) n ≡ true → has starts n ≡ true
-  shown_starts n j w e h =
-      list_any-append (λ k. k == n) (map (λ id. id.0) (values p.interfaces)) (flat_map (interfaces_of_world r) (worlds_of r p))
-      ∙ or_right (has (map (λ id. id.0) (values p.interfaces)) n) _
-      (contains-has (flat_map (interfaces_of_world r) (worlds_of r p)) n
+  shown_starts n j w e h = list_any-append (λ k. k == n) (map (λ id. id.0) (values p.interfaces)) (flat_map (interfaces_of_world r) (worlds_of r p))
+      ∙ or_right (has (map (λ id. id.0) (values p.interfaces)) n) _ (contains-has (flat_map (interfaces_of_world r) (worlds_of r p)) n
       (contains-flat (interfaces_of_world r) (worlds_of r p) w n (world_among j w e) (has-contains (interfaces_of_world r w) n (item_among r n (items_of w) h))))
 
   -- a plan's world that shows the interface
@@ -155,8 +152,7 @@ module _ (r : Resolve) (m : ℕ) (is : IsPlan (plan_of r m)) (v : IsValid r) (p 
 
     leads_by : (fuel n : ℕ) (i : Interface) → length r.interfaces.items ≤ n + fuel → interface_at r n ≡ Some i → Leads n
     leads_by zero n i h e = let less = slice_get_within r.interfaces.items n i e in absurd (omega (arith, h, less))
-    leads_by (suc fuel) n i h e =
-        leads_from n (why_by n i e i.name refl (each_there planned_interface (planned.is_placed (plan_of r m)) r.interfaces.items is.interfaces_placed n i e))
+    leads_by (suc fuel) n i h e = leads_from n (why_by n i e i.name refl (each_there planned_interface (planned.is_placed (plan_of r m)) r.interfaces.items is.interfaces_placed n i e))
         (λ j uses_n. let user = user_stands r j n uses_n in let falls = uses_fall r v j n uses_n in leads_by fuel j user.0 (omega (arith, h, falls)) user.1)
 
     pub all_reached : (n : ℕ) (i : Interface) → interface_at r n ≡ Some i → has (reached_by_package r p) n ≡ true

@@ -32,8 +32,7 @@ module _ (t : Tables) (tables : AreTables t) (kept : List ℕ) (p : Plan) (are :
   tests = record {
     functions_in_range = each_passes (λ o g. function_in_range p g) (λ o g is. (pass o g is).in_range);
     functions_labelled = each_passes (λ o g. function_labels g) (λ o g is. (pass o g is).labels);
-    functions_stay = each_passes (function_stays p) (λ o g is.
-        subst (λ (x : TypeOwner). function_stays p x g ≡ true) is.owned
+    functions_stay = each_passes (function_stays p) (λ o g is. subst (λ (x : TypeOwner). function_stays p x g ≡ true) is.owned
         ((kept_owners_stand t tables kept p are b.owners owned).functions is.place is.shape is.external_id g is.kept_function.becomes is.seen is.obeys));
     functions_take_values = each_passes (λ o g. takes_values p g)
         (λ o g is. (kept_resources_stand t tables kept p are b.marks marked).functions is.shape is.external_id g is.kept_function.becomes is.values);

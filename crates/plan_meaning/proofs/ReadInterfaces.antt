@@ -2,21 +2,19 @@
 use Rattle.std.proofs.Common.{rules as std_rules, ◌≡◌, refl, sym, ap, ◌∙◌, ℕ, true, false, ◌&&◌, List, [], ◌∷◌, ◌++◌, map, Some, slice_get}
 use Rattle.std.proofs.lemmas.{Bool.lt-ltb, Bool.and_from as both, List.Folds.list_all-map}
 use Rattle.std.specs.{Prelude.nat_lt, List.AllZip, List.list_all, Option.option_map_or}
-use Rattle.wit_model.specs.{Text.Text, Text.text_eq, Meaning.FunctionMeaning, Parts.same_owner, Rules.are_distinct, Rules.passes, Valid.as_interface}
-use Rattle.wit_model.specs.Names.{is_label}
+use Rattle.wit_model.specs.{Text.Text, Text.text_eq, Parts.same_owner, Valid.as_interface}
 use Rattle.wit_model.proofs.{VersionLaws.same_text, PartsLemmas.owner_itself, RulesLemmas.each_by_number}
-use Rattle.comp_meaning.specs.{Follow.ShownType, Rules.distinct}
+use Rattle.comp_meaning.specs.{Rules.distinct}
 use Rattle.plan_meaning.specs.{Shapes.named_shape, ReadFunctions.Beside}
 use Rattle.plan_meaning.specs.Plan.{Plan, PlannedType, PlannedFunction, PlannedInterface, numbers_of}
-use Rattle.plan_meaning.specs.{PlanRules.are_rising, PlanRules.bears, PlanRules.interface_labels, PlanRules.is_type_of, PlanRules.names_of, KeptOwners.AreOwned}
-use Rattle.plan_meaning.specs.NumberedViews.{Tables, place_at, NumberedType, NumberedFunction, view_of, shown_type, shown_function}
+use Rattle.plan_meaning.specs.{PlanRules.are_rising, PlanRules.bears, PlanRules.interface_labels, PlanRules.is_type_of, KeptOwners.AreOwned}
+use Rattle.plan_meaning.specs.NumberedViews.{Tables, NumberedType, NumberedFunction}
 use Rattle.plan_meaning.specs.KeptTypes.{IsKeptType, TypesAreKept}
 use Rattle.plan_meaning.specs.ReadInterfaces.{IsNumberOf, IsKeptAs, HasName, IsNamed, IsReadInterface, ReadInterfacesPass}
 use Rattle.plan_meaning.proofs.{KeptParts.kept_at}
 use Rattle.base_lemmas.proofs.Bools.{left_of as first_true, right_of as second_true}
 use Rattle.base_lemmas.proofs.{Elements.all_by_number, Elements.all_get, Elements.zip_at_right, Elements.zip_map, Lists.map_of_map}
 use Rattle.comp_meaning.proofs.RulesLemmas.{distinct_same}
-use Rattle.comp_meaning.specs.Rules as rules
 
 module _ (t : Tables) (kept : List ℕ) (p : Plan) (are : TypesAreKept t kept p) where
   -- ---- order
@@ -41,8 +39,7 @@ module _ (t : Tables) (kept : List ℕ) (p : Plan) (are : TypesAreKept t kept p)
         let found = kept_at t kept p are e.1 n at.1 at.0 in
         let owner_is = owned.owned e.1 n found.0 q x.name found.1 at.0 there ∙ home in
         ap (λ o. option_map_or (λ y. bears e.0 y.name && same_owner y.owner (as_interface m)) o false) found.1
-        ∙ both (bears e.0 found.0.name) (same_owner found.0.owner (as_interface m))
-        (ap (λ y. bears y found.0.name) name ∙ bears_name q n x.name found.0 there found.2)
+        ∙ both (bears e.0 found.0.name) (same_owner found.0.owner (as_interface m)) (ap (λ y. bears y found.0.name) name ∙ bears_name q n x.name found.0 there found.2)
         (ap (λ o. same_owner o (as_interface m)) owner_is ∙ owner_itself (as_interface m))
 
     types_are : (xs : List NumberedType) (ns : List ℕ) (es : List (Text × ℕ)) → AllZip (IsNumberOf t q) xs ns → AllZip (IsKeptAs kept p) ns es → AllZip HasName xs es

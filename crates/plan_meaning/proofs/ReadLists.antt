@@ -83,17 +83,16 @@ number_there name n (x ∷ es) d (suc i, low, e) =
 
 pub distinct_both : (xs ys : List Text) → are_distinct xs ≡ true → are_distinct ys ≡ true → list_all (λ x. not (list_any (text_eq x) ys)) xs ≡ true → are_distinct (xs ++ ys) ≡ true
 distinct_both [] ys d e apart = e
-distinct_both (x ∷ xs) ys d e apart =
-    search (
-      std_rules,
-      both,
-      list_any-append,
-      neither,
-      not_true,
-      first_true,
-      second_true,
-      distinct_both xs ys (second_true (not (list_any (text_eq x) xs)) (are_distinct xs) d) e (second_true (not (list_any (text_eq x) ys)) (list_all (λ y. not (list_any (text_eq y) ys)) xs) apart),
-    )
+distinct_both (x ∷ xs) ys d e apart = search (
+  std_rules,
+  both,
+  list_any-append,
+  neither,
+  not_true,
+  first_true,
+  second_true,
+  distinct_both xs ys (second_true (not (list_any (text_eq x) xs)) (are_distinct xs) d) e (second_true (not (list_any (text_eq x) ys)) (list_all (λ y. not (list_any (text_eq y) ys)) xs) apart),
+)
 
 pub or_nothing : (a : Bool) → (a || false) ≡ true → a ≡ true
 or_nothing x h = search std_rules

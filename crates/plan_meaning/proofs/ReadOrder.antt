@@ -162,8 +162,7 @@ module _ (t : Tables) (tables : AreTables t) (kept : List ℕ) (p : Plan) (are :
     -- ---- types
 
     stands_first : (x : ReadItem) (rest : List ReadItem) (j : ℕ) (w : IsWorldType j) → list_all (λ (y : ReadItem). not (is_type_seen y.seen.shown) || nat_lt x.count y.count) rest ≡ true
-        → w.number < x.count
-        → (is_type_seen x.seen.shown ≡ true → x.count ≡ w.number + 1 → ⊥) → (found : List ℕ) → (has found j ≡ true) ⊎ Waits (x ∷ rest) w.number → has found j ≡ true
+        → w.number < x.count → (is_type_seen x.seen.shown ≡ true → x.count ≡ w.number + 1 → ⊥) → (found : List ℕ) → (has found j ≡ true) ⊎ Waits (x ∷ rest) w.number → has found j ≡ true
     stands_first x rest j w follow low here found (inl h) = h
     stands_first x rest j w follow low here found (inr (y, (zero, l, e), seen, count)) = search std_rules
     stands_first x rest j w follow low here found (inr (y, (suc i, l, e), seen, count)) =
@@ -239,20 +238,16 @@ module _ (t : Tables) (tables : AreTables t) (kept : List ℕ) (p : Plan) (are :
 
     stands : (x : ReadItem) (rest : List ReadItem) → Item x → (earlier : List ℕ) (before : List PlannedItem) → Before earlier before (x ∷ rest) → list_all (has earlier) (uses_of t x.seen.shown) ≡ true
         → list_all (λ (y : ReadItem). not (is_type_seen y.seen.shown) || nat_lt x.count y.count) rest ≡ true → uses_stand_before p m before x.entry.1 ≡ true
-    stands x rest (by_path q n v id path shown key entry is) earlier before inv h follow =
-        ap (λ (e : PlannedKey × PlannedItem). uses_stand_before p m before e.1) entry
+    stands x rest (by_path q n v id path shown key entry is) earlier before inv h follow = ap (λ (e : PlannedKey × PlannedItem). uses_stand_before p m before e.1) entry
         ∙ both (list_all (has (filter_map item_interface before)) (direct_uses p n)) true
         (uses_there q n v is earlier (filter_map item_interface before) inv.interfaces (sym (ap (λ s. list_all (has earlier) (uses_of t s)) shown) ∙ h)) refl
-    stands x rest (by_label q n v id shown good entry is) earlier before inv h follow =
-        ap (λ (e : PlannedKey × PlannedItem). uses_stand_before p m before e.1) entry
+    stands x rest (by_label q n v id shown good entry is) earlier before inv h follow = ap (λ (e : PlannedKey × PlannedItem). uses_stand_before p m before e.1) entry
         ∙ both (list_all (has (filter_map item_interface before)) (direct_uses p n)) true
         (uses_there q n v is earlier (filter_map item_interface before) inv.interfaces (sym (ap (λ s. list_all (has earlier) (uses_of t s)) shown) ∙ h)) refl
-    stands x rest (implementing_path q n v id path shown good entry is) earlier before inv h follow =
-        ap (λ (e : PlannedKey × PlannedItem). uses_stand_before p m before e.1) entry
+    stands x rest (implementing_path q n v id path shown good entry is) earlier before inv h follow = ap (λ (e : PlannedKey × PlannedItem). uses_stand_before p m before e.1) entry
         ∙ both (list_all (has (filter_map item_interface before)) (direct_uses p n)) true
         (uses_there q n v is earlier (filter_map item_interface before) inv.interfaces (sym (ap (λ s. list_all (has earlier) (uses_of t s)) shown) ∙ h)) refl
-    stands x rest (a_function f g shown entry is) earlier before inv h follow =
-        ap (λ (e : PlannedKey × PlannedItem). uses_stand_before p m before e.1) entry
+    stands x rest (a_function f g shown entry is) earlier before inv h follow = ap (λ (e : PlannedKey × PlannedItem). uses_stand_before p m before e.1) entry
         ∙ used_stand x rest (function_numbers g) (function_low x.seen.key x.count g is) follow (λ j w c seen count. no_true (sym (ap is_type_seen shown) ∙ seen))
         (filter_map item_type before) inv.types
     stands x rest (a_type d n shown entry is) earlier before inv h follow =
@@ -261,8 +256,7 @@ module _ (t : Tables) (tables : AreTables t) (kept : List ℕ) (p : Plan) (are :
         ∙ both (list_all (has (filter_map item_interface before)) (option_to_list (interface_used_by p n))) (list_all (has (filter_map item_type before)) (used_types p m (plan.declares n)))
         (type_uses_there x.seen.key x.count d x.seen.external_id n is earlier (filter_map item_interface before) inv.interfaces (sym (ap (λ s. list_all (has earlier) (uses_of t s)) shown) ∙ h))
         (ap (λ o. list_all (has (filter_map item_type before)) (filter (has_owner p (as_world m)) (option_map_or (λ (y : PlannedType). used_by_numbers p (kind_numbers y.kind)) o [])))
-        is.becomes.stands
-        ∙ used_stand x rest ns (numbers_low x.count n is.number is.becomes.type_ is.becomes.stands is.stands is.last) follow
+        is.becomes.stands ∙ used_stand x rest ns (numbers_low x.count n is.number is.becomes.type_ is.becomes.stands is.stands is.last) follow
         (λ j w c seen count. own_number n is.number is.becomes.type_ is.becomes.stands is.stands j w c (sym is.last ∙ count)) (filter_map item_type before) inv.types)
 
     -- ---- from item to item
@@ -270,8 +264,7 @@ module _ (t : Tables) (tables : AreTables t) (kept : List ℕ) (p : Plan) (are :
     next : (x : ReadItem) (rest : List ReadItem) → Item x → (earlier : List ℕ) (before : List PlannedItem) → Before earlier before (x ∷ rest)
         → Before (earlier ++ path_seen x.seen.shown) (before ++ x.entry.1 ∷ []) rest
     next x rest is earlier before inv = record {
-      interfaces = λ r u h at. seen_interface r u at is
-          (either (has earlier r) (has (path_seen x.seen.shown) r) (sym (list_any-append (λ k. k == r) earlier (path_seen x.seen.shown)) ∙ h));
+      interfaces = λ r u h at. seen_interface r u at is (either (has earlier r) (has (path_seen x.seen.shown) r) (sym (list_any-append (λ k. k == r) earlier (path_seen x.seen.shown)) ∙ h));
       types = λ j w. seen_type j w (inv.types j w);
     }
       where
@@ -280,8 +273,7 @@ module _ (t : Tables) (tables : AreTables t) (kept : List ℕ) (p : Plan) (are :
         either false c h = inr h
 
         interface_last : (u n : ℕ) (id : Option Text) → x.entry.1 ≡ plan.interface n id → u ≡ n → has (filter_map item_interface (before ++ x.entry.1 ∷ [])) u ≡ true
-        interface_last u n id e same =
-            ap (λ ns. has ns u) (filter_map-append item_interface before (x.entry.1 ∷ []))
+        interface_last u n id e same = ap (λ ns. has ns u) (filter_map-append item_interface before (x.entry.1 ∷ []))
             ∙ has_end (filter_map item_interface before) (filter_map item_interface (x.entry.1 ∷ [])) u
             (ap (λ i. has (filter_map item_interface (i ∷ [])) u) e ∙ (ap (λ v. v || false) (eq-eqb n u (sym same))))
 
@@ -359,14 +351,12 @@ module _ (t : Tables) (tables : AreTables t) (kept : List ℕ) (p : Plan) (are :
     all_follow : (xs ys : List ReadItem) → types_follow xs ≡ true → list_all (λ (y : ReadItem). not (is_type_seen y.seen.shown)) ys ≡ true → types_follow (xs ++ ys) ≡ true
     all_follow [] [] h none = refl
     all_follow [] (y ∷ ys) h none = both (list_all (λ (z : ReadItem). not (is_type_seen z.seen.shown) || nat_lt y.count z.count) ys) (types_follow ys)
-        (all_weaker (λ (z : ReadItem). not (is_type_seen z.seen.shown)) (λ (z : ReadItem). not (is_type_seen z.seen.shown) || nat_lt y.count z.count)
-        (λ z e. ap (λ v. v || nat_lt y.count z.count) e) ys
-        (second_true (not (is_type_seen y.seen.shown)) (list_all (λ (z : ReadItem). not (is_type_seen z.seen.shown)) ys) none))
+        (all_weaker (λ (z : ReadItem). not (is_type_seen z.seen.shown)) (λ (z : ReadItem). not (is_type_seen z.seen.shown) || nat_lt y.count z.count) (λ z e. ap (λ v. v || nat_lt y.count z.count) e)
+        ys (second_true (not (is_type_seen y.seen.shown)) (list_all (λ (z : ReadItem). not (is_type_seen z.seen.shown)) ys) none))
         (all_follow [] ys refl (second_true (not (is_type_seen y.seen.shown)) (list_all (λ (z : ReadItem). not (is_type_seen z.seen.shown)) ys) none))
     all_follow (x ∷ xs) ys h none =
         let later : ReadItem → Bool = λ z. not (is_type_seen z.seen.shown) || nat_lt x.count z.count in
-        both (list_all later (xs ++ ys)) (types_follow (xs ++ ys))
-        (list_all-append later xs ys
+        both (list_all later (xs ++ ys)) (types_follow (xs ++ ys)) (list_all-append later xs ys
         ∙ both (list_all later xs) (list_all later ys) (first_true (list_all later xs) (types_follow xs) h)
         (all_weaker (λ (z : ReadItem). not (is_type_seen z.seen.shown)) later (λ z e. ap (λ v. v || nat_lt x.count z.count) e) ys none))
         (all_follow xs ys (second_true (list_all later xs) (types_follow xs) h) none)
@@ -380,17 +370,11 @@ module _ (t : Tables) (tables : AreTables t) (kept : List ℕ) (p : Plan) (are :
       let seen : map (λ (x : ReadItem). x.seen) (xs ++ ys) ≡ is.scope.imports ++ is.scope.exports = append_of_map (λ (x : ReadItem). x.seen) xs ys ∙ (λ i. is.imports_seen i ++ is.exports_seen i) in
       let items : map (λ (z : PlannedKey × PlannedItem). z.1) (map (λ (x : ReadItem). x.entry) (xs ++ ys)) ≡ items_of w =
       ap (map (λ (z : PlannedKey × PlannedItem). z.1)) entries ∙ append_of_map (λ (z : PlannedKey × PlannedItem). z.1) w.imports w.exports in
-      let none : list_all (λ (y : ReadItem). not (is_type_seen y.seen.shown)) ys ≡ true =
-      sym (list_all-map (λ (s : NumberedSeen). not (is_type_seen s.shown)) (λ (y : ReadItem). y.seen) ys)
+      let none : list_all (λ (y : ReadItem). not (is_type_seen y.seen.shown)) ys ≡ true = sym (list_all-map (λ (s : NumberedSeen). not (is_type_seen s.shown)) (λ (y : ReadItem). y.seen) ys)
       ∙ (ap (list_all (λ (s : NumberedSeen). not (is_type_seen s.shown))) is.exports_seen ∙ is.no_types) in
-      let begin : Before m is.scope.home is.owned [] [] (xs ++ ys) = record {
-        interfaces = λ r u h at. no_true h;
-        types = λ j v. inr (waiting m w e j v);
-      } in
-      ap (each_after (uses_stand_before p m) []) (sym items)
-      ∙ in_order m is.scope.home is.owned (xs ++ ys) (all_both (Item m is.scope.home is.owned) xs ys is.imports_read is.exports_read)
-      (all_follow m is.scope.home is.owned xs ys is.follow none) [] [] begin
-      (ap (stand_earlier t []) seen ∙ order_obeys t tables kept p are b owned views m w is)
+      let begin : Before m is.scope.home is.owned [] [] (xs ++ ys) = record { interfaces = λ r u h at. no_true h; types = λ j v. inr (waiting m w e j v) } in
+      ap (each_after (uses_stand_before p m) []) (sym items) ∙ in_order m is.scope.home is.owned (xs ++ ys) (all_both (Item m is.scope.home is.owned) xs ys is.imports_read is.exports_read)
+      (all_follow m is.scope.home is.owned xs ys is.follow none) [] [] begin (ap (stand_earlier t []) seen ∙ order_obeys t tables kept p are b owned views m w is)
     where
       waiting : (m : ℕ) (w : PlannedWorld) (e : world_in p m ≡ Some w) → let is = read.worlds m w e in (j : ℕ) (v : IsWorldType m is.scope.home is.owned j)
           → Waits m is.scope.home is.owned (is.imports ++ is.exports) v.number

@@ -87,8 +87,7 @@ module _ (t : Tables) (tables : AreTables t) (h : Homes) (homes : HomesStand t h
 
     interface_names : (n : ℕ) (es : List (Text × ℕ)) → AllByRecursion (IsListedInterface t h p owners n) es → are_once (numbers_of es) ≡ true → are_distinct (names_of es) ≡ true
     interface_names n [] a once = refl
-    interface_names n (e ∷ es) a once =
-        both (not (list_any (text_eq e.0) (names_of es))) (are_distinct (names_of es))
+    interface_names n (e ∷ es) a once = both (not (list_any (text_eq e.0) (names_of es))) (are_distinct (names_of es))
         (ap not (other_names n e a.0 es a.1 (not_true (has (numbers_of es) e.1) (first_true (not (has (numbers_of es) e.1)) (are_once (numbers_of es)) once))))
         (interface_names n es a.1 (second_true (not (has (numbers_of es) e.1)) (are_once (numbers_of es)) once))
 
@@ -99,8 +98,7 @@ module _ (t : Tables) (tables : AreTables t) (h : Homes) (homes : HomesStand t h
     worlds_differ n k e = distinct_same (names_of k.worlds) ∙ (read.packages n k e).labels
 
     all_differ : (n : ℕ) (k : PlannedPackage) → package_in p n ≡ Some k → members_differ k ≡ true
-    all_differ n k e =
-        distinct_both (names_of k.interfaces) (names_of k.worlds) (interfaces_differ n k e) (worlds_differ n k e)
+    all_differ n k e = distinct_both (names_of k.interfaces) (names_of k.worlds) (interfaces_differ n k e) (worlds_differ n k e)
         (list_all-map (λ x. not (list_any (text_eq x) (names_of k.worlds))) (λ (y : Text × ℕ). y.0) k.interfaces ∙ (read.packages n k e).apart)
 
     -- ---- interfaces
@@ -165,9 +163,8 @@ module _ (t : Tables) (tables : AreTables t) (h : Homes) (homes : HomesStand t h
       identities = all_by_number (λ k. is_identity k.identity) p.packages identity_there;
       alone = each_by_number (is_alone p) p.packages
           (λ n k e. each_by_number (λ m other. (m == n) || not (same_identity k.identity other.identity)) p.packages (λ m other f. other_identity n k e m other f));
-      members = each_by_number (lists_members p) p.packages
-          (λ n k e. let is = read.packages n k e in both (list_all (lists_interface p n) k.interfaces) (list_all (lists_world p n) k.worlds) (all_interfaces n k.interfaces is.interfaces)
-          (all_worlds n k.worlds is.worlds));
+      members = each_by_number (lists_members p) p.packages (λ n k e. let is = read.packages n k e in
+          both (list_all (lists_interface p n) k.interfaces) (list_all (lists_world p n) k.worlds) (all_interfaces n k.interfaces is.interfaces) (all_worlds n k.worlds is.worlds));
       members_differ = all_by_number members_differ p.packages all_differ;
       interfaces_placed = each_by_number (is_placed p) p.interfaces placed;
       worlds_placed = each_by_number (is_world_placed p) p.worlds world_placed;

@@ -11,7 +11,7 @@ use Rattle.wit_model.proofs.Elements.{contains-filter_map, contains-get, contain
 use Rattle.plan_meaning.specs.Plan.{Plan, PlannedKey, PlannedItem, PlannedType, PlannedFunction, PlannedInterface, PlannedPackage, package_in, interface_in, kind_numbers, part_number, function_numbers, function_parts, interfaces_used_by, item_interface, items_of}
 use Rattle.plan_meaning.specs.PlanRules.{HoldsNoMore, IsWanted, shown, used, direct_uses, functions_of, is_foreign, is_part, is_shown_in, world_functions}
 use Rattle.plan_meaning.specs.Renumbering.{IsPart, a_primitive, a_shape}
-use Rattle.plan_meaning.specs.NumberedViews.{FunctionShape, Tables, path_at, AreTables, NumberedView, NumberedSight}
+use Rattle.plan_meaning.specs.NumberedViews.{FunctionShape, Tables, AreTables, NumberedView, NumberedSight}
 use Rattle.plan_meaning.specs.{NumberedWorlds.HasPath, NumberedWorlds.are_once, NumberedWorlds.are_reached, NumberedWorlds.used_by_view, ReadPlans.IsReadPlan}
 use Rattle.plan_meaning.specs.{NumberedMembers.Homes, NumberedMembers.HomesStand, NumberedMembers.home_at, NumberedMembers.is_of_package, ReadFunctions.Beside}
 use Rattle.plan_meaning.specs.GatheredPlan.{Becomes, FunctionBecomes, FunctionListed, functions_seen}
@@ -49,8 +49,7 @@ module _ (t : Tables) (tables : AreTables t) (h : Homes) (homes : HomesStand t h
         (subst (λ o. Contains (option_to_list o) j) (sym (part_there (14 + k) found.0 refl found.2)) (0, omega arith, refl))))
 
     of_function : (f : FunctionShape) (id : Option Text) (g : PlannedFunction) → FunctionBecomes t kept p f id g → IsPartOfFunction f (14 + k) → has (function_numbers g) j ≡ true
-    of_function f id g is part =
-        contains-has (function_numbers g) j (Contains-append_left (filter_map part_number (function_parts g)) (option_to_list (resource_of g.kind)) j
+    of_function f id g is part = contains-has (function_numbers g) j (Contains-append_left (filter_map part_number (function_parts g)) (option_to_list (resource_of g.kind)) j
         (has-contains (filter_map part_number (function_parts g)) j (numbers_have (shape_parts f) (function_parts g) (function_zip t kept p f id g is) (by part))))
       where
         by : IsPartOfFunction f (14 + k) → Contains (shape_parts f) (14 + k)
@@ -68,15 +67,12 @@ module _ (t : Tables) (tables : AreTables t) (h : Homes) (homes : HomesStand t h
     in_worlds = list_any (λ w. list_any (λ f. has (function_numbers f) j) (world_functions w)) p.worlds
 
     is_part_of : IsPartOfKept t h kept p b (14 + k) → is_part p j ≡ true
-    is_part_of (of_type i x form olds news e kind z c) =
-        ap (λ v. v || (in_interfaces || in_worlds))
+    is_part_of (of_type i x form olds news e kind z c) = ap (λ v. v || (in_interfaces || in_worlds))
         (contains_any (λ y. has (kind_numbers y.kind) j) p.types x (get-contains p.types i x e) (ap (λ y. has (kind_numbers y) j) kind ∙ numbers_have olds news z c))
-    is_part_of (of_interface m i f id g e c is part) =
-        or_right in_types (in_interfaces || in_worlds)
+    is_part_of (of_interface m i f id g e c is part) = or_right in_types (in_interfaces || in_worlds)
         (ap (λ v. v || in_worlds) (contains_any (λ i. list_any (λ f. has (function_numbers f) j) (functions_of i)) p.interfaces i (get-contains p.interfaces m i e)
         (contains_any (λ f. has (function_numbers f) j) (functions_of i) g c (of_function f id g is part))))
-    is_part_of (of_world m w f id g e c is part) =
-        or_right in_types (in_interfaces || in_worlds)
+    is_part_of (of_world m w f id g e c is part) = or_right in_types (in_interfaces || in_worlds)
         (or_right in_interfaces in_worlds (contains_any (λ w. list_any (λ f. has (function_numbers f) j) (world_functions w)) p.worlds w (get-contains p.worlds m w e)
         (contains_any (λ f. has (function_numbers f) j) (world_functions w) g c (of_function f id g is part))))
 
@@ -126,8 +122,7 @@ module _ (t : Tables) (tables : AreTables t) (h : Homes) (homes : HomesStand t h
       let item_is = all_at (IsReadItem t kept p b views (as_world is.number) r.scope.home) all
       (all_both (IsReadItem t kept p b views (as_world is.number) r.scope.home) r.imports r.exports r.imports_read r.exports_read) is.item is.listed in
       let there = contains-map (λ (z : PlannedKey × PlannedItem). z.1) (map (λ (x : ReadItem). x.entry) all) is.item.entry (contains-map (λ (x : ReadItem). x.entry) all is.item is.listed) in
-      contains-has (filter_map item_interface (items_of w)) n
-      (contains-filter_map item_interface (items_of w) is.item.entry.1 n (subst (λ xs. Contains xs is.item.entry.1) items there)
+      contains-has (filter_map item_interface (items_of w)) n (contains-filter_map item_interface (items_of w) is.item.entry.1 n (subst (λ xs. Contains xs is.item.entry.1) items there)
       (subst (λ o. Contains (option_to_list o) n) (sym (item_shows (as_world is.number) r.scope.home q n at is.item item_is is.shows)) (0, omega arith, refl)))
 
   -- ---- interfaces that another uses
@@ -164,8 +159,7 @@ module _ (t : Tables) (tables : AreTables t) (h : Homes) (homes : HomesStand t h
   used_later : (exported : ℕ × NumberedView) (imports : List (ℕ × NumberedView)) (q : ℕ) → are_reached t imports exported.1 ≡ true → are_once (map (λ (i : ℕ × NumberedView). i.0) imports) ≡ true
       → has (map (λ (i : ℕ × NumberedView). i.0) imports) exported.0 ≡ false → has (map (λ (i : ℕ × NumberedView). i.0) imports) q ≡ true → IsUsedBy exported imports q
   used_later exported [] q reached apart away here = no_true here
-  used_later exported (i ∷ later) q reached apart away here =
-      go (i.0 == q) refl
+  used_later exported (i ∷ later) q reached apart away here = go (i.0 == q) refl
       (λ f. used_later exported later q (second_true (has (flat_map (λ (l : ℕ × NumberedView). used_by_view t l.1) later ++ used_by_view t exported.1) i.0) (are_reached t later exported.1) reached)
       (second_true (not (has (map (λ (l : ℕ × NumberedView). l.0) later) i.0)) (are_once (map (λ (l : ℕ × NumberedView). l.0) later)) apart)
       (none_second (i.0 == exported.0) (has (map (λ (l : ℕ × NumberedView). l.0) later) exported.0) away) f)
@@ -279,4 +273,10 @@ module _ (t : Tables) (tables : AreTables t) (h : Homes) (homes : HomesStand t h
 
 pub read_world_plan_stands : ReadWorldPlanStands
 read_world_plan_stands t tables h homes kept p b views is =
-    search (std_rules, read_plan_stands t tables h homes kept p b views is.read, no_more t tables h homes kept p b views is.read is.kept_for, same-number p.main, shows t tables h homes kept p b views is)
+    search (
+      std_rules,
+      read_plan_stands t tables h homes kept p b views is.read,
+      no_more t tables h homes kept p b views is.read is.kept_for,
+      same-number p.main,
+      shows t tables h homes kept p b views is,
+    )

@@ -9,11 +9,11 @@ use Rattle.wit_model.specs.{Text.Text, Text.text_eq, Rules.in_list, Rules.is_fre
 use Rattle.wit_model.specs.{Names.is_label, Parts.same_owner}
 use Rattle.wit_model.proofs.{VersionLaws.same_text, PartsLemmas.owner_itself, RulesLemmas.each_by_number}
 use Rattle.comp_meaning.specs.Rules.{distinct, is_label_behind}
-use Rattle.plan_meaning.specs.{Shapes.Shape, Shapes.first_label, Shapes.form_code, Shapes.named_shape, Shapes.node_shape, ReadFunctions.Beside}
+use Rattle.plan_meaning.specs.{Shapes.named_shape, ReadFunctions.Beside}
 use Rattle.plan_meaning.specs.Plan.{Plan, PlannedKey, PlannedItem, PlannedType, PlannedFunction, PlannedInterface, PlannedWorld, interface_in, item_type, world_types}
 use Rattle.plan_meaning.specs.PlanRules.{are_rising, bears, has_name, import_stands, export_stands, is_function_key, is_type_of, keys_differ, same_key}
-use Rattle.plan_meaning.specs.NumberedViews.{Tables, path_text, AreTables, NumberedView, FunctionShape, function_at}
-use Rattle.plan_meaning.specs.{NumberedRules.Fact, NumberedRules.is_signature, KeptOwners.AreOwned, KeptOwners.of_interface}
+use Rattle.plan_meaning.specs.NumberedViews.{Tables, path_text, AreTables, NumberedView, FunctionShape}
+use Rattle.plan_meaning.specs.{NumberedRules.Fact, KeptOwners.AreOwned, KeptOwners.of_interface}
 use Rattle.plan_meaning.specs.NumberedWorlds.{HasPath, NumberedSeen, are_imports, is_item, stand_earlier}
 use Rattle.plan_meaning.specs.KeptTypes.{IsKeptType, unnamed, declared, TypesAreKept}
 use Rattle.plan_meaning.specs.KeptFunctions.{IsKindOf, of_none, a_constructor, a_method, an_async_method, a_static, an_async_static}
@@ -132,8 +132,7 @@ module _ (t : Tables) (tables : AreTables t) (kept : List ℕ) (p : Plan) (are :
         → list_any (text_eq x.seen.key) (map (λ (s : NumberedSeen). s.key) (map (λ (y : ReadItem). y.seen) ys)) ≡ false
         → list_any (λ (other : PlannedKey × PlannedItem). same_key x.entry.0 other.0) (map (λ (y : ReadItem). y.entry) ys) ≡ false
     no_other_key x is [] a h = refl
-    no_other_key x is (y ∷ ys) a h =
-        neither (same_key x.entry.0 y.entry.0) (list_any (λ (other : PlannedKey × PlannedItem). same_key x.entry.0 other.0) (map (λ (z : ReadItem). z.entry) ys))
+    no_other_key x is (y ∷ ys) a h = neither (same_key x.entry.0 y.entry.0) (list_any (λ (other : PlannedKey × PlannedItem). same_key x.entry.0 other.0) (map (λ (z : ReadItem). z.entry) ys))
         (differs (same_key x.entry.0 y.entry.0) refl) (no_other_key x is ys a.1
         (none_second (text_eq x.seen.key y.seen.key) (list_any (text_eq x.seen.key) (map (λ (s : NumberedSeen). s.key) (map (λ (z : ReadItem). z.seen) ys))) h))
       where
@@ -163,8 +162,7 @@ module _ (t : Tables) (tables : AreTables t) (kept : List ℕ) (p : Plan) (are :
 
     -- the number of a type of the world, with its number in the table behind this, if the item is one
     later_types : (n k low : ℕ) → slice_get kept n ≡ Some k → k < low → (xs : List ReadItem) → AllByRecursion Item xs
-        → list_all (λ (y : ReadItem). not (is_type_seen y.seen.shown) || nat_lt low y.count) xs ≡ true
-        → list_all (nat_lt n) (types_in xs) ≡ true
+        → list_all (λ (y : ReadItem). not (is_type_seen y.seen.shown) || nat_lt low y.count) xs ≡ true → list_all (nat_lt n) (types_in xs) ≡ true
     later_types n k low at less [] a h = refl
     later_types n k low at less (y ∷ ys) a h =
         let rest = later_types n k low at less ys a.1 (second_true (not (is_type_seen y.seen.shown) || nat_lt low y.count)

@@ -55,8 +55,7 @@ module _ (place : ℕ → Place) (shapes : List Shape) (kept : List ℕ) (p : Pl
       let from = are.types j found.0 found.1 in
       let same : from.0 ≡ n = same-some from.0 n (sym from.2 ∙ stands) in
       let numbers = each_at (λ i t. list_all (λ k. nat_lt k i) (kind_numbers t.kind)) p.types j found.0 falls found.1 in
-      ap (λ o. unwrap_or o no_tree) (planned_tree j found.0 found.1)
-      ∙ (made_tree j small found.0 from.1 numbers from.4
+      ap (λ o. unwrap_or o no_tree) (planned_tree j found.0 found.1) ∙ (made_tree j small found.0 from.1 numbers from.4
       ∙ (sym (ap (λ o. unwrap_or o no_tree) (tree_at_number place shapes table from.0 from.1 from.3)) ∙ ap (tree_of_number old_trees) same))
 
   numbers_kept : (fuel j n : ℕ) → j < fuel → j < length p.types → slice_get kept j ≡ Some n → tree_of_number (trees_in p) j ≡ tree_of_number old_trees n

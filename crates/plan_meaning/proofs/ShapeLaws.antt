@@ -152,12 +152,9 @@ module _ (place : ℕ → Place) (ss : List Shape) (table : IsTable ss) where
   mutual
     same_part : (x : Tree) (a b : ℕ) → InRange a → InRange b → AreApart place ss a b → part_tree trees a ≡ x → part_tree trees b ≡ x → a ≡ b
     same_part (Tree.primitive p) a b ha hb apart ea eb = search (std_rules, both_views, viewed a ha, viewed b hb)
-    same_part (Tree.named q y) a b ha hb apart ea eb =
-        both_views a b (part_tree trees a) (part_tree trees b) apart (ea ∙ sym eb) (viewed a ha) (viewed b hb)
+    same_part (Tree.named q y) a b ha hb apart ea eb = both_views a b (part_tree trees a) (part_tree trees b) apart (ea ∙ sym eb) (viewed a ha) (viewed b hb)
         (λ ks ls ra rb near f g ta tb. let wrong : Tree.named q y ≡ Tree.node f (children (map (part_tree trees) ks)) = sym ea ∙ ta in absurd cc)
-    same_part (Tree.node h ts) a b ha hb apart ea eb =
-        both_views a b (part_tree trees a) (part_tree trees b) apart (ea ∙ sym eb) (viewed a ha) (viewed b hb)
-        (λ ks ls ra rb near f g ta tb.
+    same_part (Tree.node h ts) a b ha hb apart ea eb = both_views a b (part_tree trees a) (part_tree trees b) apart (ea ∙ sym eb) (viewed a ha) (viewed b hb) (λ ks ls ra rb near f g ta tb.
         let one : Tree.node h ts ≡ Tree.node f (children (map (part_tree trees) ks)) = sym ea ∙ ta in
         let two : Tree.node h ts ≡ Tree.node g (children (map (part_tree trees) ls)) = sym eb ∙ tb in
         let first : children (map (part_tree trees) ks) ≡ ts = cc in

@@ -45,9 +45,8 @@ module _ (t : Tables) (tables : AreTables t) (kept : List ℕ) (p : Plan) (are :
   no_uses d old e none = ap (used_by t) e ∙ ap (λ o. option_map_or (λ (x : ℕ × Text). if_outside t x.0) o []) none
 
   -- the type of the number of a name
-  name_used : (n k q : ℕ) (name : Text) (x : PlannedType) → type_in p n ≡ Some x → slice_get kept n ≡ Some k → slice_get t.shapes k ≡ Some (named_shape q name)
-      → (d : Option ℕ) (old new i m : ℕ) → DeclaresKind t kept p d x.kind → d ≡ Some old → numbered.is_form t old ≡ false → Becomes t kept p old new → old ≡ 14 + m → slice_get kept i ≡ Some m
-      → new ≡ 14 + i
+  name_used : (n k q : ℕ) (name : Text) (x : PlannedType) → type_in p n ≡ Some x → slice_get kept n ≡ Some k → slice_get t.shapes k ≡ Some (named_shape q name) → (d : Option ℕ) (old new i m : ℕ)
+      → DeclaresKind t kept p d x.kind → d ≡ Some old → numbered.is_form t old ≡ false → Becomes t kept p old new → old ≡ 14 + m → slice_get kept i ≡ Some m → new ≡ 14 + i
       → UsedBy q d (option_and_then (λ (u : PlannedType). owner_interface u.owner) (type_in p i))
   name_used n k q name x there at shape d old new i m kind is no_form becomes from stands to =
       let range = becomes.range in
@@ -81,19 +80,15 @@ module _ (t : Tables) (tables : AreTables t) (kept : List ℕ) (p : Plan) (are :
 
       by : DeclaresKind t kept p d is.type_.kind → UsedBy q d (abbrev_of is.type_.kind)
       by (a_resource none kind) = nothing (ap abbrev_of kind) (ap (used_by t) none)
-      by (a_form old m form olds news e from f z kind) =
-          nothing (ap abbrev_of kind) (no_uses d old e (ap (option_and_then name_in) (shape_there t old m (node_shape form olds) from f) ∙ ap
+      by (a_form old m form olds news e from f z kind) = nothing (ap abbrev_of kind) (no_uses d old e (ap (option_and_then name_in) (shape_there t old m (node_shape form olds) from f) ∙ ap
           (λ v. cond v (Some ((node_shape form olds).number, first_label (node_shape form olds).labels)) None) (no_name form)))
       by (gathered.a_name old new e no_form becomes kind) = subst (λ x. UsedBy q d (abbrev_of x)) (sym kind) (part becomes.part)
         where
           part : IsPart kept old new → UsedBy q d (abbrev_of (plan.alias new))
-          part (a_primitive low same) =
-              nothing (ap (λ c. option_and_then (λ m. option_and_then (λ (u : PlannedType). owner_interface u.owner) (type_in p m)) (cond c None (Some (new - 14))))
-              (lt-ltb new 14 (omega (arith, low, same))))
-              (no_uses d old e (ap (option_and_then name_in) (no_shape t old low)))
-          part (a_shape m i from stands to) =
-              subst (UsedBy q d) (sym (ap (option_and_then (λ m. option_and_then (λ (u : PlannedType). owner_interface u.owner) (type_in p m))) (ap part_number to ∙ behind i)))
-              (name_used n k q name is.type_ is.stands at shape d old new i m is.kind e no_form becomes from stands to)
+          part (a_primitive low same) = nothing (ap (λ c. option_and_then (λ m. option_and_then (λ (u : PlannedType). owner_interface u.owner) (type_in p m)) (cond c None (Some (new - 14))))
+              (lt-ltb new 14 (omega (arith, low, same)))) (no_uses d old e (ap (option_and_then name_in) (no_shape t old low)))
+          part (a_shape m i from stands to) = subst (UsedBy q d) (sym (ap (option_and_then (λ m. option_and_then (λ (u : PlannedType). owner_interface u.owner) (type_in p m)))
+              (ap part_number to ∙ behind i))) (name_used n k q name is.type_ is.stands at shape d old new i m is.kind e no_form becomes from stands to)
 
   -- ---- the interfaces that an interface uses
 
@@ -115,8 +110,7 @@ module _ (t : Tables) (tables : AreTables t) (kept : List ℕ) (p : Plan) (are :
         by x there used (own same only) = inl (one_interface u m (sym (owned_by (b.owners is.read.place) u (sym same ∙ used)) ∙ is.read.owned))
         by x there used (other r all same) = inr (
           r,
-          contains-flat (λ (y : NumberedType). used_by t y.declared) is.read.view.types x r there
-              (subst (λ ns. Contains ns r) (sym all) (0, omega arith, refl)),
+          contains-flat (λ (y : NumberedType). used_by t y.declared) is.read.view.types x r there (subst (λ ns. Contains ns r) (sym all) (0, omega arith, refl)),
           owned_by (b.owners r) u (sym same ∙ used),
         )
 

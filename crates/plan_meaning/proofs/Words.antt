@@ -73,8 +73,7 @@ params_result [] (Some t) = refl
 params_result (p ∷ ps) o = ap (λ ks. part_of p ∷ ks) (params_result ps o)
 
 pub function_parts_are : (f : Function) → function_parts (planned_function f) ≡ map part_of (function_types f)
-function_parts_are f =
-    ap (λ ks. ks ++ option_to_list (option_map part_of f.result)) (map_of_map (λ (x : Text × ℕ). x.1) (λ x. (text_of x.name, part_of x.ty)) f.params.items ∙ sym
+function_parts_are f = ap (λ ks. ks ++ option_to_list (option_map part_of f.result)) (map_of_map (λ (x : Text × ℕ). x.1) (λ x. (text_of x.name, part_of x.ty)) f.params.items ∙ sym
     (map_of_map part_of (λ x. x.ty) f.params.items))
     ∙ params_result (map (λ x. x.ty) f.params.items) f.result
 
