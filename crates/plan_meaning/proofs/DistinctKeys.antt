@@ -36,15 +36,12 @@ both_distinct f g es fs h = search (std_rules, strings_distinct, names_are, fron
 
 -- ---- keys of worlds
 
-same_key_is : (a b : WorldKey) → same_key (planned_key a) (planned_key b) ≡ key_eq a b
-same_key_is x y = search std_rules
-
 other_keys : (k : WorldKey) (es : List (WorldKey × WorldItem)) → not (list_any (λ other. same_key (planned_key k) other.0) (planned_entries es)) ≡ true
     → AllByRecursion (λ y. key_eq k y ≡ false) (keys_of es)
 other_keys k [] h = tt
 other_keys k (e ∷ es) h =
     let split = none_same (same_key (planned_key k) (planned_key e.0)) (list_any (λ other. same_key (planned_key k) other.0) (planned_entries es)) h in
-    (sym (same_key_is k e.0) ∙ split.0, other_keys k es split.1)
+    (sym ((search std_rules)) ∙ split.0, other_keys k es split.1)
 
 keys_distinct : (es : List (WorldKey × WorldItem)) → keys_differ (planned_entries es) ≡ true → IsDistinct key_eq (keys_of es)
 unfolding IsDistinct
@@ -59,8 +56,5 @@ module _ (r : Resolve) (m : ℕ) (is : IsPlan (plan_of r m)) where
   interface_keys n i e = both_distinct (λ id. id.0) planned_function i.types.entries i.functions.entries
       (second_true (passes is_label (optional_text i.name)) _ (all_there planned_interface planned.interface_labels r.interfaces.items is.interface_labels n i e))
 
-  world_keys : (n : ℕ) (w : World) → world_at r n ≡ Some w → IsUnique key_eq w.imports × IsUnique key_eq w.exports
-  world_keys n w e = search (std_rules, all_there, keys_distinct, first_true, second_true)
-
   pub keys_are_distinct : HasDistinctKeys r
-  keys_are_distinct = record { packages = package_keys; interfaces = interface_keys; worlds = world_keys }
+  keys_are_distinct = record { packages = package_keys; interfaces = interface_keys; worlds = λ n w e. search (std_rules, all_there, keys_distinct, first_true, second_true) }

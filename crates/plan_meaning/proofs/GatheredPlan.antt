@@ -245,12 +245,6 @@ meant_under p x q = (q, planned.interface_meaning p x)
 abbrev planned_under : PlannedInterface → Text → Text × PlannedInterface
 planned_under x q = (q, x)
 
-shown_is : (p : Plan) (x : PlannedInterface) → shown_entry p x ≡ option_map (meant_entry p) (under_path p x)
-shown_is p x = search std_rules
-
-foreign_is : (p : Plan) (x : PlannedInterface) → foreign_entry p x ≡ option_map (meant_entry p) (foreign_interface p x)
-foreign_is p x = search std_rules
-
 -- ---- a package
 
 module _ (t : Tables) (tables : AreTables t) (h : Homes) (stand : HomesStand t h) (known : ℕ → Fact) (n : ℕ) (ms : List NumberedMember) (members : List Member) (z : AllZip (IsMember t h) ms members)
@@ -293,7 +287,7 @@ module _ (t : Tables) (tables : AreTables t) (h : Homes) (stand : HomesStand t h
 
   foreign_means : ◌≡◌ {A = TextMap InterfaceMeaning} (from_entries (filter_map (foreign_entry p) p.interfaces))
       (from_entries (map (seen_meaning (flat_map reads.sights members)) (filter is_other (flat_map reads.sights members))))
-  foreign_means = ap from_entries (filter_mapped (foreign_entry p) (foreign_interface p) (meant_entry p) (foreign_is p) p.interfaces)
+  foreign_means = ap from_entries (filter_mapped (foreign_entry p) (foreign_interface p) (meant_entry p) ((λ x. search std_rules)) p.interfaces)
       ∙ (gathered t tables g.kept p g.keeps seen sights (is_foreign h n) (filter is_other (map (sight_of t) seen)) agree into back g.chosen g.chosen_are (filter_map (foreign_interface p) p.interfaces)
       g.foreign ∙ ap (λ ss. from_entries (map (seen_meaning ss) (filter is_other ss))) (sym (all_sights t tables h stand ms members z)))
 
@@ -331,7 +325,7 @@ gathered_world_is_meant t tables h stand known n name w scope shows all are p g 
 
     shown_means : ◌≡◌ {A = TextMap InterfaceMeaning} (from_entries (filter_map (shown_entry p) p.interfaces))
         (from_entries (map (seen_meaning (flat_map reads.of_instance scope.instances)) (flat_map reads.of_instance scope.instances)))
-    shown_means = ap from_entries (filter_mapped (shown_entry p) (under_path p) (meant_entry p) (shown_is p) p.interfaces)
+    shown_means = ap from_entries (filter_mapped (shown_entry p) (under_path p) (meant_entry p) ((λ x. search std_rules)) p.interfaces)
         ∙ (gathered t tables g.kept p g.keeps (sights_of_scope t w) sights (λ s. true) (map (sight_of t) (sights_of_scope t w)) agree
         (λ s c. let from = map_from (sight_of t) (sights_of_scope t w) s c in (from.0, from.1, refl, from.2)) (λ x c passes. contains-map (sight_of t) (sights_of_scope t w) x c) g.chosen g.chosen_are
         (filter_map (under_path p) p.interfaces) g.shown ∙ ap (λ ss. from_entries (map (seen_meaning ss) ss)) (sym (sights_in_numbers t w scope shows)))

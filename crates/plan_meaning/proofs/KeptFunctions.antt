@@ -245,15 +245,13 @@ module _ (t : Tables) (tables : AreTables t) (known : ℕ → Fact) (kept : List
       name_is_label (a_static id r e there named) = ap (λ k. not (is_freestanding k) || is_label g.name) e
       name_is_label (an_async_static id r e there named) = ap (λ k. not (is_freestanding k) || is_label g.name) e
 
-      labels_obey : are_member_labels (names_of g.params) ≡ true
-      labels_obey = search (std_rules, zip_map, member_labels, map_of_map, first_true)
-
       function_passes : FunctionPasses p o g
       function_passes = record {
         in_range = joined_well (in_list p.types) (filter_map part_number (function_parts g)) (option_to_list (resource_of g.kind))
             (numbers_pass t kept p (shape_parts f) (function_parts g) (function_zip t kept p f id g is.becomes) (in_list p.types) (λ old c j m from at low. lt-ltb j (length p.types) low))
             (resource_number is.kind);
-        labels = both (not (is_freestanding g.kind) || is_label g.name) (are_member_labels (names_of g.params)) (name_is_label is.kind) labels_obey;
+        labels = both (not (is_freestanding g.kind) || is_label g.name) (are_member_labels (names_of g.params)) (name_is_label is.kind)
+        (search (std_rules, zip_map, member_labels, map_of_map, first_true));
         shallow = parts_shallow is.place (shape_parts f) (function_parts g) (function_zip t kept p f id g is.becomes) (signature_parts t is.place f is.obeys);
         belongs = belongs is.kind;
       }

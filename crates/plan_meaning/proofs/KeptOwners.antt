@@ -137,9 +137,6 @@ module _ (t : Tables) (tables : AreTables t) (kept : List ℕ) (p : Plan) (are :
             no false h = refl
             no true h = no_true (sym none ∙ eq-eqb s r (owned.apart s r h))
 
-        a_use : (s == r) ≡ false → IsNamedInterface p (owners s) → is_use p x ≡ true
-        a_use none is = search (std_rules, behind, both, owner_of, apart)
-
         by : (b : Bool) → (s == r) ≡ b → IsFine x
         by true same =
             let met : met_by all_met i ≡ i ∷ [] = met_there p i u e ∙ ap (λ o. option_map_or (λ y. i ∷ []) o (flat_map (met_by (take i all_met)) (kind_numbers u.kind))) called in
@@ -149,7 +146,7 @@ module _ (t : Tables) (tables : AreTables t) (kept : List ℕ) (p : Plan) (are :
         by false none = elim (owned.used j n x r name m s other planned_there kept_there there kind at) [
           | inl same ↦ no_true (sym none ∙ eq-eqb s r same)
           | inr path ↦ or_right (list_all (has_owner p x.owner) (flat_map (met_by all_met) (kind_numbers x.kind))) (is_some x.name && is_use p x)
-              (both (is_some x.name) (is_use p x) (ap is_some named) (a_use none (owned.outside s path (of_name i m u other e stands at))))
+              (both (is_some x.name) (is_use p x) (ap is_some named) ((search (std_rules, behind, both, owner_of, apart))))
         ]
 
     kind_fine : (d : Option ℕ) → rules.is_declared (place_at t r) (declaration_of t d) ≡ true → DeclaresKind t kept p d x.kind → IsFine x

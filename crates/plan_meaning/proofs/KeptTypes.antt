@@ -173,12 +173,9 @@ module _ (t : Tables) (tables : AreTables t) (kept : List ℕ) (p : Plan) (are :
   named_type : (old n : ℕ) → old ≡ 14 + n → numbered.is_form t old ≡ false → (x : PlannedType) → IsKeptType t kept p n x → is_some x.name ≡ true
   named_type old n is no_form x y = search std_rules
 
-  alias_named : (old new : ℕ) → numbered.is_form t old ≡ false → Becomes t kept p old new → passes (is_named_number p) (part_number new) ≡ true
-  alias_named old new no_form b = search (std_rules, lt-ltb, kept_at, behind, named_type)
-
   alias_is_named : (d : Option ℕ) (kind : PlannedKind) → DeclaresKind t kept p d kind → passes (is_named_number p) (alias_number kind) ≡ true
   alias_is_named d kind (a_resource e k) = ap (λ x. passes (is_named_number p) (alias_number x)) k
-  alias_is_named d kind (gathered.a_name old new e no_form b k) = ap (λ x. passes (is_named_number p) (alias_number x)) k ∙ alias_named old new no_form b
+  alias_is_named d kind (gathered.a_name old new e no_form b k) = ap (λ x. passes (is_named_number p) (alias_number x)) k ∙ (search (std_rules, lt-ltb, kept_at, behind, named_type))
   alias_is_named d kind (a_form old m form olds news e is there z k) = ap (λ x. passes (is_named_number p) (alias_number x)) k
 
   type_is_named : (n : ℕ) (x : PlannedType) → IsKeptType t kept p n x → kind_is_named p x ≡ true

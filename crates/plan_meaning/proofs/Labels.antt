@@ -21,11 +21,8 @@ use Rattle.plan_meaning.specs.PlanRules as planned
 
 -- ---- stabilities
 
-unknown_is : (s : Stability) → is_unknown s ≡ true → is_stability s ≡ true
-unknown_is x h = search std_rules
-
 bare_stability : (d : Docs) (s : Stability) → is_bare d s ≡ true → is_stability s ≡ true
-bare_stability d s h = unknown_is s (second_true (is_undocumented d) (is_unknown s) h)
+bare_stability d s h = search std_rules
 
 -- ---- labels
 

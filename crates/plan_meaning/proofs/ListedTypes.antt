@@ -31,9 +31,6 @@ no_key key name item h [] (i, low, e) = absurd (omega (arith, low))
 no_key key name item h (x ∷ es) (zero, low, e) = ap (λ b. b || list_any (λ (other : PlannedKey × PlannedItem). same_key key other.0) es) (ap (λ (y : PlannedKey × PlannedItem). same_key key y.0) e ∙ h)
 no_key key name item h (x ∷ es) (suc i, low, e) = search (std_rules, or_right, no_key key name item h es (i, omega (arith, low), e))
 
-under_same : (name : Text) (key : PlannedKey) → is_under_label name key ≡ true → same_key key (plan.label name) ≡ true
-under_same name x h = search std_rules
-
 -- what stands under a label where keys differ
 pub key_there : (name : Text) (item : PlannedItem) (es : List (PlannedKey × PlannedItem)) → keys_differ es ≡ true → Contains es (plan.label name, item) → lookup (is_under_label name) es ≡ Some item
 key_there name item [] d (i, low, e) = absurd (omega (arith, low))
@@ -45,7 +42,7 @@ key_there name item (x ∷ es) d (suc i, low, e) =
   where
     go : (b : Bool) → is_under_label name x.0 ≡ b → Contains es (plan.label name, item) → list_any (λ (other : PlannedKey × PlannedItem). same_key x.0 other.0) es ≡ false
         → lookup (is_under_label name) es ≡ Some item → cond b (Some x.1) (lookup (is_under_label name) es) ≡ Some item
-    go true f later absent rest = never (list_any (λ (other : PlannedKey × PlannedItem). same_key x.0 other.0) es) (no_key x.0 name item (under_same name x.0 f) es later) absent
+    go true f later absent rest = never (list_any (λ (other : PlannedKey × PlannedItem). same_key x.0 other.0) es) (no_key x.0 name item ((search std_rules)) es later) absent
     go false f later absent rest = rest
 
 module _ (t : Tables) (tables : AreTables t) (kept : List ℕ) (p : Plan) (are : TypesAreKept t kept p) (b : Beside) (owned : AreOwned t kept p b.owners) (views : ℕ → NumberedView) (read : OrderIsRead t kept p b views) where

@@ -162,11 +162,8 @@ imports_same t (s ∷ ss) = search (std_rules, import_same, imports_same t ss)
 pub imports_in_numbers : ImportsInNumbers
 imports_in_numbers t w scope shows = ap (each reads.imported_view) shows.imports ∙ imports_same t w.imports
 
-export_same : (t : Tables) (ss : List NumberedSeen) → reads.exported_view (map (seen_of t) ss) ≡ option_map (shown_view t) (exported_view ss)
-export_same t y = search std_rules
-
 pub export_in_numbers : ExportInNumbers
-export_in_numbers t w scope shows = ap reads.exported_view shows.exports ∙ export_same t w.exports
+export_in_numbers t w scope shows = ap reads.exported_view shows.exports ∙ (search std_rules)
 
 -- ---- laws
 

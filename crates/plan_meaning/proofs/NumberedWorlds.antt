@@ -35,16 +35,13 @@ module _ (t : Tables) (tables : AreTables t) where
   used_paths : (d : Option ℕ) → AllByRecursion (HasPath t) (used_by t d)
   used_paths y = search std_rules
 
-  name_used : (q : ℕ) (name : Text) → rules.used_by (Declaration.type_ (Tree.named (place_at t q) name)) ≡ map (path_text t) (if_outside t q)
-  name_used q name = search std_rules
-
   abbrev places_named : Option (ℕ × Text) → List ℕ
   places_named o = option_map_or (λ (x : ℕ × Text). if_outside t x.0) o []
 
   used_same : (d : Option ℕ) → AllOf (IsPart t) d → rules.used_by (declaration_of t d) ≡ map (path_text t) (used_by t d)
   used_same None h = refl
   used_same (Some k) h = by_shape t tables.shapes (λ x. rules.used_by (Declaration.type_ x)) (λ o. map (path_text t) (places_named (option_and_then name_in o))) k h (λ q e. refl)
-      (λ n q name is there e. name_used q name)
+      (λ n q name is there e. (search std_rules))
       (λ n form ks is there e ranges. sym (ap (λ b. map (path_text t) (places_named (cond b (Some ((form_code form).number, first_label (form_code form).labels)) None))) (no_name form)))
 
   -- ---- what a view uses
@@ -87,9 +84,6 @@ module _ (t : Tables) (tables : AreTables t) where
   abbrev AreOver : List NumberedSeen → Type 0
   AreOver ss = AllByRecursion (λ (s : NumberedSeen). ItemIsOver s.shown) ss
 
-  uses_same : (s : NumberedSeen) → ItemIsOver s.shown → rules.uses (seen_of t s) ≡ map (path_text t) (uses_of t s.shown)
-  uses_same s h = search (std_rules, view_uses, others_same, view_paths, used_same)
-
   uses_paths : (x : NumberedShown) → AllByRecursion (HasPath t) (uses_of t x)
   uses_paths x = search (std_rules, others_paths, view_paths, used_paths)
 
@@ -104,7 +98,7 @@ module _ (t : Tables) (tables : AreTables t) where
   earlier_same earlier [] he h = refl
   earlier_same earlier (s ∷ ss) he h =
       let here : list_all (λ x. list_any (text_eq x) (map (path_text t) earlier)) (rules.uses (seen_of t s)) ≡ list_all (has earlier) (uses_of t s.shown) =
-      ap (list_all (λ x. list_any (text_eq x) (map (path_text t) earlier))) (uses_same s h.0)
+      ap (list_all (λ x. list_any (text_eq x) (map (path_text t) earlier))) ((search (std_rules, view_uses, others_same, view_paths, used_same)))
       ∙ all_same (HasPath t) (λ x. list_any (text_eq x) (map (path_text t) earlier)) (path_text t) (has earlier) (λ q. has_path earlier q he) (uses_of t s.shown) (uses_paths s.shown) in
       let more : map (path_text t) earlier ++ rules.path_seen (shown_of t s.shown) ≡ map (path_text t) (earlier ++ path_seen s.shown) =
       ap (λ xs. map (path_text t) earlier ++ xs) (seen_same s.shown) ∙ sym (append_of_map (path_text t) earlier (path_seen s.shown)) in
@@ -120,16 +114,14 @@ module _ (t : Tables) (tables : AreTables t) where
   abbrev IsOver : ℕ × NumberedView → Type 0
   IsOver i = HasPath t i.0 × DeclaresParts t i.1
 
-  later_uses : (ls : List (ℕ × NumberedView)) → AllByRecursion IsOver ls → flat_map (λ l. rules.used_by_view l.1) (map seen_view ls) ≡ map (path_text t) (flat_map (λ l. used_by_view t l.1) ls)
-  later_uses = flat_along IsOver (λ l. rules.used_by_view l.1) seen_view (path_text t) (λ l. used_by_view t l.1) (λ l h. view_uses l.1 h.1)
-
   pub reached_same : (imports : List (ℕ × NumberedView)) (exported : NumberedView) → AllByRecursion IsOver imports → DeclaresParts t exported
       → reads.are_reached (map seen_view imports) (view_of t exported) ≡ are_reached t imports exported
   reached_same [] exported h he = refl
   reached_same (i ∷ later) exported h he =
       let all : flat_map (λ l. rules.used_by_view l.1) (map seen_view later) ++ rules.used_by_view (view_of t exported) ≡ map (path_text t)
       (flat_map (λ l. used_by_view t l.1) later ++ used_by_view t exported) =
-      (λ j. later_uses later h.1 j ++ view_uses exported he j) ∙ sym (append_of_map (path_text t) (flat_map (λ l. used_by_view t l.1) later) (used_by_view t exported)) in
+      (λ j. (flat_along IsOver (λ l. rules.used_by_view l.1) seen_view (path_text t) (λ l. used_by_view t l.1) (λ l h. view_uses l.1 h.1)) later h.1 j ++ view_uses exported he j)
+      ∙ sym (append_of_map (path_text t) (flat_map (λ l. used_by_view t l.1) later) (used_by_view t exported)) in
       let one = ap (list_any (text_eq (path_text t i.0))) all
       ∙ has_path (flat_map (λ l. used_by_view t l.1) later ++ used_by_view t exported) i.0
       (all_in_both (HasPath t) (flat_map (λ l. used_by_view t l.1) later) (used_by_view t exported) (all_flat (HasPath t) (λ l. used_by_view t l.1) (λ l. view_paths l.1) later)
@@ -162,11 +154,8 @@ module _ (t : Tables) (tables : AreTables t) (known : ℕ → Fact) (home : ℕ)
   declared_over : (p : ℕ) (d : Option ℕ) → AllOf (IsKnown t known p) d → AllOf (IsPart t) d
   declared_over p x h = search std_rules
 
-  item_over : (x : NumberedShown) → ItemStands t known home x → ItemIsOver t tables x
-  item_over y h = search (std_rules, each_so, declared_over)
-
   all_over : (ss : List NumberedSeen) → AllStand ss → AreOver t tables ss
-  all_over = each_so (λ (s : NumberedSeen). ItemStands t known home s.shown) (λ s. ItemIsOver t tables s.shown) (λ s. item_over s.shown)
+  all_over = each_so (λ (s : NumberedSeen). ItemStands t known home s.shown) (λ s. ItemIsOver t tables s.shown) (λ s. (λ h. search (std_rules, each_so, declared_over)))
 
   keys_same : (ss : List NumberedSeen) → distinct (map (λ s. s.key) (map (seen_of t) ss)) ≡ distinct (map (λ s. s.key) ss)
   keys_same ss = ap distinct (map_of_map (λ (s : Seen). s.key) (seen_of t) ss)

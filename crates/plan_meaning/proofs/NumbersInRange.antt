@@ -24,11 +24,8 @@ use Rattle.plan_meaning.specs.PlanRules as planned
 
 -- ---- lists that fit
 
-place_fits : (n l : ℕ) → n < l → nat_le l 4294967295 ≡ true → is_place n ≡ true
-place_fits n l less h = grind (arith, nat_tests, less, h)
-
 place_there : {A B : Type 0} (g : A → B) (xs : List A) → fits (map g xs) ≡ true → (n : ℕ) (x : A) → slice_get xs n ≡ Some x → is_place n ≡ true
-place_there g xs h n x e = place_fits n (length xs) (slice_get_within xs n x e) (ap (λ l. nat_le l 4294967295) (sym (length_of_map g xs)) ∙ h)
+place_there g xs h n x e = grind (arith, nat_tests, (slice_get_within xs n x e), (ap (λ l. nat_le l 4294967295) (sym (length_of_map g xs)) ∙ h))
 
 -- ---- what has to stand there
 

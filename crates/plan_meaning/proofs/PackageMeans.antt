@@ -151,10 +151,6 @@ module _ (r : Resolve) (m : ℕ) (is : IsPackagePlan (plan_of r m)) (v : IsValid
       → types_alone (meant.interface_meaning r i) ≡ meant.interface_meaning r i
   bare_means n i e path foreign hidden = search (std_rules, plans_none n i e path foreign hidden, meant_function_entry r m, functions_are r m i, planned_function_entry r m)
 
-  foreign_means : (n : ℕ) (i : Interface) → interface_at r n ≡ Some i → is_some (interface_path r n) ≡ true → rules.is_foreign (plan_of r m) (planned_interface i) ≡ true
-      → foreign_meaning r p n ≡ meant.interface_meaning r i
-  foreign_means n i e path foreign = search (std_rules, meaning_there, bare_means)
-
   is_other : (n : ℕ) (i : Interface) → interface_at r n ≡ Some i → (k : Text) → path_of_interface r i ≡ Some k → is_id m (package_number i.package) ≡ false
       → rules.is_foreign (plan_of r m) (planned_interface i) ≡ true
   is_other n i e k path other = both _ _ (named r i k path) (ap not other)
@@ -179,7 +175,7 @@ module _ (r : Resolve) (m : ℕ) (is : IsPackagePlan (plan_of r m)) (v : IsValid
           let some : is_some (interface_path r n) ≡ true = ap is_some (path_there r n i e ∙ path) in
           let foreign : is_foreign r m n ≡ true = foreign_is r m n i e ∙ both _ _ some (ap not (same_test r m i.package ∙ other)) in (
             has-contains (foreign_of r m p) n (has_filter (is_foreign r m) (reached_by_package r p) n (all_reached r m is.plan v p at is.worlds is.wanted n i e) foreign),
-            foreign_means n i e some (is_other n i e k path other),
+            (search (std_rules, meaning_there, bare_means)),
           )
 
       back : (n : ℕ) → Contains (foreign_of r m p) n → (is_some (interface_path r n) ≡ true) × ((i : Interface) → interface_at r n ≡ Some i → is_id m (package_number i.package) ≡ false)

@@ -77,11 +77,6 @@ module _ (r : Resolve) (m : ℕ) (is : IsPlan (plan_of r m)) where
 
   -- ---- interfaces
 
-  named_at : (n : ℕ) (name : Text) (o : Option PackageId)
-      → option_map_or (λ k. is_id n (number_under name k.interfaces)) (option_and_then (package_in (plan_of r m)) (option_map (λ id. id.0) o)) false ≡ true
-      → (is_some o && option_map_or (λ p. interface_is_listed n name p && not (is_world_name p name)) (option_and_then (package_at r) (package_number o)) true) ≡ true
-  named_at n name x h = search (std_rules, no_true, get_of_map, both, interface_number, no_world, all_there)
-
   some_package : (o : Option PackageId) (test : ℕ → Bool) → option_map_or test (option_map (λ id. id.0) o) false ≡ true → is_some o ≡ true
   some_package x test h = search std_rules
 
@@ -103,7 +98,7 @@ module _ (r : Resolve) (m : ℕ) (is : IsPlan (plan_of r m)) where
       (map planned_world r.worlds.items))) ≡ true
       → (is_some o && option_map_or (λ s. option_map_or (λ p. interface_is_listed n (text_of s) p && not (is_world_name p (text_of s))) (option_and_then (package_at r) (package_number o)) true) name
       (shown_once n o)) ≡ true
-  interface_by n (Some s) o h = named_at n (text_of s) o h
+  interface_by n (Some s) o h = search (std_rules, no_true, get_of_map, both, interface_number, no_world, all_there)
   interface_by n None o h = search (std_rules, both, some_package, first_true, inline_at, second_true)
 
   -- ---- worlds

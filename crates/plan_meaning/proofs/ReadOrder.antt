@@ -59,9 +59,6 @@ module _ (t : Tables) (tables : AreTables t) (kept : List ℕ) (p : Plan) (are :
   kept_order : (i j a c : ℕ) → slice_get kept i ≡ Some a → slice_get kept j ≡ Some c → i < j → a < c
   kept_order i j a c at_i at_j less = search std_rules
 
-  kept_below : (i j a c : ℕ) → slice_get kept i ≡ Some a → slice_get kept j ≡ Some c → nat_le i j ≡ true → a ≤ c
-  kept_below i j a c at_i at_j le = search std_rules
-
   fall : each_from (λ n x. list_all (λ m. nat_lt m n) (kind_numbers x.kind)) 0 p.types ≡ true
   fall = (kept_types_pass t tables kept p are).1.types_fall
 
@@ -184,7 +181,7 @@ module _ (t : Tables) (tables : AreTables t) (kept : List ℕ) (p : Plan) (are :
             let used = has-contains (used_by_numbers p ns) j kept_j.0 in
             let from = used_among p fall ns (λ n d. (low n d).3) j used in
             let at = low from.0 from.1 in
-            let le : w.number ≤ at.0 = kept_below j from.0 w.number at.0 w.stands at.1 from.2 in
+            let le : w.number ≤ at.0 = (search std_rules) in
             let less = at.2 in
             stands_first x rest j w follow (omega (arith, le, less)) (here j w used) found (inv j w)
 

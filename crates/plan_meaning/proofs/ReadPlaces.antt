@@ -42,9 +42,6 @@ module _ (t : Tables) (tables : AreTables t) (h : Homes) (homes : HomesStand t h
   module _ (p : Plan) (owners : ℕ → TypeOwner) (read : PlacesAreRead t h p owners) where
     -- ---- packages
 
-    identity_there : (n : ℕ) (k : PlannedPackage) → package_in p n ≡ Some k → is_identity k.identity ≡ true
-    identity_there n k e = let is = read.packages n k e in (read_path_is_spelled is.path k.identity is.name is.reads).identity
-
     other_identity : (n : ℕ) (k : PlannedPackage) → package_in p n ≡ Some k → (m : ℕ) (other : PlannedPackage) → package_in p m ≡ Some other
         → ((m == n) || not (same_identity k.identity other.identity)) ≡ true
     other_identity n k e m other f = go (same_identity k.identity other.identity) refl
@@ -160,7 +157,8 @@ module _ (t : Tables) (tables : AreTables t) (h : Homes) (homes : HomesStand t h
 
     pass : PlaceTests p
     pass = record {
-      identities = all_by_number (λ k. is_identity k.identity) p.packages identity_there;
+      identities = all_by_number (λ k. is_identity k.identity) p.packages (λ n k e.
+      let is = read.packages n k e in (read_path_is_spelled is.path k.identity is.name is.reads).identity);
       alone = each_by_number (is_alone p) p.packages
           (λ n k e. each_by_number (λ m other. (m == n) || not (same_identity k.identity other.identity)) p.packages (λ m other f. other_identity n k e m other f));
       members = each_by_number (lists_members p) p.packages (λ n k e. let is = read.packages n k e in

@@ -34,12 +34,6 @@ module _ (t : Tables) (tables : AreTables t) (kept : List ℕ) (p : Plan) (are :
     own : o ≡ owner_interface (b.owners q) → ((r : ℕ) → Contains (used_by t d) r → r ≡ q) → UsedBy q d o
     other : (r : ℕ) → used_by t d ≡ r ∷ [] → o ≡ owner_interface (b.owners r) → UsedBy q d o
 
-  uses_outside : (d : Option ℕ) (old k r : ℕ) (name : Text) → d ≡ Some old → old ≡ 14 + k → slice_get t.shapes k ≡ Some (named_shape r name) → used_by t d ≡ if_outside t r
-  uses_outside d old k r name e is there = search rules
-
-  only_there : (d : Option ℕ) (old k r : ℕ) (name : Text) → d ≡ Some old → old ≡ 14 + k → slice_get t.shapes k ≡ Some (named_shape r name) → (a : ℕ) → Contains (used_by t d) a → a ≡ r
-  only_there d old k r name e is there a c = search std_rules
-
   -- what is no name uses nothing
   no_uses : (d : Option ℕ) (old : ℕ) → d ≡ Some old → name_at t old ≡ None → used_by t d ≡ []
   no_uses d old e none = ap (used_by t) e ∙ ap (λ o. option_map_or (λ (x : ℕ × Text). if_outside t x.0) o []) none
@@ -55,8 +49,8 @@ module _ (t : Tables) (tables : AreTables t) (kept : List ℕ) (p : Plan) (are :
     where
       place : {r : ℕ} {label : Text} → option_and_then (λ (u : PlannedType). owner_interface u.owner) (type_in p i) ≡ owner_interface (b.owners r) → slice_get t.shapes m ≡ Some (named_shape r label)
           → (r ≡ q) ⊎ HasPath t r → UsedBy q d (option_and_then (λ (u : PlannedType). owner_interface u.owner) (type_in p i))
-      place {r = r} {label = label} owner_is name_there (inl same) = own (owner_is ∙ ap (λ a. owner_interface (b.owners a)) same) (λ a c. only_there d old m r label is from name_there a c ∙ same)
-      place {r = r} {label = label} owner_is name_there (inr path) = other r (uses_outside d old m r label is from name_there ∙ ap (λ o. option_map_or (λ (s : Text). r ∷ []) o []) path.1) owner_is
+      place {r = r} {label = label} owner_is name_there (inl same) = own (owner_is ∙ ap (λ a. owner_interface (b.owners a)) same) (λ a c. (search std_rules) ∙ same)
+      place {r = r} {label = label} owner_is name_there (inr path) = other r ((search rules) ∙ ap (λ o. option_map_or (λ (s : Text). r ∷ []) o []) path.1) owner_is
 
       by : (y : PlannedType) → slice_get p.types i ≡ Some y → IsKeptType t kept p m y → UsedBy q d (option_and_then (λ (u : PlannedType). owner_interface u.owner) (type_in p i))
       by y e (unnamed place form olds news form_there z none unowned kind_y part low) =

@@ -119,8 +119,5 @@ module _ (alloc : Global) (hasher : BuildHasherDefault FoldHasher) where
         ∷ def (Some text-t) (kind.Type_ (of_type 0)) (in_interface 4) ∷ []) (lit< tt);
   }
 
-  is_built : IsBuilt whole_plan whole
-  is_built = search rules
-
   is_valid : IsValid whole
-  is_valid = built_is_valid whole_plan whole is_plan is_built
+  is_valid = built_is_valid whole_plan whole is_plan (search rules)

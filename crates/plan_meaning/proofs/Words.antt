@@ -110,13 +110,8 @@ module _ (r : Resolve) (m : ℕ) where
   abbrev pub P : Plan
   P = plan_of r m
 
-  path_by : (name : Option (String Global)) (package_ : Option PackageId) →
-      option_and_then (λ t. option_and_then (λ q. option_map (λ k. path_in k.identity t) (package_in P q)) (option_map (λ id. id.0) package_)) (optional_text name)
-      ≡ option_and_then (λ s. option_and_then (λ p. path_in_package r p.0 (text_of s)) package_) name
-  path_by x y = search (std_rules, get_of_map, option_of_map)
-
   pub path_of_planned_is : (i : Interface) → path_of_planned P (planned_interface i) ≡ path_of_interface r i
-  path_of_planned_is i = path_by i.name i.package
+  path_of_planned_is i = search (std_rules, get_of_map, option_of_map)
 
   pub path_is : (n : ℕ) → path_at P n ≡ interface_path r n
   path_is = then_there (path_of_planned P) planned_interface (path_of_interface r) path_of_planned_is r.interfaces.items
