@@ -55,8 +55,7 @@ module _ (t : Tables) (tables : AreTables t) (kept : List ℕ) (p : Plan) (keeps
   type_entry e = (e.0, type_meaning_in p e.1)
 
   types_kept : (xs : List NumberedType) (es : List (Text × ℕ)) → AllZip (TypeListed t kept p) xs es → map type_entry es ≡ map named_meaning (map (shown_type t) xs)
-  types_kept xs es z = zip_map (TypeListed t kept p) (λ x. named_meaning (shown_type t x)) type_entry (λ x e h i. (h.0 i, type_kept x.declared x.external_id e.1 h.1 i)) xs es z
-      ∙ sym (map_of_map named_meaning (shown_type t) xs)
+  types_kept xs es z = zip_map _ _ _ (λ x e h i. (h.0 i, type_kept x.declared x.external_id e.1 h.1 i)) xs es z ∙ sym (map_of_map named_meaning (shown_type t) xs)
 
   -- ---- functions and interfaces
 
@@ -162,10 +161,9 @@ module _ (t : Tables) (tables : AreTables t) (kept : List ℕ) (p : Plan) (keeps
           by (interface q v imports) (Part.interface view views) is own [] listed more = absurd listed
           by (interface q v imports) (Part.interface view views) is own (e ∷ es) listed more =
               let s : NumberedSight = record { place = q; view = v; whole = true } in
-              let there = own s (Contains-append_right (map (λ (i : ℕ × NumberedView). record { place = i.0; view = i.1; whole = false }) imports) (s ∷ []) s (contains-one s)) in
-              let one : interface_meaning_in p e.1 ≡ reads.interface_meaning view view.functions =
-              whole_kept seen sights agrees obey s there refl e.1 listed.0.there ∙ ap (λ (y : View). reads.interface_meaning y y.functions) (sym is.shown) in
-              λ i. ((listed.0.name ∙ sym z.0.label) i, one i) ∷ more es listed.1 i
+              λ i. ((listed.0.name ∙ sym z.0.label) i, (whole_kept seen sights agrees obey s
+              (own s (Contains-append_right (map (λ (i : ℕ × NumberedView). record { place = i.0; view = i.1; whole = false }) imports) (s ∷ []) s (contains-one s))) refl e.1 listed.0.there
+              ∙ ap (λ (y : View). reads.interface_meaning y y.functions) (sym is.shown)) i) ∷ more es listed.1 i
           by _ _ is own es listed more = absurd is
       interfaces_kept _ among _ z es listed = absurd z
 
@@ -183,9 +181,8 @@ module _ (t : Tables) (tables : AreTables t) (kept : List ℕ) (p : Plan) (keeps
         by (world w) (Part.world scope) is [] listed more = absurd listed
         by (world w) (Part.world scope) is (e ∷ es) listed more =
             let there = listed.0.there in
-            let one : world_meaning_in p e.1 ≡ reads.world_meaning scope = ap (λ o. option_map_or (planned.world_meaning p) o no_world) there.stands ∙ world_kept w there.world
-            there.becomes scope is in
-            λ i. ((listed.0.name ∙ sym z.0.label) i, one i) ∷ more es listed.1 i
+            λ i. ((listed.0.name ∙ sym z.0.label) i, (ap (λ o. option_map_or (planned.world_meaning p) o no_world) there.stands ∙ world_kept w there.world there.becomes scope is) i)
+            ∷ more es listed.1 i
         by _ _ is es listed more = absurd is
     worlds_kept _ _ z es listed = absurd z
 
@@ -199,9 +196,7 @@ module _ (t : Tables) (tables : AreTables t) (kept : List ℕ) (p : Plan) (keeps
 
     sight_kept : (s : NumberedSight) → IsSight t s → (x : Text × PlannedInterface) → SightBecomes t kept p seen s x → entry_of x ≡ seen_meaning seen_all (sight_of t s)
     sight_kept s is x b =
-        let means : planned.interface_meaning p x.1 ≡ reads.interface_meaning (view_of t s.view) (reads.functions_of (path_text t s.place) seen_all) =
-        interface_kept s.view (functions_seen s.place seen) x.1 b.1 ∙ ap (reads.interface_meaning (view_of t s.view)) (sym (functions_alike s.place (is.path, is.home) seen all)) in
-        λ i. (sym b.0 i, means i)
+        λ i. (sym b.0 i, (interface_kept s.view (functions_seen s.place seen) x.1 b.1 ∙ ap (reads.interface_meaning (view_of t s.view)) (sym (functions_alike s.place (is.path, is.home) seen all))) i)
 
     chosen_kept : (chosen : List NumberedSight) → ((s : NumberedSight) → Contains chosen s → Contains seen s) → (xs : List (Text × PlannedInterface)) → AllZip (SightBecomes t kept p seen) chosen xs
         → map entry_of xs ≡ map (seen_meaning seen_all) (map (sight_of t) chosen)
@@ -231,8 +226,7 @@ module _ (t : Tables) (tables : AreTables t) (kept : List ℕ) (p : Plan) (keeps
       gathered : (chosen : List NumberedSight) → AreChosen test seen chosen → (xs : List (Text × PlannedInterface)) → AllZip (SightBecomes t kept p seen) chosen xs
           → ◌≡◌ {A = TextMap InterfaceMeaning} (from_entries (map entry_of xs)) (from_entries (map (seen_meaning seen_all) shown))
       gathered chosen are xs z = ap from_entries (chosen_kept chosen (λ s c. (are.among s c).0) xs z)
-          ∙ one_view_is_enough seen_all (map (sight_of t) chosen) shown agree (λ s c. let from = into s c in subst (Contains seen_all) from.3 (contains-map (sight_of t) seen from.0 from.1))
-          (enough chosen are)
+          ∙ one_view_is_enough seen_all (map (sight_of t) chosen) shown agree (λ s c. let from = into s c in subst (Contains seen_all) from.3 (contains-map _ _ _ from.1)) (enough chosen are)
 
 -- ---- the entries of a plan
 
@@ -320,8 +314,7 @@ gathered_world_is_meant t tables h stand known n name w scope shows all are p g 
     sights = only_sights t known (sights_of_scope t w) all
 
     agree : reads.all_agree (map (sight_of t) (sights_of_scope t w)) ≡ true
-    agree = agree_same t tables h stand known (sights_of_scope t w) all
-        ∙ first_true (agree_in_numbers (sights_of_scope t w)) (are_interfaces t known (sights_of_scope t w) && not (list_any (λ s. is_named_in h n name s.place) (sights_of_scope t w))) are
+    agree = agree_same t tables h stand known (sights_of_scope t w) all ∙ first_true _ _ are
 
     shown_means : ◌≡◌ {A = TextMap InterfaceMeaning} (from_entries (filter_map (shown_entry p) p.interfaces))
         (from_entries (map (seen_meaning (flat_map reads.of_instance scope.instances)) (flat_map reads.of_instance scope.instances)))

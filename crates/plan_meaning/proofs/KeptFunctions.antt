@@ -118,10 +118,7 @@ module _ (t : Tables) (tables : AreTables t) (known : ℕ → Fact) (kept : List
 
           by : IsPart kept k new → is_id n (part_number new) ≡ true
           by (a_primitive low same) = absurd (omega (arith, low, shape_is))
-          by (a_shape m j from stands to) =
-              let shapes : m ≡ is.shape = omega (arith, from, shape_is) in
-              let numbers : j ≡ n = are.once j n is.shape (stands ∙ ap Some shapes) is.stands in
-              ap (is_id n) (ap part_number to ∙ behind j) ∙ eq-eqb j n numbers
+          by (a_shape m j from stands to) = ap (is_id n) (ap part_number to ∙ behind j) ∙ eq-eqb j n (are.once j n is.shape (stands ∙ ap Some (omega (arith, from, shape_is))) is.stands)
 
       -- ---- handles
 
@@ -164,8 +161,7 @@ module _ (t : Tables) (tables : AreTables t) (known : ℕ → Fact) (kept : List
                 ∙ (ap (λ o. option_map_or test o false) there.1 ∙ passes_test there.0 (handle_type old m from h there.0 there.2))
 
       own_becomes : (old new : ℕ) → is_handle t known q own_sort name old ≡ true → Becoming old new → part_is p (is_own_of n) new ≡ true
-      own_becomes = handle_becomes Form.own_of own_sort own_form refl (is_own_of n)
-          (λ x is_type. both (is_none x.name) (plan.is_own_kind n x.kind) (ap is_none is_type.none) (ap (plan.is_own_kind n) is_type.kind ∙ is_type.number))
+      own_becomes = handle_becomes Form.own_of own_sort own_form refl (is_own_of n) (λ x is_type. both _ _ (ap is_none is_type.none) (ap (plan.is_own_kind n) is_type.kind ∙ is_type.number))
 
       -- ---- constructors and methods
 
@@ -203,10 +199,9 @@ module _ (t : Tables) (tables : AreTables t) (known : ℕ → Fact) (kept : List
           → option_map_or (λ (y : Text × ℕ). text_eq y.0 (codes "self") && part_is p (is_borrow_of n) y.1) (slice_get ys 0) false ≡ true
       self_becomes [] ys z h = no_true h
       self_becomes (x ∷ xs) [] z h = absurd z
-      self_becomes (x ∷ xs) (y ∷ ys) z h = both (text_eq y.0 (codes "self")) (part_is p (is_borrow_of n) y.1) (ap (λ u. text_eq u (codes "self")) z.0.0 ∙ first_true (text_eq x.0 (codes "self"))
-          (is_handle t known q borrow_sort name x.1) h)
-          ((handle_becomes Form.borrow_of borrow_sort borrow_form refl (is_borrow_of n) (λ x is_type. both (is_none x.name) (plan.is_borrow_kind n x.kind) (ap is_none is_type.none)
-          (ap (plan.is_borrow_kind n) is_type.kind ∙ is_type.number))) x.1 y.1 (second_true (text_eq x.0 (codes "self")) (is_handle t known q borrow_sort name x.1) h) z.0.1)
+      self_becomes (x ∷ xs) (y ∷ ys) z h = both _ _ (ap (λ u. text_eq u (codes "self")) z.0.0 ∙ first_true _ _ h)
+          ((handle_becomes Form.borrow_of borrow_sort borrow_form refl (is_borrow_of n) (λ x is_type. both _ _ (ap is_none is_type.none) (ap (plan.is_borrow_kind n) is_type.kind ∙ is_type.number)))
+          x.1 y.1 (second_true _ _ h) z.0.1)
 
       member_is : (g : PlannedFunction) (kind : FunctionKind) → g.kind ≡ kind → resource_of kind ≡ Some n → is_member_of p n name g kind ≡ true → is_member p o g ≡ true
       member_is g kind e own h = search (std_rules, resource_has_name)
@@ -248,10 +243,8 @@ module _ (t : Tables) (tables : AreTables t) (known : ℕ → Fact) (kept : List
       function_passes : FunctionPasses p o g
       function_passes = record {
         in_range = joined_well (in_list p.types) (filter_map part_number (function_parts g)) (option_to_list (resource_of g.kind))
-            (numbers_pass t kept p (shape_parts f) (function_parts g) (function_zip t kept p f id g is.becomes) (in_list p.types) (λ old c j m from at low. lt-ltb j (length p.types) low))
-            (resource_number is.kind);
-        labels = both (not (is_freestanding g.kind) || is_label g.name) (are_member_labels (names_of g.params)) (name_is_label is.kind)
-        (search (std_rules, zip_map, member_labels, map_of_map, first_true));
+            (numbers_pass t kept p (shape_parts f) (function_parts g) (function_zip t kept p f id g is.becomes) (in_list p.types) (λ old c j m from at low. lt-ltb j _ low)) (resource_number is.kind);
+        labels = both _ _ (name_is_label is.kind) (search (std_rules, zip_map, member_labels, map_of_map, first_true));
         shallow = parts_shallow is.place (shape_parts f) (function_parts g) (function_zip t kept p f id g is.becomes) (signature_parts t is.place f is.obeys);
         belongs = belongs is.kind;
       }

@@ -62,8 +62,7 @@ module _ (t : Tables) (tables : AreTables t) (kept : List ℕ) (p : Plan) (are :
     part_of_form : (place : Place) (ks : List ℕ) → are_parts place (children (map (tree_at t) ks)) ≡ true → (k : ℕ) → Contains ks k → rules.is_part place (tree_at t k) ≡ true
     part_of_form place [] h k (i, low, e) = absurd (omega (arith, low))
     part_of_form place (l ∷ ks) h k (zero, low, e) = search (std_rules, first_true)
-    part_of_form place (l ∷ ks) h k (suc i, low, e) = part_of_form place ks (second_true (rules.is_part place (tree_at t l)) (are_parts place (children (map (tree_at t) ks))) h) k
-        (i, omega (arith, low), e)
+    part_of_form place (l ∷ ks) h k (suc i, low, e) = part_of_form place ks (second_true _ _ h) k (i, omega (arith, low), e)
 
     -- ---- a type of the plan
 
@@ -109,9 +108,8 @@ module _ (t : Tables) (tables : AreTables t) (kept : List ℕ) (p : Plan) (are :
         → rules.is_signature (place_at t q) (signature_over (tree_at t) f) ≡ true → function_stays p (owners q) g ≡ true
     function_own f id g b seen h = flat_all (has_owner p (owners q)) (met_by all_met) (filter_map part_number (function_parts g))
         ∙ numbers_pass t kept p (shape_parts f) (function_parts g) (function_zip t kept p f id g b) (λ i. list_all (has_owner p (owners q)) (met_by all_met i)) (λ old c i m from at range.
-        let one = all-contained (λ k. rules.is_parameter_type (place_at t q) (tree_at t k)) (shape_parts f) old (signature_parts t (place_at t q) f h) c in
-        all_own (suc i) i m (omega arith) range at (subst IsPartHere from
-        (record { part = first_true (rules.is_part (place_at t q) (tree_at t old)) _ one; seen = all_at (IsSeenFrom t q) (shape_parts f) (all_parts (IsSeenFrom t q) f seen) old c })))
+        let one = all-contained _ _ old (signature_parts t (place_at t q) f h) c in
+        all_own (suc i) i m (omega arith) range at (subst IsPartHere from (record { part = first_true _ _ one; seen = all_at _ _ (all_parts (IsSeenFrom t q) f seen) old c })))
 
   -- ---- types
 
@@ -145,30 +143,25 @@ module _ (t : Tables) (tables : AreTables t) (kept : List ℕ) (p : Plan) (are :
             own_numbers (ap (λ k. list_all (has_owner p (owners r)) (flat_map (met_by all_met) (kind_numbers k))) k ∙ met_number r all_met new i to own [] refl)
         by false none = elim (owned.used j n x r name m s other planned_there kept_there there kind at) [
           | inl same ↦ no_true (sym none ∙ eq-eqb s r same)
-          | inr path ↦ or_right (list_all (has_owner p x.owner) (flat_map (met_by all_met) (kind_numbers x.kind))) (is_some x.name && is_use p x)
-              (both (is_some x.name) (is_use p x) (ap is_some named) ((search (std_rules, behind, both, owner_of, apart))))
+          | inr path ↦ or_right _ _ (both _ _ (ap is_some named) ((search (std_rules, behind, both, owner_of, apart))))
         ]
 
     kind_fine : (d : Option ℕ) → rules.is_declared (place_at t r) (declaration_of t d) ≡ true → DeclaresKind t kept p d x.kind → IsFine x
     kind_fine d obeys (a_resource none k) = own_numbers (ap (λ y. list_all (has_owner p (owners r)) (flat_map (met_by all_met) (kind_numbers y))) k)
     kind_fine d obeys (a_form old m form olds news some from at z k) =
-        let whole = a_form old m form olds news some from at z k in
-        let seen_old : IsSeenFrom t r old = subst (AllOf (IsSeenFrom t r)) some (owned.seen j n x r name d planned_there kept_there there whole) in
         let labels = are_labels (form_labels form) in
         let parts = are_parts (place_at t r) (children (map (tree_at t) olds)) in
-        let low = nat_le (deepest (children (map (tree_at t) olds))) most_levels in
-        let good : parts ≡ true = second_true labels parts (first_true (labels && parts) low (form_obeys t tables kept p are old m form olds from at (place_at t r) d some obeys)) in
         own_numbers (ap (λ y. list_all (has_owner p (owners r)) (flat_map (met_by all_met) (kind_numbers y))) k
-        ∙ form_met r all_met m form olds news at z good (λ part c s has. seen_old s (inside old m part s form olds from at c has))
-        (λ i l stands less range here. all_own r (suc i) i l (omega arith) range stands here))
+        ∙ form_met r all_met m form olds news at z (second_true _ _ (first_true _ _ (form_obeys t tables kept p are old m form olds from at (place_at t r) d some obeys)))
+        (λ part c s has. (subst (AllOf (IsSeenFrom t r)) some (owned.seen j n x r name d planned_there kept_there there (a_form old m form olds news some from at z k))) s
+        (inside old m part s form olds from at c has)) (λ i l stands less range here. all_own r (suc i) i l (omega arith) range stands here))
     kind_fine d obeys (gathered.a_name old new some no_form b k) = by b.part
       where
         by : IsPart kept old new → IsFine x
         by (a_primitive small same) =
             own_numbers (ap (λ y. list_all (has_owner p (owners r)) (flat_map (met_by all_met) (kind_numbers y))) k ∙ met_low r all_met new (omega (arith, small, same)) [] refl)
         by (a_shape m i from stands to) =
-            let range = b.range in
-            let found = kept_at t kept p are i m (omega (arith, range, to)) stands in
+            let found = kept_at t kept p are i m (omega (arith, b.range, to)) stands in
             target found.2 found.1
           where
             target : {u : PlannedType} → IsKeptType t kept p m u → slice_get p.types i ≡ Some u → IsFine x

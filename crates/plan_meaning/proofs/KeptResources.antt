@@ -42,17 +42,14 @@ module _ (t : Tables) (tables : AreTables t) (kept : List ℕ) (p : Plan) (are :
             ∙ sym (marked.primitives old small)
         by (a_shape m i from there to) =
             let before : i < j = are.rise i j m n there stands (omega (arith, from, low)) in
-            let range = b.range in
             ap (λ o. option_map_or (λ k. unwrap_or (slice_get (take j all_marks) k) false) o false) (ap part_number to ∙ behind i)
-            ∙ (ap (λ o. unwrap_or o false) (slice_take all_marks j i before) ∙ (smaller i m before (omega (arith, range, to)) there ∙ ap marks (sym from)))
+            ∙ (ap (λ o. unwrap_or o false) (slice_take all_marks j i before) ∙ (smaller i m before (omega (arith, b.range, to)) there ∙ ap marks (sym from)))
 
     kind_mark : (d : Option ℕ) → AllOf (λ k. k < 14 + n) d → DeclaresKind t kept p d x.kind → MarkedBy t kept p marks x.kind (marks (14 + n)) → marked_kind (take j all_marks) x.kind ≡ marks (14 + n)
     unfolding marked_kind
     kind_mark d low (a_resource none k) is = ap (marked_kind (take j all_marks)) k ∙ sym (subst (λ kind. MarkedBy t kept p marks kind (marks (14 + n))) k is)
     kind_mark d low (gathered.a_name old new some no_form b k) is =
-        let before : old < 14 + n = subst (AllOf (λ y. y < 14 + n)) some low in
-        let same : marks (14 + n) ≡ marks old = subst (λ kind. MarkedBy t kept p marks kind (marks (14 + n))) k is old b in
-        ap (marked_kind (take j all_marks)) k ∙ (alias_mark old new before b ∙ sym same)
+        ap (marked_kind (take j all_marks)) k ∙ (alias_mark old new (subst (AllOf (λ y. y < 14 + n)) some low) b ∙ sym (subst (λ kind. MarkedBy t kept p marks kind (marks (14 + n))) k is old b))
     kind_mark d low (a_form old m form olds news some from there z k) is = ap (marked_kind (take j all_marks)) k ∙ sym (subst (λ kind. MarkedBy t kept p marks kind (marks (14 + n))) k is)
 
     type_mark : IsKeptType t kept p n x → marked_kind (take j all_marks) x.kind ≡ marks (14 + n)

@@ -99,18 +99,15 @@ module _ (r : Resolve) (m : ℕ) (is : IsPlan (plan_of r m)) (bare : IsBare r) w
     bare_items = second_true (is_bare w.docs w.stability) _ bare_world
 
     world_passes : (is_label (text_of w.name) && (is_stability w.stability && (entries_labels w.imports.entries && entries_labels w.exports.entries))) ≡ true
-    world_passes = both _ _ name (both _ _ (bare_stability w.docs w.stability (first_true (is_bare w.docs w.stability) _ bare_world))
+    world_passes = both _ _ name (both _ _ (bare_stability w.docs w.stability (first_true _ _ bare_world))
         (both _ _ (entries_pass (λ e. planned.import_stands (plan_of r m) n (planned_key e.0, planned_item e.1)) (import_key n) w.imports.entries (imports_there r m is n w at)
         (first_true _ _ items_labelled) (first_true _ _ bare_items)) (entries_pass (λ e. planned.export_stands (plan_of r m) (planned_key e.0, planned_item e.1)) export_key w.exports.entries
-        (exports_there r m is n w at) (second_true (list_all labelled_item (map (λ e. e.1) w.imports.entries)) _ items_labelled)
-        (second_true (list_all is_bare_item (map (λ e. e.1) w.imports.entries)) _ bare_items))))
+        (exports_there r m is n w at) (second_true _ _ items_labelled) (second_true _ _ bare_items))))
 
   pub labels_kept : Keeps labels r
   unfolding labels
-  labels_kept = keeps_three labels r refl (each_by_number (λ n i. labels.interface_ r n i) r.interfaces.items
-      (λ n i e. interface_passes i (all_there planned_interface planned.interface_labels r.interfaces.items is.interface_labels n i e)
+  labels_kept = keeps_three labels r refl (each_by_number _ _ (λ n i e. interface_passes i (all_there planned_interface planned.interface_labels r.interfaces.items is.interface_labels n i e)
       (all_get is_bare_interface r.interfaces.items n i bare.interfaces e) (interface_holds r m (λ o f. planned.function_labels f) labelled (λ o f h. h) is.functions_labelled n i e)))
-      (each_by_number (λ n w. labels.world_ r n w) r.worlds.items (λ n w e. world_passes n w (all_there planned_world (λ w. is_label w.name) r.worlds.items is.world_labels n w e) e
+      (each_by_number _ _ (λ n w e. world_passes n w (all_there planned_world (λ w. is_label w.name) r.worlds.items is.world_labels n w e) e
       (world_holds r m (λ o f. planned.function_labels f) labelled (λ o f h. h) is.functions_labelled n w e) (all_get is_bare_world r.worlds.items n w bare.worlds e)))
-      (each_by_number (λ n def. labels.type_ r n def) r.types.items (λ n def e. type_passes def (all_there planned_type planned.type_labels r.types.items is.type_labels n def e)
-      (all_get is_bare_type r.types.items n def bare.types e)))
+      (each_by_number _ _ (λ n def e. type_passes def (all_there planned_type planned.type_labels r.types.items is.type_labels n def e) (all_get is_bare_type r.types.items n def bare.types e)))

@@ -88,19 +88,14 @@ module _ (r : Resolve) (m : ℕ) (is : IsPlan (plan_of r m)) where
     named : (n : ℕ) (p : Package) → package_at r n ≡ Some p → is_identity (identity_of p.name) ≡ true → is_alone (plan_of r m) n (planned_package p) ≡ true
         → ((is_label (text_of p.name.namespace) && (is_label (text_of p.name.name) && passes is_version p.name.version)) && each_from (λ k other. (k == n) || not (same_package_name p.name other.name))
         0 r.packages.items) ≡ true
-    named n p e identity alone =
-        let rest = second_true (is_label (text_of p.name.namespace)) _ identity in
-        both _ _ (both _ _ (first_true _ _ identity) (both _ _ (first_true (is_label (text_of p.name.name)) _ rest) (version_at n p e)))
-        (each_by_number (λ k other. (k == n) || not (same_package_name p.name other.name)) r.packages.items (λ k other f.
-        either (k == n) (not (same_identity (identity_of p.name) (identity_of other.name))) (not (same_package_name p.name other.name))
-        (apart p.name other.name (version_at n p e) (version_at k other f))
-        (each_there planned_package (λ k other. (k == n) || not (same_identity (identity_of p.name) other.identity)) r.packages.items alone k other f)))
+    named n p e identity alone = both _ _ (both _ _ (first_true _ _ identity) (both _ _ (first_true _ _ (second_true _ _ identity)) (version_at n p e)))
+        (each_by_number _ _ (λ k other f. either (k == n) (not (same_identity (identity_of p.name) (identity_of other.name))) (not (same_package_name p.name other.name))
+        (apart p.name other.name (version_at n p e) (version_at k other f)) (each_there planned_package (λ k other. (k == n) || not (same_identity (identity_of p.name) other.identity))
+        r.packages.items alone k other f)))
 
     pub package_names_kept : Keeps package_names r
     unfolding package_names
     package_names_kept = packages_keep (λ r n p. (is_label (text_of p.name.namespace) && (is_label (text_of p.name.name) && passes is_version p.name.version))
         && each_from (λ k other. (k == n) || not (same_package_name p.name other.name)) 0 r.packages.items) r
-        (each_by_number (λ n p. (is_label (text_of p.name.namespace) && (is_label (text_of p.name.name) && passes is_version p.name.version))
-        && each_from (λ k other. (k == n) || not (same_package_name p.name other.name)) 0 r.packages.items) r.packages.items
-        (λ n p e. named n p e (all_there planned_package (λ k. is_identity k.identity) r.packages.items is.identities n p e)
+        (each_by_number _ _ (λ n p e. named n p e (all_there planned_package (λ k. is_identity k.identity) r.packages.items is.identities n p e)
         (each_there planned_package (is_alone (plan_of r m)) r.packages.items is.alone n p e)))

@@ -71,12 +71,9 @@ module _ (t : Tables) (tables : AreTables t) (kept : List ℕ) (p : Plan) (are :
   interface_lists j k q name m i e at there c =
       let is = (read.interfaces m i e).read in
       let found = entry_of is.place k is.view.types is.numbers i.types is.shapes is.kept_there is.names c in
-      let number : found.entry.1 ≡ j = are.once found.entry.1 j k found.stands at in
-      let named : found.entry.0 ≡ name = same_name is.place q k found.entry.0 name found.shape there in
-      let entry : found.entry ≡ (name, j) = λ x. (named x, number x) in
-      let labels = has_labels t kept p are b m i is in
-      let differ = distinct_front (names_of i.types) (names_of i.functions) (second_true (passes is_label i.name) (are_distinct (names_of i.types ++ names_of i.functions)) labels) in
-      ap (λ o. option_map_or (λ (y : PlannedInterface). is_id j (number_under name y.types)) o false) e ∙ number_there name j i.types differ (subst (Contains i.types) entry found.listed)
+      ap (λ o. option_map_or (λ (y : PlannedInterface). is_id j (number_under name y.types)) o false) e
+      ∙ number_there name j i.types (distinct_front (names_of i.types) (names_of i.functions) (second_true _ _ (has_labels t kept p are b m i is)))
+      (subst (Contains i.types) (λ x. ((same_name is.place q k found.entry.0 name found.shape there) x, (are.once found.entry.1 j k found.stands at) x)) found.listed)
 
   -- ---- in a world
 
@@ -94,14 +91,11 @@ module _ (t : Tables) (tables : AreTables t) (kept : List ℕ) (p : Plan) (are :
       by (implementing_path a n v id path shown good entry is) d f h = no_true (sym (ap is_type_seen shown) ∙ seen)
       by (a_function g n shown entry is) d f h = no_true (sym (ap is_type_seen shown) ∙ seen)
       by {home = home} (a_type g n shown entry is) d f h =
-          let count = is.last in
-          let shape_number : is.number ≡ k = omega (arith, count, last) in
-          let number : n ≡ j = are.once n j k (is.stands ∙ ap Some shape_number) at in
-          let named : x.seen.key ≡ name = same_name home q k x.seen.key name (ap (slice_get t.shapes) (sym shape_number) ∙ is.shape) there in
-          let one : x.entry ≡ (plan.label name, plan.declares j) = entry ∙ (λ y. (plan.label (named y), plan.declares (number y))) in
-          let listed : Contains w.imports (plan.label name, plan.declares j) = subst (Contains w.imports) one (subst (λ es. Contains es x.entry) f d) in
+          let shape_number : is.number ≡ k = omega (arith, is.last, last) in
           ap (λ o. option_map_or (λ (y : PlannedWorld). is_id j (option_and_then item_type (lookup (is_under_label name) y.imports))) o false) e
-          ∙ (ap (λ o. is_id j (option_and_then item_type o)) (key_there name (plan.declares j) w.imports h listed) ∙ same-number j)
+          ∙ (ap (λ o. is_id j (option_and_then item_type o)) (key_there name (plan.declares j) w.imports h
+          (subst (Contains w.imports) (entry ∙ (λ y. (plan.label ((same_name home q k x.seen.key name (ap (slice_get t.shapes) (sym shape_number) ∙ is.shape) there) y),
+          plan.declares ((are.once n j k (is.stands ∙ ap Some shape_number) at) y)))) (subst (λ es. Contains es x.entry) f d))) ∙ same-number j)
 
   -- ---- each type
 

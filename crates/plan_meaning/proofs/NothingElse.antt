@@ -88,8 +88,7 @@ package_holds_alone p r is built = package_alone r p.main (subst IsPackagePlan (
 world_by : (r : Resolve) (m : ℕ) → IsWorldPlan (plan_of r m) → (w : World) → world_at r 0 ≡ Some w → HoldsWorldAlone r m w
 world_by r m is w there =
     let first = get_back planned_world r.worlds.items 0 is.world (ap (λ xs. slice_get xs 0) is.alone) in
-    let one : first.0 ≡ w = ap (λ o. unwrap_or o first.0) (sym first.1 ∙ there) in
-    world_alone r m is w there (ap planned_world (sym one) ∙ first.2)
+    world_alone r m is w there (ap planned_world (sym (ap (λ o. unwrap_or o first.0) (sym first.1 ∙ there))) ∙ first.2)
 
 pub world_holds_alone : (p : Plan) (r : Resolve) → IsWorldPlan p → IsBuilt p r → (w : World) → world_at r 0 ≡ Some w → HoldsWorldAlone r p.main w
 world_holds_alone p r is built = world_by r p.main (subst IsWorldPlan (sym (plan_is p r built)) is)

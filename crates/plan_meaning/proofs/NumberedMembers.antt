@@ -25,9 +25,8 @@ module _ (t : Tables) (tables : AreTables t) (h : Homes) (stand : HomesStand t h
 
   module _ (n : ℕ) (identity : PackageIdentity) (there : slice_get h.packages n ≡ Some identity) where
     package_number : (m : ℕ) (other : PackageIdentity) → slice_get h.packages m ≡ Some other → same_identity identity other ≡ (n == m)
-    package_number m other at = either_way (same_identity identity other) (n == m)
-        (λ e. let same : identity ≡ other = (identities_decide identity other).0 e in eq-eqb n m (stand.apart n m other (there ∙ ap Some same) at))
-        (λ e. (identities_decide identity other).1 (same-some identity other (sym there ∙ (ap (slice_get h.packages) (eqb-true n m e) ∙ at))))
+    package_number m other at = either_way _ _ (λ e. let same : identity ≡ other = (identities_decide identity other).0 e in eq-eqb n m (stand.apart n m other (there ∙ ap Some same) at))
+        (λ e. (identities_decide identity other).1 (same-some _ _ (sym there ∙ (ap (slice_get h.packages) (eqb-true n m e) ∙ at))))
 
     of_read : Option (PackageIdentity × Text) → Bool
     of_read None = false
@@ -44,16 +43,14 @@ module _ (t : Tables) (tables : AreTables t) (h : Homes) (stand : HomesStand t h
     named_in : (name : Text) → read_path (path_in identity name) ≡ Some (identity, name) → (p : ℕ) → HasPath t p → text_eq (path_text t p) (path_in identity name) ≡ is_named_in h n name p
     named_in name reads p x =
         let home = stand.homes p x.0 x.1 in
-        either_way (text_eq (path_text t p) (path_in identity name)) ((home.package_ == n) && text_eq home.name name) (into home) (back home)
-        ∙ sym (ap (λ o. option_map_or (λ (y : ℕ × Text). y.0 == n && text_eq y.1 name) o false) home.home)
+        either_way _ _ (into home) (back home) ∙ sym (ap (λ o. option_map_or (λ (y : ℕ × Text). y.0 == n && text_eq y.1 name) o false) home.home)
       where
         into : (home : IsHomeOf h p x.0) → text_eq (path_text t p) (path_in identity name) ≡ true → ((home.package_ == n) && text_eq home.name name) ≡ true
         into home e =
-            let same_path : x.0 ≡ path_in identity name = sym (path_is t p x) ∙ text_same (path_text t p) (path_in identity name) e in
-            let pair : ◌≡◌ {A = PackageIdentity × Text} (home.identity, home.name) (identity, name) =
-            same-some (home.identity, home.name) (identity, name) (sym home.reads ∙ (ap read_path same_path ∙ reads)) in
+            let same_path : x.0 ≡ path_in identity name = sym (path_is t p x) ∙ text_same _ _ e in
+            let pair : ◌≡◌ {A = PackageIdentity × Text} (home.identity, home.name) (identity, name) = same-some _ _ (sym home.reads ∙ (ap read_path same_path ∙ reads)) in
             let number : n ≡ home.package_ = stand.apart n home.package_ home.identity (there ∙ ap Some (sym (ap (λ (y : PackageIdentity × Text). y.0) pair))) home.stands in
-            both (home.package_ == n) (text_eq home.name name) (eq-eqb home.package_ n (sym number)) (same_text home.name name (ap (λ (y : PackageIdentity × Text). y.1) pair))
+            both _ _ (eq-eqb _ n (sym number)) (same_text _ _ (ap (λ (y : PackageIdentity × Text). y.1) pair))
 
         back : (home : IsHomeOf h p x.0) → ((home.package_ == n) && text_eq home.name name) ≡ true → text_eq (path_text t p) (path_in identity name) ≡ true
         back home e =
@@ -84,8 +81,7 @@ module _ (t : Tables) (tables : AreTables t) (h : Homes) (stand : HomesStand t h
 
   pub all_sights : (ms : List NumberedMember) (members : List Member) → AllZip (IsMember t h) ms members → flat_map reads.sights members ≡ map (sight_of t) (sights_of_members t ms)
   all_sights [] [] z = refl
-  all_sights (m ∷ ms) (x ∷ members) z =
-      (λ i. part_sights m x z.0.package_ z.0.label m.part x.part z.0.part i ++ all_sights ms members z.1 i) ∙ sym (append_of_map (sight_of t) (sights_of_part t m.part) (sights_of_members t ms))
+  all_sights (m ∷ ms) (x ∷ members) z = (λ i. part_sights m x z.0.package_ z.0.label m.part x.part z.0.part i ++ all_sights ms members z.1 i) ∙ sym (append_of_map _ _ _)
   all_sights _ _ z = absurd z
 
   -- ---- the rules
@@ -118,10 +114,8 @@ module _ (t : Tables) (tables : AreTables t) (h : Homes) (stand : HomesStand t h
           → list_all (λ x. same_identity identity x.package_) members ≡ true
           → list_any (λ x. is_interface_part x.part && text_eq (path_text t s.place) (path_in identity x.label)) members ≡ list_any (λ m. is_interface_of s.place m.part) ms
       one_is s at [] [] z same = refl
-      one_is s at (m ∷ ms) (x ∷ members) z same =
-          let first = first_true (same_identity identity x.package_) (list_all (λ y. same_identity identity y.package_) members) same in
-          let more = second_true (same_identity identity x.package_) (list_all (λ y. same_identity identity y.package_) members) same in
-          λ i. part_is s at m x z.0.package_ z.0.label first m.part x.part z.0.part i || one_is s at ms members z.1 more i
+      one_is s at (m ∷ ms) (x ∷ members) z same = λ i. part_is s at m x z.0.package_ z.0.label (first_true _ _ same) m.part x.part z.0.part i
+          || one_is s at ms members z.1 (second_true _ _ same) i
       one_is s at _ _ z same = absurd z
 
       top_same : (ms : List NumberedMember) (members : List Member) → AllZip (IsMember t h) ms members → list_all (λ x. same_identity identity x.package_) members ≡ true

@@ -122,11 +122,9 @@ module _ (t : Tables) (tables : AreTables t) where
       (flat_map (λ l. used_by_view t l.1) later ++ used_by_view t exported) =
       (λ j. (flat_along IsOver (λ l. rules.used_by_view l.1) seen_view (path_text t) (λ l. used_by_view t l.1) (λ l h. view_uses l.1 h.1)) later h.1 j ++ view_uses exported he j)
       ∙ sym (append_of_map (path_text t) (flat_map (λ l. used_by_view t l.1) later) (used_by_view t exported)) in
-      let one = ap (list_any (text_eq (path_text t i.0))) all
-      ∙ has_path (flat_map (λ l. used_by_view t l.1) later ++ used_by_view t exported) i.0
-      (all_in_both (HasPath t) (flat_map (λ l. used_by_view t l.1) later) (used_by_view t exported) (all_flat (HasPath t) (λ l. used_by_view t l.1) (λ l. view_paths l.1) later)
-      (view_paths exported)) h.0.0 in
-      λ j. one j && reached_same later exported h.1 he j
+      λ j. (ap (list_any (text_eq (path_text t i.0))) all ∙ has_path (flat_map (λ l. used_by_view t l.1) later ++ used_by_view t exported) i.0
+      (all_in_both (HasPath t) (flat_map (λ l. used_by_view t l.1) later) (used_by_view t exported) (all_flat (HasPath t) (λ l. used_by_view t l.1) (λ l. view_paths l.1) later) (view_paths exported))
+      h.0.0) j && reached_same later exported h.1 he j
 
 -- ---- worlds
 

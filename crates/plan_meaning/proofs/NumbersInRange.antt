@@ -100,8 +100,7 @@ module _ (r : Resolve) (m : ℕ) (is : IsPlan (plan_of r m)) where
 
   worlds_range : each_from (λ n w. is_place n && (passes (in_list r.packages.items) (package_number w.package) && (entries_in_range r w.imports.entries && entries_in_range r w.exports.entries))) 0
       r.worlds.items ≡ true
-  worlds_range = each_by_number (λ n w. is_place n && (passes (in_list r.packages.items) (package_number w.package) && (entries_in_range r w.imports.entries && entries_in_range r w.exports.entries)))
-      r.worlds.items (λ n w e.
+  worlds_range = each_by_number _ _ (λ n w e.
       let fs = entries_pass (rules.function_in_range r) w
       (world_holds r m (λ o f. planned.function_in_range (plan_of r m) f) (λ o f. rules.function_in_range r f) function_range is.functions_in_range n w e) in
       both _ _ (place_there planned_world r.worlds.items is.worlds_fit n w e)
@@ -125,9 +124,8 @@ module _ (r : Resolve) (m : ℕ) (is : IsPlan (plan_of r m)) where
   owner_by n x o h = search (std_rules, unowned, owned)
 
   types_range : each_from (λ n def. is_place n && (list_all (in_list r.types.items) (parts.kind_numbers def.kind) && owner_in_range r def.owner)) 0 r.types.items ≡ true
-  types_range = each_by_number (λ n def. is_place n && (list_all (in_list r.types.items) (parts.kind_numbers def.kind) && owner_in_range r def.owner)) r.types.items
-      (λ n def e. both _ _ (place_there planned_type r.types.items is.types_fit n def e)
-      (both _ _ (below n (length r.types.items) (slice_get_within r.types.items n def e) (parts.kind_numbers def.kind)
+  types_range = each_by_number _ _ (λ n def e. both _ _ (place_there planned_type r.types.items is.types_fit n def e)
+      (both _ _ (below n (length r.types.items) (slice_get_within _ n _ e) (parts.kind_numbers def.kind)
       (ap (list_all (λ k. nat_lt k n)) (sym (kind_numbers_are def.kind)) ∙ each_there planned_type (λ j t. list_all (λ k. nat_lt k j) (plan.kind_numbers t.kind)) r.types.items is.types_fall n def e))
       (owner_by n def.name def.owner (each_there planned_type (planned.is_listed (plan_of r m)) r.types.items is.types_listed n def e))))
 

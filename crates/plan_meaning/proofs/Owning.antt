@@ -42,8 +42,7 @@ module _ (r : Resolve) (m : ℕ) where
 
     pub owners_kept : Keeps owners r
     unfolding owners
-    owners_kept = keeps_three owners r refl (each_by_number (λ n i. owners.interface_ r n i) r.interfaces.items
-        (λ n i e. both _ _ (interface_holds r m (planned.function_stays (plan_of r m)) (rules.function_stays r) stays is.functions_stay n i e)
+    owners_kept = keeps_three owners r refl (each_by_number _ _ (λ n i e. both _ _ (interface_holds r m (planned.function_stays (plan_of r m)) (rules.function_stays r) stays is.functions_stay n i e)
         ((search (std_rules, used_within r n i e, list_all_filter_map, nat_le, interfaces_used_are r m i, each_there, plan_of r m)))))
         (worlds_pass r m (planned.function_stays (plan_of r m)) (rules.function_stays r) stays is.functions_stay)
         (each_from_built planned_type (planned.type_stays (plan_of r m)) (rules.type_stays r) (λ def h. sym (type_stays_is def) ∙ h) r.types.items is.types_stay)

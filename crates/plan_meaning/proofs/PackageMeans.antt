@@ -101,10 +101,8 @@ module _ (r : Resolve) (v : IsValid r) (given : PlannedInterface → Option (Tex
   there k x c =
       let s = source k x c in
       let found = among s.number s.from s.stands k s.path s.passes in
-      let path : interface_path r s.number ≡ Some k = path_there r s.number s.from s.stands ∙ s.path in
-      let value : means s.number ≡ x = found.1 ∙ sym s.value in
-      let same : at_number s.number ≡ (k, x) = λ j. (unwrap_or (path j) [], value j) in
-      subst (λ (q : Text × InterfaceMeaning). Contains meant_entries q) same (contains-map at_number numbers s.number found.0)
+      subst (λ (q : Text × InterfaceMeaning). Contains meant_entries q) (λ j. (unwrap_or ((path_there r s.number s.from s.stands ∙ s.path) j) [], (found.1 ∙ sym s.value) j))
+      (contains-map at_number numbers s.number found.0)
 
   from_number : (n : ℕ) (k : Text) (x : InterfaceMeaning) → Contains numbers n → at_number n ≡ (k, x) → (path : Text) → interface_path r n ≡ Some path → Contains planned_entries (k, x)
   from_number n k x c e path there =
@@ -112,12 +110,10 @@ module _ (r : Resolve) (v : IsValid r) (given : PlannedInterface → Option (Tex
       let i = standing.def in
       let its_path : path_of_interface r i ≡ Some path = sym (path_there r n i standing.there) ∙ there in
       let passes = (back n c).1 i standing.there in
-      let key : path ≡ k = ap (λ o. unwrap_or o []) (sym there) ∙ ap (λ (q : Text × InterfaceMeaning). q.0) e in
-      let value : meant.interface_meaning r i ≡ x = sym (among n i standing.there path its_path passes).1 ∙ ap (λ (q : Text × InterfaceMeaning). q.1) e in
-      let entry : given (planned_interface i) ≡ Some (k, x) = of i path passes its_path ∙ (λ j. Some (key j, value j)) in
-      contains-filter_map given (map planned_interface r.interfaces.items) (planned_interface i) (k, x)
-      (contains-map planned_interface r.interfaces.items i (get-contains r.interfaces.items n i standing.there))
-      (subst (λ (o : Option (Text × InterfaceMeaning)). Contains (option_to_list o) (k, x)) (sym entry) (contains-one (k, x)))
+      contains-filter_map given (map planned_interface r.interfaces.items) (planned_interface i) (k, x) (contains-map _ _ i (get-contains _ n i standing.there))
+      (subst (λ (o : Option (Text × InterfaceMeaning)). Contains (option_to_list o) (k, x))
+      (sym (of i path passes its_path ∙ (λ j. Some ((ap (λ o. unwrap_or o []) (sym there) ∙ ap (λ (q : Text × InterfaceMeaning). q.0) e) j,
+      (sym (among n i standing.there path its_path passes).1 ∙ ap (λ (q : Text × InterfaceMeaning). q.1) e) j)))) (contains-one (k, x)))
 
   here : (k : Text) (x : InterfaceMeaning) → Contains meant_entries (k, x) → Contains planned_entries (k, x)
   here k x c =
@@ -129,9 +125,8 @@ module _ (r : Resolve) (v : IsValid r) (given : PlannedInterface → Option (Tex
   one_value k x y c d =
       let a = source k x c in
       let b = source k y d in
-      let numbers = path-once r v a.number b.number k (path_there r a.number a.from a.stands ∙ a.path) (path_there r b.number b.from b.stands ∙ b.path) in
-      let one : a.from ≡ b.from = same-some a.from b.from (sym a.stands ∙ (ap (interface_at r) numbers ∙ b.stands)) in
-      a.value ∙ (ap (meant.interface_meaning r) one ∙ sym b.value)
+      a.value ∙ (ap (meant.interface_meaning r) (same-some a.from b.from (sym a.stands
+      ∙ (ap (interface_at r) (path-once r v a.number b.number k (path_there r a.number a.from a.stands ∙ a.path) (path_there r b.number b.from b.stands ∙ b.path)) ∙ b.stands))) ∙ sym b.value)
 
   pub entries_are : ◌≡◌ {A = TextMap InterfaceMeaning} (from_entries planned_entries) (from_entries meant_entries)
   entries_are = one_map planned_entries meant_entries (record { one_value = one_value; there = there; here = here })
@@ -172,8 +167,7 @@ module _ (r : Resolve) (m : ℕ) (is : IsPackagePlan (plan_of r m)) (v : IsValid
       among : (n : ℕ) (i : Interface) → interface_at r n ≡ Some i → (k : Text) → path_of_interface r i ≡ Some k → is_id m (package_number i.package) ≡ false
           → Contains (foreign_of r m p) n × (foreign_meaning r p n ≡ meant.interface_meaning r i)
       among n i e k path other =
-          let some : is_some (interface_path r n) ≡ true = ap is_some (path_there r n i e ∙ path) in
-          let foreign : is_foreign r m n ≡ true = foreign_is r m n i e ∙ both _ _ some (ap not (same_test r m i.package ∙ other)) in (
+          let foreign : is_foreign r m n ≡ true = foreign_is r m n i e ∙ both _ _ (ap is_some (path_there r n i e ∙ path)) (ap not (same_test r m i.package ∙ other)) in (
             has-contains (foreign_of r m p) n (has_filter (is_foreign r m) (reached_by_package r p) n (all_reached r m is.plan v p at is.worlds is.wanted n i e) foreign),
             (search (std_rules, meaning_there, bare_means)),
           )

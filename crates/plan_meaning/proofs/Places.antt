@@ -68,12 +68,10 @@ module _ (r : Resolve) (m : ℕ) (is : IsPlan (plan_of r m)) where
 
   packages_placed : each_from (λ n p. list_all (interface_belongs r n) p.interfaces.entries
       && (list_all (world_belongs r n) p.worlds.entries && list_all (λ e. not (is_world_name p (text_of e.0)) || names_itself r e) p.interfaces.entries)) 0 r.packages.items ≡ true
-  packages_placed = each_by_number (λ n p. list_all (interface_belongs r n) p.interfaces.entries
-      && (list_all (world_belongs r n) p.worlds.entries && list_all (λ e. not (is_world_name p (text_of e.0)) || names_itself r e) p.interfaces.entries)) r.packages.items (λ n p e.
+  packages_placed = each_by_number _ _ (λ n p e.
       let members = each_at (λ n p. list_all (interface_belongs r n) p.interfaces.entries && list_all (world_belongs r n) p.worlds.entries) r.packages.items n p
       (members_pass r m is (interface_belongs r) (world_belongs r) interface_there world_there) e in
-      both _ _ (first_true _ _ members) (both _ _ (second_true (list_all (interface_belongs r n) p.interfaces.entries) _ members)
-      (names_differ p (all_there planned_package members_differ r.packages.items is.members_differ n p e))))
+      both _ _ (first_true _ _ members) (both _ _ (second_true _ _ members) (names_differ p (all_there planned_package members_differ r.packages.items is.members_differ n p e))))
 
   -- ---- interfaces
 

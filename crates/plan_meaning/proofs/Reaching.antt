@@ -43,9 +43,7 @@ sum_none : (n : ℕ) (ws : List PlannedWorld) → list_any (λ w. planned.is_sho
 sum_none n [] h = refl
 sum_none n (w ∷ ws) h =
     let split = neither (planned.is_shown_in w n) (list_any (λ x. planned.is_shown_in x n) ws) h in
-    let here = times_none n (plan.items_of w) split.0 in
-    let rest = sum_none n ws split.1 in
-    sum_by-cons (planned.times_shown n) w ws ∙ omega (arith, here, rest)
+    sum_by-cons (planned.times_shown n) w ws ∙ omega (arith, times_none n (plan.items_of w) split.0, sum_none n ws split.1)
 
 pub shown_somewhere : (n : ℕ) (ws : List PlannedWorld) → (sum_by (planned.times_shown n) ws == 1) ≡ true → list_any (λ w. planned.is_shown_in w n) ws ≡ true
 shown_somewhere n ws h = search (std_rules, no_true, sum_none)
@@ -80,12 +78,10 @@ module _ (r : Resolve) (m : ℕ) (is : IsPlan (plan_of r m)) (v : IsValid r) (p 
 
   pub world_among : (j : ℕ) (w : World) → world_at r j ≡ Some w → Contains (worlds_of r p) w
   world_among j w e =
-      let planned_at : slice_get (map planned_world r.worlds.items) j ≡ Some (planned_world w) = get_of_map planned_world r.worlds.items j ∙ ap (option_map planned_world) e in
-      let placed = each_there planned_world (planned.is_world_placed (plan_of r m)) r.worlds.items is.worlds_placed j w e in
-      let listed = main_package (λ k. is_id j (number_under (text_of w.name) k.worlds)) w.package
-      (all_get (λ x. is_id m x.package_) (map planned_world r.worlds.items) j (planned_world w) home planned_at) placed in
       let stands = map_from (λ (id : WorldId). id.0) (values p.worlds) j (has-contains (map (λ id. id.0) (values p.worlds)) j
-      (listed_number (λ id. id.0) p.worlds.entries (text_of w.name) j listed)) in
+      (listed_number (λ id. id.0) p.worlds.entries (text_of w.name) j (main_package (λ k. is_id j (number_under (text_of w.name) k.worlds)) w.package
+      (all_get (λ x. is_id m x.package_) (map planned_world r.worlds.items) j (planned_world w) home (get_of_map planned_world r.worlds.items j ∙ ap (option_map planned_world) e))
+      (each_there planned_world (planned.is_world_placed (plan_of r m)) r.worlds.items is.worlds_placed j w e)))) in
       contains-filter_map (λ id. world_at r id.0) (values p.worlds) stands.0 w stands.1
       (let found : world_at r stands.0.0 ≡ Some w = ap (world_at r) stands.2 ∙ e in let one : option_to_list (Some w) ≡ option_to_list (world_at r stands.0.0) = ap option_to_list (sym found) in
       subst (λ (xs : List World). Contains xs w) one (contains-one w))
@@ -131,8 +127,7 @@ module _ (r : Resolve) (m : ℕ) (is : IsPlan (plan_of r m)) (v : IsValid r) (p 
         (map planned_world r.worlds.items))) ≡ true → Why n
     why_by n i e None unnamed h =
         let somewhere = any_get (λ w. planned.is_shown_in w n) (map planned_world r.worlds.items)
-        (shown_somewhere n (map planned_world r.worlds.items) (first_true _ _
-        (second_true (option_map_or (in_list (map planned_package r.packages.items)) (option_map (λ id. id.0) i.package) false) _ h))) in
+        (shown_somewhere n (map planned_world r.worlds.items) (first_true _ _ (second_true _ _ h))) in
         inl (planned_starts n somewhere.0 somewhere.1 somewhere.2 somewhere.3)
     why_by n i e (Some s) named h = go (is_id m (option_map (λ id. id.0) i.package)) refl
       where

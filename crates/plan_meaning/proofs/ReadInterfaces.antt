@@ -37,10 +37,9 @@ module _ (t : Tables) (kept : List ℕ) (p : Plan) (are : TypesAreKept t kept p)
     type_is : (x : NumberedType) (n : ℕ) (e : Text × ℕ) → IsNumberOf t q x n → IsKeptAs kept p n e → HasName x e → is_type_of p (as_interface m) e ≡ true
     type_is x n e there at name =
         let found = kept_at t kept p are e.1 n at.1 at.0 in
-        let owner_is = owned.owned e.1 n found.0 q x.name found.1 at.0 there ∙ home in
         ap (λ o. option_map_or (λ y. bears e.0 y.name && same_owner y.owner (as_interface m)) o false) found.1
         ∙ both (bears e.0 found.0.name) (same_owner found.0.owner (as_interface m)) (ap (λ y. bears y found.0.name) name ∙ bears_name q n x.name found.0 there found.2)
-        (ap (λ o. same_owner o (as_interface m)) owner_is ∙ owner_itself (as_interface m))
+        (ap (λ o. same_owner o (as_interface m)) (owned.owned e.1 n found.0 q x.name found.1 at.0 there ∙ home) ∙ owner_itself (as_interface m))
 
     types_are : (xs : List NumberedType) (ns : List ℕ) (es : List (Text × ℕ)) → AllZip (IsNumberOf t q) xs ns → AllZip (IsKeptAs kept p) ns es → AllZip HasName xs es
         → list_all (is_type_of p (as_interface m)) es ≡ true
@@ -60,11 +59,9 @@ module _ (t : Tables) (kept : List ℕ) (p : Plan) (are : TypesAreKept t kept p)
 
 pub read_interfaces_pass : ReadInterfacesPass
 read_interfaces_pass t tables kept p are b owned read = record {
-  interface_labels = all_by_number interface_labels p.interfaces (λ m i e. has_labels t kept p are b m i (read m i e));
-  interface_types = each_by_number (λ n i. list_all (is_type_of p (as_interface n)) i.types) p.interfaces
-      (λ m i e. let is = read m i e in types_are t kept p are b owned m is.place is.owned is.view.types is.numbers i.types is.shapes is.kept_there is.names);
-  types_rise = all_by_number (λ i. are_rising (numbers_of i.types)) p.interfaces (λ m i e. let is = read m i e in all_rise t kept p are is.numbers i.types is.kept_there is.rise);
-  function_keys = all_by_number (λ i. list_all (λ e. text_eq e.0 e.1.name) i.functions) p.interfaces
-      (λ m i e. let is = read m i e in all_by_number (λ (x : Text × PlannedFunction). text_eq x.0 x.1.name) i.functions (λ j x f.
-      let from = zip_at_right IsNamed is.view.functions i.functions is.functions j x f in same_text x.0 x.1.name (from.2.0 ∙ sym from.2.1)));
+  interface_labels = all_by_number _ _ (λ m i e. has_labels t kept p are b m i (read m i e));
+  interface_types = each_by_number _ _ (λ m i e. let is = read m i e in types_are t kept p are b owned m is.place is.owned is.view.types is.numbers i.types is.shapes is.kept_there is.names);
+  types_rise = all_by_number _ _ (λ m i e. let is = read m i e in all_rise t kept p are is.numbers i.types is.kept_there is.rise);
+  function_keys = all_by_number _ _ (λ m i e. let is = read m i e in all_by_number _ _ (λ j x f.
+      let from = zip_at_right IsNamed is.view.functions i.functions is.functions j x f in same_text _ _ (from.2.0 ∙ sym from.2.1)));
 }

@@ -36,10 +36,7 @@ module _ (t : Tables) (tables : AreTables t) (h : Homes) (homes : HomesStand t h
       where
         by : IsPart kept old new → part_number new ≡ Some j
         by (a_primitive low same) = absurd (omega (arith, low, is))
-        by (a_shape m i from stands to) =
-            let number : m ≡ k = omega (arith, from, is) in
-            let one : i ≡ j = read.types.once i j k (stands ∙ ap Some number) at in
-            ap part_number to ∙ (behind i ∙ ap Some one)
+        by (a_shape m i from stands to) = ap part_number to ∙ (behind i ∙ ap Some (read.types.once i j k (stands ∙ ap Some (omega (arith, from, is))) at))
 
     numbers_have : (olds news : List ℕ) → AllZip (Becomes t kept p) olds news → Contains olds (14 + k) → has (filter_map part_number news) j ≡ true
     numbers_have olds news z c =
@@ -49,13 +46,11 @@ module _ (t : Tables) (tables : AreTables t) (h : Homes) (homes : HomesStand t h
         (subst (λ o. Contains (option_to_list o) j) (sym (part_there (14 + k) found.0 refl found.2)) (0, omega arith, refl))))
 
     of_function : (f : FunctionShape) (id : Option Text) (g : PlannedFunction) → FunctionBecomes t kept p f id g → IsPartOfFunction f (14 + k) → has (function_numbers g) j ≡ true
-    of_function f id g is part = contains-has (function_numbers g) j (Contains-append_left (filter_map part_number (function_parts g)) (option_to_list (resource_of g.kind)) j
-        (has-contains (filter_map part_number (function_parts g)) j (numbers_have (shape_parts f) (function_parts g) (function_zip t kept p f id g is) (by part))))
+    of_function f id g is part = contains-has _ j (Contains-append_left _ _ j (has-contains _ j (numbers_have (shape_parts f) (function_parts g) (function_zip t kept p f id g is) (by part))))
       where
         by : IsPartOfFunction f (14 + k) → Contains (shape_parts f) (14 + k)
         by (a_parameter name c) = Contains-append_left (map (λ (x : Text × ℕ). x.1) f.params) (option_to_list f.result) (14 + k) (contains-map (λ (x : Text × ℕ). x.1) f.params (name, 14 + k) c)
-        by (a_result e) =
-            Contains-append_right (map (λ (x : Text × ℕ). x.1) f.params) (option_to_list f.result) (14 + k) (subst (λ o. Contains (option_to_list o) (14 + k)) (sym e) (0, omega arith, refl))
+        by (a_result e) = Contains-append_right _ _ _ (subst (λ o. Contains (option_to_list o) (14 + k)) (sym e) (0, omega arith, refl))
 
     abbrev in_types : Bool
     in_types = list_any (λ x. has (kind_numbers x.kind) j) p.types
@@ -69,12 +64,8 @@ module _ (t : Tables) (tables : AreTables t) (h : Homes) (homes : HomesStand t h
     is_part_of : IsPartOfKept t h kept p b (14 + k) → is_part p j ≡ true
     is_part_of (of_type i x form olds news e kind z c) = ap (λ v. v || (in_interfaces || in_worlds))
         (contains_any (λ y. has (kind_numbers y.kind) j) p.types x (get-contains p.types i x e) (ap (λ y. has (kind_numbers y) j) kind ∙ numbers_have olds news z c))
-    is_part_of (of_interface m i f id g e c is part) = or_right in_types (in_interfaces || in_worlds)
-        (ap (λ v. v || in_worlds) (contains_any (λ i. list_any (λ f. has (function_numbers f) j) (functions_of i)) p.interfaces i (get-contains p.interfaces m i e)
-        (contains_any (λ f. has (function_numbers f) j) (functions_of i) g c (of_function f id g is part))))
-    is_part_of (of_world m w f id g e c is part) = or_right in_types (in_interfaces || in_worlds)
-        (or_right in_interfaces in_worlds (contains_any (λ w. list_any (λ f. has (function_numbers f) j) (world_functions w)) p.worlds w (get-contains p.worlds m w e)
-        (contains_any (λ f. has (function_numbers f) j) (world_functions w) g c (of_function f id g is part))))
+    is_part_of (of_interface m i f id g e c is part) = or_right _ _ (ap (λ v. v || in_worlds) (contains_any _ _ i (get-contains _ m i e) (contains_any _ _ g c (of_function f id g is part))))
+    is_part_of (of_world m w f id g e c is part) = or_right _ _ (or_right _ _ (contains_any _ _ w (get-contains _ m w e) (contains_any _ _ g c (of_function f id g is part))))
 
   module _ (reasons : IsKeptForReasons t h kept p b) where
     type_used : (j : ℕ) (x : PlannedType) → slice_get p.types j ≡ Some x → (is_some x.name || (is_part p j && is_none x.external_id)) ≡ true
@@ -116,14 +107,11 @@ module _ (t : Tables) (tables : AreTables t) (h : Homes) (homes : HomesStand t h
       let w = is.world in
       let r = read.order.worlds is.number w is.there in
       let all = r.imports ++ r.exports in
-      let items : map (λ (z : PlannedKey × PlannedItem). z.1) (map (λ (x : ReadItem). x.entry) all) ≡ items_of w =
-      ap (map (λ (z : PlannedKey × PlannedItem). z.1)) (append_of_map (λ (x : ReadItem). x.entry) r.imports r.exports ∙ (λ i. r.imports_listed i ++ r.exports_listed i))
-      ∙ append_of_map (λ (z : PlannedKey × PlannedItem). z.1) w.imports w.exports in
-      let item_is = all_at (IsReadItem t kept p b views (as_world is.number) r.scope.home) all
-      (all_both (IsReadItem t kept p b views (as_world is.number) r.scope.home) r.imports r.exports r.imports_read r.exports_read) is.item is.listed in
-      let there = contains-map (λ (z : PlannedKey × PlannedItem). z.1) (map (λ (x : ReadItem). x.entry) all) is.item.entry (contains-map (λ (x : ReadItem). x.entry) all is.item is.listed) in
-      contains-has (filter_map item_interface (items_of w)) n (contains-filter_map item_interface (items_of w) is.item.entry.1 n (subst (λ xs. Contains xs is.item.entry.1) items there)
-      (subst (λ o. Contains (option_to_list o) n) (sym (item_shows (as_world is.number) r.scope.home q n at is.item item_is is.shows)) (0, omega arith, refl)))
+      contains-has _ n (contains-filter_map item_interface (items_of w) is.item.entry.1 n
+      (subst (λ xs. Contains xs is.item.entry.1) (ap (map (λ (z : PlannedKey × PlannedItem). z.1)) (append_of_map _ _ _ ∙ (λ i. r.imports_listed i ++ r.exports_listed i)) ∙ append_of_map _ _ _)
+      (contains-map _ _ _ (contains-map _ _ _ is.listed))) (subst (λ o. Contains (option_to_list o) n)
+      (sym (item_shows (as_world is.number) r.scope.home q n at is.item (all_at _ _
+      (all_both (IsReadItem t kept p b views (as_world is.number) r.scope.home) r.imports r.exports r.imports_read r.exports_read) is.item is.listed) is.shows)) (0, omega arith, refl)))
 
   -- ---- interfaces that another uses
 
@@ -151,18 +139,12 @@ module _ (t : Tables) (tables : AreTables t) (h : Homes) (homes : HomesStand t h
     away : q ≡ by_view.0 → ⊥
 
   places_apart : (q : ℕ) (xs : List (ℕ × NumberedView)) → has (map (λ (i : ℕ × NumberedView). i.0) xs) q ≡ false → (x : ℕ × NumberedView) → Contains xs x → q ≡ x.0 → ⊥
-  places_apart q xs none x c e =
-      let there = contains-has (map (λ (i : ℕ × NumberedView). i.0) xs) x.0 (contains-map (λ (i : ℕ × NumberedView). i.0) xs x c) in
-      let wrong : true ≡ false = sym there ∙ (ap (has (map (λ (i : ℕ × NumberedView). i.0) xs)) (sym e) ∙ none) in
-      no_true (sym wrong)
+  places_apart q xs none x c e = no_true (sym (sym (contains-has _ _ (contains-map _ _ x c)) ∙ (ap (has (map (λ (i : ℕ × NumberedView). i.0) xs)) (sym e) ∙ none)))
 
   used_later : (exported : ℕ × NumberedView) (imports : List (ℕ × NumberedView)) (q : ℕ) → are_reached t imports exported.1 ≡ true → are_once (map (λ (i : ℕ × NumberedView). i.0) imports) ≡ true
       → has (map (λ (i : ℕ × NumberedView). i.0) imports) exported.0 ≡ false → has (map (λ (i : ℕ × NumberedView). i.0) imports) q ≡ true → IsUsedBy exported imports q
   used_later exported [] q reached apart away here = no_true here
-  used_later exported (i ∷ later) q reached apart away here = go (i.0 == q) refl
-      (λ f. used_later exported later q (second_true (has (flat_map (λ (l : ℕ × NumberedView). used_by_view t l.1) later ++ used_by_view t exported.1) i.0) (are_reached t later exported.1) reached)
-      (second_true (not (has (map (λ (l : ℕ × NumberedView). l.0) later) i.0)) (are_once (map (λ (l : ℕ × NumberedView). l.0) later)) apart)
-      (none_second (i.0 == exported.0) (has (map (λ (l : ℕ × NumberedView). l.0) later) exported.0) away) f)
+  used_later exported (i ∷ later) q reached apart away here = go (i.0 == q) refl (λ f. used_later exported later q (second_true _ _ reached) (second_true _ _ apart) (none_second _ _ away) f)
     where
       at : i.0 ≡ q → Contains (flat_map (λ (l : ℕ × NumberedView). used_by_view t l.1) later) q ⊎ Contains (used_by_view t exported.1) q → IsUsedBy exported (i ∷ later) q
       at same (inl c) =
@@ -175,12 +157,7 @@ module _ (t : Tables) (tables : AreTables t) (h : Homes) (homes : HomesStand t h
             uses = found.2;
             away = places_apart q later (ap (has (map (λ (l : ℕ × NumberedView). l.0) later)) (sym same) ∙ none) found.0 found.1;
           }
-      at same (inr c) = record {
-        by_view = exported;
-        among = (0, omega arith, refl);
-        uses = c;
-        away = λ e. let other = none_first (i.0 == exported.0) (has (map (λ (l : ℕ × NumberedView). l.0) later) exported.0) away in never (i.0 == exported.0) (eq-eqb i.0 exported.0 (same ∙ e)) other;
-      }
+      at same (inr c) = record { by_view = exported; among = (0, omega arith, refl); uses = c; away = λ e. let other = none_first _ _ away in never _ (eq-eqb _ _ (same ∙ e)) other }
 
       go : (v : Bool) → (i.0 == q) ≡ v → (has (map (λ (l : ℕ × NumberedView). l.0) later) q ≡ true → IsUsedBy exported later q) → IsUsedBy exported (i ∷ later) q
       go true e more =

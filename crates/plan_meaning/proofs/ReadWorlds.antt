@@ -44,8 +44,7 @@ module _ (t : Tables) (tables : AreTables t) (kept : List ℕ) (p : Plan) (are :
   named_there : (q m : ℕ) → HasPath t q → b.owners q ≡ as_interface m → (i : PlannedInterface) → interface_in p m ≡ Some i → has_name p m ≡ true
   named_there q m path is i standing =
       let named = owned.outside q path (of_interface m i is standing) in
-      let one : m ≡ named.id.0 = same-some m named.id.0 (ap owner_interface (sym is ∙ named.is)) in
-      ap (has_name p) one ∙ named.named
+      ap (has_name p) (same-some m named.id.0 (ap owner_interface (sym is ∙ named.is))) ∙ named.named
 
   module _ (m home : ℕ) (owned_home : b.owners home ≡ as_world m) where
     abbrev Item : ReadItem → Type 0
@@ -62,13 +61,11 @@ module _ (t : Tables) (tables : AreTables t) (kept : List ℕ) (p : Plan) (are :
     type_there key count d id n is =
         let x = is.becomes.type_ in
         let from = are.each n x is.becomes.stands in
-        let number : from.0 ≡ is.number = same-some from.0 is.number (sym from.1 ∙ is.stands) in
-        let kept_type : IsKeptType t kept p is.number x = subst (λ k. IsKeptType t kept p k x) number from.2 in
+        let kept_type : IsKeptType t kept p is.number x = subst (λ k. IsKeptType t kept p k x) (same-some _ _ (sym from.1 ∙ is.stands)) from.2 in
         let owner_is = owned.owned n is.number x home key is.becomes.stands is.stands is.shape ∙ owned_home in (
           labelled is.number x is.shape kept_type,
           ap (λ o. option_map_or (λ (y : PlannedType). bears key y.name && same_owner y.owner (as_world m)) o false) is.becomes.stands
-              ∙ both (bears key x.name) (same_owner x.owner (as_world m)) (bears_name t kept p are home is.number key x is.shape kept_type)
-              (ap (λ o. same_owner o (as_world m)) owner_is ∙ owner_itself (as_world m)),
+              ∙ both _ _ (bears_name t kept p are home is.number key x is.shape kept_type) (ap (λ o. same_owner o (as_world m)) owner_is ∙ owner_itself (as_world m)),
         )
       where
         labelled : (k : ℕ) (x : PlannedType) → slice_get t.shapes k ≡ Some (named_shape home key) → IsKeptType t kept p k x → is_label key ≡ true
@@ -104,9 +101,7 @@ module _ (t : Tables) (tables : AreTables t) (kept : List ℕ) (p : Plan) (are :
     all_exports [] a h k = refl
     all_exports (x ∷ xs) a h k =
         let rest = map (λ (y : ReadItem). y.seen) xs in
-        both (export_stands p x.entry) (list_all (export_stands p) (map (λ (y : ReadItem). y.entry) xs))
-        (exports_itself x a.0 (first_true (obeys_alone x.seen) (list_all obeys_alone rest) h) (first_true (no_type x.seen) (list_all no_type rest) k))
-        (all_exports xs a.1 (second_true (obeys_alone x.seen) (list_all obeys_alone rest) h) (second_true (no_type x.seen) (list_all no_type rest) k))
+        both _ _ (exports_itself x a.0 (first_true _ _ h) (first_true _ _ k)) (all_exports xs a.1 (second_true _ _ h) (second_true _ _ k))
 
     -- ---- keys
 
@@ -133,8 +128,7 @@ module _ (t : Tables) (tables : AreTables t) (kept : List ℕ) (p : Plan) (are :
         → list_any (λ (other : PlannedKey × PlannedItem). same_key x.entry.0 other.0) (map (λ (y : ReadItem). y.entry) ys) ≡ false
     no_other_key x is [] a h = refl
     no_other_key x is (y ∷ ys) a h = neither (same_key x.entry.0 y.entry.0) (list_any (λ (other : PlannedKey × PlannedItem). same_key x.entry.0 other.0) (map (λ (z : ReadItem). z.entry) ys))
-        (differs (same_key x.entry.0 y.entry.0) refl) (no_other_key x is ys a.1
-        (none_second (text_eq x.seen.key y.seen.key) (list_any (text_eq x.seen.key) (map (λ (s : NumberedSeen). s.key) (map (λ (z : ReadItem). z.seen) ys))) h))
+        (differs (same_key x.entry.0 y.entry.0) refl) (no_other_key x is ys a.1 (none_second _ _ h))
       where
         differs : (v : Bool) → same_key x.entry.0 y.entry.0 ≡ v → same_key x.entry.0 y.entry.0 ≡ false
         differs false e = e
@@ -145,9 +139,7 @@ module _ (t : Tables) (tables : AreTables t) (kept : List ℕ) (p : Plan) (are :
     all_keys [] a h = refl
     all_keys (x ∷ xs) a h =
         let keys = map (λ (s : NumberedSeen). s.key) (map (λ (y : ReadItem). y.seen) xs) in
-        both (not (list_any (λ (other : PlannedKey × PlannedItem). same_key x.entry.0 other.0) (map (λ (y : ReadItem). y.entry) xs))) (keys_differ (map (λ (y : ReadItem). y.entry) xs))
-        (ap not (no_other_key x a.0 xs a.1 (not_true (list_any (text_eq x.seen.key) keys) (first_true (not (list_any (text_eq x.seen.key) keys)) (distinct keys) h))))
-        (all_keys xs a.1 (second_true (not (list_any (text_eq x.seen.key) keys)) (distinct keys) h))
+        both _ _ (ap not (no_other_key x a.0 xs a.1 (not_true _ (first_true _ _ h)))) (all_keys xs a.1 (second_true _ _ h))
 
     -- ---- types
 
@@ -191,10 +183,8 @@ module _ (t : Tables) (tables : AreTables t) (kept : List ℕ) (p : Plan) (are :
         by (by_label q j v id shown good entry is) later rest = subst (λ (e : PlannedKey × PlannedItem). Rise xs e.1) (sym entry) rest
         by (implementing_path q j v id path shown good entry is) later rest = subst (λ (e : PlannedKey × PlannedItem). Rise xs e.1) (sym entry) rest
         by (a_function f g shown entry is) later rest = subst (λ (e : PlannedKey × PlannedItem). Rise xs e.1) (sym entry) rest
-        by (a_type d n shown entry is) later rest =
-            let last = is.last in
-            subst (λ (e : PlannedKey × PlannedItem). Rise xs e.1) (sym entry)
-            (both (list_all (nat_lt n) (types_in xs)) (are_rising (types_in xs)) (later_types n is.number x.count is.stands (omega (arith, last)) xs a.1 later) rest)
+        by (a_type d n shown entry is) later rest = subst (λ (e : PlannedKey × PlannedItem). Rise xs e.1) (sym entry)
+            (both (list_all (nat_lt n) (types_in xs)) (are_rising (types_in xs)) (later_types n is.number x.count is.stands (omega (arith, is.last)) xs a.1 later) rest)
 
   -- ---- the rules on worlds
 
@@ -222,14 +212,12 @@ module _ (t : Tables) (tables : AreTables t) (kept : List ℕ) (p : Plan) (are :
 
     all_export : list_all (export_stands p) w.exports ≡ true
     all_export = ap (list_all (export_stands p)) (sym is.exports_listed) ∙ all_exports m is.scope.home is.owned is.exports is.exports_read
-        (ap (list_all (λ (s : NumberedSeen). is_item t b.known is.scope.home [] s.key s.shown)) is.exports_seen
-        ∙ (second_true imported exported (first_true (imported && exported) import_keys (first_true ((imported && exported) && import_keys) export_keys front))))
+        (ap (list_all (λ (s : NumberedSeen). is_item t b.known is.scope.home [] s.key s.shown)) is.exports_seen ∙ (second_true _ _ (first_true _ _ (first_true _ _ front))))
         (ap (list_all (λ (s : NumberedSeen). not (is_type_seen s.shown))) is.exports_seen ∙ is.no_types)
 
     pub import_keys_differ : keys_differ w.imports ≡ true
     import_keys_differ = ap keys_differ (sym is.imports_listed) ∙ all_keys m is.scope.home is.owned is.imports is.imports_read
-        (ap (λ ss. distinct (map (λ (s : NumberedSeen). s.key) ss)) is.imports_seen
-        ∙ (second_true (imported && exported) import_keys (first_true ((imported && exported) && import_keys) export_keys front)))
+        (ap (λ ss. distinct (map (λ (s : NumberedSeen). s.key) ss)) is.imports_seen ∙ (second_true _ _ (first_true _ _ front)))
 
     export_keys_differ : keys_differ w.exports ≡ true
     export_keys_differ = ap keys_differ (sym is.exports_listed) ∙ all_keys m is.scope.home is.owned is.exports is.exports_read
@@ -240,10 +228,8 @@ module _ (t : Tables) (tables : AreTables t) (kept : List ℕ) (p : Plan) (are :
 
 pub read_worlds_pass : ReadWorldsPass
 read_worlds_pass t tables kept p are b owned views read = record {
-  imports_stand = each_by_number (λ n w. list_all (import_stands p n) w.imports) p.worlds (λ m w e. all_import t tables kept p are b owned views m w (read m w e));
-  exports_stand = all_by_number (λ w. list_all (export_stands p) w.exports) p.worlds (λ m w e. all_export t tables kept p are b owned views m w (read m w e));
-  keys_differ = all_by_number (λ w. keys_differ w.imports && keys_differ w.exports) p.worlds
-      (λ m w e. both (keys_differ w.imports) (keys_differ w.exports) (import_keys_differ t tables kept p are b owned views m w (read m w e))
-      (export_keys_differ t tables kept p are b owned views m w (read m w e)));
-  world_types_rise = all_by_number (λ w. are_rising (world_types w)) p.worlds (λ m w e. types_rise t tables kept p are b owned views m w (read m w e));
+  imports_stand = each_by_number _ _ (λ m w e. all_import t tables kept p are b owned views m w (read m w e));
+  exports_stand = all_by_number _ _ (λ m w e. all_export t tables kept p are b owned views m w (read m w e));
+  keys_differ = all_by_number _ _ (λ m w e. both _ _ (import_keys_differ t tables kept p are b owned views m w (read m w e)) (export_keys_differ t tables kept p are b owned views m w (read m w e)));
+  world_types_rise = all_by_number _ _ (λ m w e. types_rise t tables kept p are b owned views m w (read m w e));
 }

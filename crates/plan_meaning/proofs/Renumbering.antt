@@ -49,10 +49,9 @@ module _ (place : ℕ → Place) (shapes : List Shape) (kept : List ℕ) (p : Pl
   number_kept j n small low stands =
       let found = slice_there p.types j low in
       let from = are.types j found.0 found.1 in
-      let same : from.0 ≡ n = same-some from.0 n (sym from.2 ∙ stands) in
       let numbers = each_at (λ i t. list_all (λ k. nat_lt k i) (kind_numbers t.kind)) p.types j found.0 falls found.1 in
       ap (λ o. unwrap_or o no_tree) (planned_tree j found.0 found.1) ∙ ((search (std_rules, name_tree, parts_kept, node_tree))
-      ∙ (sym (ap (λ o. unwrap_or o no_tree) (tree_at_number place shapes table from.0 from.1 from.3)) ∙ ap (tree_of_number old_trees) same))
+      ∙ (sym (ap (λ o. unwrap_or o no_tree) (tree_at_number place shapes table from.0 from.1 from.3)) ∙ ap (tree_of_number old_trees) (same-some from.0 n (sym from.2 ∙ stands))))
 
   numbers_kept : (fuel j n : ℕ) → j < fuel → j < length p.types → slice_get kept j ≡ Some n → tree_of_number (trees_in p) j ≡ tree_of_number old_trees n
   numbers_kept zero j n h low stands = absurd (omega (arith, h))

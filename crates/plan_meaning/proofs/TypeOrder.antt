@@ -102,13 +102,11 @@ module _ (r : Resolve) (m : ℕ) (is : IsPlan (plan_of r m)) where
 
   pub order_of_types_kept : Keeps order_of_types r
   unfolding order_of_types
-  order_of_types_kept = keeps_three order_of_types r refl
-      (each_by_number (λ n i. order_of_types.interface_ r n i) r.interfaces.items (λ n i e. interface_passes n i
-      (each_there planned_interface (λ n i. list_all (planned.is_type_of (plan_of r m) (as_interface n)) i.types) r.interfaces.items is.interface_types n i e)
+  order_of_types_kept = keeps_three order_of_types r refl (each_by_number _ _
+      (λ n i e. interface_passes n i (each_there planned_interface (λ n i. list_all (planned.is_type_of (plan_of r m) (as_interface n)) i.types) r.interfaces.items is.interface_types n i e)
       (all_there planned_interface (λ i. are_rising (numbers_of i.types)) r.interfaces.items is.types_rise n i e)))
-      (each_by_number (λ n w. order_of_types.world_ r n w) r.worlds.items (λ n w e. world_passes n w
-      (each_there planned_world (λ n w. list_all (planned.import_stands (plan_of r m) n) w.imports) r.worlds.items is.imports_stand n w e)
+      (each_by_number _ _ (λ n w e. world_passes n w (each_there planned_world (λ n w. list_all (planned.import_stands (plan_of r m) n) w.imports) r.worlds.items is.imports_stand n w e)
       (all_there planned_world (λ w. are_rising (plan.world_types w)) r.worlds.items is.world_types_rise n w e)))
-      (each_by_number (λ n def. order_of_types.type_ r n def) r.types.items (λ n def e. both _ _
-      (ap (list_all (λ j. nat_lt j n)) (sym (kind_numbers_are def.kind)) ∙ each_there planned_type (λ n t. list_all (λ j. nat_lt j n) (plan.kind_numbers t.kind)) r.types.items is.types_fall n def e)
+      (each_by_number _ _ (λ n def e. both _ _ (ap (list_all (λ j. nat_lt j n)) (sym (kind_numbers_are def.kind))
+      ∙ each_there planned_type (λ n t. list_all (λ j. nat_lt j n) (plan.kind_numbers t.kind)) r.types.items is.types_fall n def e)
       (listed_by n def.name def.owner (each_there planned_type (planned.is_listed (plan_of r m)) r.types.items is.types_listed n def e))))

@@ -43,8 +43,7 @@ module _ (t : Tables) (tables : AreTables t) (kept : List ℕ) (p : Plan) (are :
       → DeclaresKind t kept p d x.kind → d ≡ Some old → numbered.is_form t old ≡ false → Becomes t kept p old new → old ≡ 14 + m → slice_get kept i ≡ Some m → new ≡ 14 + i
       → UsedBy q d (option_and_then (λ (u : PlannedType). owner_interface u.owner) (type_in p i))
   name_used n k q name x there at shape d old new i m kind is no_form becomes from stands to =
-      let range = becomes.range in
-      let found = kept_at t kept p are i m (omega (arith, range, to)) stands in
+      let found = kept_at t kept p are i m (omega (arith, becomes.range, to)) stands in
       by found.0 found.1 found.2
     where
       place : {r : ℕ} {label : Text} → option_and_then (λ (u : PlannedType). owner_interface u.owner) (type_in p i) ≡ owner_interface (b.owners r) → slice_get t.shapes m ≡ Some (named_shape r label)
@@ -54,13 +53,10 @@ module _ (t : Tables) (tables : AreTables t) (kept : List ℕ) (p : Plan) (are :
 
       by : (y : PlannedType) → slice_get p.types i ≡ Some y → IsKeptType t kept p m y → UsedBy q d (option_and_then (λ (u : PlannedType). owner_interface u.owner) (type_in p i))
       by y e (unnamed place form olds news form_there z none unowned kind_y part low) =
-          let form_is : numbered.is_form t old ≡ true = ap (λ o. option_map_or (λ (s : Shape). not (s.sort == 0)) o false) (shape_there t old m (node_shape form olds) from form_there) ∙ ap not
-          (no_name form) in
-          no_true (sym no_form ∙ form_is)
+          no_true (sym no_form ∙ (ap (λ o. option_map_or (λ (s : Shape). not (s.sort == 0)) o false) (shape_there t old m (node_shape form olds) from form_there) ∙ ap not (no_name form)))
       by y e (declared r label c name_there called home kind_y before good obeys) =
-          let owner_is : option_and_then (λ (u : PlannedType). owner_interface u.owner) (type_in p i) ≡ owner_interface (b.owners r) =
-          ap (option_and_then (λ (u : PlannedType). owner_interface u.owner)) e ∙ ap owner_interface (owned.owned i m y r label e stands name_there) in
-          place owner_is name_there (owned.used n k x q name m r label there at shape (subst (λ o. DeclaresKind t kept p o x.kind) (is ∙ ap Some from) kind) name_there)
+          place (ap (option_and_then (λ (u : PlannedType). owner_interface u.owner)) e ∙ ap owner_interface (owned.owned i m y r label e stands name_there)) name_there
+          (owned.used n k x q name m r label there at shape (subst (λ o. DeclaresKind t kept p o x.kind) (is ∙ ap Some from) kind) name_there)
 
   pub type_uses : (n k q : ℕ) (name : Text) (d : Option ℕ) (id : Option Text) → slice_get kept n ≡ Some k → slice_get t.shapes k ≡ Some (named_shape q name) → TypeBecomes t kept p d id n
       → UsedBy q d (interface_used_by p n)
@@ -94,8 +90,7 @@ module _ (t : Tables) (tables : AreTables t) (kept : List ℕ) (p : Plan) (are :
         let typed = zip_at (TypeListed t kept p) is.read.view.types i.types is.types found.0 entry.0 entry.1 in
         let number = zip_at (IsKeptAs kept p) is.read.numbers i.types is.read.kept_there found.0 entry.0 entry.1 in
         let shape = zip_at (IsNumberOf t is.read.place) is.read.view.types is.read.numbers is.read.shapes found.0 number.0 number.1 in
-        let used : interface_used_by p entry.0.1 ≡ Some u = ap (interface_used_by p) entry.2 ∙ found.3 in
-        by typed.0 (get-contains is.read.view.types found.0 typed.0 typed.1) used
+        by typed.0 (get-contains is.read.view.types found.0 typed.0 typed.1) (ap (interface_used_by p) entry.2 ∙ found.3)
         (type_uses entry.0.1 number.0 is.read.place shape.0.name typed.0.declared typed.0.external_id number.2.0 shape.2 typed.2.1)
       where
         by : (x : NumberedType) → Contains is.read.view.types x → {o : Option ℕ} → o ≡ Some u → UsedBy is.read.place x.declared o

@@ -37,7 +37,5 @@ module _ (r : Resolve) (m : ℕ) (is : IsPlan (plan_of r m)) where
   pub world_items_kept : Keeps world_items r
   unfolding world_items
   world_items_kept = worlds_keep (λ r n w. list_all (λ e. rules.import_stands r n e.0 e.1) w.imports.entries && list_all (λ e. rules.export_stands r e.0 e.1) w.exports.entries) r
-      (each_by_number (λ n w. list_all (λ e. rules.import_stands r n e.0 e.1) w.imports.entries && list_all (λ e. rules.export_stands r e.0 e.1) w.exports.entries) r.worlds.items
-      (λ n w at. both _ _ (all_weaker (λ e. planned.import_stands (plan_of r m) n (planned_key e.0, planned_item e.1)) (λ e. rules.import_stands r n e.0 e.1) (λ e k. import_passes n e.0 e.1 k)
-      w.imports.entries (imports_there r m is n w at)) (all_weaker (λ e. planned.export_stands (plan_of r m) (planned_key e.0, planned_item e.1)) (λ e. rules.export_stands r e.0 e.1)
-      (λ e k. (search (std_rules, key_stands, second_true, no_true))) w.exports.entries (exports_there r m is n w at))))
+      (each_by_number _ _ (λ n w at. both _ _ (all_weaker _ _ (λ e k. import_passes n e.0 e.1 k) w.imports.entries (imports_there r m is n w at))
+      (all_weaker _ _ (λ e k. (search (std_rules, key_stands, second_true, no_true))) w.exports.entries (exports_there r m is n w at))))
