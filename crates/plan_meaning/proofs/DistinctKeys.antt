@@ -3,8 +3,8 @@ use Rattle.std.proofs.Common.{rules as std_rules, ◌≡◌, sym, ◌∙◌, ℕ
 use Rattle.std.specs.{Prelude.string_eq, List.list_any, List.IsDistinct, List.AllByRecursion, Map.keys_of}
 use Rattle.std.specs.declared.alloc.Global.{Global}
 use Rattle.indexmap.specs.IndexMap.{IsUnique}
-use Rattle.wit_model.specs.declared.model.{Resolve.Resolve, Package.Package, Interface.Interface, World.World, WorldKey.WorldKey, WorldItem.WorldItem}
-use Rattle.wit_model.specs.{Text.Text, Text.text_of, Text.text_eq, Text.optional_text, Names.is_label, Lookup.package_at, Lookup.interface_at, Lookup.world_at}
+use Rattle.wit_model.specs.declared.model.{Resolve.Resolve, Package.Package, Interface.Interface, WorldKey.WorldKey, WorldItem.WorldItem}
+use Rattle.wit_model.specs.{Text.Text, Text.text_of, Text.text_eq, Text.optional_text, Names.is_label, Lookup.package_at, Lookup.interface_at}
 use Rattle.wit_model.specs.{Rules.passes, Rules.are_distinct, Valid.HasDistinctKeys, Valid.key_eq}
 use Rattle.plan_meaning.specs.PlanRules.{IsPlan, names_of, members_differ, same_key, keys_differ}
 use Rattle.plan_meaning.specs.Built.{planned_function, planned_package, planned_interface, planned_key, planned_entries}
@@ -41,7 +41,7 @@ other_keys : (k : WorldKey) (es : List (WorldKey × WorldItem)) → not (list_an
 other_keys k [] h = tt
 other_keys k (e ∷ es) h =
     let split = none_same (same_key (planned_key k) (planned_key e.0)) (list_any (λ other. same_key (planned_key k) other.0) (planned_entries es)) h in
-    (sym ((search std_rules)) ∙ split.0, other_keys k es split.1)
+    (sym (search std_rules) ∙ split.0, other_keys k es split.1)
 
 keys_distinct : (es : List (WorldKey × WorldItem)) → keys_differ (planned_entries es) ≡ true → IsDistinct key_eq (keys_of es)
 unfolding IsDistinct

@@ -68,7 +68,7 @@ module _ (r : Resolve) (m : ℕ) where
   resource_name_is o = search (std_rules, then_there, resource_itself)
 
   pub belongs : (o : TypeOwner) (f : Function) → planned.is_member (plan_of r m) o (planned_function f) ≡ true → rules.is_member r o f ≡ true
-  belongs o f h = sym ((search (std_rules, plan_of, resource_name_is, same_or, member_of_is))) ∙ h
+  belongs o f h = sym (search (std_rules, plan_of, resource_name_is, same_or, member_of_is)) ∙ h
 
   -- ---- keys
 
@@ -84,7 +84,7 @@ module _ (r : Resolve) (m : ℕ) where
         let members = entries_pass (rules.is_member r (as_world n)) w (world_holds r m (planned.is_member (plan_of r m)) (rules.is_member r) belongs is.functions_belong n w at) in
         list_all-append (is_right n) w.imports.entries w.exports.entries ∙ both _ _
         (all_two (λ e. planned.import_stands (plan_of r m) n (planned_key e.0, planned_item e.1)) (λ e. passes (rules.is_member r (as_world n)) (item_function e.1)) (is_right n)
-        (λ e a b. passes_both (λ f. is_name_key (text_of f.name) e.0) (rules.is_member r (as_world n)) _ (λ f x y. both _ _ x y) (item_function e.1) ((search std_rules)) b) w.imports.entries
+        (λ e a b. passes_both (λ f. is_name_key (text_of f.name) e.0) (rules.is_member r (as_world n)) _ (λ f x y. both _ _ x y) (item_function e.1) (search std_rules) b) w.imports.entries
         (imports_there r m is n w at) members.0) (all_two (λ e. planned.export_stands (plan_of r m) (planned_key e.0, planned_item e.1))
         (λ e. passes (rules.is_member r (as_world n)) (item_function e.1)) (is_right n)
         (λ e a b. passes_both (λ f. is_name_key (text_of f.name) e.0) (rules.is_member r (as_world n)) _ (λ f x y. both _ _ x y) (item_function e.1) (export_key e.0 e.1 a) b) w.exports.entries

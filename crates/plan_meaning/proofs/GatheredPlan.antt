@@ -2,7 +2,7 @@
 use Rattle.std.proofs.Common.{rules as std_rules, ◌≡◌, refl, sym, ap, subst, ◌∙◌, ℕ, ◌+◌, arith, Bool, true, false, not, ◌&&◌, ◌==◌, cond, List, [], ◌∷◌, ◌++◌, map, filter_map, Option, Some, None, option_map, slice_get, rules}
 use Rattle.std.proofs.lemmas.List.Elements.{Contains-append_right}
 use Rattle.std.specs.{Prelude.option_and_then, Option.option_map_or, FinMap.from_entries}
-use Rattle.std.specs.List.{AllByRecursion, AllZip, Contains, filter, flat_map, list_any}
+use Rattle.std.specs.List.{AllByRecursion, AllZip, Contains, filter, flat_map}
 use Rattle.wit_model.specs.Text.{Text, TextMap, text_eq}
 use Rattle.wit_model.specs.{Tree.Form, Tree.Tree, Tree.Declaration, Tree.children, Meant.no_type, Meant.no_interface, Meant.no_world}
 use Rattle.wit_model.specs.{Meaning.FunctionMeaning, Meaning.TypeMeaning, Meaning.InterfaceMeaning, Meaning.WorldMeaning, Meaning.Item}
@@ -14,7 +14,7 @@ use Rattle.plan_meaning.specs.Plan.{Plan, PlannedKind, PlannedFunction, PlannedI
 use Rattle.plan_meaning.specs.PlanMeaning.{type_meaning_in, function_meaning, interface_meaning_in, world_meaning_in, foreign_entry, shown_entry, plan_meaning, plan_world_meaning}
 use Rattle.plan_meaning.specs.NumberedViews.{FunctionShape, Tables, path_text, place_at, tree_at, signature_over, function_at, AreTables, NumberedType, NumberedFunction, NumberedView, view_of, declaration_of, shown_type, shown_function, NumberedSight, sight_of, IsSight, agree_in_numbers}
 use Rattle.plan_meaning.specs.NumberedWorlds.{path, label, implementing, NumberedShown, instance, function, declares, NumberedSeen, shown_of, seen_of, NumberedScope, Shows, sights_of_scope, HasPath}
-use Rattle.plan_meaning.specs.NumberedMembers.{Homes, HomesStand, is_of_package, NumberedPart, world, interface, NumberedMember, sights_of_members, sights_of_part, ShowsPart, IsMember, are_interfaces, are_package, is_named_in, package_shown, world_shown, IsKnownSight}
+use Rattle.plan_meaning.specs.NumberedMembers.{Homes, HomesStand, is_of_package, NumberedPart, world, interface, NumberedMember, sights_of_members, sights_of_part, ShowsPart, IsMember, are_interfaces, are_package, package_shown, world_shown, IsKnownSight}
 use Rattle.plan_meaning.specs.GatheredPlan.{functions_seen, interfaces_listed, worlds_listed, Becomes, BecomesIfGiven, DeclaresKind, a_resource, a_name, a_form, TypeBecomes, TypeListed, ParamBecomes, FunctionBecomes, FunctionListed, InterfaceBecomes, InterfaceAt, ItemBecomes, SeenBecomes, WorldBecomes, SightBecomes, Keeps, InterfacesListed, WorldsListed, under_path, foreign_interface, AreChosen, is_foreign, IsGathered, GatheredPackageIsMeant, GatheredWorldIsMeant}
 use Rattle.plan_meaning.proofs.{Gathering.functions_mean_one, Gathering.one_view_is_enough, NumberedWorlds.path_number, NumberedWorlds.sights_in_numbers}
 use Rattle.plan_meaning.proofs.NumberedMembers.{only_sights, of_package, all_sights, agree_same, interfaces_same, packages_in_numbers, one_world_in_numbers}
@@ -161,9 +161,12 @@ module _ (t : Tables) (tables : AreTables t) (kept : List ℕ) (p : Plan) (keeps
           by (interface q v imports) (Part.interface view views) is own [] listed more = absurd listed
           by (interface q v imports) (Part.interface view views) is own (e ∷ es) listed more =
               let s : NumberedSight = record { place = q; view = v; whole = true } in
-              λ i. ((listed.0.name ∙ sym z.0.label) i, (whole_kept seen sights agrees obey s
-              (own s (Contains-append_right (map (λ (i : ℕ × NumberedView). record { place = i.0; view = i.1; whole = false }) imports) (s ∷ []) s (contains-one s))) refl e.1 listed.0.there
-              ∙ ap (λ (y : View). reads.interface_meaning y y.functions) (sym is.shown)) i) ∷ more es listed.1 i
+              λ i. (
+                (listed.0.name ∙ sym z.0.label) i,
+                (whole_kept seen sights agrees obey s
+                    (own s (Contains-append_right (map (λ (i : ℕ × NumberedView). record { place = i.0; view = i.1; whole = false }) imports) (s ∷ []) s (contains-one s))) refl e.1 listed.0.there
+                    ∙ ap (λ (y : View). reads.interface_meaning y y.functions) (sym is.shown)) i,
+              ) ∷ more es listed.1 i
           by _ _ is own es listed more = absurd is
       interfaces_kept _ among _ z es listed = absurd z
 
@@ -281,7 +284,7 @@ module _ (t : Tables) (tables : AreTables t) (h : Homes) (stand : HomesStand t h
 
   foreign_means : ◌≡◌ {A = TextMap InterfaceMeaning} (from_entries (filter_map (foreign_entry p) p.interfaces))
       (from_entries (map (seen_meaning (flat_map reads.sights members)) (filter is_other (flat_map reads.sights members))))
-  foreign_means = ap from_entries (filter_mapped (foreign_entry p) (foreign_interface p) (meant_entry p) ((λ x. search std_rules)) p.interfaces)
+  foreign_means = ap from_entries (filter_mapped (foreign_entry p) (foreign_interface p) (meant_entry p) (λ x. search std_rules) p.interfaces)
       ∙ (gathered t tables g.kept p g.keeps seen sights (is_foreign h n) (filter is_other (map (sight_of t) seen)) agree into back g.chosen g.chosen_are (filter_map (foreign_interface p) p.interfaces)
       g.foreign ∙ ap (λ ss. from_entries (map (seen_meaning ss) (filter is_other ss))) (sym (all_sights t tables h stand ms members z)))
 
@@ -318,7 +321,7 @@ gathered_world_is_meant t tables h stand known n name w scope shows all are p g 
 
     shown_means : ◌≡◌ {A = TextMap InterfaceMeaning} (from_entries (filter_map (shown_entry p) p.interfaces))
         (from_entries (map (seen_meaning (flat_map reads.of_instance scope.instances)) (flat_map reads.of_instance scope.instances)))
-    shown_means = ap from_entries (filter_mapped (shown_entry p) (under_path p) (meant_entry p) ((λ x. search std_rules)) p.interfaces)
+    shown_means = ap from_entries (filter_mapped (shown_entry p) (under_path p) (meant_entry p) (λ x. search std_rules) p.interfaces)
         ∙ (gathered t tables g.kept p g.keeps (sights_of_scope t w) sights (λ s. true) (map (sight_of t) (sights_of_scope t w)) agree
         (λ s c. let from = map_from (sight_of t) (sights_of_scope t w) s c in (from.0, from.1, refl, from.2)) (λ x c passes. contains-map (sight_of t) (sights_of_scope t w) x c) g.chosen g.chosen_are
         (filter_map (under_path p) p.interfaces) g.shown ∙ ap (λ ss. from_entries (map (seen_meaning ss) ss)) (sym (sights_in_numbers t w scope shows)))

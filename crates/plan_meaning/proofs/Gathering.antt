@@ -1,10 +1,10 @@
 -- One view of each path is enough.
-use Rattle.std.proofs.Common.{rules as std_rules, ◌≡◌, refl, sym, ap, subst, ◌∙◌, zero, suc, Bool, true, false, ◌&&◌, cond, List, [], ◌∷◌, ◌++◌, map, arith, rules}
+use Rattle.std.proofs.Common.{rules as std_rules, ◌≡◌, refl, sym, ap, subst, ◌∙◌, zero, suc, Bool, true, false, ◌&&◌, cond, List, [], ◌∷◌, map, arith, rules}
 use Rattle.std.proofs.lemmas.{Bool.and_from, Slice.Eq.bytes_eq-Decides}
 use Rattle.std.specs.{List.Contains, List.list_all, FinMap.from_entries}
-use Rattle.wit_model.specs.{Text.Text, Text.TextMap, Text.text_eq, Meaning.FunctionMeaning, Meaning.TypeMeaning, Meaning.InterfaceMeaning, Tree.Place}
+use Rattle.wit_model.specs.{Text.Text, Text.TextMap, Text.text_eq, Meaning.FunctionMeaning, Meaning.TypeMeaning, Meaning.InterfaceMeaning}
 use Rattle.wit_model.proofs.Maps.{one_map}
-use Rattle.comp_meaning.specs.{Follow.ShownType, Rules.distinct, Rules.is_interface, SameLaws.HaveDistinctNames, SameLaws.named_meaning}
+use Rattle.comp_meaning.specs.{Follow.ShownType, SameLaws.HaveDistinctNames, SameLaws.named_meaning}
 use Rattle.comp_meaning.specs.Reads.{Sight, same_functions, agree, all_agree, are_interfaces, functions_of, seen_meaning}
 use Rattle.comp_meaning.proofs.{FunctionLists.functions_make_one_map, SameLaws.shown_types_decide, AgreementLaws.distinct_behind}
 use Rattle.plan_meaning.specs.Gathering.{ViewsMeanOne, OneViewIsEnough}

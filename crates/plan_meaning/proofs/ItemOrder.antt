@@ -4,8 +4,7 @@ use Rattle.std.specs.List.{list_all}
 use Rattle.wit_model.specs.declared.model.{Resolve.Resolve, World.World, WorldItem.WorldItem}
 use Rattle.wit_model.specs.{Uses.has, Uses.items_of, Rules.each_after, Valid.Keeps, Valid.order_of_items, Valid.as_world}
 use Rattle.wit_model.proofs.{Entries.worlds_keep, RulesLemmas.after_of_map}
-use Rattle.plan_meaning.specs.{Plan.used_by_numbers, Built.planned_world, Built.planned_item}
-use Rattle.plan_meaning.specs.PlanRules.{IsPlan}
+use Rattle.plan_meaning.specs.{Plan.used_by_numbers, Built.planned_world, Built.planned_item, PlanRules.IsPlan}
 use Rattle.plan_meaning.proofs.{Lists.each_built, Lists.or_there, FunctionRules.items_are, WorldItems.item_interface_is, TypeOrder.item_types_are}
 use Rattle.plan_meaning.proofs.Words.{plan_of, function_numbers_are, has_owner_is, used_are, used_by_kind_is, interface_used_is, direct_uses_are}
 use Rattle.base_lemmas.proofs.Lists.{filter_of_map}

@@ -1,20 +1,18 @@
 -- What holds names of one place stays with the owner of that place.
 use Rattle.std.proofs.Common.{◌≡◌, inl, inr, refl, sym, ap, subst, ◌∙◌, ℕ, zero, suc, ◌+◌, ◌-◌, ◌<◌, arith, Bool, true, false, not, ◌&&◌, ◌||◌, ◌==◌, cond, List, [], ◌∷◌, ◌++◌, length, map, take, filter_map, Option, Some, None, is_some, slice_get, unwrap_or, rules as std_rules}
 use Rattle.std.proofs.lemmas.{Bool.eqb-true, Bool.eq-eqb, Bool.lt-ltb, Bool.or_right, Bool.and_from as both, List.Folds.list_all-append}
-use Rattle.std.specs.{Prelude.nat_le, List.AllZip, List.Contains, List.cons_option, List.flat_map, List.list_all, Option.option_map_or}
+use Rattle.std.specs.{List.AllZip, List.Contains, List.cons_option, List.flat_map, List.list_all, Option.option_map_or}
 use Rattle.wit_model.specs.declared.model.TypeOwner.{TypeOwner}
-use Rattle.wit_model.specs.Text.{Text}
-use Rattle.wit_model.specs.{Tree.Place, Tree.Form, Tree.Tree, Tree.children, Tree.deepest, Parts.met_by, Parts.same_owner}
-use Rattle.comp_meaning.specs.Rules.{are_labels, are_parts, form_labels, is_named_form, most_levels}
+use Rattle.wit_model.specs.{Text.Text, Tree.Place, Tree.Form, Tree.Tree, Tree.children, Parts.met_by, Parts.same_owner}
+use Rattle.comp_meaning.specs.Rules.{are_labels, are_parts, form_labels, is_named_form}
 use Rattle.comp_meaning.proofs.SameLaws.{places_decide}
-use Rattle.plan_meaning.specs.Shapes.{Shape, node_shape, named_shape}
+use Rattle.plan_meaning.specs.{Shapes.Shape, Shapes.node_shape, Shapes.named_shape, Renumbering.IsPart, Renumbering.a_primitive, Renumbering.a_shape}
 use Rattle.plan_meaning.specs.Plan.{Plan, PlannedType, PlannedFunction, kind_numbers, part_number, met_at, met_in, has_owner, function_parts}
 use Rattle.plan_meaning.specs.{PlanRules.function_stays, PlanRules.is_use, PlanRules.type_stays, NumberedRules.IsSeenFrom}
-use Rattle.plan_meaning.specs.Renumbering.{IsPart, a_primitive, a_shape}
 use Rattle.plan_meaning.specs.NumberedViews.{FunctionShape, Tables, place_at, tree_at, signature_over, declaration_of, AllOf, PartsOf, AreTables, itself, inside}
 use Rattle.plan_meaning.specs.GatheredPlan.{Becomes, DeclaresKind, a_resource, a_form, FunctionBecomes}
 use Rattle.plan_meaning.specs.KeptTypes.{IsKeptType, unnamed, declared, TypesAreKept}
-use Rattle.plan_meaning.specs.KeptOwners.{IsNamedInterface, AreOwned, OwnersStand, KeptOwnersStand, of_name}
+use Rattle.plan_meaning.specs.KeptOwners.{AreOwned, OwnersStand, KeptOwnersStand}
 use Rattle.plan_meaning.proofs.KeptParts.{shape_parts, all_parts, signature_parts, function_zip, numbers_pass, kept_at}
 use Rattle.plan_meaning.proofs.{GatheredPlan.form_tree, KeptTypes.form_obeys, KeptTypes.keeps, KeptTypes.parts_before, Lists.no_true, MetTypes.met_there}
 use Rattle.plan_meaning.proofs.{NumberedRules.no_name, NumberedRules.shape_there, ShapeLaws.name_tree, ShapeLaws.part_behind, ShapeLaws.tree_at_number}
@@ -143,7 +141,7 @@ module _ (t : Tables) (tables : AreTables t) (kept : List ℕ) (p : Plan) (are :
             own_numbers (ap (λ k. list_all (has_owner p (owners r)) (flat_map (met_by all_met) (kind_numbers k))) k ∙ met_number r all_met new i to own [] refl)
         by false none = elim (owned.used j n x r name m s other planned_there kept_there there kind at) [
           | inl same ↦ no_true (sym none ∙ eq-eqb s r same)
-          | inr path ↦ or_right _ _ (both _ _ (ap is_some named) ((search (std_rules, behind, both, owner_of, apart))))
+          | inr path ↦ or_right _ _ (both _ _ (ap is_some named) (search (std_rules, behind, both, owner_of, apart)))
         ]
 
     kind_fine : (d : Option ℕ) → rules.is_declared (place_at t r) (declaration_of t d) ≡ true → DeclaresKind t kept p d x.kind → IsFine x

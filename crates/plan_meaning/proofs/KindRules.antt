@@ -25,7 +25,7 @@ module _ (r : Resolve) (m : ℕ) (is : IsPlan (plan_of r m)) where
   pub shapes_kept : Keeps shapes r
   unfolding shapes
   shapes_kept = types_keep (λ r n def. rules.has_shape def.kind) r
-      (each_from_built planned_type (λ t. planned.has_shape t.kind) (λ def. rules.has_shape def.kind) (λ def h. sym ((search std_rules)) ∙ h) r.types.items is.types_shaped)
+      (each_from_built planned_type (λ t. planned.has_shape t.kind) (λ def. rules.has_shape def.kind) (λ def h. sym (search std_rules) ∙ h) r.types.items is.types_shaped)
 
   named_there : (o : Option TypeDef) → option_map_or (λ t. is_some t.name) (option_map planned_type o) false ≡ true → passes (λ def. is_some def.name) o ≡ true
   named_there x h = search std_rules

@@ -11,7 +11,7 @@ use Rattle.wit_model.specs.Rules.{passes, are_distinct, are_member_labels, is_st
 use Rattle.wit_model.specs.{Valid.Keeps, Valid.labels, Valid.functions_of_interface, Valid.functions_of_world, Valid.item_function, Lookup.world_at}
 use Rattle.wit_model.proofs.{Lists.list_all_filter_map, Checks.keeps_three, RulesLemmas.each_by_number}
 use Rattle.plan_meaning.specs.PlanRules.{IsPlan, names_of}
-use Rattle.plan_meaning.specs.Built.{planned_kind, planned_type, planned_function, planned_interface, planned_world, planned_key, planned_item, is_unknown, is_undocumented, is_bare, is_bare_type, is_bare_function, is_bare_interface, is_bare_item, is_bare_world, IsBare}
+use Rattle.plan_meaning.specs.Built.{planned_kind, planned_type, planned_function, planned_interface, planned_world, planned_key, planned_item, is_bare, is_bare_type, is_bare_function, is_bare_interface, is_bare_item, is_bare_world, IsBare}
 use Rattle.plan_meaning.proofs.{Lists.all_built, Lists.all_there, Words.plan_of}
 use Rattle.plan_meaning.proofs.FunctionRules.{interface_holds, world_holds, imports_there, exports_there}
 use Rattle.base_lemmas.proofs.{Bools.left_of as first_true, Bools.right_of as second_true, Elements.all_two, Elements.any_of_map, Elements.all_get}

@@ -2,8 +2,8 @@
 use Rattle.std.proofs.Common.{rules as std_rules, ◌≡◌, refl, sym, ap, subst, ◌∙◌, ℕ, zero, suc, ◌+◌, arith, Bool, true, false, not, ◌||◌, cond, List, [], ◌∷◌, ◌++◌, Some, option_and_then, slice_get}
 use Rattle.std.proofs.lemmas.{Bool.or_right, Bool.and_from as both, Bool.not-true as not_true, List.Folds.list_any-append, Option.same_Some as same-some}
 use Rattle.std.specs.{List.AllZip, List.Contains, List.list_any, Option.option_map_or, Map.lookup}
-use Rattle.wit_model.specs.{Text.Text, Text.text_eq, Rules.are_distinct, Rules.each_from, Rules.is_id, Rules.passes, Valid.as_interface, Valid.as_world}
-use Rattle.wit_model.specs.{Parts.same_owner, Names.is_label}
+use Rattle.wit_model.specs.{Text.Text, Text.text_eq, Rules.are_distinct, Rules.each_from, Rules.is_id, Valid.as_interface, Valid.as_world}
+use Rattle.wit_model.specs.{Parts.same_owner}
 use Rattle.wit_model.proofs.{RulesLemmas.each_by_number}
 use Rattle.plan_meaning.specs.{Shapes.Shape, Shapes.first_label, Shapes.named_shape, ReadInterfaces.IsNumberOf, ReadInterfaces.IsKeptAs, ReadInterfaces.HasName}
 use Rattle.plan_meaning.specs.Plan.{Plan, PlannedKey, PlannedItem, PlannedType, PlannedInterface, PlannedWorld, interface_in, world_in, number_under, item_type}
@@ -42,7 +42,7 @@ key_there name item (x ∷ es) d (suc i, low, e) =
   where
     go : (b : Bool) → is_under_label name x.0 ≡ b → Contains es (plan.label name, item) → list_any (λ (other : PlannedKey × PlannedItem). same_key x.0 other.0) es ≡ false
         → lookup (is_under_label name) es ≡ Some item → cond b (Some x.1) (lookup (is_under_label name) es) ≡ Some item
-    go true f later absent rest = never (list_any (λ (other : PlannedKey × PlannedItem). same_key x.0 other.0) es) (no_key x.0 name item ((search std_rules)) es later) absent
+    go true f later absent rest = never (list_any (λ (other : PlannedKey × PlannedItem). same_key x.0 other.0) es) (no_key x.0 name item (search std_rules) es later) absent
     go false f later absent rest = rest
 
 module _ (t : Tables) (tables : AreTables t) (kept : List ℕ) (p : Plan) (are : TypesAreKept t kept p) (b : Beside) (owned : AreOwned t kept p b.owners) (views : ℕ → NumberedView) (read : OrderIsRead t kept p b views) where
@@ -94,8 +94,10 @@ module _ (t : Tables) (tables : AreTables t) (kept : List ℕ) (p : Plan) (are :
           let shape_number : is.number ≡ k = omega (arith, is.last, last) in
           ap (λ o. option_map_or (λ (y : PlannedWorld). is_id j (option_and_then item_type (lookup (is_under_label name) y.imports))) o false) e
           ∙ (ap (λ o. is_id j (option_and_then item_type o)) (key_there name (plan.declares j) w.imports h
-          (subst (Contains w.imports) (entry ∙ (λ y. (plan.label ((same_name home q k x.seen.key name (ap (slice_get t.shapes) (sym shape_number) ∙ is.shape) there) y),
-          plan.declares ((are.once n j k (is.stands ∙ ap Some shape_number) at) y)))) (subst (λ es. Contains es x.entry) f d))) ∙ same-number j)
+          (subst (Contains w.imports) (entry ∙ (λ y. (
+            plan.label ((same_name home q k x.seen.key name (ap (slice_get t.shapes) (sym shape_number) ∙ is.shape) there) y),
+            plan.declares ((are.once n j k (is.stands ∙ ap Some shape_number) at) y),
+          ))) (subst (λ es. Contains es x.entry) f d))) ∙ same-number j)
 
   -- ---- each type
 

@@ -8,9 +8,8 @@ use Rattle.comp_meaning.specs.{Follow.View, Follow.each, Same.same_identity}
 use Rattle.comp_meaning.specs.Reads.{Part, Member, Sight, is_of, all_agree, is_interface_part}
 use Rattle.comp_meaning.proofs.SameLaws.{identities_decide}
 use Rattle.plan_meaning.specs.NumberedViews.{Tables, path_text, AreTables, NumberedView, NumberedSight, sight_of, IsSight, agree_in_numbers}
-use Rattle.plan_meaning.specs.NumberedRules.{Fact}
-use Rattle.plan_meaning.specs.NumberedWorlds.{path, NumberedSeen, seen_of, HasPath}
-use Rattle.plan_meaning.specs.NumberedMembers.{Homes, IsHomeOf, HomesStand, is_of_package, is_named_in, NumberedPart, world, interface, NumberedMember, sights_of_part, sights_of_members, ShowsInterface, ShowsPart, IsMember, shown_view, imported_view, exported_view, are_interfaces, is_interface_of, stands_at_top, IsKnownSight, ImportsInNumbers, ExportInNumbers, PackagesInNumbers, OneWorldInNumbers}
+use Rattle.plan_meaning.specs.{NumberedRules.Fact, NumberedWorlds.path, NumberedWorlds.NumberedSeen, NumberedWorlds.seen_of, NumberedWorlds.HasPath}
+use Rattle.plan_meaning.specs.NumberedMembers.{Homes, IsHomeOf, HomesStand, is_of_package, is_named_in, NumberedPart, world, interface, NumberedMember, sights_of_part, sights_of_members, ShowsInterface, ShowsPart, IsMember, shown_view, imported_view, are_interfaces, is_interface_of, stands_at_top, IsKnownSight, ImportsInNumbers, ExportInNumbers, PackagesInNumbers, OneWorldInNumbers}
 use Rattle.plan_meaning.proofs.{NumberedRules.interface_same, Lists.each_so, Lists.all_same}
 use Rattle.plan_meaning.proofs.{NumberedViews.all_agree_in_numbers, NumberedWorlds.path_is, NumberedWorlds.path_number, NumberedWorlds.sights_in_numbers}
 use Rattle.base_lemmas.proofs.{Bools.both_ways as either_way, Bools.left_of as first_true, Bools.right_of as second_true, Lists.append_of_map, Lists.map_of_map}

@@ -2,7 +2,7 @@
 use Rattle.std.proofs.Common.{◌≡◌, refl, sym, ap, ◌∙◌, ℕ, true, not, ◌&&◌, ◌||◌, ◌==◌, cond, List, [], ◌∷◌, ◌++◌, map, Option, Some, None, unwrap_or, rules as std_rules}
 use Rattle.std.proofs.lemmas.Bool.{eqb-true}
 use Rattle.std.specs.{Prelude.option_and_then, List.AllByRecursion, List.flat_map, List.list_all, List.list_any, Option.option_map_or}
-use Rattle.wit_model.specs.{Text.Text, Text.text_eq, Tree.Place, Tree.Tree, Tree.Declaration, Uses.has}
+use Rattle.wit_model.specs.{Text.Text, Text.text_eq, Tree.Place, Tree.Declaration, Uses.has}
 use Rattle.comp_meaning.specs.{Follow.View, Follow.Seen, Follow.interface_of, Follow.place_of, Rules.distinct}
 use Rattle.plan_meaning.specs.{Shapes.form_code, Shapes.first_label, NumberedRules.Fact, NumberedRules.name_in, NumberedRules.IsKnown}
 use Rattle.plan_meaning.specs.NumberedViews.{Tables, path_at, path_text, place_at, IsPart, AllOf, AreTables, NumberedType, NumberedView, view_of, declaration_of, shown_type, sight_of}
@@ -98,7 +98,7 @@ module _ (t : Tables) (tables : AreTables t) where
   earlier_same earlier [] he h = refl
   earlier_same earlier (s ∷ ss) he h =
       let here : list_all (λ x. list_any (text_eq x) (map (path_text t) earlier)) (rules.uses (seen_of t s)) ≡ list_all (has earlier) (uses_of t s.shown) =
-      ap (list_all (λ x. list_any (text_eq x) (map (path_text t) earlier))) ((search (std_rules, view_uses, others_same, view_paths, used_same)))
+      ap (list_all (λ x. list_any (text_eq x) (map (path_text t) earlier))) (search (std_rules, view_uses, others_same, view_paths, used_same))
       ∙ all_same (HasPath t) (λ x. list_any (text_eq x) (map (path_text t) earlier)) (path_text t) (has earlier) (λ q. has_path earlier q he) (uses_of t s.shown) (uses_paths s.shown) in
       let more : map (path_text t) earlier ++ rules.path_seen (shown_of t s.shown) ≡ map (path_text t) (earlier ++ path_seen s.shown) =
       ap (λ xs. map (path_text t) earlier ++ xs) (seen_same s.shown) ∙ sym (append_of_map (path_text t) earlier (path_seen s.shown)) in

@@ -63,17 +63,14 @@ module _ (r : Resolve) (m : ℕ) (is : IsPlan (plan_of r m)) where
 
   packages_range : each_from (λ n p. is_place n && (list_all (λ id. in_list r.interfaces.items id.0) (values p.interfaces) && list_all (λ id. in_list r.worlds.items id.0) (values p.worlds))) 0
       r.packages.items ≡ true
-  packages_range = each_by_number (λ n p. is_place n && (list_all (λ id. in_list r.interfaces.items id.0) (values p.interfaces) && list_all (λ id. in_list r.worlds.items id.0) (values p.worlds)))
-      r.packages.items (λ n p e. both _ _ (place_there planned_package r.packages.items is.packages_fit n p e)
+  packages_range = each_by_number _ _ (λ n p e. both _ _ (place_there planned_package r.packages.items is.packages_fit n p e)
       ((λ j. list_all-map (λ id. in_list r.interfaces.items id.0) (λ e. e.1) p.interfaces.entries j && list_all-map (λ id. in_list r.worlds.items id.0) (λ e. e.1) p.worlds.entries j)
       ∙ each_at (λ n p. list_all (λ e. in_list r.interfaces.items e.1.0) p.interfaces.entries && list_all (λ e. in_list r.worlds.items e.1.0) p.worlds.entries) r.packages.items n p
       (members_pass r m is (λ n e. in_list r.interfaces.items e.1.0) (λ n e. in_list r.worlds.items e.1.0) (λ n e h. (interface_listed r m is n e h).0) (λ n e h. (world_listed r m is n e h).0)) e))
 
   interfaces_range : each_from (λ n i. is_place n && (passes (in_list r.packages.items) (package_number i.package)
       && (list_all (λ id. in_list r.types.items id.0) (values i.types) && list_all (rules.function_in_range r) (values i.functions)))) 0 r.interfaces.items ≡ true
-  interfaces_range = each_by_number (λ n i. is_place n && (passes (in_list r.packages.items) (package_number i.package)
-      && (list_all (λ id. in_list r.types.items id.0) (values i.types) && list_all (rules.function_in_range r) (values i.functions)))) r.interfaces.items
-      (λ n i e. both _ _ (place_there planned_interface r.interfaces.items is.interfaces_fit n i e)
+  interfaces_range = each_by_number _ _ (λ n i e. both _ _ (place_there planned_interface r.interfaces.items is.interfaces_fit n i e)
       (both _ _ (interface_package (λ t k. is_id n (plan.number_under t k.interfaces)) _ i.name i.package
       (each_there planned_interface (planned.is_placed (plan_of r m)) r.interfaces.items is.interfaces_placed n i e))
       (both _ _ (list_all-map (λ id. in_list r.types.items id.0) (λ e. e.1) i.types.entries

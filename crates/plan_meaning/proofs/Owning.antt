@@ -1,9 +1,9 @@
 -- What is met from types and functions of an owner belongs to it.
-use Rattle.std.proofs.Common.{rules as std_rules, ◌≡◌, refl, sym, ap, ◌∙◌, ℕ, true, false, ◌&&◌, ◌||◌, not, nat_lt, nat_le, filter_map, Some, is_some}
+use Rattle.std.proofs.Common.{rules as std_rules, ◌≡◌, refl, sym, ap, ◌∙◌, ℕ, true, false, ◌&&◌, ◌||◌, not, nat_le, filter_map, is_some}
 use Rattle.std.proofs.lemmas.Bool.{and_from as both}
 use Rattle.std.specs.{List.list_all, Option.option_map_or}
-use Rattle.wit_model.specs.declared.model.{Resolve.Resolve, Interface.Interface, TypeDef.TypeDef, TypeOwner.TypeOwner, Function.Function}
-use Rattle.wit_model.specs.{Lookup.interface_at, Lookup.type_at, Uses.owner_interface, Uses.direct_deps, Valid.Keeps, Valid.owners}
+use Rattle.wit_model.specs.declared.model.{Resolve.Resolve, TypeDef.TypeDef, TypeOwner.TypeOwner, Function.Function}
+use Rattle.wit_model.specs.{Lookup.interface_at, Lookup.type_at, Uses.owner_interface, Valid.Keeps, Valid.owners}
 use Rattle.wit_model.specs.{Parts.same_owner, Types.number_of}
 use Rattle.wit_model.proofs.{Lists.list_all_filter_map, Owners.used_within, Checks.keeps_three, RulesLemmas.each_by_number}
 use Rattle.plan_meaning.specs.{Plan.type_in, PlanRules.IsPlan, Built.planned_type, Built.planned_function}
@@ -39,10 +39,9 @@ module _ (r : Resolve) (m : ℕ) where
       ∙ (λ i. list_all (λ n. has_owner_is r m o n i) (used_are r m (filter_map number_of (parts.function_types f)) i))) ∙ h
 
   module _ (is : IsPlan (plan_of r m)) where
-
     pub owners_kept : Keeps owners r
     unfolding owners
     owners_kept = keeps_three owners r refl (each_by_number _ _ (λ n i e. both _ _ (interface_holds r m (planned.function_stays (plan_of r m)) (rules.function_stays r) stays is.functions_stay n i e)
-        ((search (std_rules, used_within r n i e, list_all_filter_map, nat_le, interfaces_used_are r m i, each_there, plan_of r m)))))
+        (search (std_rules, used_within r n i e, list_all_filter_map, nat_le, interfaces_used_are r m i, each_there, plan_of r m))))
         (worlds_pass r m (planned.function_stays (plan_of r m)) (rules.function_stays r) stays is.functions_stay)
         (each_from_built planned_type (planned.type_stays (plan_of r m)) (rules.type_stays r) (λ def h. sym (type_stays_is def) ∙ h) r.types.items is.types_stay)

@@ -15,9 +15,8 @@ use Rattle.plan_meaning.specs.Built.{IsBuilt, planned_function, planned_interfac
 use Rattle.plan_meaning.proofs.Lists.{any_get}
 use Rattle.plan_meaning.proofs.{Words.plan_of, Words.path_of_planned_is, Reaching.shown_in, Reaching.all_reached, Valid.plan_is, Valid.built_is_valid}
 use Rattle.plan_meaning.proofs.Meanings.{named_means, planned_function_entry, meant_function_entry, interface_is, interface_at_is, world_at_is, functions_are}
-use Rattle.base_lemmas.proofs.{Bools.left_of as first_true, Lists.get_back, Lists.nothing-mapped as none_mapped}
+use Rattle.base_lemmas.proofs.{Bools.left_of as first_true, Lists.get_back, Lists.nothing-mapped as none_mapped, Options.there as some-of}
 use Rattle.base_lemmas.proofs.Elements.{contains-map, contains-one, filter_map_from, get-contains, map_from}
-use Rattle.base_lemmas.proofs.Options.{there as some-of}
 use Rattle.wit_model.specs.Meant as meant
 use Rattle.plan_meaning.specs.PlanRules as rules
 use Rattle.plan_meaning.specs.PlanMeaning as planned
@@ -112,8 +111,10 @@ module _ (r : Resolve) (v : IsValid r) (given : PlannedInterface → Option (Tex
       let passes = (back n c).1 i standing.there in
       contains-filter_map given (map planned_interface r.interfaces.items) (planned_interface i) (k, x) (contains-map _ _ i (get-contains _ n i standing.there))
       (subst (λ (o : Option (Text × InterfaceMeaning)). Contains (option_to_list o) (k, x))
-      (sym (of i path passes its_path ∙ (λ j. Some ((ap (λ o. unwrap_or o []) (sym there) ∙ ap (λ (q : Text × InterfaceMeaning). q.0) e) j,
-      (sym (among n i standing.there path its_path passes).1 ∙ ap (λ (q : Text × InterfaceMeaning). q.1) e) j)))) (contains-one (k, x)))
+      (sym (of i path passes its_path ∙ (λ j. Some (
+        (ap (λ o. unwrap_or o []) (sym there) ∙ ap (λ (q : Text × InterfaceMeaning). q.0) e) j,
+        (sym (among n i standing.there path its_path passes).1 ∙ ap (λ (q : Text × InterfaceMeaning). q.1) e) j,
+      )))) (contains-one (k, x)))
 
   here : (k : Text) (x : InterfaceMeaning) → Contains meant_entries (k, x) → Contains planned_entries (k, x)
   here k x c =

@@ -7,9 +7,8 @@ use Rattle.std.specs.declared.alloc.Global.{Global}
 use Rattle.indexmap.specs.IndexMap.{keys}
 use Rattle.wit_model.specs.declared.model.{Resolve.Resolve, Package.Package, PackageId.PackageId, InterfaceId.InterfaceId, WorldId.WorldId}
 use Rattle.wit_model.specs.declared.model.World.{World}
-use Rattle.wit_model.specs.{Text.Text, Text.text_of, Text.text_eq, Text.optional_text, Lookup.package_at}
+use Rattle.wit_model.specs.{Text.Text, Text.text_of, Text.text_eq, Text.optional_text, Lookup.package_at, Valid.Keeps, Valid.places}
 use Rattle.wit_model.specs.Rules.{each_from, is_id, package_number, are_distinct, interface_belongs, world_belongs, interface_is_listed, world_is_listed, names_itself, is_world_name}
-use Rattle.wit_model.specs.Valid.{Keeps, places}
 use Rattle.wit_model.proofs.{Entries.free_passes, Checks.keeps_lists, RulesLemmas.each_at, RulesLemmas.each_by_number}
 use Rattle.plan_meaning.specs.{Plan.number_under, Plan.package_in, Built.planned_world, Built.planned_package}
 use Rattle.plan_meaning.specs.PlanRules.{IsPlan, names_of, members_differ}

@@ -2,13 +2,12 @@
 use Rattle.std.proofs.Common.{rules as std_rules, ◌≡◌, refl, sym, ap, ◌∙◌, ℕ, true, false, ◌&&◌, List, [], ◌∷◌, ◌++◌, map, Some, slice_get}
 use Rattle.std.proofs.lemmas.{Bool.lt-ltb, Bool.and_from as both, List.Folds.list_all-map}
 use Rattle.std.specs.{Prelude.nat_lt, List.AllZip, List.list_all, Option.option_map_or}
-use Rattle.wit_model.specs.{Text.Text, Text.text_eq, Parts.same_owner, Valid.as_interface}
+use Rattle.wit_model.specs.{Text.Text, Parts.same_owner, Valid.as_interface}
 use Rattle.wit_model.proofs.{VersionLaws.same_text, PartsLemmas.owner_itself, RulesLemmas.each_by_number}
 use Rattle.comp_meaning.specs.{Rules.distinct}
-use Rattle.plan_meaning.specs.{Shapes.named_shape, ReadFunctions.Beside}
-use Rattle.plan_meaning.specs.Plan.{Plan, PlannedType, PlannedFunction, PlannedInterface, numbers_of}
+use Rattle.plan_meaning.specs.{Shapes.named_shape, ReadFunctions.Beside, NumberedViews.Tables, NumberedViews.NumberedType, NumberedViews.NumberedFunction}
+use Rattle.plan_meaning.specs.Plan.{Plan, PlannedType, PlannedInterface, numbers_of}
 use Rattle.plan_meaning.specs.{PlanRules.are_rising, PlanRules.bears, PlanRules.interface_labels, PlanRules.is_type_of, KeptOwners.AreOwned}
-use Rattle.plan_meaning.specs.NumberedViews.{Tables, NumberedType, NumberedFunction}
 use Rattle.plan_meaning.specs.KeptTypes.{IsKeptType, TypesAreKept}
 use Rattle.plan_meaning.specs.ReadInterfaces.{IsNumberOf, IsKeptAs, HasName, IsNamed, IsReadInterface, ReadInterfacesPass}
 use Rattle.plan_meaning.proofs.{KeptParts.kept_at}

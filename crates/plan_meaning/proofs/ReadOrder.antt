@@ -4,7 +4,7 @@ use Rattle.std.proofs.lemmas.Bool.{eqb-true, eq-eqb, leb-true, or_right, and_fro
 use Rattle.std.proofs.lemmas.{List.Elements.Contains-append_cases, List.Elements.Contains-append_left, List.Elements.filter_map-append}
 use Rattle.std.proofs.lemmas.Option.{slice_get_within, same_Some as same-some}
 use Rattle.std.proofs.lemmas.List.Folds.{list_all-append, list_all-map, list_any-append}
-use Rattle.std.specs.{Prelude.nat_le, Prelude.nat_lt, List.AllByRecursion, List.Contains, List.list_all, Cmp.Lexicographic.pointwise, Option.option_map_or}
+use Rattle.std.specs.{Prelude.nat_lt, List.AllByRecursion, List.Contains, List.list_all, Cmp.Lexicographic.pointwise, Option.option_map_or}
 use Rattle.std.specs.Map.{lookup}
 use Rattle.wit_model.specs.{Text.Text, Parts.same_owner, Valid.as_interface, Valid.as_world}
 use Rattle.wit_model.specs.{Lookup.resource_of, Uses.has, Uses.once, Uses.owner_interface, Rules.each_after, Rules.each_from, Rules.in_list, Rules.is_id}
@@ -314,9 +314,12 @@ module _ (t : Tables) (tables : AreTables t) (kept : List ℕ) (p : Plan) (are :
         by (by_label q n v id shown good entry is) h = no_true (sym (ap (λ (e : PlannedKey × PlannedItem). is_id j (item_type e.1)) entry) ∙ h)
         by (implementing_path q n v id path shown good entry is) h = no_true (sym (ap (λ (e : PlannedKey × PlannedItem). is_id j (item_type e.1)) entry) ∙ h)
         by (a_function f g shown entry is) h = no_true (sym (ap (λ (e : PlannedKey × PlannedItem). is_id j (item_type e.1)) entry) ∙ h)
-        by (a_type d n shown entry is) h =
-            (x, (0, omega arith, refl), ap is_type_seen shown, is.last ∙ ap (λ k. k + 1)
-            (same-some is.number w.number (sym is.stands ∙ (ap (slice_get kept) (eqb-true n j (sym (ap (λ (e : PlannedKey × PlannedItem). is_id j (item_type e.1)) entry) ∙ h)) ∙ w.stands))))
+        by (a_type d n shown entry is) h = (
+          x,
+          (0, omega arith, refl),
+          ap is_type_seen shown,
+          is.last ∙ ap (λ k. k + 1) (same-some _ _ (sym is.stands ∙ (ap (slice_get kept) (eqb-true n j (sym (ap (λ (e : PlannedKey × PlannedItem). is_id j (item_type e.1)) entry) ∙ h)) ∙ w.stands))),
+        )
 
         go : (c : Bool) → is_id j (option_and_then item_type (cond c (Some x.entry.1) (lookup test (map (λ (y : ReadItem). y.entry) xs)))) ≡ true
             → (is_id j (option_and_then item_type (lookup test (map (λ (y : ReadItem). y.entry) xs))) ≡ true → Waits xs w.number) → Waits (x ∷ xs) w.number
@@ -328,8 +331,7 @@ module _ (t : Tables) (tables : AreTables t) (kept : List ℕ) (p : Plan) (are :
     all_follow [] (y ∷ ys) h none = both _ _ (all_weaker _ _ (λ z e. ap (λ v. v || nat_lt y.count z.count) e) ys (second_true _ _ none)) (all_follow [] ys refl (second_true _ _ none))
     all_follow (x ∷ xs) ys h none =
         let later : ReadItem → Bool = λ z. not (is_type_seen z.seen.shown) || nat_lt x.count z.count in
-        both (list_all later (xs ++ ys)) (types_follow (xs ++ ys)) (list_all-append later xs ys
-        ∙ both (list_all later xs) (list_all later ys) (first_true (list_all later xs) (types_follow xs) h)
+        both _ _ (list_all-append later xs ys ∙ both _ _ (first_true (list_all later xs) (types_follow xs) h)
         (all_weaker (λ (z : ReadItem). not (is_type_seen z.seen.shown)) later (λ z e. ap (λ v. v || nat_lt x.count z.count) e) ys none))
         (all_follow xs ys (second_true (list_all later xs) (types_follow xs) h) none)
 

@@ -5,13 +5,13 @@ use Rattle.std.proofs.lemmas.{List.Folds.list_all-map, List.Sums.sum_by-cons, Sl
 use Rattle.std.specs.{Prelude.sum_by, List.AllByRecursion, List.list_all, List.list_any, Option.option_map_or, Option.option_eq}
 use Rattle.wit_model.specs.declared.model.TypeOwner.{TypeOwner}
 use Rattle.wit_model.specs.{Text.Text, Text.text_eq, Parts.same_owner, Valid.as_interface}
-use Rattle.wit_model.specs.{Names.path_in, Names.is_identity, Names.is_label, Uses.has, Uses.owner_interface, Rules.are_distinct, Rules.in_list, Rules.is_id}
+use Rattle.wit_model.specs.{Names.path_in, Uses.has, Uses.owner_interface, Rules.are_distinct, Rules.in_list, Rules.is_id}
 use Rattle.wit_model.proofs.{Elements.contains-flat, Elements.contains-has, Elements.has-contains, NameLaws.read_path_is_spelled, RulesLemmas.each_by_number}
 use Rattle.wit_model.proofs.{VersionLaws.same_text, UsesLemmas.has_filter, PartsLemmas.owner_itself}
 use Rattle.comp_meaning.specs.Same.{same_identity}
 use Rattle.comp_meaning.proofs.{SameLaws.identities_decide, RulesLemmas.distinct_same}
 use Rattle.plan_meaning.specs.Plan.{Plan, PlannedInterface, PlannedWorld, PlannedPackage, package_in, interface_in, world_in, number_under, numbers_of, item_interface, items_of}
-use Rattle.plan_meaning.specs.PlanRules.{bears, has_name, is_alone, is_placed, is_world_placed, lists_interface, lists_members, lists_world, members_differ, names_of, times_shown}
+use Rattle.plan_meaning.specs.PlanRules.{bears, has_name, is_placed, is_world_placed, lists_interface, lists_world, members_differ, names_of, times_shown}
 use Rattle.plan_meaning.specs.NumberedViews.{Tables, path_at, AreTables}
 use Rattle.plan_meaning.specs.{NumberedWorlds.HasPath, NumberedWorlds.are_once, NumberedMembers.Homes, NumberedMembers.HomesStand, NumberedMembers.home_at}
 use Rattle.plan_meaning.specs.ReadPlaces.{inline_shown, IsPlacedInterface, under_path, inline, IsListedInterface, IsListedWorld, PlacesAreRead, PlaceTests, ReadPlacesPass}
@@ -44,8 +44,7 @@ module _ (t : Tables) (tables : AreTables t) (h : Homes) (homes : HomesStand t h
       where
         go : (b : Bool) → same_identity k.identity other.identity ≡ b → ((m == n) || not (same_identity k.identity other.identity)) ≡ true
         go false g = ap (λ b. (m == n) || not b) g ∙ or_true (m == n)
-        go true g =
-            ap (λ b. b || not (same_identity k.identity other.identity)) (eq-eqb m n
+        go true g = ap (λ b. b || not (same_identity k.identity other.identity)) (eq-eqb m n
             (homes.apart m n other.identity (read.packages m other f).identity ((read.packages n k e).identity ∙ ap Some ((identities_decide k.identity other.identity).0 g))))
 
     all_interfaces : (n : ℕ) (es : List (Text × ℕ)) → AllByRecursion (IsListedInterface t h p owners n) es → list_all (lists_interface p n) es ≡ true
@@ -141,7 +140,7 @@ module _ (t : Tables) (tables : AreTables t) (h : Homes) (homes : HomesStand t h
     pass : PlaceTests p
     pass = record {
       identities = all_by_number _ _ (λ n k e.
-      let is = read.packages n k e in (read_path_is_spelled is.path k.identity is.name is.reads).identity);
+          let is = read.packages n k e in (read_path_is_spelled is.path k.identity is.name is.reads).identity);
       alone = each_by_number _ _ (λ n k e. each_by_number _ _ (λ m other f. other_identity n k e m other f));
       members = each_by_number _ _ (λ n k e. let is = read.packages n k e in
           both _ _ (all_interfaces n k.interfaces is.interfaces) (all_worlds n k.worlds is.worlds));

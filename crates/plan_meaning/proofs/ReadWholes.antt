@@ -5,7 +5,7 @@ use Rattle.std.proofs.lemmas.List.Elements.{Contains-append_cases, Contains-appe
 use Rattle.std.specs.{List.AllZip, List.Contains, List.list_any, Option.option_map_or}
 use Rattle.wit_model.specs.declared.model.TypeOwner.{TypeOwner}
 use Rattle.wit_model.specs.Text.{Text}
-use Rattle.wit_model.specs.{Lookup.resource_of, Parts.same_owner, Uses.has, Uses.once, Rules.has_items, Rules.is_id, Valid.as_interface, Valid.as_world}
+use Rattle.wit_model.specs.{Parts.same_owner, Uses.has, Uses.once, Rules.has_items, Rules.is_id, Valid.as_interface, Valid.as_world}
 use Rattle.wit_model.proofs.{Chains.has_once, UsesLemmas.has_filter, PartsLemmas.owner_itself, RulesLemmas.each_by_number}
 use Rattle.wit_model.proofs.Elements.{contains-filter_map, contains-get, contains-has, has-contains, none-in}
 use Rattle.plan_meaning.specs.Plan.{Plan, PlannedKey, PlannedItem, PlannedType, PlannedFunction, PlannedInterface, PlannedPackage, package_in, interface_in, kind_numbers, part_number, function_numbers, function_parts, interfaces_used_by, item_interface, items_of}
@@ -15,8 +15,7 @@ use Rattle.plan_meaning.specs.NumberedViews.{FunctionShape, Tables, AreTables, N
 use Rattle.plan_meaning.specs.{NumberedWorlds.HasPath, NumberedWorlds.are_once, NumberedWorlds.are_reached, NumberedWorlds.used_by_view, ReadPlans.IsReadPlan}
 use Rattle.plan_meaning.specs.{NumberedMembers.Homes, NumberedMembers.HomesStand, NumberedMembers.home_at, NumberedMembers.is_of_package, ReadFunctions.Beside}
 use Rattle.plan_meaning.specs.GatheredPlan.{Becomes, FunctionBecomes, FunctionListed, functions_seen}
-use Rattle.plan_meaning.specs.ReadPlaces.{IsPlacedInterface, under_path, inline}
-use Rattle.plan_meaning.specs.ReadWorlds.{ReadItem, IsReadItem}
+use Rattle.plan_meaning.specs.{ReadPlaces.IsPlacedInterface, ReadPlaces.under_path, ReadPlaces.inline, ReadWorlds.ReadItem, ReadWorlds.IsReadItem}
 use Rattle.plan_meaning.specs.ReadWholes.{IsPartOfFunction, a_parameter, a_result, IsPartOfKept, of_type, of_interface, of_world, HasHomes, IsKeptForReasons, place_shown, IsShownByWorld, IsViewOf, IsSeenFor, in_world, in_member, ForeignIsRead, IsReadWorldPlan, ReadPackagePlanStands, ReadWorldPlanStands}
 use Rattle.plan_meaning.proofs.{KeptParts.shape_parts, KeptParts.function_zip, ReadLists.never, ReadPlans.read_plan_stands, UsedInterfaces.interface_uses_back}
 use Rattle.plan_meaning.proofs.{Lists.no_true, MetTypes.flat_among, ReadOrder.same_uses, Words.behind}
@@ -249,11 +248,10 @@ module _ (t : Tables) (tables : AreTables t) (h : Homes) (homes : HomesStand t h
       ap (λ w. is_shown_in w n) (one-contained is.world by_world.world there) ∙ world_shows t tables h homes kept p b views is.read at.place n at.owned by_world
 
 pub read_world_plan_stands : ReadWorldPlanStands
-read_world_plan_stands t tables h homes kept p b views is =
-    search (
-      std_rules,
-      read_plan_stands t tables h homes kept p b views is.read,
-      no_more t tables h homes kept p b views is.read is.kept_for,
-      same-number p.main,
-      shows t tables h homes kept p b views is,
-    )
+read_world_plan_stands t tables h homes kept p b views is = search (
+  std_rules,
+  read_plan_stands t tables h homes kept p b views is.read,
+  no_more t tables h homes kept p b views is.read is.kept_for,
+  same-number p.main,
+  shows t tables h homes kept p b views is,
+)

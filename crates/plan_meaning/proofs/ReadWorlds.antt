@@ -2,18 +2,16 @@
 use Rattle.std.proofs.Common.{◌≡◌, refl, sym, ap, subst, ◌∙◌, ◌<◌, ℕ, arith, Bool, true, false, not, ◌&&◌, ◌||◌, ◌==◌, List, [], ◌∷◌, ◌++◌, map, filter_map, Option, Some, is_none, is_some, slice_get, T, ltb→lt, rules}
 use Rattle.std.proofs.lemmas.Bool.{eqb-true, eq-eqb, lt-ltb, and_from as both, not-true as not_true, or_from as neither}
 use Rattle.std.proofs.lemmas.Option.{same_Some as same-some}
-use Rattle.std.specs.{Prelude.codes, Prelude.nat_lt, List.AllByRecursion, List.cons_option, List.list_all, List.list_any}
-use Rattle.std.specs.Option.{option_map_or}
+use Rattle.std.specs.{Prelude.codes, Prelude.nat_lt, List.AllByRecursion, List.cons_option, List.list_all, List.list_any, Option.option_map_or}
 use Rattle.wit_model.specs.declared.model.{TypeOwner.TypeOwner, FunctionKind.FunctionKind}
 use Rattle.wit_model.specs.{Text.Text, Text.text_eq, Rules.in_list, Rules.is_freestanding, Uses.owner_interface, Valid.as_interface, Valid.as_world}
 use Rattle.wit_model.specs.{Names.is_label, Parts.same_owner}
 use Rattle.wit_model.proofs.{VersionLaws.same_text, PartsLemmas.owner_itself, RulesLemmas.each_by_number}
 use Rattle.comp_meaning.specs.Rules.{distinct, is_label_behind}
-use Rattle.plan_meaning.specs.{Shapes.named_shape, ReadFunctions.Beside}
+use Rattle.plan_meaning.specs.{Shapes.named_shape, ReadFunctions.Beside, NumberedRules.Fact, KeptOwners.AreOwned, KeptOwners.of_interface}
 use Rattle.plan_meaning.specs.Plan.{Plan, PlannedKey, PlannedItem, PlannedType, PlannedFunction, PlannedInterface, PlannedWorld, interface_in, item_type, world_types}
 use Rattle.plan_meaning.specs.PlanRules.{are_rising, bears, has_name, import_stands, export_stands, is_function_key, is_type_of, keys_differ, same_key}
 use Rattle.plan_meaning.specs.NumberedViews.{Tables, path_text, AreTables, NumberedView, FunctionShape}
-use Rattle.plan_meaning.specs.{NumberedRules.Fact, KeptOwners.AreOwned, KeptOwners.of_interface}
 use Rattle.plan_meaning.specs.NumberedWorlds.{HasPath, NumberedSeen, are_imports, is_item, stand_earlier}
 use Rattle.plan_meaning.specs.KeptTypes.{IsKeptType, unnamed, declared, TypesAreKept}
 use Rattle.plan_meaning.specs.KeptFunctions.{IsKindOf, of_none, a_constructor, a_method, an_async_method, a_static, an_async_static}

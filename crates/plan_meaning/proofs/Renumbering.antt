@@ -4,9 +4,9 @@ use Rattle.std.proofs.lemmas.{Bool.ltb-true as less_than, Option.same_Some as sa
 use Rattle.std.specs.{List.AllZip, List.list_all, List.cons_option}
 use Rattle.wit_model.specs.{Tree.Place, Tree.Tree, Types.no_tree, Rules.each_from}
 use Rattle.wit_model.proofs.{Tables.grow_at, RulesLemmas.each_at}
-use Rattle.plan_meaning.specs.Shapes.{Shape, part_tree, shape_tree, shape_trees, IsTable}
+use Rattle.plan_meaning.specs.Shapes.{Shape, part_tree, shape_trees, IsTable}
 use Rattle.plan_meaning.specs.Plan.{Plan, PlannedType, part_number, kind_numbers, tree_of_planned, trees_in}
-use Rattle.plan_meaning.specs.Renumbering.{IsPart, IsTypeOf, AreKept, TreesAreKept}
+use Rattle.plan_meaning.specs.Renumbering.{IsPart, AreKept, TreesAreKept}
 use Rattle.plan_meaning.proofs.{ShapeLaws.node_tree, ShapeLaws.name_tree, ShapeLaws.part_behind, ShapeLaws.part_front, ShapeLaws.tree_at_number, Words.behind}
 use Rattle.base_lemmas.proofs.{Bools.left_of as first_true, Lists.slice_take, Lists.within_there as slice_there}
 

@@ -54,7 +54,7 @@ module _ (r : Resolve) (m : ℕ) (fall : each_from (λ n x. list_all (λ j. nat_
       go (Some def) e =
           let ns = plan.kind_numbers (planned_kind def.kind) in
           let within : (j : ℕ) → Contains ns j
-              → j < n = λ j c. less_than j n (all-contained _ _ j (each_there planned_type (λ n x. list_all (λ j. nat_lt j n) (plan.kind_numbers x.kind)) r.types.items fall n def e) c) in
+          → j < n = λ j c. less_than j n (all-contained _ _ j (each_there planned_type (λ n x. list_all (λ j. nat_lt j n) (plan.kind_numbers x.kind)) r.types.items fall n def e) c) in
           ap (list_all (λ k. nat_lt k n)) (sym (used_by_kind_is r m def.kind)) ∙ all_pass (λ k. nat_lt k n) (plan.used_by_numbers (plan_of r m) ns) (λ k c.
           let from = used_among (plan_of r m) fall ns (λ j d. let less = within j d in omega (arith, less, slice_get_within _ n _ e, length_of_map planned_type r.types.items)) k c in
           lt-ltb k n (omega (arith, within from.0 from.1, leb-true k _ from.2)))

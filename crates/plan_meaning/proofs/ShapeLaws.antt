@@ -2,8 +2,7 @@
 use Rattle.std.proofs.Common.{rules as std_rules, ◌≡◌, ◌⊎◌, inl, inr, refl, sym, ap, ◌∙◌, ℕ, zero, suc, ◌+◌, ◌-◌, ◌<◌, arith, Bool, List, [], ◌∷◌, ◌++◌, map, take, length, Some, slice_get, unwrap_or, option_map}
 use Rattle.std.proofs.lemmas.{Bool.cases_lt as below_or, Option.slice_get-map as get_of_map}
 use Rattle.std.specs.List.{AllByRecursion, Contains}
-use Rattle.wit_model.specs.{Text.Text, Types.grow, Types.no_tree}
-use Rattle.wit_model.specs.Tree.{Primitive, Place, Form, Tree, Trees, children}
+use Rattle.wit_model.specs.{Text.Text, Types.grow, Types.no_tree, Tree.Primitive, Tree.Place, Tree.Form, Tree.Tree, Tree.Trees, Tree.children}
 use Rattle.wit_model.proofs.Tables.{grow_at}
 use Rattle.comp_meaning.specs.Same.{primitive_number}
 use Rattle.plan_meaning.specs.Shapes.{Shape, form_code, form_of, marked, node_shape, named_shape, primitives, part_tree, shape_tree, shape_trees, IsShape, a_name, a_node, IsTable, OneNumber}

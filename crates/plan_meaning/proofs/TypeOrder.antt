@@ -66,7 +66,7 @@ module _ (r : Resolve) (m : ℕ) (is : IsPlan (plan_of r m)) where
   world_passes n w imports rise = both _ _ (list_all_filter_map (is_named_of r (as_world n)) rules.item_type (values w.imports)
       ∙ (list_all-map (λ x. list_all (is_named_of r (as_world n)) (option_to_list (rules.item_type x))) (λ e. e.1) w.imports.entries
       ∙ all_built (λ e. (planned_key e.0, planned_item e.1)) (planned.import_stands (plan_of r m) n) (λ e. list_all (is_named_of r (as_world n)) (option_to_list (rules.item_type e.1)))
-      ((λ x h. search (std_rules, no_true, both, named_of, second_true))) w.imports.entries imports)) (ordered (world_type_numbers w) (ap are_rising (sym (world_types_are w)) ∙ rise))
+      (λ x h. search (std_rules, no_true, both, named_of, second_true)) w.imports.entries imports)) (ordered (world_type_numbers w) (ap are_rising (sym (world_types_are w)) ∙ rise))
 
   -- ---- types
 
@@ -93,7 +93,7 @@ module _ (r : Resolve) (m : ℕ) (is : IsPlan (plan_of r m)) where
       go : (o : Option World) → world_at r id.0 ≡ o → option_map_or (λ w. is_id n (option_and_then plan.item_type (lookup (is_under_label name) w.imports))) (option_map planned_world o) false ≡ true
           → passes (is_listed_in_world n name) (world_at r id.0) ≡ true
       go None e h = no_true h
-      go (Some w) e h = ap (passes (is_listed_in_world n name)) e ∙ in_world n name w ((search (std_rules, world_types_are w, all_get, get_of_map planned_world r.worlds.items id.0))) h
+      go (Some w) e h = ap (passes (is_listed_in_world n name)) e ∙ in_world n name w (search (std_rules, world_types_are w, all_get, get_of_map planned_world r.worlds.items id.0)) h
   listed_in n name owner.None h = no_true h
 
   listed_by : (n : ℕ) (name : Option (String Global)) (o : TypeOwner) → option_map_or (λ t. planned.is_listed_in (plan_of r m) n t o) (optional_text name) (same_owner o owner.None) ≡ true

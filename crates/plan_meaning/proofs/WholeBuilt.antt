@@ -7,7 +7,6 @@ use Rattle.indexmap.specs.{IndexMap.IndexMap, Layout.hash_map}
 use Rattle.wit_model.specs.declared.model.{Resolve.Resolve, Interface.Interface, TypeDefKind.TypeDefKind, «Type».«Type» as ValueType, FunctionKind.FunctionKind}
 use Rattle.wit_model.specs.declared.model.{TypeId.TypeId, TypeDef.TypeDef, TypeOwner.TypeOwner, Function.Function, World.World, WorldItem.WorldItem, Docs.Docs}
 use Rattle.wit_model.specs.{Valid.IsValid}
-use Rattle.plan_meaning.specs.{Built.IsBuilt}
 use Rattle.plan_meaning.proofs.{Valid.built_is_valid, WholePlan.whole_plan, WholePlan.is_plan}
 use Rattle.base_lemmas.proofs.Numbers.{utf8-a, utf8-b, utf8-constructor, utf8-f, utf8-h, utf8-i, utf8-j, utf8-k, utf8-method, utf8-p, utf8-pkg, utf8-r, utf8-s, utf8-self, utf8-t, utf8-w, utf8-x}
 use Rattle.wit_model.specs.declared.model.TypeDefKind.TheVariants as kind

@@ -3,11 +3,9 @@
 use Rattle.std.proofs.Common.{rules as std_rules, ◌≡◌, refl, ℕ, zero, suc, true, false, List, [], ◌∷◌, Option, Some, None}
 use Rattle.std.specs.{Prelude.codes, List.list_any}
 use Rattle.wit_model.specs.declared.model.{TypeOwner.TypeOwner, FunctionKind.FunctionKind}
-use Rattle.wit_model.specs.{Text.Text, Meaning.TypeMeaning}
-use Rattle.wit_model.specs.Tree.{Tree, Place, Form}
-use Rattle.plan_meaning.specs.Shapes.{part_tree}
+use Rattle.wit_model.specs.{Text.Text, Meaning.TypeMeaning, Tree.Tree, Tree.Place, Tree.Form}
+use Rattle.plan_meaning.specs.{Shapes.part_tree, PlanRules.IsPlan, PlanRules.IsPackagePlan, PlanRules.IsWanted, PlanRules.shown, PlanRules.used}
 use Rattle.plan_meaning.specs.Plan.{Plan, PlannedKind, resource, alias, formed, PlannedType, PlannedFunction, PlannedInterface, interface, function, declares, label, path_of, PlannedWorld, met_in, resource_marks, trees_in, interface_in}
-use Rattle.plan_meaning.specs.{PlanRules.IsPlan, PlanRules.IsPackagePlan, PlanRules.IsWanted, PlanRules.shown, PlanRules.used}
 use Rattle.wit_model.specs.declared.model.TypeOwner.TheVariants as owner
 use Rattle.wit_model.specs.declared.model.FunctionKind.TheVariants as call
 use Rattle.wit_model.specs.Tree as tree

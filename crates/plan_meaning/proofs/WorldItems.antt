@@ -6,8 +6,7 @@ use Rattle.wit_model.specs.declared.model.{Resolve.Resolve, WorldKey.WorldKey, W
 use Rattle.wit_model.specs.{Text.Text, Text.text_of, Lookup.type_at, Valid.Keeps, Valid.world_items, Valid.as_world}
 use Rattle.wit_model.specs.{Parts.same_owner, Rules.passes, Rules.is_id, Rules.text_is}
 use Rattle.wit_model.proofs.{Entries.worlds_keep, RulesLemmas.each_by_number}
-use Rattle.plan_meaning.specs.PlanRules.{IsPlan}
-use Rattle.plan_meaning.specs.Built.{planned_key, planned_item}
+use Rattle.plan_meaning.specs.{PlanRules.IsPlan, Built.planned_key, Built.planned_item}
 use Rattle.plan_meaning.proofs.{Lists.no_true, Listed.there, Listed.passes_weaker, Listed.bears_is, FunctionRules.imports_there, FunctionRules.exports_there}
 use Rattle.plan_meaning.proofs.{Words.plan_of, KindRules.has_text}
 use Rattle.base_lemmas.proofs.{Bools.left_of as first_true, Bools.right_of as second_true, Elements.all_weaker}
