@@ -72,9 +72,6 @@ module _ (r : Resolve) (m : ℕ) where
 
   -- ---- keys
 
-  export_key : (k : WorldKey) (x : WorldItem) → planned.export_stands (plan_of r m) (planned_key k, planned_item x) ≡ true → passes (λ f. is_name_key (text_of f.name) k) (item_function x) ≡ true
-  export_key x y h = search std_rules
-
   module _ (is : IsPlan (plan_of r m)) where
     abbrev is_right : ℕ → WorldKey × WorldItem → Bool
     is_right n e = passes (λ f. is_name_key (text_of f.name) e.0 && rules.is_member r (as_world n) f) (item_function e.1)
@@ -87,7 +84,7 @@ module _ (r : Resolve) (m : ℕ) where
         (λ e a b. passes_both (λ f. is_name_key (text_of f.name) e.0) (rules.is_member r (as_world n)) _ (λ f x y. both _ _ x y) (item_function e.1) (search std_rules) b) w.imports.entries
         (imports_there r m is n w at) members.0) (all_two (λ e. planned.export_stands (plan_of r m) (planned_key e.0, planned_item e.1))
         (λ e. passes (rules.is_member r (as_world n)) (item_function e.1)) (is_right n)
-        (λ e a b. passes_both (λ f. is_name_key (text_of f.name) e.0) (rules.is_member r (as_world n)) _ (λ f x y. both _ _ x y) (item_function e.1) (export_key e.0 e.1 a) b) w.exports.entries
+        (λ e a b. passes_both (λ f. is_name_key (text_of f.name) e.0) (rules.is_member r (as_world n)) _ (λ f x y. both _ _ x y) (item_function e.1) (search std_rules) b) w.exports.entries
         (exports_there r m is n w at) members.1)
 
     pub function_names_kept : Keeps function_names r

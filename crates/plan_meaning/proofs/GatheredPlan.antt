@@ -54,9 +54,6 @@ module _ (t : Tables) (tables : AreTables t) (kept : List ℕ) (p : Plan) (keeps
   abbrev type_entry : Text × ℕ → Text × TypeMeaning
   type_entry e = (e.0, type_meaning_in p e.1)
 
-  types_kept : (xs : List NumberedType) (es : List (Text × ℕ)) → AllZip (TypeListed t kept p) xs es → map type_entry es ≡ map named_meaning (map (shown_type t) xs)
-  types_kept xs es z = zip_map _ _ _ (λ x e h i. (h.0 i, type_kept x.declared x.external_id e.1 h.1 i)) xs es z ∙ sym (map_of_map named_meaning (shown_type t) xs)
-
   -- ---- functions and interfaces
 
   abbrev over : (ℕ → Tree) → Text × ℕ → Text × Tree
@@ -84,7 +81,8 @@ module _ (t : Tables) (tables : AreTables t) (kept : List ℕ) (p : Plan) (keeps
   interface_kept v fs x b =
       let functions = zip_map (FunctionListed t kept p) (shown_function t) function_entry
       (λ f e h i. (h.0 i, function_kept (function_at t f.1.signature) f.1.external_id e.1 h.1 i)) fs x.functions b.functions in
-      λ i. record { types = types_kept v.types x.types b.types i; functions = from_entries (functions i) }
+      λ i. record { types = (zip_map _ _ _ (λ x e h i. (h.0 i, type_kept x.declared x.external_id e.1 h.1 i)) v.types x.types b.types ∙ sym (map_of_map named_meaning (shown_type t) v.types)) i;
+      functions = from_entries (functions i) }
 
   interface_there : (v : NumberedView) (fs : List (Text × NumberedFunction)) (n : ℕ) → InterfaceAt t kept p v fs n
       → interface_meaning_in p n ≡ reads.interface_meaning (view_of t v) (map (shown_function t) fs)
@@ -310,7 +308,7 @@ pub gathered_world_is_meant : GatheredWorldIsMeant
 unfolding plan_world_meaning
 gathered_world_is_meant t tables h stand known n name w scope shows all are p g reads_ = ap (option_and_then (λ k. option_map (planned.world_package p k) (plan.world_in p 0))) g.stands
     ∙ (ap (option_map (planned.world_package p g.main)) g.first
-    ∙ (ap Some means
+    ∙ (ap Some (λ i. record { identity = g.main.identity; name = g.named i; world = world_kept t tables g.kept p g.keeps w g.world g.becomes scope shows i; shown = shown_means i })
     ∙ sym (one_world_in_numbers t tables h stand known n g.main.identity g.identity name reads_ w scope shows all ∙ ap (λ b. provided b (world_shown g.main.identity name scope)) are)))
   where
     sights : AllByRecursion (IsSight t) (sights_of_scope t w)
@@ -325,6 +323,3 @@ gathered_world_is_meant t tables h stand known n name w scope shows all are p g 
         ∙ (gathered t tables g.kept p g.keeps (sights_of_scope t w) sights (λ s. true) (map (sight_of t) (sights_of_scope t w)) agree
         (λ s c. let from = map_from (sight_of t) (sights_of_scope t w) s c in (from.0, from.1, refl, from.2)) (λ x c passes. contains-map (sight_of t) (sights_of_scope t w) x c) g.chosen g.chosen_are
         (filter_map (under_path p) p.interfaces) g.shown ∙ ap (λ ss. from_entries (map (seen_meaning ss) ss)) (sym (sights_in_numbers t w scope shows)))
-
-    means : planned.world_package p g.main g.world ≡ world_shown g.main.identity name scope
-    means = λ i. record { identity = g.main.identity; name = g.named i; world = world_kept t tables g.kept p g.keeps w g.world g.becomes scope shows i; shown = shown_means i }

@@ -73,9 +73,6 @@ module _ (r : Resolve) (m : ℕ) (is : IsPlan (plan_of r m)) (bare : IsBare r) w
 
   -- ---- items
 
-  import_key : (n : ℕ) (k : WorldKey) (x : WorldItem) → planned.import_stands (plan_of r m) n (planned_key k, planned_item x) ≡ true → key_label k x ≡ true
-  import_key n x y h = search std_rules
-
   export_key : (k : WorldKey) (x : WorldItem) → planned.export_stands (plan_of r m) (planned_key k, planned_item x) ≡ true → key_label k x ≡ true
   export_key x y h = search std_rules
 
@@ -100,7 +97,7 @@ module _ (r : Resolve) (m : ℕ) (is : IsPlan (plan_of r m)) (bare : IsBare r) w
 
     world_passes : (is_label (text_of w.name) && (is_stability w.stability && (entries_labels w.imports.entries && entries_labels w.exports.entries))) ≡ true
     world_passes = both _ _ name (both _ _ (bare_stability w.docs w.stability (first_true _ _ bare_world))
-        (both _ _ (entries_pass (λ e. planned.import_stands (plan_of r m) n (planned_key e.0, planned_item e.1)) (import_key n) w.imports.entries (imports_there r m is n w at)
+        (both _ _ (entries_pass (λ e. planned.import_stands (plan_of r m) n (planned_key e.0, planned_item e.1)) (λ x y h. search std_rules) w.imports.entries (imports_there r m is n w at)
         (first_true _ _ items_labelled) (first_true _ _ bare_items)) (entries_pass (λ e. planned.export_stands (plan_of r m) (planned_key e.0, planned_item e.1)) export_key w.exports.entries
         (exports_there r m is n w at) (second_true _ _ items_labelled) (second_true _ _ bare_items))))
 

@@ -42,15 +42,13 @@ module _ (t : Tables) (tables : AreTables t) (h : Homes) (stand : HomesStand t h
     named_in : (name : Text) → read_path (path_in identity name) ≡ Some (identity, name) → (p : ℕ) → HasPath t p → text_eq (path_text t p) (path_in identity name) ≡ is_named_in h n name p
     named_in name reads p x =
         let home = stand.homes p x.0 x.1 in
-        either_way _ _ (into home) (back home) ∙ sym (ap (λ o. option_map_or (λ (y : ℕ × Text). y.0 == n && text_eq y.1 name) o false) home.home)
+        either_way _ _ (λ e.
+        let same_path : x.0 ≡ path_in identity name = sym (path_is t p x) ∙ text_same _ _ e in
+        let pair : ◌≡◌ {A = PackageIdentity × Text} (home.identity, home.name) (identity, name) = same-some _ _ (sym home.reads ∙ (ap read_path same_path ∙ reads)) in
+        let number : n ≡ home.package_ = stand.apart n home.package_ home.identity (there ∙ ap Some (sym (ap (λ (y : PackageIdentity × Text). y.0) pair))) home.stands in
+        both _ _ (eq-eqb _ n (sym number)) (same_text _ _ (ap (λ (y : PackageIdentity × Text). y.1) pair))) (back home)
+        ∙ sym (ap (λ o. option_map_or (λ (y : ℕ × Text). y.0 == n && text_eq y.1 name) o false) home.home)
       where
-        into : (home : IsHomeOf h p x.0) → text_eq (path_text t p) (path_in identity name) ≡ true → ((home.package_ == n) && text_eq home.name name) ≡ true
-        into home e =
-            let same_path : x.0 ≡ path_in identity name = sym (path_is t p x) ∙ text_same _ _ e in
-            let pair : ◌≡◌ {A = PackageIdentity × Text} (home.identity, home.name) (identity, name) = same-some _ _ (sym home.reads ∙ (ap read_path same_path ∙ reads)) in
-            let number : n ≡ home.package_ = stand.apart n home.package_ home.identity (there ∙ ap Some (sym (ap (λ (y : PackageIdentity × Text). y.0) pair))) home.stands in
-            both _ _ (eq-eqb _ n (sym number)) (same_text _ _ (ap (λ (y : PackageIdentity × Text). y.1) pair))
-
         back : (home : IsHomeOf h p x.0) → ((home.package_ == n) && text_eq home.name name) ≡ true → text_eq (path_text t p) (path_in identity name) ≡ true
         back home e =
             let number : home.package_ ≡ n = eqb-true home.package_ n (first_true (home.package_ == n) (text_eq home.name name) e) in

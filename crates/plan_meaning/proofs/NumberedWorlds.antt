@@ -87,9 +87,6 @@ module _ (t : Tables) (tables : AreTables t) where
   uses_paths : (x : NumberedShown) → AllByRecursion (HasPath t) (uses_of t x)
   uses_paths x = search (std_rules, others_paths, view_paths, used_paths)
 
-  seen_same : (x : NumberedShown) → rules.path_seen (shown_of t x) ≡ map (path_text t) (path_seen x)
-  seen_same x = search std_rules
-
   seen_paths : (x : NumberedShown) → ItemIsOver x → AllByRecursion (HasPath t) (path_seen x)
   seen_paths x h = search std_rules
 
@@ -101,7 +98,7 @@ module _ (t : Tables) (tables : AreTables t) where
       ap (list_all (λ x. list_any (text_eq x) (map (path_text t) earlier))) (search (std_rules, view_uses, others_same, view_paths, used_same))
       ∙ all_same (HasPath t) (λ x. list_any (text_eq x) (map (path_text t) earlier)) (path_text t) (has earlier) (λ q. has_path earlier q he) (uses_of t s.shown) (uses_paths s.shown) in
       let more : map (path_text t) earlier ++ rules.path_seen (shown_of t s.shown) ≡ map (path_text t) (earlier ++ path_seen s.shown) =
-      ap (λ xs. map (path_text t) earlier ++ xs) (seen_same s.shown) ∙ sym (append_of_map (path_text t) earlier (path_seen s.shown)) in
+      ap (λ xs. map (path_text t) earlier ++ xs) (search std_rules) ∙ sym (append_of_map (path_text t) earlier (path_seen s.shown)) in
       let rest = ap (λ xs. rules.stand_earlier xs (map (seen_of t) ss)) more ∙ earlier_same (earlier ++ path_seen s.shown) ss
       (all_in_both (HasPath t) earlier (path_seen s.shown) he (seen_paths s.shown h.0)) h.1 in
       λ i. here i && rest i

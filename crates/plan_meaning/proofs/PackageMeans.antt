@@ -147,10 +147,6 @@ module _ (r : Resolve) (m : ℕ) (is : IsPackagePlan (plan_of r m)) (v : IsValid
       → types_alone (meant.interface_meaning r i) ≡ meant.interface_meaning r i
   bare_means n i e path foreign hidden = search (std_rules, plans_none n i e path foreign hidden, meant_function_entry r m, functions_are r m i, planned_function_entry r m)
 
-  is_other : (n : ℕ) (i : Interface) → interface_at r n ≡ Some i → (k : Text) → path_of_interface r i ≡ Some k → is_id m (package_number i.package) ≡ false
-      → rules.is_foreign (plan_of r m) (planned_interface i) ≡ true
-  is_other n i e k path other = both _ _ (named r i k path) (ap not other)
-
   other_package : (n : ℕ) (i : Interface) → interface_at r n ≡ Some i → is_foreign r m n ≡ true → is_id m (package_number i.package) ≡ false
   other_package n i e foreign = search std_rules
 
@@ -159,7 +155,7 @@ module _ (r : Resolve) (m : ℕ) (is : IsPackagePlan (plan_of r m)) (v : IsValid
       let some = first_true (is_some (interface_path r n)) _ (sym (foreign_is r m n i e) ∙ foreign) in
       let path = some-of (interface_path r n) some in
       none_mapped (λ e. (text_of e.0, planned_function e.1)) i.functions.entries
-      (plans_none n i e some (is_other n i e path.0 (sym (path_there r n i e) ∙ path.1) (other_package n i e foreign)) hidden)
+      (plans_none n i e some (both _ _ (named r i path.0 (sym (path_there r n i e) ∙ path.1)) (ap not (other_package n i e foreign))) hidden)
 
   foreign_are : ◌≡◌ {A = TextMap InterfaceMeaning} (from_entries (filter_map (foreign_entry (plan_of r m)) (map planned_interface r.interfaces.items)))
       (from_entries (map (λ n. (unwrap_or (interface_path r n) [], foreign_meaning r p n)) (foreign_of r m p)))

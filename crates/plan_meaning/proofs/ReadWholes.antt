@@ -137,9 +137,6 @@ module _ (t : Tables) (tables : AreTables t) (h : Homes) (homes : HomesStand t h
     uses : Contains (used_by_view t by_view.1) q
     away : q ≡ by_view.0 → ⊥
 
-  places_apart : (q : ℕ) (xs : List (ℕ × NumberedView)) → has (map (λ (i : ℕ × NumberedView). i.0) xs) q ≡ false → (x : ℕ × NumberedView) → Contains xs x → q ≡ x.0 → ⊥
-  places_apart q xs none x c e = no_true (sym (sym (contains-has _ _ (contains-map _ _ x c)) ∙ (ap (has (map (λ (i : ℕ × NumberedView). i.0) xs)) (sym e) ∙ none)))
-
   used_later : (exported : ℕ × NumberedView) (imports : List (ℕ × NumberedView)) (q : ℕ) → are_reached t imports exported.1 ≡ true → are_once (map (λ (i : ℕ × NumberedView). i.0) imports) ≡ true
       → has (map (λ (i : ℕ × NumberedView). i.0) imports) exported.0 ≡ false → has (map (λ (i : ℕ × NumberedView). i.0) imports) q ≡ true → IsUsedBy exported imports q
   used_later exported [] q reached apart away here = no_true here
@@ -154,7 +151,8 @@ module _ (t : Tables) (tables : AreTables t) (h : Homes) (homes : HomesStand t h
             by_view = found.0;
             among = contains-later exported (i ∷ later) found.0 (contains-later i later found.0 found.1);
             uses = found.2;
-            away = places_apart q later (ap (has (map (λ (l : ℕ × NumberedView). l.0) later)) (sym same) ∙ none) found.0 found.1;
+            away = λ e. no_true (sym (sym (contains-has _ _ (contains-map _ _ found.0 found.1))
+            ∙ (ap (has (map (λ (i : ℕ × NumberedView). i.0) later)) (sym e) ∙ (ap (has (map (λ (l : ℕ × NumberedView). l.0) later)) (sym same) ∙ none))));
           }
       at same (inr c) = record { by_view = exported; among = (0, omega arith, refl); uses = c; away = λ e. let other = none_first _ _ away in never _ (eq-eqb _ _ (same ∙ e)) other }
 

@@ -32,15 +32,12 @@ absent_here m n ns less h = let other : (n == m) ≡ false = grind (arith, nat_t
 covered : (a b c : Bool) → a ≡ (b || c) → c ≡ false → (not a || b) ≡ true
 covered a y c e f = search std_rules
 
-grouped : (a b c : Bool) → (a || (b || c)) ≡ ((a || (b || false)) || c)
-grouped x b c = search std_rules
-
 pub in_order : (used : ℕ → List ℕ) → ((n : ℕ) → list_all (λ m. nat_lt m n) (used n) ≡ true) → (all before rest : List ℕ) → ((m : ℕ) → has all m ≡ (has before m || has rest m)) → are_rising rest ≡ true
     → each_after (λ b n. list_all (λ m. not (has all m) || has b m) (used n)) before rest ≡ true
 in_order used low all before [] split rise = refl
 in_order used low all before (n ∷ rest) split rise = both _ _ (all_weaker (λ m. nat_lt m n) (λ m. not (has all m) || has before m)
     (λ m h. covered (has all m) (has before m) (has (n ∷ rest) m) (split m) (absent_here m n rest (less_than m n h) (first_true (list_all (nat_lt n) rest) _ rise))) (used n) (low n))
-    (in_order used low all (before ++ n ∷ []) rest (λ m. split m ∙ (grouped (has before m) (n == m) (has rest m) ∙ ap (λ b. b || has rest m) (sym (list_any-append (λ k. k == m) before (n ∷ [])))))
+    (in_order used low all (before ++ n ∷ []) rest (λ m. split m ∙ ((search std_rules) ∙ ap (λ b. b || has rest m) (sym (list_any-append (λ k. k == m) before (n ∷ [])))))
     (second_true (list_all (nat_lt n) rest) _ rise))
 
 -- ---- what is used is smaller
