@@ -12,10 +12,10 @@ use Rattle.comp_meaning.specs.Reads.{Part, Member, Sight, seen_meaning, is_of, p
 use Rattle.plan_meaning.specs.{Shapes.node_shape, Shapes.part_tree, Gathering.AreEnough, NumberedRules.Fact}
 use Rattle.plan_meaning.specs.Plan.{Plan, PlannedKind, PlannedFunction, PlannedInterface, PlannedKey, PlannedItem, PlannedWorld, declared_as, trees_in}
 use Rattle.plan_meaning.specs.PlanMeaning.{type_meaning_in, function_meaning, interface_meaning_in, world_meaning_in, foreign_entry, shown_entry, plan_meaning, plan_world_meaning}
-use Rattle.plan_meaning.specs.NumberedViews.{FunctionShape, Tables, path_text, place_at, tree_at, signature_over, function_at, AreTables, NumberedType, NumberedFunction, NumberedView, view_of, declaration_of, shown_type, shown_function, NumberedSight, sight_of, IsSight, agree_in_numbers}
+use Rattle.plan_meaning.specs.NumberedViews.{FunctionShape, Tables, path_text, place_at, tree_at, signature_over, function_at, AreTables, NumberedFunction, NumberedView, view_of, declaration_of, shown_type, shown_function, NumberedSight, sight_of, IsSight, agree_in_numbers}
 use Rattle.plan_meaning.specs.NumberedWorlds.{path, label, implementing, NumberedShown, instance, function, declares, NumberedSeen, shown_of, seen_of, NumberedScope, Shows, sights_of_scope, HasPath}
 use Rattle.plan_meaning.specs.NumberedMembers.{Homes, HomesStand, is_of_package, NumberedPart, world, interface, NumberedMember, sights_of_members, sights_of_part, ShowsPart, IsMember, are_interfaces, are_package, package_shown, world_shown, IsKnownSight}
-use Rattle.plan_meaning.specs.GatheredPlan.{functions_seen, interfaces_listed, worlds_listed, Becomes, BecomesIfGiven, DeclaresKind, a_resource, a_name, a_form, TypeBecomes, TypeListed, ParamBecomes, FunctionBecomes, FunctionListed, InterfaceBecomes, InterfaceAt, ItemBecomes, SeenBecomes, WorldBecomes, SightBecomes, Keeps, InterfacesListed, WorldsListed, under_path, foreign_interface, AreChosen, is_foreign, IsGathered, GatheredPackageIsMeant, GatheredWorldIsMeant}
+use Rattle.plan_meaning.specs.GatheredPlan.{functions_seen, interfaces_listed, worlds_listed, Becomes, BecomesIfGiven, DeclaresKind, a_resource, a_name, a_form, TypeBecomes, ParamBecomes, FunctionBecomes, FunctionListed, InterfaceBecomes, InterfaceAt, ItemBecomes, SeenBecomes, WorldBecomes, SightBecomes, Keeps, InterfacesListed, WorldsListed, under_path, foreign_interface, AreChosen, is_foreign, IsGathered, GatheredPackageIsMeant, GatheredWorldIsMeant}
 use Rattle.plan_meaning.proofs.{Gathering.functions_mean_one, Gathering.one_view_is_enough, NumberedWorlds.path_number, NumberedWorlds.sights_in_numbers}
 use Rattle.plan_meaning.proofs.NumberedMembers.{only_sights, of_package, all_sights, agree_same, interfaces_same, packages_in_numbers, one_world_in_numbers}
 use Rattle.plan_meaning.proofs.{Renumbering.trees_are_kept, ShapeLaws.node_tree, ShapeLaws.part_behind, ShapeLaws.tree_at_number}
@@ -51,9 +51,6 @@ module _ (t : Tables) (tables : AreTables t) (kept : List ℕ) (p : Plan) (keeps
   type_kept : (d : Option ℕ) (id : Option Text) (n : ℕ) → TypeBecomes t kept p d id n → type_meaning_in p n ≡ record { declaration = declaration_of t d; external_id = id }
   type_kept d id n b = ap (λ o. option_map_or (planned.type_meaning p) o no_type) b.stands ∙ λ i. record { declaration = declared_kept d b.type_.kind b.kind i; external_id = b.same_id i }
 
-  abbrev type_entry : Text × ℕ → Text × TypeMeaning
-  type_entry e = (e.0, type_meaning_in p e.1)
-
   -- ---- functions and interfaces
 
   abbrev over : (ℕ → Tree) → Text × ℕ → Text × Tree
@@ -73,16 +70,15 @@ module _ (t : Tables) (tables : AreTables t) (kept : List ℕ) (p : Plan) (keeps
       → function_meaning p g ≡ record { signature = signature_over (tree_at t) f; external_id = id }
   function_kept f id g b = λ i. record { signature = signature_kept f id g b i; external_id = b.same_id i }
 
-  abbrev function_entry : Text × PlannedFunction → Text × FunctionMeaning
-  function_entry e = (e.0, function_meaning p e.1)
-
   interface_kept : (v : NumberedView) (fs : List (Text × NumberedFunction)) (x : PlannedInterface) → InterfaceBecomes t kept p v fs x
       → planned.interface_meaning p x ≡ reads.interface_meaning (view_of t v) (map (shown_function t) fs)
   interface_kept v fs x b =
-      let functions = zip_map (FunctionListed t kept p) (shown_function t) function_entry
+      let functions = zip_map (FunctionListed t kept p) (shown_function t) (λ e. (e.0, function_meaning p e.1))
       (λ f e h i. (h.0 i, function_kept (function_at t f.1.signature) f.1.external_id e.1 h.1 i)) fs x.functions b.functions in
-      λ i. record { types = (zip_map _ _ _ (λ x e h i. (h.0 i, type_kept x.declared x.external_id e.1 h.1 i)) v.types x.types b.types ∙ sym (map_of_map named_meaning (shown_type t) v.types)) i;
-      functions = from_entries (functions i) }
+      λ i. record {
+        types = (zip_map _ _ _ (λ x e h i. (h.0 i, type_kept x.declared x.external_id e.1 h.1 i)) v.types x.types b.types ∙ sym (map_of_map named_meaning (shown_type t) v.types)) i;
+        functions = from_entries (functions i);
+      }
 
   interface_there : (v : NumberedView) (fs : List (Text × NumberedFunction)) (n : ℕ) → InterfaceAt t kept p v fs n
       → interface_meaning_in p n ≡ reads.interface_meaning (view_of t v) (map (shown_function t) fs)
@@ -161,9 +157,8 @@ module _ (t : Tables) (tables : AreTables t) (kept : List ℕ) (p : Plan) (keeps
               let s : NumberedSight = record { place = q; view = v; whole = true } in
               λ i. (
                 (listed.0.name ∙ sym z.0.label) i,
-                (whole_kept seen sights agrees obey s
-                    (own s (Contains-append_right (map (λ (i : ℕ × NumberedView). record { place = i.0; view = i.1; whole = false }) imports) (s ∷ []) s (contains-one s))) refl e.1 listed.0.there
-                    ∙ ap (λ (y : View). reads.interface_meaning y y.functions) (sym is.shown)) i,
+                (whole_kept seen sights agrees obey s (own s (Contains-append_right (map (λ (i : ℕ × NumberedView). record { place = i.0; view = i.1; whole = false }) imports) (s ∷ []) s
+                    (contains-one s))) refl e.1 listed.0.there ∙ ap (λ (y : View). reads.interface_meaning y y.functions) (sym is.shown)) i,
               ) ∷ more es listed.1 i
           by _ _ is own es listed more = absurd is
       interfaces_kept _ among _ z es listed = absurd z
@@ -233,12 +228,6 @@ module _ (t : Tables) (tables : AreTables t) (kept : List ℕ) (p : Plan) (keeps
 
 abbrev meant_entry : Plan → Text × PlannedInterface → Text × InterfaceMeaning
 meant_entry p y = (y.0, planned.interface_meaning p y.1)
-
-abbrev meant_under : Plan → PlannedInterface → Text → Text × InterfaceMeaning
-meant_under p x q = (q, planned.interface_meaning p x)
-
-abbrev planned_under : PlannedInterface → Text → Text × PlannedInterface
-planned_under x q = (q, x)
 
 -- ---- a package
 

@@ -4,7 +4,7 @@ use Rattle.std.proofs.lemmas.{Bool.eqb-true, Bool.eq-eqb, Bool.lt-ltb, Bool.or_r
 use Rattle.std.specs.{List.AllZip, List.Contains, List.cons_option, List.flat_map, List.list_all, Option.option_map_or}
 use Rattle.wit_model.specs.declared.model.TypeOwner.{TypeOwner}
 use Rattle.wit_model.specs.{Text.Text, Tree.Place, Tree.Form, Tree.Tree, Tree.children, Parts.met_by, Parts.same_owner}
-use Rattle.comp_meaning.specs.Rules.{are_labels, are_parts, form_labels, is_named_form}
+use Rattle.comp_meaning.specs.Rules.{are_parts, is_named_form}
 use Rattle.comp_meaning.proofs.SameLaws.{places_decide}
 use Rattle.plan_meaning.specs.{Shapes.Shape, Shapes.node_shape, Shapes.named_shape, Renumbering.IsPart, Renumbering.a_primitive, Renumbering.a_shape}
 use Rattle.plan_meaning.specs.Plan.{Plan, PlannedType, PlannedFunction, kind_numbers, part_number, met_at, met_in, has_owner, function_parts}
@@ -146,10 +146,7 @@ module _ (t : Tables) (tables : AreTables t) (kept : List ℕ) (p : Plan) (are :
 
     kind_fine : (d : Option ℕ) → rules.is_declared (place_at t r) (declaration_of t d) ≡ true → DeclaresKind t kept p d x.kind → IsFine x
     kind_fine d obeys (a_resource none k) = own_numbers (ap (λ y. list_all (has_owner p (owners r)) (flat_map (met_by all_met) (kind_numbers y))) k)
-    kind_fine d obeys (a_form old m form olds news some from at z k) =
-        let labels = are_labels (form_labels form) in
-        let parts = are_parts (place_at t r) (children (map (tree_at t) olds)) in
-        own_numbers (ap (λ y. list_all (has_owner p (owners r)) (flat_map (met_by all_met) (kind_numbers y))) k
+    kind_fine d obeys (a_form old m form olds news some from at z k) = own_numbers (ap (λ y. list_all (has_owner p (owners r)) (flat_map (met_by all_met) (kind_numbers y))) k
         ∙ form_met r all_met m form olds news at z (second_true _ _ (first_true _ _ (form_obeys t tables kept p are old m form olds from at (place_at t r) d some obeys)))
         (λ part c s has. (subst (AllOf (IsSeenFrom t r)) some (owned.seen j n x r name d planned_there kept_there there (a_form old m form olds news some from at z k))) s
         (inside old m part s form olds from at c has)) (λ i l stands less range here. all_own r (suc i) i l (omega arith) range stands here))

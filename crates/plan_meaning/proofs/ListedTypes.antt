@@ -93,8 +93,7 @@ module _ (t : Tables) (tables : AreTables t) (kept : List ℕ) (p : Plan) (are :
       by {home = home} (a_type g n shown entry is) d f h =
           let shape_number : is.number ≡ k = omega (arith, is.last, last) in
           ap (λ o. option_map_or (λ (y : PlannedWorld). is_id j (option_and_then item_type (lookup (is_under_label name) y.imports))) o false) e
-          ∙ (ap (λ o. is_id j (option_and_then item_type o)) (key_there name (plan.declares j) w.imports h
-          (subst (Contains w.imports) (entry ∙ (λ y. (
+          ∙ (ap (λ o. is_id j (option_and_then item_type o)) (key_there name (plan.declares j) w.imports h (subst (Contains w.imports) (entry ∙ (λ y. (
             plan.label ((same_name home q k x.seen.key name (ap (slice_get t.shapes) (sym shape_number) ∙ is.shape) there) y),
             plan.declares ((are.once n j k (is.stands ∙ ap Some shape_number) at) y),
           ))) (subst (λ es. Contains es x.entry) f d))) ∙ same-number j)

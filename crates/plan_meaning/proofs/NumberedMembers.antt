@@ -5,10 +5,10 @@ use Rattle.std.specs.{List.AllByRecursion, List.AllZip, List.flat_map, List.list
 use Rattle.wit_model.specs.{Text.Text, Text.text_eq, Names.PackageIdentity, Names.path_in, Names.read_path}
 use Rattle.wit_model.proofs.{NameLaws.read_path_is_spelled, VersionLaws.same_text, TextLemmas.text_same}
 use Rattle.comp_meaning.specs.{Follow.View, Follow.each, Same.same_identity}
-use Rattle.comp_meaning.specs.Reads.{Part, Member, Sight, is_of, all_agree, is_interface_part}
+use Rattle.comp_meaning.specs.Reads.{Part, Member, is_of, all_agree, is_interface_part}
 use Rattle.comp_meaning.proofs.SameLaws.{identities_decide}
 use Rattle.plan_meaning.specs.NumberedViews.{Tables, path_text, AreTables, NumberedView, NumberedSight, sight_of, IsSight, agree_in_numbers}
-use Rattle.plan_meaning.specs.{NumberedRules.Fact, NumberedWorlds.path, NumberedWorlds.NumberedSeen, NumberedWorlds.seen_of, NumberedWorlds.HasPath}
+use Rattle.plan_meaning.specs.{NumberedRules.Fact, NumberedWorlds.NumberedSeen, NumberedWorlds.seen_of, NumberedWorlds.HasPath}
 use Rattle.plan_meaning.specs.NumberedMembers.{Homes, IsHomeOf, HomesStand, is_of_package, is_named_in, NumberedPart, world, interface, NumberedMember, sights_of_part, sights_of_members, ShowsInterface, ShowsPart, IsMember, shown_view, imported_view, are_interfaces, is_interface_of, stands_at_top, IsKnownSight, ImportsInNumbers, ExportInNumbers, PackagesInNumbers, OneWorldInNumbers}
 use Rattle.plan_meaning.proofs.{NumberedRules.interface_same, Lists.each_so, Lists.all_same}
 use Rattle.plan_meaning.proofs.{NumberedViews.all_agree_in_numbers, NumberedWorlds.path_is, NumberedWorlds.path_number, NumberedWorlds.sights_in_numbers}
@@ -68,9 +68,6 @@ module _ (t : Tables) (tables : AreTables t) (h : Homes) (stand : HomesStand t h
       let identity : home.identity ≡ x.package_ = same-some home.identity x.package_ (sym home.stands ∙ (ap (λ (y : ℕ × Text). slice_get h.packages y.0) pair ∙ package_)) in
       let name : home.name ≡ x.label = ap (λ (y : ℕ × Text). y.1) pair ∙ sym under in
       sym (path_is t p is.path ∙ ((read_path_is_spelled is.path.0 home.identity home.name home.reads).spelled ∙ (λ i. path_in (identity i) (name i))))
-
-  abbrev imported_sight : Text × View → Sight
-  imported_sight i = record { path = i.0; view = i.1; whole = false }
 
   part_sights : (m : NumberedMember) (x : Member) → slice_get h.packages m.package_ ≡ Some x.package_ → x.label ≡ m.label → (a : NumberedPart) (b : Part) → ShowsPart t h m a b
       → reads.sights (record { label = x.label; package_ = x.package_; part = b }) ≡ map (sight_of t) (sights_of_part t a)

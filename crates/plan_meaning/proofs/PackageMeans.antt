@@ -110,8 +110,7 @@ module _ (r : Resolve) (v : IsValid r) (given : PlannedInterface → Option (Tex
       let its_path : path_of_interface r i ≡ Some path = sym (path_there r n i standing.there) ∙ there in
       let passes = (back n c).1 i standing.there in
       contains-filter_map given (map planned_interface r.interfaces.items) (planned_interface i) (k, x) (contains-map _ _ i (get-contains _ n i standing.there))
-      (subst (λ (o : Option (Text × InterfaceMeaning)). Contains (option_to_list o) (k, x))
-      (sym (of i path passes its_path ∙ (λ j. Some (
+      (subst (λ (o : Option (Text × InterfaceMeaning)). Contains (option_to_list o) (k, x)) (sym (of i path passes its_path ∙ (λ j. Some (
         (ap (λ o. unwrap_or o []) (sym there) ∙ ap (λ (q : Text × InterfaceMeaning). q.0) e) j,
         (sym (among n i standing.there path its_path passes).1 ∙ ap (λ (q : Text × InterfaceMeaning). q.1) e) j,
       )))) (contains-one (k, x)))

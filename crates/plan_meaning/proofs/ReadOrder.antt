@@ -294,11 +294,7 @@ module _ (t : Tables) (tables : AreTables t) (kept : List ℕ) (p : Plan) (are :
         → stand_earlier t earlier (map (λ (x : ReadItem). x.seen) xs) ≡ true
         → each_after (uses_stand_before p m) before (map (λ (e : PlannedKey × PlannedItem). e.1) (map (λ (x : ReadItem). x.entry) xs)) ≡ true
     in_order [] a follow earlier before inv h = refl
-    in_order (x ∷ xs) a follow earlier before inv h =
-        let behind_x = list_all (λ (y : ReadItem). not (is_type_seen y.seen.shown) || nat_lt x.count y.count) xs in
-        let here = list_all (has earlier) (uses_of t x.seen.shown) in
-        let more = stand_earlier t (earlier ++ path_seen x.seen.shown) (map (λ (y : ReadItem). y.seen) xs) in
-        both _ _ (stands x xs a.0 earlier before inv (first_true _ _ h) (first_true _ _ follow))
+    in_order (x ∷ xs) a follow earlier before inv h = both _ _ (stands x xs a.0 earlier before inv (first_true _ _ h) (first_true _ _ follow))
         (in_order xs a.1 (second_true _ _ follow) (earlier ++ path_seen x.seen.shown) (before ++ x.entry.1 ∷ []) (next x xs a.0 earlier before inv) (second_true _ _ h))
 
     -- ---- all items

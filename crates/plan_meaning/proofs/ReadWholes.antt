@@ -51,9 +51,6 @@ module _ (t : Tables) (tables : AreTables t) (h : Homes) (homes : HomesStand t h
         by (a_parameter name c) = Contains-append_left (map (λ (x : Text × ℕ). x.1) f.params) (option_to_list f.result) (14 + k) (contains-map (λ (x : Text × ℕ). x.1) f.params (name, 14 + k) c)
         by (a_result e) = Contains-append_right _ _ _ (subst (λ o. Contains (option_to_list o) (14 + k)) (sym e) (0, omega arith, refl))
 
-    abbrev in_types : Bool
-    in_types = list_any (λ x. has (kind_numbers x.kind) j) p.types
-
     abbrev in_interfaces : Bool
     in_interfaces = list_any (λ i. list_any (λ f. has (function_numbers f) j) (functions_of i)) p.interfaces
 
@@ -105,7 +102,6 @@ module _ (t : Tables) (tables : AreTables t) (h : Homes) (homes : HomesStand t h
   world_shows q n at is =
       let w = is.world in
       let r = read.order.worlds is.number w is.there in
-      let all = r.imports ++ r.exports in
       contains-has _ n (contains-filter_map item_interface (items_of w) is.item.entry.1 n
       (subst (λ xs. Contains xs is.item.entry.1) (ap (map (λ (z : PlannedKey × PlannedItem). z.1)) (append_of_map _ _ _ ∙ (λ i. r.imports_listed i ++ r.exports_listed i)) ∙ append_of_map _ _ _)
       (contains-map _ _ _ (contains-map _ _ _ is.listed))) (subst (λ o. Contains (option_to_list o) n)
@@ -152,7 +148,7 @@ module _ (t : Tables) (tables : AreTables t) (h : Homes) (homes : HomesStand t h
             among = contains-later exported (i ∷ later) found.0 (contains-later i later found.0 found.1);
             uses = found.2;
             away = λ e. no_true (sym (sym (contains-has _ _ (contains-map _ _ found.0 found.1))
-            ∙ (ap (has (map (λ (i : ℕ × NumberedView). i.0) later)) (sym e) ∙ (ap (has (map (λ (l : ℕ × NumberedView). l.0) later)) (sym same) ∙ none))));
+                ∙ (ap (has (map (λ (i : ℕ × NumberedView). i.0) later)) (sym e) ∙ (ap (has (map (λ (l : ℕ × NumberedView). l.0) later)) (sym same) ∙ none))));
           }
       at same (inr c) = record { by_view = exported; among = (0, omega arith, refl); uses = c; away = λ e. let other = none_first _ _ away in never _ (eq-eqb _ _ (same ∙ e)) other }
 

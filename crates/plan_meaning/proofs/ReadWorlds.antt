@@ -88,18 +88,11 @@ module _ (t : Tables) (tables : AreTables t) (kept : List ℕ) (p : Plan) (are :
     exports_itself x (a_function f g shown entry is) obeys none = search (rules, or_nothing, second_true, both, function_stands, stands_free)
     exports_itself x (a_type d n shown entry is) obeys none = no_true (sym (ap (λ s. not (is_type_seen s)) shown) ∙ none)
 
-    abbrev obeys_alone : NumberedSeen → Bool
-    obeys_alone s = is_item t b.known home [] s.key s.shown
-
-    abbrev no_type : NumberedSeen → Bool
-    no_type s = not (is_type_seen s.shown)
-
-    all_exports : (xs : List ReadItem) → AllByRecursion Item xs → list_all obeys_alone (map (λ (x : ReadItem). x.seen) xs) ≡ true → list_all no_type (map (λ (x : ReadItem). x.seen) xs) ≡ true
+    all_exports : (xs : List ReadItem) → AllByRecursion Item xs → list_all (λ s. is_item t b.known home [] s.key s.shown) (map (λ (x : ReadItem). x.seen) xs) ≡ true
+        → list_all (λ s. not (is_type_seen s.shown)) (map (λ (x : ReadItem). x.seen) xs) ≡ true
         → list_all (export_stands p) (map (λ (x : ReadItem). x.entry) xs) ≡ true
     all_exports [] a h k = refl
-    all_exports (x ∷ xs) a h k =
-        let rest = map (λ (y : ReadItem). y.seen) xs in
-        both _ _ (exports_itself x a.0 (first_true _ _ h) (first_true _ _ k)) (all_exports xs a.1 (second_true _ _ h) (second_true _ _ k))
+    all_exports (x ∷ xs) a h k = both _ _ (exports_itself x a.0 (first_true _ _ h) (first_true _ _ k)) (all_exports xs a.1 (second_true _ _ h) (second_true _ _ k))
 
     -- ---- keys
 
@@ -135,9 +128,7 @@ module _ (t : Tables) (tables : AreTables t) (kept : List ℕ) (p : Plan) (are :
     all_keys : (xs : List ReadItem) → AllByRecursion Item xs → distinct (map (λ (s : NumberedSeen). s.key) (map (λ (x : ReadItem). x.seen) xs)) ≡ true
         → keys_differ (map (λ (x : ReadItem). x.entry) xs) ≡ true
     all_keys [] a h = refl
-    all_keys (x ∷ xs) a h =
-        let keys = map (λ (s : NumberedSeen). s.key) (map (λ (y : ReadItem). y.seen) xs) in
-        both _ _ (ap not (no_other_key x a.0 xs a.1 (not_true _ (first_true _ _ h)))) (all_keys xs a.1 (second_true _ _ h))
+    all_keys (x ∷ xs) a h = both _ _ (ap not (no_other_key x a.0 xs a.1 (not_true _ (first_true _ _ h)))) (all_keys xs a.1 (second_true _ _ h))
 
     -- ---- types
 
