@@ -131,18 +131,7 @@ module _ (r s : Resolve) (f : Renumbering) (valid : KeepsRules r) (is : IsCarrie
           (ap (flat_map (met_by (met_of s))) (numbers_same f.types t.def.kind t.image.kind k.kinds) ∙ rest.0, rest.1)
 
       go : (x y : Option (String Global)) → t.def.name ≡ x → t.image.name ≡ y → optional_text t.image.name ≡ optional_text t.def.name → IsMetAlike n
-      go None None e d same =
-          let k = unnamed (image_kind t.def t.image e t.kind) in (
-            (new ∙ ap (λ o. option_map_or (λ name. f.types n ∷ []) o (used_by_type s t.image)) d)
-                ∙ (k.0 ∙ sym (ap (map f.types) (old ∙ ap (λ o. option_map_or (λ name. n ∷ []) o (used_by_type r t.def)) e))),
-            ap (list_all f.carries_type) (old ∙ ap (λ o. option_map_or (λ name. n ∷ []) o (used_by_type r t.def)) e) ∙ k.1,
-          )
-      go None (Some y) e d same = let wrong : None ≡ Some (text_of y) = sym (sym (ap optional_text d) ∙ (same ∙ ap optional_text e)) in absurd cc
-      go (Some x) None e d same = let wrong : None ≡ Some (text_of x) = sym (ap optional_text d) ∙ (same ∙ ap optional_text e) in absurd cc
-      go (Some x) (Some y) e d same = (
-        (new ∙ ap (λ o. option_map_or (λ name. f.types n ∷ []) o (used_by_type s t.image)) d) ∙ sym (ap (map f.types) (old ∙ ap (λ o. option_map_or (λ name. n ∷ []) o (used_by_type r t.def)) e)),
-        ap (list_all f.carries_type) (old ∙ ap (λ o. option_map_or (λ name. n ∷ []) o (used_by_type r t.def)) e) ∙ both _ _ c refl,
-      )
+      go z u e d same = search (std_rules, unnamed, image_kind, t, new, old, both)
 
   met_below : (fuel n : ℕ) → n < fuel → f.carries_type n ≡ true → IsMetAlike n
   met_below zero n h c = absurd (omega (arith, h))

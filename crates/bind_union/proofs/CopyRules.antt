@@ -127,8 +127,7 @@ module _ (r s : Resolve) (f : Renumbering) (valid : KeepsRules r) (is : IsCarrie
         ∙ target (alias_target t.def.kind) (alias_of_all f.carries_type t.def.kind parts) (second_true (not (is_named_kind t.def.kind) || is_some t.def.name) _ old))
       where
         target : (o : Option ℕ) → passes f.carries_type o ≡ true → passes (is_named_number r) o ≡ true → passes (is_named_number s) (option_map f.types o) ≡ true
-        target None c h = refl
-        target (Some m) c h = named_number m c h
+        target x c h = search std_rules
 
     -- handles
     pub handle_passes : handles.type_ s (f.types n) t.image ≡ true
@@ -142,8 +141,7 @@ module _ (r s : Resolve) (f : Renumbering) (valid : KeepsRules r) (is : IsCarrie
         ∙ target (handled t.def.kind) (handled_of_all f.carries_type t.def.kind parts) (second_true (list_all (λ x. not (is_resource_type r x)) (member_types t.def.kind)) _ old))
       where
         target : (o : Option ℕ) → passes f.carries_type o ≡ true → passes (is_resource r) o ≡ true → passes (is_resource s) (option_map f.types o) ≡ true
-        target None c h = refl
-        target (Some m) c h = resource_same_at r s f valid is below_s m c ∙ h
+        target x c h = search (std_rules, resource_same_at)
 
     -- depths
     pub depth_passes : depths.type_ s (f.types n) t.image ≡ true
@@ -168,30 +166,20 @@ module _ (r s : Resolve) (f : Renumbering) (valid : KeepsRules r) (is : IsCarrie
     used_there = ap (flat_map (met_by (met_of s))) (numbers_same f.types t.def.kind t.image.kind k.kind.kinds) ∙ (used_same r s f valid is below_s (kind_numbers t.def.kind) parts).0
 
     unowned : (o : TypeOwner) → same_owner (owner_under f o) owner.None ≡ same_owner o owner.None
-    unowned (owner.World id) = refl
-    unowned _ = refl
+    unowned x = search std_rules
 
     -- an owner that is not alone is none
     copied_alone : (o : TypeOwner) → copies_owner f o ≡ true → same_owner o owner.None ≡ false → homes.alone r s f valid is below_s o ≡ true
-    copied_alone (owner.World id) c h = c
-    copied_alone (owner.Interface id) c h = c
-    copied_alone owner.None c h = no_true (sym h)
+    copied_alone x c h = search std_rules
 
     abbrev is_named_interface : Resolve → Option ℕ → Bool
     is_named_interface r o = option_map_or (λ i. option_map_or (λ other. is_some other.name) (interface_at r i) false) o false
 
     named_interface : (o : TypeOwner) → carries_owner f o ≡ true → is_named_interface r (owner_interface o) ≡ true → is_named_interface s (owner_interface (owner_under f o)) ≡ true
-    named_interface (owner.World id) c h = h
-    named_interface owner.None c h = h
-    named_interface (owner.Interface id) c h =
-        let i = is.interfaces id.0 c in
-        ap (λ x. option_map_or (λ other. is_some other.name) x false) i.at_image
-        ∙ (named_alike i.image.name i.old.name i.name
-        ∙ (sym (ap (λ x. option_map_or (λ other. is_some other.name) x false) i.found) ∙ h))
+    named_interface y c h = search std_rules
 
     negated : (a b : Bool) → (a ≡ true → b ≡ true) → not b ≡ true → not a ≡ true
-    negated true b h e = no_true (sym (ap not (h refl)) ∙ e)
-    negated false b h e = refl
+    negated x b h e = search std_rules
 
     use_passes : same_owner t.def.owner owner.None ≡ false → is_use r t.def ≡ true → is_use s t.image ≡ true
     use_passes owned h =
@@ -303,14 +291,10 @@ module _ (r s : Resolve) (f : Renumbering) (valid : KeepsRules r) (is : IsCarrie
     values_carried = first_true _ _ (sym (list_all-append f.carries_type (filter_map number_of (function_types g)) (option_to_list (resource_of g.kind))) ∙ c.parts)
 
     pub resource_carried : passes f.carries_type (resource_of g.kind) ≡ true
-    resource_carried = sym (all_given f.carries_type (resource_of g.kind)) ∙ second_true (list_all f.carries_type (filter_map number_of (function_types g))) _
-        (sym (list_all-append f.carries_type (filter_map number_of (function_types g)) (option_to_list (resource_of g.kind))) ∙ c.parts)
+    resource_carried = search (std_rules, all_given, second_true, list_all-append, parts)
 
     pub function_numbers_there : function_numbers h ≡ map f.types (function_numbers g)
-    function_numbers_there =
-        (λ i. (ap (filter_map number_of) types_there ∙ numbers_under f.types (function_types g)) i
-        ++ (ap (λ k. option_to_list (resource_of k)) c.kind ∙ (ap option_to_list (resource_under f g.kind) ∙ one_given f.types (resource_of g.kind))) i)
-        ∙ sym (map-append f.types (filter_map number_of (function_types g)) (option_to_list (resource_of g.kind)))
+    function_numbers_there = search (std_rules, types_there, numbers_under, resource_under, one_given, map-append)
 
     -- numbers in range
     pub function_range_passes : function_in_range s h ≡ true
@@ -322,9 +306,7 @@ module _ (r s : Resolve) (f : Renumbering) (valid : KeepsRules r) (is : IsCarrie
 
     -- labels
     pub function_labels_pass : function_labels g ≡ true → function_labels h ≡ true
-    function_labels_pass old =
-        (λ i. (not ((ap is_freestanding c.kind ∙ freestanding_under f g.kind) i) || is_label (c.name i))
-        && (are_member_labels (names_there i) && stability_alike h.stability g.stability c.stability i)) ∙ old
+    function_labels_pass old = search (std_rules, freestanding_under, names_there, stability_alike)
 
     -- owners
     pub function_stays_passes : (o : TypeOwner) → function_stays r o g ≡ true → function_stays s (owner_under f o) h ≡ true
@@ -335,21 +317,15 @@ module _ (r s : Resolve) (f : Renumbering) (valid : KeepsRules r) (is : IsCarrie
 
     -- all that it uses
     pub function_uses : (used_by_function s h ≡ map f.types (used_by_function r g)) × (list_all f.carries_type (used_by_function r g) ≡ true)
-    function_uses =
-        let used = used_same r s f valid is below_s (function_numbers g) c.parts in
-        (ap (flat_map (met_by (met_of s))) function_numbers_there ∙ used.0, used.1)
+    function_uses = search (std_rules, used_same r s f valid is below_s (function_numbers g) c.parts, function_numbers_there)
 
     -- handles
     pub function_handles_pass : list_all (λ t. not (is_resource_type r t)) (function_types g) ≡ true → list_all (λ t. not (is_resource_type s t)) (function_types h) ≡ true
-    function_handles_pass old =
-        ap (list_all (λ t. not (is_resource_type s t))) types_there
-        ∙ values_pass (λ t. not (is_resource_type r t)) (λ t. not (is_resource_type s t)) (no_resource_passes) (function_types g) values_carried old
+    function_handles_pass old = search (std_rules, types_there, values_pass, no_resource_passes, values_carried)
 
     -- depths
     pub function_depths_pass : list_all (is_shallow r) (function_types g) ≡ true → list_all (is_shallow s) (function_types h) ≡ true
-    function_depths_pass old =
-        ap (list_all (is_shallow s)) types_there
-        ∙ values_pass (is_shallow r) (is_shallow s) (shallow_passes) (function_types g) values_carried old
+    function_depths_pass old = search (std_rules, types_there, values_pass, shallow_passes, values_carried)
 
     -- function names
     constructs_there : (n : ℕ) → constructs r n g ≡ true → constructs s (f.types n) h ≡ true
@@ -366,15 +342,13 @@ module _ (r s : Resolve) (f : Renumbering) (valid : KeepsRules r) (is : IsCarrie
             → (a || b) ≡ true
             → (type_is s (is_own_of (f.types n)) (renamed_type f.types x) || type_is s (is_result_of_own s (f.types n)) (renamed_type f.types x)) ≡ true
         either x d true b p q e = or_left _ _ (type_is_there (is_own_of n) (is_own_of (f.types n)) (own_there n) x d p)
-        either x d false true p q e = or_right (type_is s (is_own_of (f.types n)) (renamed_type f.types x)) _
-            (type_is_there (is_result_of_own r n) (is_result_of_own s (f.types n)) (result_there n) x d q)
+        either x d false true p q e = search (std_rules, or_right, type_is_there, result_there)
         either x d false false p q e = no_true e
 
         go : (o : Option ValueType) → list_all f.carries_type (filter_map number_of (option_to_list o)) ≡ true
             → option_map_or (λ t. type_is r (is_own_of n) t || type_is r (is_result_of_own r n) t) o false ≡ true
             → option_map_or (λ t. type_is s (is_own_of (f.types n)) t || type_is s (is_result_of_own s (f.types n)) t) (option_map (renamed_type f.types) o) false ≡ true
-        go None d e = e
-        go (Some x) d e = either x (first_true _ _ (sym (list_all_filter_map f.carries_type number_of (x ∷ [])) ∙ d)) (type_is r (is_own_of n) x) (type_is r (is_result_of_own r n) x) refl refl e
+        go y d e = search (std_rules, either, first_true, list_all_filter_map)
 
     self_there : (n : ℕ) → takes_self r n g ≡ true → takes_self s (f.types n) h ≡ true
     self_there n old =
@@ -402,8 +376,7 @@ module _ (r s : Resolve) (f : Renumbering) (valid : KeepsRules r) (is : IsCarrie
             → option_map_or (λ p. text_eq (text_of p.name) (codes "self") && type_is r (is_borrow_of n) p.ty) (slice_get ps 0) false ≡ true
             → self_view s (is_borrow_of (f.types n)) (option_map (λ p. (text_of p.name, renamed_type f.types p.ty)) (slice_get ps 0)) ≡ true
         go [] d e = e
-        go (p ∷ ps) d e = both _ _ (first_true _ _ e) (type_is_there (is_borrow_of n) (is_borrow_of (f.types n)) (borrow_there n) p.ty (first_true _ _ d)
-            (second_true (text_eq (text_of p.name) (codes "self")) _ e))
+        go (p ∷ ps) d e = search (std_rules, both, first_true, type_is_there, borrow_there, second_true)
 
     pub member_passes : (o : TypeOwner) → is_member r o g ≡ true → is_member s (owner_under f o) h ≡ true
     member_passes o old =
@@ -411,28 +384,16 @@ module _ (r s : Resolve) (f : Renumbering) (valid : KeepsRules r) (is : IsCarrie
         ∙ go (resource_of g.kind) resource_carried old
       where
         of : (n : ℕ) (name : Text) (k : FunctionKind) → is_member_of r n name g k ≡ true → is_member_of s (f.types n) name h (call_under f k) ≡ true
-        of n name call.Freestanding e = refl
-        of n name call.AsyncFreestanding e = refl
-        of n name (call.Method id) e = both _ _ (ap (λ t. option_map_or is_label (after_prefix (method_name name []) t) false) c.name ∙ first_true _ _ e)
-            (self_there n (second_true (is_member_name (method_name name []) g) _ e))
-        of n name (call.AsyncMethod id) e = both _ _ (ap (λ t. option_map_or is_label (after_prefix (method_name name []) t) false) c.name ∙ first_true _ _ e)
-            (self_there n (second_true (is_member_name (method_name name []) g) _ e))
-        of n name (call.Static id) e = ap (λ t. option_map_or is_label (after_prefix (static_name name []) t) false) c.name ∙ e
-        of n name (call.AsyncStatic id) e = ap (λ t. option_map_or is_label (after_prefix (static_name name []) t) false) c.name ∙ e
-        of n name (call.Constructor id) e = both _ _ (ap (λ t. text_eq t (constructor_name name)) c.name ∙ first_true _ _ e)
-            (constructs_there n (second_true (text_eq (text_of g.name) (constructor_name name)) _ e))
+        of n name x e = search (std_rules, both, first_true, self_there, second_true, constructs_there)
 
         named : (n : ℕ) → f.carries_type n ≡ true → (x : Option Text) → resource_name r o n ≡ x → option_map_or (λ name. is_member_of r n name g g.kind) x false ≡ true
             → option_map_or (λ name. is_member_of s (f.types n) name h h.kind) (resource_name s (owner_under f o) (f.types n)) false ≡ true
         named n d None e old = no_true old
-        named n d (Some name) e old =
-            ap (λ x. option_map_or (λ name. is_member_of s (f.types n) name h h.kind) x false) (resource_named o n d name e)
-            ∙ (ap (is_member_of s (f.types n) name h) c.kind ∙ of n name g.kind old)
+        named n d (Some name) e old = search (std_rules, resource_named o n d name e, of n name g.kind old)
 
         go : (x : Option ℕ) → passes f.carries_type x ≡ true → passes (λ n. option_map_or (λ name. is_member_of r n name g g.kind) (resource_name r o n) false) x ≡ true
             → passes (λ n. option_map_or (λ name. is_member_of s n name h h.kind) (resource_name s (owner_under f o) n) false) (option_map f.types x) ≡ true
-        go None d e = refl
-        go (Some n) d e = named n d (resource_name r o n) refl e
+        go x d e = search (std_rules, named)
 
   interface_there : (n : ℕ) → f.carries_interface n ≡ true → in_list s.interfaces.items (f.interfaces n) ≡ true
   interface_there n c = let i = is.interfaces n c in lt-ltb _ _ (slice_get_within s.interfaces.items (f.interfaces n) i.image i.at_image)

@@ -70,8 +70,7 @@ module _ (r s : Resolve) (f : Renumbering) (valid : KeepsRules r) (is : IsCarrie
       a = alias_there n t
 
       target : (o : Option ℕ) → passes f.carries_type o ≡ true → passes (λ m. nat_lt m n) o ≡ true → option_map_or (is_resource s) (option_map f.types o) false ≡ option_map_or (is_resource r) o false
-      target None d low = refl
-      target (Some m) d low = smaller m (ltb-true m n low) d
+      target x d low = search std_rules
 
   resource_below : (fuel n : ℕ) → n < fuel → f.carries_type n ≡ true → is_resource s (f.types n) ≡ is_resource r n
   resource_below zero n h c = absurd (omega (arith, h))

@@ -169,14 +169,7 @@ module _ (r s : Resolve) (f : ℕ → ℕ) (carried : ℕ → Bool) (below_r : R
       unnamed_same : (c : IsCarriedType r s f carried n) (o : Option (String Global)) → c.def.name ≡ o →
           by_name (place_of r c.def.owner) (optional_text c.def.name) (tree_of_declaration (declared_by (trees_of s) c.image.kind))
           ≡ by_name (place_of r c.def.owner) (optional_text c.def.name) (tree_of_declaration (declared_by (trees_of r) c.def.kind))
-      unnamed_same c None e =
-          let h = c.is_image.kind e in
-          ap (λ d. by_name (place_of r c.def.owner) (optional_text c.def.name) (tree_of_declaration d))
-          (kind_same c.def c.image h
-          (each_same n same (view_numbers (kind_view c.def.kind)) (ap (list_all (λ m. nat_lt m n)) (numbers_of_view c.def.kind) ∙ below_r n c.def c.found) h.parts))
-      unnamed_same c (Some name) e =
-          ap (λ o. by_name (place_of r c.def.owner) (optional_text o) (tree_of_declaration (declared_by (trees_of s) c.image.kind))) e
-          ∙ sym (ap (λ o. by_name (place_of r c.def.owner) (optional_text o) (tree_of_declaration (declared_by (trees_of r) c.def.kind))) e)
+      unnamed_same c x e = search (std_rules, kind_same, each_same, numbers_of_view, found)
 
   below_same : (fuel n : ℕ) → n < fuel → carried n ≡ true → number_tree s (f n) ≡ number_tree r n
   below_same zero n h is = absurd (omega (arith, h))

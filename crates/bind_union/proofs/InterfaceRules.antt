@@ -1,5 +1,5 @@
 -- What an interface uses, and what the rules ask of it, holds of its copy, with its numbers in order.
-use Rattle.std.proofs.Common.{rules as std_rules, ◌≡◌, refl, sym, ap, subst, ◌∙◌, ℕ, Bool, true, false, not, ◌==◌, List, [], map, Option, Some, None, option_map, option_to_list, slice_get, ◌+◌, ◌||◌, cond, ◌∷◌, ◌++◌, inl, ◌&&◌, nat_lt, ltb-true}
+use Rattle.std.proofs.Common.{arith, rules as std_rules, ◌≡◌, refl, sym, ap, subst, ◌∙◌, ℕ, Bool, true, false, not, ◌==◌, List, [], map, Option, Some, None, option_map, option_to_list, slice_get, ◌+◌, ◌||◌, cond, ◌∷◌, ◌++◌, inl, ◌&&◌, nat_lt, ltb-true}
 use Rattle.std.proofs.lemmas.{Option.same_Some as same-some, Bool.or_right, Bool.and_from as both, Bool.lt-ltb, List.Sums.sum_by-cons, List.Folds.list_all-map}
 use Rattle.std.proofs.lemmas.Simd.{map-map}
 use Rattle.std.specs.{List.list_all, List.Contains, List.AllZip, List.list_any, Option.option_map_or, Prelude.count_by, Prelude.String}
@@ -56,9 +56,7 @@ module _ (f : ℕ → ℕ) (carries copies : ℕ → Bool) (rise : Rises f carri
       ∙ sym (sum_by-cons (λ k. cond (k == n) 1 0) m ns))
     where
       test : (a : Bool) → (m == n) ≡ a → (b : Bool) → (f m == f n) ≡ b → (f m == f n) ≡ (m == n)
-      test true p b q = subst (λ (k : ℕ). (f m == f k) ≡ (m == k)) (equal m n p) (same-number (f m) ∙ sym (same-number m))
-      test false p false q = q ∙ sym p
-      test false p true q = no_true (sym p ∙ (subst (λ (k : ℕ). (m == k) ≡ true) (apart f carries copies rise copied m n (first_true _ _ all) c (equal (f m) (f n) q)) (same-number m)))
+      test x p b q = search std_rules
 
   -- ---- lists in order
 
@@ -79,9 +77,7 @@ module _ (f : ℕ → ℕ) (carries copies : ℕ → Bool) (rise : Rises f carri
       (use_there ns before all used (second_true _ _ c) (second_true (not (has ns m) || has before m) _ h))
     where
       one : (a : Bool) → has ns m ≡ a → (b : Bool) → has (map f ns) (f m) ≡ b → (not (has ns m) || has before m) ≡ true → (not (has (map f ns) (f m)) || has (map f before) (f m)) ≡ true
-      one a p false q g = ap (λ b. not b || has (map f before) (f m)) q
-      one true p true q g = or_right (not (has (map f ns) (f m))) (has (map f before) (f m)) (has_map f before m (sym (ap (λ b. not b || has before m) p) ∙ g))
-      one false p true q g = no_true (sym p ∙ has_back ns all m (first_true _ _ c) q)
+      one a p x q g = search (std_rules, or_right, has_map, no_true, has_back, first_true)
 
   pub order_there : (uses uses_there : ℕ → List ℕ) (ns : List ℕ) → list_all copies ns ≡ true
       → ((n : ℕ) → copies n ≡ true → (uses_there (f n) ≡ map f (uses n)) × (list_all carries (uses n) ≡ true))
@@ -124,9 +120,7 @@ module _ (r s : Resolve) (f : Renumbering) (valid : KeepsRules r) (is : IsCarrie
       i = is.interfaces n c
 
       other : (m k : ℕ) → (b : Bool) → (m == n) ≡ b → f.interfaces m ≡ k → not (k == f.interfaces n) ≡ true → (m == n) ≡ false
-      other m k false e same h = e
-      other m k true e same h = no_true (sym (ap not (ap (λ (x : ℕ). f.interfaces x == f.interfaces n) (equal m n e) ∙ same-number (f.interfaces n)))
-          ∙ (ap (λ (x : ℕ). not (x == f.interfaces n)) same ∙ h))
+      other m k y e same h = search (std_rules, no_true, equal, same-number)
 
       used : (k m : ℕ) (o : Option ℕ) → interface_used_by r k ≡ o → has (interface_type_numbers i.old) k ≡ true → passes f.carries_interface o ≡ true → option_map f.interfaces o ≡ Some m
           → not (m == f.interfaces n) ≡ true → p m ≡ true
@@ -192,10 +186,7 @@ module _ (r s : Resolve) (f : Renumbering) (valid : KeepsRules r) (is : IsCarrie
         ∙ sym (map-map text_of (λ e. e.0) i.old.types.entries))))
 
     function_keys : map text_of (keys i.image.functions) ≡ map text_of (keys i.old.functions)
-    function_keys =
-        map-map text_of (λ e. e.0) i.image.functions.entries
-        ∙ (zip_map (IsFunctionEntry f) (λ e. text_of e.0) (λ e. text_of e.0) (λ a b z. z.0) i.old.functions.entries i.image.functions.entries c.functions
-        ∙ sym (map-map text_of (λ e. e.0) i.old.functions.entries))
+    function_keys = grind (arith, map-map, i, zip_map)
 
     pub all_copies : list_all f.copies_type (interface_type_numbers i.old) ≡ true
     all_copies = list_all-map f.copies_type (λ (id : TypeId). id.0) (values i.old.types) ∙ c.copies
@@ -203,17 +194,13 @@ module _ (r s : Resolve) (f : Renumbering) (valid : KeepsRules r) (is : IsCarrie
     -- what is asked of each function
     pub each_function : (p q : Function → Bool) → ((a b : String Global × Function) → IsFunctionEntry f a b → p a.1 ≡ true → q b.1 ≡ true) → list_all p (functions_of_interface i.old) ≡ true
         → list_all q (functions_of_interface i.image) ≡ true
-    each_function p q one h =
-        list_all-map q (λ e. e.1) i.image.functions.entries
-        ∙ zip_all (IsFunctionEntry f) (λ e. p e.1) (λ e. q e.1) one i.old.functions.entries i.image.functions.entries c.functions (sym (list_all-map p (λ e. e.1) i.old.functions.entries) ∙ h)
+    each_function p q one h = search (std_rules, list_all-map, i, zip_all)
 
     -- labels
     apart_by_text : (a : Interface)
         → list_all (λ name. not (list_any (λ other. text_eq (text_of name) (text_of other)) (keys a.functions))) (keys a.types) ≡ list_all
         (λ t. not (list_any (text_eq t) (map text_of (keys a.functions)))) (map text_of (keys a.types))
-    apart_by_text a =
-        (λ j. list_all (λ name. not (sym (list_any_mapped (text_eq (text_of name)) text_of (keys a.functions)) j)) (keys a.types))
-        ∙ sym (list_all-map (λ t. not (list_any (text_eq t) (map text_of (keys a.functions)))) text_of (keys a.types))
+    apart_by_text a = search (std_rules, list_any_mapped, list_all-map)
 
     pub interface_labels_pass : labels.interface_ s (f.interfaces n) i.image ≡ true
     unfolding labels

@@ -1,5 +1,5 @@
 -- What was there is carried into what grows, under its own numbers.
-use Rattle.std.proofs.Common.{rules as std_rules, ◌≡◌, ◌⊎◌, inl, inr, refl, sym, ap, ◌∙◌, ℕ, zero, suc, ◌<◌, true, false, ◌&&◌, List, [], ◌∷◌, ◌++◌, map, Option, Some, option_map, slice_get}
+use Rattle.std.proofs.Common.{arith, rules as std_rules, ◌≡◌, ◌⊎◌, inl, inr, refl, sym, ap, ◌∙◌, ℕ, zero, suc, ◌<◌, true, false, ◌&&◌, List, [], ◌∷◌, ◌++◌, map, Option, Some, option_map, slice_get}
 use Rattle.std.proofs.lemmas.List.Folds.{list_all-map}
 use Rattle.std.specs.{Prelude.String, List.AllZip, List.list_all}
 use Rattle.std.specs.declared.alloc.Global.{Global}
@@ -106,9 +106,7 @@ module _ (r : Resolve) (valid : KeepsRules r) where
 
   module _ (s : Resolve) (types : BeginsWith r.types.items s.types.items) (interfaces : BeginsWith r.interfaces.items s.interfaces.items) (packages : (n : ℕ) (p : Package) → package_at r n ≡ Some p → (q : Package) × (package_at s n ≡ Some q) × IsSameName p.name q.name) where
     carried_owner : (o : TypeOwner) → owner_in_range r o ≡ true → (carries_owner f o ≡ true) × (copies_owner f o ≡ true)
-    carried_owner (owner.World id) h = (h, h)
-    carried_owner (owner.Interface id) h = (h, h)
-    carried_owner owner.None h = (refl, refl)
+    carried_owner x h = search std_rules
 
     type_itself : (n : ℕ) → in_list r.types.items n ≡ true → IsType r s f n
     unfolding numbers_in_range
@@ -162,8 +160,7 @@ module _ (r : Resolve) (valid : KeepsRules r) where
         }
 
     rise : {X : Type 0} (xs : List X) (m n : ℕ) → in_list xs m ≡ true → in_list xs n ≡ true → (m < n) ⊎ (in_list xs m ≡ false) → m < n
-    rise xs m n c d (inl h) = h
-    rise xs m n c d (inr h) = no_true (sym h ∙ c)
+    rise xs m n c d x = search std_rules
 
     pub carried_itself : IsCarried r s f
     carried_itself = record {

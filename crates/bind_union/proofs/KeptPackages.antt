@@ -127,12 +127,7 @@ module _ (own other merged : Resolve) (bound other_bound : ℕ) (first second : 
     where
       go : (w : World) × (world_at own e.1 ≡ Some w) × ((text_eq (text_of w.name) e.0 && is_id n (package_number w.«package»)) ≡ true) → (b : Bool) → (e.1 == bound) ≡ b → is_world_of merged n e ≡ true
       go w false apart = ap (λ o. option_map_or (λ w. text_eq (text_of w.name) e.0 && is_id n (package_number w.«package»)) o false) (is.worlds e.1 w.0 w.1 apart) ∙ w.2
-      go w true same =
-          let here : second.worlds other_bound ≡ e.1 = is.bound_there ∙ sym (equal e.1 bound same) in
-          let old : is.own_bound ≡ w.0 = same-some is.own_bound w.0 (sym is.bound_at ∙ (ap (world_at own) (sym (equal e.1 bound same)) ∙ w.1)) in
-          ap (λ o. option_map_or (λ w. text_eq (text_of w.name) e.0 && is_id n (package_number w.«package»)) o false) (sym (ap (world_at merged) here) ∙ is.joined.at_image)
-          ∙ ((λ i. text_eq (text_of (is.bound_name i)) e.0 && is_id n (package_number (is.bound_package i)))
-          ∙ ((λ i. text_eq (text_of (old i).name) e.0 && is_id n (package_number (old i).«package»)) ∙ w.2))
+      go w true same = search std_rules
 
   copied_interface : (n : ℕ) (name : Text) (m : ℕ) → first.copies_interface m ≡ true → is_interface_of other n (name, m) ≡ true
       → is_interface_of merged (first.packages n) (name, first.interfaces m) ≡ true
@@ -170,16 +165,8 @@ module _ (own other merged : Resolve) (bound other_bound : ℕ) (first second : 
   all_stand n q e = go (is.package_from n (slice_get_within merged.packages.items n q e))
     where
       go : IsKeptPackage own merged n ⊎ IsPackageOf other first n → (list_all (is_interface_of merged n) (interface_names q) ≡ true) × (list_all (is_world_of merged n) (world_names q) ≡ true)
-      go (inl k) =
-          let h = own_stand n k.old k.found in
-          let here : k.image ≡ q = same-some k.image q (sym k.at_image ∙ e) in (
-            ap (λ x. list_all (is_interface_of merged n) (interface_names x)) (sym here) ∙ (ap (list_all (is_interface_of merged n)) k.interfaces ∙ h.0),
-            ap (λ x. list_all (is_world_of merged n) (world_names x)) (sym here) ∙ (ap (list_all (is_world_of merged n)) k.worlds ∙ h.1),
-          )
-      go (inr k) =
-          let h = stand_of k.number k.old k.found (is.packages_stand k.number k.old k.found) in
-          let here : h.0 ≡ q = same-some h.0 q (sym h.1 ∙ (ap (package_at merged) k.here ∙ e)) in
-          ((λ i. list_all (is_interface_of merged (sym k.here i)) (interface_names (sym here i))) ∙ h.2, (λ i. list_all (is_world_of merged (sym k.here i)) (world_names (sym here i))) ∙ h.3)
+      go (inl k) = search (std_rules, own_stand n k.old k.found, same-some k.image q (sym k.at_image ∙ e))
+      go (inr k) = search (std_rules, stand_of k.number k.old k.found (is.packages_stand k.number k.old k.found))
 
   -- names in packages
   pub names_in_packages_kept : Keeps names_in_packages merged
@@ -225,8 +212,7 @@ module _ (own other merged : Resolve) (bound other_bound : ℕ) (first second : 
   two_apart n m q o (theirs k p e here fresh x) (theirs l u d there new y) = go (l == k) refl (apart_in other valid_other k l p u e d)
     where
       go : (b : Bool) → (l == k) ≡ b → (b || not (same_package_name p.name u.name)) ≡ true → ((m == n) || not (same_package_name q o)) ≡ true
-      go true same h = or_left (m == n) (not (same_package_name q o)) (subst (λ (z : ℕ). (m == z) ≡ true) (sym there ∙ (ap first.packages (equal l k same) ∙ here)) (same-number m))
-      go false same h = or_right (m == n) (not (same_package_name q o)) (ap not (same_name p.name q u.name o x y) ∙ h)
+      go v same h = search (std_rules, or_left, equal, same-number, or_right, same_name)
 
   -- package names
   pub package_names_kept : Keeps package_names merged

@@ -85,10 +85,7 @@ inline_holds s t p k w at one same others =
     (all_by_get (λ y. (times_shown t y == 0) || option_eq ◌==◌ (package_number y.«package») p) s.worlds.items (λ m y e. each m y e (m == k) refl))
   where
     each : (m : ℕ) (y : World) → world_at s m ≡ Some y → (b : Bool) → (m == k) ≡ b → ((times_shown t y == 0) || option_eq ◌==◌ (package_number y.«package») p) ≡ true
-    each m y e false apart = or_left (times_shown t y == 0) _ (ap (λ n. n == 0) (others m y e apart))
-    each m y e true here =
-        let w_is : w ≡ y = same-some w y (sym at ∙ (ap (world_at s) (sym (equal m k here)) ∙ e)) in
-        or_right (times_shown t y == 0) _ (ap (λ q. option_eq ◌==◌ q p) (ap (λ x. package_number x.«package») (sym w_is) ∙ same) ∙ option_itself p)
+    each m y e z apart = search std_rules
 
 -- the world that shows an inline interface, and that no other does
 abbrev ShownOnce : Resolve → ℕ → Option ℕ → Type 0

@@ -50,8 +50,7 @@ module _ (r s : Resolve) (f : Renumbering) (valid : KeepsRules r) (is : IsCarrie
           ∙ ap (option_map f.types) (sym (lookup_of_map (λ t. bytes_eq name t) text_of (λ (id : TypeId). id.0) i.old.types.entries)))
         where
           twice : (o : Option TypeId) → option_map (λ id. f.types id.0) o ≡ option_map f.types (option_map (λ id. id.0) o)
-          twice None = refl
-          twice (Some id) = refl
+          twice x = search std_rules
 
 -- ---- worlds
 
@@ -61,16 +60,14 @@ lookup_append test (x ∷ xs) ys h = go (lookup_append test xs ys) (test x.0) h
   where
     go : (list_any test (keys_of xs) ≡ false → lookup test (xs ++ ys) ≡ lookup test ys) → (b : Bool) → (b || list_any test (keys_of xs)) ≡ false
         → cond b (Some x.1) (lookup test (xs ++ ys)) ≡ lookup test ys
-    go rest true h = no_true (sym h)
-    go rest false h = rest h
+    go rest x h = search std_rules
 
 pub lookup_first : {K X : Type 0} (test : K → Bool) (xs ys : List (K × X)) (v : X) → lookup test xs ≡ Some v → lookup test (xs ++ ys) ≡ Some v
 lookup_first test [] ys v h = absurd cc
 lookup_first test (x ∷ xs) ys v h = go (lookup_first test xs ys v) (test x.0) h
   where
     go : (lookup test xs ≡ Some v → lookup test (xs ++ ys) ≡ Some v) → (b : Bool) → cond b (Some x.1) (lookup test xs) ≡ Some v → cond b (Some x.1) (lookup test (xs ++ ys)) ≡ Some v
-    go rest true h = h
-    go rest false h = rest h
+    go rest x h = search std_rules
 
 -- a name is no key where it is new
 name_key_new : (f : Renumbering) (name : Text) (k : WorldKey) → is_name_key name k ≡ true → (own : List (WorldKey × WorldItem)) → is_new f own k ≡ true
@@ -83,15 +80,11 @@ name_key_new f name (key.Name a) h (x ∷ own) new = go x.0 new (name_key_new f 
     same = text-same (text_of a) name h
 
     rest_new : (b c : Bool) → not (b || c) ≡ true → (b ≡ false) × (not c ≡ true)
-    rest_new true c e = no_true e
-    rest_new false c e = (refl, e)
+    rest_new x c e = search std_rules
 
     go : (l : WorldKey) → not (same_key f (key.Name a) l || list_any (λ (y : WorldKey × WorldItem). same_key f (key.Name a) y.0) own) ≡ true
         → (is_new f own (key.Name a) ≡ true → list_any (is_name_key name) (keys_of own) ≡ false) → (is_name_key name l || list_any (is_name_key name) (keys_of own)) ≡ false
-    go (key.Interface id) e rest = rest e
-    go (key.Name b) e rest =
-        let two = rest_new (text_eq (text_of a) (text_of b)) (list_any (λ (y : WorldKey × WorldItem). same_key f (key.Name a) y.0) own) e in
-        ap (λ c. c || list_any (is_name_key name) (keys_of own)) (text_eq_flip (text_of b) name ∙ (ap (λ t. text_eq t (text_of b)) (sym same) ∙ two.0)) ∙ rest two.1
+    go x e rest = search std_rules
 
 module _ (r s : Resolve) (f : Renumbering) (valid : KeepsRules r) (is : IsCarried r s f) (below_s : Keeps references s) (m : ℕ) (c : f.copies_type m ≡ true) (name : Text) where
   -- the copied type is none of those that were there
@@ -124,9 +117,7 @@ module _ (r s : Resolve) (f : Renumbering) (valid : KeepsRules r) (is : IsCarrie
             ∙ id_stands f (types_in f) old.1 new.1 (becomes f old.1 new.1 z.1) m e,
         name_key_new f name old.0 k own fresh_key,
       )
-      go again false k e =
-          let more = again e in
-          (ap (λ b. is_id (f.types m) (option_and_then item_type (cond b (Some new.1) (lookup (is_name_key name) news)))) (same_name_key old.0 new.0 z.0 ∙ k) ∙ more.0, more.1)
+      go again false k e = search std_rules
 
   pub listed_in_world : (n : ℕ) (own_imports own_exports : List (WorldKey × WorldItem)) (j : IsJoined r s f n own_imports own_exports) → IsFresh own_imports → is_listed_in_world m name j.old ≡ true
       → is_listed_in_world (f.types m) name j.image ≡ true
@@ -161,5 +152,4 @@ stays_listed name n own more fresh h =
   where
     go : (o : Option WorldItem) → lookup (is_name_key name) own ≡ o → is_id n (option_and_then item_type o) ≡ true
         → is_id n (option_and_then item_type (lookup (is_name_key name) (own ++ more))) ≡ true
-    go None e k = no_true k
-    go (Some v) e k = ap (λ o. is_id n (option_and_then item_type o)) (lookup_first (is_name_key name) own more v e) ∙ k
+    go x e k = search (std_rules, no_true, lookup_first)

@@ -31,8 +31,7 @@ added_from number copies left_out own _ _ (added name old olds news c l n rest) 
   where
     go : (is_name t news ≡ true → (x : Text) × (k : ℕ) × Contains olds (x, k) × (left_out k ≡ false) × (text_eq t x ≡ true)) → (b : Bool) → text_eq t name ≡ b → (b || is_name t news) ≡ true
         → (x : Text) × (k : ℕ) × Contains ((name, old) ∷ olds) (x, k) × (left_out k ≡ false) × (text_eq t x ≡ true)
-    go more true e h = (name, old, (0, omega arith, refl), l, e)
-    go more false e h = let r = more h in (r.0, r.1, contains-later (name, old) olds (r.0, r.1) r.2, r.3, r.4)
+    go more x e h = search (std_rules, contains-later)
 
 -- what stood under a name is met, left out or copied
 pub joined_name : (number : ℕ → ℕ) (copies left_out : ℕ → Bool) (own olds news : List (Text × ℕ)) → JoinedNames number copies left_out own olds news → (name : Text) (n : ℕ) → Contains olds (name, n)
@@ -66,8 +65,7 @@ found_name name n (e ∷ es) h = go (bytes_eq name e.0) refl h (found_name name 
   where
     go : (b : Bool) → text_eq name e.0 ≡ b → is_id n (cond b (Some e.1) (under_text name es)) ≡ true → (is_id n (under_text name es) ≡ true → is_name name es ≡ true)
         → (text_eq name e.0 || is_name name es) ≡ true
-    go true e h rest = or_left _ _ e
-    go false e h rest = or_right _ _ (rest h)
+    go x e h rest = search std_rules
 
 -- a number that was found stays so
 pub still_found : (name : Text) (n : ℕ) (own more : List (Text × ℕ)) → is_id n (under_text name own) ≡ true → is_id n (under_text name (own ++ more)) ≡ true
@@ -92,8 +90,7 @@ copy_found number copies left_out own _ _ (added t old olds news c l new rest) n
   where
     go : (is_id n (under_text name olds) ≡ true → (is_id (number n) (under_text name news) ≡ true) × (is_name name own ≡ false)) → (b : Bool) → text_eq name t ≡ b
         → is_id n (cond b (Some old) (under_text name olds)) ≡ true → (is_id (number n) (cond b (Some (number old)) (under_text name news)) ≡ true) × (is_name name own ≡ false)
-    go more true e k = (id_under number n (Some old) k, subst (λ (x : Text). is_name x own ≡ false) (sym (text-same name t e)) new)
-    go more false e k = more k
+    go more y e k = search std_rules
 
 pub found_behind : (name : Text) (n : ℕ) (own news : List (Text × ℕ)) → is_id n (under_text name news) ≡ true → is_name name own ≡ false → is_id n (under_text name (own ++ news)) ≡ true
 found_behind name n own news h new = ap (is_id n) (lookup_append (λ t. bytes_eq name t) own news (no_key name own new)) ∙ h

@@ -236,12 +236,10 @@ module _ {X : Type 0} (g : X → ℕ) where
 
       rest : g z ≡ 0 → (r : (k : ℕ) × (x : X) × (slice_get xs k ≡ Some x) × (g x ≡ 1) × ((m : ℕ) (y : X) → slice_get xs m ≡ Some y → (m == k) ≡ false → g y ≡ 0)) → (m : ℕ) (y : X)
           → slice_get (z ∷ xs) m ≡ Some y → (m == suc r.0) ≡ false → g y ≡ 0
-      rest e r zero y d n = sym (ap g (same-some z y d)) ∙ e
-      rest e r (suc m) y d n = r.4 m y d (unequal m r.0 (λ s. differ (suc m) (suc r.0) n (ap suc s)))
+      rest e r x y d n = search std_rules
 
       head_only : sum_by g xs ≡ 0 → (m : ℕ) (y : X) → slice_get (z ∷ xs) m ≡ Some y → (m == 0) ≡ false → g y ≡ 0
-      head_only s zero y d n = no_true (sym n ∙ same-number 0)
-      head_only s (suc m) y d n = nothing xs s m y d
+      head_only s x y d n = search (std_rules, no_true, same-number, nothing)
 
       go : (sum_by g xs ≡ 1 → (k : ℕ) × (x : X) × (slice_get xs k ≡ Some x) × (g x ≡ 1) × ((m : ℕ) (y : X) → slice_get xs m ≡ Some y → (m == k) ≡ false → g y ≡ 0)) → (a : ℕ) → g z ≡ a
           → g z + sum_by g xs ≡ 1 → (k : ℕ) × (x : X) × (slice_get (z ∷ xs) k ≡ Some x) × (g x ≡ 1) × ((m : ℕ) (y : X) → slice_get (z ∷ xs) m ≡ Some y → (m == k) ≡ false → g y ≡ 0)
@@ -310,8 +308,7 @@ module _ (f : Renumbering) (s : Numbered f) where
   shown_from own _ _ (added old new olds news n z rest) t h = go (is_id t (s.number new.1)) refl (sym (numbers_cons s.number new.1 (items news) t) ∙ h) (shown_from own olds news rest t)
     where
       one : (o : Option ℕ) → passes s.marks o ≡ true → is_id t (option_map s.under o) ≡ true → (a : ℕ) × (s.marks a ≡ true) × (s.under a ≡ t)
-      one None p e = no_true e
-      one (Some a) p e = (a, p, equal (s.under a) t e)
+      one x p e = search std_rules
 
       go : (b : Bool) → is_id t (s.number new.1) ≡ b → (b || has (filter_map s.number (items news)) t) ≡ true
           → (has (filter_map s.number (items news)) t ≡ true → (a : ℕ) × (s.marks a ≡ true) × (s.under a ≡ t)) → (a : ℕ) × (s.marks a ≡ true) × (s.under a ≡ t)
@@ -332,14 +329,11 @@ module _ (f : Renumbering) (s : Numbered f) where
         → counted s.number (s.under m) (items news) ≡ counted s.number m (items olds)
     same_times apart _ _ none = refl
     same_times apart _ _ (met old there olds news held k stands rest) =
-        let here : cond (is_id m (s.number old.1)) 1 0 ≡ 0 = ap {B = ℕ} (λ b. cond b 1 0) (met_is_other old.1 there held stands) in
-        let more = counted_cons s.number m old.1 (items olds) in
-        same_times apart olds news rest ∙ omega (arith, here, more)
+        search (std_rules, met_is_other old.1 there held stands, counted_cons s.number m old.1 (items olds), same_times apart olds news rest)
     same_times apart _ _ (added old new olds news key z rest) =
         counted_cons s.number (s.under m) new.1 (items news)
         ∙ ((λ i. cond ((ap (is_id (s.under m)) (s.stands old.1 new.1 (becomes f old.1 new.1 z.1)) ∙ same (s.number old.1) (s.marked old.1 new.1 z.1)) i) 1 0 + same_times apart olds news rest i)
         ∙ sym (counted_cons s.number m old.1 (items olds)))
       where
         same : (o : Option ℕ) → passes s.marks o ≡ true → is_id (s.under m) (option_map s.under o) ≡ is_id m o
-        same None p = refl
-        same (Some a) p = both_ways _ _ (λ e. subst (λ (k : ℕ). (a == k) ≡ true) (apart a p (equal (s.under a) (s.under m) e)) (same-number a)) (id_under s.under m (Some a))
+        same x p = search std_rules
