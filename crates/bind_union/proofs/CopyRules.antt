@@ -78,6 +78,18 @@ added_pass f own p q one _ _ (added old new olds news n z rest) h = both _ _ (on
 pub text_alike : (a b : Option (String Global)) (t : Text) → optional_text a ≡ optional_text b → text_is a t ≡ text_is b t
 text_alike a b t e = search std_rules
 
+pub unowned : (f : Renumbering) (o : TypeOwner) → same_owner (owner_under f o) owner.None ≡ same_owner o owner.None
+unowned f x = search std_rules
+
+pub passes_under : (f : ℕ → ℕ) (c p q : ℕ → Bool) → ((m : ℕ) → c m ≡ true → p m ≡ true → q (f m) ≡ true) → (o : Option ℕ) → passes c o ≡ true → passes p o ≡ true → passes q (option_map f o) ≡ true
+passes_under f c p q one x d h = search std_rules
+
+weaker : (a b c d x y z w : Bool) → (a ≡ true → x ≡ true) → (b ≡ true → y ≡ true) → (c ≡ true → z ≡ true) → (a ≡ false → d ≡ true → w ≡ true) → (a || (b || (c && d))) ≡ true → (x || (y || (z && w))) ≡ true
+weaker x y z w a b c d p q u v h = search std_rules
+
+either_passes : (a b c d : Bool) → (a ≡ true → c ≡ true) → (b ≡ true → d ≡ true) → (a || b) ≡ true → (c || d) ≡ true
+either_passes x y c d p q h = search std_rules
+
 module _ (r s : Resolve) (f : Renumbering) (valid : KeepsRules r) (is : IsCarried r s f) (below_s : Keeps references s) where
   -- what is asked of each type of a value
   pub values_pass : (p q : ValueType → Bool) → ((t : ValueType) → list_all f.carries_type (option_to_list (number_of t)) ≡ true → p t ≡ true → q (renamed_type f.types t) ≡ true)
@@ -124,10 +136,8 @@ module _ (r s : Resolve) (f : Renumbering) (valid : KeepsRules r) (is : IsCarrie
         both _ _
         ((λ i. not (named_same f.types t.def.kind t.image.kind k.kind.kinds i) || named_alike t.image.name t.def.name t.name i) ∙ first_true _ _ old)
         (ap (passes (is_named_number s)) (alias_same f.types t.def.kind t.image.kind k.kind.kinds)
-        ∙ target (alias_target t.def.kind) (alias_of_all f.carries_type t.def.kind parts) (second_true (not (is_named_kind t.def.kind) || is_some t.def.name) _ old))
-      where
-        target : (o : Option ℕ) → passes f.carries_type o ≡ true → passes (is_named_number r) o ≡ true → passes (is_named_number s) (option_map f.types o) ≡ true
-        target x c h = search std_rules
+        ∙ passes_under f.types f.carries_type (is_named_number r) (is_named_number s) named_number (alias_target t.def.kind) (alias_of_all f.carries_type t.def.kind parts)
+        (second_true (not (is_named_kind t.def.kind) || is_some t.def.name) _ old))
 
     -- handles
     pub handle_passes : handles.type_ s (f.types n) t.image ≡ true
@@ -138,10 +148,8 @@ module _ (r s : Resolve) (f : Renumbering) (valid : KeepsRules r) (is : IsCarrie
         (ap (list_all (λ x. not (is_resource_type s x))) (types_same f.types t.def.kind t.image.kind k.kind.kinds)
         ∙ values_pass (λ x. not (is_resource_type r x)) (λ x. not (is_resource_type s x)) no_resource_passes (member_types t.def.kind) values (first_true _ _ old))
         (ap (passes (is_resource s)) (handled_same f.types t.def.kind t.image.kind k.kind.kinds)
-        ∙ target (handled t.def.kind) (handled_of_all f.carries_type t.def.kind parts) (second_true (list_all (λ x. not (is_resource_type r x)) (member_types t.def.kind)) _ old))
-      where
-        target : (o : Option ℕ) → passes f.carries_type o ≡ true → passes (is_resource r) o ≡ true → passes (is_resource s) (option_map f.types o) ≡ true
-        target x c h = search (std_rules, resource_same_at)
+        ∙ passes_under f.types f.carries_type (is_resource r) (is_resource s) (λ m c h. resource_same_at r s f valid is below_s m c ∙ h) (handled t.def.kind)
+        (handled_of_all f.carries_type t.def.kind parts) (second_true (list_all (λ x. not (is_resource_type r x)) (member_types t.def.kind)) _ old))
 
     -- depths
     pub depth_passes : depths.type_ s (f.types n) t.image ≡ true
@@ -164,9 +172,6 @@ module _ (r s : Resolve) (f : Renumbering) (valid : KeepsRules r) (is : IsCarrie
 
     pub used_there : used_by_type s t.image ≡ map f.types (used_by_type r t.def)
     used_there = ap (flat_map (met_by (met_of s))) (numbers_same f.types t.def.kind t.image.kind k.kind.kinds) ∙ (used_same r s f valid is below_s (kind_numbers t.def.kind) parts).0
-
-    unowned : (o : TypeOwner) → same_owner (owner_under f o) owner.None ≡ same_owner o owner.None
-    unowned x = search std_rules
 
     -- an owner that is not alone is none
     copied_alone : (o : TypeOwner) → copies_owner f o ≡ true → same_owner o owner.None ≡ false → homes.alone r s f valid is below_s o ≡ true
@@ -204,29 +209,12 @@ module _ (r s : Resolve) (f : Renumbering) (valid : KeepsRules r) (is : IsCarrie
             (first_true _ _ old))
             (ap (λ x. is_named_interface s (owner_interface x)) u.home ∙ named_interface u.def.owner u.carries_home (second_true (not (same_owner u.def.owner t.def.owner)) _ old))
 
-    abbrev first_test : Bool
-    first_test = same_owner t.image.owner owner.None
-
-    abbrev second_test : Bool
-    second_test = list_all (has_owner s t.image.owner) (used_by_type s t.image)
-
-    abbrev third_test : Bool
-    third_test = is_some t.image.name && is_use s t.image
-
     pub stay_passes : owners.type_ s (f.types n) t.image ≡ true
     unfolding owners
-    stay_passes = go (same_owner t.def.owner owner.None) (list_all (has_owner r t.def.owner) (used_by_type r t.def)) (is_some t.def.name) (is_use r t.def) refl refl refl refl
-        (type_passes owners r valid.owners n t.def t.found)
-      where
-        go : (a b c d : Bool) → same_owner t.def.owner owner.None ≡ a → list_all (has_owner r t.def.owner) (used_by_type r t.def) ≡ b → is_some t.def.name ≡ c → is_use r t.def ≡ d
-            → (a || (b || (c && d))) ≡ true → (first_test || (second_test || third_test)) ≡ true
-        go true b c d p q u v h = or_left first_test (second_test || third_test) (ap (λ o. same_owner o owner.None) t.home ∙ (unowned t.def.owner ∙ p))
-        go false true c d p q u v h =
-            or_right first_test (second_test || third_test) (or_left second_test third_test
-            ((λ i. list_all (has_owner s (t.home i)) (used_there i)) ∙ all_owned t.def.owner (used_by_type r t.def) used q))
-        go false false true true p q u v h = or_right first_test (second_test || third_test)
-            (or_right second_test third_test (both _ _ (named_alike t.image.name t.def.name t.name ∙ u) (use_passes p v)))
-        go false false _ _ p q u v h = no_true h
+    stay_passes = weaker (same_owner t.def.owner owner.None) (list_all (has_owner r t.def.owner) (used_by_type r t.def)) (is_some t.def.name) (is_use r t.def)
+        (same_owner t.image.owner owner.None) (list_all (has_owner s t.image.owner) (used_by_type s t.image)) (is_some t.image.name) (is_use s t.image)
+        (λ h. ap (λ o. same_owner o owner.None) t.home ∙ (unowned f t.def.owner ∙ h)) (λ h. (λ i. list_all (has_owner s (t.home i)) (used_there i)) ∙ all_owned t.def.owner (used_by_type r t.def) used h)
+        (λ h. named_alike t.image.name t.def.name t.name ∙ h) use_passes (type_passes owners r valid.owners n t.def t.found)
 
   -- an unnamed type is copied
   unnamed_kind : (n : ℕ) (t : IsType r s f n) → is_none t.def.name ≡ true → (is_none t.image.name ≡ true) × HasImageKind f.types f.carries_type t.def t.image
@@ -305,8 +293,8 @@ module _ (r s : Resolve) (f : Renumbering) (valid : KeepsRules r) (is : IsCarrie
         (function_numbers g) c.parts c.parts)
 
     -- labels
-    pub function_labels_pass : function_labels g ≡ true → function_labels h ≡ true
-    function_labels_pass old = search (std_rules, freestanding_under, names_there, stability_alike)
+    pub function_labels_same : function_labels h ≡ function_labels g
+    function_labels_same = search (std_rules, freestanding_under, names_there, stability_alike)
 
     -- owners
     pub function_stays_passes : (o : TypeOwner) → function_stays r o g ≡ true → function_stays s (owner_under f o) h ≡ true
@@ -417,7 +405,7 @@ module _ (r s : Resolve) (f : Renumbering) (valid : KeepsRules r) (is : IsCarrie
 
   item_labels_pass : (i j : WorldItem) → ItemBecomes f i j → item_labels i ≡ true → item_labels j ≡ true
   item_labels_pass (item.Interface a st docs ext) (item.Interface b st2 docs2 ext2) z h = stability_alike st2 st z.2 ∙ h
-  item_labels_pass (item.Function g) (item.Function k) z h = function_labels_pass g k z h
+  item_labels_pass (item.Function g) (item.Function k) z h = function_labels_same g k z ∙ h
   item_labels_pass (item.Type_ a) (item.Type_ b) z h = refl
   item_labels_pass _ _ z e = absurd z
 

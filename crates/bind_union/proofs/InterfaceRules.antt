@@ -16,12 +16,10 @@ use Rattle.wit_model.proofs.{RulesLemmas.after_of_map, OnePath.interface-passes,
 use Rattle.bind_meaning.proofs.Listed.{from-map}
 use Rattle.bind_union.specs.Carried.{Renumbering, owner_under, carries_owner, IsInterface, IsCarried, Rises, IsFunctionEntry, IsInterfaceCopy}
 use Rattle.bind_union.proofs.{Lists.no_true, Homes.apart}
-use Rattle.bind_union.proofs.CopyRules.{label_alike, stability_alike, used, used_there, function_labels_pass, function_stays_passes, function_handles_pass, function_depths_pass, member_passes}
+use Rattle.bind_union.proofs.CopyRules.{label_alike, stability_alike, used, used_there, function_labels_same, function_stays_passes, function_handles_pass, function_depths_pass, member_passes}
 use Rattle.base_lemmas.proofs.Elements.{contains-map, contains-one, filter_map_from, get-contains, all_two, any_of_map as list_any_mapped, zip_map}
 use Rattle.base_lemmas.proofs.{Numbers.equal, Numbers.same-number, Bools.left_of as first_true, Bools.right_of as second_true}
 use Rattle.std.specs.declared.alloc.Global.{Global}
-
--- what each number of a list passes, all pass
 
 pub given_contains : {X : Type 0} (o : Option X) (x : X) → o ≡ Some x → Contains (option_to_list o) x
 given_contains o x e = subst (λ (p : Option _). Contains (option_to_list p) x) (sym e) (contains-one x)
@@ -33,7 +31,15 @@ zip_all R p q one [] [] z h = refl
 zip_all R p q one (x ∷ xs) (y ∷ ys) z h = both _ _ (one x y z.0 (first_true _ _ h)) (zip_all R p q one xs ys z.1 (second_true (p x) _ h))
 zip_all R p q one _ _ z h = absurd z
 
--- what the relation makes equal is one list
+-- what a number that is asked for passes there, where it was asked for and passed here
+pub implied_all : (f : ℕ → ℕ) (carries a b c d : ℕ → Bool) → ((m : ℕ) → carries m ≡ true → c (f m) ≡ true → a m ≡ true) → ((m : ℕ) → b m ≡ true → d (f m) ≡ true) → (ns : List ℕ)
+    → list_all carries ns ≡ true → list_all (λ m. not (a m) || b m) ns ≡ true → list_all (λ m. not (c m) || d m) (map f ns) ≡ true
+implied_all f carries a b c d back there ns k h =
+    list_all-map (λ m. not (c m) || d m) f ns
+    ∙ all_two carries (λ m. not (a m) || b m) (λ m. not (c (f m)) || d (f m)) (λ m i. implied (a m) (b m) (c (f m)) (d (f m)) (back m i) (there m)) ns k h
+  where
+    implied : (a b c d : Bool) → (c ≡ true → a ≡ true) → (b ≡ true → d ≡ true) → (not a || b) ≡ true → (not c || d) ≡ true
+    implied x y z d k j h = search std_rules
 
 pub has_map : (f : ℕ → ℕ) (ns : List ℕ) (n : ℕ) → has ns n ≡ true → has (map f ns) (f n) ≡ true
 has_map f ns n h = contains-has (map f ns) (f n) (contains-map f ns n (has-contains ns n h))
@@ -70,22 +76,14 @@ module _ (f : ℕ → ℕ) (carries copies : ℕ → Bool) (rise : Rises f carri
   abbrev pub after_uses : (ℕ → List ℕ) → List ℕ → List ℕ → ℕ → Bool
   after_uses uses ns before n = list_all (λ m. not (has ns m) || has before m) (uses n)
 
-  use_there : (ns before : List ℕ) → list_all copies ns ≡ true → (used : List ℕ) → list_all carries used ≡ true → list_all (λ m. not (has ns m) || has before m) used ≡ true
-      → list_all (λ m. not (has (map f ns) m) || has (map f before) m) (map f used) ≡ true
-  use_there ns before all [] c h = refl
-  use_there ns before all (m ∷ used) c h = both _ _ (one (has ns m) refl (has (map f ns) (f m)) refl (first_true _ _ h))
-      (use_there ns before all used (second_true _ _ c) (second_true (not (has ns m) || has before m) _ h))
-    where
-      one : (a : Bool) → has ns m ≡ a → (b : Bool) → has (map f ns) (f m) ≡ b → (not (has ns m) || has before m) ≡ true → (not (has (map f ns) (f m)) || has (map f before) (f m)) ≡ true
-      one a p x q g = search (std_rules, or_right, has_map, no_true, has_back, first_true)
-
   pub order_there : (uses uses_there : ℕ → List ℕ) (ns : List ℕ) → list_all copies ns ≡ true
       → ((n : ℕ) → copies n ≡ true → (uses_there (f n) ≡ map f (uses n)) × (list_all carries (uses n) ≡ true))
       → each_after (after_uses uses ns) [] ns ≡ true → each_after (after_uses uses_there (map f ns)) [] (map f ns) ≡ true
   order_there uses uses_there ns all each h =
       after_of_map (after_uses uses_there (map f ns)) f [] ns
       ∙ after_weaker copies (after_uses uses ns) (λ before n. after_uses uses_there (map f ns) (map f before) (f n))
-      (λ before n c g. ap (list_all (λ m. not (has (map f ns) m) || has (map f before) m)) (each n c).0 ∙ use_there ns before all (uses n) (each n c).1 g) [] ns all h
+      (λ before n c g. ap (list_all (λ m. not (has (map f ns) m) || has (map f before) m)) (each n c).0
+      ∙ implied_all f carries (has ns) (has before) (has (map f ns)) (has (map f before)) (has_back ns all) (has_map f before) (uses n) (each n c).1 g) [] ns all h
 
 module _ (r s : Resolve) (f : Renumbering) (valid : KeepsRules r) (is : IsCarried r s f) (below_s : Keeps references s) where
   interface_of_owner : (o : TypeOwner) → carries_owner f o ≡ true → (owner_interface (owner_under f o) ≡ option_map f.interfaces (owner_interface o))
@@ -169,21 +167,10 @@ module _ (r s : Resolve) (f : Renumbering) (valid : KeepsRules r) (is : IsCarrie
     c = i.copied copy
 
     pub type_numbers : interface_type_numbers i.image ≡ map f.types (interface_type_numbers i.old)
-    type_numbers =
-        map-map (λ (id : TypeId). id.0) (λ e. e.1) i.image.types.entries
-        ∙ (sym (map-map (λ (e : Text × ℕ). e.1) (λ e. (text_of e.0, e.1.0)) i.image.types.entries)
-        ∙ (ap (map (λ (e : Text × ℕ). e.1)) c.types
-        ∙ (map-map (λ (e : Text × ℕ). e.1) (λ e. (text_of e.0, f.types e.1.0)) i.old.types.entries
-        ∙ (sym (map-map f.types (λ e. e.1.0) i.old.types.entries)
-        ∙ ap (map f.types) (sym (map-map (λ (id : TypeId). id.0) (λ e. e.1) i.old.types.entries))))))
+    type_numbers = simp map-map (simp map-map at (ap (map (λ (e : Text × ℕ). e.1)) c.types))
 
     type_keys : map text_of (keys i.image.types) ≡ map text_of (keys i.old.types)
-    type_keys =
-        map-map text_of (λ e. e.0) i.image.types.entries
-        ∙ (sym (map-map (λ (e : Text × ℕ). e.0) (λ e. (text_of e.0, e.1.0)) i.image.types.entries)
-        ∙ (ap (map (λ (e : Text × ℕ). e.0)) c.types
-        ∙ (map-map (λ (e : Text × ℕ). e.0) (λ e. (text_of e.0, f.types e.1.0)) i.old.types.entries
-        ∙ sym (map-map text_of (λ e. e.0) i.old.types.entries))))
+    type_keys = simp map-map (simp map-map at (ap (map (λ (e : Text × ℕ). e.0)) c.types))
 
     function_keys : map text_of (keys i.image.functions) ≡ map text_of (keys i.old.functions)
     function_keys = grind (arith, map-map, i, zip_map)
@@ -197,29 +184,27 @@ module _ (r s : Resolve) (f : Renumbering) (valid : KeepsRules r) (is : IsCarrie
     each_function p q one h = search (std_rules, list_all-map, i, zip_all)
 
     -- labels
-    apart_by_text : (a : Interface)
-        → list_all (λ name. not (list_any (λ other. text_eq (text_of name) (text_of other)) (keys a.functions))) (keys a.types) ≡ list_all
-        (λ t. not (list_any (text_eq t) (map text_of (keys a.functions)))) (map text_of (keys a.types))
+    abbrev apart_names : Interface → Bool
+    apart_names a = list_all (λ name. not (list_any (λ other. text_eq (text_of name) (text_of other)) (keys a.functions))) (keys a.types)
+
+    apart_by_text : (a : Interface) → apart_names a ≡ list_all (λ t. not (list_any (text_eq t) (map text_of (keys a.functions)))) (map text_of (keys a.types))
     apart_by_text a = search (std_rules, list_any_mapped, list_all-map)
+
+    functions_labelled : list_all function_labels (functions_of_interface i.image) ≡ list_all function_labels (functions_of_interface i.old)
+    functions_labelled =
+        let by = λ (es : List (String Global × Function)). list_all-map function_labels (λ e. e.1) es ∙ sym (list_all-map (λ (b : Bool). b) (λ e. function_labels e.1) es) in
+        by i.image.functions.entries
+        ∙ (ap (list_all (λ b. b)) (zip_map (IsFunctionEntry f) (λ e. function_labels e.1) (λ e. function_labels e.1) (λ a b z. function_labels_same r s f valid is below_s a.1 b.1 z.1)
+        i.old.functions.entries i.image.functions.entries c.functions) ∙ sym (by i.old.functions.entries))
 
     pub interface_labels_pass : labels.interface_ s (f.interfaces n) i.image ≡ true
     unfolding labels
-    interface_labels_pass = both _ _ (label_alike i.image.name i.old.name i.name ∙ first_true _ _ old)
-        (both _ _ (stability_alike i.image.stability i.old.stability c.stability ∙ first_true _ _ after_name)
-        (both _ _ (each_function function_labels function_labels (λ a b z. function_labels_pass r s f valid is below_s a.1 b.1 z.1) (first_true _ _ after_stability))
-        (apart_by_text i.image ∙ ((λ j. list_all (λ t. not (list_any (text_eq t) (function_keys j))) (type_keys j))
-        ∙ (sym (apart_by_text i.old) ∙ second_true (list_all function_labels (functions_of_interface i.old)) _ after_stability)))))
+    interface_labels_pass =
+        (λ j. label_alike i.image.name i.old.name i.name j && (stability_alike i.image.stability i.old.stability c.stability j && (functions_labelled j && apart_there j)))
+        ∙ interface-passes labels r valid.labels n i.old i.found
       where
-        old : labels.interface_ r n i.old ≡ true
-        old = interface-passes labels r valid.labels n i.old i.found
-
-        after_name : (is_stability i.old.stability && (list_all function_labels (functions_of_interface i.old) && list_all
-            (λ name. not (list_any (λ other. text_eq (text_of name) (text_of other)) (keys i.old.functions))) (keys i.old.types))) ≡ true
-        after_name = second_true (passes (λ name. is_label (text_of name)) i.old.name) _ old
-
-        after_stability : (list_all function_labels (functions_of_interface i.old) && list_all (λ name. not (list_any (λ other. text_eq (text_of name) (text_of other)) (keys i.old.functions)))
-            (keys i.old.types)) ≡ true
-        after_stability = second_true (is_stability i.old.stability) _ after_name
+        apart_there : apart_names i.image ≡ apart_names i.old
+        apart_there = apart_by_text i.image ∙ ((λ j. list_all (λ t. not (list_any (text_eq t) (function_keys j))) (type_keys j)) ∙ sym (apart_by_text i.old))
 
     -- order of types
     pub interface_order_passes : order_of_types.interface_ s (f.interfaces n) i.image ≡ true

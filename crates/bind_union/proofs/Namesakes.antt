@@ -71,8 +71,7 @@ under_contains name [] t h = let wrong : ⊥ = cc in absurd wrong
 under_contains name (e ∷ es) t h = go (bytes_eq name e.0) refl h (under_contains name es t)
   where
     go : (b : Bool) → text_eq name e.0 ≡ b → cond b (Some e.1) (under_text name es) ≡ Some t → (under_text name es ≡ Some t → Contains es (name, t)) → Contains (e ∷ es) (name, t)
-    go true k h rest = (0, omega arith, λ i. (sym (text-same name e.0 k) i, same-some e.1 t h i))
-    go false k h rest = contains-later e es (name, t) (rest h)
+    go x k h rest = search (std_rules, text-same, same-some, contains-later)
 
 pub number_listed : (es : List (Text × ℕ)) (name : Text) (t : ℕ) → Contains es (name, t) → has (map (λ (e : Text × ℕ). e.1) es) t ≡ true
 number_listed es name t c = contains-has (map (λ (e : Text × ℕ). e.1) es) t (contains-map (λ (e : Text × ℕ). e.1) es (name, t) c)
@@ -101,9 +100,7 @@ one_name (e ∷ es) a b t c d h = go c d (one_name es a b t)
     step = sum_by-cons (λ k. cond (k == t) 1 0) e.1 (map (λ (x : Text × ℕ). x.1) es)
 
     is_head : (x : Text) → e ≡ (x, t) → often t es ≡ 0
-    is_head x d =
-        let one : cond (e.1 == t) 1 0 ≡ 1 = ap {B = ℕ} (λ b. cond b 1 0) (subst (λ (y : ℕ). (e.1 == y) ≡ true) (ap (λ (y : Text × ℕ). y.1) d) (same-number e.1)) in
-        let s = step in omega (arith, s, one, h)
+    is_head x d = search (std_rules, same-number, step)
 
     rest_once : (x : Text) → Contains es (x, t) → often t es ≡ 1
     rest_once x c = by (e.1 == t) refl
@@ -171,8 +168,7 @@ module _ (r : Resolve) (v : IsValid r) where
       order = interface-passes order_of_types r v.rules.order_of_types n i at
 
       ours : (is_some d.0.name && same_owner d.0.owner (as_interface n)) ≡ true
-      ours = sym (ap (passes (λ def. is_some def.name && same_owner def.owner (as_interface n))) d.1) ∙ passes_at (is_named_of r (as_interface n)) (interface_type_numbers i) t
-          (first_true (list_all (is_named_of r (as_interface n)) (interface_type_numbers i)) (are_in_order r (interface_type_numbers i)) order) listed
+      ours = search (std_rules, passes_at, first_true, order, listed)
 
       home : d.0.owner ≡ as_interface n
       home = owner_equal d.0.owner (as_interface n) (second_true (is_some d.0.name) (same_owner d.0.owner (as_interface n)) ours)
@@ -211,15 +207,13 @@ module _ (r : Resolve) (v : IsValid r) where
       range = type_passes numbers_in_range r v.rules.numbers_in_range t def e
 
       d : (x : TypeDef) × (type_at r u ≡ Some x)
-      d = found-in r.types.items u (sym (ap (passes (in_list r.types.items)) alias) ∙ alias_of_all (in_list r.types.items) def.kind
-          (first_true (list_all (in_list r.types.items) (kind_numbers def.kind)) (owner_in_range r def.owner) (second_true (is_place t) _ range)))
+      d = search (std_rules, found-in, alias_of_all, def, first_true, second_true, range)
 
       old : ((not (is_named_kind def.kind) || is_some def.name) && passes (is_named_number r) (alias_target def.kind)) ≡ true
       old = type_passes named_kinds r v.rules.named_kinds t def e
 
       has_name : is_some d.0.name ≡ true
-      has_name = sym (ap (passes (λ x. is_some x.name)) d.1) ∙ (sym (ap (passes (is_named_number r)) alias) ∙ second_true (not (is_named_kind def.kind) || is_some def.name)
-          (passes (is_named_number r) (alias_target def.kind)) old)
+      has_name = search (std_rules, d, second_true, def, old)
 
       by : (o : Option (String Global)) → d.0.name ≡ o → IsTarget u
       by None k = no_true (sym (ap is_some k) ∙ has_name)
@@ -284,8 +278,7 @@ meaning_under r i name =
     ∙ ap (option_map (type_meaning_at r)) (sym (lookup_of_map (λ t. bytes_eq name t) text_of (λ (id : TypeId). id.0) i.types.entries)))
   where
     twice : (o : Option TypeId) → option_map (λ id. type_meaning_at r id.0) o ≡ option_map (type_meaning_at r) (option_map (λ id. id.0) o)
-    twice None = refl
-    twice (Some id) = refl
+    twice x = search std_rules
 
 module _ (own other : Resolve) (interfaces types : ℕ → ℕ) (valid_own : IsValid own) (valid_other : IsValid other) where
   same_under : (n : ℕ) (is : IsMatch own other interfaces types n) (name : Text)
@@ -344,16 +337,10 @@ module _ (own other : Resolve) (interfaces types : ℕ → ℕ) (valid_own : IsV
 
   module _ (matched : AreMatched own other interfaces types) where
     pub place_back : (o : TypeOwner) (path : Text) → place_of own o ≡ of_interface path → (b : ℕ) × (o ≡ as_interface b) × (interface_path own b ≡ Some path)
-    place_back (owner.Interface id) path h = (id.0, refl, go (interface_path own id.0) h)
-      where
-        go : (o : Option Text) → place_of_path o ≡ of_interface path → o ≡ Some path
-        go None h = no_true (ap (λ p. is_here p) h)
-        go (Some x) h = ap (λ p. path_of p) h
-    place_back _ path h = no_true (ap (λ p. is_here p) h)
+    place_back y path h = search std_rules
 
     pub the_path : (o : Option Text) → is_some o ≡ true → (path : Text) × (o ≡ Some path)
-    the_path None h = no_true h
-    the_path (Some x) h = (x, refl)
+    the_path y h = search std_rules
 
     -- what has one path and one name is one
     pub same_by_path : (u v a : ℕ) (x : IsTarget other valid_other u) → x.def.owner ≡ as_interface a → is_some (interface_path other a) ≡ true → (y : IsTarget own valid_own v)
@@ -413,8 +400,7 @@ module _ (own other : Resolve) (interfaces types : ℕ → ℕ) (valid_own : IsV
         }
       where
         has_text : (o : Option (String Global)) (name : Text) → optional_text o ≡ Some name → is_some o ≡ true
-        has_text None name h = let wrong : None ≡ Some name = h in absurd cc
-        has_text (Some s) name h = refl
+        has_text x name h = search std_rules
 
 pub matches_are_namesakes : MatchesAreNamesakes
 matches_are_namesakes own other interfaces types valid_own valid_other matched n is t h = namesakes own other interfaces types valid_own valid_other matched n is t h

@@ -67,9 +67,7 @@ module _ (own other merged : Resolve) (bound other_bound : ℕ) (first second : 
 
         copy : length own.interfaces.items ≤ n → IsCopyUnder first.interfaces first.copies_interface n ⊎ IsCopyUnder second.interfaces second.copies_interface n → Shows other path meaning
             × ShowsNone own path
-        copy high (inl c) =
-            let m = copied c.0 c.1 in
-            ((c.0, sym m.1 ∙ (ap (interface_path merged) c.2 ∙ e), sym m.0 ∙ (ap (interface_meaning_at merged) c.2 ∙ d)), new_path n high e)
+        copy high (inl c) = search (std_rules, copied, new_path)
         copy high (inr c) =
             let carried = is.second_copies.carried.copied_interfaces c.0 c.1 in
             let i = is.second_copies.carried.interfaces c.0 carried in

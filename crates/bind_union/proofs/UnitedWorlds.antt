@@ -170,9 +170,7 @@ module _ (own other merged : Resolve) (bound other_bound : ℕ) (first second : 
           means =
               own_means x.number x.world x.found apart ∙ x.means;
         }
-        go true same =
-            let one : is.own_bound ≡ x.world = same-some is.own_bound x.world (sym is.bound_at ∙ (ap (world_at own) (sym (equal x.number bound same)) ∙ x.found)) in
-            absurd (not_bound (ap (path_of_world own) one ∙ x.path_is))
+        go true same = search std_rules
 
     from_other : (x : ShowsWorld other path meaning) → left_out x.number ≡ false → ShowsNoWorld own path → ShowsWorld merged path meaning
     from_other x kept none_such = stands (is.packages_stand h.home.0 h.package_ h.stands)
@@ -181,8 +179,7 @@ module _ (own other merged : Resolve) (bound other_bound : ℕ) (first second : 
         h = has-world-path other x.number path (ap (option_and_then (path_of_world other)) x.found ∙ x.path_is)
 
         held : Contains (world_names h.package_) (text_of h.def.name, x.number)
-        held = under_contains (text_of h.def.name) (world_names h.package_) x.number
-            (some_id x.number (under_text (text_of h.def.name) (world_names h.package_)) (listed_by_path other valid_other x.number path h))
+        held = search (std_rules, under_contains, h, some_id, under_text, listed_by_path)
 
         brings : first.carries_world x.number ≡ true → ShowsWorld merged path meaning
         brings c =

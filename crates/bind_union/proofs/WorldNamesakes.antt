@@ -89,8 +89,7 @@ module _ (r : Resolve) (v : IsValid r) (n : ℕ) (w : World) (at : world_at r n 
       in_it = sym (ap (passes (is_listed_in_world t (text_of s))) at) ∙ (sym (ap (is_listed r t (text_of s)) home) ∙ listed)
 
       key_is : (k : WorldKey) → is_name_key (text_of s) k ≡ true → key_text r k ≡ text_of s
-      key_is (key.Name label) h = text-same (text_of label) (text_of s) h
-      key_is (key.Interface id) h = no_true h
+      key_is x h = search std_rules
 
       go : (o : Option WorldItem) → lookup (is_name_key (text_of s)) w.imports.entries ≡ o → is_id t (option_and_then item_type o) ≡ true → IsImported (text_of s) t
       go None k h = no_true h
@@ -204,12 +203,7 @@ module _ (own other : Resolve) (f : Renumbering) (bound other_bound : ℕ) (vali
         let p = type_imported other valid_other other_bound is.other_world is.other_at u a.def a.found a.name a.named_ home in
         let q = type_imported own valid_own bound is.own_world is.own_at v b.def b.found b.name b.named_ ours in
         is.types q.entry p.entry q.held p.held (q.text ∙ (ap name_in trees ∙ sym p.text)) v u q.is_type p.is_type
-    same_in_world u v a b home trees (inr c) = no_true (sym (ap is_here (ap place_in trees ∙ ap (place_of other) home))
-        ∙ (ap (λ o. is_here (place_of own o)) c.1 ∙ path_place (interface_path own c.0) c.2))
-      where
-        path_place : (o : Option Text) → is_some o ≡ true → is_here (place_of_path o) ≡ true
-        path_place None h = h
-        path_place (Some p) h = refl
+    same_in_world u v a b home trees (inr c) = search std_rules
 
     alias_same : (o : Option ℕ) → alias_target old.def.kind ≡ o → alias_target new.def.kind ≡ option_map f.types o
     alias_same = alias_alike own other f.interfaces f.types valid_own valid_other (f.types t) t old.def new.def old.found new.found same_declarations targets

@@ -12,7 +12,7 @@ use Rattle.wit_model.proofs.RulesLemmas.{is_id_some}
 use Rattle.bind_union.specs.Carried.{Renumbering, ItemBecomes, EntryBecomes, IsCarried}
 use Rattle.bind_union.specs.Joined.{ItemStandsFor, Joined, none, met, added}
 use Rattle.bind_union.proofs.{Homes.owner_back, CopyRules.function_uses, ViewTests.id_under, Lists.no_true}
-use Rattle.bind_union.proofs.InterfaceRules.{deps_there, interface_used_there, given_contains, number_uses}
+use Rattle.bind_union.proofs.InterfaceRules.{implied_all, deps_there, interface_used_there, given_contains, number_uses}
 use Rattle.base_lemmas.proofs.Bools.{left_of as first_true, right_of as second_true, or_false, both_ways, first_false, second_false}
 use Rattle.base_lemmas.proofs.Elements.{all_two, all_weaker, contains-map}
 use Rattle.base_lemmas.proofs.Numbers.{differ, equal, same-number, unequal}
@@ -148,15 +148,8 @@ module _ (r s : Resolve) (f : Renumbering) (valid : KeepsRules r) (is : IsCarrie
       → list_all q (filter (has_owner s (as_world (f.worlds w))) (map f.types used)) ≡ true
   world_types p q one used c h =
       all_filter q (has_owner s (as_world (f.worlds w))) (map f.types used)
-      ∙ (list_all-map (λ n. not (has_owner s (as_world (f.worlds w)) n) || q n) f.types used
-      ∙ all_two f.carries_type (λ n. not (has_owner r (as_world w) n) || p n) (λ n. not (has_owner s (as_world (f.worlds w)) (f.types n)) || q (f.types n))
-      (λ n d e. each n d e (has_owner s (as_world (f.worlds w)) (f.types n)) refl) used c (sym (all_filter p (has_owner r (as_world w)) used) ∙ h))
-    where
-      each : (n : ℕ) → f.carries_type n ≡ true → (not (has_owner r (as_world w) n) || p n) ≡ true → (b : Bool) → has_owner s (as_world (f.worlds w)) (f.types n) ≡ b
-          → (not (has_owner s (as_world (f.worlds w)) (f.types n)) || q (f.types n)) ≡ true
-      each n d e false k = ap (λ b. not b || q (f.types n)) k
-      each n d e true k = or_right (not (has_owner s (as_world (f.worlds w)) (f.types n))) (q (f.types n))
-          (one n (sym (ap (λ b. not b || p n) (owner_back r s f valid is below_s (as_world w) n carries d k)) ∙ e))
+      ∙ implied_all f.types f.carries_type (has_owner r (as_world w)) p (has_owner s (as_world (f.worlds w))) q
+      (λ n d k. owner_back r s f valid is below_s (as_world w) n carries d k) one used c (sym (all_filter p (has_owner r (as_world w)) used) ∙ h)
 
   pub item_stands : (olds news : List WorldItem) (old new : WorldKey × WorldItem) → EntryBecomes f old new → Covers f olds news → uses_stand_before r w olds old.1 ≡ true
       → uses_stand_before s (f.worlds w) news new.1 ≡ true
