@@ -21,7 +21,7 @@ use Rattle.bind_union.specs.Carried.{Renumbering, StabilityView, unknown, stable
 use Rattle.bind_union.proofs.{Lists.no_true, Carrying.kind_carried, Carrying.type_tree_same, Carrying.used_same}
 use Rattle.bind_union.proofs.ViewTests.{types_same, handled_same, alias_same, labels_same, shape_same, named_same, numbers_same, view_ok, ok_by_view, ok_under, own_kept, borrow_kept, numbers_under, number_under, one_given}
 use Rattle.bind_union.proofs.Homes.{alias_of_all, handled_of_all, members_of_all, resource_same_at, resource_type_same, owner_stays, owner_apart, alias_there, all_given}
-use Rattle.base_lemmas.proofs.{Bools.left_of as first_true, Bools.right_of as second_true, Elements.all_two, Numbers.equal, Numbers.same-number}
+use Rattle.base_lemmas.proofs.{Bools.left_of as first_true, Bools.right_of as second_true, Elements.all_two, Lists.heads_equal, Numbers.equal, Numbers.same-number}
 use Rattle.wit_model.specs.declared.model.TypeOwner.TheVariants as owner
 use Rattle.bind_union.proofs.Homes as homes
 use Rattle.wit_model.specs.declared.model.FunctionKind.TheVariants as call
@@ -263,17 +263,10 @@ module _ (r s : Resolve) (f : Renumbering) (valid : KeepsRules r) (is : IsCarrie
         ∙ sym (map-append (renamed_type f.types) (map (λ p. p.ty) g.params.items) (option_to_list g.result))
       where
         params : map (λ p. p.ty) h.params.items ≡ map (renamed_type f.types) (map (λ p. p.ty) g.params.items)
-        params =
-            sym (map-map (λ (x : Text × ValueType). x.1) (λ p. (text_of p.name, p.ty)) h.params.items)
-            ∙ (ap (map (λ (x : Text × ValueType). x.1)) c.params
-            ∙ (map-map (λ (x : Text × ValueType). x.1) (λ p. (text_of p.name, renamed_type f.types p.ty)) g.params.items
-            ∙ sym (map-map (renamed_type f.types) (λ p. p.ty) g.params.items)))
+        params = simp map-map (simp map-map at (ap (map (λ (x : Text × ValueType). x.1)) c.params))
 
     names_there : map (λ p. text_of p.name) h.params.items ≡ map (λ p. text_of p.name) g.params.items
-    names_there =
-        sym (map-map (λ (x : Text × ValueType). x.0) (λ p. (text_of p.name, p.ty)) h.params.items)
-        ∙ (ap (map (λ (x : Text × ValueType). x.0)) c.params
-        ∙ map-map (λ (x : Text × ValueType). x.0) (λ p. (text_of p.name, renamed_type f.types p.ty)) g.params.items)
+    names_there = simp map-map at (ap (map (λ (x : Text × ValueType). x.0)) c.params)
 
     values_carried : list_all f.carries_type (filter_map number_of (function_types g)) ≡ true
     values_carried = first_true _ _ (sym (list_all-append f.carries_type (filter_map number_of (function_types g)) (option_to_list (resource_of g.kind))) ∙ c.parts)
@@ -316,60 +309,43 @@ module _ (r s : Resolve) (f : Renumbering) (valid : KeepsRules r) (is : IsCarrie
     function_depths_pass old = search (std_rules, types_there, values_pass, shallow_passes, values_carried)
 
     -- function names
+    abbrev given : ValueType → Bool
+    given t = list_all f.carries_type (option_to_list (number_of t))
+
+    -- the types of the parameters, and of the result
+    pub given_values : (list_all given (map (λ p. p.ty) g.params.items) ≡ true) × (list_all given (option_to_list g.result) ≡ true)
+    given_values =
+        let all = sym (list_all-append given (map (λ p. p.ty) g.params.items) (option_to_list g.result)) ∙ (sym (list_all_filter_map f.carries_type number_of (function_types g)) ∙ values_carried) in
+        (first_true _ _ all, second_true (list_all given (map (λ p. p.ty) g.params.items)) _ all)
+
     constructs_there : (n : ℕ) → constructs r n g ≡ true → constructs s (f.types n) h ≡ true
-    constructs_there n old = ap (λ o. option_map_or (λ t. type_is s (is_own_of (f.types n)) t || type_is s (is_result_of_own s (f.types n)) t) o false) c.result ∙ go g.result given old
+    constructs_there n old =
+        ap (λ o. option_map_or (λ t. type_is s (is_own_of (f.types n)) t || type_is s (is_result_of_own s (f.types n)) t) o false) c.result ∙ go g.result given_values.1 old
       where
-        given : list_all f.carries_type (filter_map number_of (option_to_list g.result)) ≡ true
-        given =
-            list_all_filter_map f.carries_type number_of (option_to_list g.result)
-            ∙ second_true (list_all (λ t. list_all f.carries_type (option_to_list (number_of t))) (map (λ p. p.ty) g.params.items)) _
-            (sym (list_all-append (λ t. list_all f.carries_type (option_to_list (number_of t))) (map (λ p. p.ty) g.params.items) (option_to_list g.result))
-            ∙ (sym (list_all_filter_map f.carries_type number_of (function_types g)) ∙ values_carried))
-
-        either : (x : ValueType) → list_all f.carries_type (option_to_list (number_of x)) ≡ true → (a b : Bool) → type_is r (is_own_of n) x ≡ a → type_is r (is_result_of_own r n) x ≡ b
-            → (a || b) ≡ true
-            → (type_is s (is_own_of (f.types n)) (renamed_type f.types x) || type_is s (is_result_of_own s (f.types n)) (renamed_type f.types x)) ≡ true
-        either x d true b p q e = or_left _ _ (type_is_there (is_own_of n) (is_own_of (f.types n)) (own_there n) x d p)
-        either x d false true p q e = search (std_rules, or_right, type_is_there, result_there)
-        either x d false false p q e = no_true e
-
-        go : (o : Option ValueType) → list_all f.carries_type (filter_map number_of (option_to_list o)) ≡ true
-            → option_map_or (λ t. type_is r (is_own_of n) t || type_is r (is_result_of_own r n) t) o false ≡ true
+        go : (o : Option ValueType) → list_all given (option_to_list o) ≡ true → option_map_or (λ t. type_is r (is_own_of n) t || type_is r (is_result_of_own r n) t) o false ≡ true
             → option_map_or (λ t. type_is s (is_own_of (f.types n)) t || type_is s (is_result_of_own s (f.types n)) t) (option_map (renamed_type f.types) o) false ≡ true
-        go y d e = search (std_rules, either, first_true, list_all_filter_map)
+        go None d e = e
+        go (Some x) d e = either_passes _ _ _ _ (type_is_there (is_own_of n) (is_own_of (f.types n)) (own_there n) x (first_true _ _ d))
+            (type_is_there (is_result_of_own r n) (is_result_of_own s (f.types n)) (result_there n) x (first_true _ _ d)) e
 
     self_there : (n : ℕ) → takes_self r n g ≡ true → takes_self s (f.types n) h ≡ true
-    self_there n old =
-        by_view s h (is_borrow_of (f.types n))
-        ∙ (ap (λ (ps : List (Text × ValueType)). self_view s (is_borrow_of (f.types n)) (slice_get ps 0)) c.params
-        ∙ (ap (self_view s (is_borrow_of (f.types n))) (slice_get-map (λ p. (text_of p.name, renamed_type f.types p.ty)) g.params.items 0)
-        ∙ go g.params.items (first_true _ _ (sym (list_all-append (λ t. list_all f.carries_type (option_to_list (number_of t))) (map (λ p. p.ty) g.params.items) (option_to_list g.result))
-        ∙ (sym (list_all_filter_map f.carries_type number_of (function_types g)) ∙ values_carried))) old))
+    self_there n old = go g.params.items h.params.items c.params given_values.0 old
       where
-        self_view : Resolve → (TypeDef → Bool) → Option (Text × ValueType) → Bool
-        self_view x test o = option_map_or (λ p. text_eq p.0 (codes "self") && type_is x test p.1) o false
-
-        by_view : (x : Resolve) (k : Function) (test : TypeDef → Bool)
-            → option_map_or (λ p. text_eq (text_of p.name) (codes "self") && type_is x test p.ty) (slice_get k.params.items 0) false ≡ self_view x test
-            (slice_get (map {B = Text × ValueType} (λ p. (text_of p.name, p.ty)) k.params.items) 0)
-        by_view x k test = step k.params.items
-          where
-            step : (ps : List Param)
-                → option_map_or (λ p. text_eq (text_of p.name) (codes "self") && type_is x test p.ty) (slice_get ps 0) false ≡ self_view x test
-                (slice_get (map {B = Text × ValueType} (λ p. (text_of p.name, p.ty)) ps) 0)
-            step [] = refl
-            step (p ∷ ps) = refl
-
-        go : (ps : List Param) → list_all (λ t. list_all f.carries_type (option_to_list (number_of t))) (map (λ p. p.ty) ps) ≡ true
-            → option_map_or (λ p. text_eq (text_of p.name) (codes "self") && type_is r (is_borrow_of n) p.ty) (slice_get ps 0) false ≡ true
-            → self_view s (is_borrow_of (f.types n)) (option_map (λ p. (text_of p.name, renamed_type f.types p.ty)) (slice_get ps 0)) ≡ true
-        go [] d e = e
-        go (p ∷ ps) d e = search (std_rules, both, first_true, type_is_there, borrow_there, second_true)
+        go : (ps qs : List Param) → ◌≡◌ {A = List (Text × ValueType)} (map (λ p. (text_of p.name, p.ty)) qs) (map (λ p. (text_of p.name, renamed_type f.types p.ty)) ps)
+            → list_all given (map (λ p. p.ty) ps) ≡ true → option_map_or (λ p. text_eq (text_of p.name) (codes "self") && type_is r (is_borrow_of n) p.ty) (slice_get ps 0) false ≡ true
+            → option_map_or (λ p. text_eq (text_of p.name) (codes "self") && type_is s (is_borrow_of (f.types n)) p.ty) (slice_get qs 0) false ≡ true
+        go [] qs same d e = no_true e
+        go (p ∷ ps) [] same d e = absurd cc
+        go (p ∷ ps) (q ∷ qs) same d e =
+            let one = heads_equal _ _ _ _ same in
+            (λ i. text_eq (one i).0 (codes "self") && type_is s (is_borrow_of (f.types n)) (one i).1)
+            ∙ both _ _ (first_true _ _ e) (type_is_there (is_borrow_of n) (is_borrow_of (f.types n)) (borrow_there n) p.ty (first_true _ _ d) (second_true (text_eq (text_of p.name) (codes "self")) _ e))
 
     pub member_passes : (o : TypeOwner) → is_member r o g ≡ true → is_member s (owner_under f o) h ≡ true
     member_passes o old =
         ap (passes (λ n. option_map_or (λ name. is_member_of s n name h h.kind) (resource_name s (owner_under f o) n) false)) (ap resource_of c.kind ∙ resource_under f g.kind)
-        ∙ go (resource_of g.kind) resource_carried old
+        ∙ passes_under f.types f.carries_type (λ n. option_map_or (λ name. is_member_of r n name g g.kind) (resource_name r o n) false)
+        (λ n. option_map_or (λ name. is_member_of s n name h h.kind) (resource_name s (owner_under f o) n) false) (λ n d. named n d (resource_name r o n) refl) (resource_of g.kind) resource_carried old
       where
         of : (n : ℕ) (name : Text) (k : FunctionKind) → is_member_of r n name g k ≡ true → is_member_of s (f.types n) name h (call_under f k) ≡ true
         of n name x e = search (std_rules, both, first_true, self_there, second_true, constructs_there)
@@ -378,10 +354,6 @@ module _ (r s : Resolve) (f : Renumbering) (valid : KeepsRules r) (is : IsCarrie
             → option_map_or (λ name. is_member_of s (f.types n) name h h.kind) (resource_name s (owner_under f o) (f.types n)) false ≡ true
         named n d None e old = no_true old
         named n d (Some name) e old = search (std_rules, resource_named o n d name e, of n name g.kind old)
-
-        go : (x : Option ℕ) → passes f.carries_type x ≡ true → passes (λ n. option_map_or (λ name. is_member_of r n name g g.kind) (resource_name r o n) false) x ≡ true
-            → passes (λ n. option_map_or (λ name. is_member_of s n name h h.kind) (resource_name s (owner_under f o) n) false) (option_map f.types x) ≡ true
-        go x d e = search (std_rules, named)
 
   interface_there : (n : ℕ) → f.carries_interface n ≡ true → in_list s.interfaces.items (f.interfaces n) ≡ true
   interface_there n c = let i = is.interfaces n c in lt-ltb _ _ (slice_get_within s.interfaces.items (f.interfaces n) i.image i.at_image)
