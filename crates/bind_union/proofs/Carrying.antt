@@ -5,7 +5,7 @@ use Rattle.std.specs.{Prelude.String, List.list_all, List.flat_map, Option.optio
 use Rattle.std.specs.declared.alloc.Global.{Global}
 use Rattle.wit_model.specs.declared.model.{Resolve.Resolve, Package.Package, TypeDef.TypeDef}
 use Rattle.wit_model.specs.declared.model.{PackageName.PackageName, Interface.Interface, TypeOwner.TypeOwner, «Type».«Type» as ValueType}
-use Rattle.wit_model.specs.{Text.Text, Text.text_of, Text.optional_text, Names.path_in, Checks.references}
+use Rattle.wit_model.specs.{Text.Text, Text.optional_text, Names.path_in, Checks.references}
 use Rattle.wit_model.specs.Lookup.{package_at, interface_at, identity_of, path_in_package, path_of_interface, interface_path, place_of}
 use Rattle.wit_model.specs.{Types.number_of, Types.number_tree, Types.type_tree, Valid.is_place, Valid.Keeps, Valid.KeepsRules, Valid.numbers_in_range}
 use Rattle.wit_model.specs.{Parts.kind_numbers, Parts.met_by, Parts.met_of, Parts.used_by_type, Uses.has, Rules.passes, Rules.in_list, Rules.package_number}

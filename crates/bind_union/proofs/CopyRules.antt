@@ -1,7 +1,7 @@
 -- What the rules ask of a type, of a function and of an entry of a world holds of its copy.
 use Rattle.std.proofs.Common.{arith, rules as std_rules, ◌≡◌, refl, sym, ap, ◌∙◌, ℕ, Bool, true, false, ◌&&◌, ◌||◌, not, nat_lt, nat_le, List, map, Option, Some, None, option_map, option_to_list, is_some, filter_map, [], ◌∷◌, ◌++◌, is_none, slice_get}
-use Rattle.std.proofs.lemmas.{Bool.or_left, Bool.or_right, Bool.lt-ltb, Bool.and_from as both, List.Folds.list_all-map, List.Folds.list_all-append}
-use Rattle.std.proofs.lemmas.{Option.slice_get_within, Option.slice_get-map, Simd.map-map, List.map-append}
+use Rattle.std.proofs.lemmas.{Bool.lt-ltb, Bool.and_from as both, List.Folds.list_all-map, List.Folds.list_all-append}
+use Rattle.std.proofs.lemmas.{Option.slice_get_within, Simd.map-map, List.map-append}
 use Rattle.std.specs.{Prelude.String, Prelude.◌^◌, Prelude.codes, List.list_all, List.flat_map, Option.option_map_or}
 use Rattle.std.specs.declared.alloc.Global.{Global}
 use Rattle.semver.specs.declared.Version.{Version}
@@ -9,10 +9,10 @@ use Rattle.semver.specs.{Identifiers.parts_of, Grammar.is_pre_release, Grammar.i
 use Rattle.wit_model.specs.declared.model.{Resolve.Resolve, TypeOwner.TypeOwner, «Type».«Type» as ValueType, TypeDefKind.TypeDefKind, FunctionKind.FunctionKind}
 use Rattle.wit_model.specs.declared.model.{Stability.Stability, TypeDef.TypeDef, Function.Function, Param.Param, WorldKey.WorldKey, WorldItem.WorldItem}
 use Rattle.wit_model.specs.{Text.text_of, Text.optional_text, Text.Text, Text.text_eq, Uses.alias_target, Uses.owner_interface}
-use Rattle.wit_model.specs.{Names.is_label, Names.is_version, Names.constructor_name, Names.method_name, Names.static_name, Types.number_of, Checks.references}
+use Rattle.wit_model.specs.{Names.is_label, Names.is_version, Types.number_of, Checks.references}
 use Rattle.wit_model.specs.{Lookup.type_at, Lookup.interface_at, Lookup.resource_of, Tree.levels}
 use Rattle.wit_model.specs.Parts.{kind_numbers, member_types, handled, met_by, met_of, is_resource, is_resource_type, same_owner, has_owner, used_by_type, function_types, function_numbers, used_by_values, used_by_function}
-use Rattle.wit_model.specs.Rules.{passes, is_stability, are_member_labels, is_named_kind, is_named_number, is_shallow, is_use, in_list, is_freestanding, function_labels, function_stays, function_in_range, resource_name, is_own_of, is_borrow_of, type_is, is_result_of_own, constructs, takes_self, after_prefix, is_member_name, is_member_of, is_member, text_is, key_in_range, item_in_range, key_label, item_labels, is_name_key, is_interface_key, is_own_type, import_stands, export_stands}
+use Rattle.wit_model.specs.Rules.{passes, is_stability, are_member_labels, is_named_kind, is_named_number, is_shallow, is_use, in_list, is_freestanding, function_labels, function_stays, function_in_range, resource_name, is_own_of, is_borrow_of, type_is, is_result_of_own, constructs, takes_self, is_member_of, is_member, text_is, key_in_range, item_in_range, key_label, item_labels, is_name_key, is_interface_key, is_own_type, import_stands, export_stands}
 use Rattle.wit_model.specs.Valid.{Keeps, KeepsRules, labels, owners, shapes, named_kinds, handles, depths, as_world, item_function}
 use Rattle.wit_model.proofs.{Lists.list_all_filter_map, TextLemmas.some_alike as named_alike, PartsLemmas.owner_itself, PartsLemmas.owner_same as owner_equal}
 use Rattle.wit_model.proofs.{ValidLemmas.type_passes}
@@ -24,7 +24,6 @@ use Rattle.bind_union.proofs.Homes.{alias_of_all, handled_of_all, members_of_all
 use Rattle.base_lemmas.proofs.{Bools.left_of as first_true, Bools.right_of as second_true, Elements.all_two, Lists.heads_equal, Numbers.equal, Numbers.same-number}
 use Rattle.wit_model.specs.declared.model.TypeOwner.TheVariants as owner
 use Rattle.bind_union.proofs.Homes as homes
-use Rattle.wit_model.specs.declared.model.FunctionKind.TheVariants as call
 use Rattle.wit_model.specs.declared.model.WorldKey.TheVariants as key
 use Rattle.wit_model.specs.declared.model.WorldItem.TheVariants as item
 

@@ -1,5 +1,5 @@
 -- What is carried keeps its owner, and a resource stays one.
-use Rattle.std.proofs.Common.{rules as std_rules, ◌&&◌, ◌≡◌, refl, sym, ap, ◌∙◌, ℕ, zero, suc, ◌<◌, arith, Bool, true, false, ◌||◌, nat_lt, ltb-true, Option, Some, None, option_map, option_to_list, filter_map}
+use Rattle.std.proofs.Common.{rules as std_rules, ◌&&◌, ◌≡◌, sym, ap, ◌∙◌, ℕ, zero, suc, ◌<◌, arith, Bool, true, false, ◌||◌, nat_lt, Option, option_map, option_to_list, filter_map}
 use Rattle.std.specs.{List.list_all, Option.option_map_or}
 use Rattle.wit_model.specs.declared.model.{Resolve.Resolve, TypeDef.TypeDef, TypeDefKind.TypeDefKind, TypeOwner.TypeOwner, «Type».«Type» as ValueType}
 use Rattle.wit_model.specs.{Types.number_of, Uses.alias_target, Rules.passes, Rules.is_resource_itself, Valid.Keeps, Valid.KeepsRules, Checks.references}

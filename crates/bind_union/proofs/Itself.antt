@@ -1,5 +1,5 @@
 -- What was there is carried into what grows, under its own numbers.
-use Rattle.std.proofs.Common.{arith, rules as std_rules, ◌≡◌, ◌⊎◌, inl, inr, refl, sym, ap, ◌∙◌, ℕ, zero, suc, ◌<◌, true, false, ◌&&◌, List, [], ◌∷◌, ◌++◌, map, Option, Some, option_map, slice_get}
+use Rattle.std.proofs.Common.{rules as std_rules, ◌≡◌, ◌⊎◌, inl, refl, sym, ap, ◌∙◌, ℕ, zero, suc, ◌<◌, true, false, ◌&&◌, List, [], ◌∷◌, ◌++◌, map, Option, Some, option_map, slice_get}
 use Rattle.std.proofs.lemmas.List.Folds.{list_all-map}
 use Rattle.std.specs.{Prelude.String, List.AllZip, List.list_all}
 use Rattle.std.specs.declared.alloc.Global.{Global}
@@ -14,9 +14,8 @@ use Rattle.wit_model.proofs.Chains.{all_has as passes_at}
 use Rattle.bind_union.specs.Views.{KindView, kind_view, renamed_type, renamed}
 use Rattle.bind_union.specs.{Images.HasImageKind, Joined.Joined, Joined.none, Joined.added, Merged.BeginsWith}
 use Rattle.bind_union.specs.Carried.{Renumbering, IsSameName, owner_under, carries_owner, copies_owner, call_under, IsFunctionCopy, IsFunctionEntry, IsType, IsInterface, IsCarried, KeyBecomes, ItemBecomes}
-use Rattle.bind_union.proofs.{Lists.no_true, Images.numbers_of_view}
+use Rattle.bind_union.proofs.{Images.numbers_of_view}
 use Rattle.base_lemmas.proofs.Bools.{left_of as first_true, right_of as second_true}
-use Rattle.wit_model.specs.declared.model.TypeOwner.TheVariants as owner
 
 abbrev pub itself : Resolve → Renumbering
 itself r = record {

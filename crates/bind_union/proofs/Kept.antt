@@ -7,9 +7,9 @@ use Rattle.wit_model.specs.declared.model.{Resolve.Resolve, Interface.Interface,
 use Rattle.wit_model.specs.declared.model.{World.World, TypeDef.TypeDef, TypeId.TypeId}
 use Rattle.wit_model.specs.{Lookup.interface_at, Lookup.world_at, Lookup.type_at, Checks.references, Names.is_label, Uses.has}
 use Rattle.wit_model.specs.{Parts.kind_numbers, Parts.function_types, Parts.is_resource_type, Parts.same_owner, Text.text_of, Text.Text, Text.optional_text}
-use Rattle.wit_model.specs.Rules.{each_from, passes, each_after, is_stability, entries_labels, is_name_key, is_shallow, key_label, item_labels, is_member, function_stays, import_stands, export_stands, uses_stand_before, is_id, in_list, entries_in_range, item_type, world_type_numbers, is_named_of, is_listed, is_listed_in_interface, is_listed_in_world, used_by_number, are_in_order, package_number, owner_in_range, function_in_range, interface_type_numbers, key_in_range, item_in_range}
+use Rattle.wit_model.specs.Rules.{each_from, passes, each_after, is_stability, entries_labels, is_name_key, is_shallow, key_label, item_labels, is_member, function_stays, import_stands, export_stands, uses_stand_before, is_id, in_list, entries_in_range, item_type, world_type_numbers, is_named_of, is_listed, is_listed_in_interface, is_listed_in_world, are_in_order, package_number, owner_in_range, function_in_range, interface_type_numbers, key_in_range, item_in_range}
 use Rattle.wit_model.specs.Valid.{Rule, Keeps, KeepsRules, as_world, item_function, functions_of_world, labels, owners, shapes, named_kinds, handles, depths, function_names, world_items, order_of_items, order_of_types, is_place, functions_of_interface, numbers_in_range}
-use Rattle.wit_model.proofs.{Checks.below_at, OnePath.found-in, RulesLemmas.each_by_number, Elements.none-in}
+use Rattle.wit_model.proofs.{Checks.below_at, OnePath.found-in, RulesLemmas.each_by_number}
 use Rattle.wit_model.proofs.{Entries.types_keep, Entries.worlds_keep, Entries.free_passes, ValidLemmas.world_passes as world-passes, ValidLemmas.type_passes}
 use Rattle.bind_union.specs.Carried.{Renumbering, IsCarried, EntryBecomes, IsFunctionCopy, owner_under, copies_owner, IsType, IsInterface, carries_owner}
 use Rattle.bind_union.specs.{Joined.IsJoined, Joined.Joined, Merged.IsCopyUnder, Merged.IsMerged}
@@ -18,8 +18,8 @@ use Rattle.bind_union.proofs.{Carrying.interface_package, Carrying.references_of
 use Rattle.bind_union.proofs.Itself.{world_package, get_begin, itself, carried_itself, joined_itself, world_range, map_same}
 use Rattle.bind_union.proofs.Lists.{no_true}
 use Rattle.bind_union.proofs.CopyRules.{shape_passes, named_passes, handle_passes, depth_passes, label_passes, stay_passes, stability_alike, function_stays_passes, function_handles_pass, function_depths_pass, function_range_passes, added_pass, entry_function, entry_member, entry_import_stands, entry_export_stands, entry_range, entry_labels, unowned}
-use Rattle.bind_union.proofs.InterfaceRules.{interface_labels_pass, interface_owners_pass, interface_handles_pass, interface_depths_pass, interface_members_pass, interface_order_passes, all_named_of, number_uses, type_numbers, all_copies, copies_carried, each_function, after_weaker}
-use Rattle.bind_union.proofs.WorldOrder.{items, number_in, walk, item_stands, numbers_append, types_in, none_added, past_range, range_types}
+use Rattle.bind_union.proofs.InterfaceRules.{interface_labels_pass, interface_owners_pass, interface_handles_pass, interface_depths_pass, interface_members_pass, interface_order_passes, all_named_of, type_numbers, all_copies, copies_carried, each_function}
+use Rattle.bind_union.proofs.WorldOrder.{items, numbers_append, types_in, none_added, past_range, range_types}
 use Rattle.bind_union.proofs.WorldRules.{on_function, by_entries, sides_pass, order_passes, in_order, types_in_order, world_order_passes, world_types_pass}
 use Rattle.base_lemmas.proofs.{Elements.all_pass, Elements.all_weaker, Elements.all_two, Bools.left_of as first_true, Bools.right_of as second_true, Bools.or_false}
 use Rattle.base_lemmas.proofs.Numbers.{unequal, equal}

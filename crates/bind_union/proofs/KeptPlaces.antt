@@ -65,9 +65,6 @@ pub world_place : (r : Resolve) (n : ℕ) (w : World) → places.world_ r n w �
 unfolding places
 world_place r n w = λ j. some_number w.«package» j && option_map_or (world_is_listed n (text_of w.name)) (option_and_then (package_at r) (package_number w.«package»)) true
 
-option_itself : (p : Option ℕ) → option_eq ◌==◌ p p ≡ true
-option_itself x = search std_rules
-
 option_equal : (p q : Option ℕ) → option_eq ◌==◌ p q ≡ true → p ≡ q
 option_equal x y h = search std_rules
 

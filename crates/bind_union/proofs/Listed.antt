@@ -1,11 +1,11 @@
 -- A copied type stands in its new owner's list under its name, once.
-use Rattle.std.proofs.Common.{rules as std_rules, ◌≡◌, refl, sym, ap, ◌∙◌, ℕ, arith, Bool, true, false, ◌&&◌, ◌||◌, cond, not, ◌==◌, List, [], ◌∷◌, ◌++◌, map, Option, Some, None, option_map, option_and_then, filter_map}
+use Rattle.std.proofs.Common.{rules as std_rules, ◌≡◌, refl, sym, ap, ◌∙◌, ℕ, arith, Bool, true, false, ◌&&◌, ◌||◌, cond, not, ◌==◌, List, [], ◌∷◌, ◌++◌, map, Option, Some, option_map, option_and_then, filter_map}
 use Rattle.std.proofs.lemmas.Bool.{and_from as both}
 use Rattle.std.specs.{Prelude.count_by, Prelude.bytes_eq, List.list_any, Map.lookup, Map.keys_of, HashMap.get_by, HashMap.get_by_text}
 use Rattle.wit_model.specs.declared.model.{Resolve.Resolve, Interface.Interface, TypeId.TypeId, WorldKey.WorldKey, WorldItem.WorldItem}
-use Rattle.wit_model.specs.{Text.Text, Text.text_of, Text.text_eq, Uses.has, Valid.Keeps, Valid.KeepsRules, Checks.references}
+use Rattle.wit_model.specs.{Text.Text, Text.text_of, Uses.has, Valid.Keeps, Valid.KeepsRules, Checks.references}
 use Rattle.wit_model.specs.Rules.{is_id, is_name_key, item_type, interface_type_numbers, is_listed_in_interface, is_listed_in_world}
-use Rattle.wit_model.proofs.{Distinct.text_eq_flip, TextLemmas.text_same as text-same}
+use Rattle.wit_model.proofs.{TextLemmas.text_same as text-same}
 use Rattle.bind_union.specs.Carried.{Renumbering, KeyBecomes, IsInterface, IsCarried}
 use Rattle.bind_union.specs.Joined.{is_new, same_key, Joined, none, met, added, IsJoined}
 use Rattle.bind_union.proofs.{Lists.no_true, InterfaceRules.count_same, InterfaceRules.copies_carried, InterfaceRules.type_numbers, ViewTests.id_under}

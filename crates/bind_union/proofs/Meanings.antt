@@ -1,23 +1,21 @@
 -- What is carried means what it meant.
-use Rattle.std.proofs.Common.{arith, rules as std_rules, ◌≡◌, ◌⊎◌, inl, inr, refl, sym, ap, ◌∙◌, ℕ, true, false, List, [], ◌∷◌, map, Option, Some, None, option_map, option_to_list, is_some, unwrap_or, filter_map, length}
-use Rattle.std.proofs.lemmas.{List.Folds.list_all-append, Bool.lt-ltb, Bool.and_from as both, Option.slice_get_within, Simd.map-map}
+use Rattle.std.proofs.Common.{arith, rules as std_rules, ◌≡◌, refl, sym, ap, ◌∙◌, ℕ, true, false, List, [], ◌∷◌, map, Option, Some, None, option_map, option_to_list, is_some, unwrap_or}
+use Rattle.std.proofs.lemmas.{Bool.lt-ltb, Option.slice_get_within, Simd.map-map}
 use Rattle.std.specs.{Prelude.String, List.list_all, Option.option_map_or, FinMap.from_entries}
 use Rattle.std.specs.declared.alloc.Global.{Global}
 use Rattle.wit_model.specs.declared.model.{Resolve.Resolve, TypeId.TypeId, Param.Param, Function.Function}
 use Rattle.wit_model.specs.declared.model.{Interface.Interface, WorldKey.WorldKey, WorldItem.WorldItem, FunctionKind.FunctionKind, «Type».«Type» as ValueType}
-use Rattle.wit_model.specs.{Text.Text, Text.text_of, Tree.Tree, Meaning.TypeMeaning, Meaning.FunctionMeaning, Meaning.Item, Meaning.interface, Meaning.inline}
-use Rattle.wit_model.specs.{Lookup.interface_at, Lookup.interface_path, Lookup.key_text, Lookup.is_async, Lookup.resource_of, Types.number_of, Types.type_tree}
-use Rattle.wit_model.specs.{Parts.function_types, Valid.Keeps, Valid.KeepsRules, Valid.IsValid, Checks.references}
-use Rattle.wit_model.specs.Meant.{signature_of, function_meaning, type_meaning, type_meaning_at, no_type, interface_meaning, interface_meaning_at, interface_item, entry_meaning, entries_meaning, world_meaning, world_meaning_at, no_world}
-use Rattle.wit_model.proofs.{Lists.list_all_filter_map, Elements.none-in, OnePath.named-path}
+use Rattle.wit_model.specs.{Text.Text, Text.text_of, Tree.Tree, Meaning.TypeMeaning, Meaning.FunctionMeaning}
+use Rattle.wit_model.specs.{Lookup.interface_at, Lookup.interface_path, Lookup.key_text, Lookup.is_async, Types.number_of, Types.type_tree}
+use Rattle.wit_model.specs.{Valid.Keeps, Valid.KeepsRules, Valid.IsValid, Checks.references}
+use Rattle.wit_model.specs.Meant.{signature_of, function_meaning, type_meaning, type_meaning_at, no_type, interface_meaning, interface_meaning_at, interface_item, entry_meaning, entries_meaning, world_meaning_at}
+use Rattle.wit_model.proofs.{Elements.none-in, OnePath.named-path}
 use Rattle.bind_union.specs.{Views.renamed_type, Meanings.OwnMeansTheSame, Meanings.CopiesMeanTheSame, Meanings.MergedMeans}
-use Rattle.bind_union.specs.Carried.{Renumbering, call_under, IsFunctionCopy, IsFunctionEntry, IsInterfaceCopy, KeyBecomes, ItemBecomes, IsCarried}
+use Rattle.bind_union.specs.Carried.{Renumbering, call_under, IsFunctionCopy, IsInterfaceCopy, KeyBecomes, ItemBecomes, IsCarried}
 use Rattle.bind_union.specs.Joined.{Joined, none, met, added, IsJoined}
 use Rattle.bind_union.proofs.{Carrying.references_of, Carrying.refers_below, Carrying.carried_types, Carrying.type_tree_same, Carrying.path_same}
-use Rattle.bind_union.proofs.{Images.same_declarations, Itself.itself, Itself.carried_itself, Kept.Source, Kept.own_source, Kept.own_joined, Kept.below}
+use Rattle.bind_union.proofs.{CopyRules.given_values, Images.same_declarations, Itself.itself, Itself.carried_itself, Kept.own_joined, Kept.below}
 use Rattle.base_lemmas.proofs.{Bools.left_of as first_true, Bools.right_of as second_true, Elements.zip_map, Numbers.unequal}
-use Rattle.wit_model.specs.declared.model.WorldKey.TheVariants as key
-use Rattle.wit_model.specs.declared.model.WorldItem.TheVariants as item
 
 async_under : (f : Renumbering) (k : FunctionKind) → is_async (call_under f k) ≡ is_async k
 async_under f x = search std_rules
@@ -37,9 +35,6 @@ module _ (r s : Resolve) (f : Renumbering) (valid : KeepsRules r) (is : IsCarrie
   -- ---- functions
 
   module _ (g h : Function) (c : IsFunctionCopy f g h) where
-    carried_values : list_all (λ t. list_all f.carries_type (option_to_list (number_of t))) (function_types g) ≡ true
-    carried_values = search (std_rules, list_all_filter_map, first_true, list_all-append)
-
     params_mean : (ps : List Param) → list_all (λ t. list_all f.carries_type (option_to_list (number_of t))) (map (λ p. p.ty) ps) ≡ true
         → map {B = Text × Tree} (λ p. (text_of p.name, type_tree s (renamed_type f.types p.ty))) ps ≡ map (λ p. (text_of p.name, type_tree r p.ty)) ps
     params_mean [] h = refl
@@ -50,15 +45,10 @@ module _ (r s : Resolve) (f : Renumbering) (valid : KeepsRules r) (is : IsCarrie
     result_means x h = search (std_rules, type_tree_same, first_true)
 
     params_are : map {B = Text × Tree} (λ p. (text_of p.name, type_tree s p.ty)) h.params.items ≡ map (λ p. (text_of p.name, type_tree r p.ty)) g.params.items
-    params_are =
-        sym (map-map (λ (x : Text × ValueType). (x.0, type_tree s x.1)) (λ p. (text_of p.name, p.ty)) h.params.items)
-        ∙ (ap (map (λ (x : Text × ValueType). (x.0, type_tree s x.1))) c.params
-        ∙ (map-map (λ (x : Text × ValueType). (x.0, type_tree s x.1)) (λ p. (text_of p.name, renamed_type f.types p.ty)) g.params.items
-        ∙ params_mean g.params.items (first_true _ _ (sym (list_all-append (λ t. list_all f.carries_type (option_to_list (number_of t))) (map (λ p. p.ty) g.params.items) (option_to_list g.result))
-        ∙ carried_values))))
+    params_are = simp map-map at (ap (map {B = Text × Tree} (λ (x : Text × ValueType). (x.0, type_tree s x.1))) c.params) ∙ params_mean g.params.items (given_values r s f valid is below_s g h c).0
 
     result_is : option_map (type_tree s) h.result ≡ option_map (type_tree r) g.result
-    result_is = search (std_rules, result_means, second_true, list_all-append, carried_values)
+    result_is = ap (option_map (type_tree s)) c.result ∙ result_means g.result (given_values r s f valid is below_s g h c).1
 
     pub signature_means : signature_of s h ≡ signature_of r g
     signature_means = λ i. record { is_async = (ap is_async c.kind ∙ async_under f g.kind) i; params = params_are i; result = result_is i }
@@ -68,27 +58,16 @@ module _ (r s : Resolve) (f : Renumbering) (valid : KeepsRules r) (is : IsCarrie
 
   -- ---- interfaces
 
-  types_mean : (es : List (Text × ℕ)) → list_all (λ (e : Text × ℕ). f.copies_type e.1) es ≡ true
-      → map {B = Text × TypeMeaning} (λ (e : Text × ℕ). (e.0, type_meaning_at s (f.types e.1))) es ≡ map (λ (e : Text × ℕ). (e.0, type_meaning_at r e.1)) es
+  types_mean : (es : List (String Global × TypeId)) → list_all (λ (id : TypeId). f.copies_type id.0) (map (λ e. e.1) es) ≡ true
+      → map {B = Text × TypeMeaning} (λ e. (text_of e.0, type_meaning_at s (f.types e.1.0))) es ≡ map (λ e. (text_of e.0, type_meaning_at r e.1.0)) es
   types_mean [] h = refl
-  types_mean (e ∷ es) h = λ i. (e.0, type_means e.1 (first_true _ _ h) i) ∷ types_mean es (second_true (f.copies_type e.1) _ h) i
+  types_mean (e ∷ es) h = λ i. (text_of e.0, type_means e.1.0 (first_true _ _ h) i) ∷ types_mean es (second_true (f.copies_type e.1.0) _ h) i
 
   interface_means : (old image : Interface) → IsInterfaceCopy f old image → interface_meaning s image ≡ interface_meaning r old
   interface_means old image c = λ i. record { types = types_are i; functions = from_entries (functions_are i) }
     where
-      copied : (es : List (String Global × TypeId)) → list_all (λ (id : TypeId). f.copies_type id.0) (map (λ e. e.1) es) ≡ true
-          → list_all (λ (e : Text × ℕ). f.copies_type e.1) (map (λ e. (text_of e.0, e.1.0)) es) ≡ true
-      copied [] h = refl
-      copied (e ∷ es) h = both _ _ (first_true _ _ h) (copied es (second_true (f.copies_type e.1.0) _ h))
-
       types_are : map {B = Text × TypeMeaning} (λ e. (text_of e.0, type_meaning_at s e.1.0)) image.types.entries ≡ map (λ e. (text_of e.0, type_meaning_at r e.1.0)) old.types.entries
-      types_are =
-          sym (map-map (λ (x : Text × ℕ). (x.0, type_meaning_at s x.1)) (λ e. (text_of e.0, e.1.0)) image.types.entries)
-          ∙ (ap (map (λ (x : Text × ℕ). (x.0, type_meaning_at s x.1))) c.types
-          ∙ (map-map (λ (x : Text × ℕ). (x.0, type_meaning_at s x.1)) (λ e. (text_of e.0, f.types e.1.0)) old.types.entries
-          ∙ (sym (map-map (λ (x : Text × ℕ). (x.0, type_meaning_at s (f.types x.1))) (λ e. (text_of e.0, e.1.0)) old.types.entries)
-          ∙ (types_mean (map (λ e. (text_of e.0, e.1.0)) old.types.entries) (copied old.types.entries c.copies)
-          ∙ map-map (λ (x : Text × ℕ). (x.0, type_meaning_at r x.1)) (λ e. (text_of e.0, e.1.0)) old.types.entries))))
+      types_are = simp map-map at (ap (map {B = Text × TypeMeaning} (λ (x : Text × ℕ). (x.0, type_meaning_at s x.1))) c.types) ∙ types_mean old.types.entries c.copies
 
       functions_are : map {B = Text × FunctionMeaning} (λ e. (text_of e.0, function_meaning s e.1)) image.functions.entries ≡ map (λ e. (text_of e.0, function_meaning r e.1)) old.functions.entries
       functions_are = search (std_rules, zip_map, function_means)
@@ -127,9 +106,6 @@ merged_means own other merged bound other_bound first second left_out valid_own 
   where
     below_s : Keeps references merged
     below_s = below own other merged bound other_bound first second left_out valid_own.rules valid_other.rules is
-
-    c : Source merged
-    c = own_source own other merged bound other_bound first second left_out valid_own.rules valid_other.rules is
 
     carried : IsCarried own merged (itself own)
     carried = carried_itself own valid_own.rules merged is.types is.interfaces is.packages

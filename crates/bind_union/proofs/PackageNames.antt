@@ -1,12 +1,12 @@
 -- Names in packages that were joined.
 use Rattle.std.proofs.Common.{rules as std_rules, ◌≡◌, ◌⊎◌, inl, inr, refl, sym, ap, subst, ◌∙◌, ℕ, zero, suc, Bool, true, false, ◌||◌, cond, List, [], ◌∷◌, ◌++◌, arith, Option, Some, option_map}
-use Rattle.std.proofs.lemmas.{Bool.or_left, Bool.or_right, Bool.and_from as both, List.Folds.list_any-append}
+use Rattle.std.proofs.lemmas.{Bool.and_from as both, List.Folds.list_any-append}
 use Rattle.std.specs.{Prelude.bytes_eq, List.list_all, List.list_any, List.Contains, Map.keys_of, HashMap.get_by_text}
-use Rattle.wit_model.proofs.{Elements.none-in, TextLemmas.text_same as text-same}
+use Rattle.wit_model.proofs.{Elements.none-in}
 use Rattle.wit_model.specs.declared.model.{Package.Package, InterfaceId.InterfaceId, WorldId.WorldId}
 use Rattle.wit_model.specs.{Text.Text, Text.text_of, Text.text_eq, Rules.is_id, Rules.is_world_name}
 use Rattle.bind_union.specs.Merged.{interface_names, world_names, is_name, JoinedNames, none, met, left, added}
-use Rattle.bind_union.proofs.{Lists.no_true, ViewTests.id_under, Listed.under_text, Listed.lookup_append, Listed.lookup_first}
+use Rattle.bind_union.proofs.{Lists.no_true, Listed.under_text, Listed.lookup_append, Listed.lookup_first}
 use Rattle.base_lemmas.proofs.{Bools.left_of as first_true, Bools.right_of as second_true, Elements.any_of_map, Elements.contains-later, Maps.lookup_of_map}
 
 -- what each name passes, what is added passes

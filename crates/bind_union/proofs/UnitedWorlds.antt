@@ -15,7 +15,7 @@ use Rattle.bind_union.proofs.{Lists.no_true, Kept.below}
 use Rattle.bind_union.proofs.{Carrying.path_by, Carrying.same_path_by, Carrying.same_identity, Itself.world_package, Listed.under_text, Meanings.merged_means}
 use Rattle.bind_union.proofs.{KeptPackages.is_world_of, KeptPackages.worlds_stand, KeptPackages.found_option, KeptPlaces.world_case, KeptPlaces.own_world_low}
 use Rattle.bind_union.proofs.{PackageNames.joined_name, PackageNames.worlds_by_name, PackageNames.found_name, PackageNames.copy_found, Namesakes.under_contains}
-use Rattle.base_lemmas.proofs.{Bools.left_of as first_true, Bools.right_of as second_true, Elements.all-contained, Numbers.equal, Numbers.same-number}
+use Rattle.base_lemmas.proofs.{Bools.left_of as first_true, Bools.right_of as second_true, Elements.all-contained, Numbers.same-number}
 
 -- the path of a world by its name and its package
 pub world_path : (r : Resolve) (w : World) → path_of_world r w ≡ path_by r (Some (text_of w.name)) (package_number w.«package»)

@@ -5,7 +5,7 @@ use Rattle.std.specs.{Prelude.String, Prelude.count_by, List.list_all, List.Cont
 use Rattle.std.specs.declared.alloc.Global.{Global}
 use Rattle.wit_model.specs.declared.model.{Resolve.Resolve, World.World, WorldKey.WorldKey, WorldItem.WorldItem, TypeDef.TypeDef}
 use Rattle.wit_model.specs.{Text.Text, Text.text_of, Text.optional_text, Types.trees_of, Types.declaration_of, Parts.kind_numbers, Parts.same_owner}
-use Rattle.wit_model.specs.Lookup.{world_at, type_at, interface_path, place_of, place_of_path, key_text}
+use Rattle.wit_model.specs.Lookup.{world_at, type_at, interface_path, place_of, key_text}
 use Rattle.wit_model.specs.Tree.{Declaration, named}
 use Rattle.wit_model.specs.{Uses.alias_target, Uses.item_interface, Valid.IsValid, Valid.as_interface, Valid.as_world, Valid.order_of_types, Valid.world_items}
 use Rattle.wit_model.specs.Meaning.{Item, interface, inline, function, declares, Entry, InterfaceSense, item_sense}
@@ -16,7 +16,7 @@ use Rattle.wit_model.proofs.{PartsLemmas.owner_same as owner_equal, ValidLemmas.
 use Rattle.bind_union.specs.{Carried.Renumbering, Joined.ItemStandsFor}
 use Rattle.bind_union.specs.Matching.{IsMatch, AreMatched, WorldsAgree, AreWorldNamesakes, MetImportsStand}
 use Rattle.bind_union.proofs.{Lists.no_true, Itself.world_range}
-use Rattle.bind_union.proofs.Namesakes.{resource_declares, declares_resource, is_here, place_in, name_in, IsTarget, same_by_path, target_owner, alias_alike}
+use Rattle.bind_union.proofs.Namesakes.{resource_declares, declares_resource, name_in, IsTarget, same_by_path, target_owner, alias_alike}
 use Rattle.base_lemmas.proofs.{Bools.left_of as first_true, Bools.right_of as second_true, Elements.all-contained, Elements.lookup_stands}
 use Rattle.wit_model.specs.declared.model.WorldKey.TheVariants as key
 use Rattle.wit_model.specs.declared.model.WorldItem.TheVariants as item

@@ -1,5 +1,5 @@
 -- What an item of a world uses stands before it where its copy stands, too, and an interface or a type is an item there as often.
-use Rattle.std.proofs.Common.{rules as std_rules, ◌≡◌, refl, sym, ap, subst, ◌∙◌, ℕ, Bool, true, false, ◌||◌, not, ◌==◌, List, [], ◌∷◌, ◌++◌, append_assoc, map, filter, Option, Some, None, option_map, option_to_list, filter_map, zero, suc, ◌≤◌, ◌+◌, arith, cond, ltb-true, length, slice_get}
+use Rattle.std.proofs.Common.{rules as std_rules, ◌≡◌, refl, sym, ap, subst, ◌∙◌, ℕ, Bool, true, false, ◌||◌, ◌==◌, List, [], ◌∷◌, ◌++◌, append_assoc, map, filter, Option, Some, None, option_map, option_to_list, filter_map, zero, suc, ◌≤◌, ◌+◌, arith, cond, ltb-true, length, slice_get}
 use Rattle.std.proofs.lemmas.{Bool.or_left, Bool.or_right, Bool.and_from as both, Bool.false_from_ne_true, List.Folds.list_all-map, List.Folds.list_any-append}
 use Rattle.std.proofs.lemmas.{List.Elements.filter_map-append, List.Sums.sum_by-cons, List.Sums.sum_by-append, List.map-append, Option.same_Some as same-some}
 use Rattle.std.specs.{List.list_all, List.Contains, List.cons_option, Prelude.count_by, Prelude.sum_by}
@@ -13,9 +13,9 @@ use Rattle.bind_union.specs.Carried.{Renumbering, ItemBecomes, EntryBecomes, IsC
 use Rattle.bind_union.specs.Joined.{ItemStandsFor, Joined, none, met, added}
 use Rattle.bind_union.proofs.{Homes.owner_back, CopyRules.function_uses, ViewTests.id_under, Lists.no_true}
 use Rattle.bind_union.proofs.InterfaceRules.{implied_all, deps_there, interface_used_there, given_contains, number_uses}
-use Rattle.base_lemmas.proofs.Bools.{left_of as first_true, right_of as second_true, or_false, both_ways, first_false, second_false}
-use Rattle.base_lemmas.proofs.Elements.{all_two, all_weaker, contains-map}
-use Rattle.base_lemmas.proofs.Numbers.{differ, equal, same-number, unequal}
+use Rattle.base_lemmas.proofs.Bools.{left_of as first_true, right_of as second_true, or_false, first_false, second_false}
+use Rattle.base_lemmas.proofs.Elements.{all_weaker, contains-map}
+use Rattle.base_lemmas.proofs.Numbers.{differ, same-number, unequal}
 use Rattle.wit_model.specs.declared.model.WorldItem.TheVariants as item
 
 abbrev pub items : List (WorldKey × WorldItem) → List WorldItem
