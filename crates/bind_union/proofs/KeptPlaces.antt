@@ -118,19 +118,13 @@ module _ (own other merged : Resolve) (bound other_bound : ℕ) (first second : 
           → ((name : Text) (w : ℕ) → Contains (world_names x.old) (name, w) → left_out w ≡ false → is_name name (interface_names o) ≡ false) → IsGrown p q
       by_joined o d x j apart_names = record {
         more_interfaces = j.new_interfaces;
-        interfaces = ap interface_names (sym image) ∙ (j.interfaces ∙ ap (λ y. interface_names y ++ j.new_interfaces) same);
+        interfaces = cc;
         more_worlds = j.new_worlds;
-        worlds = ap world_names (sym image) ∙ (j.worlds ∙ ap (λ y. world_names y ++ j.new_worlds) same);
+        worlds = cc;
         apart = λ name h. false_from_ne_true _ (λ k.
             let a = added_from first.worlds first.carries_world left_out (world_names o) (world_names x.old) j.new_worlds j.joined_worlds name k in
-            no_true (sym (apart_names a.0 a.1 a.2 a.3) ∙ ((λ z. is_name (sym (text-same name a.0 a.4) z) (interface_names (same z))) ∙ h)));
+            no_true (sym (apart_names a.0 a.1 a.2 a.3) ∙ ((λ z. is_name (sym (text-same name a.0 a.4) z) (interface_names (same-some o p (sym d ∙ e) z))) ∙ h)));
       }
-        where
-          same : o ≡ p
-          same = same-some o p (sym d ∙ e)
-
-          image : j.image ≡ q
-          image = same-some j.image q (sym j.at_image ∙ (ap (package_at merged) x.here ∙ at))
 
       stands : (x : IsPackageOf other first k) → PackageStands own merged first left_out x.number x.old → IsGrown p q
       stands x (grown o d j a b) = by_joined o (ap (package_at own) (sym x.here) ∙ d) x j b
@@ -138,16 +132,13 @@ module _ (own other merged : Resolve) (bound other_bound : ℕ) (first second : 
 
       go : IsKeptPackage own merged k ⊎ IsPackageOf other first k → IsGrown p q
       go (inr x) = stands x (is.packages_stand x.number x.old x.found)
-      go (inl x) =
-          let same : x.old ≡ p = same-some x.old p (sym x.found ∙ e) in
-          let image : x.image ≡ q = same-some x.image q (sym x.at_image ∙ at) in
-          record {
-            more_interfaces = [];
-            interfaces = ap interface_names (sym image) ∙ (x.interfaces ∙ (ap interface_names same ∙ sym (append-nil (interface_names p))));
-            more_worlds = [];
-            worlds = ap world_names (sym image) ∙ (x.worlds ∙ (ap world_names same ∙ sym (append-nil (world_names p))));
-            apart = λ name h. refl;
-          }
+      go (inl x) = record {
+        more_interfaces = [];
+        interfaces = cc (append-nil (interface_names p));
+        more_worlds = [];
+        worlds = cc (append-nil (world_names p));
+        apart = λ name h. refl;
+      }
 
   -- ---- own interfaces and worlds
 
@@ -157,11 +148,11 @@ module _ (own other merged : Resolve) (bound other_bound : ℕ) (first second : 
       let g = grown_package k p q.0 e q.1 in
       let old = sym (listed_in own n t k p e) ∙ h in
       let found = first_true _ _ old in
+      let names : is_name t (world_names q.0) ≡ is_name t (world_names p) =
+      cc (g.worlds, name_append t (world_names p) g.more_worlds, g.apart t (found_name t n (interface_names p) found), or_false (is_name t (world_names p))) in
       listed_in merged n t k q.0 q.1
       ∙ both _ _ (ap (λ es. is_id n (under_text t es)) g.interfaces ∙ still_found t n (interface_names p) g.more_interfaces found)
-      (ap not (ap (is_name t) g.worlds ∙ (name_append t (world_names p) g.more_worlds
-      ∙ (ap (λ b. is_name t (world_names p) || b) (g.apart t (found_name t n (interface_names p) found)) ∙ or_false (is_name t (world_names p)))))
-      ∙ second_true (is_id n (under_text t (interface_names p))) _ old)
+      (ap not names ∙ second_true (is_id n (under_text t (interface_names p))) _ old)
 
   own_world_listed : (n : ℕ) (t : Text) (k : ℕ) (p : Package) → package_at own k ≡ Some p → world_by own n t (Some k) ≡ true → world_by merged n t (Some k) ≡ true
   own_world_listed n t k p e h =
@@ -319,25 +310,34 @@ module _ (own other merged : Resolve) (bound other_bound : ℕ) (first second : 
   abbrev oe : List (WorldKey × WorldItem)
   oe = is.own_bound.exports.entries
 
+  no_more : (f : Renumbering) → AreCopies own other merged f → (n : ℕ) (oi oe : List (WorldKey × WorldItem)) (j : IsJoined other merged f n oi oe) (t : ℕ) (v : Interface) → interface_at merged t ≡ Some v
+      → v.name ≡ None → ((a : ℕ) → f.copies_interface a ≡ true → f.interfaces a ≡ t → ⊥) → times_shown t j.image ≡ shown t oi + shown t oe
+  no_more f copies n oi oe j t v e inline none_such =
+      let whole = joined_times f n oi oe j t in
+      let a = not_among f copies oi j.old.imports.entries j.new_imports j.joined_imports t v e inline none_such in
+      let b = not_among f copies oe j.old.exports.entries j.new_exports j.joined_exports t v e inline none_such in
+      omega (arith, whole, a, b)
+
+  copied_times : (f : Renumbering) → AreCopies own other merged f → (m : ℕ) → f.copies_interface m ≡ true → (n : ℕ) (oi oe : List (WorldKey × WorldItem)) (j : IsJoined other merged f n oi oe)
+      → has (filter_map item_interface (items oi)) (f.interfaces m) ≡ false → has (filter_map item_interface (items oe)) (f.interfaces m) ≡ false → times_shown (f.interfaces m) j.image ≡ times_shown m j.old
+  copied_times f copies m copy n oi oe j fresh_i fresh_e =
+      let whole = joined_times f n oi oe j (f.interfaces m) in
+      let a = same_copies f copies m copy oi fresh_i j.old.imports.entries j.new_imports j.joined_imports in
+      let b = same_copies f copies m copy oe fresh_e j.old.exports.entries j.new_exports j.joined_exports in
+      let c = none_counted item_interface (f.interfaces m) (items oi) fresh_i in
+      let d = none_counted item_interface (f.interfaces m) (items oe) fresh_e in
+      let all = times_are m j.old in
+      omega (arith, whole, a, b, c, d, all)
+
   -- in the bound world
   bound_times : (t : ℕ) (v : Interface) → interface_at merged t ≡ Some v → v.name ≡ None → ((a : ℕ) → second.copies_interface a ≡ true → second.interfaces a ≡ t → ⊥)
       → times_shown t is.joined.image ≡ times_shown t is.own_bound
-  bound_times t v e inline none_such =
-      let whole = joined_times second other_bound oi oe is.joined t in
-      let own_times = times_are t is.own_bound in
-      let a = not_among second is.second_copies oi is.joined.old.imports.entries is.joined.new_imports is.joined.joined_imports t v e inline none_such in
-      let b = not_among second is.second_copies oe is.joined.old.exports.entries is.joined.new_exports is.joined.joined_exports t v e inline none_such in
-      omega (arith, whole, own_times, a, b)
+  bound_times t v e inline none_such = no_more second is.second_copies other_bound oi oe is.joined t v e inline none_such ∙ sym (times_are t is.own_bound)
 
   -- in a copy
   copy_times : (m : ℕ) (c : first.carries_world m ≡ true) (t : ℕ) (v : Interface) → interface_at merged t ≡ Some v → v.name ≡ None
       → ((a : ℕ) → first.copies_interface a ≡ true → first.interfaces a ≡ t → ⊥) → times_shown t (is.first_worlds m c).joined.image ≡ 0
-  copy_times m c t v e inline none_such =
-      let j = (is.first_worlds m c).joined in
-      let whole = joined_times first m [] [] j t in
-      let a = not_among first is.first_copies [] j.old.imports.entries j.new_imports j.joined_imports t v e inline none_such in
-      let b = not_among first is.first_copies [] j.old.exports.entries j.new_exports j.joined_exports t v e inline none_such in
-      omega (arith, whole, a, b)
+  copy_times m c = no_more first is.first_copies m [] [] (is.first_worlds m c).joined
 
   -- an own world shows no copy
   past_times : (k : ℕ) (w : World) → world_at own k ≡ Some w → (t : ℕ) → length own.interfaces.items ≤ t → times_shown t w ≡ 0
@@ -363,6 +363,18 @@ module _ (own other merged : Resolve) (bound other_bound : ℕ) (first second : 
           let y = none_counted item_interface n (items w.exports.entries) d in
           let wrong : ⊥ = omega (arith, a, x, y, one) in absurd wrong
 
+  -- where no other own world, nor the bound one, nor a copy shows it, no other world does
+  no_others : (t k : ℕ) → ((m : ℕ) (y : World) → world_at own m ≡ Some y → (m == k) ≡ false → times_shown t y ≡ 0) → ((bound == k) ≡ false → times_shown t is.joined.image ≡ 0)
+      → ((m : ℕ) (c : first.carries_world m ≡ true) → (first.worlds m == k) ≡ false → times_shown t (is.first_worlds m c).joined.image ≡ 0)
+      → (m : ℕ) (y : World) → world_at merged m ≡ Some y → (m == k) ≡ false → times_shown t y ≡ 0
+  no_others t k ours at_bound copies m y d apart = elim (world_case m y d) [
+    | inl w ↦ ours m y w.0 apart
+    | inr v ↦ elim v [
+      | inl b ↦ ap (times_shown t) (sym b.1) ∙ at_bound (ap (λ (z : ℕ). z == k) (sym b.0) ∙ apart)
+      | inr c ↦ ap (times_shown t) (sym c.3) ∙ copies c.0 c.1 (ap (λ (z : ℕ). z == k) c.2 ∙ apart)
+    ]
+  ]
+
   -- own ones
   own_inline : (n : ℕ) (i : Interface) → interface_at own n ≡ Some i → i.name ≡ None → inline_by own n (package_number i.«package») ≡ true → inline_by merged n (package_number i.«package») ≡ true
   own_inline n i e inline h = go (x.0 == bound) refl
@@ -376,20 +388,12 @@ module _ (own other merged : Resolve) (bound other_bound : ℕ) (first second : 
       low : n < length own.interfaces.items
       low = slice_get_within own.interfaces.items n i e
 
-      no_first : (a : ℕ) → first.copies_interface a ≡ true → first.interfaces a ≡ n → ⊥
-      no_first a c same = let high = is.first_copies.new_interfaces a c in omega (arith, high, low, same)
-
-      no_second : (a : ℕ) → second.copies_interface a ≡ true → second.interfaces a ≡ n → ⊥
-      no_second a c same = let high = is.second_copies.new_interfaces a c in omega (arith, high, low, same)
+      bound_same : times_shown n is.joined.image ≡ times_shown n is.own_bound
+      bound_same = bound_times n i there_at inline (λ a c same. let high = is.second_copies.new_interfaces a c in omega (arith, high, low, same))
 
       others : (m : ℕ) (y : World) → world_at merged m ≡ Some y → (m == x.0) ≡ false → times_shown n y ≡ 0
-      others m y d apart = elim (world_case m y d) [
-        | inl w ↦ x.5 m y w.0 apart
-        | inr v ↦ elim v [
-          | inl b ↦ ap (times_shown n) (sym b.1) ∙ (bound_times n i there_at inline no_second ∙ x.5 m is.own_bound (ap (world_at own) b.0 ∙ is.bound_at) apart)
-          | inr c ↦ ap (times_shown n) (sym c.3) ∙ copy_times c.0 c.1 n i there_at inline no_first
-        ]
-      ]
+      others = no_others n x.0 x.5 (λ apart. bound_same ∙ x.5 bound is.own_bound is.bound_at apart)
+          (λ m c apart. copy_times m c n i there_at inline (λ a c same. let high = is.first_copies.new_interfaces a c in omega (arith, high, low, same)))
 
       go : (b : Bool) → (x.0 == bound) ≡ b → inline_by merged n (package_number i.«package») ≡ true
       go false apart = inline_holds merged n (package_number i.«package») x.0 x.1 (is.worlds x.0 x.1 x.2 apart) x.3 x.4 others
@@ -397,8 +401,7 @@ module _ (own other merged : Resolve) (bound other_bound : ℕ) (first second : 
           let here : x.0 ≡ bound = equal x.0 bound same in
           let w_is : is.own_bound ≡ x.1 = same-some is.own_bound x.1 (sym is.bound_at ∙ (ap (world_at own) (sym here) ∙ x.2)) in
           inline_holds merged n (package_number i.«package») x.0 is.joined.image (ap (world_at merged) (here ∙ sym is.bound_there) ∙ is.joined.at_image)
-          (bound_times n i there_at inline no_second ∙ (ap (times_shown n) w_is ∙ x.3))
-          (ap package_number is.bound_package ∙ (ap (λ w. package_number w.«package») w_is ∙ x.4)) others
+          (bound_same ∙ (ap (times_shown n) w_is ∙ x.3)) (ap package_number is.bound_package ∙ (ap (λ w. package_number w.«package») w_is ∙ x.4)) others
 
   image_inline : (f : Renumbering) → AreCopies own other merged f → (m : ℕ) (i : IsInterface other merged f m) → i.old.name ≡ None → i.image.name ≡ None
   image_inline f copies m i inline = no_text i.image.name (i.name ∙ some_text i.old.name inline)
@@ -407,62 +410,38 @@ module _ (own other merged : Resolve) (bound other_bound : ℕ) (first second : 
   first_inline : (m : ℕ) (copy : first.copies_interface m ≡ true) (i : IsInterface other merged first m) → i.old.name ≡ None → inline_by other m (package_number i.old.«package») ≡ true
       → inline_by merged (first.interfaces m) (option_map first.packages (package_number i.old.«package»)) ≡ true
   first_inline m copy i inline h =
-      inline_holds merged (first.interfaces m) (option_map first.packages (package_number i.old.«package»)) (first.worlds x.0) j.image j.at_image one
-      (w.in_package ∙ ap (option_map first.packages) (ap (λ y. package_number y.«package») old_is ∙ x.4)) others
+      inline_holds merged (first.interfaces m) (option_map first.packages (package_number i.old.«package»)) (first.worlds x.0) w.joined.image w.joined.at_image
+      (same x.0 w.joined ∙ (ap (times_shown m) old_is ∙ x.3)) (w.in_package ∙ ap (option_map first.packages) (ap (λ y. package_number y.«package») old_is ∙ x.4))
+      (no_others (first.interfaces m) (first.worlds x.0) (λ k y d apart. past_times k y d (first.interfaces m) high)
+      (λ apart. bound_times (first.interfaces m) i.image i.at_image (image_inline first is.first_copies m i inline) no_second ∙ past_times bound is.own_bound is.bound_at (first.interfaces m) high)
+      (λ k d apart. let u = (is.first_worlds k d).joined in same k u ∙ x.5 k u.old u.found (unequal k x.0 (λ e. differ (first.worlds k) (first.worlds x.0) apart (ap first.worlds e)))))
     where
       x : ShownOnce other m (package_number i.old.«package»)
       x = inline_found other m (package_number i.old.«package») h
 
-      c : first.carries_world x.0 ≡ true
-      c = is.first_copies.inline_shown m i.old x.0 x.1 copy i.found inline x.2 (among m x.1 x.3)
-
       w : IsWorldCopy other merged first x.0
-      w = is.first_worlds x.0 c
+      w = is.first_worlds x.0 (is.first_copies.inline_shown m i.old x.0 x.1 copy i.found inline x.2 (among m x.1 x.3))
 
-      j : IsJoined other merged first x.0 [] []
-      j = w.joined
-
-      old_is : j.old ≡ x.1
-      old_is = same-some j.old x.1 (sym j.found ∙ x.2)
-
-      inline_there : i.image.name ≡ None
-      inline_there = image_inline first is.first_copies m i inline
+      old_is : w.joined.old ≡ x.1
+      old_is = same-some w.joined.old x.1 (sym w.joined.found ∙ x.2)
 
       high : length own.interfaces.items ≤ first.interfaces m
       high = is.first_copies.new_interfaces m copy
 
       same : (k : ℕ) (v : IsJoined other merged first k [] []) → times_shown (first.interfaces m) v.image ≡ times_shown m v.old
-      same k v =
-          let whole = joined_times first k [] [] v (first.interfaces m) in
-          let a = same_copies first is.first_copies m copy [] refl v.old.imports.entries v.new_imports v.joined_imports in
-          let b = same_copies first is.first_copies m copy [] refl v.old.exports.entries v.new_exports v.joined_exports in
-          let all = times_are m v.old in
-          omega (arith, whole, a, b, all)
-
-      one : times_shown (first.interfaces m) j.image ≡ 1
-      one = same x.0 j ∙ (ap (times_shown m) old_is ∙ x.3)
+      same k v = copied_times first is.first_copies m copy k [] [] v refl refl
 
       no_second : (a : ℕ) → second.copies_interface a ≡ true → second.interfaces a ≡ first.interfaces m → ⊥
       no_second a d e = let less = is.second_behind m a copy d in omega (arith, less, e)
-
-      others : (k : ℕ) (y : World) → world_at merged k ≡ Some y → (k == first.worlds x.0) ≡ false → times_shown (first.interfaces m) y ≡ 0
-      others k y d apart = elim (world_case k y d) [
-        | inl v ↦ past_times k y v.0 (first.interfaces m) high
-        | inr v ↦ elim v [
-          | inl b ↦ ap (times_shown (first.interfaces m)) (sym b.1) ∙ (bound_times (first.interfaces m) i.image i.at_image inline_there no_second ∙ past_times bound is.own_bound is.bound_at
-              (first.interfaces m) high)
-          | inr v ↦
-              let u = (is.first_worlds v.0 v.1).joined in
-              ap (times_shown (first.interfaces m)) (sym v.3) ∙ (same v.0 u ∙ x.5 v.0 u.old u.found (unequal v.0 x.0 (λ e. differ k (first.worlds x.0) apart (sym v.2 ∙ ap first.worlds e))))
-        ]
-      ]
 
   -- those that are copied twice
   second_inline_holds : (m : ℕ) (copy : second.copies_interface m ≡ true) (i : IsInterface other merged second m) → i.old.name ≡ None → inline_by other m (package_number i.old.«package») ≡ true
       → inline_by merged (second.interfaces m) (package_number is.own_bound.«package») ≡ true
   second_inline_holds m copy i inline h =
       inline_holds merged (second.interfaces m) (package_number is.own_bound.«package») bound is.joined.image (ap (world_at merged) (sym is.bound_there) ∙ is.joined.at_image) one
-      (ap package_number is.bound_package) others
+      (ap package_number is.bound_package)
+      (no_others (second.interfaces m) bound (λ k y d apart. past_times k y d (second.interfaces m) high) (λ apart. no_true (sym apart ∙ same-number bound))
+      (λ k d apart. copy_times k d (second.interfaces m) i.image i.at_image (image_inline second is.second_copies m i inline) no_first))
     where
       x : ShownOnce other m (package_number i.old.«package»)
       x = inline_found other m (package_number i.old.«package») h
@@ -470,40 +449,18 @@ module _ (own other merged : Resolve) (bound other_bound : ℕ) (first second : 
       here : x.0 ≡ other_bound
       here = is.second_worlds x.0 (is.second_copies.inline_shown m i.old x.0 x.1 copy i.found inline x.2 (among m x.1 x.3))
 
-      old_is : is.joined.old ≡ x.1
-      old_is = same-some is.joined.old x.1 (sym is.joined.found ∙ (ap (world_at other) (sym here) ∙ x.2))
-
-      inline_there : i.image.name ≡ None
-      inline_there = image_inline second is.second_copies m i inline
-
       high : length own.interfaces.items ≤ second.interfaces m
       high = is.second_copies.new_interfaces m copy
 
       one : times_shown (second.interfaces m) is.joined.image ≡ 1
       one =
           let range = world_range own valid_own bound is.own_bound is.bound_at in
-          let fresh_i = past_range own.interfaces.items _ (second.interfaces m) (range_interfaces own oi range.0) high in
-          let fresh_e = past_range own.interfaces.items _ (second.interfaces m) (range_interfaces own oe range.1) high in
-          let whole = joined_times second other_bound oi oe is.joined (second.interfaces m) in
-          let a = same_copies second is.second_copies m copy oi fresh_i is.joined.old.imports.entries is.joined.new_imports is.joined.joined_imports in
-          let b = same_copies second is.second_copies m copy oe fresh_e is.joined.old.exports.entries is.joined.new_exports is.joined.joined_exports in
-          let c = none_counted item_interface (second.interfaces m) (items oi) fresh_i in
-          let d = none_counted item_interface (second.interfaces m) (items oe) fresh_e in
-          let all = times_are m is.joined.old in
-          let old : times_shown m is.joined.old ≡ 1 = ap (times_shown m) old_is ∙ x.3 in
-          omega (arith, whole, a, b, c, d, all, old)
+          copied_times second is.second_copies m copy other_bound oi oe is.joined (past_range own.interfaces.items _ (second.interfaces m) (range_interfaces own oi range.0) high)
+          (past_range own.interfaces.items _ (second.interfaces m) (range_interfaces own oe range.1) high)
+          ∙ (ap (times_shown m) (same-some is.joined.old x.1 (sym is.joined.found ∙ (ap (world_at other) (sym here) ∙ x.2))) ∙ x.3)
 
       no_first : (a : ℕ) → first.copies_interface a ≡ true → first.interfaces a ≡ second.interfaces m → ⊥
       no_first a d e = let less = is.second_behind a m d copy in omega (arith, less, e)
-
-      others : (k : ℕ) (y : World) → world_at merged k ≡ Some y → (k == bound) ≡ false → times_shown (second.interfaces m) y ≡ 0
-      others k y d apart = elim (world_case k y d) [
-        | inl v ↦ past_times k y v.0 (second.interfaces m) high
-        | inr v ↦ elim v [
-          | inl b ↦ no_true (sym apart ∙ subst (λ (z : ℕ). (z == bound) ≡ true) (sym b.0) (same-number bound))
-          | inr v ↦ ap (times_shown (second.interfaces m)) (sym v.3) ∙ copy_times v.0 v.1 (second.interfaces m) i.image i.at_image inline_there no_first
-        ]
-      ]
 
   -- ---- interfaces
 
