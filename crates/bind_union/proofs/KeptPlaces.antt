@@ -1,5 +1,5 @@
 -- In what was merged interfaces and worlds stand in their packages, and each inline interface in one world.
-use Rattle.std.proofs.Common.{rules as std_rules, ◌≡◌, ◌⊎◌, inl, inr, refl, sym, ap, subst, ◌∙◌, ℕ, zero, suc, ◌<◌, ◌≤◌, ◌+◌, arith, Bool, true, false, ◌&&◌, ◌||◌, ◌==◌, not, List, [], ◌∷◌, ◌++◌, append-nil, length, filter_map, Option, Some, None, option_map, option_and_then, is_some}
+use Rattle.std.proofs.Common.{rules as std_rules, ◌≡◌, ◌⊎◌, inl, inr, refl, sym, ap, ◌∙◌, ℕ, ◌<◌, ◌≤◌, ◌+◌, arith, Bool, true, false, ◌&&◌, ◌||◌, ◌==◌, not, List, [], ◌++◌, append-nil, length, filter_map, Option, Some, None, option_map, option_and_then, is_some}
 use Rattle.std.proofs.lemmas.Bool.{false_from_ne_true, not-true, lt-ltb, or_left, or_right, and_from as both, cases_lt as low_or_high}
 use Rattle.std.proofs.lemmas.Option.{slice_get_within, same_Some as same-some}
 use Rattle.std.specs.{Prelude.String, Prelude.sum_by, List.list_all, List.Contains, Option.option_map_or, Option.option_eq}
@@ -19,7 +19,7 @@ use Rattle.bind_union.proofs.PackageNames.{added_from, name_append, interfaces_b
 use Rattle.bind_union.specs.{Carried.Renumbering, Carried.IsInterface, Joined.Joined, Joined.IsJoined}
 use Rattle.bind_union.specs.Merged.{interface_names, world_names, is_name, IsJoinedPackage, PackageStands, grown, brought, IsKeptPackage, IsPackageOf, IsCopyUnder, AreCopies, IsWorldCopy, IsMerged}
 use Rattle.base_lemmas.proofs.Bools.{left_of as first_true, right_of as second_true, or_false}
-use Rattle.base_lemmas.proofs.Elements.{all-contained, all_by_number as all_by_get, get-contains}
+use Rattle.base_lemmas.proofs.Elements.{any-at, all-contained, all_by_number as all_by_get, get-contains}
 use Rattle.base_lemmas.proofs.Numbers.{differ, unequal, equal, same-number}
 
 types_free : (s : Resolve) → each_from (places.type_ s) 0 s.types.items ≡ true
@@ -97,9 +97,7 @@ inline_found r n p h =
     (one.0, one.1, one.2, one.3, option_equal (package_number one.1.«package») p (sym (ap (λ k. (k == 0) || option_eq ◌==◌ (package_number one.1.«package») p) one.3) ∙ here), one.4)
 
 pub listed_name : (t : Text) (n : ℕ) (es : List (Text × ℕ)) → Contains es (t, n) → is_name t es ≡ true
-listed_name t n [] c = none-in (t, n) c
-listed_name t n (e ∷ es) (zero, l, h) = or_left _ _ (ap (λ x. text_eq t x.0) h ∙ same_text t t refl)
-listed_name t n (e ∷ es) (suc k, l, h) = or_right (text_eq t e.0) (is_name t es) (listed_name t n es (k, omega (arith, l), h))
+listed_name t n es c = any-at (λ (e : Text × ℕ). text_eq t e.0) es (t, n) c (same_text t t refl)
 
 -- ---- what stood in a package stands there
 
@@ -301,8 +299,7 @@ module _ (own other merged : Resolve) (bound other_bound : ℕ) (first second : 
 
   joined_times : (f : Renumbering) (n : ℕ) (oi oe : List (WorldKey × WorldItem)) (j : IsJoined other merged f n oi oe) (t : ℕ)
       → times_shown t j.image ≡ (shown t oi + shown t j.new_imports) + (shown t oe + shown t j.new_exports)
-  joined_times f n oi oe j t =
-      search (std_rules, times_are t j.image, shown t, counted_append item_interface t oi j.new_imports, counted_append item_interface t oe j.new_exports)
+  joined_times f n oi oe j t = search (std_rules, times_are t j.image, shown t, counted_append item_interface t oi j.new_imports, counted_append item_interface t oe j.new_exports)
 
   abbrev oi : List (WorldKey × WorldItem)
   oi = is.own_bound.imports.entries
@@ -367,13 +364,7 @@ module _ (own other merged : Resolve) (bound other_bound : ℕ) (first second : 
   no_others : (t k : ℕ) → ((m : ℕ) (y : World) → world_at own m ≡ Some y → (m == k) ≡ false → times_shown t y ≡ 0) → ((bound == k) ≡ false → times_shown t is.joined.image ≡ 0)
       → ((m : ℕ) (c : first.carries_world m ≡ true) → (first.worlds m == k) ≡ false → times_shown t (is.first_worlds m c).joined.image ≡ 0)
       → (m : ℕ) (y : World) → world_at merged m ≡ Some y → (m == k) ≡ false → times_shown t y ≡ 0
-  no_others t k ours at_bound copies m y d apart = elim (world_case m y d) [
-    | inl w ↦ ours m y w.0 apart
-    | inr v ↦ elim v [
-      | inl b ↦ ap (times_shown t) (sym b.1) ∙ at_bound (ap (λ (z : ℕ). z == k) (sym b.0) ∙ apart)
-      | inr c ↦ ap (times_shown t) (sym c.3) ∙ copies c.0 c.1 (ap (λ (z : ℕ). z == k) c.2 ∙ apart)
-    ]
-  ]
+  no_others t k ours at_bound copies m y d apart = search (std_rules, world_case m y d)
 
   -- own ones
   own_inline : (n : ℕ) (i : Interface) → interface_at own n ≡ Some i → i.name ≡ None → inline_by own n (package_number i.«package») ≡ true → inline_by merged n (package_number i.«package») ≡ true

@@ -1,10 +1,9 @@
 -- Types of interfaces of one path and one sense stand for each other.
-use Rattle.std.proofs.Common.{rules as std_rules, ◌≡◌, ◌⊎◌, inl, inr, refl, sym, ap, subst, ◌∙◌, ℕ, zero, suc, ◌+◌, arith, Bool, true, false, ◌&&◌, ◌||◌, ◌==◌, not, cond, List, [], ◌∷◌, map, nat_lt, Option, Some, None, option_map, is_some, unwrap_or}
-use Rattle.std.proofs.lemmas.{Cmp.nat_list_cmp_total, List.Sums.sum_by-cons, List.Folds.list_all-map, Simd.map-map, Option.same_Some as same-some}
+use Rattle.std.proofs.Common.{slice_get, rules as std_rules, ◌≡◌, ◌⊎◌, inl, inr, refl, sym, ap, subst, ◌∙◌, ℕ, arith, Bool, true, false, ◌&&◌, ◌||◌, ◌==◌, not, cond, List, [], ◌∷◌, map, nat_lt, Option, Some, None, option_map, is_some, unwrap_or}
+use Rattle.std.proofs.lemmas.{Cmp.nat_list_cmp_total, Simd.map-map, Option.same_Some as same-some}
 use Rattle.std.specs.{Prelude.String, Prelude.bytes_eq, Prelude.count_by, Option.option_map_or, FinMap.find, FinMap.from_entries, FinMap.get-from_entries}
 use Rattle.std.specs.{List.list_all, List.Contains, Map.lookup, HashMap.get_by_text}
 use Rattle.std.specs.declared.alloc.Global.{Global}
-use Rattle.indexmap.specs.IndexMap.{values}
 use Rattle.wit_model.specs.declared.model.{Resolve.Resolve, Interface.Interface, TypeId.TypeId, TypeDef.TypeDef, TypeDefKind.TypeDefKind, TypeOwner.TypeOwner}
 use Rattle.wit_model.specs.Text.{Text, text_of, text_eq, text_cmp, optional_text, TextMap}
 use Rattle.wit_model.specs.Lookup.{interface_at, type_at, interface_path, place_of, place_of_path}
@@ -13,16 +12,16 @@ use Rattle.wit_model.specs.Types.{no_tree, tree_at, declared_by, trees_of, decla
 use Rattle.wit_model.specs.Parts.{kind_numbers, same_owner, has_owner, met_by, met_of, used_by_type}
 use Rattle.wit_model.specs.Uses.{has, alias_target, owner_interface}
 use Rattle.wit_model.specs.{Meaning.TypeMeaning, Meaning.InterfaceSense, Meant.interface_meaning, Meant.type_meaning, Meant.type_meaning_at, Meant.no_type}
-use Rattle.wit_model.specs.Rules.{passes, in_list, is_id, package_number, function_in_range, interface_type_numbers, is_listed, is_listed_in_interface, is_named_of, is_named_number, are_in_order, is_use, is_resource_itself, is_named_kind, owner_in_range}
-use Rattle.wit_model.specs.Valid.{IsValid, is_place, as_interface, numbers_in_range, order_of_types, owners, named_kinds}
+use Rattle.wit_model.specs.Rules.{passes, in_list, is_id, interface_type_numbers, is_listed, is_listed_in_interface, is_named_of, is_named_number, are_in_order, is_use, is_resource_itself, is_named_kind}
+use Rattle.wit_model.specs.Valid.{IsValid, as_interface, order_of_types, owners, named_kinds}
 use Rattle.wit_model.proofs.{AnyOrder.same-text, Functions.all_flat}
-use Rattle.wit_model.proofs.{Elements.none-in, Elements.contains-has, Elements.has-contains, Owners.met_step, Owners.owned_stays, Chains.all_has as passes_at}
+use Rattle.wit_model.proofs.{Elements.contains-has, Elements.contains-get, Elements.has-contains, Owners.met_step, Owners.owned_stays, Chains.all_has as passes_at}
 use Rattle.wit_model.proofs.{OnePath.path-once, OnePath.named-path, OnePath.found-in, OnePath.interface-passes, PartsLemmas.owner_same as owner_equal}
 use Rattle.wit_model.proofs.{TreeTable.kept_trees_at, RulesLemmas.is_id_some as some_id, TextLemmas.text_same as text-same, ValidLemmas.type_passes}
 use Rattle.bind_meaning.proofs.Listed.{from-map}
 use Rattle.bind_union.specs.Matching.{type_names, IsMatch, AreMatched, AreNamesakes, MatchesAreNamesakes, MatchesAreOnto}
-use Rattle.bind_union.proofs.{Lists.no_true, Carrying.references_of, Homes.alias_of_all, Listed.under_text, Listed.found_by_text}
-use Rattle.base_lemmas.proofs.{Bools.left_of as first_true, Bools.right_of as second_true, Elements.contains-later, Elements.contains-map, Maps.lookup_of_map}
+use Rattle.bind_union.proofs.{Lists.no_true, Carrying.references_of, Homes.alias_of_all, Itself.interface_range, Itself.type_range, WorldOrder.one_of_sum, Listed.under_text, Listed.found_by_text}
+use Rattle.base_lemmas.proofs.{Bools.left_of as first_true, Bools.right_of as second_true, Elements.contains-map, Elements.lookup_stands, Lists.mapped_get, Maps.lookup_of_map}
 use Rattle.base_lemmas.proofs.Numbers.{equal, same-number}
 use Rattle.wit_model.specs.declared.model.TypeOwner.TheVariants as owner
 
@@ -67,11 +66,7 @@ name_in (node form ts) = []
 
 -- what is found stands there
 pub under_contains : (name : Text) (es : List (Text × ℕ)) (t : ℕ) → under_text name es ≡ Some t → Contains es (name, t)
-under_contains name [] t h = let wrong : ⊥ = cc in absurd wrong
-under_contains name (e ∷ es) t h = go (bytes_eq name e.0) refl h (under_contains name es t)
-  where
-    go : (b : Bool) → text_eq name e.0 ≡ b → cond b (Some e.1) (under_text name es) ≡ Some t → (under_text name es ≡ Some t → Contains es (name, t)) → Contains (e ∷ es) (name, t)
-    go x k h rest = search (std_rules, text-same, same-some, contains-later)
+under_contains name es t h = let x = lookup_stands (λ k. bytes_eq name k) es t h in subst (λ (k : Text). Contains es (k, t)) (sym (text-same name x.0 x.2)) x.1
 
 pub number_listed : (es : List (Text × ℕ)) (name : Text) (t : ℕ) → Contains es (name, t) → has (map (λ (e : Text × ℕ). e.1) es) t ≡ true
 number_listed es name t c = contains-has (map (λ (e : Text × ℕ). e.1) es) t (contains-map (λ (e : Text × ℕ). e.1) es (name, t) c)
@@ -79,44 +74,25 @@ number_listed es name t c = contains-has (map (λ (e : Text × ℕ). e.1) es) t 
 abbrev often : ℕ → List (Text × ℕ) → ℕ
 often t es = count_by (λ k. k == t) (map (λ (e : Text × ℕ). e.1) es)
 
-stands_often : (es : List (Text × ℕ)) (name : Text) (t : ℕ) → Contains es (name, t) → often t es ≡ 0 → ⊥
-stands_often [] name t c h = none-in (name, t) c
-stands_often (e ∷ es) name t c h = go (e.1 == t) refl c (stands_often es name t)
+-- what stands once stands at one place
+one_place : (ns : List ℕ) (t : ℕ) → count_by (λ k. k == t) ns ≡ 1 → (i j : ℕ) → slice_get ns i ≡ Some t → slice_get ns j ≡ Some t → i ≡ j
+one_place ns t h i j p q = here i p (i == once.0) refl ∙ sym (here j q (j == once.0) refl)
   where
-    step : often t (e ∷ es) ≡ cond (e.1 == t) 1 0 + often t es
-    step = sum_by-cons (λ k. cond (k == t) 1 0) e.1 (map (λ (x : Text × ℕ). x.1) es)
+    once : (k : ℕ) × (x : ℕ) × (slice_get ns k ≡ Some x) × ◌≡◌ {A = ℕ} (cond (x == t) 1 0) 1 × ((m y : ℕ) → slice_get ns m ≡ Some y → (m == k) ≡ false → ◌≡◌ {A = ℕ} (cond (y == t) 1 0) 0)
+    once = one_of_sum (λ k. cond (k == t) 1 0) ns h
 
-    go : (b : Bool) → (e.1 == t) ≡ b → Contains (e ∷ es) (name, t) → (Contains es (name, t) → often t es ≡ 0 → ⊥) → ⊥
-    go true k c rest = let one : cond (e.1 == t) 1 0 ≡ 1 = ap {B = ℕ} (λ b. cond b 1 0) k in let s = step in omega (arith, s, one, h)
-    go false k (zero, l, d) rest = no_true (sym k ∙ subst (λ (x : ℕ). (e.1 == x) ≡ true) (ap (λ (x : Text × ℕ). x.1) d) (same-number e.1))
-    go false k (suc i, l, d) rest = let one : cond (e.1 == t) 1 0 ≡ 0 = ap {B = ℕ} (λ b. cond b 1 0) k in let s = step in rest (i, omega (arith, l), d) (omega (arith, s, one, h))
+    here : (m : ℕ) → slice_get ns m ≡ Some t → (b : Bool) → (m == once.0) ≡ b → m ≡ once.0
+    here m e true k = equal m once.0 k
+    here m e false k = let one : cond (t == t) 1 0 ≡ 1 = ap {B = ℕ} (λ b. cond b 1 0) (same-number t) in let none = once.4 m t e k in absurd (omega (arith, one, none))
 
--- what stands once stands under one name
+-- and so under one name
 one_name : (es : List (Text × ℕ)) (a b : Text) (t : ℕ) → Contains es (a, t) → Contains es (b, t) → often t es ≡ 1 → a ≡ b
-one_name [] a b t c d h = none-in (a, t) c
-one_name (e ∷ es) a b t c d h = go c d (one_name es a b t)
-  where
-    step : often t (e ∷ es) ≡ cond (e.1 == t) 1 0 + often t es
-    step = sum_by-cons (λ k. cond (k == t) 1 0) e.1 (map (λ (x : Text × ℕ). x.1) es)
-
-    is_head : (x : Text) → e ≡ (x, t) → often t es ≡ 0
-    is_head x d = search (std_rules, same-number, step)
-
-    rest_once : (x : Text) → Contains es (x, t) → often t es ≡ 1
-    rest_once x c = by (e.1 == t) refl
-      where
-        by : (y : Bool) → (e.1 == t) ≡ y → often t es ≡ 1
-        by true k =
-            let one : cond (e.1 == t) 1 0 ≡ 1 = ap {B = ℕ} (λ b. cond b 1 0) k in
-            let s = step in
-            absurd (stands_often es x t c (omega (arith, s, one, h)))
-        by false k = let one : cond (e.1 == t) 1 0 ≡ 0 = ap {B = ℕ} (λ b. cond b 1 0) k in let s = step in omega (arith, s, one, h)
-
-    go : Contains (e ∷ es) (a, t) → Contains (e ∷ es) (b, t) → (Contains es (a, t) → Contains es (b, t) → often t es ≡ 1 → a ≡ b) → a ≡ b
-    go (zero, l, c) (zero, m, d) rest = ap (λ (x : Text × ℕ). x.0) (sym c ∙ d)
-    go (zero, l, c) (suc j, m, d) rest = absurd (stands_often es b t (j, omega (arith, m), d) (is_head a c))
-    go (suc i, l, c) (zero, m, d) rest = absurd (stands_often es a t (i, omega (arith, l), c) (is_head b d))
-    go (suc i, l, c) (suc j, m, d) rest = rest (i, omega (arith, l), c) (j, omega (arith, m), d) (rest_once a (i, omega (arith, l), c))
+one_name es a b t c d h =
+    let i = contains-get es (a, t) c in
+    let j = contains-get es (b, t) d in
+    let number = λ (e : Text × ℕ). e.1 in
+    let place = one_place (map number es) t h i.0 j.0 (mapped_get number es i.0 (a, t) i.1) (mapped_get number es j.0 (b, t) j.1) in
+    ap (λ (e : Text × ℕ). e.0) (same-some (a, t) (b, t) (sym i.1 ∙ (ap (slice_get es) place ∙ j.1)))
 
 pub numbers_are : (i : Interface) → interface_type_numbers i ≡ map (λ (e : Text × ℕ). e.1) (type_names i)
 numbers_are i = map-map (λ (id : TypeId). id.0) (λ e. e.1) i.types.entries ∙ sym (map-map (λ (e : Text × ℕ). e.1) (λ e. (text_of e.0, e.1.0)) i.types.entries)
@@ -146,23 +122,14 @@ module _ (r : Resolve) (v : IsValid r) where
 
   -- a type that stands under a name bears it
   pub listed_type : (n : ℕ) (i : Interface) → interface_at r n ≡ Some i → (name : Text) (t : ℕ) → Contains (type_names i) (name, t) → IsListedType n i name t
-  unfolding order_of_types numbers_in_range
+  unfolding order_of_types
   listed_type n i at name t c = by d.0.name refl
     where
       listed : has (interface_type_numbers i) t ≡ true
       listed = ap (λ ns. has ns t) (numbers_are i) ∙ number_listed (type_names i) name t c
 
-      range : (is_place n && (passes (in_list r.packages.items) (package_number i.«package»)
-          && (list_all (λ id. in_list r.types.items id.0) (values i.types) && list_all (function_in_range r) (values i.functions)))) ≡ true
-      range = interface-passes numbers_in_range r v.rules.numbers_in_range n i at
-
-      low : list_all (in_list r.types.items) (interface_type_numbers i) ≡ true
-      low = list_all-map (in_list r.types.items) (λ (id : TypeId). id.0) (values i.types) ∙ first_true (list_all (λ id. in_list r.types.items id.0) (values i.types))
-          (list_all (function_in_range r) (values i.functions)) (second_true (passes (in_list r.packages.items) (package_number i.«package»))
-          (list_all (λ id. in_list r.types.items id.0) (values i.types) && list_all (function_in_range r) (values i.functions)) (second_true (is_place n) _ range))
-
       d : (x : TypeDef) × (type_at r t ≡ Some x)
-      d = found-in r.types.items t (passes_at (in_list r.types.items) (interface_type_numbers i) t low listed)
+      d = found-in r.types.items t (passes_at (in_list r.types.items) (interface_type_numbers i) t (interface_range r v.rules n i at).0 listed)
 
       order : (list_all (is_named_of r (as_interface n)) (interface_type_numbers i) && are_in_order r (interface_type_numbers i)) ≡ true
       order = interface-passes order_of_types r v.rules.order_of_types n i at
@@ -200,14 +167,11 @@ module _ (r : Resolve) (v : IsValid r) where
 
   -- the target of an alias has a name
   pub target_named : (t : ℕ) (def : TypeDef) → type_at r t ≡ Some def → (u : ℕ) → alias_target def.kind ≡ Some u → IsTarget u
-  unfolding named_kinds numbers_in_range
+  unfolding named_kinds
   target_named t def e u alias = by d.0.name refl
     where
-      range : (is_place t && (list_all (in_list r.types.items) (kind_numbers def.kind) && owner_in_range r def.owner)) ≡ true
-      range = type_passes numbers_in_range r v.rules.numbers_in_range t def e
-
       d : (x : TypeDef) × (type_at r u ≡ Some x)
-      d = search (std_rules, found-in, alias_of_all, def, first_true, second_true, range)
+      d = found-in r.types.items u (sym (ap (passes (in_list r.types.items)) alias) ∙ alias_of_all (in_list r.types.items) def.kind (type_range r v.rules t def e).0)
 
       old : ((not (is_named_kind def.kind) || is_some def.name) && passes (is_named_number r) (alias_target def.kind)) ≡ true
       old = type_passes named_kinds r v.rules.named_kinds t def e
@@ -272,13 +236,7 @@ module _ {X : Type 0} where
 
 -- what stands under a name means what its type does
 pub meaning_under : (r : Resolve) (i : Interface) (name : Text) → entry_under name (interface_meaning r i).types ≡ option_map (type_meaning_at r) (under_text name (type_names i))
-meaning_under r i name =
-    lookup_of_map (text_eq name) text_of (λ (id : TypeId). type_meaning_at r id.0) i.types.entries
-    ∙ (twice (lookup (λ k. text_eq name (text_of k)) i.types.entries)
-    ∙ ap (option_map (type_meaning_at r)) (sym (lookup_of_map (λ t. bytes_eq name t) text_of (λ (id : TypeId). id.0) i.types.entries)))
-  where
-    twice : (o : Option TypeId) → option_map (λ id. type_meaning_at r id.0) o ≡ option_map (type_meaning_at r) (option_map (λ id. id.0) o)
-    twice x = search std_rules
+meaning_under r i name = simp map-map at (lookup_of_map (text_eq name) (λ (t : Text). t) (type_meaning_at r) (type_names i))
 
 module _ (own other : Resolve) (interfaces types : ℕ → ℕ) (valid_own : IsValid own) (valid_other : IsValid other) where
   same_under : (n : ℕ) (is : IsMatch own other interfaces types n) (name : Text)

@@ -1,13 +1,13 @@
 -- Names in packages that were joined.
-use Rattle.std.proofs.Common.{rules as std_rules, ◌≡◌, ◌⊎◌, inl, inr, refl, sym, ap, subst, ◌∙◌, ℕ, zero, suc, Bool, true, false, ◌||◌, cond, List, [], ◌∷◌, ◌++◌, arith, Option, Some, option_map}
+use Rattle.std.proofs.Common.{rules as std_rules, ◌≡◌, ◌⊎◌, inl, inr, refl, sym, ap, subst, ◌∙◌, ℕ, zero, suc, Bool, true, false, ◌||◌, cond, List, ◌∷◌, ◌++◌, arith, Option, Some, option_map}
 use Rattle.std.proofs.lemmas.{Bool.and_from as both, List.Folds.list_any-append}
 use Rattle.std.specs.{Prelude.bytes_eq, List.list_all, List.list_any, List.Contains, Map.keys_of, HashMap.get_by_text}
-use Rattle.wit_model.proofs.{Elements.none-in}
+use Rattle.wit_model.proofs.{RulesLemmas.is_id_some, Elements.none-in}
 use Rattle.wit_model.specs.declared.model.{Package.Package, InterfaceId.InterfaceId, WorldId.WorldId}
 use Rattle.wit_model.specs.{Text.Text, Text.text_of, Text.text_eq, Rules.is_id, Rules.is_world_name}
 use Rattle.bind_union.specs.Merged.{interface_names, world_names, is_name, JoinedNames, none, met, left, added}
 use Rattle.bind_union.proofs.{Lists.no_true, Listed.under_text, Listed.lookup_append, Listed.lookup_first}
-use Rattle.base_lemmas.proofs.{Bools.left_of as first_true, Bools.right_of as second_true, Elements.any_of_map, Elements.contains-later, Maps.lookup_of_map}
+use Rattle.base_lemmas.proofs.{Bools.left_of as first_true, Bools.right_of as second_true, Elements.any_of_map, Elements.any-at, Elements.lookup_stands, Elements.contains-later, Maps.lookup_of_map}
 
 -- what each name passes, what is added passes
 pub names_pass : (number : ℕ → ℕ) (copies left_out : ℕ → Bool) (own : List (Text × ℕ)) (p q : Text × ℕ → Bool)
@@ -60,12 +60,7 @@ world_name_listed p name = search (std_rules, any_of_map)
 
 -- a number that is found under a name stands under it
 pub found_name : (name : Text) (n : ℕ) (es : List (Text × ℕ)) → is_id n (under_text name es) ≡ true → is_name name es ≡ true
-found_name name n [] h = no_true h
-found_name name n (e ∷ es) h = go (bytes_eq name e.0) refl h (found_name name n es)
-  where
-    go : (b : Bool) → text_eq name e.0 ≡ b → is_id n (cond b (Some e.1) (under_text name es)) ≡ true → (is_id n (under_text name es) ≡ true → is_name name es ≡ true)
-        → (text_eq name e.0 || is_name name es) ≡ true
-    go x e h rest = search std_rules
+found_name name n es h = let x = lookup_stands (λ t. bytes_eq name t) es n (is_id_some n (under_text name es) h) in any-at (λ (e : Text × ℕ). text_eq name e.0) es (x.0, n) x.1 x.2
 
 -- a number that was found stays so
 pub still_found : (name : Text) (n : ℕ) (own more : List (Text × ℕ)) → is_id n (under_text name own) ≡ true → is_id n (under_text name (own ++ more)) ≡ true

@@ -207,15 +207,10 @@ module _ {X : Type 0} (g : X → ℕ) where
   pub one_sums : (xs : List X) (k : ℕ) (x : X) → slice_get xs k ≡ Some x → g x ≡ 1 → ((m : ℕ) (y : X) → slice_get xs m ≡ Some y → (m == k) ≡ false → g y ≡ 0) → sum_by g xs ≡ 1
   one_sums [] k x e one h = absurd cc
   one_sums (z ∷ xs) zero x e one h =
-      let a = sum_by-cons g z xs in
-      let b : g z ≡ 1 = ap g (same-some z x e) ∙ one in
-      let c = none_sums xs (λ k y d. h (suc k) y d (unequal (suc k) 0 (λ s. omega (arith, s)))) in
-      a ∙ omega (arith, b, c)
+      sum_by-cons g z xs ∙ (λ i. (ap g (same-some z x e) ∙ one) i + none_sums xs (λ k y d. h (suc k) y d (unequal (suc k) 0 (λ s. omega (arith, s)))) i)
   one_sums (z ∷ xs) (suc k) x e one h =
-      let a = sum_by-cons g z xs in
-      let b : g z ≡ 0 = h 0 z refl (unequal 0 (suc k) (λ s. omega (arith, s))) in
-      let c = one_sums xs k x e one (λ m y d n. h (suc m) y d (unequal (suc m) (suc k) (λ s. differ m k n (omega (arith, s))))) in
-      a ∙ omega (arith, b, c)
+      sum_by-cons g z xs
+      ∙ (λ i. h 0 z refl (unequal 0 (suc k) (λ s. omega (arith, s))) i + one_sums xs k x e one (λ m y d n. h (suc m) y d (unequal (suc m) (suc k) (λ s. differ m k n (omega (arith, s))))) i)
 
   -- where the sum is one, one element is
   pub one_of_sum : (xs : List X) → sum_by g xs ≡ 1 → (k : ℕ) × (x : X) × (slice_get xs k ≡ Some x) × (g x ≡ 1) × ((m : ℕ) (y : X) → slice_get xs m ≡ Some y → (m == k) ≡ false → g y ≡ 0)
@@ -271,9 +266,7 @@ module _ (h : WorldItem → Option ℕ) (n : ℕ) where
   none_counted [] e = refl
   none_counted (x ∷ xs) e =
       let both_ = sym (numbers_cons h x xs n) ∙ e in
-      let here : cond (is_id n (h x)) 1 0 ≡ 0 = ap {B = ℕ} (λ b. cond b 1 0) (first_false _ _ both_) in
-      let rest = none_counted xs (second_false (is_id n (h x)) _ both_) in
-      counted_cons x xs ∙ omega (arith, here, rest)
+      counted_cons x xs ∙ (λ i. cond (first_false (is_id n (h x)) (has (filter_map h xs) n) both_ i) 1 0 + none_counted xs (second_false (is_id n (h x)) _ both_) i)
 
 -- ---- numbers in range
 
@@ -298,15 +291,11 @@ module _ (f : Renumbering) (s : Numbered f) where
   pub shown_from : (own olds news : List (WorldKey × WorldItem)) → Joined f own olds news → (t : ℕ) → has (filter_map s.number (items news)) t ≡ true → (a : ℕ) × (s.marks a ≡ true) × (s.under a ≡ t)
   shown_from own _ _ none t h = no_true h
   shown_from own _ _ (met old there olds news c k i rest) t h = shown_from own olds news rest t h
-  shown_from own _ _ (added old new olds news n z rest) t h = go (is_id t (s.number new.1)) refl (sym (numbers_cons s.number new.1 (items news) t) ∙ h) (shown_from own olds news rest t)
+  shown_from own _ _ (added old new olds news n z rest) t h = either _ _ (sym (numbers_cons s.number new.1 (items news) t) ∙ h)
+      (λ e. one (s.number old.1) (s.marked old.1 new.1 z.1) (sym (ap (is_id t) (s.stands old.1 new.1 (becomes f old.1 new.1 z.1))) ∙ e)) (shown_from own olds news rest t)
     where
       one : (o : Option ℕ) → passes s.marks o ≡ true → is_id t (option_map s.under o) ≡ true → (a : ℕ) × (s.marks a ≡ true) × (s.under a ≡ t)
       one x p e = search std_rules
-
-      go : (b : Bool) → is_id t (s.number new.1) ≡ b → (b || has (filter_map s.number (items news)) t) ≡ true
-          → (has (filter_map s.number (items news)) t ≡ true → (a : ℕ) × (s.marks a ≡ true) × (s.under a ≡ t)) → (a : ℕ) × (s.marks a ≡ true) × (s.under a ≡ t)
-      go true e k more = one (s.number old.1) (s.marked old.1 new.1 z.1) (sym (ap (is_id t) (s.stands old.1 new.1 (becomes f old.1 new.1 z.1))) ∙ e)
-      go false e k more = more k
 
   pub none_added : (own olds news : List (WorldKey × WorldItem)) → Joined f own olds news → (t : ℕ)
       → ((a : ℕ) → s.marks a ≡ true → s.under a ≡ t → ⊥) → has (filter_map s.number (items news)) t ≡ false
