@@ -62,29 +62,19 @@ module _ (f : Renumbering) where
   interfaces_in = record { number = item_interface; under = f.interfaces; marks = f.carries_interface; stands = stands; marked = marked }
     where
       stands : (i j : WorldItem) → ItemStandsFor f i j → item_interface j ≡ option_map f.interfaces (item_interface i)
-      stands (item.Interface a st docs ext) (item.Interface b st2 docs2 ext2) z = ap Some z
-      stands (item.Interface a st docs ext) _ z = absurd z
-      stands _ (item.Interface b st2 docs2 ext2) z = absurd z
-      stands _ _ z = refl
+      stands x y z = search std_rules
 
       marked : (i j : WorldItem) → ItemBecomes f i j → passes f.carries_interface (item_interface i) ≡ true
-      marked (item.Interface a st docs ext) (item.Interface b st2 docs2 ext2) z = z.1
-      marked (item.Interface a st docs ext) _ z = absurd z
-      marked _ _ z = refl
+      marked x y z = search std_rules
 
   abbrev pub types_in : Numbered f
   types_in = record { number = item_type; under = f.types; marks = f.copies_type; stands = stands; marked = marked }
     where
       stands : (i j : WorldItem) → ItemStandsFor f i j → item_type j ≡ option_map f.types (item_type i)
-      stands (item.Type_ a) (item.Type_ b) z = ap Some z
-      stands (item.Type_ a) _ z = absurd z
-      stands _ (item.Type_ b) z = absurd z
-      stands _ _ z = refl
+      stands x y z = search std_rules
 
       marked : (i j : WorldItem) → ItemBecomes f i j → passes f.copies_type (item_type i) ≡ true
-      marked (item.Type_ a) (item.Type_ b) z = z.1
-      marked (item.Type_ a) _ z = absurd z
-      marked _ _ z = refl
+      marked x y z = search std_rules
 
   -- a copy stands for what it copies
   pub becomes : (i j : WorldItem) → ItemBecomes f i j → ItemStandsFor f i j
