@@ -1,6 +1,6 @@
 -- What an interface uses, and what the rules ask of it, holds of its copy, with its numbers in order.
-use Rattle.std.proofs.Common.{arith, rules as std_rules, ◌≡◌, refl, sym, ap, subst, ◌∙◌, ℕ, Bool, true, false, not, ◌==◌, List, [], map, Option, Some, None, option_map, option_to_list, slice_get, ◌+◌, ◌||◌, cond, ◌∷◌, ◌++◌, inl, ◌&&◌, nat_lt, ltb-true}
-use Rattle.std.proofs.lemmas.{Option.same_Some as same-some, Bool.and_from as both, Bool.lt-ltb, List.Sums.sum_by-cons, List.Folds.list_all-map}
+use Rattle.std.proofs.Common.{arith, rules as std_rules, ◌≡◌, refl, sym, ap, subst, ◌∙◌, ℕ, Bool, true, false, not, ◌==◌, List, [], map, Option, Some, option_map, option_to_list, ◌+◌, ◌||◌, cond, ◌∷◌, ◌++◌, inl, ◌&&◌, nat_lt, ltb-true}
+use Rattle.std.proofs.lemmas.{Bool.and_from as both, Bool.lt-ltb, List.Sums.sum_by-cons, List.Folds.list_all-map}
 use Rattle.std.proofs.lemmas.Simd.{map-map}
 use Rattle.std.specs.{List.list_all, List.Contains, List.AllZip, List.list_any, Option.option_map_or, Prelude.count_by, Prelude.String}
 use Rattle.indexmap.specs.IndexMap.{values, keys}
@@ -13,7 +13,7 @@ use Rattle.wit_model.specs.{Text.Text, Text.text_of, Text.text_eq, Parts.functio
 use Rattle.wit_model.proofs.{Elements.has-contains, Elements.contains-has, Elements.contains-filter_map, Chains.has_once, Chains.all_has as passes_at}
 use Rattle.wit_model.proofs.{UsesLemmas.has_filter, UsesLemmas.filter_has, UsesLemmas.all_from_has, TextLemmas.some_alike as named_alike}
 use Rattle.wit_model.proofs.{RulesLemmas.after_of_map, OnePath.interface-passes, PartsLemmas.owner_itself, PartsLemmas.owner_same as owner_equal}
-use Rattle.bind_meaning.proofs.Listed.{from-map}
+use Rattle.bind_meaning.proofs.Listed.{mapped, from-map}
 use Rattle.bind_union.specs.Carried.{Renumbering, owner_under, carries_owner, IsInterface, IsCarried, Rises, IsFunctionEntry, IsInterfaceCopy}
 use Rattle.bind_union.proofs.{Lists.no_true, Homes.apart}
 use Rattle.bind_union.proofs.CopyRules.{label_alike, stability_alike, used, used_there, function_labels_same, function_stays_passes, function_handles_pass, function_depths_pass, member_passes}
@@ -120,25 +120,18 @@ module _ (r s : Resolve) (f : Renumbering) (valid : KeepsRules r) (is : IsCarrie
       other : (m k : ℕ) → (b : Bool) → (m == n) ≡ b → f.interfaces m ≡ k → not (k == f.interfaces n) ≡ true → (m == n) ≡ false
       other m k y e same h = search (std_rules, no_true, equal, same-number)
 
-      used : (k m : ℕ) (o : Option ℕ) → interface_used_by r k ≡ o → has (interface_type_numbers i.old) k ≡ true → passes f.carries_interface o ≡ true → option_map f.interfaces o ≡ Some m
-          → not (m == f.interfaces n) ≡ true → p m ≡ true
-      used k m None e listed d same apart = absurd (let wrong : ⊥ = cc in wrong)
-      used k m (Some j) e listed d same apart =
-          let to : f.interfaces j ≡ m = same-some (f.interfaces j) m same in
-          subst (λ (x : ℕ). p x ≡ true) to (one j d (passes_at q (direct_deps r n) j h (dep_of n i.old i.found k j listed e (other j m (j == n) refl to apart))))
-
       each : (m : ℕ) → has (direct_deps s (f.interfaces n)) m ≡ true → p m ≡ true
       each m listed =
           let two = filter_has (λ x. not (x == f.interfaces n)) (once (option_map_or (interfaces_used_by s) (interface_at s (f.interfaces n)) [])) m listed in
           let among : has (interfaces_used_by s i.image) m ≡ true = sym (ap (λ o. has (option_map_or (interfaces_used_by s) o []) m) i.at_image)
           ∙ (sym (has_once m (option_map_or (interfaces_used_by s) (interface_at s (f.interfaces n)) [])) ∙ two.0) in
           let from = filter_map_from (λ (id : TypeId). interface_used_by s id.0) (values i.image.types) m (has-contains (interfaces_used_by s i.image) m among) in
-          let back = i.types from.1.0 (contains-has (interface_type_numbers i.image) from.1.0 (in_map (values i.image.types) from.0 from.1 from.2)) in
+          let back = i.types from.1.0 (contains-has (interface_type_numbers i.image) from.1.0 (contains-map (λ (x : TypeId). x.0) (values i.image.types) from.1
+          (get-contains (values i.image.types) from.0 from.1 from.2))) in
           let image = interface_used_there back.0 back.2 in
-          used back.0 m (interface_used_by r back.0) refl back.1 image.1 (sym image.0 ∙ (ap (interface_used_by s) back.3 ∙ from.3)) two.1
-        where
-          in_map : (ids : List TypeId) (k : ℕ) (id : TypeId) → slice_get ids k ≡ Some id → Contains (map (λ (x : TypeId). x.0) ids) id.0
-          in_map ids k id e = contains-map (λ (x : TypeId). x.0) ids id (get-contains ids k id e)
+          let j = mapped f.interfaces (interface_used_by r back.0) m (sym image.0 ∙ (ap (interface_used_by s) back.3 ∙ from.3)) in
+          subst (λ (x : ℕ). p x ≡ true) j.2 (one j.0 (sym (ap (passes f.carries_interface) j.1) ∙ image.1)
+          (passes_at q (direct_deps r n) j.0 h (dep_of n i.old i.found back.0 j.0 back.1 j.1 (other j.0 m (j.0 == n) refl j.2 two.1))))
 
   -- a named type of an owner is one of the new owner
   pub named_of_there : (o : TypeOwner) (n : ℕ) → f.carries_type n ≡ true → is_named_of r o n ≡ true → is_named_of s (owner_under f o) (f.types n) ≡ true

@@ -13,7 +13,7 @@ use Rattle.wit_model.proofs.{Checks.below_at, OnePath.found-in, RulesLemmas.each
 use Rattle.wit_model.proofs.{Entries.types_keep, Entries.worlds_keep, Entries.free_passes, ValidLemmas.world_passes as world-passes, ValidLemmas.type_passes}
 use Rattle.bind_union.specs.Carried.{Renumbering, IsCarried, EntryBecomes, IsFunctionCopy, owner_under, copies_owner, IsType, IsInterface, carries_owner}
 use Rattle.bind_union.specs.{Joined.IsJoined, Joined.Joined, Merged.IsCopyUnder, Merged.IsMerged}
-use Rattle.bind_union.proofs.{Images.numbers_of_view, ViewTests.numbers_same, KeptPackages.kept, KeptPackages.all_stand, KeptPackages.ranges_hold}
+use Rattle.bind_union.proofs.{Images.numbers_of_view, ViewTests.numbers_same, KeptPackages.kept, KeptPackages.by_package, KeptPackages.all_stand, KeptPackages.ranges_hold}
 use Rattle.bind_union.proofs.{Carrying.interface_package, Carrying.references_of, Listed.listed_in_interface, Listed.listed_in_world, Listed.stays_listed}
 use Rattle.bind_union.proofs.Itself.{world_package, get_begin, itself, carried_itself, joined_itself, world_range, map_same}
 use Rattle.bind_union.proofs.Lists.{no_true}
@@ -378,22 +378,11 @@ module _ (own other merged : Resolve) (bound other_bound : ℕ) (first second : 
               (fresh_added second own_imports (length own.types.items) is.second_copies.new_types n (ltb-true n (length own.types.items) low) is.joined.old.imports.entries
               is.joined.new_imports is.joined.joined_imports) k)
 
-  first_listed : (n : ℕ) → first.copies_type n ≡ true → (w : ℕ) → first.carries_world w ≡ true → (name : Text) → passes (is_listed_in_world n name) (world_at other w) ≡ true
-      → passes (is_listed_in_world (first.types n) name) (world_at merged (first.worlds w)) ≡ true
-  first_listed n copy w c name h =
-      let j = (is.first_worlds w c).joined in
-      ap (passes (is_listed_in_world (first.types n) name)) j.at_image
-      ∙ listed_in_world other merged first valid_other is.first_copies.carried below n copy name w [] [] j refl (sym (ap (passes (is_listed_in_world n name)) j.found) ∙ h)
-
-  second_listed : (n : ℕ) → second.copies_type n ≡ true → (w : ℕ) → second.carries_world w ≡ true → (name : Text) → passes (is_listed_in_world n name) (world_at other w) ≡ true
-      → passes (is_listed_in_world (second.types n) name) (world_at merged (second.worlds w)) ≡ true
-  second_listed n copy w c name h =
-      let here : other_bound ≡ w = sym (is.second_worlds w c) in
-      subst (λ (k : ℕ). passes (is_listed_in_world (second.types n) name) (world_at merged (second.worlds k)) ≡ true) here
-      (ap (passes (is_listed_in_world (second.types n) name)) is.joined.at_image
-      ∙ listed_in_world other merged second valid_other is.second_copies.carried below n copy name other_bound own_imports own_exports is.joined
-      (past_range own.types.items _ (second.types n) (range_types own own_imports own_imports_range) (is.second_copies.new_types n copy))
-      (sym (ap (passes (is_listed_in_world n name)) is.joined.found) ∙ subst (λ (k : ℕ). passes (is_listed_in_world n name) (world_at other k) ≡ true) (sym here) h))
+  joined_listed : (c : Source merged) (n : ℕ) → c.under.copies_type n ≡ true → (name : Text) (w : ℕ) (oi oe : List (WorldKey × WorldItem)) (j : IsJoined c.from merged c.under w oi oe)
+      → has (filter_map item_type (items oi)) (c.under.types n) ≡ false → passes (is_listed_in_world n name) (world_at c.from w) ≡ true
+      → passes (is_listed_in_world (c.under.types n) name) (world_at merged (c.under.worlds w)) ≡ true
+  joined_listed c n copy name w oi oe j fresh h = ap (passes (is_listed_in_world (c.under.types n) name)) j.at_image
+      ∙ listed_in_world c.from merged c.under c.valid c.carried below n copy name w oi oe j fresh (sym (ap (passes (is_listed_in_world n name)) j.found) ∙ h)
 
   -- ---- the own part of the bound world
 
@@ -439,16 +428,18 @@ module _ (own other merged : Resolve) (bound other_bound : ℕ) (first second : 
       (subst (λ (k : ℕ). list_all (is_named_of merged (as_world k)) own_numbers ≡ true) (sym is.bound_there) own_named) own_type_order)))
       (each_type_of_three (order_of_types.type_ merged)
       (λ n copy. copy_listed own_source n copy (own_listed n copy))
-      (λ n copy. copy_listed first_source n copy (first_listed n copy))
-      (λ n copy. copy_listed second_source n copy (second_listed n copy)))
+      (λ n copy. copy_listed first_source n copy (λ w c name. joined_listed first_source n copy name w [] [] (is.first_worlds w c).joined refl))
+      (λ n copy. copy_listed second_source n copy (λ w c name.
+      subst (λ (k : ℕ). passes (is_listed_in_world n name) (world_at other k) ≡ true → passes (is_listed_in_world (second.types n) name) (world_at merged (second.worlds k)) ≡ true)
+      (sym (is.second_worlds w c)) (joined_listed second_source n copy name other_bound own_imports own_exports is.joined
+      (past_range own.types.items _ (second.types n) (range_types own own_imports own_imports_range) (is.second_copies.new_types n copy))))))
 
   -- ---- numbers in range
 
   -- the package of what is carried is there
   package_in_range : (c : Source merged) (p : Option ℕ) → passes (in_list c.from.packages.items) p ≡ true → passes (in_list merged.packages.items) (option_map c.under.packages p) ≡ true
-  package_in_range c None h = refl
-  package_in_range c (Some n) h = let p = found-in c.from.packages.items n h in let q = c.carried.packages n p.0 p.1 in
-      lt-ltb _ _ (slice_get_within merged.packages.items (c.under.packages n) q.image q.at_image)
+  package_in_range c = by_package c.from (λ p. passes (in_list merged.packages.items) (option_map c.under.packages p) ≡ true) refl
+      (λ n p e. let q = c.carried.packages n p e in lt-ltb _ _ (slice_get_within merged.packages.items (c.under.packages n) q.image q.at_image))
 
   types_in_range : (c : Source merged) (ns : List ℕ) → list_all c.under.carries_type ns ≡ true → list_all (in_list merged.types.items) (map c.under.types ns) ≡ true
   types_in_range c ns h =

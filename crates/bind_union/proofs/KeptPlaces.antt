@@ -1,6 +1,6 @@
 -- In what was merged interfaces and worlds stand in their packages, and each inline interface in one world.
 use Rattle.std.proofs.Common.{rules as std_rules, ◌≡◌, ◌⊎◌, inl, inr, refl, sym, ap, ◌∙◌, ℕ, ◌<◌, ◌≤◌, ◌+◌, arith, Bool, true, false, ◌&&◌, ◌||◌, ◌==◌, not, List, [], ◌++◌, append-nil, length, filter_map, Option, Some, None, option_map, option_and_then, is_some}
-use Rattle.std.proofs.lemmas.Bool.{false_from_ne_true, not-true, lt-ltb, or_left, or_right, and_from as both, cases_lt as low_or_high}
+use Rattle.std.proofs.lemmas.Bool.{false_from_ne_true, not-true, lt-ltb, and_from as both, cases_lt as low_or_high}
 use Rattle.std.proofs.lemmas.Option.{slice_get_within, same_Some as same-some}
 use Rattle.std.specs.{Prelude.String, Prelude.sum_by, List.list_all, List.Contains, Option.option_map_or, Option.option_eq}
 use Rattle.std.specs.declared.alloc.Global.{Global}
@@ -8,13 +8,13 @@ use Rattle.wit_model.specs.declared.model.{Resolve.Resolve, Package.Package, Pac
 use Rattle.wit_model.specs.declared.model.World.{World}
 use Rattle.wit_model.specs.{Text.Text, Text.text_of, Text.text_eq, Text.optional_text, Lookup.package_at, Lookup.interface_at, Lookup.world_at}
 use Rattle.wit_model.specs.{Uses.has, Uses.item_interface, Uses.items_of, Valid.Keeps, Valid.KeepsRules, Valid.places}
-use Rattle.wit_model.specs.Rules.{passes, each_from, in_list, is_id, package_number, interface_is_listed, world_is_listed, is_world_name, times_shown}
+use Rattle.wit_model.specs.Rules.{each_from, is_id, package_number, interface_is_listed, world_is_listed, is_world_name, times_shown}
 use Rattle.wit_model.proofs.{Entries.free_passes, Elements.none-in, VersionLaws.same_text, RulesLemmas.each_by_number}
 use Rattle.wit_model.proofs.{OnePath.found-in, OnePath.interface-passes, TextLemmas.text_same as text-same, ValidLemmas.world_passes as world-passes}
 use Rattle.bind_union.proofs.{Listed.under_text, Itself.world_package, Itself.get_begin, Itself.world_range, Kept.each_interface_of_three, Kept.each_world}
 use Rattle.bind_union.proofs.{Lists.no_true, Homes.apart, Carrying.interface_package}
 use Rattle.bind_union.proofs.WorldOrder.{items, numbers_append, interfaces_in, one_sums, one_of_sum, shown, times_are, counted_append, none_counted, none_added, past_range, range_interfaces, same_times}
-use Rattle.bind_union.proofs.KeptPackages.{kept, is_interface_of, is_world_of, interfaces_stand, worlds_stand, all_stand, places_hold, found_option}
+use Rattle.bind_union.proofs.KeptPackages.{kept, by_package, is_interface_of, is_world_of, interfaces_stand, worlds_stand, all_stand, places_hold, found_option}
 use Rattle.bind_union.proofs.PackageNames.{added_from, name_append, interfaces_by_name, worlds_by_name, world_name_listed, found_name, still_found, copy_found, found_behind}
 use Rattle.bind_union.specs.{Carried.Renumbering, Carried.IsInterface, Joined.Joined, Joined.IsJoined}
 use Rattle.bind_union.specs.Merged.{interface_names, world_names, is_name, IsJoinedPackage, PackageStands, grown, brought, IsKeptPackage, IsPackageOf, IsCopyUnder, AreCopies, IsWorldCopy, IsMerged}
@@ -95,6 +95,9 @@ inline_found r n p h =
     let all = second_true (sum_by (times_shown n) r.worlds.items == 1) _ h in
     let here = all-contained (λ w. (times_shown n w == 0) || option_eq ◌==◌ (package_number w.«package») p) r.worlds.items one.1 all (get-contains r.worlds.items one.0 one.1 one.2) in
     (one.0, one.1, one.2, one.3, option_equal (package_number one.1.«package») p (sym (ap (λ k. (k == 0) || option_eq ◌==◌ (package_number one.1.«package») p) one.3) ∙ here), one.4)
+
+not_neither : (a b : Bool) → (a ≡ false → b ≡ false → ⊥) → (a || b) ≡ true
+not_neither x y h = search std_rules
 
 pub listed_name : (t : Text) (n : ℕ) (es : List (Text × ℕ)) → Contains es (t, n) → is_name t es ≡ true
 listed_name t n es c = any-at (λ (e : Text × ℕ). text_eq t e.0) es (t, n) c (same_text t t refl)
@@ -222,27 +225,9 @@ module _ (own other merged : Resolve) (bound other_bound : ℕ) (first second : 
 
   -- ---- worlds
 
-  -- where the package is in range
-  own_listed_at : (n : ℕ) (t : Text) (p : Option ℕ) → passes (in_list own.packages.items) p ≡ true → listed_by own n t p ≡ true → listed_by merged n t p ≡ true
-  own_listed_at n t None c h = refl
-  own_listed_at n t (Some k) c h = let q = found-in own.packages.items k c in own_listed n t k q.0 q.1 h
-
-  copy_listed_at : (m : ℕ) → first.copies_interface m ≡ true → (t : Text) (p : Option ℕ) → passes (in_list other.packages.items) p ≡ true → listed_by other m t p ≡ true
-      → listed_by merged (first.interfaces m) t (option_map first.packages p) ≡ true
-  copy_listed_at m copy t None c h = refl
-  copy_listed_at m copy t (Some k) c h = let q = found-in other.packages.items k c in copy_listed m copy t k q.0 q.1 h
-
-  own_world_at : (n : ℕ) (t : Text) (p : Option ℕ) → passes (in_list own.packages.items) p ≡ true → world_by own n t p ≡ true → world_by merged n t p ≡ true
-  own_world_at n t None c h = h
-  own_world_at n t (Some k) c h = let q = found-in own.packages.items k c in own_world_listed n t k q.0 q.1 h
-
-  copy_world_at : (m : ℕ) → first.carries_world m ≡ true → (t : Text) (p : Option ℕ) → passes (in_list other.packages.items) p ≡ true → world_by other m t p ≡ true
-      → world_by merged (first.worlds m) t (option_map first.packages p) ≡ true
-  copy_world_at m d t None c h = h
-  copy_world_at m d t (Some k) c h = let q = found-in other.packages.items k c in copy_world_listed m d t k q.0 q.1 h
-
   own_world_place : (n : ℕ) (w : World) → world_at own n ≡ Some w → world_by merged n (text_of w.name) (package_number w.«package») ≡ true
-  own_world_place n w e = own_world_at n (text_of w.name) (package_number w.«package») (world_package own valid_own n w e)
+  own_world_place n w e = by_package own (λ p. world_by own n (text_of w.name) p ≡ true → world_by merged n (text_of w.name) p ≡ true) (λ h. h)
+      (own_world_listed n (text_of w.name)) (package_number w.«package») (world_package own valid_own n w e)
       (sym (world_place own n w) ∙ world-passes places own valid_own.places n w e)
 
   copy_world_place : (m : ℕ) (c : first.carries_world m ≡ true) → places.world_ merged (first.worlds m) (is.first_worlds m c).joined.image ≡ true
@@ -251,7 +236,8 @@ module _ (own other merged : Resolve) (bound other_bound : ℕ) (first second : 
       let j = w.joined in
       world_place merged (first.worlds m) j.image
       ∙ ((λ i. world_by merged (first.worlds m) (w.name i) (w.in_package i))
-      ∙ copy_world_at m c (text_of j.old.name) (package_number j.old.«package») (world_package other valid_other m j.old j.found)
+      ∙ by_package other (λ p. world_by other m (text_of j.old.name) p ≡ true → world_by merged (first.worlds m) (text_of j.old.name) (option_map first.packages p) ≡ true) (λ h. h)
+      (copy_world_listed m c (text_of j.old.name)) (package_number j.old.«package») (world_package other valid_other m j.old j.found)
       (sym (world_place other m j.old) ∙ world-passes places other valid_other.places m j.old j.found))
 
   bound_place : places.world_ merged bound is.joined.image ≡ true
@@ -347,18 +333,11 @@ module _ (own other merged : Resolve) (bound other_bound : ℕ) (first second : 
 
   -- what is shown is among the items
   among : (n : ℕ) (w : World) → times_shown n w ≡ 1 → has (filter_map item_interface (items_of w)) n ≡ true
-  among n w one = numbers_append item_interface (items w.imports.entries) (items w.exports.entries) n ∙ go (has (filter_map item_interface (items w.imports.entries)) n) refl
-      (has (filter_map item_interface (items w.exports.entries)) n) refl
-    where
-      go : (a : Bool) → has (filter_map item_interface (items w.imports.entries)) n ≡ a → (b : Bool) → has (filter_map item_interface (items w.exports.entries)) n ≡ b
-          → (has (filter_map item_interface (items w.imports.entries)) n || has (filter_map item_interface (items w.exports.entries)) n) ≡ true
-      go true e b d = or_left _ _ e
-      go false e true d = or_right (has (filter_map item_interface (items w.imports.entries)) n) _ d
-      go false e false d =
-          let a = times_are n w in
-          let x = none_counted item_interface n (items w.imports.entries) e in
-          let y = none_counted item_interface n (items w.exports.entries) d in
-          let wrong : ⊥ = omega (arith, a, x, y, one) in absurd wrong
+  among n w one = numbers_append item_interface (items w.imports.entries) (items w.exports.entries) n ∙ not_neither _ _ (λ e d.
+      let a = times_are n w in
+      let x = none_counted item_interface n (items w.imports.entries) e in
+      let y = none_counted item_interface n (items w.exports.entries) d in
+      omega (arith, a, x, y, one))
 
   -- where no other own world, nor the bound one, nor a copy shows it, no other world does
   no_others : (t k : ℕ) → ((m : ℕ) (y : World) → world_at own m ≡ Some y → (m == k) ≡ false → times_shown t y ≡ 0) → ((bound == k) ≡ false → times_shown t is.joined.image ≡ 0)
@@ -459,7 +438,7 @@ module _ (own other merged : Resolve) (bound other_bound : ℕ) (first second : 
   own_place n i e =
       interface_place merged n i
       ∙ place_kept own merged n n (optional_text i.name) (package_number i.«package») (package_number i.«package») (λ h. h)
-      (λ t x. own_listed_at n t (package_number i.«package») (interface_package own valid_own n i e)) (λ none. own_inline n i e (no_text i.name none))
+      (λ t x. by_package own (λ p. listed_by own n t p ≡ true → listed_by merged n t p ≡ true) (λ h. refl) (own_listed n t) (package_number i.«package») (interface_package own valid_own n i e)) (λ none. own_inline n i e (no_text i.name none))
       (sym (interface_place own n i) ∙ interface-passes places own valid_own.places n i e)
 
   some_mapped : (g : ℕ → ℕ) (p : Option ℕ) → is_some p ≡ true → is_some (option_map g p) ≡ true
@@ -474,7 +453,8 @@ module _ (own other merged : Resolve) (bound other_bound : ℕ) (first second : 
       interface_place merged (first.interfaces m) i.image
       ∙ ((λ j. place_by merged (first.interfaces m) (i.name j) (is.first_packages m c j))
       ∙ place_kept other merged m (first.interfaces m) (optional_text i.old.name) p (option_map first.packages p) (some_mapped first.packages p)
-      (λ t x. copy_listed_at m copy t p (interface_package other valid_other m i.old i.found)) (λ none. first_inline m copy i (no_text i.old.name none))
+      (λ t x. by_package other (λ p. listed_by other m t p ≡ true → listed_by merged (first.interfaces m) t (option_map first.packages p) ≡ true) (λ h. refl) (copy_listed m copy t) p
+      (interface_package other valid_other m i.old i.found)) (λ none. first_inline m copy i (no_text i.old.name none))
       (sym (interface_place other m i.old) ∙ interface-passes places other valid_other.places m i.old i.found))
 
   second_place : (m : ℕ) (copy : second.copies_interface m ≡ true)

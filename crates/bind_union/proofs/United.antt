@@ -1,6 +1,6 @@
 -- The interfaces of what was merged, by path, are those of both.
 use Rattle.std.proofs.Common.{rules as std_rules, ◌≡◌, refl, ◌⊎◌, inl, inr, sym, ap, ◌∙◌, ℕ, ◌≤◌, arith, Bool, true, false, [], length, Option, Some, None, option_map, option_and_then}
-use Rattle.std.proofs.lemmas.{Bool.lt-ltb, Bool.cases_lt as low_or_high, Option.slice_get_within, Option.same_Some as same-some}
+use Rattle.std.proofs.lemmas.{Bool.lt-ltb, Bool.cases_lt as low_or_high, Option.slice_get_within}
 use Rattle.std.specs.{Prelude.String, List.Contains}
 use Rattle.std.specs.declared.alloc.Global.{Global}
 use Rattle.wit_model.specs.declared.model.{Resolve.Resolve, Interface.Interface}
@@ -12,8 +12,8 @@ use Rattle.wit_model.proofs.{OnePath.HasPath, OnePath.has-path, OnePath.path-lis
 use Rattle.bind_union.specs.Carried.{Renumbering}
 use Rattle.bind_union.specs.Merged.{interface_names, PackageStands, grown, brought, IsCopyUnder, IsMerged}
 use Rattle.bind_union.specs.Meanings.{OwnMeansTheSame, CopiesMeanTheSame, Shows, ShowsNone, InterfacesAreUnited}
-use Rattle.bind_union.proofs.{KeptPackages.is_interface_of, KeptPackages.interfaces_stand, KeptPackages.found_option, Namesakes.under_contains}
-use Rattle.bind_union.proofs.{Carrying.path_parts, Carrying.path_by, Carrying.same_identity, Carrying.path_same, Meanings.merged_means, Valid.merged_is_valid}
+use Rattle.bind_union.proofs.{KeptPackages.grown_name, KeptPackages.is_interface_of, KeptPackages.interfaces_stand, KeptPackages.found_option, Namesakes.under_contains}
+use Rattle.bind_union.proofs.{Carrying.path_parts, Carrying.path_by, Carrying.path_same, Meanings.merged_means, Valid.merged_is_valid}
 use Rattle.bind_union.proofs.{Kept.below, PackageNames.joined_name, PackageNames.interfaces_by_name, Listed.under_text}
 use Rattle.base_lemmas.proofs.{Bools.left_of as first_true, Bools.right_of as second_true, Elements.all-contained}
 
@@ -102,18 +102,13 @@ module _ (own other merged : Resolve) (bound other_bound : ℕ) (first second : 
             by (inl c) =
                 let i = found_option _ (interface_at own (first.interfaces n)) (all-contained (is_interface_of own (first.packages h.home.0)) (interface_names o) (text_of h.name, first.interfaces n)
                 (interfaces_stand own valid_own.rules (first.packages h.home.0) o at) c) in
-                let q = is.packages (first.packages h.home.0) o at in
-                let p = is.first_copies.carried.packages h.home.0 h.package_ h.stands in
-                let one : p.image ≡ q.0 = same-some p.image q.0 (sym p.at_image ∙ q.1) in
-                let identities : identity_of o.name ≡ identity_of h.package_.name =
-                sym (same_identity o.name q.0.name q.2) ∙ (ap (λ x. identity_of x.name) (sym one) ∙ same_identity h.package_.name p.image.name p.name) in
                 let its_path : interface_path own (first.interfaces n) ≡ Some (path_in (identity_of o.name) (text_of h.name)) =
                 ap (option_and_then (path_of_interface own)) i.1
                 ∙ (path_parts own i.0
                 ∙ ((λ z. path_by own (some_name i.0.name (text_of h.name) (first_true _ _ i.2) z)
                 (some_id (first.packages h.home.0) (package_number i.0.«package») (second_true (text_is i.0.name (text_of h.name)) _ i.2) z))
                 ∙ ap (option_map (λ package_. path_in (identity_of package_.name) (text_of h.name))) at)) in
-                absurd (none_such (first.interfaces n) (its_path ∙ ap Some (ap (λ x. path_in x (text_of h.name)) identities ∙ sym h.spelled)))
+                absurd (none_such (first.interfaces n) (its_path ∙ ap Some (ap (λ x. path_in x (text_of h.name)) (grown_name own other merged bound other_bound first second left_out valid_own.rules valid_other.rules is h.home.0 o h.package_ at h.stands) ∙ sym h.spelled)))
 
 pub interfaces_are_united : InterfacesAreUnited
 interfaces_are_united own other merged bound other_bound first second left_out valid_own valid_other distinct is path meaning = (

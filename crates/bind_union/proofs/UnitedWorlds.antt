@@ -1,8 +1,8 @@
 -- The worlds of what was merged, by path, are those of both, but for the bound one.
-use Rattle.std.proofs.Common.{rules as std_rules, ◌≡◌, ◌⊎◌, inl, inr, refl, sym, ap, subst, ◌∙◌, ℕ, arith, Bool, true, false, ◌==◌, [], Option, Some, None, option_map, option_and_then}
+use Rattle.std.proofs.Common.{rules as std_rules, ◌≡◌, ◌⊎◌, inl, inr, refl, sym, ap, subst, ◌∙◌, ℕ, arith, Bool, true, false, ◌==◌, [], Option, Some, option_map, option_and_then}
 use Rattle.std.proofs.lemmas.Option.{same_Some as same-some}
 use Rattle.std.specs.{Option.option_map_or, List.Contains}
-use Rattle.wit_model.specs.declared.model.{Resolve.Resolve, Package.Package, World.World}
+use Rattle.wit_model.specs.declared.model.{Resolve.Resolve, World.World}
 use Rattle.wit_model.specs.{Text.Text, Text.text_of, Text.text_eq, Rules.passes, Rules.in_list, Rules.is_id, Rules.package_number, Rules.same_package_name}
 use Rattle.wit_model.specs.{Names.path_in, Meaning.WorldMeaning, Meant.world_meaning, Meant.no_world, Checks.references}
 use Rattle.wit_model.specs.{Lookup.package_at, Lookup.world_at, Lookup.path_of_world, Lookup.identity_of, Valid.Keeps, Valid.IsValid}
@@ -13,7 +13,7 @@ use Rattle.bind_union.specs.{Carried.Renumbering, Meanings.ShowsWorld, Meanings.
 use Rattle.bind_union.specs.Merged.{world_names, is_name, PackageStands, grown, brought, IsMerged}
 use Rattle.bind_union.proofs.{Lists.no_true, Kept.below}
 use Rattle.bind_union.proofs.{Carrying.path_by, Carrying.same_path_by, Carrying.same_identity, Itself.world_package, Listed.under_text, Meanings.merged_means}
-use Rattle.bind_union.proofs.{KeptPackages.is_world_of, KeptPackages.worlds_stand, KeptPackages.found_option, KeptPlaces.world_case, KeptPlaces.own_world_low}
+use Rattle.bind_union.proofs.{KeptPackages.by_package, KeptPackages.grown_name, KeptPackages.is_world_of, KeptPackages.worlds_stand, KeptPackages.found_option, KeptPlaces.world_case, KeptPlaces.own_world_low}
 use Rattle.bind_union.proofs.{PackageNames.joined_name, PackageNames.worlds_by_name, PackageNames.found_name, PackageNames.copy_found, Namesakes.under_contains}
 use Rattle.base_lemmas.proofs.{Bools.left_of as first_true, Bools.right_of as second_true, Elements.all-contained, Numbers.same-number}
 
@@ -32,13 +32,9 @@ module _ (own other merged : Resolve) (bound other_bound : ℕ) (first second : 
   -- ---- paths
 
   own_path_by : (t : Text) (p : Option ℕ) → passes (in_list own.packages.items) p ≡ true → path_by merged (Some t) p ≡ path_by own (Some t) p
-  own_path_by t None h = refl
-  own_path_by t (Some k) h =
-      let p = found-in own.packages.items k h in
-      let q = is.packages k p.0 p.1 in
+  own_path_by t = by_package own (λ p. path_by merged (Some t) p ≡ path_by own (Some t) p) refl (λ k p e. let q = is.packages k p e in
       ap (option_map (λ package_. path_in (identity_of package_.name) t)) q.1
-      ∙ (ap (λ d. Some (path_in d t)) (same_identity p.0.name q.0.name q.2)
-      ∙ sym (ap (option_map (λ package_. path_in (identity_of package_.name) t)) p.1))
+      ∙ (ap (λ d. Some (path_in d t)) (same_identity p.name q.0.name q.2) ∙ sym (ap (option_map (λ package_. path_in (identity_of package_.name) t)) e)))
 
   own_path : (n : ℕ) (w : World) → world_at own n ≡ Some w → path_of_world merged w ≡ path_of_world own w
   own_path n w e = search (std_rules, world_path, own_path_by, world_package)
@@ -78,14 +74,6 @@ module _ (own other merged : Resolve) (bound other_bound : ℕ) (first second : 
 
   -- ---- one path
 
-  -- names of one text in own and in other packages
-  grown_identity : (k : ℕ) (o p : Package) → package_at own (first.packages k) ≡ Some o → package_at other k ≡ Some p → identity_of o.name ≡ identity_of p.name
-  grown_identity k o p at e =
-      let q = is.packages (first.packages k) o at in
-      let x = is.first_copies.carried.packages k p e in
-      let one : x.image ≡ q.0 = same-some x.image q.0 (sym x.at_image ∙ q.1) in
-      sym (same_identity o.name q.0.name q.2) ∙ (ap (λ y. identity_of y.name) (sym one) ∙ same_identity p.name x.image.name x.name)
-
   -- a world that is copied has the path of no own one
   no_own_world : (m : ℕ) (c : first.carries_world m ≡ true) (path : Text) → path_of_world other (is.first_worlds m c).joined.old ≡ Some path → ShowsNoWorld own path
   no_own_world m c path e n w at own_e = stands (is.packages_stand h.home.0 h.package_ h.stands)
@@ -110,7 +98,7 @@ module _ (own other merged : Resolve) (bound other_bound : ℕ) (first second : 
           let own_name = package-name own valid_own (first.packages h.home.0) o d in
           let g_name = package-name own valid_own g.home.0 g.package_ g.stands in
           let again : same_package_name o.name g.package_.name ≡ true = (same_name o.name g.package_.name own_name.version g_name.version).1
-          (grown_identity h.home.0 o h.package_ d h.stands ∙ sym parts.0) in
+          (grown_name own other merged bound other_bound first second left_out valid_own.rules valid_other.rules is h.home.0 o h.package_ d h.stands ∙ sym parts.0) in
           let home : g.home.0 ≡ first.packages h.home.0 = package-once own valid_own (first.packages h.home.0) g.home.0 o g.package_ d g.stands again in
           let one : g.package_ ≡ o = same-some g.package_ o (sym g.stands ∙ (ap (package_at own) home ∙ d)) in
           let there_ : is_name (text_of g.def.name) (world_names o) ≡ true = ap (λ x. is_name (text_of g.def.name) (world_names x)) (sym one) ∙ found_name (text_of g.def.name) n
@@ -204,7 +192,7 @@ module _ (own other merged : Resolve) (bound other_bound : ℕ) (first second : 
                 world_path own w.0
                 ∙ ((λ z. path_by own (Some (name z)) (some_id (first.packages h.home.0) (package_number w.0.«package») (second_true (text_eq (text_of w.0.name) (text_of h.def.name)) _ w.2) z))
                 ∙ ap (option_map (λ package_. path_in (identity_of package_.name) (text_of h.def.name))) at) in
-                absurd (none_such (first.worlds x.number) w.0 w.1 (its_path ∙ ap Some (ap (λ d. path_in d (text_of h.def.name)) (grown_identity h.home.0 o h.package_ at h.stands) ∙ sym h.spelled)))
+                absurd (none_such (first.worlds x.number) w.0 w.1 (its_path ∙ ap Some (ap (λ d. path_in d (text_of h.def.name)) (grown_name own other merged bound other_bound first second left_out valid_own.rules valid_other.rules is h.home.0 o h.package_ at h.stands) ∙ sym h.spelled)))
 
 pub worlds_are_united : WorldsAreUnited
 worlds_are_united own other merged bound other_bound first second left_out valid_own valid_other distinct is = (
