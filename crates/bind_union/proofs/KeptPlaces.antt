@@ -17,7 +17,7 @@ use Rattle.bind_union.proofs.WorldOrder.{items, numbers_append, interfaces_in, o
 use Rattle.bind_union.proofs.KeptPackages.{kept, by_package, is_interface_of, is_world_of, interfaces_stand, worlds_stand, all_stand, places_hold, found_option}
 use Rattle.bind_union.proofs.PackageNames.{added_from, name_append, interfaces_by_name, worlds_by_name, world_name_listed, found_name, still_found, copy_found, found_behind}
 use Rattle.bind_union.specs.{Carried.Renumbering, Carried.IsInterface, Joined.Joined, Joined.IsJoined}
-use Rattle.bind_union.specs.Merged.{interface_names, world_names, is_name, IsJoinedPackage, PackageStands, grown, brought, IsKeptPackage, IsPackageOf, IsCopyUnder, AreCopies, IsWorldCopy, IsMerged}
+use Rattle.bind_union.specs.Merged.{interface_names, world_names, is_name, IsJoinedPackage, PackageStands, grown, brought, IsKeptPackage, IsPackageOf, IsCopyUnder, AreCopies, IsMerged}
 use Rattle.base_lemmas.proofs.Bools.{left_of as first_true, right_of as second_true, or_false}
 use Rattle.base_lemmas.proofs.Elements.{any-at, all-contained, all_by_number as all_by_get, get-contains}
 use Rattle.base_lemmas.proofs.Numbers.{differ, unequal, equal, same-number}
@@ -95,6 +95,9 @@ inline_found r n p h =
     let all = second_true (sum_by (times_shown n) r.worlds.items == 1) _ h in
     let here = all-contained (λ w. (times_shown n w == 0) || option_eq ◌==◌ (package_number w.«package») p) r.worlds.items one.1 all (get-contains r.worlds.items one.0 one.1 one.2) in
     (one.0, one.1, one.2, one.3, option_equal (package_number one.1.«package») p (sym (ap (λ k. (k == 0) || option_eq ◌==◌ (package_number one.1.«package») p) one.3) ∙ here), one.4)
+
+by_number : {P : Type 0} (m n : ℕ) → (m ≡ n → P) → ((m == n) ≡ false → P) → P
+by_number {P = P} m n same apart = elim (m == n) as (λ b. (m == n) ≡ b → P) [ true ↦ λ e. same (equal m n e) | false ↦ apart ] refl
 
 not_neither : (a b : Bool) → (a ≡ false → b ≡ false → ⊥) → (a || b) ≡ true
 not_neither x y h = search std_rules
@@ -347,31 +350,18 @@ module _ (own other merged : Resolve) (bound other_bound : ℕ) (first second : 
 
   -- own ones
   own_inline : (n : ℕ) (i : Interface) → interface_at own n ≡ Some i → i.name ≡ None → inline_by own n (package_number i.«package») ≡ true → inline_by merged n (package_number i.«package») ≡ true
-  own_inline n i e inline h = go (x.0 == bound) refl
-    where
-      x : ShownOnce own n (package_number i.«package»)
-      x = inline_found own n (package_number i.«package») h
-
-      there_at : interface_at merged n ≡ Some i
-      there_at = get_begin own.interfaces.items merged.interfaces.items is.interfaces n i e
-
-      low : n < length own.interfaces.items
-      low = slice_get_within own.interfaces.items n i e
-
-      bound_same : times_shown n is.joined.image ≡ times_shown n is.own_bound
-      bound_same = bound_times n i there_at inline (λ a c same. let high = is.second_copies.new_interfaces a c in omega (arith, high, low, same))
-
-      others : (m : ℕ) (y : World) → world_at merged m ≡ Some y → (m == x.0) ≡ false → times_shown n y ≡ 0
-      others = no_others n x.0 x.5 (λ apart. bound_same ∙ x.5 bound is.own_bound is.bound_at apart)
-          (λ m c apart. copy_times m c n i there_at inline (λ a c same. let high = is.first_copies.new_interfaces a c in omega (arith, high, low, same)))
-
-      go : (b : Bool) → (x.0 == bound) ≡ b → inline_by merged n (package_number i.«package») ≡ true
-      go false apart = inline_holds merged n (package_number i.«package») x.0 x.1 (is.worlds x.0 x.1 x.2 apart) x.3 x.4 others
-      go true same =
-          let here : x.0 ≡ bound = equal x.0 bound same in
-          let w_is : is.own_bound ≡ x.1 = same-some is.own_bound x.1 (sym is.bound_at ∙ (ap (world_at own) (sym here) ∙ x.2)) in
-          inline_holds merged n (package_number i.«package») x.0 is.joined.image (ap (world_at merged) (here ∙ sym is.bound_there) ∙ is.joined.at_image)
-          (bound_same ∙ (ap (times_shown n) w_is ∙ x.3)) (ap package_number is.bound_package ∙ (ap (λ w. package_number w.«package») w_is ∙ x.4)) others
+  own_inline n i e inline h =
+      let x = inline_found own n (package_number i.«package») h in
+      let there_at = get_begin own.interfaces.items merged.interfaces.items is.interfaces n i e in
+      let low = slice_get_within own.interfaces.items n i e in
+      let bound_same = bound_times n i there_at inline (λ a c same. let high = is.second_copies.new_interfaces a c in omega (arith, high, low, same)) in
+      let others = no_others n x.0 x.5 (λ apart. bound_same ∙ x.5 bound is.own_bound is.bound_at apart)
+      (λ m c apart. copy_times m c n i there_at inline (λ a c same. let high = is.first_copies.new_interfaces a c in omega (arith, high, low, same))) in
+      by_number x.0 bound (λ same.
+      let w_is : is.own_bound ≡ x.1 = same-some is.own_bound x.1 (sym is.bound_at ∙ (ap (world_at own) (sym same) ∙ x.2)) in
+      inline_holds merged n (package_number i.«package») x.0 is.joined.image (ap (world_at merged) (same ∙ sym is.bound_there) ∙ is.joined.at_image)
+      (bound_same ∙ (ap (times_shown n) w_is ∙ x.3)) (ap package_number is.bound_package ∙ (ap (λ w. package_number w.«package») w_is ∙ x.4)) others)
+      (λ apart. inline_holds merged n (package_number i.«package») x.0 x.1 (is.worlds x.0 x.1 x.2 apart) x.3 x.4 others)
 
   image_inline : (f : Renumbering) → AreCopies own other merged f → (m : ℕ) (i : IsInterface other merged f m) → i.old.name ≡ None → i.image.name ≡ None
   image_inline f copies m i inline = no_text i.image.name (i.name ∙ some_text i.old.name inline)
@@ -380,57 +370,34 @@ module _ (own other merged : Resolve) (bound other_bound : ℕ) (first second : 
   first_inline : (m : ℕ) (copy : first.copies_interface m ≡ true) (i : IsInterface other merged first m) → i.old.name ≡ None → inline_by other m (package_number i.old.«package») ≡ true
       → inline_by merged (first.interfaces m) (option_map first.packages (package_number i.old.«package»)) ≡ true
   first_inline m copy i inline h =
+      let x = inline_found other m (package_number i.old.«package») h in
+      let w = is.first_worlds x.0 (is.first_copies.inline_shown m i.old x.0 x.1 copy i.found inline x.2 (among m x.1 x.3)) in
+      let old_is : w.joined.old ≡ x.1 = same-some w.joined.old x.1 (sym w.joined.found ∙ x.2) in
+      let high = is.first_copies.new_interfaces m copy in
+      let same = λ (k : ℕ) (v : IsJoined other merged first k [] []). copied_times first is.first_copies m copy k [] [] v refl refl in
       inline_holds merged (first.interfaces m) (option_map first.packages (package_number i.old.«package»)) (first.worlds x.0) w.joined.image w.joined.at_image
       (same x.0 w.joined ∙ (ap (times_shown m) old_is ∙ x.3)) (w.in_package ∙ ap (option_map first.packages) (ap (λ y. package_number y.«package») old_is ∙ x.4))
       (no_others (first.interfaces m) (first.worlds x.0) (λ k y d apart. past_times k y d (first.interfaces m) high)
-      (λ apart. bound_times (first.interfaces m) i.image i.at_image (image_inline first is.first_copies m i inline) no_second ∙ past_times bound is.own_bound is.bound_at (first.interfaces m) high)
+      (λ apart. bound_times (first.interfaces m) i.image i.at_image (image_inline first is.first_copies m i inline)
+      (λ a d e. let less = is.second_behind m a copy d in omega (arith, less, e)) ∙ past_times bound is.own_bound is.bound_at (first.interfaces m) high)
       (λ k d apart. let u = (is.first_worlds k d).joined in same k u ∙ x.5 k u.old u.found (unequal k x.0 (λ e. differ (first.worlds k) (first.worlds x.0) apart (ap first.worlds e)))))
-    where
-      x : ShownOnce other m (package_number i.old.«package»)
-      x = inline_found other m (package_number i.old.«package») h
-
-      w : IsWorldCopy other merged first x.0
-      w = is.first_worlds x.0 (is.first_copies.inline_shown m i.old x.0 x.1 copy i.found inline x.2 (among m x.1 x.3))
-
-      old_is : w.joined.old ≡ x.1
-      old_is = same-some w.joined.old x.1 (sym w.joined.found ∙ x.2)
-
-      high : length own.interfaces.items ≤ first.interfaces m
-      high = is.first_copies.new_interfaces m copy
-
-      same : (k : ℕ) (v : IsJoined other merged first k [] []) → times_shown (first.interfaces m) v.image ≡ times_shown m v.old
-      same k v = copied_times first is.first_copies m copy k [] [] v refl refl
-
-      no_second : (a : ℕ) → second.copies_interface a ≡ true → second.interfaces a ≡ first.interfaces m → ⊥
-      no_second a d e = let less = is.second_behind m a copy d in omega (arith, less, e)
 
   -- those that are copied twice
   second_inline_holds : (m : ℕ) (copy : second.copies_interface m ≡ true) (i : IsInterface other merged second m) → i.old.name ≡ None → inline_by other m (package_number i.old.«package») ≡ true
       → inline_by merged (second.interfaces m) (package_number is.own_bound.«package») ≡ true
   second_inline_holds m copy i inline h =
+      let x = inline_found other m (package_number i.old.«package») h in
+      let here = is.second_worlds x.0 (is.second_copies.inline_shown m i.old x.0 x.1 copy i.found inline x.2 (among m x.1 x.3)) in
+      let high = is.second_copies.new_interfaces m copy in
+      let range = world_range own valid_own bound is.own_bound is.bound_at in
+      let one = copied_times second is.second_copies m copy other_bound oi oe is.joined (past_range own.interfaces.items _ (second.interfaces m) (range_interfaces own oi range.0) high)
+      (past_range own.interfaces.items _ (second.interfaces m) (range_interfaces own oe range.1) high)
+      ∙ (ap (times_shown m) (same-some is.joined.old x.1 (sym is.joined.found ∙ (ap (world_at other) (sym here) ∙ x.2))) ∙ x.3) in
       inline_holds merged (second.interfaces m) (package_number is.own_bound.«package») bound is.joined.image (ap (world_at merged) (sym is.bound_there) ∙ is.joined.at_image) one
       (ap package_number is.bound_package)
       (no_others (second.interfaces m) bound (λ k y d apart. past_times k y d (second.interfaces m) high) (λ apart. no_true (sym apart ∙ same-number bound))
-      (λ k d apart. copy_times k d (second.interfaces m) i.image i.at_image (image_inline second is.second_copies m i inline) no_first))
-    where
-      x : ShownOnce other m (package_number i.old.«package»)
-      x = inline_found other m (package_number i.old.«package») h
-
-      here : x.0 ≡ other_bound
-      here = is.second_worlds x.0 (is.second_copies.inline_shown m i.old x.0 x.1 copy i.found inline x.2 (among m x.1 x.3))
-
-      high : length own.interfaces.items ≤ second.interfaces m
-      high = is.second_copies.new_interfaces m copy
-
-      one : times_shown (second.interfaces m) is.joined.image ≡ 1
-      one =
-          let range = world_range own valid_own bound is.own_bound is.bound_at in
-          copied_times second is.second_copies m copy other_bound oi oe is.joined (past_range own.interfaces.items _ (second.interfaces m) (range_interfaces own oi range.0) high)
-          (past_range own.interfaces.items _ (second.interfaces m) (range_interfaces own oe range.1) high)
-          ∙ (ap (times_shown m) (same-some is.joined.old x.1 (sym is.joined.found ∙ (ap (world_at other) (sym here) ∙ x.2))) ∙ x.3)
-
-      no_first : (a : ℕ) → first.copies_interface a ≡ true → first.interfaces a ≡ second.interfaces m → ⊥
-      no_first a d e = let less = is.second_behind a m d copy in omega (arith, less, e)
+      (λ k d apart. copy_times k d (second.interfaces m) i.image i.at_image (image_inline second is.second_copies m i inline)
+      (λ a d e. let less = is.second_behind a m d copy in omega (arith, less, e))))
 
   -- ---- interfaces
 

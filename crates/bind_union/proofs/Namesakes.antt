@@ -21,7 +21,7 @@ use Rattle.wit_model.proofs.{TreeTable.kept_trees_at, RulesLemmas.is_id_some as 
 use Rattle.bind_meaning.proofs.Listed.{from-map}
 use Rattle.bind_union.specs.Matching.{type_names, IsMatch, AreMatched, AreNamesakes, MatchesAreNamesakes, MatchesAreOnto}
 use Rattle.bind_union.proofs.{Lists.no_true, Carrying.references_of, Homes.alias_of_all, Itself.interface_range, Itself.type_range, WorldOrder.one_of_sum, Listed.under_text, Listed.found_by_text}
-use Rattle.base_lemmas.proofs.{Bools.left_of as first_true, Bools.right_of as second_true, Elements.contains-map, Elements.lookup_stands, Lists.mapped_get, Maps.lookup_of_map}
+use Rattle.base_lemmas.proofs.{Options.there as some_of, Bools.left_of as first_true, Bools.right_of as second_true, Elements.contains-map, Elements.lookup_stands, Lists.mapped_get, Maps.lookup_of_map}
 use Rattle.base_lemmas.proofs.Numbers.{equal, same-number}
 use Rattle.wit_model.specs.declared.model.TypeOwner.TheVariants as owner
 
@@ -123,35 +123,18 @@ module _ (r : Resolve) (v : IsValid r) where
   -- a type that stands under a name bears it
   pub listed_type : (n : ℕ) (i : Interface) → interface_at r n ≡ Some i → (name : Text) (t : ℕ) → Contains (type_names i) (name, t) → IsListedType n i name t
   unfolding order_of_types
-  listed_type n i at name t c = by d.0.name refl
-    where
-      listed : has (interface_type_numbers i) t ≡ true
-      listed = ap (λ ns. has ns t) (numbers_are i) ∙ number_listed (type_names i) name t c
-
-      d : (x : TypeDef) × (type_at r t ≡ Some x)
-      d = found-in r.types.items t (passes_at (in_list r.types.items) (interface_type_numbers i) t (interface_range r v.rules n i at).0 listed)
-
-      order : (list_all (is_named_of r (as_interface n)) (interface_type_numbers i) && are_in_order r (interface_type_numbers i)) ≡ true
-      order = interface-passes order_of_types r v.rules.order_of_types n i at
-
-      ours : (is_some d.0.name && same_owner d.0.owner (as_interface n)) ≡ true
-      ours = search (std_rules, passes_at, first_true, order, listed)
-
-      home : d.0.owner ≡ as_interface n
-      home = owner_equal d.0.owner (as_interface n) (second_true (is_some d.0.name) (same_owner d.0.owner (as_interface n)) ours)
-
-      by : (o : Option (String Global)) → d.0.name ≡ o → IsListedType n i name t
-      by None e = no_true (sym (ap is_some e) ∙ first_true (is_some d.0.name) (same_owner d.0.owner (as_interface n)) ours)
-      by (Some s) e =
-          let x = home_listed t d.0 d.1 s e n home i at in
-          let same : text_of s ≡ name = one_name (type_names i) (text_of s) name t (under_contains (text_of s) (type_names i) t x.0) c x.1 in
-          record {
-            def = d.0;
-            found = d.1;
-            name_is = ap optional_text e ∙ ap Some same;
-            home = home;
-            under = ap (λ y. under_text y (type_names i)) (sym same) ∙ x.0;
-          }
+  listed_type n i at name t c =
+      let listed = ap (λ ns. has ns t) (numbers_are i) ∙ number_listed (type_names i) name t c in
+      let d = found-in r.types.items t (passes_at (in_list r.types.items) (interface_type_numbers i) t (interface_range r v.rules n i at).0 listed) in
+      let order : (list_all (is_named_of r (as_interface n)) (interface_type_numbers i) && are_in_order r (interface_type_numbers i)) ≡ true =
+      interface-passes order_of_types r v.rules.order_of_types n i at in
+      let ours : (is_some d.0.name && same_owner d.0.owner (as_interface n)) ≡ true =
+      sym (ap (passes (λ def. is_some def.name && same_owner def.owner (as_interface n))) d.1) ∙ passes_at (is_named_of r (as_interface n)) (interface_type_numbers i) t (first_true _ _ order) listed in
+      let home = owner_equal d.0.owner (as_interface n) (second_true (is_some d.0.name) _ ours) in
+      let s = some_of d.0.name (first_true _ _ ours) in
+      let x = home_listed t d.0 d.1 s.0 s.1 n home i at in
+      let same : text_of s.0 ≡ name = one_name (type_names i) (text_of s.0) name t (under_contains (text_of s.0) (type_names i) t x.0) c x.1 in
+      record { def = d.0; found = d.1; name_is = ap optional_text s.1 ∙ ap Some same; home = home; under = ap (λ y. under_text y (type_names i)) (sym same) ∙ x.0 }
 
   -- the tree of a named type is its name
   pub named_tree : (t : ℕ) (def : TypeDef) → type_at r t ≡ Some def → (s : String Global) → def.name ≡ Some s → tree_at (trees_of r) t ≡ named (place_of r def.owner) (text_of s)
@@ -168,20 +151,11 @@ module _ (r : Resolve) (v : IsValid r) where
   -- the target of an alias has a name
   pub target_named : (t : ℕ) (def : TypeDef) → type_at r t ≡ Some def → (u : ℕ) → alias_target def.kind ≡ Some u → IsTarget u
   unfolding named_kinds
-  target_named t def e u alias = by d.0.name refl
-    where
-      d : (x : TypeDef) × (type_at r u ≡ Some x)
-      d = found-in r.types.items u (sym (ap (passes (in_list r.types.items)) alias) ∙ alias_of_all (in_list r.types.items) def.kind (type_range r v.rules t def e).0)
-
-      old : ((not (is_named_kind def.kind) || is_some def.name) && passes (is_named_number r) (alias_target def.kind)) ≡ true
-      old = type_passes named_kinds r v.rules.named_kinds t def e
-
-      has_name : is_some d.0.name ≡ true
-      has_name = search (std_rules, d, second_true, def, old)
-
-      by : (o : Option (String Global)) → d.0.name ≡ o → IsTarget u
-      by None k = no_true (sym (ap is_some k) ∙ has_name)
-      by (Some s) k = record { def = d.0; found = d.1; name = s; named_ = k }
+  target_named t def e u alias =
+      let d = found-in r.types.items u (sym (ap (passes (in_list r.types.items)) alias) ∙ alias_of_all (in_list r.types.items) def.kind (type_range r v.rules t def e).0) in
+      let old : ((not (is_named_kind def.kind) || is_some def.name) && passes (is_named_number r) (alias_target def.kind)) ≡ true = type_passes named_kinds r v.rules.named_kinds t def e in
+      let s = some_of d.0.name (sym (ap (passes (λ x. is_some x.name)) d.1) ∙ (sym (ap (passes (is_named_number r)) alias) ∙ second_true (not (is_named_kind def.kind) || is_some def.name) _ old)) in
+      record { def = d.0; found = d.1; name = s.0; named_ = s.1 }
 
   -- what a type with an owner is another name of has the same owner, or belongs to an interface with a path
   pub target_owner : (t : ℕ) (def : TypeDef) → type_at r t ≡ Some def → same_owner def.owner owner.None ≡ false → (u : ℕ) → alias_target def.kind ≡ Some u
@@ -297,36 +271,23 @@ module _ (own other : Resolve) (interfaces types : ℕ → ℕ) (valid_own : IsV
     pub place_back : (o : TypeOwner) (path : Text) → place_of own o ≡ of_interface path → (b : ℕ) × (o ≡ as_interface b) × (interface_path own b ≡ Some path)
     place_back y path h = search std_rules
 
-    pub the_path : (o : Option Text) → is_some o ≡ true → (path : Text) × (o ≡ Some path)
-    the_path y h = search std_rules
-
     -- what has one path and one name is one
     pub same_by_path : (u v a : ℕ) (x : IsTarget other valid_other u) → x.def.owner ≡ as_interface a → is_some (interface_path other a) ≡ true → (y : IsTarget own valid_own v)
         → named (place_of own y.def.owner) (text_of y.name) ≡ named (place_of other x.def.owner) (text_of x.name)
         → IsMatch own other interfaces types a ⊎ ((m : ℕ) → interface_path own m ≡ interface_path other a → ⊥) → types u ≡ v
-    same_by_path u v a x there_ has_path y trees m = by m
-      where
-        path : (p : Text) × (interface_path other a ≡ Some p)
-        path = the_path (interface_path other a) has_path
-
-        place : place_of own y.def.owner ≡ of_interface path.0
-        place = ap place_in trees ∙ (ap (place_of other) there_ ∙ ap place_of_path path.1)
-
-        names : text_of y.name ≡ text_of x.name
-        names = ap name_in trees
-
-        b : (k : ℕ) × (y.def.owner ≡ as_interface k) × (interface_path own k ≡ Some path.0)
-        b = place_back y.def.owner path.0 place
-
-        by : IsMatch own other interfaces types a ⊎ ((m : ℕ) → interface_path own m ≡ interface_path other a → ⊥) → types u ≡ v
-        by (inr none_such) = absurd (none_such b.0 (b.2 ∙ sym path.1))
-        by (inl m) =
-            let here_ : interfaces a ≡ b.0 = path-once own valid_own (interfaces a) b.0 path.0 (m.path ∙ path.1) b.2 in
-            let listed = home_listed other valid_other u x.def x.found x.name x.named_ a there_ m.old m.found in
-            let c = under_contains (text_of x.name) (type_names m.old) u listed.0 in
-            let image_ = listed_type own valid_own (interfaces a) m.image m.at_image (text_of x.name) (types u) (m.by_name (text_of x.name) u c) in
-            let target = home_listed own valid_own v y.def y.found y.name y.named_ b.0 b.1 m.image (ap (interface_at own) (sym here_) ∙ m.at_image) in
-            same-some (types u) v (sym image_.under ∙ (ap (λ s. under_text s (type_names m.image)) (sym names) ∙ target.0))
+    same_by_path u v a x there_ has_path y trees m =
+        let path = some_of (interface_path other a) has_path in
+        let b = place_back y.def.owner path.0 (ap place_in trees ∙ (ap (place_of other) there_ ∙ ap place_of_path path.1)) in
+        elim m [
+          | inr none_such ↦ absurd (none_such b.0 (b.2 ∙ sym path.1))
+          | inl m ↦
+              let here_ = path-once own valid_own (interfaces a) b.0 path.0 (m.path ∙ path.1) b.2 in
+              let listed = home_listed other valid_other u x.def x.found x.name x.named_ a there_ m.old m.found in
+              let c = under_contains (text_of x.name) (type_names m.old) u listed.0 in
+              let image_ = listed_type own valid_own (interfaces a) m.image m.at_image (text_of x.name) (types u) (m.by_name (text_of x.name) u c) in
+              let target = home_listed own valid_own v y.def y.found y.name y.named_ b.0 b.1 m.image (ap (interface_at own) (sym here_) ∙ m.at_image) in
+              same-some (types u) v (sym image_.under ∙ (ap (λ s. under_text s (type_names m.image)) (sym (ap name_in trees)) ∙ target.0))
+        ]
 
     same_target : (n : ℕ) (is : IsMatch own other interfaces types n) (t : ℕ) (def image : TypeDef) → type_at other t ≡ Some def → type_at own (types t) ≡ Some image → def.owner ≡ as_interface n
         → declaration_of own image ≡ declaration_of other def → (o : Option ℕ) → alias_target def.kind ≡ o → alias_target image.kind ≡ option_map types o
