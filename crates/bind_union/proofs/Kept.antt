@@ -16,13 +16,13 @@ use Rattle.bind_union.specs.{Joined.IsJoined, Joined.Joined, Merged.IsCopyUnder,
 use Rattle.bind_union.proofs.{Images.numbers_of_view, ViewTests.numbers_same, KeptPackages.kept, KeptPackages.by_package, KeptPackages.all_stand, KeptPackages.ranges_hold}
 use Rattle.bind_union.proofs.{Carrying.interface_package, Carrying.references_of, Listed.listed_in_interface, Listed.listed_in_world, Listed.stays_listed}
 use Rattle.bind_union.proofs.Itself.{world_package, get_begin, itself, carried_itself, joined_itself, world_range, map_same}
-use Rattle.bind_union.proofs.Lists.{no_true}
+use Rattle.bind_union.proofs.Lists.{by_number, no_true}
 use Rattle.bind_union.proofs.CopyRules.{shape_passes, named_passes, handle_passes, depth_passes, label_passes, stay_passes, stability_alike, function_stays_passes, function_handles_pass, function_depths_pass, function_range_passes, added_pass, entry_function, entry_member, entry_import_stands, entry_export_stands, entry_range, entry_labels, unowned}
 use Rattle.bind_union.proofs.InterfaceRules.{interface_labels_pass, interface_owners_pass, interface_handles_pass, interface_depths_pass, interface_members_pass, interface_order_passes, all_named_of, type_numbers, all_copies, copies_carried, each_function}
 use Rattle.bind_union.proofs.WorldOrder.{items, numbers_append, types_in, none_added, past_range, range_types}
 use Rattle.bind_union.proofs.WorldRules.{on_function, by_entries, sides_pass, order_passes, in_order, types_in_order, world_order_passes, world_types_pass}
 use Rattle.base_lemmas.proofs.{Elements.all_pass, Elements.all_weaker, Elements.all_two, Bools.left_of as first_true, Bools.right_of as second_true, Bools.or_false}
-use Rattle.base_lemmas.proofs.Numbers.{unequal, equal}
+use Rattle.base_lemmas.proofs.Numbers.{unequal}
 use Rattle.std.specs.declared.alloc.Global.{Global}
 use Rattle.indexmap.specs.IndexMap.{values}
 use Rattle.wit_model.specs.declared.model.TypeOwner.TheVariants as owner
@@ -159,16 +159,15 @@ module _ (own other merged : Resolve) (bound other_bound : ℕ) (first second : 
       → ((n : ℕ) (c : first.carries_world n ≡ true) → test (first.worlds n) (is.first_worlds n c).joined.image ≡ true)
       → test bound is.joined.image ≡ true → each_from test 0 merged.worlds.items ≡ true
   each_world test ours copies at_bound = each_by_number test merged.worlds.items (λ n w e. elim (low_or_high n (length own.worlds.items)) [
-    | inl low ↦ own_one n w e (n == bound) refl (found-in own.worlds.items n (lt-ltb n (length own.worlds.items) low))
+    | inl low ↦
+        let x = found-in own.worlds.items n (lt-ltb n (length own.worlds.items) low) in
+        by_number n bound (λ same. moved (world_at merged) test bound n is.joined.image w bound_found (sym same) e at_bound)
+        (λ apart. moved (world_at merged) test n n x.0 w (is.worlds n x.0 x.1 apart) refl e (ours n x.0 x.1 apart))
     | inr high ↦
         let c = is.world_from n high (slice_get_within merged.worlds.items n w e) in
         let j = (is.first_worlds c.0 c.1).joined in
         moved (world_at merged) test (first.worlds c.0) n j.image w j.at_image c.2 e (copies c.0 c.1)
   ])
-    where
-      own_one : (n : ℕ) (w : World) → world_at merged n ≡ Some w → (b : Bool) → (n == bound) ≡ b → (x : World) × (world_at own n ≡ Some x) → test n w ≡ true
-      own_one n w e true same x = moved (world_at merged) test bound n is.joined.image w bound_found (sym (equal n bound same)) e at_bound
-      own_one n w e false apart x = moved (world_at merged) test n n x.0 w (is.worlds n x.0 x.1 apart) refl e (ours n x.0 x.1 apart)
 
   -- a test that holds of each joined world
   pub each_joined : (test : ℕ → World → Bool) → ((c : Source merged) (n : ℕ) (j : IsJoined c.from merged c.under n [] []) → test (c.under.worlds n) j.image ≡ true) → test bound is.joined.image ≡ true
@@ -361,22 +360,19 @@ module _ (own other merged : Resolve) (bound other_bound : ℕ) (first second : 
 
   own_listed : (n : ℕ) → in_list own.types.items n ≡ true → (w : ℕ) → in_list own.worlds.items w ≡ true → (name : Text) → passes (is_listed_in_world n name) (world_at own w) ≡ true
       → passes (is_listed_in_world n name) (world_at merged w) ≡ true
-  own_listed n low w c name h = go (found-in own.worlds.items w c) (w == bound) refl
+  own_listed n low w c name h =
+      let x = found-in own.worlds.items w c in
+      by_number w bound (λ same.
+      let old : passes (is_listed_in_world n name) (world_at own bound) ≡ true = subst (λ (k : ℕ). passes (is_listed_in_world n name) (world_at own k) ≡ true) same h in
+      ap (passes (is_listed_in_world n name)) (ap (world_at merged) same ∙ bound_found) ∙ entries (sym (ap (passes (is_listed_in_world n name)) is.bound_at) ∙ old))
+      (λ apart. ap (passes (is_listed_in_world n name)) (is.worlds w x.0 x.1 apart) ∙ (sym (ap (passes (is_listed_in_world n name)) x.1) ∙ h))
     where
-      go : (x : World) × (world_at own w ≡ Some x) → (b : Bool) → (w == bound) ≡ b → passes (is_listed_in_world n name) (world_at merged w) ≡ true
-      go x false apart = ap (passes (is_listed_in_world n name)) (is.worlds w x.0 x.1 apart) ∙ (sym (ap (passes (is_listed_in_world n name)) x.1) ∙ h)
-      go x true same =
-          let here : second.worlds other_bound ≡ w = is.bound_there ∙ sym (equal w bound same) in
-          let old : passes (is_listed_in_world n name) (world_at own bound) ≡ true = subst (λ (k : ℕ). passes (is_listed_in_world n name) (world_at own k) ≡ true) (equal w bound same) h in
-          ap (passes (is_listed_in_world n name)) (sym (ap (world_at merged) here) ∙ is.joined.at_image)
-          ∙ entries (sym (ap (passes (is_listed_in_world n name)) is.bound_at) ∙ old)
-        where
-          entries : is_listed_in_world n name is.own_bound ≡ true → is_listed_in_world n name is.joined.image ≡ true
-          entries k = subst (λ (es : List (WorldKey × WorldItem)). (is_id n (option_and_then item_type (lookup (is_name_key name) es))
-              && (count_by (λ m. m == n) (filter_map item_type (items es)) == 1)) ≡ true) (sym is.joined.imports)
-              (stays_listed name n own_imports is.joined.new_imports
-              (fresh_added second own_imports (length own.types.items) is.second_copies.new_types n (ltb-true n (length own.types.items) low) is.joined.old.imports.entries
-              is.joined.new_imports is.joined.joined_imports) k)
+      entries : is_listed_in_world n name is.own_bound ≡ true → is_listed_in_world n name is.joined.image ≡ true
+      entries k = subst (λ (es : List (WorldKey × WorldItem)). (is_id n (option_and_then item_type (lookup (is_name_key name) es))
+          && (count_by (λ m. m == n) (filter_map item_type (items es)) == 1)) ≡ true) (sym is.joined.imports)
+          (stays_listed name n own_imports is.joined.new_imports
+          (fresh_added second own_imports (length own.types.items) is.second_copies.new_types n (ltb-true n (length own.types.items) low) is.joined.old.imports.entries
+          is.joined.new_imports is.joined.joined_imports) k)
 
   joined_listed : (c : Source merged) (n : ℕ) → c.under.copies_type n ≡ true → (name : Text) (w : ℕ) (oi oe : List (WorldKey × WorldItem)) (j : IsJoined c.from merged c.under w oi oe)
       → has (filter_map item_type (items oi)) (c.under.types n) ≡ false → passes (is_listed_in_world n name) (world_at c.from w) ≡ true
@@ -489,11 +485,10 @@ module _ (own other merged : Resolve) (bound other_bound : ℕ) (first second : 
   bound_in_range = search (std_rules, items, lt-ltb, slice_get_within)
 
   own_worlds_there : (w : ℕ) → in_list own.worlds.items w ≡ true → in_list merged.worlds.items w ≡ true
-  own_worlds_there w c = go (found-in own.worlds.items w c) (w == bound) refl
-    where
-      go : (x : World) × (world_at own w ≡ Some x) → (b : Bool) → (w == bound) ≡ b → in_list merged.worlds.items w ≡ true
-      go x false apart = lt-ltb _ _ (slice_get_within merged.worlds.items w x.0 (is.worlds w x.0 x.1 apart))
-      go x true same = subst (λ (k : ℕ). in_list merged.worlds.items k ≡ true) (sym (equal w bound same)) bound_in_range
+  own_worlds_there w c =
+      let x = found-in own.worlds.items w c in
+      by_number w bound (λ same. subst (λ (k : ℕ). in_list merged.worlds.items k ≡ true) (sym same) bound_in_range)
+      (λ apart. lt-ltb _ _ (slice_get_within merged.worlds.items w x.0 (is.worlds w x.0 x.1 apart)))
 
   first_worlds_there : (w : ℕ) → first.carries_world w ≡ true → in_list merged.worlds.items (first.worlds w) ≡ true
   first_worlds_there w c = let j = (is.first_worlds w c).joined in lt-ltb _ _ (slice_get_within merged.worlds.items (first.worlds w) j.image j.at_image)

@@ -5,7 +5,7 @@ use Rattle.std.proofs.lemmas.List.Folds.{list_all-append, list_all-map}
 use Rattle.std.specs.{Prelude.String, List.list_all, Option.option_map_or}
 use Rattle.std.specs.declared.alloc.Global.{Global}
 use Rattle.indexmap.specs.IndexMap.{values}
-use Rattle.wit_model.specs.declared.model.{Resolve.Resolve, Package.Package, InterfaceId.InterfaceId, WorldId.WorldId, World.World, PackageName.PackageName}
+use Rattle.wit_model.specs.declared.model.{Resolve.Resolve, Package.Package, InterfaceId.InterfaceId, WorldId.WorldId, PackageName.PackageName}
 use Rattle.wit_model.specs.{Text.Text, Text.text_of, Text.text_eq, Lookup.package_at, Lookup.interface_at, Lookup.world_at, Lookup.identity_of, Names.is_label, Names.is_version}
 use Rattle.wit_model.specs.Rules.{each_from, passes, in_list, is_id, text_is, package_number, interface_belongs, world_belongs, names_itself, is_world_name, same_package_name}
 use Rattle.wit_model.specs.Valid.{Rule, Keeps, KeepsRules, numbers_in_range, places, names_in_packages, package_names}
@@ -13,7 +13,7 @@ use Rattle.wit_model.proofs.{Entries.packages_keep, TextLemmas.named_too}
 use Rattle.wit_model.proofs.{OnePath.found-in, OnePath.package-passes, RulesLemmas.each_by_number, RulesLemmas.each_at, RulesLemmas.name_flip}
 use Rattle.bind_union.specs.Carried.{Renumbering, IsSameName}
 use Rattle.bind_union.specs.Merged.{interface_names, world_names, IsJoinedPackage, PackageStands, grown, brought, IsKeptPackage, IsPackageOf, IsMerged}
-use Rattle.bind_union.proofs.{Carrying.same_identity, CopyRules.text_alike, CopyRules.version_alike, CopyRules.are_parts, ViewTests.id_under, Itself.get_begin, PackageNames.names_pass}
+use Rattle.bind_union.proofs.{Lists.by_number, Carrying.same_identity, CopyRules.text_alike, CopyRules.version_alike, CopyRules.are_parts, ViewTests.id_under, Itself.get_begin, PackageNames.names_pass}
 use Rattle.base_lemmas.proofs.{Bools.left_of as first_true, Bools.right_of as second_true, Elements.all_three, Elements.all_weaker, Elements.all_two}
 use Rattle.base_lemmas.proofs.Numbers.{equal, same-number}
 
@@ -128,11 +128,13 @@ module _ (own other merged : Resolve) (bound other_bound : ℕ) (first second : 
       ap (λ o. option_map_or (λ i. text_is i.name e.0 && is_id n (package_number i.«package»)) o false) (get_begin own.interfaces.items merged.interfaces.items is.interfaces e.1 i.0 i.1) ∙ i.2
 
   own_world : (n : ℕ) (e : Text × ℕ) → is_world_of own n e ≡ true → is_world_of merged n e ≡ true
-  own_world n e h = go (found_option _ (world_at own e.1) h) (e.1 == bound) refl
-    where
-      go : (w : World) × (world_at own e.1 ≡ Some w) × ((text_eq (text_of w.name) e.0 && is_id n (package_number w.«package»)) ≡ true) → (b : Bool) → (e.1 == bound) ≡ b → is_world_of merged n e ≡ true
-      go w false apart = ap (λ o. option_map_or (λ w. text_eq (text_of w.name) e.0 && is_id n (package_number w.«package»)) o false) (is.worlds e.1 w.0 w.1 apart) ∙ w.2
-      go w true same = search std_rules
+  own_world n e h =
+      let w = found_option _ (world_at own e.1) h in
+      by_number e.1 bound (λ same.
+      let old : is.own_bound ≡ w.0 = same-some is.own_bound w.0 (sym is.bound_at ∙ (ap (world_at own) (sym same) ∙ w.1)) in
+      ap (λ o. option_map_or (λ w. text_eq (text_of w.name) e.0 && is_id n (package_number w.«package»)) o false) (ap (world_at merged) (same ∙ sym is.bound_there) ∙ is.joined.at_image)
+      ∙ ((λ i. text_eq (text_of ((is.bound_name ∙ ap (λ x. x.name) old) i)) e.0 && is_id n (package_number ((is.bound_package ∙ ap (λ x. x.«package») old) i))) ∙ w.2))
+      (λ apart. ap (λ o. option_map_or (λ w. text_eq (text_of w.name) e.0 && is_id n (package_number w.«package»)) o false) (is.worlds e.1 w.0 w.1 apart) ∙ w.2)
 
   copied_interface : (n : ℕ) (name : Text) (m : ℕ) → first.copies_interface m ≡ true → is_interface_of other n (name, m) ≡ true
       → is_interface_of merged (first.packages n) (name, first.interfaces m) ≡ true

@@ -12,12 +12,12 @@ use Rattle.wit_model.specs.Rules.{each_from, is_id, package_number, interface_is
 use Rattle.wit_model.proofs.{Entries.free_passes, Elements.none-in, VersionLaws.same_text, RulesLemmas.each_by_number}
 use Rattle.wit_model.proofs.{OnePath.found-in, OnePath.interface-passes, TextLemmas.text_same as text-same, ValidLemmas.world_passes as world-passes}
 use Rattle.bind_union.proofs.{Listed.under_text, Itself.world_package, Itself.get_begin, Itself.world_range, Kept.each_interface_of_three, Kept.each_world}
-use Rattle.bind_union.proofs.{Lists.no_true, Homes.apart, Carrying.interface_package}
+use Rattle.bind_union.proofs.{Lists.by_number, Lists.no_true, Homes.apart, Carrying.interface_package}
 use Rattle.bind_union.proofs.WorldOrder.{items, numbers_append, interfaces_in, one_sums, one_of_sum, shown, times_are, counted_append, none_counted, none_added, past_range, range_interfaces, same_times}
 use Rattle.bind_union.proofs.KeptPackages.{kept, by_package, is_interface_of, is_world_of, interfaces_stand, worlds_stand, all_stand, places_hold, found_option}
 use Rattle.bind_union.proofs.PackageNames.{added_from, name_append, interfaces_by_name, worlds_by_name, world_name_listed, found_name, still_found, copy_found, found_behind}
 use Rattle.bind_union.specs.{Carried.Renumbering, Carried.IsInterface, Joined.Joined, Joined.IsJoined}
-use Rattle.bind_union.specs.Merged.{interface_names, world_names, is_name, IsJoinedPackage, PackageStands, grown, brought, IsKeptPackage, IsPackageOf, IsCopyUnder, AreCopies, IsMerged}
+use Rattle.bind_union.specs.Merged.{interface_names, world_names, is_name, IsJoinedPackage, PackageStands, grown, brought, IsKeptPackage, IsPackageOf, AreCopies, IsMerged}
 use Rattle.base_lemmas.proofs.Bools.{left_of as first_true, right_of as second_true, or_false}
 use Rattle.base_lemmas.proofs.Elements.{any-at, all-contained, all_by_number as all_by_get, get-contains}
 use Rattle.base_lemmas.proofs.Numbers.{differ, unequal, equal, same-number}
@@ -95,9 +95,6 @@ inline_found r n p h =
     let all = second_true (sum_by (times_shown n) r.worlds.items == 1) _ h in
     let here = all-contained (λ w. (times_shown n w == 0) || option_eq ◌==◌ (package_number w.«package») p) r.worlds.items one.1 all (get-contains r.worlds.items one.0 one.1 one.2) in
     (one.0, one.1, one.2, one.3, option_equal (package_number one.1.«package») p (sym (ap (λ k. (k == 0) || option_eq ◌==◌ (package_number one.1.«package») p) one.3) ∙ here), one.4)
-
-by_number : {P : Type 0} (m n : ℕ) → (m ≡ n → P) → ((m == n) ≡ false → P) → P
-by_number {P = P} m n same apart = elim (m == n) as (λ b. (m == n) ≡ b → P) [ true ↦ λ e. same (equal m n e) | false ↦ apart ] refl
 
 not_neither : (a b : Bool) → (a ≡ false → b ≡ false → ⊥) → (a || b) ≡ true
 not_neither x y h = search std_rules
@@ -255,16 +252,15 @@ module _ (own other merged : Resolve) (bound other_bound : ℕ) (first second : 
 
   pub world_case : (k : ℕ) (y : World) → world_at merged k ≡ Some y → WorldCase k y
   world_case k y e = elim (low_or_high k (length own.worlds.items)) [
-    | inl low ↦ own_one (k == bound) refl (found-in own.worlds.items k (lt-ltb k (length own.worlds.items) low))
-    | inr high ↦ copied (is.world_from k high (slice_get_within merged.worlds.items k y e))
+    | inl low ↦
+        let x = found-in own.worlds.items k (lt-ltb k (length own.worlds.items) low) in
+        by_number k bound (λ here. inr (inl (here, same-some is.joined.image y (sym is.joined.at_image ∙ (ap (world_at merged) (is.bound_there ∙ sym here) ∙ e)))))
+        (λ apart. inl (x.1 ∙ ap Some (same-some x.0 y (sym (is.worlds k x.0 x.1 apart) ∙ e)), apart))
+    | inr high ↦
+        let c = is.world_from k high (slice_get_within merged.worlds.items k y e) in
+        let j = (is.first_worlds c.0 c.1).joined in
+        inr (inr (c.0, c.1, c.2, same-some j.image y (sym j.at_image ∙ (ap (world_at merged) c.2 ∙ e))))
   ]
-    where
-      own_one : (b : Bool) → (k == bound) ≡ b → (x : World) × (world_at own k ≡ Some x) → WorldCase k y
-      own_one false apart x = inl (x.1 ∙ ap Some (same-some x.0 y (sym (is.worlds k x.0 x.1 apart) ∙ e)), apart)
-      own_one true same x = let here = equal k bound same in inr (inl (here, same-some is.joined.image y (sym is.joined.at_image ∙ (ap (world_at merged) (is.bound_there ∙ sym here) ∙ e))))
-
-      copied : IsCopyUnder first.worlds first.carries_world k → WorldCase k y
-      copied c = let j = (is.first_worlds c.0 c.1).joined in inr (inr (c.0, c.1, c.2, same-some j.image y (sym j.at_image ∙ (ap (world_at merged) c.2 ∙ e))))
 
   -- an inline interface that is shown anew is a copy
   shown_copy : (f : Renumbering) → AreCopies own other merged f → (a : ℕ) → f.carries_interface a ≡ true → (v : Interface) → interface_at merged (f.interfaces a) ≡ Some v → v.name ≡ None

@@ -20,7 +20,7 @@ use Rattle.wit_model.proofs.{OnePath.path-once, OnePath.named-path, OnePath.foun
 use Rattle.wit_model.proofs.{TreeTable.kept_trees_at, RulesLemmas.is_id_some as some_id, TextLemmas.text_same as text-same, ValidLemmas.type_passes}
 use Rattle.bind_meaning.proofs.Listed.{from-map}
 use Rattle.bind_union.specs.Matching.{type_names, IsMatch, AreMatched, AreNamesakes, MatchesAreNamesakes, MatchesAreOnto}
-use Rattle.bind_union.proofs.{Lists.no_true, Carrying.references_of, Homes.alias_of_all, Itself.interface_range, Itself.type_range, WorldOrder.one_of_sum, Listed.under_text, Listed.found_by_text}
+use Rattle.bind_union.proofs.{Lists.by_number, Lists.no_true, Carrying.references_of, Homes.alias_of_all, Itself.interface_range, Itself.type_range, WorldOrder.one_of_sum, Listed.under_text, Listed.found_by_text}
 use Rattle.base_lemmas.proofs.{Options.there as some_of, Bools.left_of as first_true, Bools.right_of as second_true, Elements.contains-map, Elements.lookup_stands, Lists.mapped_get, Maps.lookup_of_map}
 use Rattle.base_lemmas.proofs.Numbers.{equal, same-number}
 use Rattle.wit_model.specs.declared.model.TypeOwner.TheVariants as owner
@@ -76,14 +76,13 @@ often t es = count_by (λ k. k == t) (map (λ (e : Text × ℕ). e.1) es)
 
 -- what stands once stands at one place
 one_place : (ns : List ℕ) (t : ℕ) → count_by (λ k. k == t) ns ≡ 1 → (i j : ℕ) → slice_get ns i ≡ Some t → slice_get ns j ≡ Some t → i ≡ j
-one_place ns t h i j p q = here i p (i == once.0) refl ∙ sym (here j q (j == once.0) refl)
+one_place ns t h i j p q = here i p ∙ sym (here j q)
   where
-    once : (k : ℕ) × (x : ℕ) × (slice_get ns k ≡ Some x) × ◌≡◌ {A = ℕ} (cond (x == t) 1 0) 1 × ((m y : ℕ) → slice_get ns m ≡ Some y → (m == k) ≡ false → ◌≡◌ {A = ℕ} (cond (y == t) 1 0) 0)
-    once = one_of_sum (λ k. cond (k == t) 1 0) ns h
-
-    here : (m : ℕ) → slice_get ns m ≡ Some t → (b : Bool) → (m == once.0) ≡ b → m ≡ once.0
-    here m e true k = equal m once.0 k
-    here m e false k = let one : cond (t == t) 1 0 ≡ 1 = ap {B = ℕ} (λ b. cond b 1 0) (same-number t) in let none = once.4 m t e k in absurd (omega (arith, one, none))
+    here : (m : ℕ) → slice_get ns m ≡ Some t → m ≡ (one_of_sum (λ k. cond (k == t) 1 0) ns h).0
+    here m e =
+        let once = one_of_sum (λ k. cond (k == t) 1 0) ns h in
+        let one : cond (t == t) 1 0 ≡ 1 = ap {B = ℕ} (λ b. cond b 1 0) (same-number t) in
+        by_number m once.0 (λ same. same) (λ apart. let none = once.4 m t e apart in absurd (omega (arith, one, none)))
 
 -- and so under one name
 one_name : (es : List (Text × ℕ)) (a b : Text) (t : ℕ) → Contains es (a, t) → Contains es (b, t) → often t es ≡ 1 → a ≡ b
