@@ -83,7 +83,8 @@ unowned f x = search std_rules
 pub passes_under : (f : ℕ → ℕ) (c p q : ℕ → Bool) → ((m : ℕ) → c m ≡ true → p m ≡ true → q (f m) ≡ true) → (o : Option ℕ) → passes c o ≡ true → passes p o ≡ true → passes q (option_map f o) ≡ true
 passes_under f c p q one x d h = search std_rules
 
-weaker : (a b c d x y z w : Bool) → (a ≡ true → x ≡ true) → (b ≡ true → y ≡ true) → (c ≡ true → z ≡ true) → (a ≡ false → d ≡ true → w ≡ true) → (a || (b || (c && d))) ≡ true → (x || (y || (z && w))) ≡ true
+weaker : (a b c d x y z w : Bool) → (a ≡ true → x ≡ true) → (b ≡ true → y ≡ true) → (c ≡ true → z ≡ true) → (a ≡ false → d ≡ true → w ≡ true)
+    → (a || (b || (c && d))) ≡ true → (x || (y || (z && w))) ≡ true
 weaker x y z w a b c d p q u v h = search std_rules
 
 either_passes : (a b c d : Bool) → (a ≡ true → c ≡ true) → (b ≡ true → d ≡ true) → (a || b) ≡ true → (c || d) ≡ true
@@ -212,7 +213,8 @@ module _ (r s : Resolve) (f : Renumbering) (valid : KeepsRules r) (is : IsCarrie
     unfolding owners
     stay_passes = weaker (same_owner t.def.owner owner.None) (list_all (has_owner r t.def.owner) (used_by_type r t.def)) (is_some t.def.name) (is_use r t.def)
         (same_owner t.image.owner owner.None) (list_all (has_owner s t.image.owner) (used_by_type s t.image)) (is_some t.image.name) (is_use s t.image)
-        (λ h. ap (λ o. same_owner o owner.None) t.home ∙ (unowned f t.def.owner ∙ h)) (λ h. (λ i. list_all (has_owner s (t.home i)) (used_there i)) ∙ all_owned t.def.owner (used_by_type r t.def) used h)
+        (λ h. ap (λ o. same_owner o owner.None) t.home ∙ (unowned f t.def.owner ∙ h))
+        (λ h. (λ i. list_all (has_owner s (t.home i)) (used_there i)) ∙ all_owned t.def.owner (used_by_type r t.def) used h)
         (λ h. named_alike t.image.name t.def.name t.name ∙ h) use_passes (type_passes owners r valid.owners n t.def t.found)
 
   -- an unnamed type is copied
@@ -338,13 +340,15 @@ module _ (r s : Resolve) (f : Renumbering) (valid : KeepsRules r) (is : IsCarrie
         go (p ∷ ps) (q ∷ qs) same d e =
             let one = heads_equal _ _ _ _ same in
             (λ i. text_eq (one i).0 (codes "self") && type_is s (is_borrow_of (f.types n)) (one i).1)
-            ∙ both _ _ (first_true _ _ e) (type_is_there (is_borrow_of n) (is_borrow_of (f.types n)) (borrow_there n) p.ty (first_true _ _ d) (second_true (text_eq (text_of p.name) (codes "self")) _ e))
+            ∙ both _ _ (first_true _ _ e) (type_is_there (is_borrow_of n) (is_borrow_of (f.types n)) (borrow_there n) p.ty (first_true _ _ d)
+            (second_true (text_eq (text_of p.name) (codes "self")) _ e))
 
     pub member_passes : (o : TypeOwner) → is_member r o g ≡ true → is_member s (owner_under f o) h ≡ true
     member_passes o old =
         ap (passes (λ n. option_map_or (λ name. is_member_of s n name h h.kind) (resource_name s (owner_under f o) n) false)) (ap resource_of c.kind ∙ resource_under f g.kind)
         ∙ passes_under f.types f.carries_type (λ n. option_map_or (λ name. is_member_of r n name g g.kind) (resource_name r o n) false)
-        (λ n. option_map_or (λ name. is_member_of s n name h h.kind) (resource_name s (owner_under f o) n) false) (λ n d. named n d (resource_name r o n) refl) (resource_of g.kind) resource_carried old
+        (λ n. option_map_or (λ name. is_member_of s n name h h.kind) (resource_name s (owner_under f o) n) false)
+        (λ n d. named n d (resource_name r o n) refl) (resource_of g.kind) resource_carried old
       where
         of : (n : ℕ) (name : Text) (k : FunctionKind) → is_member_of r n name g k ≡ true → is_member_of s (f.types n) name h (call_under f k) ≡ true
         of n name x e = search (std_rules, both, first_true, self_there, second_true, constructs_there)

@@ -104,7 +104,8 @@ module _ (r : Resolve) (valid : KeepsRules r) where
       search (std_rules, second_true (passes (in_list r.packages.items) (package_number w.«package»)) _ (world_numbers n w e), world_numbers n w e)
 
   -- what an interface and a type refer to is in range
-  pub interface_range : (n : ℕ) (i : Interface) → interface_at r n ≡ Some i → (list_all (in_list r.types.items) (interface_type_numbers i) ≡ true) × (list_all (function_in_range r) (values i.functions) ≡ true)
+  pub interface_range : (n : ℕ) (i : Interface) → interface_at r n ≡ Some i
+      → (list_all (in_list r.types.items) (interface_type_numbers i) ≡ true) × (list_all (function_in_range r) (values i.functions) ≡ true)
   unfolding numbers_in_range
   interface_range n i e =
       let old : (is_place n && (passes (in_list r.packages.items) (package_number i.«package»)

@@ -221,7 +221,8 @@ module _ (own other merged : Resolve) (bound other_bound : ℕ) (first second : 
   -- tests on the functions of worlds
   functions_pass : (rule : Rule) (p : Resolve → ℕ → Function → Bool) → ((r : Resolve) → KeepsRules r → Keeps rule r)
       → ((r : Resolve) (n : ℕ) (w : World) → rule.world_ r n w ≡ list_all (p r n) (functions_of_world w))
-      → ((c : Source merged) (n : ℕ) (g h : Function) → IsFunctionCopy c.under g h → p c.from n g ≡ true → p merged (c.under.worlds n) h ≡ true) → each_from (rule.world_ merged) 0 merged.worlds.items ≡ true
+      → ((c : Source merged) (n : ℕ) (g h : Function) → IsFunctionCopy c.under g h → p c.from n g ≡ true → p merged (c.under.worlds n) h ≡ true)
+      → each_from (rule.world_ merged) 0 merged.worlds.items ≡ true
   functions_pass rule p keeps is_rule one =
       let on = λ (r : Resolve) (n : ℕ). on_function (p r n) in
       let each : Steps on = λ c n a b z. entry_function c.from merged c.under c.valid c.carried below (p c.from n) (p merged (c.under.worlds n)) (one c n) a.1 b.1 z.1 in
@@ -271,7 +272,8 @@ module _ (own other merged : Resolve) (bound other_bound : ℕ) (first second : 
 
   pub handles_kept : Keeps handles merged
   unfolding handles
-  handles_kept = kept handles merged (free_passes merged 0 merged.packages.items) (each_interface (handles.interface_ merged) (λ c. interface_handles_pass c.from merged c.under c.valid c.carried below))
+  handles_kept = kept handles merged (free_passes merged 0 merged.packages.items)
+      (each_interface (handles.interface_ merged) (λ c. interface_handles_pass c.from merged c.under c.valid c.carried below))
       (functions_pass handles (λ r n g. list_all (λ t. not (is_resource_type r t)) (function_types g)) (λ r v. v.handles) (λ r n w. refl)
       (λ c n. function_handles_pass c.from merged c.under c.valid c.carried below))
       (each_type (handles.type_ merged) (λ c. handle_passes c.from merged c.under c.valid c.carried below))
@@ -289,8 +291,10 @@ module _ (own other merged : Resolve) (bound other_bound : ℕ) (first second : 
   function_names_kept =
       let p = λ (r : Resolve) (n : ℕ) (e : WorldKey × WorldItem). passes (λ g. is_name_key (text_of g.name) e.0 && is_member r (as_world n) g) (item_function e.1) in
       let steps : Steps p = λ c n. entry_member c.from merged c.under c.valid c.carried below n in
-      kept function_names merged (free_passes merged 0 merged.packages.items) (each_interface (function_names.interface_ merged) (λ c. interface_members_pass c.from merged c.under c.valid c.carried below))
-      (worlds_pass p p steps steps (λ r v n w e. sym (list_all-append (p r n) w.imports.entries w.exports.entries) ∙ world-passes function_names r v.function_names n w e) (function_names.world_ merged)
+      kept function_names merged (free_passes merged 0 merged.packages.items)
+      (each_interface (function_names.interface_ merged) (λ c. interface_members_pass c.from merged c.under c.valid c.carried below))
+      (worlds_pass p p steps steps (λ r v n w e. sym (list_all-append (p r n) w.imports.entries w.exports.entries) ∙ world-passes function_names r v.function_names n w e)
+      (function_names.world_ merged)
       (λ n w h. list_all-append (p merged n) w.imports.entries w.exports.entries ∙ h))
       (free_passes merged 0 merged.types.items)
 
@@ -405,8 +409,8 @@ module _ (own other merged : Resolve) (bound other_bound : ℕ) (first second : 
       back m c h =
           sym (ap (λ ns. has ns m) all_there
           ∙ (numbers_append item_type (items own_imports) (items is.joined.new_imports) m
-          ∙ (ap (λ b. has own_numbers m || b) (fresh_added second own_imports (length own.types.items) is.second_copies.new_types m (ltb-true m (length own.types.items) c) is.joined.old.imports.entries
-          is.joined.new_imports is.joined.joined_imports)
+          ∙ (ap (λ b. has own_numbers m || b) (fresh_added second own_imports (length own.types.items) is.second_copies.new_types m (ltb-true m (length own.types.items) c)
+          is.joined.old.imports.entries is.joined.new_imports is.joined.joined_imports)
           ∙ or_false (has own_numbers m))))
           ∙ h
 

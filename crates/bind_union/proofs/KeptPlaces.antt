@@ -292,8 +292,8 @@ module _ (own other merged : Resolve) (bound other_bound : ℕ) (first second : 
   abbrev oe : List (WorldKey × WorldItem)
   oe = is.own_bound.exports.entries
 
-  no_more : (f : Renumbering) → AreCopies own other merged f → (n : ℕ) (oi oe : List (WorldKey × WorldItem)) (j : IsJoined other merged f n oi oe) (t : ℕ) (v : Interface) → interface_at merged t ≡ Some v
-      → v.name ≡ None → ((a : ℕ) → f.copies_interface a ≡ true → f.interfaces a ≡ t → ⊥) → times_shown t j.image ≡ shown t oi + shown t oe
+  no_more : (f : Renumbering) → AreCopies own other merged f → (n : ℕ) (oi oe : List (WorldKey × WorldItem)) (j : IsJoined other merged f n oi oe) (t : ℕ) (v : Interface)
+      → interface_at merged t ≡ Some v → v.name ≡ None → ((a : ℕ) → f.copies_interface a ≡ true → f.interfaces a ≡ t → ⊥) → times_shown t j.image ≡ shown t oi + shown t oe
   no_more f copies n oi oe j t v e inline none_such =
       let whole = joined_times f n oi oe j t in
       let a = not_among f copies oi j.old.imports.entries j.new_imports j.joined_imports t v e inline none_such in
@@ -301,7 +301,8 @@ module _ (own other merged : Resolve) (bound other_bound : ℕ) (first second : 
       omega (arith, whole, a, b)
 
   copied_times : (f : Renumbering) → AreCopies own other merged f → (m : ℕ) → f.copies_interface m ≡ true → (n : ℕ) (oi oe : List (WorldKey × WorldItem)) (j : IsJoined other merged f n oi oe)
-      → has (filter_map item_interface (items oi)) (f.interfaces m) ≡ false → has (filter_map item_interface (items oe)) (f.interfaces m) ≡ false → times_shown (f.interfaces m) j.image ≡ times_shown m j.old
+      → has (filter_map item_interface (items oi)) (f.interfaces m) ≡ false → has (filter_map item_interface (items oe)) (f.interfaces m) ≡ false
+      → times_shown (f.interfaces m) j.image ≡ times_shown m j.old
   copied_times f copies m copy n oi oe j fresh_i fresh_e =
       let whole = joined_times f n oi oe j (f.interfaces m) in
       let a = same_copies f copies m copy oi fresh_i j.old.imports.entries j.new_imports j.joined_imports in
@@ -401,7 +402,8 @@ module _ (own other merged : Resolve) (bound other_bound : ℕ) (first second : 
   own_place n i e =
       interface_place merged n i
       ∙ place_kept own merged n n (optional_text i.name) (package_number i.«package») (package_number i.«package») (λ h. h)
-      (λ t x. by_package own (λ p. listed_by own n t p ≡ true → listed_by merged n t p ≡ true) (λ h. refl) (own_listed n t) (package_number i.«package») (interface_package own valid_own n i e)) (λ none. own_inline n i e (no_text i.name none))
+      (λ t x. by_package own (λ p. listed_by own n t p ≡ true → listed_by merged n t p ≡ true) (λ h. refl) (own_listed n t)
+      (package_number i.«package») (interface_package own valid_own n i e)) (λ none. own_inline n i e (no_text i.name none))
       (sym (interface_place own n i) ∙ interface-passes places own valid_own.places n i e)
 
   some_mapped : (g : ℕ → ℕ) (p : Option ℕ) → is_some p ≡ true → is_some (option_map g p) ≡ true

@@ -128,7 +128,8 @@ module _ (r : Resolve) (v : IsValid r) where
       let order : (list_all (is_named_of r (as_interface n)) (interface_type_numbers i) && are_in_order r (interface_type_numbers i)) ≡ true =
       interface-passes order_of_types r v.rules.order_of_types n i at in
       let ours : (is_some d.0.name && same_owner d.0.owner (as_interface n)) ≡ true =
-      sym (ap (passes (λ def. is_some def.name && same_owner def.owner (as_interface n))) d.1) ∙ passes_at (is_named_of r (as_interface n)) (interface_type_numbers i) t (first_true _ _ order) listed in
+      sym (ap (passes (λ def. is_some def.name && same_owner def.owner (as_interface n))) d.1)
+      ∙ passes_at (is_named_of r (as_interface n)) (interface_type_numbers i) t (first_true _ _ order) listed in
       let home = owner_equal d.0.owner (as_interface n) (second_true (is_some d.0.name) _ ours) in
       let s = some_of d.0.name (first_true _ _ ours) in
       let x = home_listed t d.0 d.1 s.0 s.1 n home i at in

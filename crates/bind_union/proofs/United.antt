@@ -82,12 +82,13 @@ module _ (own other merged : Resolve) (bound other_bound : ℕ) (first second : 
         let held = under_contains name (interface_names h.package_) n
         (some_id n (under_text name (interface_names h.package_)) (sym (ap (is_id n) (interfaces_by_name h.package_ name)) ∙ path-listed other valid_other n path h)) in
         let brings : first.copies_interface n ≡ true → Shows merged path meaning = λ copy. let m = copied n copy in (first.interfaces n, m.1 ∙ e, m.0 ∙ d) in
+        let joined = joined_name first.interfaces first.copies_interface (λ n. false) in
         elim (is.packages_stand h.home.0 h.package_ h.stands) [
-          | brought high j fresh ↦ elim (joined_name first.interfaces first.copies_interface (λ n. false) [] (interface_names h.package_) j.new_interfaces j.joined_interfaces name n held refl) [
+          | brought high j fresh ↦ elim (joined [] (interface_names h.package_) j.new_interfaces j.joined_interfaces name n held refl) [
             | inl c ↦ none-in (name, first.interfaces n) c
             | inr c ↦ brings c
           ]
-          | grown o at j a b ↦ elim (joined_name first.interfaces first.copies_interface (λ n. false) (interface_names o) (interface_names h.package_) j.new_interfaces j.joined_interfaces name n held refl) [
+          | grown o at j a b ↦ elim (joined (interface_names o) (interface_names h.package_) j.new_interfaces j.joined_interfaces name n held refl) [
             | inr c ↦ brings c
             | inl c ↦
                 let i = found_option _ (interface_at own (first.interfaces n)) (all-contained (is_interface_of own (first.packages h.home.0)) (interface_names o) (name, first.interfaces n)

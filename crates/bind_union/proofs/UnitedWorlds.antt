@@ -137,7 +137,8 @@ module _ (own other merged : Resolve) (bound other_bound : ℕ) (first second : 
             )
 
     from_own : ShowsWorld own path meaning → ShowsWorld merged path meaning
-    from_own x = by_number x.number bound (λ same. absurd (not_bound (ap (path_of_world own) (same-some is.own_bound x.world (sym is.bound_at ∙ (ap (world_at own) (sym same) ∙ x.found))) ∙ x.path_is)))
+    from_own x = by_number x.number bound (λ same. absurd (not_bound (ap (path_of_world own) (same-some is.own_bound x.world
+        (sym is.bound_at ∙ (ap (world_at own) (sym same) ∙ x.found))) ∙ x.path_is)))
         (λ apart. record {
           number = x.number;
           world = x.world;

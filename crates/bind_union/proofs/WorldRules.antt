@@ -97,7 +97,8 @@ module _ (r s : Resolve) (f : Renumbering) (valid : KeepsRules r) (is : IsCarrie
         → each_after (in_order s there) (filter_map item_type (items own)) (filter_map item_type (items news)) ≡ true
     types_in_order own olds news j h =
         sym (after_given (in_order s there) item_type (items own) (items news))
-        ∙ (walk f own (λ ys x. passes (in_order r here (filter_map item_type ys)) (item_type x)) (λ ys x. passes (in_order s there (filter_map item_type ys)) (item_type x)) item_in_order [] (items own)
+        ∙ (walk f own (λ ys x. passes (in_order r here (filter_map item_type ys)) (item_type x)) (λ ys x. passes (in_order s there (filter_map item_type ys)) (item_type x))
+        item_in_order [] (items own)
         olds news j (λ h. number_in h own) (λ h m e. no_true e) (after_given (in_order r here) item_type [] (items olds) ∙ h)).0
 
 module _ (r s : Resolve) (f : Renumbering) (valid : KeepsRules r) (is : IsCarried r s f) (below_s : Keeps references s) (n : ℕ) (own_imports own_exports : List (WorldKey × WorldItem)) (j : IsJoined r s f n own_imports own_exports) where
