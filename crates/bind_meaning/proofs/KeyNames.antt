@@ -1,5 +1,5 @@
 -- Texts without a byte, and the names of functions, which lack those that paths and keys are cut by.
-use Rattle.std.proofs.Common.{rules as std_rules, ◌≡◌, refl, sym, ap, subst, ◌∙◌, arith, ℕ, ◌+◌, Bool, true, false, ◌&&◌, ◌||◌, ◌==◌, not, cond, [], ◌∷◌, ◌++◌, codes, drop, Option, Some, None, String, eq-eqb}
+use Rattle.std.proofs.Common.{rules as std_rules, ◌≡◌, refl, sym, ap, subst, ◌∙◌, ℕ, ◌+◌, Bool, true, false, ◌&&◌, ◌||◌, ◌==◌, not, cond, [], ◌∷◌, ◌++◌, codes, drop, Option, Some, None, String, eq-eqb}
 use Rattle.std.proofs.lemmas.{Bool.and_from, Bool.not-true, List.Folds.list_all-append, Option.some_pair_parts}
 use Rattle.std.specs.{List.list_all, List.Contains, Option.option_map_or}
 use Rattle.std.specs.declared.alloc.Global.{Global}
@@ -102,9 +102,7 @@ module _ (c : ℕ) (apart : IsApart c) where
   module _ (r : Resolve) (v : IsValid r) where
     type-label : (n : ℕ) (def : TypeDef) → type_at r n ≡ Some def → passes (λ name. is_label (text_of name)) def.name ≡ true
     unfolding labels
-    type-label n def at =
-        let here : 0 + n ≡ n = omega arith in
-        first_true (passes (λ name. is_label (text_of name)) def.name) _ (each_from_at (labels.type_ r) 0 r.types.items n def (lists_pass labels r v.rules.labels).3 at)
+    type-label n def at = search (std_rules, first_true, each_from_at, lists_pass)
 
     resource-label : (o : TypeOwner) (n : ℕ) (name : Text) → resource_name r o n ≡ Some name → is_label name ≡ true
     resource-label o n name h =
@@ -159,7 +157,4 @@ module _ (c : ℕ) (apart : IsApart c) where
             → Lacks c (text_of name)
         go (item.Interface id stability docs external_id) label h = apart.of_labels (text_of name) label
         go (item.Type_ id) label h = apart.of_labels (text_of name) label
-        go (item.Function f) label h =
-            let same = text-same (text_of name) (text_of f.name) (first_true (is_name_key (text_of f.name) (key.Name name)) _ h) in
-            subst (Lacks c) (sym same) (function_lacks (as_world n) f (ap (λ t. not (is_freestanding f.kind) || is_label t) (sym same) ∙ label)
-            (second_true (is_name_key (text_of f.name) (key.Name name)) _ h))
+        go (item.Function f) label h = search (std_rules, text-same, first_true, function_lacks, second_true)

@@ -4,13 +4,12 @@ use Rattle.std.proofs.lemmas.{Bool.false_from_ne_true, Bool.lt-ltb, List.Element
 use Rattle.std.specs.{Prelude.is_some, Prelude.option_to_list, Map.keys_of, Option.option_map_or, Cmp.Lexicographic.nat_list_cmp_total}
 use Rattle.std.specs.{List.AllByRecursion, List.IsDistinct, List.list_all, List.list_any, FinMap.find, FinMap.from_entries, FinMap.get, FinMap.get-from_entries}
 use Rattle.std.specs.declared.alloc.Global.{Global}
-use Rattle.wit_model.specs.declared.model.{Interface.Interface, Package.Package, PackageId.PackageId, Resolve.Resolve, WorldItem.WorldItem, WorldKey.WorldKey}
+use Rattle.wit_model.specs.declared.model.{Package.Package, PackageId.PackageId, Resolve.Resolve, WorldItem.WorldItem, WorldKey.WorldKey}
 use Rattle.wit_model.specs.declared.model.World.{World}
 use Rattle.wit_model.specs.{Text.Text, Text.text_cmp, Text.text_eq, Text.text_of, Names.path_in, Meaning.Entry, Meaning.InterfaceMeaning, Meaning.WorldMeaning}
 use Rattle.wit_model.specs.Lookup.{identity_of, interface_at, interface_path, key_text, path_in_package, path_of_interface, path_of_world, world_at}
 use Rattle.wit_model.specs.Meant.{entries_meaning, entry_meaning, interface_meaning, interface_meaning_at, no_world, world_meaning, world_meaning_at}
-use Rattle.wit_model.specs.Rules.{are_distinct, entries_in_range, export_stands, import_stands, in_list, is_id, is_interface_key, item_in_range, key_in_range, package_number, passes}
-use Rattle.wit_model.specs.Uses.{item_interface}
+use Rattle.wit_model.specs.Rules.{are_distinct, entries_in_range, export_stands, import_stands, in_list, is_interface_key, item_in_range, key_in_range, package_number, passes}
 use Rattle.wit_model.specs.Valid.{IsValid, is_place, key_eq, numbers_in_range, places, world_items}
 use Rattle.wit_model.proofs.{Elements.contains-filter_map, Elements.contains-get, OnePath.found-in, OnePath.has-path, OnePath.named-path, OnePath.path-once}
 use Rattle.wit_model.proofs.Maps.{there_some as contains-find}
@@ -147,10 +146,7 @@ module _ (r : Resolve) (v : IsValid r) where
     stand = world-passes world_items r v.rules.world_items n w at
 
     interface-key : (k : ℕ) (shown : WorldItem) → is_interface_key r k shown ≡ true → in_list r.interfaces.items k ≡ true → is_some (interface_path r k) ≡ true
-    interface-key k shown h inside =
-        let found = found-in r.interfaces.items k inside in
-        named-path r v k (ap (λ (o : Option Interface). option_map_or (λ other. is_some other.name) o false) found.1
-        ∙ (ap (passes (λ (other : Interface). is_some other.name)) (sym found.1) ∙ second_true (is_id k (item_interface shown)) _ h))
+    interface-key k shown h inside = search (std_rules, found-in, named-path, second_true)
 
     side-key : (es : List (WorldKey × WorldItem)) (test : WorldKey × WorldItem → Bool) → ((k : ℕ) (shown : WorldItem) → test (key.Interface (record { 0 = k }), shown) ≡ true → is_interface_key r k shown ≡ true)
         → ((e : WorldKey × WorldItem) → Contains es e → Contains (w.imports.entries ++ w.exports.entries) e) → list_all test es ≡ true → entries_in_range r es ≡ true
