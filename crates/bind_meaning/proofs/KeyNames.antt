@@ -3,18 +3,13 @@ use Rattle.std.proofs.Common.{rules as std_rules, ◌≡◌, refl, sym, ap, subs
 use Rattle.std.proofs.lemmas.{Bool.and_from, Bool.not-true, List.Folds.list_all-append, Option.some_pair_parts}
 use Rattle.std.specs.{List.list_all, List.Contains, Option.option_map_or}
 use Rattle.std.specs.declared.alloc.Global.{Global}
-use Rattle.wit_model.specs.declared.model.{Resolve.Resolve, TypeDef.TypeDef, World.World}
-use Rattle.wit_model.specs.declared.model.{Interface.Interface, Function.Function, FunctionKind.FunctionKind, «TypeOwner».TypeOwner, WorldItem.WorldItem}
-use Rattle.wit_model.specs.{Text.Text, Text.optional_text, Text.text_eq, Text.text_of, Lookup.interface_at, Lookup.resource_of, Lookup.type_at, Lookup.world_at}
-use Rattle.wit_model.specs.{Names.constructor_name, Names.cut, Names.is_label, Names.method_name, Parts.same_owner}
-use Rattle.wit_model.specs.Rules.{after_prefix, entries_labels, function_labels, is_freestanding, is_member, is_member_name, is_member_of, is_name_key, is_resource_itself, is_stability, item_labels, key_label, passes, resource_name}
+use Rattle.wit_model.specs.declared.model.{Resolve.Resolve, TypeDef.TypeDef, World.World, Interface.Interface, Function.Function, FunctionKind.FunctionKind, «TypeOwner».TypeOwner, WorldItem.WorldItem}
+use Rattle.wit_model.specs.{Text.Text, Text.optional_text, Text.text_eq, Text.text_of, Lookup.interface_at, Lookup.resource_of, Lookup.type_at, Lookup.world_at, Names.constructor_name, Names.cut, Names.is_label, Parts.same_owner}
+use Rattle.wit_model.specs.Rules.{after_prefix, function_labels, is_freestanding, is_member, is_member_name, is_member_of, is_name_key, is_resource_itself, is_stability, item_labels, key_label, passes, resource_name}
 use Rattle.wit_model.specs.Valid.{IsValid, as_interface, as_world, function_names, functions_of_interface, item_function, labels}
-use Rattle.wit_model.proofs.{Entries.each_from_at, Entries.lists_pass, Prefixes.after_sound as after-front, ValidLemmas.world_passes as world-passes}
-use Rattle.wit_model.proofs.{NameLaws.label_lacks, OnePath.interface-passes, TextLemmas.text_same as text-same}
+use Rattle.wit_model.proofs.{Entries.each_from_at, Entries.lists_pass, Prefixes.after_sound as after-front, ValidLemmas.world_passes as world-passes, NameLaws.label_lacks, OnePath.interface-passes, TextLemmas.text_same as text-same}
 use Rattle.bind_meaning.proofs.Listed.{by_option, given, tested}
 use Rattle.base_lemmas.proofs.{Bools.left_of as first_true, Bools.right_of as second_true, Elements.all-contained, Elements.contains-map}
-use Rattle.wit_model.specs.declared.model.FunctionKind.TheVariants as call
-use Rattle.wit_model.specs.declared.model.WorldItem.TheVariants as item
 use Rattle.wit_model.specs.declared.model.WorldKey.TheVariants as key
 
 -- ---- texts
@@ -87,17 +82,13 @@ module _ (c : ℕ) (apart : IsApart c) where
       subst (Lacks c) (sym (after-front front (text_of f.name) rest.0 rest.1))
       (lacks-both c front rest.0 (lacks-both c mark (name ++ (46 ∷ [])) plain (lacks-both c name (46 ∷ []) (apart.of_labels name label) apart.of_dots)) (apart.of_labels rest.0 rest.2))
 
+  constructor_lacks : (name : Text) (f : Function) → is_label name ≡ true → text_eq (text_of f.name) (constructor_name name) ≡ true → Lacks c (text_of f.name)
+  constructor_lacks name f label h = subst (Lacks c) (sym (text-same (text_of f.name) (constructor_name name) h)) (lacks-both c (codes "[constructor]") name apart.of_constructors (apart.of_labels name label))
+
   member_lacks : (r : Resolve) (n : ℕ) (name : Text) (f : Function) (k : FunctionKind) → is_label name ≡ true → (not (is_freestanding k) || is_label (text_of f.name)) ≡ true
       → is_member_of r n name f k ≡ true → Lacks c (text_of f.name)
-  member_lacks r n name f call.Freestanding label own h = apart.of_labels (text_of f.name) own
-  member_lacks r n name f call.AsyncFreestanding label own h = apart.of_labels (text_of f.name) own
-  member_lacks r n name f (call.Method id) label own h = marked_lacks (codes "[method]") name f apart.of_methods label (first_true (is_member_name (method_name name []) f) _ h)
-  member_lacks r n name f (call.AsyncMethod id) label own h = marked_lacks (codes "[method]") name f apart.of_methods label (first_true (is_member_name (method_name name []) f) _ h)
-  member_lacks r n name f (call.Static id) label own h = marked_lacks (codes "[static]") name f apart.of_statics label h
-  member_lacks r n name f (call.AsyncStatic id) label own h = marked_lacks (codes "[static]") name f apart.of_statics label h
-  member_lacks r n name f (call.Constructor id) label own h =
-      let same = text-same (text_of f.name) (constructor_name name) (first_true (text_eq (text_of f.name) (constructor_name name)) _ h) in
-      subst (Lacks c) (sym same) (lacks-both c (codes "[constructor]") name apart.of_constructors (apart.of_labels name label))
+  member_lacks r n name f x label own h =
+      search (std_rules, apart.of_labels, marked_lacks (codes "[method]") name f apart.of_methods, marked_lacks (codes "[static]") name f apart.of_statics, constructor_lacks, first_true)
 
   module _ (r : Resolve) (v : IsValid r) where
     type-label : (n : ℕ) (def : TypeDef) → type_at r n ≡ Some def → passes (λ name. is_label (text_of name)) def.name ≡ true
@@ -127,9 +118,7 @@ module _ (c : ℕ) (apart : IsApart c) where
     unfolding labels function_names
     listed_lacks n owner at name f stands =
         let passed = interface-passes labels r v.rules.labels n owner at in
-        let rest = second_true (passes (λ name. is_label (text_of name)) owner.name) _ passed in
-        let both = second_true (is_stability owner.stability) _ rest in
-        let all = first_true (list_all function_labels (functions_of_interface owner)) _ both in
+        let all : list_all function_labels (functions_of_interface owner) ≡ true = search (std_rules, first_true, second_true, passed) in
         let labelled = all-contained function_labels (functions_of_interface owner) f all (contains-map (λ (e : String Global × Function). e.1) owner.functions.entries (name, f) stands) in
         let own = first_true (not (is_freestanding f.kind) || is_label (text_of f.name)) _ labelled in
         let tested = all-contained (λ e. text_eq (text_of e.0) (text_of e.1.name) && is_member r (as_interface n) e.1) owner.functions.entries (name, f)
@@ -142,11 +131,8 @@ module _ (c : ℕ) (apart : IsApart c) where
     unfolding labels function_names
     key_lacks n w at name shown stands =
         let passed = world-passes labels r v.rules.labels n w at in
-        let rest = second_true (is_label (text_of w.name)) _ passed in
-        let both = second_true (is_stability w.stability) _ rest in
-        let imported = first_true (entries_labels w.imports.entries) _ both in
-        let exported = second_true (entries_labels w.imports.entries) _ both in
-        let all = list_all-append (λ e. key_label e.0 e.1 && item_labels e.1) w.imports.entries w.exports.entries ∙ and_from _ _ imported exported in
+        let both = second_true (is_stability w.stability) _ (second_true (is_label (text_of w.name)) _ passed) in
+        let all = list_all-append (λ e. key_label e.0 e.1 && item_labels e.1) w.imports.entries w.exports.entries ∙ both in
         let here = all-contained (λ e. key_label e.0 e.1 && item_labels e.1) (w.imports.entries ++ w.exports.entries) (key.Name name, shown) all stands in
         let tested = all-contained (λ e. passes (λ f. is_name_key (text_of f.name) e.0 && is_member r (as_world n) f) (item_function e.1)) (w.imports.entries ++ w.exports.entries)
         (key.Name name, shown)
@@ -155,6 +141,4 @@ module _ (c : ℕ) (apart : IsApart c) where
       where
         go : (shown : WorldItem) → key_label (key.Name name) shown ≡ true → passes (λ f. is_name_key (text_of f.name) (key.Name name) && is_member r (as_world n) f) (item_function shown) ≡ true
             → Lacks c (text_of name)
-        go (item.Interface id stability docs external_id) label h = apart.of_labels (text_of name) label
-        go (item.Type_ id) label h = apart.of_labels (text_of name) label
-        go (item.Function f) label h = search (std_rules, text-same, first_true, function_lacks, second_true)
+        go x label h = search (std_rules, apart.of_labels, text-same, first_true, function_lacks, second_true)

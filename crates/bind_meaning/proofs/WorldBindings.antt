@@ -1,8 +1,7 @@
 -- A world of a valid `Resolve`, bound, is a binding.
 use Rattle.std.proofs.Common.{Bool, ◌++◌, arith, rules as std_rules, slice_get, filter_map, ◌≡◌, refl, sym, ap, subst, ◌∙◌, ℕ, true, false, not, ◌&&◌, ◌||◌, List, [], ◌∷◌, map, length, Option, Some, option_map, option_and_then, unwrap_or, String, Contains}
 use Rattle.std.proofs.lemmas.{Bool.false_from_ne_true, Bool.lt-ltb, List.Elements.Contains-append_left, List.Elements.Contains-append_right}
-use Rattle.std.specs.{Prelude.is_some, Prelude.option_to_list, Map.keys_of, Option.option_map_or, Cmp.Lexicographic.nat_list_cmp_total}
-use Rattle.std.specs.{List.AllByRecursion, List.IsDistinct, List.list_all, List.list_any, FinMap.find, FinMap.from_entries, FinMap.get, FinMap.get-from_entries}
+use Rattle.std.specs.{Prelude.is_some, Prelude.option_to_list, Map.keys_of, Option.option_map_or, Cmp.Lexicographic.nat_list_cmp_total, List.AllByRecursion, List.IsDistinct, List.list_all, List.list_any, FinMap.find, FinMap.from_entries, FinMap.get, FinMap.get-from_entries}
 use Rattle.std.specs.declared.alloc.Global.{Global}
 use Rattle.wit_model.specs.declared.model.{Package.Package, PackageId.PackageId, Resolve.Resolve, WorldItem.WorldItem, WorldKey.WorldKey}
 use Rattle.wit_model.specs.declared.model.World.{World}
@@ -11,13 +10,11 @@ use Rattle.wit_model.specs.Lookup.{identity_of, interface_at, interface_path, ke
 use Rattle.wit_model.specs.Meant.{entries_meaning, entry_meaning, interface_meaning, interface_meaning_at, no_world, world_meaning, world_meaning_at}
 use Rattle.wit_model.specs.Rules.{are_distinct, entries_in_range, export_stands, import_stands, in_list, is_interface_key, item_in_range, key_in_range, package_number, passes}
 use Rattle.wit_model.specs.Valid.{IsValid, is_place, key_eq, numbers_in_range, places, world_items}
-use Rattle.wit_model.proofs.{Elements.contains-filter_map, Elements.contains-get, OnePath.found-in, OnePath.has-path, OnePath.named-path, OnePath.path-once}
+use Rattle.wit_model.proofs.{Elements.contains-filter_map, Elements.contains-get, OnePath.found-in, OnePath.has-path, OnePath.named-path, OnePath.path-once, AnyOrder.found-there as find-contains, TextLemmas.text_same as text-same, ValidLemmas.world_passes as world-passes}
 use Rattle.wit_model.proofs.Maps.{there_some as contains-find}
-use Rattle.wit_model.proofs.{AnyOrder.found-there as find-contains, TextLemmas.text_same as text-same, ValidLemmas.world_passes as world-passes}
 use Rattle.bind_meaning.specs.{Binding.Stand, ByNumbers.WorldsAreBindings, ByNumbers.interfaces_by_path, ByNumbers.worlds_by_path}
 use Rattle.bind_meaning.proofs.{KeyNames.Lacks, KeyNames.colon, KeyNames.goes-on, KeyNames.key_lacks, Listed.from-given, Listed.given, Listed.mapped}
-use Rattle.bind_meaning.proofs.Searches.{stands-first, stands-second}
-use Rattle.bind_meaning.proofs.WorldPaths.{path-apart, path_at, world-once}
+use Rattle.bind_meaning.proofs.{Searches.stands-first, Searches.stands-second, WorldPaths.path-apart, WorldPaths.path_at, WorldPaths.world-once}
 use Rattle.base_lemmas.proofs.{Bools.left_of as first_true, Bools.right_of as second_true, Numbers.same-number, Options.there as some-of}
 use Rattle.base_lemmas.proofs.Elements.{all-contained, contains-later, contains-one, first-contained, get-contains}
 use Rattle.wit_model.specs.declared.model.WorldKey.TheVariants as key

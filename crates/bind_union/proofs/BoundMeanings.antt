@@ -3,15 +3,13 @@ use Rattle.std.proofs.Common.{◌≡◌, refl, sym, ap, subst, ◌∙◌, ℕ, a
 use Rattle.std.proofs.lemmas.{List.map-append, Simd.map-map, List.Elements.Contains-append_right as behind}
 use Rattle.std.specs.{List.Contains, List.AllByRecursion, List.IsDistinct, FinMap.find}
 use Rattle.wit_model.specs.declared.model.{Resolve.Resolve, Interface.Interface, WorldKey.WorldKey, WorldItem.WorldItem}
-use Rattle.wit_model.specs.{Text.Text, Text.text_eq, Text.text_cmp, Meaning.Entry, Meaning.InterfaceMeaning, Valid.Keeps, Valid.KeepsRules, Checks.references}
-use Rattle.wit_model.specs.{Lookup.interface_at, Lookup.interface_path, Lookup.key_text, Meant.entry_meaning, Meant.entries_meaning}
+use Rattle.wit_model.specs.{Text.Text, Text.text_eq, Text.text_cmp, Meaning.Entry, Meaning.InterfaceMeaning, Valid.Keeps, Valid.KeepsRules, Checks.references, Lookup.interface_at, Lookup.interface_path, Lookup.key_text, Meant.entry_meaning, Meant.entries_meaning}
 use Rattle.wit_model.specs.Rules.{entries_in_range}
 use Rattle.wit_model.proofs.{Distinct.text_eq_flip, Maps.there_some}
 use Rattle.bind_meaning.specs.Union.{followed_by}
 use Rattle.bind_union.specs.Carried.{Renumbering, IsCarried}
 use Rattle.bind_union.specs.{Joined.Joined, Joined.none, Joined.met, Joined.added, Meanings.HaveDistinctTexts, Meanings.BoundMeans}
-use Rattle.bind_union.proofs.{Namesakes.entry_under, Namesakes.find_is, Meanings.has_path, Meanings.key_means, Meanings.item_means, Meanings.entries_mean}
-use Rattle.bind_union.proofs.{Itself.itself, Itself.carried_itself, Itself.joined_itself, Itself.world_range, Kept.below}
+use Rattle.bind_union.proofs.{Namesakes.entry_under, Namesakes.find_is, Meanings.has_path, Meanings.key_means, Meanings.item_means, Meanings.entries_mean, Itself.itself, Itself.carried_itself, Itself.joined_itself, Itself.world_range, Kept.below}
 use Rattle.base_lemmas.proofs.Elements.{all_at, contains-later, contains-map}
 
 abbrev texts : Resolve → List (WorldKey × WorldItem) → List Text

@@ -3,14 +3,10 @@ use Rattle.std.proofs.Common.{rules as std_rules, ◌≡◌, ◌⊎◌, refl, sy
 use Rattle.std.proofs.lemmas.{Bool.or_right, Bool.and_from as both, List.Folds.list_all-append, List.map-append}
 use Rattle.std.specs.{Prelude.String, List.list_all, List.flat_map, Option.option_map_or}
 use Rattle.std.specs.declared.alloc.Global.{Global}
-use Rattle.wit_model.specs.declared.model.{Resolve.Resolve, Package.Package, TypeDef.TypeDef}
-use Rattle.wit_model.specs.declared.model.{PackageName.PackageName, Interface.Interface, TypeOwner.TypeOwner, «Type».«Type» as ValueType}
-use Rattle.wit_model.specs.{Text.Text, Text.optional_text, Names.path_in, Checks.references}
+use Rattle.wit_model.specs.declared.model.{Resolve.Resolve, Package.Package, TypeDef.TypeDef, PackageName.PackageName, Interface.Interface, TypeOwner.TypeOwner, «Type».«Type» as ValueType}
+use Rattle.wit_model.specs.{Text.Text, Text.optional_text, Names.path_in, Checks.references, Types.number_of, Types.number_tree, Types.type_tree, Valid.is_place, Valid.Keeps, Valid.KeepsRules, Valid.numbers_in_range, Parts.kind_numbers, Parts.met_by, Parts.met_of, Parts.used_by_type, Uses.has, Rules.passes, Rules.in_list, Rules.package_number}
 use Rattle.wit_model.specs.Lookup.{package_at, interface_at, identity_of, path_in_package, path_of_interface, interface_path, place_of}
-use Rattle.wit_model.specs.{Types.number_of, Types.number_tree, Types.type_tree, Valid.is_place, Valid.Keeps, Valid.KeepsRules, Valid.numbers_in_range}
-use Rattle.wit_model.specs.{Parts.kind_numbers, Parts.met_by, Parts.met_of, Parts.used_by_type, Uses.has, Rules.passes, Rules.in_list, Rules.package_number}
-use Rattle.wit_model.proofs.{Entries.each_from_all, Entries.lists_pass, Entries.types_keep, TreeTable.kept_numbers, Elements.has-contains, RulesLemmas.each_at}
-use Rattle.wit_model.proofs.{Checks.below_at, Owners.met_step, OnePath.found-in}
+use Rattle.wit_model.proofs.{Entries.each_from_all, Entries.lists_pass, Entries.types_keep, TreeTable.kept_numbers, Elements.has-contains, RulesLemmas.each_at, Checks.below_at, Owners.met_step, OnePath.found-in}
 use Rattle.bind_union.specs.{Views.renamed_type, Images.HasImageKind, Images.AreCarried, Images.RefersBelow}
 use Rattle.bind_union.specs.Carried.{Renumbering, owner_under, carries_owner, IsSameName, IsNamesake, IsType, IsInterface, IsCarried}
 use Rattle.bind_union.proofs.{Lists.by_less, Images.same_trees, Images.numbers_of_view, ViewTests.numbers_same}

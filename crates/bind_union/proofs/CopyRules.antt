@@ -1,21 +1,16 @@
 -- What the rules ask of a type, of a function and of an entry of a world holds of its copy.
 use Rattle.std.proofs.Common.{arith, rules as std_rules, ◌≡◌, refl, sym, ap, ◌∙◌, ℕ, Bool, true, false, ◌&&◌, ◌||◌, not, nat_lt, nat_le, List, map, Option, Some, None, option_map, option_to_list, is_some, filter_map, [], ◌∷◌, ◌++◌, is_none, slice_get}
-use Rattle.std.proofs.lemmas.{Bool.lt-ltb, Bool.and_from as both, List.Folds.list_all-map, List.Folds.list_all-append}
-use Rattle.std.proofs.lemmas.{Option.slice_get_within, Simd.map-map, List.map-append}
+use Rattle.std.proofs.lemmas.{Bool.lt-ltb, Bool.and_from as both, List.Folds.list_all-map, List.Folds.list_all-append, Option.slice_get_within, Simd.map-map, List.map-append}
 use Rattle.std.specs.{Prelude.String, Prelude.◌^◌, Prelude.codes, List.list_all, List.flat_map, Option.option_map_or}
 use Rattle.std.specs.declared.alloc.Global.{Global}
 use Rattle.semver.specs.declared.Version.{Version}
 use Rattle.semver.specs.{Identifiers.parts_of, Grammar.is_pre_release, Grammar.is_build}
-use Rattle.wit_model.specs.declared.model.{Resolve.Resolve, TypeOwner.TypeOwner, «Type».«Type» as ValueType, TypeDefKind.TypeDefKind, FunctionKind.FunctionKind}
-use Rattle.wit_model.specs.declared.model.{Stability.Stability, TypeDef.TypeDef, Function.Function, Param.Param, WorldKey.WorldKey, WorldItem.WorldItem}
-use Rattle.wit_model.specs.{Text.text_of, Text.optional_text, Text.Text, Text.text_eq, Uses.alias_target, Uses.owner_interface}
-use Rattle.wit_model.specs.{Names.is_label, Names.is_version, Types.number_of, Checks.references}
-use Rattle.wit_model.specs.{Lookup.type_at, Lookup.interface_at, Lookup.resource_of, Tree.levels}
+use Rattle.wit_model.specs.declared.model.{Resolve.Resolve, TypeOwner.TypeOwner, «Type».«Type» as ValueType, TypeDefKind.TypeDefKind, FunctionKind.FunctionKind, Stability.Stability, TypeDef.TypeDef, Function.Function, Param.Param, WorldKey.WorldKey, WorldItem.WorldItem}
+use Rattle.wit_model.specs.{Text.text_of, Text.optional_text, Text.Text, Text.text_eq, Uses.alias_target, Uses.owner_interface, Names.is_label, Names.is_version, Types.number_of, Checks.references, Lookup.type_at, Lookup.interface_at, Lookup.resource_of, Tree.levels}
 use Rattle.wit_model.specs.Parts.{kind_numbers, member_types, handled, met_by, met_of, is_resource, is_resource_type, same_owner, has_owner, used_by_type, function_types, function_numbers, used_by_values, used_by_function}
 use Rattle.wit_model.specs.Rules.{passes, is_stability, are_member_labels, is_named_kind, is_named_number, is_shallow, is_use, in_list, is_freestanding, function_labels, function_stays, function_in_range, resource_name, is_own_of, is_borrow_of, type_is, is_result_of_own, constructs, takes_self, is_member_of, is_member, text_is, key_in_range, item_in_range, key_label, item_labels, is_name_key, is_interface_key, is_own_type, import_stands, export_stands}
 use Rattle.wit_model.specs.Valid.{Keeps, KeepsRules, labels, owners, shapes, named_kinds, handles, depths, as_world, item_function}
-use Rattle.wit_model.proofs.{Lists.list_all_filter_map, TextLemmas.some_alike as named_alike, PartsLemmas.owner_itself, PartsLemmas.owner_same as owner_equal}
-use Rattle.wit_model.proofs.{ValidLemmas.type_passes}
+use Rattle.wit_model.proofs.{Lists.list_all_filter_map, TextLemmas.some_alike as named_alike, PartsLemmas.owner_itself, PartsLemmas.owner_same as owner_equal, ValidLemmas.type_passes}
 use Rattle.bind_union.specs.{Views.renamed_type, Views.kind_view, Images.HasImageKind, Joined.Joined, Joined.none, Joined.met, Joined.added}
 use Rattle.bind_union.specs.Carried.{Renumbering, StabilityView, unknown, stable, unstable, stability_view, owner_under, carries_owner, copies_owner, IsType, IsTypeCopy, IsCarried, call_under, IsFunctionCopy, KeyBecomes, ItemBecomes, EntryBecomes}
 use Rattle.bind_union.proofs.{Lists.no_true, Carrying.kind_carried, Carrying.type_tree_same, Carrying.used_same}

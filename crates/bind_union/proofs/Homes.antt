@@ -5,10 +5,9 @@ use Rattle.wit_model.specs.declared.model.{Resolve.Resolve, TypeDef.TypeDef, Typ
 use Rattle.wit_model.specs.{Types.number_of, Uses.alias_target, Rules.passes, Rules.is_resource_itself, Valid.Keeps, Valid.KeepsRules, Checks.references}
 use Rattle.wit_model.specs.Parts.{kind_numbers, member_types, handled, is_resource, is_resource_type, is_resource_kind, same_owner, has_owner}
 use Rattle.wit_model.proofs.{Checks.below_at, Resources.resource_step, PartsLemmas.owner_itself, PartsLemmas.owner_same as owner_equal}
-use Rattle.bind_union.specs.{Views.renamed_type}
+use Rattle.bind_union.specs.Views.{renamed_type}
 use Rattle.bind_union.specs.Carried.{Renumbering, Rises, owner_under, carries_owner, IsType, IsCarried}
-use Rattle.bind_union.proofs.Lists.{by_less, no_true}
-use Rattle.bind_union.proofs.{ViewTests.number_under, Carrying.references_of}
+use Rattle.bind_union.{proofs.Lists.by_less, proofs.Lists.no_true, proofs.ViewTests.number_under, proofs.Carrying.references_of}
 use Rattle.base_lemmas.proofs.{Bools.left_of as first_true, Bools.right_of as second_true, Numbers.equal, Numbers.same-number}
 use Rattle.wit_model.specs.declared.model.TypeOwner.TheVariants as owner
 

@@ -1,18 +1,14 @@
 -- What an interface uses, and what the rules ask of it, holds of its copy, with its numbers in order.
 use Rattle.std.proofs.Common.{arith, rules as std_rules, ◌≡◌, refl, sym, ap, subst, ◌∙◌, ℕ, Bool, true, false, not, ◌==◌, List, [], map, Option, Some, option_map, option_to_list, ◌+◌, ◌||◌, cond, ◌∷◌, ◌++◌, inl, ◌&&◌, nat_lt, ltb-true}
-use Rattle.std.proofs.lemmas.{Bool.and_from as both, Bool.lt-ltb, List.Sums.sum_by-cons, List.Folds.list_all-map}
-use Rattle.std.proofs.lemmas.Simd.{map-map}
+use Rattle.std.proofs.{lemmas.Bool.and_from as both, lemmas.Bool.lt-ltb, lemmas.List.Sums.sum_by-cons, lemmas.List.Folds.list_all-map, lemmas.Simd.map-map}
 use Rattle.std.specs.{List.list_all, List.Contains, List.AllZip, List.list_any, Option.option_map_or, Prelude.count_by, Prelude.String}
 use Rattle.indexmap.specs.IndexMap.{values, keys}
 use Rattle.wit_model.specs.declared.model.{Resolve.Resolve, Interface.Interface, TypeId.TypeId, TypeOwner.TypeOwner, Function.Function}
-use Rattle.wit_model.specs.{Lookup.interface_at, Checks.references}
+use Rattle.wit_model.specs.{Lookup.interface_at, Checks.references, Text.Text, Text.text_of, Text.text_eq, Parts.function_types, Parts.is_resource_type, Parts.used_by_type}
 use Rattle.wit_model.specs.Uses.{has, once, owner_interface, interface_used_by, interfaces_used_by, direct_deps}
 use Rattle.wit_model.specs.Rules.{passes, interface_type_numbers, each_after, function_labels, is_named_of, used_by_number, are_in_order, function_stays, is_shallow, is_member}
 use Rattle.wit_model.specs.Valid.{Keeps, KeepsRules, as_interface, functions_of_interface, labels, order_of_types, owners, handles, depths, function_names}
-use Rattle.wit_model.specs.{Text.Text, Text.text_of, Text.text_eq, Parts.function_types, Parts.is_resource_type, Parts.used_by_type}
-use Rattle.wit_model.proofs.{Elements.has-contains, Elements.contains-has, Elements.contains-filter_map, Chains.has_once, Chains.all_has as passes_at}
-use Rattle.wit_model.proofs.{UsesLemmas.has_filter, UsesLemmas.filter_has, UsesLemmas.all_from_has, TextLemmas.some_alike as named_alike}
-use Rattle.wit_model.proofs.{RulesLemmas.after_of_map, OnePath.interface-passes, PartsLemmas.owner_itself, PartsLemmas.owner_same as owner_equal}
+use Rattle.wit_model.proofs.{Elements.has-contains, Elements.contains-has, Elements.contains-filter_map, Chains.has_once, Chains.all_has as passes_at, UsesLemmas.has_filter, UsesLemmas.filter_has, UsesLemmas.all_from_has, TextLemmas.some_alike as named_alike, RulesLemmas.after_of_map, OnePath.interface-passes, PartsLemmas.owner_itself, PartsLemmas.owner_same as owner_equal}
 use Rattle.bind_meaning.proofs.Listed.{mapped, from-map}
 use Rattle.bind_union.specs.Carried.{Renumbering, owner_under, carries_owner, IsInterface, IsCarried, Rises, IsFunctionEntry, IsInterfaceCopy}
 use Rattle.bind_union.proofs.{Lists.no_true, Homes.apart}

@@ -4,8 +4,7 @@ use Rattle.std.proofs.lemmas.List.Folds.{list_all-map}
 use Rattle.std.specs.{Prelude.String, List.AllZip, List.list_all}
 use Rattle.std.specs.declared.alloc.Global.{Global}
 use Rattle.indexmap.specs.IndexMap.{values}
-use Rattle.wit_model.specs.declared.model.{Resolve.Resolve, Package.Package, Interface.Interface, TypeDef.TypeDef, World.World, TypeId.TypeId, WorldKey.WorldKey}
-use Rattle.wit_model.specs.declared.model.{TypeOwner.TypeOwner, Function.Function, FunctionKind.FunctionKind, WorldItem.WorldItem, «Type».«Type» as ValueType}
+use Rattle.wit_model.specs.declared.model.{Resolve.Resolve, Package.Package, Interface.Interface, TypeDef.TypeDef, World.World, TypeId.TypeId, WorldKey.WorldKey, TypeOwner.TypeOwner, Function.Function, FunctionKind.FunctionKind, WorldItem.WorldItem, «Type».«Type» as ValueType}
 use Rattle.wit_model.specs.{Lookup.package_at, Lookup.interface_at, Lookup.type_at, Lookup.world_at, Valid.KeepsRules, Valid.numbers_in_range, Valid.is_place}
 use Rattle.wit_model.specs.Parts.{kind_numbers}
 use Rattle.wit_model.specs.Rules.{passes, in_list, package_number, interface_type_numbers, function_in_range, owner_in_range, key_in_range, item_in_range, entries_in_range}
@@ -14,7 +13,7 @@ use Rattle.wit_model.proofs.Chains.{all_has as passes_at}
 use Rattle.bind_union.specs.Views.{KindView, kind_view, renamed_type, renamed}
 use Rattle.bind_union.specs.{Images.HasImageKind, Joined.Joined, Joined.none, Joined.added, Merged.BeginsWith}
 use Rattle.bind_union.specs.Carried.{Renumbering, IsSameName, owner_under, carries_owner, copies_owner, call_under, IsFunctionCopy, IsFunctionEntry, IsType, IsInterface, IsCarried, KeyBecomes, ItemBecomes}
-use Rattle.bind_union.proofs.{Images.numbers_of_view}
+use Rattle.bind_union.proofs.Images.{numbers_of_view}
 use Rattle.base_lemmas.proofs.Bools.{left_of as first_true, right_of as second_true}
 
 abbrev pub itself : Resolve → Renumbering

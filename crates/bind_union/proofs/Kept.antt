@@ -1,20 +1,15 @@
 -- Each type, interface and world of what was merged is a copy, of an own one or of one of the other's, and so most rules are kept.
 use Rattle.std.proofs.Common.{rules as std_rules, ◌≡◌, inl, inr, refl, sym, ap, subst, ◌∙◌, ℕ, ◌<◌, Bool, true, false, ◌==◌, nat_lt, ltb-true, [], length, Some, ◌&&◌, not, List, ◌++◌, ◌≤◌, arith, ◌||◌, Option, None, filter_map, map, option_map, ◌⊎◌, slice_get}
-use Rattle.std.proofs.lemmas.{Bool.lt-ltb, Bool.cases_lt as low_or_high, Bool.and_from as both, Option.slice_get_within, Option.same_Some as same-some}
-use Rattle.std.proofs.lemmas.{List.Folds.list_all-map, List.Folds.list_all-append, List.map-append}
+use Rattle.std.proofs.lemmas.{Bool.lt-ltb, Bool.cases_lt as low_or_high, Bool.and_from as both, Option.slice_get_within, Option.same_Some as same-some, List.Folds.list_all-map, List.Folds.list_all-append, List.map-append}
 use Rattle.std.specs.{List.list_all, Prelude.String, Prelude.count_by, Prelude.option_and_then, Map.lookup, Option.option_map_or}
-use Rattle.wit_model.specs.declared.model.{Resolve.Resolve, Interface.Interface, Function.Function, WorldKey.WorldKey, WorldItem.WorldItem, TypeOwner.TypeOwner}
-use Rattle.wit_model.specs.declared.model.{World.World, TypeDef.TypeDef, TypeId.TypeId}
-use Rattle.wit_model.specs.{Lookup.interface_at, Lookup.world_at, Lookup.type_at, Checks.references, Names.is_label, Uses.has}
-use Rattle.wit_model.specs.{Parts.kind_numbers, Parts.function_types, Parts.is_resource_type, Parts.same_owner, Text.text_of, Text.Text, Text.optional_text}
+use Rattle.wit_model.specs.declared.model.{Resolve.Resolve, Interface.Interface, Function.Function, WorldKey.WorldKey, WorldItem.WorldItem, TypeOwner.TypeOwner, World.World, TypeDef.TypeDef, TypeId.TypeId}
+use Rattle.wit_model.specs.{Lookup.interface_at, Lookup.world_at, Lookup.type_at, Checks.references, Names.is_label, Uses.has, Parts.kind_numbers, Parts.function_types, Parts.is_resource_type, Parts.same_owner, Text.text_of, Text.Text, Text.optional_text}
 use Rattle.wit_model.specs.Rules.{each_from, passes, each_after, is_stability, entries_labels, is_name_key, is_shallow, key_label, item_labels, is_member, function_stays, import_stands, export_stands, uses_stand_before, is_id, in_list, entries_in_range, item_type, world_type_numbers, is_named_of, is_listed, is_listed_in_interface, is_listed_in_world, are_in_order, package_number, owner_in_range, function_in_range, interface_type_numbers, key_in_range, item_in_range}
 use Rattle.wit_model.specs.Valid.{Rule, Keeps, KeepsRules, as_world, item_function, functions_of_world, labels, owners, shapes, named_kinds, handles, depths, function_names, world_items, order_of_items, order_of_types, is_place, functions_of_interface, numbers_in_range}
-use Rattle.wit_model.proofs.{Checks.below_at, OnePath.found-in, RulesLemmas.each_by_number}
-use Rattle.wit_model.proofs.{Entries.types_keep, Entries.worlds_keep, Entries.free_passes, ValidLemmas.world_passes as world-passes, ValidLemmas.type_passes}
+use Rattle.wit_model.proofs.{Checks.below_at, OnePath.found-in, RulesLemmas.each_by_number, Entries.types_keep, Entries.worlds_keep, Entries.free_passes, ValidLemmas.world_passes as world-passes, ValidLemmas.type_passes}
 use Rattle.bind_union.specs.Carried.{Renumbering, IsCarried, EntryBecomes, IsFunctionCopy, owner_under, copies_owner, IsType, IsInterface, carries_owner}
 use Rattle.bind_union.specs.{Joined.IsJoined, Joined.Joined, Merged.IsCopyUnder, Merged.IsMerged}
-use Rattle.bind_union.proofs.{Images.numbers_of_view, ViewTests.numbers_same, KeptPackages.kept, KeptPackages.by_package, KeptPackages.all_stand, KeptPackages.ranges_hold}
-use Rattle.bind_union.proofs.{Carrying.interface_package, Carrying.references_of, Listed.listed_in_interface, Listed.listed_in_world, Listed.stays_listed}
+use Rattle.bind_union.proofs.{Images.numbers_of_view, ViewTests.numbers_same, KeptPackages.kept, KeptPackages.by_package, KeptPackages.all_stand, KeptPackages.ranges_hold, Carrying.interface_package, Carrying.references_of, Listed.listed_in_interface, Listed.listed_in_world, Listed.stays_listed}
 use Rattle.bind_union.proofs.Itself.{world_package, get_begin, itself, carried_itself, joined_itself, world_range, map_same}
 use Rattle.bind_union.proofs.Lists.{by_number, no_true}
 use Rattle.bind_union.proofs.CopyRules.{shape_passes, named_passes, handle_passes, depth_passes, label_passes, stay_passes, stability_alike, function_stays_passes, function_handles_pass, function_depths_pass, function_range_passes, added_pass, entry_function, entry_member, entry_import_stands, entry_export_stands, entry_range, entry_labels, unowned}

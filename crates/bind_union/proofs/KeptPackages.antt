@@ -9,8 +9,7 @@ use Rattle.wit_model.specs.declared.model.{Resolve.Resolve, Package.Package, Int
 use Rattle.wit_model.specs.{Text.Text, Text.text_of, Text.text_eq, Lookup.package_at, Lookup.interface_at, Lookup.world_at, Lookup.identity_of, Names.is_label, Names.is_version}
 use Rattle.wit_model.specs.Rules.{each_from, passes, in_list, is_id, text_is, package_number, interface_belongs, world_belongs, names_itself, is_world_name, same_package_name}
 use Rattle.wit_model.specs.Valid.{Rule, Keeps, KeepsRules, numbers_in_range, places, names_in_packages, package_names}
-use Rattle.wit_model.proofs.{Entries.packages_keep, TextLemmas.named_too}
-use Rattle.wit_model.proofs.{OnePath.found-in, OnePath.package-passes, RulesLemmas.each_by_number, RulesLemmas.each_at, RulesLemmas.name_flip}
+use Rattle.wit_model.proofs.{Entries.packages_keep, TextLemmas.named_too, OnePath.found-in, OnePath.package-passes, RulesLemmas.each_by_number, RulesLemmas.each_at, RulesLemmas.name_flip}
 use Rattle.bind_union.specs.Carried.{Renumbering, IsSameName}
 use Rattle.bind_union.specs.Merged.{interface_names, world_names, IsJoinedPackage, PackageStands, grown, brought, IsKeptPackage, IsPackageOf, IsMerged}
 use Rattle.bind_union.proofs.{Lists.by_number, Carrying.same_identity, CopyRules.text_alike, CopyRules.version_alike, CopyRules.are_parts, ViewTests.id_under, Itself.get_begin, PackageNames.names_pass}

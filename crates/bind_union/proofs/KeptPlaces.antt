@@ -6,13 +6,10 @@ use Rattle.std.specs.{Prelude.String, Prelude.sum_by, List.list_all, List.Contai
 use Rattle.std.specs.declared.alloc.Global.{Global}
 use Rattle.wit_model.specs.declared.model.{Resolve.Resolve, Package.Package, PackageId.PackageId, Interface.Interface, WorldKey.WorldKey, WorldItem.WorldItem}
 use Rattle.wit_model.specs.declared.model.World.{World}
-use Rattle.wit_model.specs.{Text.Text, Text.text_of, Text.text_eq, Text.optional_text, Lookup.package_at, Lookup.interface_at, Lookup.world_at}
-use Rattle.wit_model.specs.{Uses.has, Uses.item_interface, Uses.items_of, Valid.Keeps, Valid.KeepsRules, Valid.places}
+use Rattle.wit_model.specs.{Text.Text, Text.text_of, Text.text_eq, Text.optional_text, Lookup.package_at, Lookup.interface_at, Lookup.world_at, Uses.has, Uses.item_interface, Uses.items_of, Valid.Keeps, Valid.KeepsRules, Valid.places}
 use Rattle.wit_model.specs.Rules.{each_from, is_id, package_number, interface_is_listed, world_is_listed, is_world_name, times_shown}
-use Rattle.wit_model.proofs.{Entries.free_passes, Elements.none-in, VersionLaws.same_text, RulesLemmas.each_by_number}
-use Rattle.wit_model.proofs.{OnePath.found-in, OnePath.interface-passes, TextLemmas.text_same as text-same, ValidLemmas.world_passes as world-passes}
-use Rattle.bind_union.proofs.{Listed.under_text, Itself.world_package, Itself.get_begin, Itself.world_range, Kept.each_interface_of_three, Kept.each_world}
-use Rattle.bind_union.proofs.{Lists.by_number, Lists.no_true, Homes.apart, Carrying.interface_package}
+use Rattle.wit_model.proofs.{Entries.free_passes, Elements.none-in, VersionLaws.same_text, RulesLemmas.each_by_number, OnePath.found-in, OnePath.interface-passes, TextLemmas.text_same as text-same, ValidLemmas.world_passes as world-passes}
+use Rattle.bind_union.proofs.{Listed.under_text, Itself.world_package, Itself.get_begin, Itself.world_range, Kept.each_interface_of_three, Kept.each_world, Lists.by_number, Lists.no_true, Homes.apart, Carrying.interface_package}
 use Rattle.bind_union.proofs.WorldOrder.{items, numbers_append, interfaces_in, one_sums, one_of_sum, shown, times_are, counted_append, none_counted, none_added, past_range, range_interfaces, same_times}
 use Rattle.bind_union.proofs.KeptPackages.{kept, by_package, is_interface_of, is_world_of, interfaces_stand, worlds_stand, all_stand, places_hold, found_option}
 use Rattle.bind_union.proofs.PackageNames.{added_from, name_append, interfaces_by_name, worlds_by_name, world_name_listed, found_name, still_found, copy_found, found_behind}

@@ -3,18 +3,14 @@ use Rattle.std.proofs.Common.{arith, rules as std_rules, ◌≡◌, refl, sym, a
 use Rattle.std.proofs.lemmas.{Bool.lt-ltb, Option.slice_get_within, Simd.map-map}
 use Rattle.std.specs.{Prelude.String, List.list_all, Option.option_map_or, FinMap.from_entries}
 use Rattle.std.specs.declared.alloc.Global.{Global}
-use Rattle.wit_model.specs.declared.model.{Resolve.Resolve, TypeId.TypeId, Param.Param, Function.Function}
-use Rattle.wit_model.specs.declared.model.{Interface.Interface, WorldKey.WorldKey, WorldItem.WorldItem, FunctionKind.FunctionKind, «Type».«Type» as ValueType}
-use Rattle.wit_model.specs.{Text.Text, Text.text_of, Tree.Tree, Meaning.TypeMeaning, Meaning.FunctionMeaning}
-use Rattle.wit_model.specs.{Lookup.interface_at, Lookup.interface_path, Lookup.key_text, Lookup.is_async, Types.number_of, Types.type_tree}
-use Rattle.wit_model.specs.{Valid.Keeps, Valid.KeepsRules, Valid.IsValid, Checks.references}
+use Rattle.wit_model.specs.declared.model.{Resolve.Resolve, TypeId.TypeId, Param.Param, Function.Function, Interface.Interface, WorldKey.WorldKey, WorldItem.WorldItem, FunctionKind.FunctionKind, «Type».«Type» as ValueType}
+use Rattle.wit_model.specs.{Text.Text, Text.text_of, Tree.Tree, Meaning.TypeMeaning, Meaning.FunctionMeaning, Lookup.interface_at, Lookup.interface_path, Lookup.key_text, Lookup.is_async, Types.number_of, Types.type_tree, Valid.Keeps, Valid.KeepsRules, Valid.IsValid, Checks.references}
 use Rattle.wit_model.specs.Meant.{signature_of, function_meaning, type_meaning, type_meaning_at, no_type, interface_meaning, interface_meaning_at, interface_item, entry_meaning, entries_meaning, world_meaning_at}
 use Rattle.wit_model.proofs.{Elements.none-in, OnePath.named-path}
 use Rattle.bind_union.specs.{Views.renamed_type, Meanings.OwnMeansTheSame, Meanings.CopiesMeanTheSame, Meanings.MergedMeans}
 use Rattle.bind_union.specs.Carried.{Renumbering, call_under, IsFunctionCopy, IsInterfaceCopy, KeyBecomes, ItemBecomes, IsCarried}
 use Rattle.bind_union.specs.Joined.{Joined, none, met, added, IsJoined}
-use Rattle.bind_union.proofs.{Carrying.references_of, Carrying.refers_below, Carrying.carried_types, Carrying.type_tree_same, Carrying.path_same}
-use Rattle.bind_union.proofs.{CopyRules.given_values, Images.same_declarations, Itself.itself, Itself.carried_itself, Kept.own_joined, Kept.below}
+use Rattle.bind_union.proofs.{Carrying.references_of, Carrying.refers_below, Carrying.carried_types, Carrying.type_tree_same, Carrying.path_same, CopyRules.given_values, Images.same_declarations, Itself.itself, Itself.carried_itself, Kept.own_joined, Kept.below}
 use Rattle.base_lemmas.proofs.{Bools.left_of as first_true, Bools.right_of as second_true, Elements.zip_map, Numbers.unequal}
 
 async_under : (f : Renumbering) (k : FunctionKind) → is_async (call_under f k) ≡ is_async k

@@ -1,8 +1,7 @@
 -- Types of interfaces of one path and one sense stand for each other.
 use Rattle.std.proofs.Common.{slice_get, rules as std_rules, ◌≡◌, ◌⊎◌, inl, inr, refl, sym, ap, subst, ◌∙◌, ℕ, arith, Bool, true, false, ◌&&◌, ◌||◌, ◌==◌, not, cond, List, [], ◌∷◌, map, nat_lt, Option, Some, None, option_map, is_some, unwrap_or}
 use Rattle.std.proofs.lemmas.{Cmp.nat_list_cmp_total, Simd.map-map, Option.same_Some as same-some}
-use Rattle.std.specs.{Prelude.String, Prelude.bytes_eq, Prelude.count_by, Option.option_map_or, FinMap.find, FinMap.from_entries, FinMap.get-from_entries}
-use Rattle.std.specs.{List.list_all, List.Contains, Map.lookup, HashMap.get_by_text}
+use Rattle.std.specs.{Prelude.String, Prelude.bytes_eq, Prelude.count_by, Option.option_map_or, FinMap.find, FinMap.from_entries, FinMap.get-from_entries, List.list_all, List.Contains, Map.lookup, HashMap.get_by_text}
 use Rattle.std.specs.declared.alloc.Global.{Global}
 use Rattle.wit_model.specs.declared.model.{Resolve.Resolve, Interface.Interface, TypeId.TypeId, TypeDef.TypeDef, TypeDefKind.TypeDefKind, TypeOwner.TypeOwner}
 use Rattle.wit_model.specs.Text.{Text, text_of, text_eq, text_cmp, optional_text, TextMap}
@@ -14,10 +13,7 @@ use Rattle.wit_model.specs.Uses.{has, alias_target, owner_interface}
 use Rattle.wit_model.specs.{Meaning.TypeMeaning, Meaning.InterfaceSense, Meant.interface_meaning, Meant.type_meaning, Meant.type_meaning_at, Meant.no_type}
 use Rattle.wit_model.specs.Rules.{passes, in_list, is_id, interface_type_numbers, is_listed, is_listed_in_interface, is_named_of, is_named_number, are_in_order, is_use, is_resource_itself, is_named_kind}
 use Rattle.wit_model.specs.Valid.{IsValid, as_interface, order_of_types, owners, named_kinds}
-use Rattle.wit_model.proofs.{AnyOrder.same-text, Functions.all_flat}
-use Rattle.wit_model.proofs.{Elements.contains-has, Elements.contains-get, Elements.has-contains, Owners.met_step, Owners.owned_stays, Chains.all_has as passes_at}
-use Rattle.wit_model.proofs.{OnePath.path-once, OnePath.named-path, OnePath.found-in, OnePath.interface-passes, PartsLemmas.owner_same as owner_equal}
-use Rattle.wit_model.proofs.{TreeTable.kept_trees_at, RulesLemmas.is_id_some as some_id, TextLemmas.text_same as text-same, ValidLemmas.type_passes}
+use Rattle.wit_model.proofs.{AnyOrder.same-text, Functions.all_flat, Elements.contains-has, Elements.contains-get, Elements.has-contains, Owners.met_step, Owners.owned_stays, Chains.all_has as passes_at, OnePath.path-once, OnePath.named-path, OnePath.found-in, OnePath.interface-passes, PartsLemmas.owner_same as owner_equal, TreeTable.kept_trees_at, RulesLemmas.is_id_some as some_id, TextLemmas.text_same as text-same, ValidLemmas.type_passes}
 use Rattle.bind_meaning.proofs.Listed.{from-map}
 use Rattle.bind_union.specs.Matching.{type_names, IsMatch, AreMatched, AreNamesakes, MatchesAreNamesakes, MatchesAreOnto}
 use Rattle.bind_union.proofs.{Lists.by_number, Lists.no_true, Carrying.references_of, Homes.alias_of_all, Itself.interface_range, Itself.type_range, WorldOrder.one_of_sum, Listed.under_text, Listed.found_by_text}

@@ -1,20 +1,14 @@
 -- The interfaces of what was merged, by path, are those of both.
 use Rattle.std.proofs.Common.{rules as std_rules, ◌≡◌, refl, ◌⊎◌, inl, inr, sym, ap, ◌∙◌, ℕ, ◌≤◌, arith, Bool, true, false, [], length, Option, Some, None, option_map, option_and_then}
 use Rattle.std.proofs.lemmas.{Bool.lt-ltb, Bool.cases_lt as low_or_high, Option.slice_get_within}
-use Rattle.std.specs.{Prelude.String}
+use Rattle.std.specs.Prelude.{String}
 use Rattle.std.specs.declared.alloc.Global.{Global}
 use Rattle.wit_model.specs.declared.model.{Resolve.Resolve, Interface.Interface}
-use Rattle.wit_model.specs.{Text.Text, Text.text_of, Text.optional_text, Checks.references}
-use Rattle.wit_model.specs.{Names.path_in, Lookup.interface_at, Lookup.interface_path, Lookup.path_of_interface, Lookup.identity_of, Meant.interface_meaning_at}
-use Rattle.wit_model.specs.{Meaning.InterfaceMeaning, Rules.is_id, Rules.text_is, Rules.package_number, Valid.Keeps, Valid.IsValid, Valid.HasDistinctKeys}
-use Rattle.wit_model.proofs.{Elements.none-in}
-use Rattle.wit_model.proofs.{OnePath.has-path, OnePath.path-listed, OnePath.path-once, OnePath.found-in, RulesLemmas.is_id_some as some_id}
-use Rattle.bind_union.specs.Carried.{Renumbering}
-use Rattle.bind_union.specs.Merged.{interface_names, grown, brought, IsCopyUnder, IsMerged}
+use Rattle.wit_model.specs.{Text.Text, Text.text_of, Text.optional_text, Checks.references, Names.path_in, Lookup.interface_at, Lookup.interface_path, Lookup.path_of_interface, Lookup.identity_of, Meant.interface_meaning_at, Meaning.InterfaceMeaning, Rules.is_id, Rules.text_is, Rules.package_number, Valid.Keeps, Valid.IsValid, Valid.HasDistinctKeys}
+use Rattle.wit_model.proofs.{Elements.none-in, OnePath.has-path, OnePath.path-listed, OnePath.path-once, OnePath.found-in, RulesLemmas.is_id_some as some_id}
+use Rattle.bind_union.specs.{Carried.Renumbering, Merged.interface_names, Merged.grown, Merged.brought, Merged.IsCopyUnder, Merged.IsMerged}
 use Rattle.bind_union.specs.Meanings.{OwnMeansTheSame, CopiesMeanTheSame, Shows, ShowsNone, InterfacesAreUnited}
-use Rattle.bind_union.proofs.{KeptPackages.grown_name, KeptPackages.is_interface_of, KeptPackages.interfaces_stand, KeptPackages.found_option, Namesakes.under_contains}
-use Rattle.bind_union.proofs.{Carrying.path_parts, Carrying.path_by, Carrying.path_same, Meanings.merged_means, Valid.merged_is_valid}
-use Rattle.bind_union.proofs.{Kept.below, PackageNames.joined_name, PackageNames.interfaces_by_name, Listed.under_text}
+use Rattle.bind_union.proofs.{KeptPackages.grown_name, KeptPackages.is_interface_of, KeptPackages.interfaces_stand, KeptPackages.found_option, Namesakes.under_contains, Carrying.path_parts, Carrying.path_by, Carrying.path_same, Meanings.merged_means, Valid.merged_is_valid, Kept.below, PackageNames.joined_name, PackageNames.interfaces_by_name, Listed.under_text}
 use Rattle.base_lemmas.proofs.{Bools.left_of as first_true, Bools.right_of as second_true, Elements.all-contained}
 
 pub some_name : (o : Option (String Global)) (t : Text) → text_is o t ≡ true → optional_text o ≡ Some t

@@ -1,20 +1,14 @@
 -- The worlds of what was merged, by path, are those of both, but for the bound one.
 use Rattle.std.proofs.Common.{rules as std_rules, ◌≡◌, ◌⊎◌, inl, inr, refl, sym, ap, subst, ◌∙◌, ℕ, arith, Bool, true, false, ◌==◌, [], Option, Some, option_map, option_and_then}
 use Rattle.std.proofs.lemmas.Option.{same_Some as same-some}
-use Rattle.std.specs.{Option.option_map_or}
+use Rattle.std.specs.Option.{option_map_or}
 use Rattle.wit_model.specs.declared.model.{Resolve.Resolve, World.World}
-use Rattle.wit_model.specs.{Text.Text, Text.text_of, Text.text_eq, Rules.passes, Rules.in_list, Rules.is_id, Rules.package_number}
-use Rattle.wit_model.specs.{Names.path_in, Meaning.WorldMeaning, Meant.world_meaning, Meant.no_world, Checks.references}
-use Rattle.wit_model.specs.{Lookup.package_at, Lookup.world_at, Lookup.path_of_world, Lookup.identity_of, Valid.Keeps, Valid.IsValid}
-use Rattle.wit_model.proofs.{NameLaws.one_path, VersionLaws.same_name, Elements.none-in}
-use Rattle.wit_model.proofs.{OnePath.package-name, OnePath.package-once, OnePath.found-in, RulesLemmas.is_id_some as some_id, TextLemmas.text_same as text-same}
+use Rattle.wit_model.specs.{Text.Text, Text.text_of, Text.text_eq, Rules.passes, Rules.in_list, Rules.is_id, Rules.package_number, Names.path_in, Meaning.WorldMeaning, Meant.world_meaning, Meant.no_world, Checks.references, Lookup.package_at, Lookup.world_at, Lookup.path_of_world, Lookup.identity_of, Valid.Keeps, Valid.IsValid}
+use Rattle.wit_model.proofs.{NameLaws.one_path, VersionLaws.same_name, Elements.none-in, OnePath.package-name, OnePath.package-once, OnePath.found-in, RulesLemmas.is_id_some as some_id, TextLemmas.text_same as text-same}
 use Rattle.bind_meaning.proofs.WorldPaths.{HasWorldPath, has-world-path, world-label, world-listed}
 use Rattle.bind_union.specs.{Carried.Renumbering, Meanings.ShowsWorld, Meanings.ShowsNoWorld, Meanings.WorldsAreUnited}
 use Rattle.bind_union.specs.Merged.{world_names, is_name, grown, brought, IsMerged}
-use Rattle.bind_union.proofs.{Lists.by_number, Lists.no_true, Kept.below}
-use Rattle.bind_union.proofs.{Carrying.path_by, Carrying.same_path_by, Carrying.same_identity, Itself.world_package, Listed.under_text, Meanings.merged_means}
-use Rattle.bind_union.proofs.{KeptPackages.by_package, KeptPackages.grown_name, KeptPackages.is_world_of, KeptPackages.worlds_stand, KeptPackages.found_option, KeptPlaces.world_case, KeptPlaces.own_world_low}
-use Rattle.bind_union.proofs.{PackageNames.joined_name, PackageNames.worlds_by_name, PackageNames.found_name, PackageNames.copy_found, Namesakes.under_contains}
+use Rattle.bind_union.proofs.{Lists.by_number, Lists.no_true, Kept.below, Carrying.path_by, Carrying.same_path_by, Carrying.same_identity, Itself.world_package, Listed.under_text, Meanings.merged_means, KeptPackages.by_package, KeptPackages.grown_name, KeptPackages.is_world_of, KeptPackages.worlds_stand, KeptPackages.found_option, KeptPlaces.world_case, KeptPlaces.own_world_low, PackageNames.joined_name, PackageNames.worlds_by_name, PackageNames.found_name, PackageNames.copy_found, Namesakes.under_contains}
 use Rattle.base_lemmas.proofs.{Bools.left_of as first_true, Bools.right_of as second_true, Elements.all-contained, Numbers.same-number}
 
 -- the path of a world by its name and its package

@@ -4,15 +4,12 @@ use Rattle.std.proofs.lemmas.Option.{same_Some as same-some}
 use Rattle.std.specs.{Prelude.String, Prelude.count_by, List.list_all, List.Contains, Option.option_map_or, Map.lookup, HashMap.get_by}
 use Rattle.std.specs.declared.alloc.Global.{Global}
 use Rattle.wit_model.specs.declared.model.{Resolve.Resolve, World.World, WorldKey.WorldKey, WorldItem.WorldItem, TypeDef.TypeDef}
-use Rattle.wit_model.specs.{Text.Text, Text.text_of, Text.optional_text, Types.trees_of, Types.declaration_of, Parts.kind_numbers, Parts.same_owner}
-use Rattle.wit_model.specs.Lookup.{world_at, type_at, interface_path, place_of, key_text}
-use Rattle.wit_model.specs.Tree.{Declaration, named}
-use Rattle.wit_model.specs.{Uses.alias_target, Uses.item_interface, Valid.IsValid, Valid.as_interface, Valid.as_world, Valid.order_of_types, Valid.world_items}
+use Rattle.wit_model.specs.{Text.Text, Text.text_of, Text.optional_text, Types.trees_of, Types.declaration_of, Parts.kind_numbers, Parts.same_owner, Uses.alias_target, Uses.item_interface, Valid.IsValid, Valid.as_interface, Valid.as_world, Valid.order_of_types, Valid.world_items}
+use Rattle.wit_model.specs.{Lookup.world_at, Lookup.type_at, Lookup.interface_path, Lookup.place_of, Lookup.key_text, Tree.Declaration, Tree.named}
 use Rattle.wit_model.specs.Meaning.{Item, interface, inline, function, declares, Entry, InterfaceSense, item_sense}
 use Rattle.wit_model.specs.Meant.{type_meaning, type_meaning_at, no_type, interface_item, interface_meaning_at, item_meaning}
 use Rattle.wit_model.specs.Rules.{passes, is_id, text_is, is_name_key, item_type, key_in_range, item_in_range, world_type_numbers, is_listed, is_listed_in_world, import_stands, export_stands}
-use Rattle.wit_model.proofs.{OnePath.path-once, OnePath.found-in, RulesLemmas.is_id_some as some_id, TextLemmas.text_same as text-same}
-use Rattle.wit_model.proofs.{PartsLemmas.owner_same as owner_equal, ValidLemmas.type_passes, ValidLemmas.world_passes as world-passes}
+use Rattle.wit_model.proofs.{OnePath.path-once, OnePath.found-in, RulesLemmas.is_id_some as some_id, TextLemmas.text_same as text-same, PartsLemmas.owner_same as owner_equal, ValidLemmas.type_passes, ValidLemmas.world_passes as world-passes}
 use Rattle.bind_union.specs.{Carried.Renumbering, Joined.ItemStandsFor}
 use Rattle.bind_union.specs.Matching.{IsMatch, AreMatched, WorldsAgree, AreWorldNamesakes, MetImportsStand}
 use Rattle.bind_union.proofs.{Lists.no_true, Itself.world_range}

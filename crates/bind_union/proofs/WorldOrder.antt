@@ -1,11 +1,9 @@
 -- What an item of a world uses stands before it where its copy stands, too, and an interface or a type is an item there as often.
 use Rattle.std.proofs.Common.{rules as std_rules, ◌≡◌, refl, sym, ap, subst, ◌∙◌, ℕ, Bool, true, false, ◌||◌, ◌==◌, List, [], ◌∷◌, ◌++◌, append_assoc, map, filter, Option, Some, None, option_map, option_to_list, filter_map, zero, suc, ◌≤◌, ◌+◌, arith, cond, ltb-true, length, slice_get}
-use Rattle.std.proofs.lemmas.{Bool.or_left, Bool.or_right, Bool.and_from as both, Bool.false_from_ne_true, List.Folds.list_all-map, List.Folds.list_any-append}
-use Rattle.std.proofs.lemmas.{List.Elements.filter_map-append, List.Sums.sum_by-cons, List.Sums.sum_by-append, List.map-append, Option.same_Some as same-some}
+use Rattle.std.proofs.lemmas.{Bool.or_left, Bool.or_right, Bool.and_from as both, Bool.false_from_ne_true, List.Folds.list_all-map, List.Folds.list_any-append, List.Elements.filter_map-append, List.Sums.sum_by-cons, List.Sums.sum_by-append, List.map-append, Option.same_Some as same-some}
 use Rattle.std.specs.{List.list_all, List.Contains, List.cons_option, Prelude.count_by, Prelude.sum_by}
 use Rattle.wit_model.specs.declared.model.{Resolve.Resolve, WorldKey.WorldKey, WorldItem.WorldItem, World.World}
-use Rattle.wit_model.specs.{Parts.has_owner, Parts.used_by_function, Checks.references}
-use Rattle.wit_model.specs.{Uses.has, Uses.item_interface, Uses.direct_deps, Uses.interface_used_by, Valid.Keeps, Valid.KeepsRules, Valid.as_world}
+use Rattle.wit_model.specs.{Parts.has_owner, Parts.used_by_function, Checks.references, Uses.has, Uses.item_interface, Uses.direct_deps, Uses.interface_used_by, Valid.Keeps, Valid.KeepsRules, Valid.as_world}
 use Rattle.wit_model.specs.Rules.{passes, is_id, each_after, item_type, used_by_number, used_interfaces, used_types, uses_stand_before, in_list, times_shown, item_in_range, entries_in_range}
 use Rattle.wit_model.proofs.{Elements.contains-has, Elements.contains-filter_map, Owners.all_filter, Lists.list_all_filter_map, Chains.all_has as passes_at}
 use Rattle.wit_model.proofs.RulesLemmas.{is_id_some}
@@ -14,8 +12,7 @@ use Rattle.bind_union.specs.Joined.{ItemStandsFor, Joined, none, met, added}
 use Rattle.bind_union.proofs.{Homes.owner_back, CopyRules.function_uses, ViewTests.id_under, Lists.no_true}
 use Rattle.bind_union.proofs.InterfaceRules.{implied_all, deps_there, interface_used_there, given_contains, number_uses}
 use Rattle.base_lemmas.proofs.Bools.{left_of as first_true, right_of as second_true, or_false, first_false, second_false}
-use Rattle.base_lemmas.proofs.Elements.{all_weaker, contains-map}
-use Rattle.base_lemmas.proofs.Numbers.{differ, same-number, unequal}
+use Rattle.base_lemmas.proofs.{Elements.all_weaker, Elements.contains-map, Numbers.differ, Numbers.same-number, Numbers.unequal}
 use Rattle.wit_model.specs.declared.model.WorldItem.TheVariants as item
 
 abbrev pub items : List (WorldKey × WorldItem) → List WorldItem

@@ -5,17 +5,15 @@ use Rattle.std.proofs.lemmas.List.{map-append}
 use Rattle.std.specs.{Prelude.String, List.list_all, Option.option_map_or}
 use Rattle.std.specs.declared.alloc.Global.{Global}
 use Rattle.wit_model.specs.declared.model.{Resolve.Resolve, World.World, TypeDef.TypeDef, Function.Function, WorldKey.WorldKey, WorldItem.WorldItem}
-use Rattle.wit_model.specs.{Text.text_of, Uses.has}
-use Rattle.wit_model.specs.{Lookup.type_at, Lookup.world_at, Parts.has_owner, Parts.same_owner, Checks.references}
+use Rattle.wit_model.specs.{Text.text_of, Uses.has, Lookup.type_at, Lookup.world_at, Parts.has_owner, Parts.same_owner, Checks.references}
 use Rattle.wit_model.specs.Rules.{passes, each_after, is_name_key, item_type, world_type_numbers, is_named_of, is_listed, is_listed_in_world, used_by_number, are_in_order, uses_stand_before}
 use Rattle.wit_model.specs.Valid.{Keeps, KeepsRules, as_world, item_function, functions_of_world, order_of_types, order_of_items}
-use Rattle.wit_model.proofs.{Lists.list_all_filter_map, Chains.all_has as passes_at, Shown.after_append}
-use Rattle.wit_model.proofs.{InOrder.found_stands, PartsLemmas.owner_same as owner_equal, ValidLemmas.type_passes, ValidLemmas.world_passes as world-passes}
+use Rattle.wit_model.proofs.{Lists.list_all_filter_map, Chains.all_has as passes_at, Shown.after_append, InOrder.found_stands, PartsLemmas.owner_same as owner_equal, ValidLemmas.type_passes, ValidLemmas.world_passes as world-passes}
 use Rattle.bind_union.specs.{Carried.Renumbering, Carried.EntryBecomes, Carried.IsCarried, Joined.Joined, Joined.IsJoined}
 use Rattle.bind_union.proofs.{Lists.no_true, Homes.owner_back, InterfaceRules.implied_all, InterfaceRules.named_of_there, InterfaceRules.number_uses}
 use Rattle.bind_union.proofs.CopyRules.{added_pass}
 use Rattle.bind_union.proofs.WorldOrder.{items, by_items, number_in, numbers_left, numbers_right, types_in, Covers, walk, item_stands, stands_still}
-use Rattle.base_lemmas.proofs.{Bools.left_of as first_true, Bools.right_of as second_true}
+use Rattle.base_lemmas.proofs.Bools.{left_of as first_true, right_of as second_true}
 use Rattle.wit_model.specs.declared.model.TypeOwner.TheVariants as owner
 use Rattle.wit_model.specs.declared.model.WorldItem.TheVariants as item
 
