@@ -83,7 +83,8 @@ module _ (c : ℕ) (apart : IsApart c) where
       (lacks-both c front rest.0 (lacks-both c mark (name ++ (46 ∷ [])) plain (lacks-both c name (46 ∷ []) (apart.of_labels name label) apart.of_dots)) (apart.of_labels rest.0 rest.2))
 
   constructor_lacks : (name : Text) (f : Function) → is_label name ≡ true → text_eq (text_of f.name) (constructor_name name) ≡ true → Lacks c (text_of f.name)
-  constructor_lacks name f label h = subst (Lacks c) (sym (text-same (text_of f.name) (constructor_name name) h)) (lacks-both c (codes "[constructor]") name apart.of_constructors (apart.of_labels name label))
+  constructor_lacks name f label h = subst (Lacks c) (sym (text-same (text_of f.name) (constructor_name name) h))
+      (lacks-both c (codes "[constructor]") name apart.of_constructors (apart.of_labels name label))
 
   member_lacks : (r : Resolve) (n : ℕ) (name : Text) (f : Function) (k : FunctionKind) → is_label name ≡ true → (not (is_freestanding k) || is_label (text_of f.name)) ≡ true
       → is_member_of r n name f k ≡ true → Lacks c (text_of f.name)

@@ -145,7 +145,8 @@ module _ (r : Resolve) (v : IsValid r) where
     interface-key : (k : ℕ) (shown : WorldItem) → is_interface_key r k shown ≡ true → in_list r.interfaces.items k ≡ true → is_some (interface_path r k) ≡ true
     interface-key k shown h inside = search (std_rules, found-in, named-path, second_true)
 
-    side-key : (es : List (WorldKey × WorldItem)) (test : WorldKey × WorldItem → Bool) → ((k : ℕ) (shown : WorldItem) → test (key.Interface (record { 0 = k }), shown) ≡ true → is_interface_key r k shown ≡ true)
+    side-key : (es : List (WorldKey × WorldItem)) (test : WorldKey × WorldItem → Bool)
+        → ((k : ℕ) (shown : WorldItem) → test (key.Interface (record { 0 = k }), shown) ≡ true → is_interface_key r k shown ≡ true)
         → ((e : WorldKey × WorldItem) → Contains es e → Contains (w.imports.entries ++ w.exports.entries) e) → list_all test es ≡ true → entries_in_range r es ≡ true
         → (e : WorldKey × WorldItem) → Contains es e → IsKey e.0
     side-key es test shows among all inside (key.Name name, shown) c = key_lacks 58 colon r v n w at name shown (among (key.Name name, shown) c)
