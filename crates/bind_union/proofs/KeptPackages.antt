@@ -1,4 +1,5 @@
 -- What stands in the packages of what was merged has its name and its package there, and no two packages have one name.
+pub use Rattle.bind_meaning.proofs.Listed.{tested as found_option}
 use Rattle.std.proofs.Common.{rules as std_rules, arith, ◌≡◌, ◌⊎◌, inl, inr, refl, sym, ap, ◌∙◌, ℕ, Bool, true, false, ◌&&◌, ◌||◌, ◌==◌, not, List, [], Option, None, Some, subst}
 use Rattle.std.proofs.lemmas.{Bool.lt-ltb, Bool.or_right, Bool.and_from as both, Bool.or_left, Option.slice_get_within, Option.same_Some as same-some}
 use Rattle.std.proofs.lemmas.List.Folds.{list_all-append, list_all-map}
@@ -71,9 +72,6 @@ module _ (r : Resolve) (valid : KeepsRules r) (n : ℕ) (p : Package) (found : p
   worlds_stand = search (std_rules, list_all-map, all_two, found-in, both, second_true, first_true, ranges, belong)
 
 -- ---- back to the rules
-
-pub found_option : {A : Type 0} (test : A → Bool) (o : Option A) → option_map_or test o false ≡ true → (x : A) × (o ≡ Some x) × (test x ≡ true)
-found_option test y h = search std_rules
 
 module _ (r : Resolve) (n : ℕ) (p : Package) (stand : list_all (is_interface_of r n) (interface_names p) ≡ true) (worlds : list_all (is_world_of r n) (world_names p) ≡ true) where
   each_interface : (q : String Global × InterfaceId → Bool) → ((e : String Global × InterfaceId) → is_interface_of r n (text_of e.0, e.1.0) ≡ true → q e ≡ true)
