@@ -1,8 +1,6 @@
--- Lists and options that are made entry by entry of others.
+-- What follows from false, and numbers by cases and by the smaller ones.
 use Rattle.std.proofs.Common.{◌≡◌, refl, true, false, ℕ, zero, suc, ◌<◌, ◌==◌, arith}
 use Rattle.base_lemmas.proofs.Numbers.{equal}
-
--- ---- lists
 
 pub no_true : {A : Type 0} → false ≡ true → A
 no_true e = let wrong : ⊥ = cc in absurd wrong
