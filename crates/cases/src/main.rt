@@ -14,13 +14,18 @@ mod names;
 use interpreter::Interpreter;
 use std::io::{self, BufRead, BufReader, BufWriter, Write};
 
-fn main(rt: HostRuntime) -> io::Result<()> {
+// Answers each line. What lines keep is freed by `main`, in one place.
+fn answer_lines(rt: &HostRuntime, interpreter: &mut Interpreter) -> io::Result<()> {
     let alloc = rt.alloc();
-    let mut writer = BufWriter::new(alloc, io::writer(&rt))?;
-    let mut interpreter = Interpreter::new();
+    let mut writer = BufWriter::new(alloc, io::writer(rt))?;
     for line in BufReader::new(alloc, rt.reader())?.lines(alloc) {
-        let answer = interpreter.answer(&rt, alloc, &line?)?;
+        let answer = interpreter.answer(rt, alloc, &line?)?;
         writeln!(writer, "{answer}")?;
     }
     writer.flush()
+}
+
+fn main(rt: HostRuntime) -> io::Result<()> {
+    let mut interpreter = Interpreter::new();
+    answer_lines(&rt, &mut interpreter)
 }
