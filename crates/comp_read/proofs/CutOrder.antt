@@ -101,48 +101,31 @@ module _ (ms : List Member) (m : ℕ) (y : Member) (y_at : slice_get ms m ≡ So
 
   module _ (counts : Counts) (k j : ℕ) (v : Text × Scope) (o : IsWorldOf ms k v) where
     not_less : k ≡ worlds_before ms m → o.number < m → ⊥
-    not_less same low =
-        let more = fewer ms (suc o.number) m (omega (arith, low)) in
-        let one = counted ms o.number o.member v.1 o.at o.is in
-        let count = o.count in
-        omega (arith, more, one, count, same)
+    not_less same low = omega (arith, fewer ms (suc o.number) m (omega (arith, low)), counted ms o.number o.member v.1 o.at o.is, o.count, same)
 
     pub before_there : (k < worlds_before ms m) ⊎ ((k ≡ worlds_before ms m) × (j < imports)) → StandsBefore m many o.number j
-    before_there (inl less) = elim (cases_lt o.number m) [
-      | inl low ↦ inl low
-      | inr past ↦ (let more = fewer ms m o.number past in let count = o.count in absurd (omega (arith, less, more, count)))
-    ]
+    before_there (inl less) = elim (cases_lt o.number m) [ inl low ↦ inl low | inr past ↦ (let more = fewer ms m o.number past in let count = o.count in absurd (omega (arith, less, more, count))) ]
     before_there (inr (same, low)) = elim (cases_lt o.number m) [
       | inl less ↦ absurd (not_less same less)
       | inr past ↦ elim (cases_lt m o.number) [
         | inl beyond ↦
             let is = counts.none (omega (arith, low)) in
-            let more = fewer ms (suc m) o.number (omega (arith, beyond)) in
-            let one = counted ms m y is.0 y_at is.1 in
-            let count = o.count in
-            absurd (omega (arith, more, one, count, same))
+            absurd (omega (arith, fewer ms (suc m) o.number (omega (arith, beyond)), counted ms m y is.0 y_at is.1, o.count, same))
         | inr le ↦
-            let here : o.number ≡ m = omega (arith, past, le) in
             let is = counts.none (omega (arith, low)) in
-            let all = counts.world is.0 is.1 in
-            inr (here, omega (arith, low, all))
+            inr (omega (arith, past, le), omega (arith, low, counts.world is.0 is.1))
       ]
     ]
 
     pub behind_there : (worlds_before ms m < k) ⊎ ((k ≡ worlds_before ms m) × (imports ≤ j)) → StandsBehind m many o.number j
-    behind_there (inl more) = elim (cases_lt m o.number) [
-      | inl past ↦ inl past
-      | inr le ↦ (let few = fewer ms o.number m le in let count = o.count in absurd (omega (arith, few, count, more)))
-    ]
+    behind_there (inl more) = elim (cases_lt m o.number) [ inl past ↦ inl past | inr le ↦ (let few = fewer ms o.number m le in let count = o.count in absurd (omega (arith, few, count, more))) ]
     behind_there (inr (same, far)) = elim (cases_lt o.number m) [
       | inl less ↦ absurd (not_less same less)
       | inr past ↦ elim (cases_lt m o.number) [
         | inl beyond ↦ inl beyond
         | inr le ↦
             let here : o.number ≡ m = omega (arith, past, le) in
-            let one : o.member ≡ y = same-some o.member y (sym o.at ∙ (ap (slice_get ms) here ∙ y_at)) in
-            let all = counts.world v.1 (ap (λ (z : Member). z.part) (sym one) ∙ o.is) in
-            inr (here, omega (arith, far, all))
+            inr (here, omega (arith, far, (counts.world v.1 (ap (λ (z : Member). z.part) (sym (same-some o.member y (sym o.at ∙ (ap (slice_get ms) here ∙ y_at)))) ∙ o.is))))
       ]
     ]
 
@@ -171,7 +154,7 @@ module _ (t : Tables) (kept : List ℕ) (places : List ℕ) (n : ℕ) (v : Text 
       by s s_at (a_function k shows under made) = let wrong : plan.function made.function ≡ plan.declares a = sym made.is ∙ is in absurd cc
       by s s_at (a_type part d k shows made keeps) =
           let same : k ≡ a = same-some k a (ap plan.item_type (sym (ap (λ (x : PlannedKey × PlannedItem). x.1) made) ∙ is)) in
-          let name = named s.shown shows (all_at_too (DeclaresName t v.1.home) v.1.imports.now names j s s_at) in
+          let name = (subst (λ (z : Shown). DeclaresName t v.1.home (record s { shown = z })) shows (all_at_too (DeclaresName t v.1.home) v.1.imports.now names j s s_at)) in
           record {
             seen = numbered_seen s;
             at = mapped_get numbered_seen v.1.imports.now j s s_at;
@@ -181,10 +164,6 @@ module _ (t : Tables) (kept : List ℕ) (places : List ℕ) (n : ℕ) (v : Text 
             row = name.2;
             kept_ = subst (λ (q : ℕ). IsPart kept q (14 + a)) name.1 (subst (λ (q : ℕ). IsPart kept part (14 + q)) same keeps);
           }
-        where
-          named : (x : Shown) → x ≡ shown.Declares part d → DeclaresName t v.1.home (record s { shown = x })
-              → (number : ℕ) × (part ≡ 14 + number) × (slice_get t.shapes number ≡ Some (named_shape v.1.home s.key.now))
-          named x same given = subst (λ (z : Shown). DeclaresName t v.1.home (record s { shown = z })) same given
 
 -- ---- What had been shown at a cut, in numbers and by the parts and declarations that were read.
 
@@ -267,10 +246,8 @@ module _ (pieces : List Piece) (x : Followed) (h : Homes) (ms : List Member) (me
   -- a type of one of them is a type of the other
   told : (n j : ℕ) (i : NumberedInstance) → IsInstanceAt ws n j i → (k l : ℕ) (o : NumberedInstance) → IsInstanceAt ws k l o → i.place ≡ o.place → (y : NumberedType) → Contains i.view.types y
       → (z : NumberedType) × Contains o.view.types z × (part_of z.slot ≡ part_of y.slot)
-  told n j i at k l o o_at same y c =
-      map_from (λ (z : NumberedType). part_of z.slot) o.view.types (part_of y.slot)
-      (subst (λ (ps : List ℕ). Contains ps (part_of y.slot)) (told_parts pieces x h ms members input known obey n j i at k l o o_at same)
-      (contains-map (λ (z : NumberedType). part_of z.slot) i.view.types y c))
+  told n j i at k l o o_at same y c = map_from _ _ _ (subst (λ (ps : List ℕ). Contains ps (part_of y.slot)) (told_parts pieces x h ms members input known obey n j i at k l o o_at same)
+      (contains-map _ _ y c))
 
   shown_low : (n j : ℕ) (i : NumberedInstance) → IsInstanceAt ws n j i → Contains shown_front i.place → (y : NumberedType) → Contains i.view.types y → part_of y.slot < 14 + many
   shown_low n j i at c y y_in =
@@ -285,19 +262,16 @@ module _ (pieces : List Piece) (x : Followed) (h : Homes) (ms : List Member) (me
       let f = first_of scope_places ws i.place (contains-flat scope_places ws at.scope i.place (get-contains ws n at.scope at.at) among) in
       let o = there_in f.number f.inner f.one i.place f.at f.there in
       let first : IsFirstSeen ws f.number f.inner o.0.place = record {
-        scopes = λ k l u low there same.
-            f.items k there.scope low there.at (subst (Contains (scope_places there.scope)) (same ∙ o.2)
+        scopes = λ k l u low there same. f.items k there.scope low there.at (subst (Contains (scope_places there.scope)) (same ∙ o.2)
             (contains-map (λ (z : NumberedInstance). z.place) there.scope.instances u (get-contains there.scope.instances l u there.instance_at)));
         instances = λ l u low there same.
             let here = one_item ws f.number there.scope f.one there.at f.at in
-            f.numbers l low (place_at f.one l u (subst (λ (z : NumberedScope). slice_get z.instances l ≡ Some u) here there.instance_at) ∙ ap Some (same ∙ o.2));
+            f.numbers l low ((mapped_get (λ (z : NumberedInstance). z.place) f.one.instances l u (subst (λ (z : NumberedScope). slice_get z.instances l ≡ Some u) here there.instance_at))
+            ∙ ap Some (same ∙ o.2));
       } in
       let z = told n j i at f.number f.inner o.0 o.1 (sym o.2) y y_in in
       let behind = behind_front scope_places ws m w w_at instances i.place none f.number f.inner f.one f.at f.there in
       subst (λ (p : ℕ). 14 + many ≤ p) z.2 (cut.views_behind f.number f.inner o.0 o.1 first behind z.0 z.1)
-    where
-      place_at : (u : NumberedScope) (l : ℕ) (o : NumberedInstance) → slice_get u.instances l ≡ Some o → slice_get (scope_places u) l ≡ Some o.place
-      place_at u l o e = mapped_get (λ (z : NumberedInstance). z.place) u.instances l o e
 
   -- ---- the plan
 
@@ -313,9 +287,8 @@ module _ (pieces : List Piece) (x : Followed) (h : Homes) (ms : List Member) (me
     pub high : 14 + many ≤ part
 
   module _ (marks : List Bool) (kept : List ℕ) (marked : AreMarked marks kept) (n : ℕ) (homes : ℕ → Option Home) (seen : List NumberedSight)
-      (within : (s : NumberedSight) → Contains seen s → Contains (views_of_members (numbered_members ms)) s)
-      (ps : List ℕ) (met : ps ≡ joined_all [] (flat_map scope_places ws)) (is : List PlannedInterface) (planned : AllZip (PlansPlace t kept n homes seen) ps is)
-      (firsts : (k q : ℕ) → slice_get ps k ≡ Some q → (s : NumberedSight) × (first_at q seen ≡ Some s)) where
+      (within : (s : NumberedSight) → Contains seen s → Contains (views_of_members (numbered_members ms)) s) (ps : List ℕ) (met : ps ≡ joined_all [] (flat_map scope_places ws))
+      (is : List PlannedInterface) (planned : AllZip (PlansPlace t kept n homes seen) ps is) (firsts : (k q : ℕ) → slice_get ps k ≡ Some q → (s : NumberedSight) × (first_at q seen ≡ Some s)) where
     all_split : (rest : List ℕ) × (flat_map scope_places ws ≡ shown_front ++ rest)
     all_split = split_flat scope_places ws m w w_at instances
 

@@ -97,9 +97,6 @@ labelled_labels y s e =
     let found = bind_some (part_scope y.1) (λ p. let z : Text × PartScope = (y.0, p) in Some z) s e in
     subst (λ (z : Text × PartScope). HaveLabels (meant_in z.1)) (same-some (y.0, found.0) s found.2) (part_labels y.1 found.0 found.1)
 
-part_shows : (t : Tables) (a : FollowedPart) (s : PartScope) → PartShown t a s → Shows t (followed_scope t.paths (scope_of a)) (meant_in s)
-part_shows t x y is = search std_rules
-
 module _ (pieces : List Piece) (x : Followed) (h : Homes) (ms : List Member) (members : List reads.Member) (input : IsReadInput pieces x h ms members) where
   abbrev t : Tables
   t = tables_of x
@@ -117,7 +114,7 @@ module _ (pieces : List Piece) (x : Followed) (h : Homes) (ms : List Member) (me
       let parts_all = input.followed.parts in
       let y = zip_at (λ y z. labelled_scope y ≡ Some z) parts_all numbers.scopes
       (each_beside labelled_scope parts_all numbers.scopes (scopes_found pieces parts_all input.followed.exported numbers.scopes numbers.found)) m s.0 s.1 in
-      record { scope = meant_in s.0.1; shows = part_shows t one.part s.0.1 s.2.1; labels = labelled_labels y.0 s.0 y.2 }
+      record { scope = meant_in s.0.1; shows = search std_rules; labels = labelled_labels y.0 s.0 y.2 }
 
   -- ---- one world
 
@@ -147,9 +144,7 @@ module _ (pieces : List Piece) (x : Followed) (h : Homes) (ms : List Member) (me
       counts = good.counts;
       many = good.many;
       rising = λ i j b c e f less.
-          let within = slice_get_within good.counts j c f in
-          let many = good.many in
-          let s = slice_there W.imports j (omega (arith, within, many)) in
+          let s = slice_there W.imports j (omega (arith, slice_get_within good.counts j c f, good.many)) in
           (good.counted j c s.0 s.1 f).rising i b e less;
       counted = counted_at;
     }
@@ -173,8 +168,7 @@ module _ (pieces : List Piece) (x : Followed) (h : Homes) (ms : List Member) (me
   part_followed m member b (parts.Interface p v imports) e = tt
 
   pub worlds_followed : AllByRecursion (λ (w : Text × Scope). WorldIsFollowed t (numbered_scope w.1)) (flat_map (λ (m : Member). world_in_part m.label.now m.part) ms)
-  worlds_followed =
-      all_flat (λ (w : Text × Scope). WorldIsFollowed t (numbered_scope w.1)) (λ (m : Member). world_in_part m.label.now m.part) ms
+  worlds_followed = all_flat (λ (w : Text × Scope). WorldIsFollowed t (numbered_scope w.1)) (λ (m : Member). world_in_part m.label.now m.part) ms
       (all_given (λ (m : Member). AllByRecursion (λ (w : Text × Scope). WorldIsFollowed t (numbered_scope w.1)) (world_in_part m.label.now m.part)) ms
       (λ m member e. part_followed m member (both_at pieces x h ms members input m member e) member.part refl))
 
@@ -183,14 +177,11 @@ read_worlds_are_followed pieces x h ms members input = worlds_followed pieces x 
 
 -- ---- interfaces
 
-import_bare : (s : NumberedSeen) (i : Placed) → imported_view s ≡ Some i → i.1.functions ≡ []
-import_bare s i e = search std_rules
-
 imports_bare : (ss : List NumberedSeen) (is : List Placed) → AllZip (λ s i. imported_view s ≡ Some i) ss is → AllByRecursion (λ (i : Placed). i.1.functions ≡ []) is
 imports_bare [] [] all = tt
 imports_bare [] (i ∷ is) all = absurd all
 imports_bare (s ∷ ss) [] all = absurd all
-imports_bare (s ∷ ss) (i ∷ is) all = (import_bare s i all.0, imports_bare ss is all.1)
+imports_bare (s ∷ ss) (i ∷ is) all = ((search std_rules), imports_bare ss is all.1)
 
 module _ (t : Tables) where
   part_bare : (a : FollowedPart) (b : Part) → IsPartOf t a b → PartIsBare (numbered_part b)

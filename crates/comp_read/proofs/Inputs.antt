@@ -57,8 +57,7 @@ module _ (pieces : List Piece) (x : Followed) (h : Homes) (ms : List Member) (me
 
     -- no two imports have one key
     pub keys_differ : distinct (map (λ (s : NumberedSeen). s.key) W.imports) ≡ true
-    keys_differ =
-        ap distinct (sym (map_of_map (λ (s : follow.Seen). s.key) (seen_of t) W.imports))
+    keys_differ = ap distinct (sym (map_of_map (λ (s : follow.Seen). s.key) (seen_of t) W.imports))
         ∙ (ap (λ (ss : List follow.Seen). distinct (map (λ (s : follow.Seen). s.key) ss)) (sym read.shows.imports)
         ∙ third_of (rules.are_imports [] read.scope.imports) (list_all (λ (s : follow.Seen). rules.is_item [] s.key s.shown) read.scope.exports)
         (distinct (map (λ (s : follow.Seen). s.key) read.scope.imports)) (distinct (map (λ (s : follow.Seen). s.key) read.scope.exports))
@@ -66,8 +65,7 @@ module _ (pieces : List Piece) (x : Followed) (h : Homes) (ms : List Member) (me
 
     -- no type is exported
     no_types : AllByRecursion HasNoType W.exports
-    no_types =
-        all_unmapped (λ (s : follow.Seen). scopes.is_type s.shown ≡ false) (seen_of t) W.exports
+    no_types = all_unmapped (λ (s : follow.Seen). scopes.is_type s.shown ≡ false) (seen_of t) W.exports
         (subst (AllByRecursion (λ (s : follow.Seen). scopes.is_type s.shown ≡ false)) read.shows.exports
         (all_given (λ (s : follow.Seen). scopes.is_type s.shown ≡ false) read.scope.exports (λ n s e. read.stands.stands.no_types n s e)))
 
@@ -88,9 +86,8 @@ module _ (pieces : List Piece) (x : Followed) (h : Homes) (ms : List Member) (me
       by : (a : Part) → member.part ≡ a → PartDeclaresNames t a
       by (parts.World w) e =
           let scope = world_scope pieces x h ms members input m member b w e in
-          let home : (scope_in pieces x h ms members input b.one).home ≡ w.home = ap (λ (z : NumberedScope). z.home) (sym scope.shows) in
           recursion_weaker (IsSeenNamed t w.home) (DeclaresName t w.home) (names_are w.home) w.imports.now
-          (subst (λ q. AllByRecursion (IsSeenNamed t q) w.imports.now) home
+          (subst (λ q. AllByRecursion (IsSeenNamed t q) w.imports.now) (ap (λ (z : NumberedScope). z.home) (sym scope.shows))
           (imports_are_named pieces x input.followed m b.one b.there (map instance_view (scope_of b.one.part).instances.items) w.imports.now (ap (λ (z : NumberedScope). z.imports) scope.shows)
           scope.imports))
       by (parts.Interface p v imports) e = tt
@@ -108,8 +105,7 @@ module _ (pieces : List Piece) (x : Followed) (h : Homes) (ms : List Member) (me
       viewed_in i c = let there = contains-get w.instances i c in instance_in pieces x h ms members input known obey m there.0 i (record { scope = w; at = at; instance_at = there.1 })
 
       import_in : (j : ℕ) (s : NumberedSeen) → slice_get w.imports j ≡ Some s → IsSeenIn t w.home s
-      import_in j s e = by s.shown refl (all_at (λ (y : NumberedSeen). IsPlacedItem t w.home y.shown) w.imports good.imports s among)
-          (all_at (λ (y : NumberedSeen). IsOneOf t w.instances y.shown) w.imports good.imported s among)
+      import_in j s e = by s.shown refl (all_at _ _ good.imports s among) (all_at _ _ good.imported s among)
         where
           among : Contains w.imports s
           among = get-contains w.imports j s e
@@ -118,15 +114,12 @@ module _ (pieces : List Piece) (x : Followed) (h : Homes) (ms : List Member) (me
           by (worlds.instance key v) same item one = (item.0, viewed_in (record { place = place_of_key key; view = v }) one)
           by (worlds.function n) same item one = function_in t (tables pieces x h ms members input) w.home n item
           by (worlds.declares d) same item one =
-              let within = slice_get_within w.imports j s e in
-              let many = good.many in
-              let count = slice_there good.counts j (omega (arith, within, many)) in
+              let count = slice_there good.counts j (omega (arith, slice_get_within w.imports j s e, good.many)) in
               let last = imports_come_last t w good keys j count.0 s d e count.1 same in
               (last.number, record { named = last.shape; behind = last.declared; met = all_met t (tables pieces x h ms members input) w.home d item })
 
       export_in : (s : NumberedSeen) → Contains w.exports s → IsSeenIn t w.home s
-      export_in s c = by s.shown (all_at (λ (y : NumberedSeen). IsPlacedItem t w.home y.shown) w.exports good.exports s c)
-          (all_at (λ (y : NumberedSeen). IsOneOf t w.instances y.shown) w.exports good.exported s c) (all_at HasNoType w.exports none s c)
+      export_in s c = by s.shown (all_at _ _ good.exports s c) (all_at _ _ good.exported s c) (all_at _ _ none s c)
         where
           by : (y : NumberedShown) → IsPlacedItem t w.home y → IsOneOf t w.instances y → scopes.is_type (shown_of t y) ≡ false
               → IsSeenIn t w.home (record { key = s.key; shown = y; external_id = s.external_id })
@@ -159,7 +152,7 @@ module _ (pieces : List Piece) (x : Followed) (h : Homes) (ms : List Member) (me
 
       interface_in : (p : ℕ) (v : View) (imports : Bor (List ImportedView)) → member.part ≡ parts.Interface p v imports → IsPartIn t (numbered_part (parts.Interface p v imports))
       interface_in p v imports e = (
-        view own own_there,
+        view own (Contains-append_right (map types_alone (map numbered_import imports.now)) (own ∷ []) own (contains-one own)),
         all_of (λ (i : ℕ × NumberedView). HasPath t i.0 × IsViewIn t i.0 i.1) (map numbered_import imports.now)
             (λ i c. view (types_alone i) (Contains-append_left (map types_alone (map numbered_import imports.now)) (own ∷ []) (types_alone i)
             (contains-map types_alone (map numbered_import imports.now) i c))),
@@ -167,9 +160,6 @@ module _ (pieces : List Piece) (x : Followed) (h : Homes) (ms : List Member) (me
         where
           own : NumberedSight
           own = record { place = p; view = numbered_view v; whole = true }
-
-          own_there : Contains (map types_alone (map numbered_import imports.now) ++ own ∷ []) own
-          own_there = Contains-append_right (map types_alone (map numbered_import imports.now)) (own ∷ []) own (contains-one own)
 
           view : (s : NumberedSight) → Contains (map types_alone (map numbered_import imports.now) ++ own ∷ []) s → HasPath t s.place × IsViewIn t s.place s.view
           view s c =

@@ -71,9 +71,8 @@ parts_named pieces parts e = by (bind_some (steps top_piece start pieces) (λ to
         let top = found.0 in
         let w = when_some (test top) (each (part_of top) top.exported) parts found.2 in
         let same = same_labels top top.exported parts (each_beside (part_of top) top.exported parts w.1) in
-        let labelled : AreLabelled top = steps_keep AreLabelled top_piece piece_keeps pieces start top found.1 tt in
         record {
-          labels = subst (AllByRecursion (λ (label : Text). is_label label ≡ true)) same (labels_of top.exported labelled);
+          labels = subst (AllByRecursion (λ (label : Text). is_label label ≡ true)) same (labels_of top.exported (steps_keep AreLabelled top_piece piece_keeps pieces start top found.1 tt));
           apart = ap distinct (sym same) ∙ second_true (length top.exported == length top.types) (distinct (map (λ x. x.0) top.exported)) w.0;
         }
 
@@ -109,9 +108,8 @@ read_labels_stand pieces x h ms members input =
     let shown = input_in_numbers pieces x input.followed in
     let parts = input.followed.parts in
     let named = parts_named pieces parts input.followed.exported in
-    let same : map (λ (p : Text × PartType). p.0) parts ≡ map (λ (m : Member). m.label.now) ms =
-    scope_labels parts shown.scopes (each_beside labelled_scope parts shown.scopes (scopes_found pieces parts input.followed.exported shown.scopes shown.found))
-    ∙ (shown_labels (tables_of x) x.members.items shown.scopes shown.shown ∙ member_labels (tables_of x) x.members.items ms input.are) in
+    let same = scope_labels parts shown.scopes (each_beside labelled_scope parts shown.scopes (scopes_found pieces parts input.followed.exported shown.scopes shown.found))
+        ∙ (shown_labels (tables_of x) x.members.items shown.scopes shown.shown ∙ member_labels (tables_of x) x.members.items ms input.are) in
     record {
       labels = labels_there ms (subst (AllByRecursion (λ (label : Text). is_label label ≡ true)) same named.labels);
       apart = ap distinct (sym same) ∙ named.apart;

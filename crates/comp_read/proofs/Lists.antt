@@ -107,14 +107,11 @@ beside {A = A} front back x y c = by (Contains-append_cases front (x ∷ back) y
 -- one more, that isn't among the others
 put_between : {A : Type 0} (front back : List A) (x : A) → AreDifferent (front ++ back) → (Contains (front ++ back) x → ⊥) → AreDifferent (front ++ x ∷ back)
 put_between [] back x apart new = (new, apart)
-put_between {A = A} (y ∷ front) back x apart new = (not_first, put_between front back x apart.1 (λ c. new (contains-later y (front ++ back) x c)))
+put_between {A = A} (y ∷ front) back x apart new = ((λ c. by (beside front back x y c)), put_between front back x apart.1 (λ c. new (contains-later y (front ++ back) x c)))
   where
     by : (y ≡ x) ⊎ Contains (front ++ back) y → ⊥
     by (inl same) = new (0, omega arith, same)
     by (inr there) = apart.0 there
-
-    not_first : Contains (front ++ x ∷ back) y → ⊥
-    not_first c = by (beside front back x y c)
 
 -- As many numbers as some that differ, and among which these are, differ.
 pub all_different : {A : Type 0} (cs xs : List A) → AreDifferent cs → ((c : A) → Contains cs c → Contains xs c) → length xs ≡ length cs → AreDifferent xs
@@ -130,15 +127,10 @@ all_different {A = A} (c ∷ cs) xs apart among many = by (λ rest each as_many.
     others p y d = still p y d (beside p.front p.back c y (subst (λ zs. Contains zs y) p.is (among y (contains-later c cs y d))))
 
     fewer : (p : Parted xs c) → length (p.front ++ p.back) ≡ length cs
-    fewer p =
-        let a : length xs ≡ length (p.front ++ c ∷ p.back) = ap length p.is in
-        let b : length (p.front ++ c ∷ p.back) ≡ length p.front + suc (length p.back) = length-append p.front (c ∷ p.back) in
-        let d : length (p.front ++ p.back) ≡ length p.front + length p.back = length-append p.front p.back in
-        omega (arith, a, b, d, many)
+    fewer p = omega (arith, ap length p.is, (length-append p.front (c ∷ p.back)), length-append p.front p.back, many)
 
     by : ((rest : List A) → ((y : A) → Contains cs y → Contains rest y) → length rest ≡ length cs → AreDifferent rest) → (p : Parted xs c) → AreDifferent xs
-    by deeper p =
-        subst AreDifferent (sym p.is)
+    by deeper p = subst AreDifferent (sym p.is)
         (put_between p.front p.back c (deeper (p.front ++ p.back) (others p) (fewer p)) (λ d. apart.0 (all_taken cs (p.front ++ p.back) apart.1 (others p) (fewer p) c d)))
 
 -- ---- what a test lets through

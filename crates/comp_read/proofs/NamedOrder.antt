@@ -50,15 +50,13 @@ module _ (pieces : List Piece) (x : Followed) (h : Homes) (ms : List Member) (me
   -- each scope stands under the paths of its part
   scope_under : (n : ℕ) (f : FollowedMember) (y : reads.Member) → slice_get x.members.items n ≡ Some f → slice_get members n ≡ Some y → map (path_at t) (scope_places (scope_in t f)) ≡ shown_under y
   scope_under n f y f_at y_at =
-      let found = input.followed.exported in
       let scopes = bind_some (scopes_of pieces) (each member_of_scope) members input.reads in
       let numbers = input_in_numbers pieces x input.followed in
-      let same : numbers.scopes ≡ scopes.0 = some_is numbers.scopes scopes.0 (sym numbers.found ∙ scopes.1) in
       let s = zip_at (MemberShown t) x.members.items numbers.scopes numbers.shown n f f_at in
-      let s_at = ap (λ ys. slice_get ys n) (sym same) ∙ s.1 in
+      let s_at = ap (λ ys. slice_get ys n) (sym (some_is numbers.scopes scopes.0 (sym numbers.found ∙ scopes.1))) ∙ s.1 in
       let z = zip_at (λ s m. member_of_scope s ≡ Some m) scopes.0 members (each_beside member_of_scope scopes.0 members scopes.2) n s.0 s_at in
-      let parts_beside = each_beside labelled_scope input.followed.parts scopes.0 (scopes_found pieces input.followed.parts found scopes.0 scopes.1) in
-      let p = zip_at_right (λ u v. labelled_scope u ≡ Some v) input.followed.parts scopes.0 parts_beside n s.0 s_at in
+      let p = zip_at_right (λ u v. labelled_scope u ≡ Some v) input.followed.parts scopes.0
+          (each_beside labelled_scope input.followed.parts scopes.0 (scopes_found pieces input.followed.parts input.followed.exported scopes.0 scopes.1)) n s.0 s_at in
       part_named t f.part s.0.1 s.2.1 ∙ (one_paths s.0 z.0 (one_stands p.0 s.0 p.2) z.2 ∙ ap shown_under (one_item members n z.0 y z.1 y_at))
 
   -- the member, as it was followed and as it is kept
@@ -98,22 +96,16 @@ module _ (pieces : List Piece) (x : Followed) (h : Homes) (ms : List Member) (me
     interfaces_are =
         let rest = split_flat scope_places ws m w w_at cut.instances in
         let whole = subst (λ (ps : List ℕ). are_once (filter (has_no_path t) ps) ≡ true) rest.1 alone in
-        many_places t (tables pieces x h ms members input) front_places rest.0 whole ∙ ap (λ (os : List (Option Text)). length (once_by_path os)) paths
+        many_places t (tables pieces x h ms members input) front_places rest.0 whole
+        ∙ ap (λ (os : List (Option Text)). length (once_by_path os)) (append_of_map (path_at t) (flat_map scope_places (take m ws)) (take cut.instances (scope_places w))
+        ∙ (λ i. earlier i ++ sym cut.paths_are i))
       where
-        beside : AllZip (λ (v : NumberedScope) (z : reads.Member). map (path_at t) (scope_places v) ≡ shown_under z) ws members
-        beside =
-            zip_of_map (λ (v : NumberedScope) (z : reads.Member). map (path_at t) (scope_places v) ≡ shown_under z) (scope_in t) x.members.items members
-            (zip_each (λ (f : FollowedMember) (z : reads.Member). Unit {0}) (λ (f : FollowedMember) (z : reads.Member). map (path_at t)
-            (scope_places (scope_in t f)) ≡ shown_under z) x.members.items members
-            (chained (IsMemberOf t) (IsMember t h) numbered_member x.members.items ms members input.are input.shown) scope_under)
-
         earlier : map (path_at t) (flat_map scope_places (take m ws)) ≡ flat_map shown_under (take m members)
-        earlier =
-            mapped_zip (path_at t) scope_places shown_under (take m ws) (take m members)
-            (zip_take (λ (v : NumberedScope) (z : reads.Member). map (path_at t) (scope_places v) ≡ shown_under z) m ws members beside)
-
-        paths : map (path_at t) front_places ≡ flat_map shown_under (take m members) ++ map (λ i. i.interface) scope.instances
-        paths = append_of_map (path_at t) (flat_map scope_places (take m ws)) (take cut.instances (scope_places w)) ∙ (λ i. earlier i ++ sym cut.paths_are i)
+        earlier = mapped_zip (path_at t) scope_places shown_under (take m ws) (take m members)
+            (zip_take (λ (v : NumberedScope) (z : reads.Member). map (path_at t) (scope_places v) ≡ shown_under z) m ws members
+            (zip_of_map (λ (v : NumberedScope) (z : reads.Member). map (path_at t) (scope_places v) ≡ shown_under z) (scope_in t) x.members.items members
+            (zip_each (λ (f : FollowedMember) (z : reads.Member). Unit {0}) (λ (f : FollowedMember) (z : reads.Member). map (path_at t) (scope_places (scope_in t f)) ≡ shown_under z) x.members.items
+            members (chained (IsMemberOf t) (IsMember t h) numbered_member x.members.items ms members input.are input.shown) scope_under)))
 
     worlds_are : worlds_before ms m ≡ (shown_until members m y.part scope).worlds
     worlds_are = many_worlds t h ms members input.shown m
@@ -121,9 +113,8 @@ module _ (pieces : List Piece) (x : Followed) (h : Homes) (ms : List Member) (me
     -- ---- the plan
 
     module _ (marks : List Bool) (kept : List ℕ) (marked : AreMarked marks kept) (n : ℕ) (homes : ℕ → Option Home) (seen : List NumberedSight)
-        (within : (s : NumberedSight) → Contains seen s → Contains (views_of_members (numbered_members ms)) s)
-        (ps : List ℕ) (met : ps ≡ joined_all [] (flat_map scope_places ws)) (p : Plan) (planned : AllZip (PlansPlace t kept n homes seen) ps p.interfaces)
-        (firsts : (k q : ℕ) → slice_get ps k ≡ Some q → (s : NumberedSight) × (first_at q seen ≡ Some s)) (places : List ℕ)
+        (within : (s : NumberedSight) → Contains seen s → Contains (views_of_members (numbered_members ms)) s) (ps : List ℕ) (met : ps ≡ joined_all [] (flat_map scope_places ws)) (p : Plan)
+        (planned : AllZip (PlansPlace t kept n homes seen) ps p.interfaces) (firsts : (k q : ℕ) → slice_get ps k ≡ Some q → (s : NumberedSight) × (first_at q seen ≡ Some s)) (places : List ℕ)
         (worlds : AllZip (PlansWorld t kept places n) (worlds_in ms) p.worlds) (r : Resolve) (built : IsBuilt p r) where
       less : (a b : ℕ) → IsLow pieces x h ms members input known obey m w w_at cut.instances cut.imports cut.many cut.cut kept a
           → IsHigh pieces x h ms members input known obey m w w_at cut.instances cut.imports cut.many cut.cut kept b → a < b
@@ -143,15 +134,14 @@ module _ (pieces : List Piece) (x : Followed) (h : Homes) (ms : List Member) (me
           let u = zip_at_right (PlansWorld t kept places n) (worlds_in ms) p.worlds worlds k (planned_world v) (world_built_at p r built k v v_at) in
           let o = world_of ms k u.0 u.1 in
           let e = get_back (λ e. e.1) v.imports.entries j (item.Type_ id) import_at in
-          let names = subst (λ (a : Part). PartDeclaresNames t a) o.is (all_at_too (λ (z : Member). PartDeclaresNames t z.part) ms declared o.number o.member o.at) in
-          let b = both_at pieces x h ms members input o.number o.member o.at in
           record {
             v = u.0;
             at = u.1;
             owner = o;
-            import_ = imported t kept places n u.0 (planned_world v) u.2 names j a (planned_key e.0.0, planned_item e.0.1)
+            import_ = imported t kept places n u.0 (planned_world v) u.2 (subst (λ (a : Part). PartDeclaresNames t a) o.is
+                (all_at_too (λ (z : Member). PartDeclaresNames t z.part) ms declared o.number o.member o.at)) j a (planned_key e.0.0, planned_item e.0.1)
                 (mapped_get (λ e. (planned_key e.0, planned_item e.1)) v.imports.entries j e.0 e.1) (ap planned_item e.2 ∙ ap plan.declares same);
-            scope_at = world_at pieces x h ms members input o.number o.member b u.0.1 o.is;
+            scope_at = world_at pieces x h ms members input o.number o.member (both_at pieces x h ms members input o.number o.member o.at) u.0.1 o.is;
             differ = keys_differ pieces x h ms members input u.0.1 (world_read pieces x h ms members input o.member (get-contains ms o.number o.member o.at) u.0.1 o.is);
           }
 
@@ -165,10 +155,9 @@ module _ (pieces : List Piece) (x : Followed) (h : Homes) (ms : List Member) (me
       counts = counts_of t h ms m kept_member.kept kept_member.kept_at y kept_member.is scope cut.imports cut.imports_are
 
       low_of : (a : ℕ) → IsNamedBefore r much a → IsLow pieces x h ms members input known obey m w w_at cut.instances cut.imports cut.many cut.cut kept a
-      low_of a (named.IsNamedBefore.in_interface k i i_at under c) =
-          interface_low pieces x h ms members input known obey m w w_at cut.instances cut.imports cut.many cut.cut marks kept marked n homes seen within ps met p.interfaces planned firsts k
-          (planned_interface i)
-          (built_at p r built k i i_at) (subst (λ (c : ℕ). k < c) (sym interfaces_are) under) a (subst (λ (ns : List ℕ). Contains ns a) (sym (type_numbers_are i)) c)
+      low_of a (named.IsNamedBefore.in_interface k i i_at under c) = interface_low pieces x h ms members input known obey m w w_at cut.instances cut.imports cut.many cut.cut marks kept marked n homes
+          seen within ps met p.interfaces planned firsts k (planned_interface i) (built_at p r built k i i_at) (subst (λ (c : ℕ). k < c) (sym interfaces_are) under) a
+          (subst (λ (ns : List ℕ). Contains ns a) (sym (type_numbers_are i)) c)
       low_of a (named.IsNamedBefore.in_world k j v id v_at import_at same side) =
           let o = of_world k j v id v_at import_at a same in
           let before = before_there ms m kept_member.kept kept_member.kept_at cut.imports much.imports counts k j o.v o.owner
@@ -177,17 +166,15 @@ module _ (pieces : List Piece) (x : Followed) (h : Homes) (ms : List Member) (me
           record { part = 14 + o.import_.number; is = o.import_.kept_; low = omega (arith, number) }
 
       high_of : (b : ℕ) → IsNamedBehind r much b → IsHigh pieces x h ms members input known obey m w w_at cut.instances cut.imports cut.many cut.cut kept b
-      high_of b (named.IsNamedBehind.in_interface k i i_at over c) =
-          interface_high pieces x h ms members input known obey m w w_at cut.instances cut.imports cut.many cut.cut marks kept marked n homes seen within ps met p.interfaces planned firsts k
-          (planned_interface i)
-          (built_at p r built k i i_at) (subst (λ (c : ℕ). c ≤ k) (sym interfaces_are) over) b (subst (λ (ns : List ℕ). Contains ns b) (sym (type_numbers_are i)) c)
+      high_of b (named.IsNamedBehind.in_interface k i i_at over c) = interface_high pieces x h ms members input known obey m w w_at cut.instances cut.imports cut.many cut.cut marks kept marked n homes
+          seen within ps met p.interfaces planned firsts k (planned_interface i) (built_at p r built k i i_at) (subst (λ (c : ℕ). c ≤ k) (sym interfaces_are) over) b
+          (subst (λ (ns : List ℕ). Contains ns b) (sym (type_numbers_are i)) c)
       high_of b (named.IsNamedBehind.in_world k j v id v_at import_at same side) =
           let o = of_world k j v id v_at import_at b same in
-          let behind = behind_there ms m kept_member.kept kept_member.kept_at cut.imports much.imports counts k j o.v o.owner
-          (subst (λ (c : ℕ). (c < k) ⊎ ((k ≡ c) × (much.imports ≤ j))) (sym worlds_are) side) in
-          let number = cut.cut.types_behind o.owner.number j
-          (numbered_scope o.v.1) o.import_.seen o.import_.declared o.scope_at o.import_.at o.import_.is o.differ behind o.import_.number o.import_.row in
-          record { part = 14 + o.import_.number; is = o.import_.kept_; high = omega (arith, number) }
+          record { part = 14 + o.import_.number; is = o.import_.kept_; high =
+              omega (arith, cut.cut.types_behind o.owner.number j (numbered_scope o.v.1) o.import_.seen o.import_.declared o.scope_at o.import_.at o.import_.is o.differ
+              (behind_there ms m kept_member.kept kept_member.kept_at cut.imports much.imports counts k j o.v o.owner
+              (subst (λ (c : ℕ). (c < k) ⊎ ((k ≡ c) × (much.imports ≤ j))) (sym worlds_are) side)) o.import_.number o.import_.row) }
 
       pub named_less : (a b : ℕ) → IsNamedBefore r much a → IsNamedBehind r much b → a < b
       named_less a b before behind = less a b (low_of a before) (high_of b behind)

@@ -68,8 +68,7 @@ module _ (pieces : List Piece) (x : Followed) (h : Homes) (ms : List Member) (me
             let there : Contains (views_of_part (numbered_part member.part)) s = subst (λ (a : Part). Contains (views_of_part (numbered_part a)) s) (sym e) c in
             let i = instance_of_view pieces x h ms members input m member b s there in
             views_are_known pieces x input.followed facts are_known s.place (interface_path pieces x h ms members input m member b p (numbered_view v) (map numbered_import imports.now)
-            (ap numbered_part e) s there) s.view
-            (instance_placed pieces x h ms members input m i.number (instance_shown s) i.at) s.whole
+            (ap numbered_part e) s there) s.view (instance_placed pieces x h ms members input m i.number (instance_shown s) i.at) s.whole
 
         by : (a : Part) → member.part ≡ a → AllByRecursion (IsKnownSight t known) (sights_of_part t (numbered_part a)) × PartIsKnown t known (numbered_part a)
         by (parts.World w) e = let found = scopes_are_known pieces x input.followed facts are_known m (numbered_scope w) (world_at pieces x h ms members input m member b w e) in (found.1, found.0)

@@ -36,16 +36,10 @@ module _ (t : Tables) (tables : AreTables t) (h : Homes) (stand : HomesStand t h
   abbrev trees : List reads.Member
   trees = map (own_tree t identity) ms
 
-  own_shows : (k : NumberedMember) → Contains ms k → ShowsPart t h k k.part (tree_of_part t k.part)
-  own_shows k c = search (std_rules, own_at t h n w ms are k c)
-
   pub own_members : AllZip (IsMember t h) ms trees
   own_members =
-      zip_mapped (IsMember t h) (own_tree t identity) ms (λ k c. record {
-        label = refl;
-        package_ = ap (slice_get h.packages) (own_at t h n w ms are k c).package_ ∙ there;
-        part = own_shows k c;
-      })
+      zip_mapped (IsMember t h) (own_tree t identity) ms (λ k c. record { label = refl; package_ = ap (slice_get h.packages) (own_at t h n w ms are k c).package_ ∙ there; part =
+      search (std_rules, own_at t h n w ms are k c) })
 
   -- ---- what they show
 
@@ -61,9 +55,8 @@ module _ (t : Tables) (tables : AreTables t) (h : Homes) (stand : HomesStand t h
     own_named k c =
         let is = own_at t h n w ms are k c in
         let spelled = spelled_as t tables h stand n is.place k.label is.path is.home in
-        let who : spelled.identity ≡ identity = same-some spelled.identity identity (sym spelled.there ∙ there) in
-        let path : path_at t is.place ≡ Some (path_in identity k.label) = spelled.path ∙ ap (λ (i : PackageIdentity). Some (path_in i k.label)) who in
-        subst (Contains scope.instances) (λ i. record { interface = path i; view = view_of t is.view })
+        subst (Contains scope.instances) (λ i. record { interface = (spelled.path
+            ∙ ap (λ (i : PackageIdentity). Some (path_in i k.label)) (same-some spelled.identity identity (sym spelled.there ∙ there))) i; view = view_of t is.view })
         (subst (λ (xs : List Instance). Contains xs (instance_of t (record { place = is.place; view = is.view }))) (sym shows.instances)
         (contains-map (instance_of t) w.instances (record { place = is.place; view = is.view }) is.among))
 
@@ -78,9 +71,8 @@ module _ (t : Tables) (tables : AreTables t) (h : Homes) (stand : HomesStand t h
     own_instance x c =
         let from = flat_cases instances_of trees x c in
         let m = from_map (own_tree t identity) ms from.0 from.1 in
-        let is = own_at t h n w ms are m.0 m.1 in
-        let same : named m.0 is.view ≡ x = one-contained (named m.0 is.view) x (subst (λ (y : reads.Member). Contains (instances_of y) x) (sym m.2 ∙ own_tree_is m.0 m.1) from.2) in
-        subst (Contains scope.instances) same (own_named m.0 m.1)
+        subst (Contains scope.instances) (one-contained (named m.0 (own_at t h n w ms are m.0 m.1).view) x
+        (subst (λ (y : reads.Member). Contains (instances_of y) x) (sym m.2 ∙ own_tree_is m.0 m.1) from.2)) (own_named m.0 m.1)
 
     -- ---- they are well-formed behind the world
 
@@ -103,9 +95,7 @@ module _ (t : Tables) (tables : AreTables t) (h : Homes) (stand : HomesStand t h
           by (inl here) = view_stands k k (omega arith) x (stands.views k x here)
           by (inr later) =
               let at = contains-get scope.instances x (own_instance x (get-contains (all_instances trees) later.0 x later.2)) in
-              let low = slice_get_within scope.instances at.0 x at.1 in
-              let is = later.1 in
-              view_stands at.0 k (omega (arith, low, is)) x (stands.views at.0 x at.1)
+              view_stands at.0 k (omega (arith, slice_get_within scope.instances at.0 x at.1, later.1)) x (stands.views at.0 x at.1)
 
       pub world_members_stand : MembersStand (one ∷ trees)
       world_members_stand = record {
@@ -126,13 +116,7 @@ module _ (t : Tables) (tables : AreTables t) (h : Homes) (stand : HomesStand t h
 
       -- fewer names are met in it alone
       kinds_alone : (k : NumberedMember) (v : NumberedView) (j : ℕ) → ViewHasKinds kinds scope.instances j (named k v) → ViewHasKinds kinds (named k v ∷ []) 0 (named k v)
-      kinds_alone k v j is = record {
-        own = is.own;
-        shown = is.shown;
-        met = λ i place name b met. is.met i place name b (wider i place name b met);
-        types = is.types;
-        functions = is.functions;
-      }
+      kinds_alone k v j is = record { own = is.own; shown = is.shown; met = λ i place name b met. is.met i place name b (wider i place name b met); types = is.types; functions = is.functions }
         where
           wider : (i : ℕ) (place : Place) (name : Text) (b : Bool) → IsMetInView (IsShownBefore (named k v ∷ []) 0) (place_of (named k v).interface) (named k v).view i place name b
               → IsMetInView (IsShownBefore scope.instances j) (place_of (named k v).interface) (named k v).view i place name b

@@ -57,9 +57,8 @@ has_behind (r ∷ ps) p q = search (std_rules, has_behind ps p q)
 
 once_behind : (ps : List ℕ) (p : ℕ) → are_once ps ≡ true → has ps p ≡ false → are_once (ps ++ p ∷ []) ≡ true
 once_behind [] p once none = refl
-once_behind (r ∷ ps) p once none =
-    both (not (has (ps ++ p ∷ []) r)) (are_once (ps ++ p ∷ [])) (ap not (has_behind ps p r) ∙ fewer (has ps r) (p == r) (first_true (not (has ps r)) (are_once ps) once) (differ (p == r) refl))
-    (once_behind ps p (second_true (not (has ps r)) (are_once ps) once) (rest (r == p) none))
+once_behind (r ∷ ps) p once none = both _ _ (ap not (has_behind ps p r) ∙ fewer (has ps r) (p == r) (first_true _ _ once) (differ (p == r) refl))
+    (once_behind ps p (second_true _ _ once) (rest (r == p) none))
   where
     fewer : (a b : Bool) → not a ≡ true → b ≡ false → not (a || b) ≡ true
     fewer true b h e = h
@@ -116,8 +115,7 @@ module _ (n : ℕ) (label : Text) (s : NumberedSight) (places later : List ℕ) 
       on false h = no_true (sym h)
 
 pub adds_own : {R E : Type 0} (r : Result R E) (h : Homes) (n : ℕ) (s : NumberedSight) (places : List ℕ) (ms : List NumberedMember) (label : Text) → home_at h s.place ≡ Some (n, label)
-    → (later : List ℕ) (more : List NumberedMember)
-    → OnOk r (AddsInterface n label s places ms later more) → OnOk r (AddsView h n s places ms later more)
+    → (later : List ℕ) (more : List NumberedMember) → OnOk r (AddsInterface n label s places ms later more) → OnOk r (AddsView h n s places ms later more)
 adds_own (Ok x) h n s places ms label home later more adds = own label later more home adds
 adds_own (Err e) h n s places ms label home later more adds = tt
 
@@ -150,10 +148,7 @@ module _ (h : Homes) (n : ℕ) (done rest : List NumberedSight) (s : NumberedSig
   foreign_step places ms g foreign = record {
     each = g.each;
     of = g.of;
-    all = λ u c is. elim (next_view u c) [
-      | inl among ↦ g.all u among is
-      | inr same ↦ no_true (sym foreign ∙ (ap (λ (v : NumberedSight). is_of_package h n v.place) same ∙ is))
-    ];
+    all = λ u c is. elim (next_view u c) [ inl among ↦ g.all u among is | inr same ↦ no_true (sym foreign ∙ (ap (λ (v : NumberedSight). is_of_package h n v.place) same ∙ is)) ];
     once = g.once;
     order = g.order ∙ sym (filter_other (is_of_package h n) (λ (u : NumberedSight). u.place) done s foreign);
   }
@@ -162,19 +157,14 @@ module _ (h : Homes) (n : ℕ) (done rest : List NumberedSight) (s : NumberedSig
   known_step places ms g is there = record {
     each = g.each;
     of = g.of;
-    all = λ u c is. elim (next_view u c) [
-      | inl among ↦ g.all u among is
-      | inr same ↦ subst (λ (v : NumberedSight). has places v.place ≡ true) same there
-    ];
+    all = λ u c is. elim (next_view u c) [ inl among ↦ g.all u among is | inr same ↦ subst (λ (v : NumberedSight). has places v.place ≡ true) same there ];
     once = g.once;
     order = g.order ∙ sym (filter_known (is_of_package h n) (λ (u : NumberedSight). u.place) done s is (subst (λ (ps : List ℕ). has ps s.place ≡ true) g.order there));
   }
 
   module _ (places : List ℕ) (ms : List NumberedMember) (g : IsGathered h n seen done places ms) (label : Text) (home : home_at h s.place ≡ Some (n, label)) (m : NumberedMember) (none : has places s.place ≡ false) (is : IsOfView n label s m) where
     not_before : (u : NumberedSight) → Contains done u → u.place ≡ s.place → ⊥
-    not_before u c same =
-        let of : is_of_package h n u.place ≡ true = ap (is_of_package h n) same ∙ home_is_of h n s.place label home in
-        no_true (sym none ∙ (ap (has places) (sym same) ∙ g.all u c of))
+    not_before u c same = no_true (sym none ∙ (ap (has places) (sym same) ∙ g.all u c (ap (is_of_package h n) same ∙ home_is_of h n s.place label home)))
 
     own_among : IsOwnAmong h n seen m
     own_among = record {
@@ -215,14 +205,12 @@ module _ (h : Homes) (n : ℕ) (done rest : List NumberedSight) (s : NumberedSig
 -- ---- all views
 
 module _ (h : Homes) (n : ℕ) (seen : List NumberedSight) (places : List ℕ) (ms : List NumberedMember) (g : IsGathered h n seen seen places ms) where
-  part_is : (q : ℕ) (a : NumberedPart) → Contains (place_of_part a) q → is_interface_of q a ≡ true
-  part_is q x c = search std_rules
 
   any_of_place : (q : ℕ) → has places q ≡ true → list_any (λ (m : NumberedMember). is_interface_of q m.part) ms ≡ true
   any_of_place q e =
       let from = flat_cases (λ (m : NumberedMember). place_of_part m.part) ms q (subst (λ ps. Contains ps q) (sym g.of) (has-contains places q e)) in
       let at = contains-get ms from.0 from.1 in
-      get_any (λ (m : NumberedMember). is_interface_of q m.part) ms at.0 from.0 at.1 (part_is q from.0.part from.2)
+      get_any (λ (m : NumberedMember). is_interface_of q m.part) ms at.0 from.0 at.1 ((search std_rules))
 
   pub all_gathered : AreOwnAmong h n seen ms
   all_gathered = record { each = g.each; all = λ s c is. any_of_place s.place (g.all s c is); once = ap are_once g.of ∙ g.once; order = g.of ∙ g.order }
@@ -319,23 +307,20 @@ module _ (t : Tables) (h : Homes) (n : ℕ) (w : NumberedScope) (ms : List Numbe
   abbrev pub view_of_own : (k : NumberedMember) → IsOwn k → NumberedSight
   view_of_own k is = record { place = is.place; view = is.view; whole = true }
 
-  pub one_sight : (k : NumberedMember) (c : Contains ms k) (s : NumberedSight) → Contains (sights_of_part t k.part) s → view_of_own k (own_at k c) ≡ s
-  one_sight k c s d = let is = own_at k c in one-contained (view_of_own k is) s (subst (λ (a : NumberedPart). Contains (sights_of_part t a) s) is.part d)
-
   -- each view that they give is one of the world's
   pub own_sight : (s : NumberedSight) → Contains (sights_of_members t ms) s → Contains (sights_of_scope t w) s
   own_sight s c =
       let from = flat_cases (λ (k : NumberedMember). sights_of_part t k.part) ms s c in
-      subst (Contains (sights_of_scope t w)) (one_sight from.0 from.1 s from.2) (own_at from.0 from.1).seen
-
-  one_view : (k : NumberedMember) (c : Contains ms k) (s : NumberedSight) → Contains (views_of_part k.part) s → view_of_own k (own_at k c) ≡ s
-  one_view k c s d = let is = own_at k c in one-contained (view_of_own k is) s (subst (λ (a : NumberedPart). Contains (views_of_part a) s) is.part d)
+      subst (Contains (sights_of_scope t w)) ((let is = own_at from.0 from.1 in one-contained (view_of_own from.0 is) s (subst (λ (a : NumberedPart). Contains (sights_of_part t a) s) is.part from.2)))
+      (own_at from.0 from.1).seen
 
   pub own_view : (s : NumberedSight) → Contains (views_of_members ms) s → Contains (map whole_view w.instances) s
   own_view s c =
       let from = flat_cases (λ (k : NumberedMember). views_of_part k.part) ms s c in
       let is = own_at from.0 from.1 in
-      subst (Contains (map whole_view w.instances)) (one_view from.0 from.1 s from.2) (contains-map whole_view w.instances (record { place = is.place; view = is.view }) is.among)
+      subst (Contains (map whole_view w.instances)) ((let is = own_at from.0 from.1 in
+      one-contained (view_of_own from.0 is) s (subst (λ (a : NumberedPart). Contains (views_of_part a) s) is.part from.2)))
+      (contains-map whole_view w.instances (record { place = is.place; view = is.view }) is.among)
 
   -- beside the world itself
   pub sight_among : (label : Text) (s : NumberedSight) → Contains (sights_of_members t (record { label = label; package_ = n; part = world w } ∷ ms)) s → Contains (sights_of_scope t w) s

@@ -119,12 +119,6 @@ module _ (pieces : List Piece) (x : Followed) (h : Homes) (ms : List Member) (me
       good : IsScopeIn t W
       good = world_in pieces x h ms members input known obey m member b w is
 
-      imported : AllByRecursion (λ (s : NumberedSeen). IsOneOf t W.instances s.shown) W.imports
-      imported = good.imported
-
-      exported : AllByRecursion (λ (s : NumberedSeen). IsOneOf t W.instances s.shown) W.exports
-      exported = good.exported
-
       -- the place of an import or an export is that of an instance
       seen_owns : (ss : List NumberedSeen) → AllByRecursion (λ (s : NumberedSeen). IsOneOf t W.instances s.shown) ss → (q : ℕ) → Contains (places_of_seen ss) q → HasInstance m q
       seen_owns ss one q c =
@@ -142,8 +136,8 @@ module _ (pieces : List Piece) (x : Followed) (h : Homes) (ms : List Member) (me
       places_own q c = by (Contains-append_cases (places_of_seen W.imports) (places_of_seen W.exports) q c)
         where
           by : Contains (places_of_seen W.imports) q ⊎ Contains (places_of_seen W.exports) q → HasInstance m q
-          by (inl among) = seen_owns W.imports imported q among
-          by (inr among) = seen_owns W.exports exported q among
+          by (inl among) = seen_owns W.imports good.imported q among
+          by (inr among) = seen_owns W.exports good.exported q among
 
       -- each instance without a path is imported or exported
       all_seen : (q : ℕ) → Contains (map (λ (i : NumberedInstance). i.place) (filter (no_path t) W.instances)) q → Contains without q
@@ -156,8 +150,7 @@ module _ (pieces : List Piece) (x : Followed) (h : Homes) (ms : List Member) (me
         where
           place_there : (i : NumberedInstance) (ss : List NumberedSeen) (s : NumberedSeen) → Contains ss s → (key : worlds.NumberedKey) → s.shown ≡ worlds.instance key i.view
               → place_of_key key ≡ i.place → Contains (places_of_seen ss) i.place
-          place_there i ss s among key e place =
-              contains-flat (λ (y : NumberedSeen). places_of_shown y.shown) ss s i.place among
+          place_there i ss s among key e place = contains-flat (λ (y : NumberedSeen). places_of_shown y.shown) ss s i.place among
               (subst (λ (y : NumberedShown). Contains (places_of_shown y) i.place) (sym e) (subst (λ z. Contains (z ∷ []) i.place) (sym place) (contains-one i.place)))
 
           of_seen : (i : NumberedInstance) → IsSeen W i → Contains P i.place
@@ -173,36 +166,23 @@ module _ (pieces : List Piece) (x : Followed) (h : Homes) (ms : List Member) (me
 
       as_many : length without ≡ length (map (λ (i : NumberedInstance). i.place) (filter (no_path t) W.instances))
       as_many =
-          let places = length_of_map (λ (i : NumberedInstance). i.place) (filter (no_path t) W.instances) in
-          let a = kept_nones t W.instances in
-          let c : nones t read.scope.instances ≡ nones t (map (instance_of t) W.instances) = ap (nones t) read.shows.instances in
-          let d : nones t (map (λ (y : Direction × Instance). y.1) read.stands.seen.seen) ≡ nones t read.scope.instances = ap (nones t) read.stands.seen.all in
-          let e = both_ways t read.stands.seen.seen in
-          let f : nones t (going import_ read.stands.seen.seen) ≡ nones t (instances_in read.scope.imports) = ap (nones t) read.stands.seen.imported in
-          let g : nones t (going export_ read.stands.seen.seen) ≡ nones t (instances_in read.scope.exports) = ap (nones t) read.stands.seen.exported in
-          let i : nones t (instances_in read.scope.imports) ≡ length (inlines t W.imports) = ap (λ ss. nones t (instances_in ss)) read.shows.imports ∙ seen_nones t W.imports in
-          let k : nones t (instances_in read.scope.exports) ≡ length (inlines t W.exports) = ap (λ ss. nones t (instances_in ss)) read.shows.exports ∙ seen_nones t W.exports in
-          let l : length (filter (has_no_path t) (places_of_seen W.imports)) ≡ length (inlines t W.imports) =
-          ap length (sym (inline_places t W good W.imports good.imports)) ∙ length_of_map (λ (z : NumberedInstance). z.place) (inlines t W.imports) in
-          let n : length (filter (has_no_path t) (places_of_seen W.exports)) ≡ length (inlines t W.exports) =
-          ap length (sym (inline_places t W good W.exports good.exports)) ∙ length_of_map (λ (z : NumberedInstance). z.place) (inlines t W.exports) in
-          let o : length without ≡ length (filter (has_no_path t) (places_of_seen W.imports)) + length (filter (has_no_path t) (places_of_seen W.exports)) =
-          ap length (filter-append (has_no_path t) (places_of_seen W.imports) (places_of_seen W.exports)) ∙ length-append (filter (has_no_path t) (places_of_seen W.imports))
-          (filter (has_no_path t) (places_of_seen W.exports)) in
-          omega (arith, places, a, c, d, e, f, g, i, k, l, n, o)
+          omega (arith, length_of_map (λ (i : NumberedInstance). i.place) (filter (no_path t) W.instances), kept_nones t W.instances, ap (nones t) read.shows.instances,
+          ap (nones t) read.stands.seen.all, both_ways t read.stands.seen.seen, ap (nones t) read.stands.seen.imported, ap (nones t) read.stands.seen.exported,
+          (ap (λ ss. nones t (instances_in ss)) read.shows.imports ∙ seen_nones t W.imports), (ap (λ ss. nones t (instances_in ss)) read.shows.exports ∙ seen_nones t W.exports),
+          (ap length (sym (inline_places t W good W.imports good.imports)) ∙ length_of_map (λ (z : NumberedInstance). z.place) (inlines t W.imports)),
+          (ap length (sym (inline_places t W good W.exports good.exports)) ∙ length_of_map (λ (z : NumberedInstance). z.place) (inlines t W.exports)),
+          (ap length (filter-append (has_no_path t) (places_of_seen W.imports) (places_of_seen W.exports))
+          ∙ length-append (filter (has_no_path t) (places_of_seen W.imports)) (filter (has_no_path t) (places_of_seen W.exports))))
 
       without_differ : AreDifferent without
       without_differ = all_different (map (λ (i : NumberedInstance). i.place) (filter (no_path t) W.instances)) without (places_differ t W.instances instances_apart) all_seen as_many
-
-      not_home : Contains without W.home → ⊥
-      not_home c = home_instance m m W W.home good.home here refl (places_own W.home (filter_from (has_no_path t) P W.home c).0)
 
       -- the places without a path of the world
       world_differ : AreDifferent (filter (has_no_path t) (places_of_part (world W)))
       world_differ = by (has_no_path t W.home)
         where
           by : (o : Bool) → AreDifferent (if o then W.home ∷ without else without)
-          by true = (not_home, without_differ)
+          by true = ((λ c. home_instance m m W W.home good.home here refl (places_own W.home (filter_from (has_no_path t) P W.home c).0)), without_differ)
           by false = without_differ
 
       world_owns : (q : ℕ) → Contains (filter (has_no_path t) (places_of_part (world W))) q → Owns m q
@@ -241,15 +221,11 @@ module _ (pieces : List Piece) (x : Followed) (h : Homes) (ms : List Member) (me
         one_of : (i j q : ℕ) → IsOfOne own (numbered_members ms) i q → IsOfOne own (numbered_members ms) j q → i ≡ j
         one_of i j q a b =
             let among = get-contains (own a.one) a.inner q a.there in
-            let none = no_place (path_at t q) (filter_from (has_no_path t) (places_of_part a.one.part) q among).1 in
-            let one : a.number ≡ b.number = one_owner a.number b.number q none (owner_at a.number a.one a.at q among) (owner_at b.number b.one b.at q (get-contains (own b.one) b.inner q b.there)) in
-            let same : a.one ≡ b.one = one_item (numbered_members ms) b.number a.one b.one (subst (λ k. slice_get (numbered_members ms) k ≡ Some a.one) one a.at) b.at in
-            let inner : a.inner ≡ b.inner = once_different (own b.one) (differ_at b.number b.one b.at) a.inner b.inner q
-            (subst (λ (z : NumberedMember). slice_get (own z) a.inner ≡ Some q) same a.there) b.there in
-            let front : before_of own (numbered_members ms) a.number ≡ before_of own (numbered_members ms) b.number = ap (before_of own (numbered_members ms)) one in
-            let ai = a.is in
-            let bi = b.is in
-            omega (arith, front, inner, ai, bi)
+            let one : a.number ≡ b.number = one_owner a.number b.number q (no_place (path_at t q) (filter_from (has_no_path t) (places_of_part a.one.part) q among).1)
+                (owner_at a.number a.one a.at q among) (owner_at b.number b.one b.at q (get-contains (own b.one) b.inner q b.there)) in
+            omega (arith, ap (before_of own (numbered_members ms)) one, (once_different (own b.one) (differ_at b.number b.one b.at) a.inner b.inner q
+            (subst (λ (z : NumberedMember). slice_get (own z) a.inner ≡ Some q)
+            (one_item (numbered_members ms) b.number a.one b.one (subst (λ k. slice_get (numbered_members ms) k ≡ Some a.one) one a.at) b.at) a.there) b.there), a.is, b.is)
 
     pub are_placed : ArePlaced t ms
     are_placed = record {

@@ -79,10 +79,9 @@ module _ (t : Tables) where
         by : (o : Option Text) → path_at t n ≡ o → are_once (rest_of (is_none o)) ≡ true → (are_once (filter (has_no_path t) ns) ≡ true → map (path_at t) (once ns) ≡ once_by_path (map (path_at t) ns))
             → path_at t n ∷ map (path_at t) (filter (λ m. not (m == n)) (once ns)) ≡ once_by_path (o ∷ map (path_at t) ns)
         by None e alone more =
-            let new : has (filter (has_no_path t) ns) n ≡ false = not-true (has (filter (has_no_path t) ns) n)
-            (first_true (not (has (filter (has_no_path t) ns) n)) (are_once (filter (has_no_path t) ns)) alone) in
-            let left = none_left n (once ns) (has_once n ns ∙ (pathless n e ns ∙ new)) in
-            λ i. e i ∷ (ap (map (path_at t)) left ∙ more (second_true (not (has (filter (has_no_path t) ns) n)) (are_once (filter (has_no_path t) ns)) alone)) i
+            λ i. e i ∷ (ap (map (path_at t)) (none_left n (once ns) (has_once n ns
+            ∙ (pathless n e ns ∙ not-true (has (filter (has_no_path t) ns) n) (first_true (not (has (filter (has_no_path t) ns) n)) (are_once (filter (has_no_path t) ns)) alone))))
+            ∙ more (second_true (not (has (filter (has_no_path t) ns) n)) (are_once (filter (has_no_path t) ns)) alone)) i
         by (Some path) e alone more = λ i. e i ∷ (others n path e (once ns) ∙ ap (filter (λ o. not (is_under path o))) (more alone)) i
 
     -- the functions of a path
@@ -104,14 +103,12 @@ module _ (t : Tables) where
 
     -- the path of an interface that is exported
     exported_path : (h : Homes) → HomesStand t h → (m : NumberedMember) (x : reads.Member) → slice_get h.packages m.package_ ≡ Some x.package_ → x.label ≡ m.label → (p : ℕ) → HasPath t p
-        → home_at h p ≡ Some (m.package_, m.label)
-        → Some (path_in x.package_ x.label) ≡ path_at t p
+        → home_at h p ≡ Some (m.package_, m.label) → Some (path_in x.package_ x.label) ≡ path_at t p
     exported_path h stand m x package_ under p path at_home =
         let home = stand.homes p path.0 path.1 in
-        let pair : ◌≡◌ {A = ℕ × Text} (home.package_, home.name) (m.package_, m.label) = same-some (home.package_, home.name) (m.package_, m.label) (sym home.home ∙ at_home) in
-        let identity : home.identity ≡ x.package_ = same-some home.identity x.package_ (sym home.stands ∙ (ap (λ (y : ℕ × Text). slice_get h.packages y.0) pair ∙ package_)) in
-        let name : home.name ≡ x.label = ap (λ (y : ℕ × Text). y.1) pair ∙ sym under in
-        sym (path.1 ∙ ap Some ((read_path_is_spelled path.0 home.identity home.name home.reads).spelled ∙ (λ i. path_in (identity i) (name i))))
+        let pair : ◌≡◌ {A = ℕ × Text} (home.package_, home.name) (m.package_, m.label) = same-some _ _ (sym home.home ∙ at_home) in
+        sym (path.1 ∙ ap Some ((read_path_is_spelled path.0 home.identity home.name home.reads).spelled
+        ∙ (λ i. path_in ((same-some _ _ (sym home.stands ∙ (ap (λ (y : ℕ × Text). slice_get h.packages y.0) pair ∙ package_))) i) ((ap (λ (y : ℕ × Text). y.1) pair ∙ sym under) i))))
 
     imported_paths : (imports : List (ℕ × NumberedView)) → AllByRecursion (λ (i : ℕ × NumberedView). HasPath t i.0 × IsViewIn t i.0 i.1) imports
         → map (λ (i : ℕ × NumberedView). Some (path_text t i.0)) imports ≡ map (λ (i : ℕ × NumberedView). path_at t i.0) imports
@@ -119,17 +116,13 @@ module _ (t : Tables) where
     imported_paths (i ∷ imports) all = λ j. (ap Some (path_is t i.0 all.0.0) ∙ sym all.0.0.1) j ∷ imported_paths imports all.1 j
 
     pub part_paths : (h : Homes) → HomesStand t h → (m : NumberedMember) (x : reads.Member) → slice_get h.packages m.package_ ≡ Some x.package_ → x.label ≡ m.label
-        → (a : NumberedPart) (b : reads.Part) → ShowsPart t h m a b → IsPartIn t a
-        → map (path_at t) (places_of_part a) ≡ shown_under (record { label = x.label; package_ = x.package_; part = b })
-    part_paths h stand m x package_ under (world w) (reads.Part.world scope) shows is =
-        map_of_map (path_at t) (λ (i : NumberedInstance). i.place) w.instances
+        → (a : NumberedPart) (b : reads.Part) → ShowsPart t h m a b → IsPartIn t a → map (path_at t) (places_of_part a) ≡ shown_under (record { label = x.label; package_ = x.package_; part = b })
+    part_paths h stand m x package_ under (world w) (reads.Part.world scope) shows is = map_of_map (path_at t) (λ (i : NumberedInstance). i.place) w.instances
         ∙ (sym (map_of_map (λ i. i.interface) (instance_of t) w.instances) ∙ sym (ap (map (λ i. i.interface)) shows.instances))
     part_paths h stand m x package_ under (interface p v imports) (reads.Part.interface view views) shows is =
-        let front : map (path_at t) (map (λ (i : ℕ × NumberedView). i.0) imports) ≡ map (λ i. Some i.0) views =
-        map_of_map (path_at t) (λ (i : ℕ × NumberedView). i.0) imports
-        ∙ (sym (imported_paths imports is.1) ∙ (sym (map_of_map (λ i. Some i.0) (λ (i : ℕ × NumberedView). (path_text t i.0, view_of t i.1)) imports) ∙ sym
-        (ap (map (λ i. Some i.0)) shows.imported))) in
-        append_of_map (path_at t) (map (λ (i : ℕ × NumberedView). i.0) imports) (p ∷ []) ∙ (λ i. front i ++ sym (exported_path h stand m x package_ under p shows.path shows.home) i ∷ [])
+        append_of_map _ _ _ ∙ (λ i. (map_of_map (path_at t) (λ (i : ℕ × NumberedView). i.0) imports
+        ∙ (sym (imported_paths imports is.1) ∙ (sym (map_of_map (λ i. Some i.0) (λ (i : ℕ × NumberedView). (path_text t i.0, view_of t i.1)) imports) ∙ sym (ap (map (λ i. Some i.0)) shows.imported))))
+        i ++ sym (exported_path h stand m x package_ under p shows.path shows.home) i ∷ [])
     part_paths h stand m x package_ under (world w) (reads.Part.interface view views) shows is = absurd shows
     part_paths h stand m x package_ under (interface p v imports) (reads.Part.world scope) shows is = absurd shows
 
@@ -139,6 +132,5 @@ module _ (t : Tables) where
     members_paths h stand [] [] zip all = refl
     members_paths h stand [] (x ∷ xs) zip all = absurd zip
     members_paths h stand (m ∷ ms) [] zip all = absurd zip
-    members_paths h stand (m ∷ ms) (x ∷ xs) zip all =
-        append_of_map (path_at t) (places_of_part m.part) (flat_map (λ (k : NumberedMember). places_of_part k.part) ms)
+    members_paths h stand (m ∷ ms) (x ∷ xs) zip all = append_of_map (path_at t) (places_of_part m.part) (flat_map (λ (k : NumberedMember). places_of_part k.part) ms)
         ∙ (λ i. part_paths h stand m x zip.0.package_ zip.0.label m.part x.part zip.0.part all.0 i ++ members_paths h stand ms xs zip.1 all.1 i)

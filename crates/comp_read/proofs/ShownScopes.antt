@@ -67,12 +67,11 @@ interface_paths label scope st p e =
     let package_ = bind_some (labelled_path label exported.0.0) (λ package_.
     provided (distinct (exported.0.0 ∷ map (λ i. i.0) imports.0) && are_reached imports.0 exported.0.1) (package_, Part.interface exported.0.1 imports.0)) p imports.2 in
     let w = when_some (distinct (exported.0.0 ∷ map (λ i. i.0) imports.0) && are_reached imports.0 exported.0.1) (Some (package_.0, Part.interface exported.0.1 imports.0)) p package_.2 in
-    let apart = first_true (distinct (exported.0.0 ∷ map (λ i. i.0) imports.0)) (are_reached imports.0 exported.0.1) w.0 in
-    let reached = second_true (distinct (exported.0.0 ∷ map (λ i. i.0) imports.0)) (are_reached imports.0 exported.0.1) w.0 in
-    let all : scope.instances ≡ map named_instance imports.0 ++ named_instance (path_in package_.0 label, exported.0.1) ∷ [] =
-    interface_shows label scope st.0 st.1 exported.0 exported.1 imports.0 imports.1 package_.0 package_.1 apart reached in
     subst (λ (q : PackageIdentity × Part). paths_in scope ≡ shown_under (member_of label q)) (some_is (package_.0, Part.interface exported.0.1 imports.0) p w.1)
-    (named_paths scope.instances imports.0 (path_in package_.0 label, exported.0.1) all)
+    (named_paths scope.instances imports.0 (path_in package_.0 label, exported.0.1)
+    (interface_shows label scope st.0 st.1 exported.0 exported.1 imports.0 imports.1 package_.0 package_.1
+    (first_true (distinct (exported.0.0 ∷ map (λ i. i.0) imports.0)) (are_reached imports.0 exported.0.1) w.0)
+    (second_true (distinct (exported.0.0 ∷ map (λ i. i.0) imports.0)) (are_reached imports.0 exported.0.1) w.0)))
 
 world_paths : (label path : Text) (scope : Scope) (p : PackageIdentity × Part) → part_of_scope label (world path scope) ≡ Some p → paths_in scope ≡ shown_under (member_of label p)
 world_paths label path scope p e = search std_rules
@@ -121,10 +120,9 @@ pub places_shown_under : (pieces : List Piece) (x : Followed) (h : Homes) (ms : 
 places_shown_under pieces x h ms members input =
     let t = tables_of x in
     let parts = input.followed.parts in
-    let found = input.followed.exported in
-    let scopes = bind_some (scopes_of pieces) (each member_of_scope) members input.reads in
+    let scopes = bind_some _ _ _ input.reads in
     let numbers = input_in_numbers pieces x input.followed in
-    let same : numbers.scopes ≡ scopes.0 = some_is numbers.scopes scopes.0 (sym numbers.found ∙ scopes.1) in
     ap (map (path_at t)) (sym (flat_mapped scope_places (scope_in t) x.members.items))
-    ∙ (members_named t x.members.items scopes.0 (subst (λ (ys : List (Text × PartScope)). AllZip (MemberShown t) x.members.items ys) same numbers.shown)
-    ∙ all_paths parts scopes.0 members (each_beside labelled_scope parts scopes.0 (scopes_found pieces parts found scopes.0 scopes.1)) (each_beside member_of_scope scopes.0 members scopes.2))
+    ∙ (members_named t x.members.items scopes.0 (subst (λ (ys : List (Text × PartScope)). AllZip (MemberShown t) x.members.items ys) (some_is _ _ (sym numbers.found ∙ scopes.1)) numbers.shown)
+    ∙ all_paths parts scopes.0 members (each_beside labelled_scope parts scopes.0 (scopes_found pieces parts input.followed.exported scopes.0 scopes.1))
+    (each_beside member_of_scope scopes.0 members scopes.2))

@@ -15,10 +15,6 @@ use Rattle.comp_read.proofs.{BuildLaws.few_built, WorldOrder.built_rise}
 use Rattle.base_lemmas.proofs.Lists.{get_back}
 use Rattle.wit_model.proofs.RulesLemmas.{is_id_some as id_is}
 
-both : (r : Resolve) (m : WorldPackage) (a b : Option WorldPackage) → a ≡ b → (MeantWorld r 0 m → a ≡ Some m) × ((a ≡ Some m) → MeantWorld r 0 m) → (MeantWorld r 0 m → b ≡ Some m)
-    × ((b ≡ Some m) → MeantWorld r 0 m)
-both r m a b same is = subst (λ (o : Option WorldPackage). (MeantWorld r 0 m → o ≡ Some m) × ((o ≡ Some m) → MeantWorld r 0 m)) same is
-
 module _ (p : Plan) (r : Resolve) (found : Option WorldPackage) (is : MeansWorldFound found p) (built : IsBuildable p → IsBuilt p r) (valid : IsPlan p → IsValid r) (meant : MeansPlan p r) (rises : PackagesRise p) where
   are_built : IsBuilt p r
   are_built = built (plans_are_buildable p is.plan.plan)
@@ -38,7 +34,7 @@ module _ (p : Plan) (r : Resolve) (found : Option WorldPackage) (is : MeansWorld
     listed = built_rise p r are_built rises;
     meaning = is.meaning;
     is = is.is;
-    meant = λ m. both r m (plan_world_meaning p) found is.means (meant.world is.plan m);
+    meant = λ m. (subst (λ (o : Option WorldPackage). (MeantWorld r 0 m → o ≡ Some m) × ((o ≡ Some m) → MeantWorld r 0 m)) is.means (meant.world is.plan m));
   }
 
 -- ---- what is built of members that are one
