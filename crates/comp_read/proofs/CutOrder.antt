@@ -14,21 +14,21 @@ use Rattle.plan_package.specs.WholeWorlds.{PlansItem, PlansWorld, a_function, a_
 use Rattle.plan_package.specs.{Views.views_of_members, WholeInterfaces.Home, WholeInterfaces.PlansPlace}
 use Rattle.plan_laws.specs.ShownNames.{DeclaresName}
 use Rattle.comp_read.specs.{Cuts.StandsBefore, Cuts.StandsBehind, Cuts.IsCut, Order.imports_in, Order.once_by_path, ReadInput.IsReadInput, ReadInput.ViewsObey}
-use Rattle.base_lemmas.proofs.Elements.{all_at_too, zip_at_right, contains-map, get-contains, map_from}
-use Rattle.base_lemmas.proofs.Lists.{mapped_get, none_there, append_of_map, length_of_map, get_back, one_item}
+use Rattle.base_lemmas.proofs.Elements.{all_at_too, zip_at_right, contains-map, map_from}
+use Rattle.base_lemmas.proofs.Lists.{mapped_get, none_there, length_of_map, get_back}
 use Rattle.comp_meaning.specs.Reads.{worlds_of}
 use Rattle.plan_type_laws.specs.ShownMarks.{has_no_path}
 use Rattle.plan_laws.proofs.OwnPlaces.{once_first}
 use Rattle.read_exports.specs.Members.{numbered_member, numbered_members}
 use Rattle.comp_read.proofs.{PlanOrder.worlds_meant, ShownOrder.paths_once, Members.instance_shown, ShownScopes.scope_places}
-use Rattle.comp_read.proofs.Cuts.{behind_front, early, first_of, late, of_front, split_flat}
+use Rattle.comp_read.proofs.Cuts.{behind_front, early, late, of_front, split_flat}
 use Rattle.comp_read.proofs.{WorldOrder.joined_behind, TypeNumbers.same_part, TypeNumbers.shown_at, TypeNumbers.shown_number, TypeNumbers.told_parts}
-use Rattle.wit_model.proofs.Elements.{contains-flat}
 use Rattle.comp_bytes.specs.Levels.{Piece}
 use Rattle.plan_parts.specs.Kept.{AreMarked}
 use Rattle.plan_types.specs.Orders.{joined_all}
 use Rattle.read_parts.specs.declared.following.Followed.{Followed}
 use Rattle.read_numbers.specs.{NumberedInput.tables_of, PlacedNumbers.part_of, PlacedNumbers.IsFirstSeen, PlacedNumbers.IsInstanceAt, PlacedNumbers.scopes_in}
+use Rattle.comp_read.proofs.Views.{first_of_place}
 use Rattle.plan_meaning.specs.Plan as plan
 use Rattle.read_exports.specs.declared.members.Part.TheVariants as parts
 use Rattle.read_rules.specs.declared.scopes.Shown.TheVariants as shown
@@ -177,28 +177,6 @@ zip_take R m (x ∷ xs) [] all = absurd all
 zip_take R zero (x ∷ xs) (y ∷ ys) all = tt
 zip_take R (suc m) (x ∷ xs) (y ∷ ys) all = (all.0, zip_take R m xs ys all.1)
 
-pub mapped_zip : {A B C : Type 0} (g : ℕ → C) (f : A → List ℕ) (h : B → List C) (xs : List A) (ys : List B) → AllZip (λ x y. map g (f x) ≡ h y) xs ys → map g (flat_map f xs) ≡ flat_map h ys
-mapped_zip g f h [] [] all = refl
-mapped_zip g f h [] (y ∷ ys) all = absurd all
-mapped_zip g f h (x ∷ xs) [] all = absurd all
-mapped_zip g f h (x ∷ xs) (y ∷ ys) all = append_of_map g (f x) (flat_map f xs) ∙ (λ i. all.0 i ++ mapped_zip g f h xs ys all.1 i)
-
--- two lists that lie beside a third lie beside each other
-pub chained : {A B C D : Type 0} (R : A → B → Type 0) (Q : D → C → Type 0) (g : B → D) (xs : List A) (ys : List B) (zs : List C) → AllZip R xs ys → AllZip Q (map g ys) zs
-    → AllZip (λ x z. Unit {0}) xs zs
-chained R Q g [] [] [] a b = tt
-chained R Q g [] [] (z ∷ zs) a b = absurd b
-chained R Q g [] (y ∷ ys) zs a b = absurd a
-chained R Q g (x ∷ xs) [] zs a b = absurd a
-chained R Q g (x ∷ xs) (y ∷ ys) [] a b = absurd b
-chained R Q g (x ∷ xs) (y ∷ ys) (z ∷ zs) a b = (tt, chained R Q g xs ys zs a.1 b.1)
-
-pub zip_of_map : {A B C : Type 0} (P : C → B → Type 0) (g : A → C) (xs : List A) (ys : List B) → AllZip (λ x y. P (g x) y) xs ys → AllZip P (map g xs) ys
-zip_of_map P g [] [] all = tt
-zip_of_map P g [] (y ∷ ys) all = absurd all
-zip_of_map P g (x ∷ xs) [] all = absurd all
-zip_of_map P g (x ∷ xs) (y ∷ ys) all = (all.0, zip_of_map P g xs ys all.1)
-
 -- ---- places
 
 module _ (t : Tables) (tables : AreTables t) where
@@ -258,20 +236,11 @@ module _ (pieces : List Piece) (x : Followed) (h : Homes) (ms : List Member) (me
 
   shown_high : (n j : ℕ) (i : NumberedInstance) → IsInstanceAt ws n j i → (Contains shown_front i.place → ⊥) → (y : NumberedType) → Contains i.view.types y → 14 + many ≤ part_of y.slot
   shown_high n j i at none y y_in =
-      let among : Contains (scope_places at.scope) i.place = contains-map (λ (o : NumberedInstance). o.place) at.scope.instances i (get-contains at.scope.instances j i at.instance_at) in
-      let f = first_of scope_places ws i.place (contains-flat scope_places ws at.scope i.place (get-contains ws n at.scope at.at) among) in
-      let o = there_in f.number f.inner f.one i.place f.at f.there in
-      let first : IsFirstSeen ws f.number f.inner o.0.place = record {
-        scopes = λ k l u low there same. f.items k there.scope low there.at (subst (Contains (scope_places there.scope)) (same ∙ o.2)
-            (contains-map (λ (z : NumberedInstance). z.place) there.scope.instances u (get-contains there.scope.instances l u there.instance_at)));
-        instances = λ l u low there same.
-            let here = one_item ws f.number there.scope f.one there.at f.at in
-            f.numbers l low ((mapped_get (λ (z : NumberedInstance). z.place) f.one.instances l u (subst (λ (z : NumberedScope). slice_get z.instances l ≡ Some u) here there.instance_at))
-            ∙ ap Some (same ∙ o.2));
-      } in
-      let z = told n j i at f.number f.inner o.0 o.1 (sym o.2) y y_in in
-      let behind = behind_front scope_places ws m w w_at instances i.place none f.number f.inner f.one f.at f.there in
-      subst (λ (p : ℕ). 14 + many ≤ p) z.2 (cut.views_behind f.number f.inner o.0 o.1 first behind z.0 z.1)
+      let f = first_of_place ws n j i at in
+      let z = told n j i at f.scope_number f.number f.one f.at (sym f.place) y y_in in
+      let there = mapped_get (λ (o : NumberedInstance). o.place) f.at.scope.instances f.number f.one f.at.instance_at ∙ ap Some f.place in
+      subst (λ (p : ℕ). 14 + many ≤ p) z.2 (cut.views_behind f.scope_number f.number f.one f.at (subst (IsFirstSeen ws f.scope_number f.number) (sym f.place) f.first)
+      (behind_front scope_places ws m w w_at instances i.place none f.scope_number f.number f.at.scope f.at.at there) z.0 z.1)
 
   -- ---- the plan
 

@@ -1,10 +1,10 @@
 -- The places of a beginning among all places, each where it stands first.
-use Rattle.std.proofs.Common.{rules as std_rules, ◌≡◌, refl, sym, ap, subst, ◌∙◌, ℕ, ◌+◌, ◌<◌, ◌≤◌, inl, inr, arith, true, List, [], ◌∷◌, ◌++◌, length, length-append, map, Option, Some, None, slice_get, take, unwrap_or, zero, suc, ◌==◌, append_assoc, drop}
-use Rattle.std.proofs.lemmas.{Bool.cases_lt, Bool.eqb-true, Option.slice_get_within as found_below, Option.same_Some as same-some, List.take-append-drop}
+use Rattle.std.proofs.Common.{rules as std_rules, ◌≡◌, refl, sym, ap, subst, ◌∙◌, ℕ, ◌+◌, ◌<◌, ◌≤◌, inl, inr, arith, true, List, [], ◌∷◌, ◌++◌, length, length-append, map, Option, Some, None, slice_get, take, unwrap_or, zero, suc, append_assoc, drop}
+use Rattle.std.proofs.lemmas.{Bool.cases_lt, Option.slice_get_within as found_below, Option.same_Some as same-some, List.take-append-drop}
 use Rattle.std.proofs.Math.{ListN.length-map, Seq.take-append_seam}
 use Rattle.std.proofs.lemmas.List.Elements.{Contains-append_cases, Contains-append_left, Contains-append_right}
 use Rattle.std.specs.{Borrow.Bor, List.Contains, List.flat_map}
-use Rattle.wit_model.specs.{Text.Text, Tree.Place, Uses.has, Uses.once}
+use Rattle.wit_model.specs.{Text.Text, Tree.Place, Uses.once}
 use Rattle.wit_model.proofs.{Elements.contains-get, Elements.contains-flat, Elements.contains-has, Elements.has-contains, Chains.has_once}
 use Rattle.comp_bytes.specs.Levels.{Entry, PartType, Piece}
 use Rattle.comp_meaning.specs.{Rules.distinct, ByLevels.entry_step, Follow.new_scope, Reads.steps}
@@ -23,10 +23,10 @@ use Rattle.read_numbers.specs.NumberedParts.{instance_view, numbered_instance, n
 use Rattle.read_numbers.specs.PlacedNumbers.{part_of, ArePlacedScopes, IsFirstSeen, IsInstanceAt, scopes_in}
 use Rattle.read_numbers.proofs.{PlacedViews.slot_number, ScopeNumbers.path_back}
 use Rattle.comp_read.specs.Cuts.{IsCut, StandsBefore, StandsBehind}
-use Rattle.base_lemmas.proofs.{Elements.map_from, Elements.get-contains, Numbers.same-number}
+use Rattle.base_lemmas.proofs.{Elements.map_from, Elements.get-contains}
 use Rattle.base_lemmas.proofs.Lists.{get_back, heads_equal, mapped_get, one_item, tails_equal, append_of_map, map_of_map, front_at, none_there, slice_front, slice_take}
 use Rattle.plan_laws.proofs.{FirstPlaces.joined_more, Inside.flat_cases, PlaceNumbers.IsOnce, PlaceNumbers.all_once, PlaceNumbers.none_twice}
-use Rattle.comp_read.proofs.{Lists.first_passing, WorldOrder.joined_behind}
+use Rattle.comp_read.proofs.{WorldOrder.joined_behind}
 use Rattle.plan_meaning.specs.NumberedWorlds as worlds
 use Rattle.read_follow.specs.declared.scopes.Shown.TheVariants as shown
 use Rattle.comp_meaning.specs.Follow as follow
@@ -181,11 +181,15 @@ module _ (pieces : List Piece) (x : Followed) (followed : IsFollowed pieces x) (
             let other : worlds.function k ≡ worlds.declares d = ap (numbered_shown (map instance_view (scope_of y.part).instances.items)) (sym e) ∙ wrong in absurd cc
         by y y_at u u_at (shown.Type name part o) e same here side =
             let part_is = subst (λ (v : Shown). IsImportNamed x.table (scope_of y.part).home v) e
-                (all_at (λ (v : Seen). IsImportNamed x.table (scope_of y.part).home v.shown) (scope_of y.part).imports.items j u (followed.followed.placed n y y_at).placed.named u_at) in
-            omega (arith, followed.followed.tables.table.apart part_is.number number (named_shape (scope_of y.part).home name.now) part_is.at
-                (subst (λ (v : Shown). slice_get x.table number ≡ Some (named_shape (scope_of y.part).home
-                (numbered_seen x.places (map instance_view (scope_of y.part).instances.items) (record { shown = v; external_id = u.external_id })).key)) e here), part_is.is,
-                part_low y y_at u u_at name part o e side)
+            (all_at (λ (v : Seen). IsImportNamed x.table (scope_of y.part).home v.shown) (scope_of y.part).imports.items j u (followed.followed.placed n y y_at).placed.named u_at) in
+            omega (
+              arith,
+              followed.followed.tables.table.apart part_is.number number (named_shape (scope_of y.part).home name.now) part_is.at
+                  (subst (λ (v : Shown). slice_get x.table number ≡ Some (named_shape (scope_of y.part).home
+                  (numbered_seen x.places (map instance_view (scope_of y.part).instances.items) (record { shown = v; external_id = u.external_id })).key)) e here),
+              part_is.is,
+              part_low y y_at u u_at name part o e side,
+            )
           where
             part_low : (y : Member) → slice_get ms n ≡ Some y → (u : Seen) → slice_get (scope_of y.part).imports.items j ≡ Some u → (name : Bor (List ℕ)) (part : ℕ) (o : Option ℕ)
                 → u.shown ≡ shown.Type name part o → StandsBefore m (length then.imports) n j → part < 14 + many
@@ -212,9 +216,11 @@ module _ (pieces : List Piece) (x : Followed) (followed : IsFollowed pieces x) (
         let z = map_from numbered_type o.one.view.types.items y (subst (λ (k : NumberedInstance). Contains k.view.types y) (sym o.is) c) in
         let z_at = contains-get o.one.view.types.items z.0 z.1 in
         let name = all_at (IsTypeNamed x.table o.one.place) o.one.view.types.items z_at.0 z.0 ((followed.followed.placed n o.member o.there).placed.instances j o.one o.at).named z_at.1 in
-        subst (λ (k : NumberedType). 14 + many ≤ part_of k.slot) z.2 (elim (cases_lt name.number many)
-        [ | inl low ↦ absurd (by (ap (λ (k : NumberedInstance). k.place) o.is) (was_shown name.number o.one.place z.0.name.now low name.at)) | inr past ↦
-        omega (arith, (slot_number z.0.slot ∙ name.is), past) ])
+        subst (λ (k : NumberedType). 14 + many ≤ part_of k.slot) z.2 (elim (cases_lt name.number many) [
+          | inl low ↦ absurd (by (ap (λ (k : NumberedInstance). k.place) o.is) (was_shown name.number o.one.place z.0.name.now low name.at))
+          | inr past ↦
+              omega (arith, (slot_number z.0.slot ∙ name.is), past)
+        ])
       where
         by : {q : ℕ} {name : Text} → q ≡ i.place → WasShown q name → ⊥
         by place (by_view k l o o_at same before) = not_first n j i first behind k l o o_at (same ∙ place) before
@@ -375,33 +381,6 @@ module _ {A : Type 0} (f : A → List ℕ) where
     in_front m w e i n j u q at there (inr (same, low)) =
         let one : u ≡ w = one_item ws m u w (subst (λ (k : ℕ). slice_get ws k ≡ Some u) same at) e in
         Contains-append_right (flat_map f (take m ws)) (take i (f w)) q (get-contains (take i (f w)) j q (slice_take (f w) i j low ∙ subst (λ (v : A). slice_get (f v) j ≡ Some q) one there))
-
-    -- where a number stands first
-    pub record IsFirstAt (q : ℕ) : Type 0 where
-      pub number : ℕ
-      pub inner : ℕ
-      pub one : A
-      pub at : slice_get ws number ≡ Some one
-      pub there : slice_get (f one) inner ≡ Some q
-      pub items : (k : ℕ) (v : A) → k < number → slice_get ws k ≡ Some v → Contains (f v) q → ⊥
-      pub numbers : (l : ℕ) → l < inner → slice_get (f one) l ≡ Some q → ⊥
-
-    pub first_of : (q : ℕ) → Contains (flat_map f ws) q → IsFirstAt q
-    first_of q c =
-        let u = flat_cases f ws q c in
-        let u_at = contains-get ws u.0 u.1 in
-        let item = first_passing (λ (v : A). has (f v) q) ws u_at.0 u.0 u_at.1 (contains-has (f u.0) q u.2) in
-        let q_at = contains-get (f item.one) q (has-contains (f item.one) q item.passes) in
-        let inner = first_passing (λ (p : ℕ). p == q) (f item.one) q_at.0 q q_at.1 (same-number q) in
-        record {
-          number = item.number;
-          inner = inner.number;
-          one = item.one;
-          at = item.at;
-          there = inner.at ∙ ap Some (eqb-true inner.one q inner.passes);
-          items = λ k v low v_at d. item.before k v low v_at (contains-has (f v) q d);
-          numbers = λ l low l_at. inner.before l q low l_at (same-number q);
-        }
 
     -- what isn't before stands behind
     pub behind_front : (m : ℕ) (w : A) → slice_get ws m ≡ Some w → (i q : ℕ) → (Contains (flat_map f (take m ws) ++ take i (f w)) q → ⊥) → (n j : ℕ) (u : A) → slice_get ws n ≡ Some u

@@ -10,7 +10,7 @@ use Rattle.comp_meaning.specs.{ByLevels.entry_scope}
 use Rattle.read_parts.specs.Followed.{scopes_of, PartScope, labelled_scope, part_scope, world_path}
 use Rattle.read_parts.specs.{Input.IsFollowed, Members.scope_of}
 use Rattle.read_parts.proofs.CountLaws.{parts_fit}
-use Rattle.read_numbers.specs.NumberedInput.{tables_of, MemberShown, PartShown}
+use Rattle.read_numbers.specs.NumberedInput.{tables_of, MemberShown}
 use Rattle.read_numbers.specs.NumberedParts.{instance_view, numbered_scope as followed_scope, numbered_seen as followed_seen, numbered_shown as followed_shown, name_in}
 use Rattle.read_numbers.specs.PlacedNumbers.{IsCountedItem, IsPlacedScope}
 use Rattle.read_members.specs.{ReadMembers.Because, ReadMembers.members_meant, PartMembers.IsMemberOf, PartMembers.IsPartOf}

@@ -109,7 +109,7 @@ read_labels_stand pieces x h ms members input =
     let parts = input.followed.parts in
     let named = parts_named pieces parts input.followed.exported in
     let same = scope_labels parts shown.scopes (each_beside labelled_scope parts shown.scopes (scopes_found pieces parts input.followed.exported shown.scopes shown.found))
-        ∙ (shown_labels (tables_of x) x.members.items shown.scopes shown.shown ∙ member_labels (tables_of x) x.members.items ms input.are) in
+    ∙ (shown_labels (tables_of x) x.members.items shown.scopes shown.shown ∙ member_labels (tables_of x) x.members.items ms input.are) in
     record {
       labels = labels_there ms (subst (AllByRecursion (λ (label : Text). is_label label ≡ true)) same named.labels);
       apart = ap distinct (sym same) ∙ named.apart;

@@ -7,7 +7,7 @@ use Rattle.wit_model.specs.Uses.{has}
 use Rattle.wit_model.proofs.Elements.{contains-get, has-contains, none-in}
 use Rattle.plan_meaning.specs.NumberedWorlds.{are_once}
 use Rattle.plan_laws.proofs.OwnPlaces.{AreDifferent, all_taken}
-use Rattle.base_lemmas.proofs.{Elements.contains-later, Elements.get-contains, Lists.split_at as append_at}
+use Rattle.base_lemmas.proofs.{Elements.contains-later, Elements.get-contains, Lists.one_item, Lists.split_at as append_at}
 
 -- ---- the first that passes
 
@@ -112,6 +112,23 @@ put_between {A = A} (y ∷ front) back x apart new = ((λ c. by (beside front ba
     by : (y ≡ x) ⊎ Contains (front ++ back) y → ⊥
     by (inl same) = new (0, omega arith, same)
     by (inr there) = apart.0 there
+
+-- Lists that stand one behind the other have no number twice, where each of them has none twice and no two have one.
+pub once_owned : {A : Type 0} (f : A → List ℕ) (xs : List A) → ((m : ℕ) (y : A) → slice_get xs m ≡ Some y → AreDifferent (f y))
+    → ((m n : ℕ) (y z : A) → slice_get xs m ≡ Some y → slice_get xs n ≡ Some z → (q : ℕ) → Contains (f y) q → Contains (f z) q → m ≡ n) → are_once (flat_map f xs) ≡ true
+once_owned {A = A} f xs differ owner = once_given (flat_map f xs) (λ i j q e g. by i j q (of_one f xs i q e) (of_one f xs j q g))
+  where
+    by : (i j q : ℕ) → IsOfOne f xs i q → IsOfOne f xs j q → i ≡ j
+    by i j q a b =
+        let one : a.number ≡ b.number = owner a.number b.number a.one b.one a.at b.at q (get-contains (f a.one) a.inner q a.there) (get-contains (f b.one) b.inner q b.there) in
+        omega (
+          arith,
+          ap (before_of f xs) one,
+          (once_different (f b.one) (differ b.number b.one b.at) a.inner b.inner q (subst (λ (z : A). slice_get (f z) a.inner ≡ Some q)
+              (one_item xs b.number a.one b.one (subst (λ k. slice_get xs k ≡ Some a.one) one a.at) b.at) a.there) b.there),
+          a.is,
+          b.is,
+        )
 
 -- As many numbers as some that differ, and among which these are, differ.
 pub all_different : {A : Type 0} (cs xs : List A) → AreDifferent cs → ((c : A) → Contains cs c → Contains xs c) → length xs ≡ length cs → AreDifferent xs

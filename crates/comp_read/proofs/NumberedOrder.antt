@@ -68,7 +68,7 @@ module _ (t : Tables) (tables : AreTables t) (kept : List ℕ) (p : Plan) (are :
             let less : l < j = are.rise l j o n old_kept kept_at (omega (arith, (all_at (λ (q : ℕ). q < 14 + n) olds (parts_before t tables kept p are n form olds at) old among), from)) in
             let there = within_there p.types l (omega (arith, becomes.range, to)) in
             let name = smaller l o less there.0 there.1 old_kept m (subst (λ (ms : List ℕ). Contains ms m)
-                (ap (met_by before) (sym (same-some l k (sym (ap part_number to ∙ behind l) ∙ new_is))) ∙ ap (λ ns. unwrap_or ns []) (slice_take (met_in p) j l less)) c) in
+            (ap (met_by before) (sym (same-some l k (sym (ap part_number to ∙ behind l) ∙ new_is))) ∙ ap (λ ns. unwrap_or ns []) (slice_take (met_in p) j l less)) c) in
             record {
               number = name.number;
               place = name.place;
@@ -289,9 +289,13 @@ module _ (t : Tables) (tables : AreTables t) where
       part_there i c u at =
           let x = get_back (λ (s : DeclaringScope × ℕ). (s.0, tree_at t s.1)) scoped i (c, u) (ap (λ ds. slice_get ds i) trees ∙ at) in
           let here = mapped_get (λ (s : DeclaringScope × ℕ). s.1) scoped i x.0 x.1 in
-          let one : x.0 ≡ (c, x.0.1) = λ k. ((x.2 k).0, x.0.1) in
-          (x.0.1, get-contains scoped i (c, x.0.1) (x.1 ∙ ap Some one), here,
-          (all_at (λ (q : ℕ). q < 14 + length t.shapes) parts (count_below 0 parts (length t.shapes) counted) x.0.1 (get-contains parts i x.0.1 here)), (λ k. (x.2 k).1))
+          let one : x.0 ≡ (c, x.0.1) = λ k. ((x.2 k).0, x.0.1) in (
+            x.0.1,
+            get-contains scoped i (c, x.0.1) (x.1 ∙ ap Some one),
+            here,
+            (all_at (λ (q : ℕ). q < 14 + length t.shapes) parts (count_below 0 parts (length t.shapes) counted) x.0.1 (get-contains parts i x.0.1 here)),
+            (λ k. (x.2 k).1),
+          )
 
       one_part : (c d : DeclaringScope) (u : Tree) (a b : ℕ) → (c ≡ d) ⊎ (is_pathed u ≡ true) → Contains scoped (c, a) → Contains scoped (d, b) → a < 14 + length t.shapes
           → b < 14 + length t.shapes → tree_at t a ≡ u → tree_at t b ≡ u → a ≡ b

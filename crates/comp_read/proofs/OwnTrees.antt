@@ -8,8 +8,8 @@ use Rattle.comp_meaning.specs.Follow.{Instance, place_of}
 use Rattle.read_shown.specs.{Kinds.MemberHasKinds, Kinds.NamesHaveKinds, Kinds.ViewHasKinds, Views.IsMetInView, Views.ViewStands, Views.inside, Views.outside}
 use Rattle.read_shown.specs.{Parts.MemberStands, Parts.PartStands, Parts.instances_of, Parts.named_instance, Scopes.IsShownBefore, Trees.AllAt}
 use Rattle.read_shown.proofs.{Lists.front_more, ScopeWider.shown_wider, Views.view_wider}
-use Rattle.plan_meaning.specs.NumberedMembers.{Homes, HomesStand, IsMember, NumberedMember, NumberedPart, ShowsPart, interface, world}
-use Rattle.plan_meaning.specs.NumberedViews.{AreTables, NumberedView, Tables, path_at, path_text, view_of}
+use Rattle.plan_meaning.specs.NumberedMembers.{Homes, HomesStand, IsMember, NumberedMember, NumberedPart, interface, world}
+use Rattle.plan_meaning.specs.NumberedViews.{AreTables, NumberedView, Tables, path_text, view_of}
 use Rattle.plan_meaning.specs.NumberedWorlds.{NumberedScope, Shows, instance_of}
 use Rattle.plan_type_laws.specs.MembersStand.{MembersStand, all_instances}
 use Rattle.plan_laws.specs.OneWorld.{AreOwnInterfaces}
@@ -38,8 +38,12 @@ module _ (t : Tables) (tables : AreTables t) (h : Homes) (stand : HomesStand t h
 
   pub own_members : AllZip (IsMember t h) ms trees
   own_members =
-      zip_mapped (IsMember t h) (own_tree t identity) ms (λ k c. record { label = refl; package_ = ap (slice_get h.packages) (own_at t h n w ms are k c).package_ ∙ there; part =
-      search (std_rules, own_at t h n w ms are k c) })
+      zip_mapped (IsMember t h) (own_tree t identity) ms (λ k c. record {
+        label = refl;
+        package_ = ap (slice_get h.packages) (own_at t h n w ms are k c).package_ ∙ there;
+        part =
+            search (std_rules, own_at t h n w ms are k c);
+      })
 
   -- ---- what they show
 
@@ -55,8 +59,11 @@ module _ (t : Tables) (tables : AreTables t) (h : Homes) (stand : HomesStand t h
     own_named k c =
         let is = own_at t h n w ms are k c in
         let spelled = spelled_as t tables h stand n is.place k.label is.path is.home in
-        subst (Contains scope.instances) (λ i. record { interface = (spelled.path
-            ∙ ap (λ (i : PackageIdentity). Some (path_in i k.label)) (same-some spelled.identity identity (sym spelled.there ∙ there))) i; view = view_of t is.view })
+        subst (Contains scope.instances) (λ i. record {
+          interface = (spelled.path
+              ∙ ap (λ (i : PackageIdentity). Some (path_in i k.label)) (same-some spelled.identity identity (sym spelled.there ∙ there))) i;
+          view = view_of t is.view;
+        })
         (subst (λ (xs : List Instance). Contains xs (instance_of t (record { place = is.place; view = is.view }))) (sym shows.instances)
         (contains-map (instance_of t) w.instances (record { place = is.place; view = is.view }) is.among))
 

@@ -20,6 +20,7 @@ use Rattle.base_lemmas.proofs.{Bools.left_of as first_true, Bools.right_of as se
 use Rattle.base_lemmas.proofs.Elements.{all_both, contains-one, last_of as one-contained, all_at, contains-map}
 use Rattle.read_rules.proofs.PlaceLaws.{any_flip}
 use Rattle.plan_package.specs.Views.{views_of_members, views_of_part, whole_view}
+use Rattle.std.proofs.{lemmas.List.take_all, Math.Seq.take-suc}
 
 -- ---- The interfaces of a package, gathered view by view.
 
@@ -32,15 +33,7 @@ split_more f (x ∷ xs) zero d low = refl
 split_more f (x ∷ xs) (suc i) d low = ap (λ ys. f x ∷ ys) (split_more f xs i d (omega (arith, low)))
 
 pub taken_more : {A B : Type 0} (f : A → B) (xs : List A) (i : ℕ) (d : A) → i < length xs → map f (take (suc i) xs) ≡ map f (take i xs) ++ f (get_or xs i d) ∷ []
-taken_more f [] i d low = absurd (omega (arith, low))
-taken_more f (x ∷ xs) zero d low = refl
-taken_more f (x ∷ xs) (suc i) d low = ap (λ ys. f x ∷ ys) (taken_more f xs i d (omega (arith, low)))
-
-pub taken_all : {A : Type 0} (xs : List A) (i : ℕ) → length xs ≤ i → take i xs ≡ xs
-taken_all [] zero past = refl
-taken_all [] (suc i) past = refl
-taken_all (x ∷ xs) zero past = absurd (omega (arith, past))
-taken_all (x ∷ xs) (suc i) past = ap (λ ys. x ∷ ys) (taken_all xs i (omega (arith, past)))
+taken_more f xs i d low = ap (map f) (take-suc xs i d low) ∙ append_of_map f (take i xs) (get_or xs i d ∷ [])
 
 flat_more : {A B : Type 0} (f : A → List B) (xs : List A) (x : A) (y : B) → f x ≡ y ∷ [] → flat_map f (xs ++ x ∷ []) ≡ flat_map f xs ++ y ∷ []
 flat_more f [] x y e = ap (λ ys. ys ++ []) e
@@ -205,7 +198,6 @@ module _ (h : Homes) (n : ℕ) (done rest : List NumberedSight) (s : NumberedSig
 -- ---- all views
 
 module _ (h : Homes) (n : ℕ) (seen : List NumberedSight) (places : List ℕ) (ms : List NumberedMember) (g : IsGathered h n seen seen places ms) where
-
   any_of_place : (q : ℕ) → has places q ≡ true → list_any (λ (m : NumberedMember). is_interface_of q m.part) ms ≡ true
   any_of_place q e =
       let from = flat_cases (λ (m : NumberedMember). place_of_part m.part) ms q (subst (λ ps. Contains ps q) (sym g.of) (has-contains places q e)) in
@@ -234,7 +226,7 @@ module _ {A : Type 0} (f : A → NumberedSight) (xs : List A) (h : Homes) (n i :
       (subst (λ (those : List NumberedSight). IsGathered h n (done ++ s ∷ rest) those later more) (sym so_far) next)
 
   pub own_gathered : length xs ≤ i → (places : List ℕ) (ms : List NumberedMember) → IsGathered h n (map f xs) (map f (take i xs)) places ms → AreOwnAmong h n (map f xs) ms
-  own_gathered past places ms g = all_gathered h n (map f xs) places ms (subst (λ (ys : List A). IsGathered h n (map f xs) (map f ys) places ms) (taken_all xs i past) g)
+  own_gathered past places ms g = all_gathered h n (map f xs) places ms (subst (λ (ys : List A). IsGathered h n (map f xs) (map f ys) places ms) (take_all i xs past) g)
 
 -- ---- the interfaces of a world's package
 

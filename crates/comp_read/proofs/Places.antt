@@ -2,15 +2,14 @@
 use Rattle.std.proofs.Common.{rules as std_rules, ◌≡◌, refl, sym, ap, subst, ◌∙◌, ℕ, zero, suc, ◌+◌, ◌⊎◌, inl, inr, arith, Bool, true, false, filter, if◌then◌else◌, List, [], ◌∷◌, ◌++◌, length, length-append, map, Option, Some, None, is_none, slice_get}
 use Rattle.std.proofs.lemmas.List.Elements.{Contains-append_cases, Contains-append_left, Contains-append_right, filter-append}
 use Rattle.std.proofs.ByRecursion.{All-weaker as recursion_weaker}
-use Rattle.std.specs.List.{AllByRecursion, Contains, flat_map}
+use Rattle.std.specs.List.{AllByRecursion, Contains}
 use Rattle.wit_model.specs.Text.{Text}
 use Rattle.wit_model.proofs.Elements.{contains-flat, contains-get, none-in}
 use Rattle.comp_bytes.specs.Levels.{Piece}
-use Rattle.comp_meaning.specs.Follow.{Direction, Instance, export_, import_}
-use Rattle.read_shown.specs.Instances.{going, instances_in}
+use Rattle.read_shown.specs.Instances.{instances_in}
 use Rattle.plan_meaning.specs.{FollowedNumbers.IsOneOf, FollowedNumbers.IsScopeIn, NumberedMembers.Homes, NumberedMembers.NumberedMember, NumberedMembers.world}
 use Rattle.plan_meaning.specs.{NumberedRules.Fact, NumberedViews.Tables, NumberedViews.path_at}
-use Rattle.plan_meaning.specs.NumberedWorlds.{NumberedInstance, NumberedScope, NumberedSeen, NumberedShown, are_once, instance_of, place_of_key}
+use Rattle.plan_meaning.specs.NumberedWorlds.{NumberedInstance, NumberedScope, NumberedSeen, NumberedShown, are_once, place_of_key}
 use Rattle.read_parts.specs.declared.following.Followed.{Followed}
 use Rattle.read_numbers.specs.{NumberedInput.tables_of, PlacedNumbers.IsInstanceAt, PlacedNumbers.scopes_in as numbered_scopes}
 use Rattle.plan_type_laws.specs.ShownMarks.{ArePlaced, NamesSeen, PartNames, has_no_path, own_places, places_of_part, places_of_seen, places_of_shown}
@@ -23,10 +22,10 @@ use Rattle.plan_laws.proofs.Inside.{flat_cases}
 use Rattle.plan_laws.proofs.OwnPlaces.{AreDifferent, both_ways, inline_places, inlines, kept_nones, no_path, nones, seen_nones}
 use Rattle.comp_read.specs.{InputLaws.ReadPlacesAreApart, ReadInput.IsReadInput, ReadInput.ViewsObey}
 use Rattle.comp_read.proofs.{Inputs.members_named, Inputs.world_in, Scopes.IsSeen}
-use Rattle.comp_read.proofs.Lists.{IsOfOne, all_different, before_of, filter_flat, of_one, once_different, once_given}
+use Rattle.comp_read.proofs.Lists.{all_different, filter_flat, once_owned}
 use Rattle.comp_read.proofs.Members.{IsBoth, IsWorldRead, numbered_at, placed, scope_at, scope_in, seen_at, world_read, world_scope}
 use Rattle.base_lemmas.proofs.Elements.{all_at, contains-one, filter_keeps as in_filter, filter_kept as filter_from, get-contains, last_of as one-contained, map_from as from_map}
-use Rattle.base_lemmas.proofs.Lists.{length_of_map, one_item}
+use Rattle.base_lemmas.proofs.Lists.{length_of_map}
 use Rattle.comp_meaning.specs.Reads as reads
 use Rattle.plan_meaning.specs.NumberedWorlds as worlds
 use Rattle.read_exports.specs.declared.members.Part.TheVariants as parts
@@ -74,11 +73,11 @@ module _ (pieces : List Piece) (x : Followed) (h : Homes) (ms : List Member) (me
   -- ---- places
 
   -- an instance of the scope of this number has the place
-  record HasInstance (m q : ℕ) : Type 0 where
-    number : ℕ
-    one : NumberedInstance
-    at : IsInstanceAt ws m number one
-    place : one.place ≡ q
+  pub record HasInstance (m q : ℕ) : Type 0 where
+    pub number : ℕ
+    pub one : NumberedInstance
+    pub at : IsInstanceAt ws m number one
+    pub place : one.place ≡ q
 
   -- what has the place: the world of this number, or an instance of it
   data Owns (m q : ℕ) : Type 0 where
@@ -166,13 +165,22 @@ module _ (pieces : List Piece) (x : Followed) (h : Homes) (ms : List Member) (me
 
       as_many : length without ≡ length (map (λ (i : NumberedInstance). i.place) (filter (no_path t) W.instances))
       as_many =
-          omega (arith, length_of_map (λ (i : NumberedInstance). i.place) (filter (no_path t) W.instances), kept_nones t W.instances, ap (nones t) read.shows.instances,
-          ap (nones t) read.stands.seen.all, both_ways t read.stands.seen.seen, ap (nones t) read.stands.seen.imported, ap (nones t) read.stands.seen.exported,
-          (ap (λ ss. nones t (instances_in ss)) read.shows.imports ∙ seen_nones t W.imports), (ap (λ ss. nones t (instances_in ss)) read.shows.exports ∙ seen_nones t W.exports),
-          (ap length (sym (inline_places t W good W.imports good.imports)) ∙ length_of_map (λ (z : NumberedInstance). z.place) (inlines t W.imports)),
-          (ap length (sym (inline_places t W good W.exports good.exports)) ∙ length_of_map (λ (z : NumberedInstance). z.place) (inlines t W.exports)),
-          (ap length (filter-append (has_no_path t) (places_of_seen W.imports) (places_of_seen W.exports))
-          ∙ length-append (filter (has_no_path t) (places_of_seen W.imports)) (filter (has_no_path t) (places_of_seen W.exports))))
+          omega (
+            arith,
+            length_of_map (λ (i : NumberedInstance). i.place) (filter (no_path t) W.instances),
+            kept_nones t W.instances,
+            ap (nones t) read.shows.instances,
+            ap (nones t) read.stands.seen.all,
+            both_ways t read.stands.seen.seen,
+            ap (nones t) read.stands.seen.imported,
+            ap (nones t) read.stands.seen.exported,
+            (ap (λ ss. nones t (instances_in ss)) read.shows.imports ∙ seen_nones t W.imports),
+            (ap (λ ss. nones t (instances_in ss)) read.shows.exports ∙ seen_nones t W.exports),
+            (ap length (sym (inline_places t W good W.imports good.imports)) ∙ length_of_map (λ (z : NumberedInstance). z.place) (inlines t W.imports)),
+            (ap length (sym (inline_places t W good W.exports good.exports)) ∙ length_of_map (λ (z : NumberedInstance). z.place) (inlines t W.exports)),
+            (ap length (filter-append (has_no_path t) (places_of_seen W.imports) (places_of_seen W.exports))
+                ∙ length-append (filter (has_no_path t) (places_of_seen W.imports)) (filter (has_no_path t) (places_of_seen W.exports))),
+          )
 
       without_differ : AreDifferent without
       without_differ = all_different (map (λ (i : NumberedInstance). i.place) (filter (no_path t) W.instances)) without (places_differ t W.instances instances_apart) all_seen as_many
@@ -215,17 +223,8 @@ module _ (pieces : List Piece) (x : Followed) (h : Homes) (ms : List Member) (me
         subst (λ (z : NumberedMember). AreDifferent (own z)) from.is (part_differ m from.member from.both from.member.part refl)
 
     places_once : are_once (own_places t (numbered_members ms)) ≡ true
-    places_once = ap are_once (filter_flat (has_no_path t) (λ (y : NumberedMember). places_of_part y.part) (numbered_members ms)) ∙ once_given (flat_map own (numbered_members ms))
-        (λ i j q e f. one_of i j q (of_one own (numbered_members ms) i q e) (of_one own (numbered_members ms) j q f))
-      where
-        one_of : (i j q : ℕ) → IsOfOne own (numbered_members ms) i q → IsOfOne own (numbered_members ms) j q → i ≡ j
-        one_of i j q a b =
-            let among = get-contains (own a.one) a.inner q a.there in
-            let one : a.number ≡ b.number = one_owner a.number b.number q (no_place (path_at t q) (filter_from (has_no_path t) (places_of_part a.one.part) q among).1)
-                (owner_at a.number a.one a.at q among) (owner_at b.number b.one b.at q (get-contains (own b.one) b.inner q b.there)) in
-            omega (arith, ap (before_of own (numbered_members ms)) one, (once_different (own b.one) (differ_at b.number b.one b.at) a.inner b.inner q
-            (subst (λ (z : NumberedMember). slice_get (own z) a.inner ≡ Some q)
-            (one_item (numbered_members ms) b.number a.one b.one (subst (λ k. slice_get (numbered_members ms) k ≡ Some a.one) one a.at) b.at) a.there) b.there), a.is, b.is)
+    places_once = ap are_once (filter_flat (has_no_path t) (λ (y : NumberedMember). places_of_part y.part) (numbered_members ms)) ∙ once_owned own (numbered_members ms) differ_at
+        (λ m n y z y_at z_at q c d. one_owner m n q (no_place (path_at t q) (filter_from (has_no_path t) (places_of_part y.part) q c).1) (owner_at m y y_at q c) (owner_at n z z_at q d))
 
     pub are_placed : ArePlaced t ms
     are_placed = record {

@@ -34,7 +34,7 @@ use Rattle.read_exports.specs.Members.{numbered_members, numbered_part}
 use Rattle.read_exports.specs.declared.members.{Member.Member, Part.Part}
 use Rattle.read_rules.specs.Scopes.{numbered_scope}
 use Rattle.read_rules.specs.declared.scopes.Scope.{Scope}
-use Rattle.plan_laws.specs.{OneWorld.AreOwnInterfaces, Whole.IsPackageInput, WholeTypes.IsRuledInput}
+use Rattle.plan_laws.specs.{OneWorld.AreOwnInterfaces, Whole.IsPackageInput}
 use Rattle.comp_meaning.specs.Reads as reads
 use Rattle.read_exports.specs.declared.members.Part.TheVariants as parts
 
@@ -232,51 +232,39 @@ module _ (t : Tables) (h : Homes) (known : ℕ → Fact) (n : ℕ) (ms : List Me
       (inline_whole t (numbered_members ms) given.input.numbers) ∙ members_inline t h (numbered_members ms) members given.input.shown given.input.numbers))
 
   module _ (p : Plan) (planned : PlansWhole t h.packages (home_at h) n ms p) (seen : List NumberedSight) (shown : List reads.Sight) (under : List (Option Text)) (are : AreShown t ms seen shown under) where
+    abbrev IsMadeFor : ℕ → PlannedInterface → Type 0
+    IsMadeFor q i = (path_of_planned p i ≡ path_at t q) × (map (λ f. f.0) i.functions ≡ map (λ f. f.0) (functions_seen q (views_of_members (numbered_members ms))))
 
-    path_there : (k q : ℕ) (i : PlannedInterface) → slice_get (places_in ms) k ≡ Some q → slice_get p.interfaces k ≡ Some i → path_of_planned p i ≡ path_at t q
-    path_there k q i at there =
+    made_there : (k q : ℕ) (i : PlannedInterface) → slice_get (places_in ms) k ≡ Some q → slice_get p.interfaces k ≡ Some i → IsMadeFor q i
+    made_there k q i at there =
         let found = interface_there t h ms members given.input n p planned k q at in
         let first = first_there t h ms members given.input n p planned k q at in
         let made = found.2 first.0 first.1 in
-        let same : found.0 ≡ i = same-some found.0 i (sym found.1 ∙ there) in
-        ap (path_of_planned p) (sym same) ∙ path_planned t h ms members (packages_are_ruled t h known n ms members given) n p planned found.0 q (home_at h q) made.name made.package_ refl
-        (path_at t q) refl
+        subst (IsMadeFor q) (same-some found.0 i (sym found.1 ∙ there)) (
+          path_planned t h ms members (packages_are_ruled t h known n ms members given) n p planned found.0 q (home_at h q) made.name made.package_ refl (path_at t q) refl,
+          zip_names (IsPlannedFunction t planned.kept made.find) (λ f. f.0) (λ e. e.0) (λ f e is. is.under) (functions_seen q (views_of_members (numbered_members ms))) found.0.functions made.functions,
+        )
 
     pub paths_planned : map (path_of_planned p) p.interfaces ≡ once_by_path under
     paths_planned = zip_names (λ q i. path_of_planned p i ≡ path_at t q) (path_at t) (path_of_planned p) (λ q i e. e) (places_in ms) p.interfaces
         (zip_each (PlansPlace t planned.kept n (home_at h) (views_of_members (numbered_members ms))) (λ q i. path_of_planned p i ≡ path_at t q) (places_in ms) p.interfaces planned.interfaces
-        (λ k q i at there. path_there k q i at there)) ∙ are.order
+        (λ k q i at there. (made_there k q i at there).0)) ∙ are.order
 
     pub functions_planned : (k : ℕ) (i : PlannedInterface) (path : Text) → slice_get p.interfaces k ≡ Some i → path_of_planned p i ≡ Some path
         → map (λ f. f.0) i.functions ≡ map (λ f. f.0) (reads.functions_of path shown)
     functions_planned k i path there at_path =
         let back = zip_at_right (PlansPlace t planned.kept n (home_at h) (views_of_members (numbered_members ms))) (places_in ms) p.interfaces planned.interfaces k i there in
-        let q = back.0 in
-        let has : HasPath t q = (path, sym (path_there k q i back.1 there) ∙ at_path) in
-        let found = interface_there t h ms members given.input n p planned k q back.1 in
-        let first = first_there t h ms members given.input n p planned k q back.1 in
-        let made = found.2 first.0 first.1 in
-        ap (λ (j : PlannedInterface). map (λ f. f.0) j.functions) (sym (same-some found.0 i (sym found.1 ∙ there)))
-        ∙ (zip_names (IsPlannedFunction t planned.kept made.find) (λ f. f.0) (λ e. e.0) (λ f e is. is.under) (functions_seen q (views_of_members (numbered_members ms))) found.0.functions
-        made.functions ∙ (ap (map (λ f. f.0)) (seen_same t q has (numbered_members ms) ∙ are.functions q (get-contains (places_in ms) k q back.1) has)
-        ∙ (sym (names_alike t given.input.tables q has seen are.paths) ∙ (λ j. map (λ f. f.0) (reads.functions_of (path_is t q has j) (sym are.are j))))))
-
-    inline_there : (k q : ℕ) (i : PlannedInterface) → slice_get (places_in ms) k ≡ Some q → slice_get p.interfaces k ≡ Some i
-        → if_inline (path_of_planned p i) (map (λ f. f.0) i.functions) ≡ inline_at t (views_of_members (numbered_members ms)) q
-    inline_there k q i at there =
-        let found = interface_there t h ms members given.input n p planned k q at in
-        let first = first_there t h ms members given.input n p planned k q at in
-        let made = found.2 first.0 first.1 in
-        (λ j. if_inline (path_there k q i at there j) (map (λ f. f.0) (sym (same-some found.0 i (sym found.1 ∙ there)) j).functions))
-        ∙ ap (if_inline (path_at t q)) (zip_names (IsPlannedFunction t planned.kept made.find) (λ f. f.0) (λ e. e.0) (λ f e is. is.under) (functions_seen q (views_of_members (numbered_members ms)))
-        found.0.functions made.functions)
+        let made = made_there k back.0 i back.1 there in
+        let has : HasPath t back.0 = (path, sym made.0 ∙ at_path) in
+        made.1 ∙ (ap (map (λ f. f.0)) (seen_same t back.0 has (numbered_members ms) ∙ are.functions back.0 (get-contains (places_in ms) k back.0 back.1) has)
+        ∙ (sym (names_alike t given.input.tables back.0 has seen are.paths) ∙ (λ j. map (λ f. f.0) (reads.functions_of (path_is t back.0 has j) (sym are.are j)))))
 
     pub inline_planned : flat_map (λ (i : PlannedInterface). if_inline (path_of_planned p i) (map (λ f. f.0) i.functions)) p.interfaces
         ≡ flat_map (inline_at t (views_of_members (numbered_members ms))) (places_in ms)
     inline_planned = sym (zip_flat (inline_at t (views_of_members (numbered_members ms))) (λ (i : PlannedInterface). if_inline (path_of_planned p i) (map (λ f. f.0) i.functions)) (places_in ms)
         p.interfaces (zip_each (PlansPlace t planned.kept n (home_at h) (views_of_members (numbered_members ms)))
         (λ q i. inline_at t (views_of_members (numbered_members ms)) q ≡ if_inline (path_of_planned p i) (map (λ f. f.0) i.functions)) (places_in ms) p.interfaces planned.interfaces
-        (λ k q i at there. sym (inline_there k q i at there))))
+        (λ k q i at there. let made = made_there k q i at there in λ j. if_inline (sym made.0 j) (sym made.1 j))))
 
     pub worlds_planned : map (λ w. w.name) p.worlds ≡ map (λ w. w.0) (worlds_in ms)
     worlds_planned = zip_names (PlansWorld t planned.kept (places_in ms) n) (λ w. w.0) (λ w. w.name) (λ w x is. is.name) (worlds_in ms) p.worlds planned.worlds
@@ -382,7 +370,7 @@ module _ (t : Tables) (h : Homes) (known : ℕ → Fact) (n : ℕ) (m : Member) 
   world_shown : AreShown t (m ∷ own) world_seen world_views (flat_map shown_under ones)
   world_shown = record {
     are = all_sights t given.input.tables h given.input.homes (numbered_members (m ∷ [])) ones zip
-    ∙ ap (map (sight_of t)) (ap (λ a. sights_of_part t (numbered_part a) ++ []) is ∙ append-nil world_seen);
+        ∙ ap (map (sight_of t)) (ap (λ a. sights_of_part t (numbered_part a) ++ []) is ∙ append-nil world_seen);
     paths = scope_paths t (numbered_scope w).instances;
     order = ap (map (path_at t)) (met ∙ ap once (sym one_places)) ∙ (paths_once t given.input.tables (places_shown (m ∷ [])) alone
         ∙ ap once_by_path (members_paths t given.input.tables h given.input.homes (numbered_members (m ∷ [])) ones zip (given.input.numbers.0, tt)));
@@ -409,6 +397,6 @@ module _ (t : Tables) (h : Homes) (known : ℕ → Fact) (n : ℕ) (m : Member) 
     functions = functions_built p r built world_views (functions_planned t h known n (m ∷ own) members given p planned world_seen world_views (flat_map shown_under ones) world_shown);
     inline = inline_built p r built ∙ (inline_planned t h known n (m ∷ own) members given p planned world_seen world_views (flat_map shown_under ones) world_shown ∙ world_inline);
     worlds = worlds_built p r built ∙ (worlds_planned t h known n (m ∷ own) members given p planned world_seen world_views (flat_map shown_under ones) world_shown
-    ∙ (search (std_rules, one_world t h n m own w is own_are, worlds_meant t h (m ∷ []) ones zip)));
+        ∙ (search (std_rules, one_world t h n m own w is own_are, worlds_meant t h (m ∷ []) ones zip)));
     types = types;
   }

@@ -1,5 +1,5 @@
 -- What is decoded stands in the order in which the bytes show it.
-use Rattle.std.proofs.Common.{rules as std_rules, ◌≡◌, refl, sym, ap, subst, ◌∙◌, ℕ, arith, true, cond, List, [], ◌∷◌, ◌++◌, map, Option, Some, None, is_none, slice_get, ◌+◌, ◌<◌, append-nil, length, IfOk, Result}
+use Rattle.std.proofs.Common.{rules as std_rules, ◌≡◌, refl, sym, ap, subst, ◌∙◌, ℕ, true, cond, List, [], ◌∷◌, ◌++◌, map, Option, Some, None, is_none, slice_get, ◌+◌, ◌<◌, append-nil, length, IfOk, Result}
 use Rattle.std.proofs.lemmas.List.Elements.{filter-append}
 use Rattle.std.specs.List.{AllByRecursion, Contains, filter, flat_map, AllZip}
 use Rattle.wit_model.specs.{Text.Text, Meaning.PackageMeaning, Meaning.WorldPackage}
@@ -19,11 +19,11 @@ use Rattle.read_exports.specs.declared.members.{Member.Member, Part.Part}
 use Rattle.read_rules.specs.Scopes.{numbered_scope}
 use Rattle.read_parts.specs.declared.{following.Followed.Followed, members.Member.Member as FollowedMember}
 use Rattle.read_numbers.specs.{NumberedInput.tables_of, FactLaws.known_by}
-use Rattle.read_numbers.specs.PlacedNumbers.{IsInstanceAt, scopes_in as numbered_scopes, scopes_in, IsMetFrom}
+use Rattle.read_numbers.specs.PlacedNumbers.{scopes_in as numbered_scopes, scopes_in, IsMetFrom}
 use Rattle.comp_read.specs.{ReadInput.IsReadInput, ReadInput.AreHomesOf, ReadInput.ViewsObey, Planned.IsBuiltOf, Planned.PlansMean, Planned.WorldPlansMean}
 use Rattle.comp_read.specs.{MembersRead.AreReadOf, OwnMembers.StandAsShown, TypeOrder.NumbersFollow}
 use Rattle.comp_read.specs.{Order.FollowsBytes, Order.FollowsLevels, Order.NamesFollow, ReadWorlds.AreBeside, ReadWorlds.IsReadWorld, WorldsRead.IsWorldReadOf}
-use Rattle.comp_read.proofs.Lists.{IsOfOne, before_of, filter_flat, of_one, once_different, once_given}
+use Rattle.comp_read.proofs.Lists.{filter_flat, once_owned}
 use Rattle.comp_read.proofs.{Members.IsBoth, Members.numbered_at, Members.placed, Members.tables, WorldReadLaws.is_world, WorldReadLaws.read_world_is_whole}
 use Rattle.comp_read.proofs.{Places.no_place, Places.places_differ, Places.world_at, NumberedOrder.met_apart, NumberedOrder.numbers_follow}
 use Rattle.comp_read.proofs.{PlanOrder.StandAlone, PlanOrder.package_follows, PlanOrder.types_built, PlanOrder.world_follows, PackageOrder.packages_are}
@@ -47,6 +47,7 @@ use Rattle.read_members.specs.ReadMembers.{AreRead, lent_member}
 use Rattle.read_numbers.proofs.MetNumbers.{met_from}
 use Rattle.read_parts.specs.{Input.IsFollowed, Members.declared_trees, Members.DeclaringScope, Members.IsScopedBy}
 use Rattle.read_rules.specs.declared.{scopes.Scope.Scope, tables.Fact.Fact as KeptFact}
+use Rattle.comp_read.proofs.Places.{HasInstance}
 use Rattle.comp_meaning.specs.Reads as reads
 use Rattle.read_exports.specs.declared.members.Part.TheVariants as parts
 
@@ -90,14 +91,7 @@ module _ (pieces : List Piece) (x : Followed) (h : Homes) (ms : List Member) (me
   abbrev left : NumberedMember → List ℕ
   left y = filter (has_no_path t) (places_of_part y.part)
 
-  -- an instance of the scope of this number has the place
-  record HasInstance (m q : ℕ) : Type 0 where
-    number : ℕ
-    one : NumberedInstance
-    at : IsInstanceAt ws m number one
-    place : one.place ≡ q
-
-  one_owner : (m n q : ℕ) → path_at t q ≡ None → HasInstance m q → HasInstance n q → m ≡ n
+  one_owner : (m n q : ℕ) → path_at t q ≡ None → HasInstance pieces x h ms members input m q → HasInstance pieces x h ms members input n q → m ≡ n
   one_owner m n q none i l = ((placed pieces x h ms members input).inline m n i.number l.number i.one l.one i.at l.at (ap (path_at t) i.place ∙ none) (i.place ∙ sym l.place)).0
 
   differ : (m : ℕ) (member : Member) → IsBoth pieces x h ms members input m member → (a : Part) → member.part ≡ a → HavePaths t (numbered_part a)
@@ -111,7 +105,7 @@ module _ (pieces : List Piece) (x : Followed) (h : Homes) (ms : List Member) (me
   differ m member b (parts.Interface p v imports) e paths = subst (λ (qs : List ℕ). AreDifferent qs) (sym paths) tt
 
   owns : (m : ℕ) (member : Member) → IsBoth pieces x h ms members input m member → (a : Part) → member.part ≡ a → HavePaths t (numbered_part a)
-      → (q : ℕ) → Contains (filter (has_no_path t) (places_of_part (numbered_part a))) q → HasInstance m q
+      → (q : ℕ) → Contains (filter (has_no_path t) (places_of_part (numbered_part a))) q → HasInstance pieces x h ms members input m q
   owns m member b (parts.World w) e paths q c =
       let from = from_map (λ (i : NumberedInstance). i.place) (numbered_scope w).instances q
       (filter_from (has_no_path t) (map (λ (i : NumberedInstance). i.place) (numbered_scope w).instances) q c).0 in
@@ -122,7 +116,7 @@ module _ (pieces : List Piece) (x : Followed) (h : Homes) (ms : List Member) (me
   paths_at : (m : ℕ) (y : NumberedMember) → slice_get (numbered_members ms) m ≡ Some y → HavePaths t y.part
   paths_at m y e = all_at (λ (z : NumberedMember). HavePaths t z.part) (numbered_members ms) have y (get-contains (numbered_members ms) m y e)
 
-  owner_at : (m : ℕ) (y : NumberedMember) → slice_get (numbered_members ms) m ≡ Some y → (q : ℕ) → Contains (left y) q → HasInstance m q
+  owner_at : (m : ℕ) (y : NumberedMember) → slice_get (numbered_members ms) m ≡ Some y → (q : ℕ) → Contains (left y) q → HasInstance pieces x h ms members input m q
   owner_at m y e q c =
       let from = numbered_at pieces x h ms members input m y e in
       owns m from.member from.both from.member.part refl (subst (λ (z : NumberedMember). HavePaths t z.part) (sym from.is) (paths_at m y e)) q
@@ -135,17 +129,8 @@ module _ (pieces : List Piece) (x : Followed) (h : Homes) (ms : List Member) (me
       (subst (λ (z : NumberedMember). HavePaths t z.part) (sym from.is) (paths_at m y e)))
 
   pub stand_alone : StandAlone t ms
-  stand_alone = ap are_once (filter_flat (has_no_path t) (λ (y : NumberedMember). places_of_part y.part) (numbered_members ms))
-      ∙ once_given (flat_map left (numbered_members ms)) (λ i j q e f. one_of i j q (of_one left (numbered_members ms) i q e) (of_one left (numbered_members ms) j q f))
-    where
-      one_of : (i j q : ℕ) → IsOfOne left (numbered_members ms) i q → IsOfOne left (numbered_members ms) j q → i ≡ j
-      one_of i j q a b =
-          let among = get-contains (left a.one) a.inner q a.there in
-          let one : a.number ≡ b.number = one_owner a.number b.number q (no_place (path_at t q) (filter_from (has_no_path t) (places_of_part a.one.part) q among).1)
-              (owner_at a.number a.one a.at q among) (owner_at b.number b.one b.at q (get-contains (left b.one) b.inner q b.there)) in
-          omega (arith, ap (before_of left (numbered_members ms)) one, (once_different (left b.one) (differ_at b.number b.one b.at) a.inner b.inner q
-          (subst (λ (z : NumberedMember). slice_get (left z) a.inner ≡ Some q)
-          (one_item (numbered_members ms) b.number a.one b.one (subst (λ k. slice_get (numbered_members ms) k ≡ Some a.one) one a.at) b.at) a.there) b.there), a.is, b.is)
+  stand_alone = ap are_once (filter_flat (has_no_path t) (λ (y : NumberedMember). places_of_part y.part) (numbered_members ms)) ∙ once_owned left (numbered_members ms) differ_at
+      (λ m n y z y_at z_at q c d. one_owner m n q (no_place (path_at t q) (filter_from (has_no_path t) (places_of_part y.part) q c).1) (owner_at m y y_at q c) (owner_at n z z_at q d))
 
 -- ---- what is decoded stands in the order in which the bytes show it
 

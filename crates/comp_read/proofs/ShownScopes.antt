@@ -1,5 +1,5 @@
 -- The instances of what was followed stand under the paths that the parts show, in their order.
-use Rattle.std.proofs.Common.{rules as std_rules, ◌≡◌, refl, sym, ap, subst, ◌∙◌, ℕ, ◌&&◌, List, [], ◌∷◌, ◌++◌, map, Option, Some}
+use Rattle.std.proofs.Common.{rules as std_rules, slice_get, ◌≡◌, refl, sym, ap, subst, ◌∙◌, ℕ, ◌&&◌, List, [], ◌∷◌, ◌++◌, map, Option, Some}
 use Rattle.std.specs.List.{AllZip, flat_map}
 use Rattle.wit_model.specs.{Text.Text, Names.PackageIdentity, Names.path_in}
 use Rattle.comp_bytes.specs.{Levels.PartType, Levels.Piece, Levels.shows, Levels.wraps, Reading.◌>>=◌}
@@ -8,7 +8,7 @@ use Rattle.comp_meaning.specs.{ByLevels.entry_scope, Follow.Instance, Follow.Sco
 use Rattle.comp_meaning.specs.Reads.{Member, Part, are_reached, exported_view, imported_view, labelled_path}
 use Rattle.read_shown.specs.{Instances.InstancesAreSeen, Parts.named_instance, Scopes.ScopeStands}
 use Rattle.read_shown.proofs.{ByLevels.entry_scope_stands, Parts.interface_shows}
-use Rattle.plan_meaning.specs.{NumberedMembers.Homes, NumberedViews.Tables, NumberedViews.path_at}
+use Rattle.plan_meaning.specs.{NumberedMembers.Homes, NumberedMembers.IsMember, NumberedViews.Tables, NumberedViews.path_at}
 use Rattle.plan_meaning.specs.NumberedWorlds.{NumberedInstance, NumberedScope, Shows}
 use Rattle.read_exports.specs.declared.members.Member.{Member as KeptMember}
 use Rattle.read_parts.specs.declared.{following.Followed.Followed, members.FollowedPart.FollowedPart, members.Member.Member as FollowedMember}
@@ -19,8 +19,10 @@ use Rattle.read_numbers.specs.PlacedNumbers.{scopes_in}
 use Rattle.read_numbers.proofs.InputNumbers.{input_in_numbers}
 use Rattle.comp_read.specs.{Order.shown_under, ReadInput.IsReadInput}
 use Rattle.comp_read.proofs.{ByScopes.scopes_found, InterfaceViews.each_beside}
-use Rattle.base_lemmas.proofs.{Bools.left_of as first_true, Bools.right_of as second_true, Lists.append_of_map, Lists.flat_mapped, Lists.map_of_map}
-use Rattle.base_lemmas.proofs.Options.{some_is}
+use Rattle.base_lemmas.proofs.{Bools.left_of as first_true, Bools.right_of as second_true, Lists.append_of_map, Lists.map_of_map}
+use Rattle.base_lemmas.proofs.{Elements.zip_at, Elements.zip_at_right, Elements.zip_each, Lists.one_item, Options.some_is}
+use Rattle.read_members.specs.PartMembers.{IsMemberOf}
+use Rattle.read_exports.specs.Members.{numbered_member}
 use Rattle.read_parts.specs.declared.members.FollowedPart.TheVariants as followed
 
 -- ---- one part
@@ -79,17 +81,6 @@ world_paths label path scope p e = search std_rules
 pub one_paths : (y : Text × PartScope) (m : Member) → Stands (meant_scope y.1) → member_of_scope y ≡ Some m → paths_in (meant_scope y.1) ≡ shown_under m
 one_paths y m st e = search (std_rules, bind_some, some_is, world_paths, interface_paths)
 
--- ---- all parts
-
-all_paths : (xs : List (Text × PartType)) (ys : List (Text × PartScope)) (ms : List Member) → AllZip (λ x y. labelled_scope x ≡ Some y) xs ys → AllZip (λ y m. member_of_scope y ≡ Some m) ys ms
-    → flat_map (λ (y : Text × PartScope). paths_in (meant_scope y.1)) ys ≡ flat_map shown_under ms
-all_paths [] [] [] a b = refl
-all_paths (x ∷ xs) (y ∷ ys) (m ∷ ms) a b = λ i. one_paths y m (one_stands x y a.0) b.0 i ++ all_paths xs ys ms a.1 b.1 i
-all_paths [] [] (m ∷ ms) a b = absurd b
-all_paths [] (y ∷ ys) ms a b = absurd a
-all_paths (x ∷ xs) [] ms a b = absurd a
-all_paths (x ∷ xs) (y ∷ ys) [] a b = absurd b
-
 -- the places of the instances of a scope, in order
 abbrev pub scope_places : NumberedScope → List ℕ
 scope_places w = map (λ (i : NumberedInstance). i.place) w.instances
@@ -107,22 +98,48 @@ module _ (t : Tables) where
   part_named (followed.World path s) (interface meant) is = absurd is
   part_named (followed.Interface s) (world text meant) is = absurd is
 
-  members_named : (ms : List FollowedMember) (ys : List (Text × PartScope)) → AllZip (MemberShown t) ms ys
-      → map (path_at t) (flat_map (λ (m : FollowedMember). scope_places (scope_in m)) ms) ≡ flat_map (λ (y : Text × PartScope). paths_in (meant_scope y.1)) ys
-  members_named [] [] all = refl
-  members_named [] (y ∷ ys) all = absurd all
-  members_named (m ∷ ms) [] all = absurd all
-  members_named (m ∷ ms) (y ∷ ys) all = search (std_rules, append_of_map, part_named, members_named ms ys all.1)
+-- ---- all parts
 
--- the places of all instances of an input, in order, are those of the paths that its parts show
-pub places_shown_under : (pieces : List Piece) (x : Followed) (h : Homes) (ms : List KeptMember) (members : List Member) → IsReadInput pieces x h ms members
-    → map (path_at (tables_of x)) (flat_map scope_places (scopes_in x)) ≡ flat_map shown_under members
-places_shown_under pieces x h ms members input =
-    let t = tables_of x in
-    let parts = input.followed.parts in
-    let scopes = bind_some _ _ _ input.reads in
-    let numbers = input_in_numbers pieces x input.followed in
-    ap (map (path_at t)) (sym (flat_mapped scope_places (scope_in t) x.members.items))
-    ∙ (members_named t x.members.items scopes.0 (subst (λ (ys : List (Text × PartScope)). AllZip (MemberShown t) x.members.items ys) (some_is _ _ (sym numbers.found ∙ scopes.1)) numbers.shown)
-    ∙ all_paths parts scopes.0 members (each_beside labelled_scope parts scopes.0 (scopes_found pieces parts input.followed.exported scopes.0 scopes.1))
-    (each_beside member_of_scope scopes.0 members scopes.2))
+pub mapped_zip : {A B C : Type 0} (g : ℕ → C) (f : A → List ℕ) (h : B → List C) (xs : List A) (ys : List B) → AllZip (λ x y. map g (f x) ≡ h y) xs ys → map g (flat_map f xs) ≡ flat_map h ys
+mapped_zip g f h [] [] all = refl
+mapped_zip g f h [] (y ∷ ys) all = absurd all
+mapped_zip g f h (x ∷ xs) [] all = absurd all
+mapped_zip g f h (x ∷ xs) (y ∷ ys) all = append_of_map g (f x) (flat_map f xs) ∙ (λ i. all.0 i ++ mapped_zip g f h xs ys all.1 i)
+
+-- two lists that lie beside a third lie beside each other
+chained : {A B C D : Type 0} (R : A → B → Type 0) (Q : D → C → Type 0) (g : B → D) (xs : List A) (ys : List B) (zs : List C) → AllZip R xs ys → AllZip Q (map g ys) zs
+    → AllZip (λ x z. Unit {0}) xs zs
+chained R Q g [] [] [] a b = tt
+chained R Q g [] [] (z ∷ zs) a b = absurd b
+chained R Q g [] (y ∷ ys) zs a b = absurd a
+chained R Q g (x ∷ xs) [] zs a b = absurd a
+chained R Q g (x ∷ xs) (y ∷ ys) [] a b = absurd b
+chained R Q g (x ∷ xs) (y ∷ ys) (z ∷ zs) a b = (tt, chained R Q g xs ys zs a.1 b.1)
+
+zip_of_map : {A B C : Type 0} (P : C → B → Type 0) (g : A → C) (xs : List A) (ys : List B) → AllZip (λ x y. P (g x) y) xs ys → AllZip P (map g xs) ys
+zip_of_map P g [] [] all = tt
+zip_of_map P g [] (y ∷ ys) all = absurd all
+zip_of_map P g (x ∷ xs) [] all = absurd all
+zip_of_map P g (x ∷ xs) (y ∷ ys) all = (all.0, zip_of_map P g xs ys all.1)
+
+module _ (pieces : List Piece) (x : Followed) (h : Homes) (ms : List KeptMember) (members : List Member) (input : IsReadInput pieces x h ms members) where
+  -- each scope stands under the paths of its part
+  pub scope_under : (n : ℕ) (f : FollowedMember) (y : Member) → slice_get x.members.items n ≡ Some f → slice_get members n ≡ Some y → map (path_at (tables_of x)) (scope_places (scope_in (tables_of x) f)) ≡ shown_under y
+  scope_under n f y f_at y_at =
+      let scopes = bind_some (scopes_of pieces) (each member_of_scope) members input.reads in
+      let numbers = input_in_numbers pieces x input.followed in
+      let s = zip_at (MemberShown (tables_of x)) x.members.items numbers.scopes numbers.shown n f f_at in
+      let s_at = ap (λ ys. slice_get ys n) (sym (some_is numbers.scopes scopes.0 (sym numbers.found ∙ scopes.1))) ∙ s.1 in
+      let z = zip_at (λ s m. member_of_scope s ≡ Some m) scopes.0 members (each_beside member_of_scope scopes.0 members scopes.2) n s.0 s_at in
+      let p = zip_at_right (λ u v. labelled_scope u ≡ Some v) input.followed.parts scopes.0
+      (each_beside labelled_scope input.followed.parts scopes.0 (scopes_found pieces input.followed.parts input.followed.exported scopes.0 scopes.1)) n s.0 s_at in
+      part_named (tables_of x) f.part s.0.1 s.2.1 ∙ (one_paths s.0 z.0 (one_stands p.0 s.0 p.2) z.2 ∙ ap shown_under (one_item members n z.0 y z.1 y_at))
+
+  pub scopes_under : AllZip (λ (w : NumberedScope) (z : Member). map (path_at (tables_of x)) (scope_places w) ≡ shown_under z) (scopes_in x) members
+  scopes_under = zip_of_map (λ (w : NumberedScope) (z : Member). map (path_at (tables_of x)) (scope_places w) ≡ shown_under z) (scope_in (tables_of x)) x.members.items members
+      (zip_each (λ (f : FollowedMember) (z : Member). Unit {0}) (λ (f : FollowedMember) (z : Member). map (path_at (tables_of x)) (scope_places (scope_in (tables_of x) f)) ≡ shown_under z)
+      x.members.items members (chained (IsMemberOf (tables_of x)) (IsMember (tables_of x) h) numbered_member x.members.items ms members input.are input.shown) scope_under)
+
+  -- the places of all instances of an input, in order, are those of the paths that its parts show
+  pub places_shown_under : map (path_at (tables_of x)) (flat_map scope_places (scopes_in x)) ≡ flat_map shown_under members
+  places_shown_under = mapped_zip (path_at (tables_of x)) scope_places shown_under (scopes_in x) members scopes_under

@@ -7,22 +7,20 @@ use Rattle.wit_model.specs.{Uses.has, Uses.once, Text.Text}
 use Rattle.wit_model.proofs.Elements.{contains-has, has-contains, contains-get, none-in}
 use Rattle.plan_types.specs.Orders.{joined_all, places_of_part}
 use Rattle.comp_read.proofs.{CountedUp.IsBefore, CountedUp.IsBeforeIn, CountedUp.in_earlier, CountedUp.in_same, Inputs.read_members_are_in, OwnViews.view_among}
-use Rattle.comp_read.proofs.{ByScopes.scopes_found, Ordered.instance_of_any, ShownOrder.part_paths, InterfaceViews.each_beside, WorldOrder.joined_behind}
+use Rattle.comp_read.proofs.{Ordered.instance_of_any, ShownOrder.part_paths, WorldOrder.joined_behind}
 use Rattle.comp_read.proofs.{Views.instance_placed, Views.same_numbers, Views.told_same, Members.instance_shown, Members.placed, Members.tables}
-use Rattle.comp_read.proofs.ShownScopes.{one_paths, one_stands, part_named, scope_in, scope_places}
+use Rattle.comp_read.proofs.ShownScopes.{scope_under, scope_in, scope_places}
 use Rattle.base_lemmas.proofs.Elements.{contains-one, get-contains, last_of, all-contained, all_at, all_both, all_pass, contains-later, contains-map, first-contained, map_from, zip_at, zip_at_right, zip_each}
-use Rattle.base_lemmas.proofs.{Lists.last_or, Lists.flat_mapped, Lists.get_back, Lists.mapped_get, Lists.one_item, Options.some_is}
+use Rattle.base_lemmas.proofs.{Lists.last_or, Lists.flat_mapped, Lists.get_back, Lists.mapped_get, Lists.one_item}
 use Rattle.base_lemmas.proofs.Bools.{left_of as first_true, right_of as second_true}
 use Rattle.comp_bytes.specs.Levels.{Piece}
-use Rattle.comp_bytes.proofs.Readers.{bind_some}
-use Rattle.comp_meaning.specs.Follow.{each}
-use Rattle.plan_meaning.specs.{FollowedNumbers.AreMembersIn, FollowedNumbers.IsPartIn, FollowedNumbers.IsViewIn, NumberedRules.Fact, PlanRules.are_rising}
+use Rattle.plan_meaning.specs.{FollowedNumbers.IsPartIn, FollowedNumbers.IsViewIn, NumberedRules.Fact, PlanRules.are_rising}
 use Rattle.plan_meaning.specs.NumberedMembers.{Homes, IsMember, NumberedMember}
 use Rattle.plan_meaning.specs.NumberedViews.{NumberedSight, NumberedSlot, NumberedType, NumberedView, Tables, first_at, path_at}
 use Rattle.plan_meaning.specs.{NumberedWorlds.HasPath, NumberedWorlds.NumberedInstance, NumberedWorlds.NumberedScope, Plan.PlannedInterface, Plan.numbers_of}
 use Rattle.plan_meaning.specs.Renumbering.{IsPart}
 use Rattle.plan_parts.specs.{Interfaces.slot_part, Kept.AreMarked}
-use Rattle.plan_package.specs.Views.{views_of_members, views_of_part, whole_view}
+use Rattle.plan_package.specs.Views.{views_of_members, views_of_part}
 use Rattle.plan_package.specs.WholeInterfaces.{Home, ListsNumber, PlansPlace}
 use Rattle.plan_laws.specs.OneWorld.{AreOwnInterfaces}
 use Rattle.plan_laws.proofs.{FirstViews.first_is, Inside.flat_cases}
@@ -32,11 +30,10 @@ use Rattle.read_rules.specs.{Scopes.numbered_scope}
 use Rattle.read_rules.specs.declared.scopes.Scope.{Scope}
 use Rattle.read_members.specs.PartMembers.{IsMemberOf, IsPartOf}
 use Rattle.read_parts.specs.declared.{following.Followed.Followed, members.FollowedPart.FollowedPart, members.Member.Member as FollowedMember}
-use Rattle.read_parts.specs.{Followed.labelled_scope, Followed.member_of_scope, Followed.scopes_of, Members.scope_of}
-use Rattle.read_numbers.specs.{NumberedInput.MemberShown, NumberedInput.tables_of, NumberedParts.numbered_scope as followed_scope}
+use Rattle.read_parts.specs.{Members.scope_of}
+use Rattle.read_numbers.specs.{NumberedInput.tables_of, NumberedParts.numbered_scope as followed_scope}
 use Rattle.read_numbers.specs.PlacedNumbers.{part_of, IsFirstSeen, IsInstanceAt, IsNumbered, scopes_in}
-use Rattle.read_numbers.proofs.InputNumbers.{input_in_numbers}
-use Rattle.comp_read.specs.{Order.shown_under, ReadInput.IsReadInput, ReadInput.ViewsObey}
+use Rattle.comp_read.specs.{ReadInput.IsReadInput, ReadInput.ViewsObey}
 use Rattle.comp_meaning.specs.Reads as reads
 use Rattle.read_exports.specs.declared.members.Part.TheVariants as parts
 use Rattle.read_parts.specs.declared.members.FollowedPart.TheVariants as followed
@@ -291,22 +288,14 @@ module _ (pieces : List Piece) (x : Followed) (h : Homes) (ms : List Member) (me
 
   alike : (n : ℕ) (f : FollowedMember) (k : Member) → slice_get x.members.items n ≡ Some f → slice_get ms n ≡ Some k → scope_places (scope_in t f) ≡ places_of_part (numbered_part k.part)
   alike n f k f_at k_at =
-      let scopes = bind_some (scopes_of pieces) (each member_of_scope) members input.reads in
-      let numbers = input_in_numbers pieces x input.followed in
-      let y = zip_at (MemberShown t) x.members.items numbers.scopes numbers.shown n f f_at in
-      let y_at = ap (λ ys. slice_get ys n) (sym (some_is numbers.scopes scopes.0 (sym numbers.found ∙ scopes.1))) ∙ y.1 in
-      let z = zip_at (λ y m. member_of_scope y ≡ Some m) scopes.0 members (each_beside member_of_scope scopes.0 members scopes.2) n y.0 y_at in
-      let p = zip_at_right (λ u v. labelled_scope u ≡ Some v) input.followed.parts scopes.0
-          (each_beside labelled_scope input.followed.parts scopes.0 (scopes_found pieces input.followed.parts input.followed.exported scopes.0 scopes.1)) n y.0 y_at in
       let kept_at = mapped_get numbered_member ms n k k_at in
       let i = zip_at (IsMember t h) (numbered_members ms) members input.shown n (numbered_member k) kept_at in
       let own = all_at (λ (y : NumberedMember). IsPartIn t y.part) (numbered_members ms) (read_members_are_in pieces x h ms members input known obey) (numbered_member k)
-          (get-contains (numbered_members ms) n (numbered_member k) kept_at) in
+      (get-contains (numbered_members ms) n (numbered_member k) kept_at) in
       let both_read = zip_at (IsMemberOf t) x.members.items ms input.are n f f_at in
       part_alike f.part k.part (subst (λ (m : Member). IsPartOf t f.part m.part) (one_item ms n both_read.0 k both_read.1 k_at) both_read.2.1) own
-      ((part_named t f.part y.0.1 y.2.1 ∙ one_paths y.0 z.0 (one_stands p.0 y.0 p.2) z.2)
-      ∙ (ap shown_under (sym (one_item members n i.0 z.0 i.1 z.1)) ∙ sym (part_paths t (tables pieces x h ms members input) h input.homes (numbered_member k) i.0 i.2.package_ i.2.label
-      (numbered_part k.part) i.0.part i.2.part own)))
+      (scope_under pieces x h ms members input n f i.0 f_at i.1
+      ∙ sym (part_paths t (tables pieces x h ms members input) h input.homes (numbered_member k) i.0 i.2.package_ i.2.label (numbered_part k.part) i.0.part i.2.part own))
 
   pub places_alike : places ≡ flat_map (λ (k : NumberedMember). places_of_part k.part) (numbered_members ms)
   places_alike = sym (flat_mapped scope_places (scope_in t) x.members.items)

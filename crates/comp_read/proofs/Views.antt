@@ -112,15 +112,15 @@ abbrev shows_place : ℕ → NumberedScope → Bool
 shows_place q w = list_any (is_of q) w.instances
 
 -- one of the place, before which none is
-record IsFirstOf (ws : List NumberedScope) (q : ℕ) : Type 0 where
-  scope_number : ℕ
-  number : ℕ
-  one : NumberedInstance
-  at : IsInstanceAt ws scope_number number one
-  place : one.place ≡ q
-  first : IsFirstSeen ws scope_number number q
+pub record IsFirstOf (ws : List NumberedScope) (q : ℕ) : Type 0 where
+  pub scope_number : ℕ
+  pub number : ℕ
+  pub one : NumberedInstance
+  pub at : IsInstanceAt ws scope_number number one
+  pub place : one.place ≡ q
+  pub first : IsFirstSeen ws scope_number number q
 
-first_of_place : (ws : List NumberedScope) (m j : ℕ) (i : NumberedInstance) → IsInstanceAt ws m j i → IsFirstOf ws i.place
+pub first_of_place : (ws : List NumberedScope) (m j : ℕ) (i : NumberedInstance) → IsInstanceAt ws m j i → IsFirstOf ws i.place
 first_of_place ws m j i h = with_scope (first_passing (shows_place i.place) ws m h.scope h.at (get_any (is_of i.place) h.scope.instances j i h.instance_at (same-number i.place)))
   where
     with_instance : (w : IsFirstPassing (shows_place i.place) ws) → IsFirstPassing (is_of i.place) w.one.instances → IsFirstOf ws i.place

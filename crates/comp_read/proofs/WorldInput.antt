@@ -1,14 +1,14 @@
 -- A world by itself that was followed and read is, with the interfaces of its package that it shows, the input of the laws of packages.
 use Rattle.std.proofs.Common.{rules as std_rules, ◌≡◌, refl, sym, ap, subst, ◌∙◌, ℕ, suc, arith, List, [], ◌∷◌, ◌++◌, filter, map, Some, slice_get}
 use Rattle.std.proofs.lemmas.{List.append-nil, List.Elements.Contains-append_left}
-use Rattle.std.specs.{Borrow.Bor, List.AllByRecursion, List.AllZip, List.Contains, List.flat_map}
+use Rattle.std.specs.{Borrow.Bor, List.AllByRecursion, List.Contains, List.flat_map}
 use Rattle.wit_model.specs.{Meaning.WorldPackage, Names.PackageIdentity, Text.Text}
 use Rattle.comp_bytes.specs.{Levels.Piece, Reading.◌>>=◌}
 use Rattle.comp_meaning.specs.{ByLevels.world_of_pieces, Follow.each, Follow.provided, Reads.world_of_members, Reads.world_with}
 use Rattle.read_shown.specs.{Kinds.NamesHaveKinds, Parts.MemberStands}
 use Rattle.read_shown.proofs.MeaningKinds.{worlds_have_kinds}
 use Rattle.plan_meaning.specs.{FollowedNumbers.IsPartIn, FollowedNumbers.IsViewIn, NumberedRules.Fact}
-use Rattle.plan_meaning.specs.NumberedMembers.{Homes, IsKnownSight, IsMember, NumberedMember, NumberedPart, interface, sights_of_members, world, world_shown, are_interfaces}
+use Rattle.plan_meaning.specs.NumberedMembers.{Homes, IsKnownSight, NumberedMember, NumberedPart, interface, sights_of_members, world, world_shown, are_interfaces}
 use Rattle.plan_meaning.specs.NumberedViews.{NumberedSight, NumberedView, Tables, agree_in_numbers}
 use Rattle.plan_meaning.specs.NumberedWorlds.{NumberedInstance, NumberedScope, Shows, are_once, sights_of_scope}
 use Rattle.read_parts.specs.declared.following.Followed.{Followed}
@@ -124,8 +124,14 @@ module _ (pieces : List Piece) (x : Followed) (facts : List KeptFact) (h : Homes
     numbers : AllByRecursion (λ (k : NumberedMember). IsPartIn t k.part) nms
     numbers = all_of (λ (k : NumberedMember). IsPartIn t k.part) nms (λ k c.
         let is = own_at t h n W nms are k c in
-        subst (IsPartIn t) (sym is.part) ((is.path, all_at (λ (i : NumberedInstance). IsViewIn t i.place i.view) W.instances base.numbers.0.instances (record { place = is.place; view = is.view })
-            is.among), tt))
+        subst (IsPartIn t) (sym is.part) (
+          (
+            is.path,
+            all_at (λ (i : NumberedInstance). IsViewIn t i.place i.view) W.instances base.numbers.0.instances (record { place = is.place; view = is.view })
+                is.among,
+          ),
+          tt,
+        ))
 
     -- a property of each part that is an interface of which nothing is imported
     each_own : (P : Part → Type 0) → ((a : Part) (p : ℕ) (v : NumberedView) → numbered_part a ≡ interface p v [] → P a) → AllByRecursion (λ (k : Member). P k.part) own
@@ -137,7 +143,7 @@ module _ (pieces : List Piece) (x : Followed) (facts : List KeptFact) (h : Homes
       homes = given.stand;
       shown = (record { label = refl; package_ = tree.there; part = tree.shows }, own_members t base.tables h given.stand n tree.identity tree.there W nms are);
       stand = world_members_stand t base.tables h given.stand n tree.identity tree.there W nms are label.now tree.scope tree.shows
-      (subst (AllByRecursion MemberStands) tree.is (members_stand pieces x h (m ∷ []) read_members input)).0;
+          (subst (AllByRecursion MemberStands) tree.is (members_stand pieces x h (m ∷ []) read_members input)).0;
       numbers = (base.numbers.0, numbers);
       declared = (base.declared.0, each_own (PartDeclaresNames t) (declares_none t));
     }

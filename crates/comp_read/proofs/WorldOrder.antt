@@ -382,8 +382,8 @@ module _ (t : Tables) (tables : AreTables t) (h : Homes) (stand : HomesStand t h
         let is = own_at t h n w all are from.0 from.1 in
         let at = contains-get (sights_of_scope t w) (record { place = is.place; view = is.view; whole = true }) is.seen in
         no_true (sym (ap not (get_any (λ (s : NumberedSight). is_named_in h n label s.place) (sights_of_scope t w) at.0 (record { place = is.place; view = is.view; whole = true }) at.1
-            (ap (λ o. option_map_or (λ (x : ℕ × Text). x.0 == n && text_eq x.1 label) o false) is.home
-            ∙ both (n == n) (text_eq from.0.label label) (same-number n) (ap (λ (a : Text). text_eq a label) (from.2 ∙ sym same) ∙ same_text label)))) ∙ not_taken t h known n label w obeys all are))
+        (ap (λ o. option_map_or (λ (x : ℕ × Text). x.0 == n && text_eq x.1 label) o false) is.home
+        ∙ both (n == n) (text_eq from.0.label label) (same-number n) (ap (λ (a : Text). text_eq a label) (from.2 ∙ sym same) ∙ same_text label)))) ∙ not_taken t h known n label w obeys all are))
 
     pub labels_differ : (known : ℕ → Fact) (label : Text) → is_one_world t h known n label w ≡ true → distinct (label ∷ labels all) ≡ true
     labels_differ known label obeys = both (not (list_any (text_eq label) (labels all))) (distinct (labels all)) (world_differs known label obeys) (own_differ all (λ k c. c) are.once)

@@ -7,7 +7,7 @@ use Rattle.wit_model.proofs.Elements.{none-in}
 use Rattle.comp_bytes.specs.Levels.{Piece}
 use Rattle.comp_meaning.specs.{Rules.distinct, ByLevels.world_of_pieces}
 use Rattle.plan_meaning.specs.NumberedMembers.{Homes, NumberedMember, NumberedPart, interface, world, HomesStand, home_at}
-use Rattle.plan_meaning.specs.{NumberedRules.Fact, NumberedViews.AreTables, NumberedViews.NumberedSight, NumberedViews.NumberedView, NumberedViews.Tables}
+use Rattle.plan_meaning.specs.{NumberedRules.Fact, NumberedViews.AreTables, NumberedViews.NumberedView, NumberedViews.Tables}
 use Rattle.plan_meaning.specs.NumberedWorlds.{HasPath, NumberedScope}
 use Rattle.read_parts.specs.declared.following.Followed.{Followed}
 use Rattle.read_numbers.specs.{FactLaws.known_by, NumberedInput.tables_of}
@@ -21,7 +21,7 @@ use Rattle.plan_package.specs.{PlanWhole.places_in, PlanWhole.MayBeWhole, WholeW
 use Rattle.plan_package.specs.Views.{views_of_members, whole_view}
 use Rattle.plan_laws.specs.{Apart.FirstsRise, OneWorld.IsWorldInput, ShownWhole.AreReached}
 use Rattle.plan_laws.specs.{FirstViews.IsRisingView, WholePlaces.LabelsStand, WholePlan.IsOfMember, WholePlan.IsWholeInput, WholeReasonsForeign.PartIsReached}
-use Rattle.plan_laws.specs.{WholeCondition.ImportsAreBare, WholeCondition.PartIsBare, WholeWorlds.WorldIsFollowed, WholeWorlds.WorldsAreFollowed}
+use Rattle.plan_laws.specs.{WholeCondition.PartIsBare, WholeWorlds.WorldIsFollowed, WholeWorlds.WorldsAreFollowed}
 use Rattle.plan_laws.proofs.{FirstViews.first_is, ShownRules.all_of}
 use Rattle.plan_laws.proofs.{PlaceNumbers.all_joined, PlaceNumbers.from_joined, WholeCondition.whole_may_be_planned, WorldMeaning.world_plan_is_whole}
 use Rattle.comp_read.proofs.{Followed.read_places_are_met, Followed.worlds_followed, WorldOrder.labels_differ, WorldOrder.own_label, Labels.read_labels_stand}
@@ -81,7 +81,7 @@ module _ (pieces : List Piece) (x : Followed) (facts : List KeptFact) (h : Homes
       all_of (λ (k : Member). is_label k.label.now ≡ true) own (λ k c. own_label t tables h given.stand n W nms are (numbered_member k) (contains-map numbered_member own k c)),
     );
     apart = ap (λ (ls : List Text). distinct (label.now ∷ ls)) (sym ((map_of_map (λ (k : NumberedMember). k.label) numbered_member own)))
-    ∙ labels_differ t tables h given.stand n W nms are known label.now given.obeys;
+        ∙ labels_differ t tables h given.stand n W nms are known label.now given.obeys;
   }
 
   -- ---- the order
