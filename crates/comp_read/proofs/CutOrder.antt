@@ -20,7 +20,7 @@ use Rattle.comp_meaning.specs.Reads.{worlds_of}
 use Rattle.plan_type_laws.specs.ShownMarks.{has_no_path}
 use Rattle.plan_laws.proofs.OwnPlaces.{once_first}
 use Rattle.read_exports.specs.Members.{numbered_member, numbered_members}
-use Rattle.comp_read.proofs.{PlanOrder.worlds_meant, ShownOrder.paths_once, Members.instance_shown, ShownScopes.scope_places}
+use Rattle.comp_read.proofs.{PlanOrder.worlds_meant, ShownOrder.paths_once, Members.instance_shown, ShownScopes.scope_places, Views.first_of_place}
 use Rattle.comp_read.proofs.Cuts.{behind_front, early, late, of_front, split_flat}
 use Rattle.comp_read.proofs.{WorldOrder.joined_behind, TypeNumbers.same_part, TypeNumbers.shown_at, TypeNumbers.shown_number, TypeNumbers.told_parts}
 use Rattle.comp_bytes.specs.Levels.{Piece}
@@ -28,7 +28,6 @@ use Rattle.plan_parts.specs.Kept.{AreMarked}
 use Rattle.plan_types.specs.Orders.{joined_all}
 use Rattle.read_parts.specs.declared.following.Followed.{Followed}
 use Rattle.read_numbers.specs.{NumberedInput.tables_of, PlacedNumbers.part_of, PlacedNumbers.IsFirstSeen, PlacedNumbers.IsInstanceAt, PlacedNumbers.scopes_in}
-use Rattle.comp_read.proofs.Views.{first_of_place}
 use Rattle.plan_meaning.specs.Plan as plan
 use Rattle.read_exports.specs.declared.members.Part.TheVariants as parts
 use Rattle.read_rules.specs.declared.scopes.Shown.TheVariants as shown
@@ -119,15 +118,7 @@ module _ (ms : List Member) (m : ℕ) (y : Member) (y_at : slice_get ms m ≡ So
 
     pub behind_there : (worlds_before ms m < k) ⊎ ((k ≡ worlds_before ms m) × (imports ≤ j)) → StandsBehind m many o.number j
     behind_there (inl more) = elim (cases_lt m o.number) [ inl past ↦ inl past | inr le ↦ (let few = fewer ms o.number m le in let count = o.count in absurd (omega (arith, few, count, more))) ]
-    behind_there (inr (same, far)) = elim (cases_lt o.number m) [
-      | inl less ↦ absurd (not_less same less)
-      | inr past ↦ elim (cases_lt m o.number) [
-        | inl beyond ↦ inl beyond
-        | inr le ↦
-            let here : o.number ≡ m = omega (arith, past, le) in
-            inr (here, omega (arith, far, (counts.world v.1 (ap (λ (z : Member). z.part) (sym (same-some o.member y (sym o.at ∙ (ap (slice_get ms) here ∙ y_at)))) ∙ o.is))))
-      ]
-    ]
+    behind_there (inr (same, far)) = search (std_rules, cases_lt, not_less, same-some)
 
 -- ---- the type of an import
 
@@ -149,8 +140,7 @@ module _ (t : Tables) (kept : List ℕ) (places : List ℕ) (n : ℕ) (v : Text 
       by u.0 u.1 u.2
     where
       by : (s : Seen) → slice_get v.1.imports.now j ≡ Some s → PlansItem t kept places plans.find s e → IsImported t kept v.1.home (numbered_scope v.1).imports j a
-      by s s_at (an_instance key view shows made) =
-          let wrong : plan.interface made.number _ ≡ plan.declares a = sym (ap (λ (x : PlannedKey × PlannedItem). x.1) made.is) ∙ is in absurd cc
+      by s s_at (an_instance key view shows made) = search std_rules
       by s s_at (a_function k shows under made) = let wrong : plan.function made.function ≡ plan.declares a = sym made.is ∙ is in absurd cc
       by s s_at (a_type part d k shows made keeps) =
           let same : k ≡ a = same-some k a (ap plan.item_type (sym (ap (λ (x : PlannedKey × PlannedItem). x.1) made) ∙ is)) in
@@ -201,6 +191,12 @@ pub counts_of : (t : Tables) (h : Homes) (ms : List Member) (m : ℕ) (k : Membe
     → (many : ℕ) → length scope.imports ≡ many → Counts ms m k at many (imports_in y.part scope)
 counts_of t h ms m k at y is scope many same = search std_rules
 
+-- a type of the plan whose part is so
+pub record IsSo (P : ℕ → Type 0) (kept : List ℕ) (c : ℕ) : Type 0 where
+  pub part : ℕ
+  pub is : IsPart kept part (14 + c)
+  pub so : P part
+
 -- ---- the types of interfaces that had been shown at a cut have smaller numbers than it, and those of others don't
 
 module _ (pieces : List Piece) (x : Followed) (h : Homes) (ms : List Member) (members : List reads.Member) (input : IsReadInput pieces x h ms members) (known : ℕ
@@ -244,17 +240,6 @@ module _ (pieces : List Piece) (x : Followed) (h : Homes) (ms : List Member) (me
 
   -- ---- the plan
 
-  -- a type of the plan is one of those that were there at the cut, or isn't
-  pub record IsLow (kept : List ℕ) (c : ℕ) : Type 0 where
-    pub part : ℕ
-    pub is : IsPart kept part (14 + c)
-    pub low : part < 14 + many
-
-  pub record IsHigh (kept : List ℕ) (c : ℕ) : Type 0 where
-    pub part : ℕ
-    pub is : IsPart kept part (14 + c)
-    pub high : 14 + many ≤ part
-
   module _ (marks : List Bool) (kept : List ℕ) (marked : AreMarked marks kept) (n : ℕ) (homes : ℕ → Option Home) (seen : List NumberedSight)
       (within : (s : NumberedSight) → Contains seen s → Contains (views_of_members (numbered_members ms)) s) (ps : List ℕ) (met : ps ≡ joined_all [] (flat_map scope_places ws))
       (is : List PlannedInterface) (planned : AllZip (PlansPlace t kept n homes seen) ps is) (firsts : (k q : ℕ) → slice_get ps k ≡ Some q → (s : NumberedSight) × (first_at q seen ≡ Some s)) where
@@ -296,22 +281,22 @@ module _ (pieces : List Piece) (x : Followed) (h : Homes) (ms : List Member) (me
           kept_ = subst (λ (p : ℕ). IsPart kept p (14 + c)) (same_part y.0.slot) y.2;
         }
 
-    pub interface_low : (k : ℕ) (i : PlannedInterface) → slice_get is k ≡ Some i → k < length (once shown_front) → (c : ℕ) → Contains (numbers_of i.types) c → IsLow kept c
+    pub interface_low : (k : ℕ) (i : PlannedInterface) → slice_get is k ≡ Some i → k < length (once shown_front) → (c : ℕ) → Contains (numbers_of i.types) c → IsSo (λ q. q < 14 + many) kept c
     interface_low k i i_at less c c_in =
         let v = of_view k i i_at c c_in in
         let front = early shown_front all_split.0 k v.place (place_among k v.place v.at) less in
         record {
           part = part_of v.type_.slot;
           is = v.kept_;
-          low = shown_low v.scope v.number (instance_shown v.sight) v.there (subst (Contains shown_front) (sym v.same) front) v.type_ v.among;
+          so = shown_low v.scope v.number (instance_shown v.sight) v.there (subst (Contains shown_front) (sym v.same) front) v.type_ v.among;
         }
 
-    pub interface_high : (k : ℕ) (i : PlannedInterface) → slice_get is k ≡ Some i → length (once shown_front) ≤ k → (c : ℕ) → Contains (numbers_of i.types) c → IsHigh kept c
+    pub interface_high : (k : ℕ) (i : PlannedInterface) → slice_get is k ≡ Some i → length (once shown_front) ≤ k → (c : ℕ) → Contains (numbers_of i.types) c → IsSo (λ q. 14 + many ≤ q) kept c
     interface_high k i i_at past c c_in =
         let v = of_view k i i_at c c_in in
         record {
           part = part_of v.type_.slot;
           is = v.kept_;
-          high = shown_high v.scope v.number (instance_shown v.sight) v.there
+          so = shown_high v.scope v.number (instance_shown v.sight) v.there
               (λ d. late shown_front all_split.0 k v.place (place_among k v.place v.at) past (subst (Contains shown_front) v.same d)) v.type_ v.among;
         }

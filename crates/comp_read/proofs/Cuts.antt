@@ -194,8 +194,7 @@ module _ (pieces : List Piece) (x : Followed) (followed : IsFollowed pieces x) (
             part_low : (y : Member) → slice_get ms n ≡ Some y → (u : Seen) → slice_get (scope_of y.part).imports.items j ≡ Some u → (name : Bor (List ℕ)) (part : ℕ) (o : Option ℕ)
                 → u.shown ≡ shown.Type name part o → StandsBefore m (length then.imports) n j → part < 14 + many
             part_low y y_at u u_at name part o e (inl less) = omega (arith, staged.imports_below n y y_at less j u u_at name part o e, base_within)
-            part_low y y_at u u_at name part o e (inr (same, low)) =
-                (subst (λ (v : Shown). IsShownAs then.shapes then.signatures then.paths (length then.instances) v) e
+            part_low y y_at u u_at name part o e (inr (same, low)) = (subst (λ (v : Shown). IsShownAs then.shapes then.signatures then.paths (length then.instances) v) e
                 (all_at (λ (v : Seen). IsShownAs then.shapes then.signatures then.paths (length then.instances) v.shown) then.imports j u stage.world.imports
                 (stood then.imports (world_in member).imports stage.imports_grow j u low
                 (subst (λ (w : Member). slice_get (scope_of w.part).imports.items j ≡ Some u) (sym (one_member n y y_at same)) u_at)))).0
@@ -218,8 +217,7 @@ module _ (pieces : List Piece) (x : Followed) (followed : IsFollowed pieces x) (
         let name = all_at (IsTypeNamed x.table o.one.place) o.one.view.types.items z_at.0 z.0 ((followed.followed.placed n o.member o.there).placed.instances j o.one o.at).named z_at.1 in
         subst (λ (k : NumberedType). 14 + many ≤ part_of k.slot) z.2 (elim (cases_lt name.number many) [
           | inl low ↦ absurd (by (ap (λ (k : NumberedInstance). k.place) o.is) (was_shown name.number o.one.place z.0.name.now low name.at))
-          | inr past ↦
-              omega (arith, (slot_number z.0.slot ∙ name.is), past)
+          | inr past ↦ omega (arith, (slot_number z.0.slot ∙ name.is), past)
         ])
       where
         by : {q : ℕ} {name : Text} → q ≡ i.place → WasShown q name → ⊥
@@ -249,7 +247,7 @@ module _ (pieces : List Piece) (x : Followed) (followed : IsFollowed pieces x) (
         earlier k l same (inr (two, low)) (inr (one, le)) = omega (arith, low, le)
 
         by : WasShown w.home s.key → ⊥
-        by (by_view k l o o_at place before) = let y = member_of n w w_at in not_home k l o o_at n y.0 y.1 (place ∙ sym ((ap (λ (k : NumberedScope). k.home) y.2)))
+        by (by_view k l o o_at place before) = let y = member_of n w w_at in not_home k l o o_at n y.0 y.1 (place ∙ sym (ap (λ (k : NumberedScope). k.home) y.2))
         by (by_name k l y u label part o y_at u_at shows named own before) =
             let mine = member_of n w w_at in
             let one : k ≡ n = placed.homes k n (scope_in y) w (mapped_get scope_in ms k y y_at) w_at (sym own) in

@@ -1,8 +1,8 @@
 -- What was followed is the input of the laws of whole plans.
-use Rattle.std.proofs.Common.{◌≡◌, refl, sym, ap, subst, ◌∙◌, ℕ, arith, true, false, List, [], ◌∷◌, ◌++◌, map, Option, Some, slice_get}
+use Rattle.std.proofs.Common.{rules as std_rules, ◌≡◌, refl, sym, ap, subst, ◌∙◌, ℕ, arith, true, false, List, [], ◌∷◌, ◌++◌, map, Option, Some, slice_get}
 use Rattle.std.proofs.{lemmas.List.Elements.Contains-append_left, lemmas.List.Elements.Contains-append_right, ByRecursion.All-weaker as recursion_weaker}
 use Rattle.std.proofs.lemmas.Option.{slice_get_within}
-use Rattle.std.specs.{Borrow.Bor, List.AllByRecursion, List.Contains, List.list_all}
+use Rattle.std.specs.{Borrow.Bor, List.AllByRecursion, List.Contains}
 use Rattle.wit_model.proofs.Elements.{contains-get}
 use Rattle.comp_bytes.specs.Levels.{Piece}
 use Rattle.comp_meaning.specs.Rules.{distinct}
@@ -31,7 +31,6 @@ use Rattle.base_lemmas.proofs.{Bools.third_of, Lists.map_of_map, Lists.within_th
 use Rattle.base_lemmas.proofs.Elements.{all_at, contains-map, contains-one, get-contains, map_from as from_map}
 use Rattle.comp_meaning.specs.Follow as follow
 use Rattle.comp_meaning.specs.Reads as reads
-use Rattle.comp_meaning.specs.Rules as rules
 use Rattle.read_shown.specs.Scopes as scopes
 use Rattle.plan_meaning.specs.NumberedWorlds as worlds
 use Rattle.read_exports.specs.declared.members.Part.TheVariants as parts
@@ -57,11 +56,7 @@ module _ (pieces : List Piece) (x : Followed) (h : Homes) (ms : List Member) (me
 
     -- no two imports have one key
     pub keys_differ : distinct (map (λ (s : NumberedSeen). s.key) W.imports) ≡ true
-    keys_differ = ap distinct (sym (map_of_map (λ (s : follow.Seen). s.key) (seen_of t) W.imports))
-        ∙ (ap (λ (ss : List follow.Seen). distinct (map (λ (s : follow.Seen). s.key) ss)) (sym read.shows.imports)
-        ∙ third_of (rules.are_imports [] read.scope.imports) (list_all (λ (s : follow.Seen). rules.is_item [] s.key s.shown) read.scope.exports)
-        (distinct (map (λ (s : follow.Seen). s.key) read.scope.imports)) (distinct (map (λ (s : follow.Seen). s.key) read.scope.exports))
-        (rules.stand_earlier [] (read.scope.imports ++ read.scope.exports)) read.stands.obeys)
+    keys_differ = search (std_rules, map_of_map, third_of)
 
     -- no type is exported
     no_types : AllByRecursion HasNoType W.exports
@@ -128,14 +123,7 @@ module _ (pieces : List Piece) (x : Followed) (h : Homes) (ms : List Member) (me
           by (worlds.declares d) item one free = let wrong : true ≡ false = free in absurd cc
 
       scope_is_in : IsScopeIn t w
-      scope_is_in = record {
-        home = good.home;
-        imports = all_given (IsSeenIn t w.home) w.imports import_in;
-        exports = all_of (IsSeenIn t w.home) w.exports export_in;
-        instances = all_of (λ (i : NumberedInstance). IsViewIn t i.place i.view) w.instances viewed_in;
-        imported = good.imported;
-        exported = good.exported;
-      }
+      scope_is_in = search (std_rules, all_given, import_in, all_of, export_in, viewed_in)
 
     module _ (m : ℕ) (member : Member) (b : IsBoth pieces x h ms members input m member) where
       pub world_in : (w : Scope) → member.part ≡ parts.World w → IsScopeIn t (numbered_scope w)
@@ -180,14 +168,7 @@ module _ (pieces : List Piece) (x : Followed) (h : Homes) (ms : List Member) (me
         subst (λ (m : NumberedMember). IsPartIn t m.part) from.2 (part_in there.0 from.0 (both_at pieces x h ms members input there.0 from.0 there.1)))
 
     pub is_input : IsInput t h ms members
-    is_input = record {
-      tables = tables pieces x h ms members input;
-      homes = input.homes;
-      shown = input.shown;
-      stand = members_stand_together members (members_stand pieces x h ms members input);
-      numbers = members_in;
-      declared = members_named;
-    }
+    is_input = search (std_rules, tables, members_stand_together, members_stand, members_in, members_named)
 
 pub read_members_stand : ReadMembersStand
 read_members_stand pieces x h ms members input = members_stand pieces x h ms members input

@@ -6,9 +6,9 @@ use Rattle.wit_model.specs.declared.model.{Resolve.Resolve, TypeId.TypeId, World
 use Rattle.wit_model.specs.{Lookup.world_at as model_world, Text.Text, Uses.once}
 use Rattle.comp_bytes.specs.Levels.{Entry, PartType, Piece}
 use Rattle.comp_meaning.specs.{ByLevels.entry_step, Follow.new_scope, Reads.steps, Rules.distinct}
-use Rattle.plan_meaning.specs.{Built.IsBuilt, Built.planned_interface, Built.planned_item, Built.planned_key, Built.planned_world, NumberedRules.Fact, NumberedViews.NumberedSight, NumberedViews.Tables, NumberedViews.first_at, NumberedViews.path_at, Plan.Plan}
+use Rattle.plan_meaning.specs.{Built.IsBuilt, Built.planned_item, Built.planned_key, Built.planned_world, NumberedRules.Fact, NumberedViews.NumberedSight, NumberedViews.Tables, NumberedViews.first_at, NumberedViews.path_at, Plan.Plan}
 use Rattle.plan_meaning.specs.NumberedMembers.{Homes, IsMember, NumberedMember}
-use Rattle.plan_meaning.specs.NumberedWorlds.{NumberedScope, NumberedSeen, are_once}
+use Rattle.plan_meaning.specs.{NumberedWorlds.NumberedScope, NumberedWorlds.NumberedSeen, NumberedWorlds.are_once, Built.planned_interface}
 use Rattle.plan_meaning.proofs.TypeOrder.{type_numbers_are}
 use Rattle.plan_parts.specs.Kept.{AreMarked}
 use Rattle.plan_types.specs.Orders.{joined_all}
@@ -25,11 +25,10 @@ use Rattle.read_rules.specs.Scopes.{numbered_scope}
 use Rattle.read_rules.specs.declared.scopes.Scope.{Scope}
 use Rattle.comp_read.specs.Order.{HowMuch, IsNamedBefore, IsNamedBehind, once_by_path, shown_under, shown_until}
 use Rattle.comp_read.specs.ReadInput.{IsReadInput, ViewsObey}
-use Rattle.comp_read.proofs.{Cuts.IsCutOf, Cuts.cut_of, Members.both_at, Members.placed, Members.tables, Members.world_read, CutOrder.IsHigh, CutOrder.IsLow, CutOrder.interface_high, CutOrder.interface_low, PlanOrder.built_at, PlanOrder.world_built_at, Cuts.split_flat, Inputs.keys_differ, Places.world_at, TypeNumbers.kept_less}
+use Rattle.comp_read.proofs.{Cuts.IsCutOf, Cuts.cut_of, Members.both_at, Members.placed, Members.tables, Members.world_read, CutOrder.IsSo, CutOrder.interface_high, CutOrder.interface_low, PlanOrder.built_at, PlanOrder.world_built_at, Cuts.split_flat, Inputs.keys_differ, Places.world_at, TypeNumbers.kept_less}
 use Rattle.comp_read.proofs.CutOrder.{counts_of, many_places, many_worlds, zip_take, Counts, IsImported, IsWorldOf, before_there, behind_there, imported, world_of, worlds_before}
 use Rattle.comp_read.proofs.ShownScopes.{mapped_zip, scopes_under, scope_places}
-use Rattle.base_lemmas.proofs.{Elements.all_at_too, Elements.get-contains, Elements.zip_at_right}
-use Rattle.base_lemmas.proofs.Lists.{append_of_map, get_back, mapped_get}
+use Rattle.base_lemmas.proofs.{Elements.all_at_too, Elements.get-contains, Elements.zip_at_right, Lists.append_of_map, Lists.get_back, Lists.mapped_get}
 use Rattle.wit_model.specs.declared.model.WorldItem.TheVariants as item
 use Rattle.comp_meaning.specs.Follow as follow
 use Rattle.comp_meaning.specs.Reads as reads
@@ -99,10 +98,6 @@ module _ (pieces : List Piece) (x : Followed) (h : Homes) (ms : List Member) (me
         (within : (s : NumberedSight) → Contains seen s → Contains (views_of_members (numbered_members ms)) s) (ps : List ℕ) (met : ps ≡ joined_all [] (flat_map scope_places ws)) (p : Plan)
         (planned : AllZip (PlansPlace t kept n homes seen) ps p.interfaces) (firsts : (k q : ℕ) → slice_get ps k ≡ Some q → (s : NumberedSight) × (first_at q seen ≡ Some s)) (places : List ℕ)
         (worlds : AllZip (PlansWorld t kept places n) (worlds_in ms) p.worlds) (r : Resolve) (built : IsBuilt p r) where
-      less : (a b : ℕ) → IsLow pieces x h ms members input known obey m w w_at cut.instances cut.imports cut.many cut.cut kept a
-          → IsHigh pieces x h ms members input known obey m w w_at cut.instances cut.imports cut.many cut.cut kept b → a < b
-      less a b low high = let under = low.low in let over = high.high in kept_less marks kept marked low.part high.part a b low.is high.is (omega (arith, under, over))
-
       -- an import of a world that is built
       record IsOfWorld (k j a : ℕ) : Type 0 where
         v : Text × Scope
@@ -137,7 +132,7 @@ module _ (pieces : List Piece) (x : Followed) (h : Homes) (ms : List Member) (me
       counts : Counts ms m kept_member.kept kept_member.kept_at cut.imports much.imports
       counts = counts_of t h ms m kept_member.kept kept_member.kept_at y kept_member.is scope cut.imports cut.imports_are
 
-      low_of : (a : ℕ) → IsNamedBefore r much a → IsLow pieces x h ms members input known obey m w w_at cut.instances cut.imports cut.many cut.cut kept a
+      low_of : (a : ℕ) → IsNamedBefore r much a → IsSo (λ q. q < 14 + cut.many) kept a
       low_of a (named.IsNamedBefore.in_interface k i i_at under c) = interface_low pieces x h ms members input known obey m w w_at cut.instances cut.imports cut.many cut.cut marks kept marked n homes
           seen within ps met p.interfaces planned firsts k (planned_interface i) (built_at p r built k i i_at) (subst (λ (c : ℕ). k < c) (sym interfaces_are) under) a
           (subst (λ (ns : List ℕ). Contains ns a) (sym (type_numbers_are i)) c)
@@ -146,25 +141,22 @@ module _ (pieces : List Piece) (x : Followed) (h : Homes) (ms : List Member) (me
           let before = before_there ms m kept_member.kept kept_member.kept_at cut.imports much.imports counts k j o.v o.owner
           (subst (λ (c : ℕ). (k < c) ⊎ ((k ≡ c) × (j < much.imports))) (sym worlds_are) side) in
           let number = cut.cut.types_before o.owner.number j (numbered_scope o.v.1) o.import_.seen o.import_.declared o.scope_at o.import_.at o.import_.is before o.import_.number o.import_.row in
-          record { part = 14 + o.import_.number; is = o.import_.kept_; low = omega (arith, number) }
+          record { part = 14 + o.import_.number; is = o.import_.kept_; so = omega (arith, number) }
 
-      high_of : (b : ℕ) → IsNamedBehind r much b → IsHigh pieces x h ms members input known obey m w w_at cut.instances cut.imports cut.many cut.cut kept b
+      high_of : (b : ℕ) → IsNamedBehind r much b → IsSo (λ q. 14 + cut.many ≤ q) kept b
       high_of b (named.IsNamedBehind.in_interface k i i_at over c) = interface_high pieces x h ms members input known obey m w w_at cut.instances cut.imports cut.many cut.cut marks kept marked n homes
           seen within ps met p.interfaces planned firsts k (planned_interface i) (built_at p r built k i i_at) (subst (λ (c : ℕ). c ≤ k) (sym interfaces_are) over) b
           (subst (λ (ns : List ℕ). Contains ns b) (sym (type_numbers_are i)) c)
       high_of b (named.IsNamedBehind.in_world k j v id v_at import_at same side) =
           let o = of_world k j v id v_at import_at b same in
-          record {
-            part = 14 + o.import_.number;
-            is = o.import_.kept_;
-            high =
-                omega (
-                  arith,
-                  cut.cut.types_behind o.owner.number j (numbered_scope o.v.1) o.import_.seen o.import_.declared o.scope_at o.import_.at o.import_.is o.differ
-                      (behind_there ms m kept_member.kept kept_member.kept_at cut.imports much.imports counts k j o.v o.owner
-                      (subst (λ (c : ℕ). (c < k) ⊎ ((k ≡ c) × (much.imports ≤ j))) (sym worlds_are) side)) o.import_.number o.import_.row,
-                );
-          }
+          let behind = behind_there ms m kept_member.kept kept_member.kept_at cut.imports much.imports counts k j o.v o.owner
+          (subst (λ (c : ℕ). (c < k) ⊎ ((k ≡ c) × (much.imports ≤ j))) (sym worlds_are) side) in
+          let number = cut.cut.types_behind o.owner.number j (numbered_scope o.v.1) o.import_.seen o.import_.declared o.scope_at o.import_.at o.import_.is o.differ behind o.import_.number
+          o.import_.row in
+          record { part = 14 + o.import_.number; is = o.import_.kept_; so = omega (arith, number) }
 
       pub named_less : (a b : ℕ) → IsNamedBefore r much a → IsNamedBehind r much b → a < b
-      named_less a b before behind = less a b (low_of a before) (high_of b behind)
+      named_less a b before behind =
+          let low = low_of a before in
+          let high = high_of b behind in
+          kept_less marks kept marked low.part high.part a b low.is high.is (omega (arith, low.so, high.so))

@@ -26,8 +26,7 @@ use Rattle.read_follow.proofs.NumberingLaws.{count_below}
 use Rattle.read_numbers.specs.PlacedNumbers.{IsMetPart}
 use Rattle.read_parts.specs.Members.{DeclaringScope}
 use Rattle.comp_read.specs.TypeOrder.{are_pathed, is_pathed, numbers_below, HasNumber, NumbersFollow}
-use Rattle.comp_read.proofs.CountedUp.{IsOfSmaller, StandBehind, behind_mapped, below, counted_up}
-use Rattle.comp_read.proofs.PlanOrder.{is_plan}
+use Rattle.comp_read.proofs.{CountedUp.IsOfSmaller, CountedUp.StandBehind, CountedUp.behind_mapped, CountedUp.below, CountedUp.counted_up, PlanOrder.is_plan}
 
 -- ---- The named types that a type of the plan meets are names in the part that is kept for it.
 
@@ -347,12 +346,4 @@ module _ (t : Tables) (tables : AreTables t) where
       HasItsNumber d o = HasNumber r d.1 o
 
       pub numbers_follow : NumbersFollow declares r
-      numbers_follow = record {
-        numbers = found;
-        are = subst (λ (ds : List (DeclaringScope × Tree)). AllZip HasItsNumber ds found) trees
-            (subst (λ (ns : List (Option ℕ)). AllZip HasItsNumber (scoped_trees (shape_trees (place_at t) t.shapes) scoped) ns) (sym (map_of_map number_for (λ (s : DeclaringScope × ℕ). s.1) scoped))
-            (zip_maps HasItsNumber (λ (s : DeclaringScope × ℕ). (s.0, tree_at t s.1)) (λ (s : DeclaringScope × ℕ). number_for s.1) (λ (s : DeclaringScope × ℕ). has_number s.1) scoped));
-        order = counts_up;
-        same = same_number;
-        names = same_names;
-      }
+      numbers_follow = search (std_rules, map_of_map, zip_maps, has_number, counts_up, same_number, same_names)

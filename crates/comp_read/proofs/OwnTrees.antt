@@ -37,13 +37,11 @@ module _ (t : Tables) (tables : AreTables t) (h : Homes) (stand : HomesStand t h
   trees = map (own_tree t identity) ms
 
   pub own_members : AllZip (IsMember t h) ms trees
-  own_members =
-      zip_mapped (IsMember t h) (own_tree t identity) ms (λ k c. record {
-        label = refl;
-        package_ = ap (slice_get h.packages) (own_at t h n w ms are k c).package_ ∙ there;
-        part =
-            search (std_rules, own_at t h n w ms are k c);
-      })
+  own_members = zip_mapped (IsMember t h) (own_tree t identity) ms (λ k c. record {
+    label = refl;
+    package_ = ap (slice_get h.packages) (own_at t h n w ms are k c).package_ ∙ there;
+    part = search (std_rules, own_at t h n w ms are k c);
+  })
 
   -- ---- what they show
 
@@ -60,11 +58,9 @@ module _ (t : Tables) (tables : AreTables t) (h : Homes) (stand : HomesStand t h
         let is = own_at t h n w ms are k c in
         let spelled = spelled_as t tables h stand n is.place k.label is.path is.home in
         subst (Contains scope.instances) (λ i. record {
-          interface = (spelled.path
-              ∙ ap (λ (i : PackageIdentity). Some (path_in i k.label)) (same-some spelled.identity identity (sym spelled.there ∙ there))) i;
+          interface = (spelled.path ∙ ap (λ (i : PackageIdentity). Some (path_in i k.label)) (same-some spelled.identity identity (sym spelled.there ∙ there))) i;
           view = view_of t is.view;
-        })
-        (subst (λ (xs : List Instance). Contains xs (instance_of t (record { place = is.place; view = is.view }))) (sym shows.instances)
+        }) (subst (λ (xs : List Instance). Contains xs (instance_of t (record { place = is.place; view = is.view }))) (sym shows.instances)
         (contains-map (instance_of t) w.instances (record { place = is.place; view = is.view }) is.among))
 
     abbrev alone : NumberedMember → NumberedView → reads.Member
@@ -91,8 +87,7 @@ module _ (t : Tables) (tables : AreTables t) (h : Homes) (stand : HomesStand t h
       ordered j k = omega arith
 
       view_stands : (j k : ℕ) → j ≤ k → (x : Instance) → ViewStands (IsShownBefore scope.instances j) (place_of x.interface) x.view → ViewStands (IsShownBefore all k) (place_of x.interface) x.view
-      view_stands j k le x is = view_wider (IsShownBefore scope.instances j) (IsShownBefore all k) (shown_wider scope.instances all (front_more scope.instances (all_instances trees)) j k le)
-          (place_of x.interface) x.view is
+      view_stands j k le x is = search (std_rules, view_wider, shown_wider, front_more)
 
       views_stand : AllAt (λ k (x : Instance). ViewStands (IsShownBefore all k) (place_of x.interface) x.view) all
       views_stand k x e = by (split_at scope.instances (all_instances trees) k x e)

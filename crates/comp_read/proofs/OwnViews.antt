@@ -1,8 +1,8 @@
 -- The interfaces of a world's package that it shows: each is seen by a view of the world.
 use Rattle.std.proofs.Common.{rules as std_rules, ◌≡◌, refl, sym, ap, subst, ◌∙◌, ℕ, zero, suc, ◌+◌, ◌<◌, ◌≤◌, ◌⊎◌, inl, inr, arith, Bool, true, false, not, ◌||◌, ◌==◌, cond, List, [], ◌∷◌, ◌++◌, map, take, drop, length, get_or, if◌then◌else◌, Option, Some, Result, Ok, Err, OnOk, None}
-use Rattle.std.proofs.lemmas.{Bool.eq-eqb, Bool.eqb-true, Bool.and_from as both, Map.Keys.any_passes_from_place as get_any}
+use Rattle.std.proofs.{lemmas.Bool.eq-eqb, lemmas.Bool.eqb-true, lemmas.Bool.and_from as both, lemmas.Map.Keys.any_passes_from_place as get_any}
 use Rattle.std.proofs.lemmas.List.Elements.{Contains-append_cases, Contains-append_left, Contains-append_right}
-use Rattle.std.proofs.ByRecursion.{All-weaker as recursion_weaker}
+use Rattle.std.proofs.{ByRecursion.All-weaker as recursion_weaker, lemmas.List.take_all, Math.Seq.take-suc}
 use Rattle.std.specs.{Borrow.Bor, List.AllByRecursion, List.Contains, List.find, List.flat_map, List.list_any, Option.option_map_or}
 use Rattle.wit_model.specs.{Names.PackageIdentity, Text.Text, Uses.has}
 use Rattle.wit_model.proofs.Elements.{contains-get, contains-has, has-contains, none-in}
@@ -20,7 +20,6 @@ use Rattle.base_lemmas.proofs.{Bools.left_of as first_true, Bools.right_of as se
 use Rattle.base_lemmas.proofs.Elements.{all_both, contains-one, last_of as one-contained, all_at, contains-map}
 use Rattle.read_rules.proofs.PlaceLaws.{any_flip}
 use Rattle.plan_package.specs.Views.{views_of_members, views_of_part, whole_view}
-use Rattle.std.proofs.{lemmas.List.take_all, Math.Seq.take-suc}
 
 -- ---- The interfaces of a package, gathered view by view.
 
@@ -160,16 +159,7 @@ module _ (h : Homes) (n : ℕ) (done rest : List NumberedSight) (s : NumberedSig
     not_before u c same = no_true (sym none ∙ (ap (has places) (sym same) ∙ g.all u c (ap (is_of_package h n) same ∙ home_is_of h n s.place label home)))
 
     own_among : IsOwnAmong h n seen m
-    own_among = record {
-      place = s.place;
-      view = s.view;
-      part = is.part;
-      package_ = is.package_;
-      home = home ∙ ap (λ l. Some (n, l)) (sym is.label_is);
-      first = s;
-      shown = first_behind s.place done s rest not_before refl;
-      is = refl;
-    }
+    own_among = search (std_rules, first_behind, rest, not_before)
 
     new_step : Next (places ++ s.place ∷ []) (ms ++ m ∷ [])
     new_step = record {
@@ -202,7 +192,7 @@ module _ (h : Homes) (n : ℕ) (seen : List NumberedSight) (places : List ℕ) (
   any_of_place q e =
       let from = flat_cases (λ (m : NumberedMember). place_of_part m.part) ms q (subst (λ ps. Contains ps q) (sym g.of) (has-contains places q e)) in
       let at = contains-get ms from.0 from.1 in
-      get_any (λ (m : NumberedMember). is_interface_of q m.part) ms at.0 from.0 at.1 ((search std_rules))
+      get_any (λ (m : NumberedMember). is_interface_of q m.part) ms at.0 from.0 at.1 (search std_rules)
 
   pub all_gathered : AreOwnAmong h n seen ms
   all_gathered = record { each = g.each; all = λ s c is. any_of_place s.place (g.all s c is); once = ap are_once g.of ∙ g.once; order = g.of ∙ g.order }
@@ -303,15 +293,15 @@ module _ (t : Tables) (h : Homes) (n : ℕ) (w : NumberedScope) (ms : List Numbe
   pub own_sight : (s : NumberedSight) → Contains (sights_of_members t ms) s → Contains (sights_of_scope t w) s
   own_sight s c =
       let from = flat_cases (λ (k : NumberedMember). sights_of_part t k.part) ms s c in
-      subst (Contains (sights_of_scope t w)) ((let is = own_at from.0 from.1 in one-contained (view_of_own from.0 is) s (subst (λ (a : NumberedPart). Contains (sights_of_part t a) s) is.part from.2)))
+      subst (Contains (sights_of_scope t w)) (let is = own_at from.0 from.1 in one-contained (view_of_own from.0 is) s (subst (λ (a : NumberedPart). Contains (sights_of_part t a) s) is.part from.2))
       (own_at from.0 from.1).seen
 
   pub own_view : (s : NumberedSight) → Contains (views_of_members ms) s → Contains (map whole_view w.instances) s
   own_view s c =
       let from = flat_cases (λ (k : NumberedMember). views_of_part k.part) ms s c in
       let is = own_at from.0 from.1 in
-      subst (Contains (map whole_view w.instances)) ((let is = own_at from.0 from.1 in
-      one-contained (view_of_own from.0 is) s (subst (λ (a : NumberedPart). Contains (views_of_part a) s) is.part from.2)))
+      subst (Contains (map whole_view w.instances)) (let is = own_at from.0 from.1 in
+      one-contained (view_of_own from.0 is) s (subst (λ (a : NumberedPart). Contains (views_of_part a) s) is.part from.2))
       (contains-map whole_view w.instances (record { place = is.place; view = is.view }) is.among)
 
   -- beside the world itself

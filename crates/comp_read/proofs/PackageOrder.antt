@@ -11,8 +11,7 @@ use Rattle.comp_meaning.specs.Same.{same_identity}
 use Rattle.comp_meaning.proofs.SameLaws.{identities_decide}
 use Rattle.plan_meaning.specs.{Built.IsBuilt, Built.planned_package, NumberedWorlds.HasPath, NumberedWorlds.NumberedInstance, NumberedWorlds.NumberedScope, NumberedViews.Tables, NumberedViews.path_at, Plan.Plan, Plan.PlannedPackage}
 use Rattle.plan_meaning.specs.NumberedMembers.{Homes, IsMember, NumberedMember, home_at}
-use Rattle.plan_package.specs.PlanWhole.{PlansWhole}
-use Rattle.plan_package.specs.{WholeInterfaces.Home}
+use Rattle.plan_package.specs.{PlanWhole.PlansWhole, WholeInterfaces.Home}
 use Rattle.plan_laws.specs.WholePlan.{IsOfMember}
 use Rattle.plan_laws.proofs.Inside.{flat_cases}
 use Rattle.read_homes.specs.Homes.{ComeInOrder, HasPlace, HasPlaceBefore}
@@ -61,7 +60,8 @@ module _ (packages : List PackageIdentity) (apart : (m n : ℕ) (identity : Pack
 
   others : (n : ℕ) → n < many → (ms : List ℕ) → ((m : ℕ) → Contains ms m → m < many) → filter (λ q. not (same_identity (named n) q)) (map named ms) ≡ map named (filter (λ m. not (m == n)) ms)
   others n below [] all = refl
-  others n below (m ∷ ms) all = by (same_identity (named n) (named m)) (m == n) (one_number m n (all m (first-contained m ms)) below) (others n below ms (λ k c. all k (contains-later m ms k c)))
+  others n below (m ∷ ms) all =
+      ap (λ b. cond (not b) (named m ∷ left) left) (one_number m n (all m (first-contained m ms)) below) ∙ by (m == n) (others n below ms (λ k c. all k (contains-later m ms k c)))
     where
       left : List PackageIdentity
       left = filter (λ q. not (same_identity (named n) q)) (map named ms)
@@ -69,18 +69,16 @@ module _ (packages : List PackageIdentity) (apart : (m n : ℕ) (identity : Pack
       right : List ℕ
       right = filter (λ k. not (k == n)) ms
 
-      by : (a b : Bool) → a ≡ b → left ≡ map named right → cond (not a) (named m ∷ left) left ≡ map named (cond (not b) (m ∷ right) right)
-      by true true e rest = rest
-      by false false e rest = ap (λ qs. named m ∷ qs) rest
-      by true false e rest = absurd cc
-      by false true e rest = absurd cc
+      by : (b : Bool) → left ≡ map named right → cond (not b) (named m ∷ left) left ≡ map named (cond (not b) (m ∷ right) right)
+      by true rest = rest
+      by false rest = ap (λ qs. named m ∷ qs) rest
 
   once_named : (ns : List ℕ) → ((n : ℕ) → Contains ns n → n < many) → once_by_identity (map named ns) ≡ map named (once ns)
   once_named [] all = refl
   once_named (n ∷ ns) all =
       let inside = λ (m : ℕ) (c : Contains ns m). all m (contains-later n ns m c) in
       ap (λ qs. named n ∷ filter (λ q. not (same_identity (named n) q)) qs) (once_named ns inside)
-      ∙ ap (λ qs. named n ∷ qs) (others n (all n (first-contained n ns)) (once ns) ((λ n c. inside n (has-contains ns n (sym (has_once n ns) ∙ contains-has (once ns) n c)))))
+      ∙ ap (λ qs. named n ∷ qs) (others n (all n (first-contained n ns)) (once ns) (λ n c. inside n (has-contains ns n (sym (has_once n ns) ∙ contains-has (once ns) n c))))
 
   all_named : map named (below many) ≡ packages
   all_named = search (std_rules, same_items, below, length_of_map, below_long, get_back, below_at, there)
@@ -145,7 +143,7 @@ module _ (pieces : List Piece) (x : Followed) (h : Homes) (ms : List Member) (me
   smaller q d there c less =
       let y = number_of_home (home_at h q) d there in
       let same = y.2 in
-      by (order q y.0.0 y.0.1 ((search std_rules)) c (omega (arith, less, same)))
+      by (order q y.0.0 y.0.1 (search std_rules) c (omega (arith, less, same)))
     where
       by : (c < 0) ⊎ HasPlaceBefore h.homes q c → IsOfSmaller (HasPath t) package_at q c
       by (inl none) = absurd (omega (arith, none))

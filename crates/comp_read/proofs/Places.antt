@@ -21,8 +21,7 @@ use Rattle.plan_laws.specs.ShownNames.{DeclaresName, PartDeclaresNames}
 use Rattle.plan_laws.proofs.Inside.{flat_cases}
 use Rattle.plan_laws.proofs.OwnPlaces.{AreDifferent, both_ways, inline_places, inlines, kept_nones, no_path, nones, seen_nones}
 use Rattle.comp_read.specs.{InputLaws.ReadPlacesAreApart, ReadInput.IsReadInput, ReadInput.ViewsObey}
-use Rattle.comp_read.proofs.{Inputs.members_named, Inputs.world_in, Scopes.IsSeen}
-use Rattle.comp_read.proofs.Lists.{all_different, filter_flat, once_owned}
+use Rattle.comp_read.proofs.{Inputs.members_named, Inputs.world_in, Scopes.IsSeen, Lists.all_different, Lists.filter_flat, Lists.once_owned}
 use Rattle.comp_read.proofs.Members.{IsBoth, IsWorldRead, numbered_at, placed, scope_at, scope_in, seen_at, world_read, world_scope}
 use Rattle.base_lemmas.proofs.Elements.{all_at, contains-one, filter_keeps as in_filter, filter_kept as filter_from, get-contains, last_of as one-contained, map_from as from_map}
 use Rattle.base_lemmas.proofs.Lists.{length_of_map}
@@ -164,23 +163,22 @@ module _ (pieces : List Piece) (x : Followed) (h : Homes) (ms : List Member) (me
           (record { scope = W; at = here; instance_at = f }) none equal).1
 
       as_many : length without ≡ length (map (λ (i : NumberedInstance). i.place) (filter (no_path t) W.instances))
-      as_many =
-          omega (
-            arith,
-            length_of_map (λ (i : NumberedInstance). i.place) (filter (no_path t) W.instances),
-            kept_nones t W.instances,
-            ap (nones t) read.shows.instances,
-            ap (nones t) read.stands.seen.all,
-            both_ways t read.stands.seen.seen,
-            ap (nones t) read.stands.seen.imported,
-            ap (nones t) read.stands.seen.exported,
-            (ap (λ ss. nones t (instances_in ss)) read.shows.imports ∙ seen_nones t W.imports),
-            (ap (λ ss. nones t (instances_in ss)) read.shows.exports ∙ seen_nones t W.exports),
-            (ap length (sym (inline_places t W good W.imports good.imports)) ∙ length_of_map (λ (z : NumberedInstance). z.place) (inlines t W.imports)),
-            (ap length (sym (inline_places t W good W.exports good.exports)) ∙ length_of_map (λ (z : NumberedInstance). z.place) (inlines t W.exports)),
-            (ap length (filter-append (has_no_path t) (places_of_seen W.imports) (places_of_seen W.exports))
-                ∙ length-append (filter (has_no_path t) (places_of_seen W.imports)) (filter (has_no_path t) (places_of_seen W.exports))),
-          )
+      as_many = omega (
+        arith,
+        length_of_map (λ (i : NumberedInstance). i.place) (filter (no_path t) W.instances),
+        kept_nones t W.instances,
+        ap (nones t) read.shows.instances,
+        ap (nones t) read.stands.seen.all,
+        both_ways t read.stands.seen.seen,
+        ap (nones t) read.stands.seen.imported,
+        ap (nones t) read.stands.seen.exported,
+        (ap (λ ss. nones t (instances_in ss)) read.shows.imports ∙ seen_nones t W.imports),
+        (ap (λ ss. nones t (instances_in ss)) read.shows.exports ∙ seen_nones t W.exports),
+        (ap length (sym (inline_places t W good W.imports good.imports)) ∙ length_of_map (λ (z : NumberedInstance). z.place) (inlines t W.imports)),
+        (ap length (sym (inline_places t W good W.exports good.exports)) ∙ length_of_map (λ (z : NumberedInstance). z.place) (inlines t W.exports)),
+        (ap length (filter-append (has_no_path t) (places_of_seen W.imports) (places_of_seen W.exports))
+            ∙ length-append (filter (has_no_path t) (places_of_seen W.imports)) (filter (has_no_path t) (places_of_seen W.exports))),
+      )
 
       without_differ : AreDifferent without
       without_differ = all_different (map (λ (i : NumberedInstance). i.place) (filter (no_path t) W.instances)) without (places_differ t W.instances instances_apart) all_seen as_many
@@ -227,10 +225,7 @@ module _ (pieces : List Piece) (x : Followed) (h : Homes) (ms : List Member) (me
         (λ m n y z y_at z_at q c d. one_owner m n q (no_place (path_at t q) (filter_from (has_no_path t) (places_of_part y.part) q c).1) (owner_at m y y_at q c) (owner_at n z z_at q d))
 
     pub are_placed : ArePlaced t ms
-    are_placed = record {
-      names = recursion_weaker (λ (m : Member). PartDeclaresNames t m.part) (λ (m : Member). PartNames t m.part) (λ m is. part_names t m.part is) ms (members_named pieces x h ms members input);
-      apart = places_once;
-    }
+    are_placed = search (std_rules, recursion_weaker, part_names, members_named, places_once)
 
 pub read_places_are_apart : ReadPlacesAreApart
 read_places_are_apart pieces x h ms members input known obey = are_placed pieces x h ms members input known obey

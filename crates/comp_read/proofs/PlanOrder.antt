@@ -11,8 +11,7 @@ use Rattle.plan_meaning.specs.NumberedMembers.{Homes, IsMember, NumberedMember, 
 use Rattle.plan_meaning.specs.NumberedViews.{AreTables, NumberedFunction, NumberedSight, NumberedView, Tables, path_at, shown_function, sight_of}
 use Rattle.plan_meaning.specs.NumberedWorlds.{HasPath, NumberedInstance, are_once, instance_of, sights_of_scope}
 use Rattle.plan_meaning.specs.{Built.IsBuilt, Built.planned_function, Built.planned_interface, Built.planned_world, PlanRules.are_rising, PlanRules.IsPlan}
-use Rattle.plan_meaning.specs.NumberedRules.{Fact}
-use Rattle.plan_meaning.specs.Plan.{Plan, PlannedInterface, PlannedWorld, numbers_of, path_of_planned, world_types}
+use Rattle.plan_meaning.specs.{NumberedRules.Fact, Plan.Plan, Plan.PlannedInterface, Plan.PlannedWorld, Plan.numbers_of, Plan.path_of_planned, Plan.world_types}
 use Rattle.plan_types.specs.Orders.{places_of_part}
 use Rattle.plan_type_laws.specs.ShownMarks.{has_no_path}
 use Rattle.plan_package.specs.{Views.types_alone, Views.views_of_members, Views.views_of_part, Views.whole_view, PlanWhole.PlansWhole, PlanWhole.places_in}
@@ -35,6 +34,7 @@ use Rattle.read_exports.specs.declared.members.{Member.Member, Part.Part}
 use Rattle.read_rules.specs.Scopes.{numbered_scope}
 use Rattle.read_rules.specs.declared.scopes.Scope.{Scope}
 use Rattle.plan_laws.specs.{OneWorld.AreOwnInterfaces, Whole.IsPackageInput}
+use Rattle.std.proofs.ByRecursion.{All-weaker as recursion_weaker}
 use Rattle.comp_meaning.specs.Reads as reads
 use Rattle.read_exports.specs.declared.members.Part.TheVariants as parts
 
@@ -81,17 +81,14 @@ module _ (t : Tables) (tables : AreTables t) where
 
       by : (o : Option Text) → path_at t n ≡ o → are_once (rest_of (is_none o)) ≡ true → (are_once (filter (has_no_path t) ns) ≡ true → flat_map g (once ns) ≡ flat_map g ns)
           → g n ++ flat_map g (filter (λ m. not (m == n)) (once ns)) ≡ g n ++ flat_map g ns
-      by None e alone more =
-          ap (λ xs. g n ++ xs) (ap (flat_map g) (none_left t tables n (once ns) (has_once n ns ∙ (pathless t tables n e ns ∙ not-true (has (filter (has_no_path t) ns) n) (first_true _ _ alone))))
-          ∙ more (second_true _ _ alone))
+      by None e alone more = search (std_rules, none_left, has_once, pathless, not-true, first_true, second_true)
       by (Some path) e alone more = ap (λ xs. g n ++ xs) (left_out g n (nothing n (path, e)) (once ns) ∙ more alone)
 
   -- a view of a place without a path is the one of it
   module _ (rest : List NumberedSight) (s : NumberedSight) (none : path_at t s.place ≡ None) (whole : s.whole ≡ true) where
     one_view : (seen : List NumberedSight) → are_once (filter (has_no_path t) (places seen)) ≡ true → Contains seen s → functions_seen s.place (seen ++ rest) ≡ s.view.functions
     one_view [] alone c = none-in s c
-    one_view (v ∷ vs) alone (zero, low, same) = ap (λ b. cond b v.view.functions (functions_seen s.place (vs ++ rest)))
-        (ap (λ (y : NumberedSight). y.place == s.place && y.whole) same ∙ both (s.place == s.place) s.whole (same-number s.place) whole) ∙ ap (λ (y : NumberedSight). y.view.functions) same
+    one_view (v ∷ vs) alone (zero, low, same) = search (std_rules, both, same-number)
     one_view (v ∷ vs) alone (suc j, low, same) = later (has_no_path t v.place) refl alone (λ rest_alone. one_view vs rest_alone (j, omega (arith, low), same))
       where
         among : Contains vs s
@@ -208,15 +205,11 @@ module _ (t : Tables) (h : Homes) (known : ℕ → Fact) (n : ℕ) (ms : List Me
   abbrev sights : List NumberedSight
   sights = sights_of_members t (numbered_members ms)
 
-  known_paths : (seen : List NumberedSight) → AllByRecursion (IsKnownSight t known) seen → AllByRecursion (λ (s : NumberedSight). HasPath t s.place) seen
-  known_paths [] all = tt
-  known_paths (s ∷ seen) all = ((all.0.0.path, all.0.0.home), known_paths seen all.1)
-
   -- the views of a package are so
   pub package_shown : StandAlone t ms → AreShown t ms sights (flat_map reads.sights members) (flat_map shown_under members)
   package_shown alone = record {
     are = all_sights t given.input.tables h given.input.homes (numbered_members ms) members given.input.shown;
-    paths = known_paths sights given.sights;
+    paths = recursion_weaker (IsKnownSight t known) (λ (s : NumberedSight). HasPath t s.place) (λ s is. (is.0.path, is.0.home)) sights given.sights;
     order = ap (map (path_at t)) (joined_behind [] (places_shown ms)) ∙ (paths_once t given.input.tables (places_shown ms) alone
         ∙ ap once_by_path (members_paths t given.input.tables h given.input.homes (numbered_members ms) members given.input.shown given.input.numbers));
     functions = λ q c path. refl;
@@ -242,7 +235,8 @@ module _ (t : Tables) (h : Homes) (known : ℕ → Fact) (n : ℕ) (ms : List Me
         let made = found.2 first.0 first.1 in
         subst (IsMadeFor q) (same-some found.0 i (sym found.1 ∙ there)) (
           path_planned t h ms members (packages_are_ruled t h known n ms members given) n p planned found.0 q (home_at h q) made.name made.package_ refl (path_at t q) refl,
-          zip_names (IsPlannedFunction t planned.kept made.find) (λ f. f.0) (λ e. e.0) (λ f e is. is.under) (functions_seen q (views_of_members (numbered_members ms))) found.0.functions made.functions,
+          zip_names (IsPlannedFunction t planned.kept made.find) (λ f. f.0) (λ e. e.0) (λ f e is. is.under) (functions_seen q (views_of_members (numbered_members ms))) found.0.functions
+              made.functions,
         )
 
     pub paths_planned : map (path_of_planned p) p.interfaces ≡ once_by_path under

@@ -38,17 +38,7 @@ of_first t h known (x ∷ ms) m e = let same : m ≡ x = cc in ap (λ (y : Membe
 module _ (x : Followed) (t : Tables) (facts : List KeptFact) (h : Homes) (ms : List Member) (read : AreReadOf x t facts h (map lent_member ms)) (pieces : List Piece) (followed : IsFollowed pieces x) where
   module _ (n : ℕ) (obeys : are_package t h (known_by facts) n (numbered_members ms) ≡ true) where
     is_package : IsReadPackage pieces x t facts h n ms
-    is_package = record {
-      tables = read.tables;
-      followed = followed;
-      known = read.known;
-      stand = read.stand;
-      homes = read.homes;
-      packages = read.packages;
-      sources = read_packages_have_sources read.first h.packages h.homes ms read.reasons read.members;
-      read = read.read;
-      obeys = obeys;
-    }
+    is_package = search (std_rules, read_packages_have_sources)
 
     pub may_be_whole : MayBeWhole t ms
     may_be_whole = read_may_be_planned pieces x t facts h n ms is_package

@@ -1,6 +1,6 @@
 -- What is decoded stands in the order in which the bytes show it.
 use Rattle.std.proofs.Common.{rules as std_rules, ◌≡◌, refl, sym, ap, subst, ◌∙◌, ℕ, true, cond, List, [], ◌∷◌, ◌++◌, map, Option, Some, None, is_none, slice_get, ◌+◌, ◌<◌, append-nil, length, IfOk, Result}
-use Rattle.std.proofs.lemmas.List.Elements.{filter-append}
+use Rattle.std.proofs.{lemmas.List.Elements.filter-append, ByRecursion.All-weaker as recursion_weaker}
 use Rattle.std.specs.List.{AllByRecursion, Contains, filter, flat_map, AllZip}
 use Rattle.wit_model.specs.{Text.Text, Meaning.PackageMeaning, Meaning.WorldPackage}
 use Rattle.wit_model.proofs.Elements.{contains-get, none-in}
@@ -23,13 +23,12 @@ use Rattle.read_numbers.specs.PlacedNumbers.{scopes_in as numbered_scopes, scope
 use Rattle.comp_read.specs.{ReadInput.IsReadInput, ReadInput.AreHomesOf, ReadInput.ViewsObey, Planned.IsBuiltOf, Planned.PlansMean, Planned.WorldPlansMean}
 use Rattle.comp_read.specs.{MembersRead.AreReadOf, OwnMembers.StandAsShown, TypeOrder.NumbersFollow}
 use Rattle.comp_read.specs.{Order.FollowsBytes, Order.FollowsLevels, Order.NamesFollow, ReadWorlds.AreBeside, ReadWorlds.IsReadWorld, WorldsRead.IsWorldReadOf}
-use Rattle.comp_read.proofs.Lists.{filter_flat, once_owned}
+use Rattle.comp_read.proofs.{Lists.filter_flat, Lists.once_owned, NamedOrder.named_less, Whole.package_views_obey, Whole.read_is_package_input}
 use Rattle.comp_read.proofs.{Members.IsBoth, Members.numbered_at, Members.placed, Members.tables, WorldReadLaws.is_world, WorldReadLaws.read_world_is_whole}
-use Rattle.comp_read.proofs.{Places.no_place, Places.places_differ, Places.world_at, NumberedOrder.met_apart, NumberedOrder.numbers_follow}
+use Rattle.comp_read.proofs.{Places.no_place, Places.places_differ, Places.world_at, NumberedOrder.met_apart, NumberedOrder.numbers_follow, Places.HasInstance}
 use Rattle.comp_read.proofs.{PlanOrder.StandAlone, PlanOrder.package_follows, PlanOrder.types_built, PlanOrder.world_follows, PackageOrder.packages_are}
 use Rattle.comp_read.proofs.{ByScopes.members_by_scopes, TypeNumbers.all_rise, TypeNumbers.places_alike, TypeNumbers.world_places, TypeNumbers.world_views}
 use Rattle.comp_read.proofs.{WorldOrder.places_are, ShownScopes.scope_places, ReadPackages.read_members_are_input, ReadPackages.read_packages_have_sources}
-use Rattle.comp_read.proofs.{NamedOrder.named_less, Whole.package_views_obey, Whole.read_is_package_input}
 use Rattle.base_lemmas.proofs.Elements.{all_at, filter_kept as filter_from, get-contains, map_from as from_map, contains-map, last_of, zip_long}
 use Rattle.base_lemmas.proofs.Lists.{one_item}
 use Rattle.wit_model.specs.declared.model.Resolve.{Resolve}
@@ -47,7 +46,6 @@ use Rattle.read_members.specs.ReadMembers.{AreRead, lent_member}
 use Rattle.read_numbers.proofs.MetNumbers.{met_from}
 use Rattle.read_parts.specs.{Input.IsFollowed, Members.declared_trees, Members.DeclaringScope, Members.IsScopedBy}
 use Rattle.read_rules.specs.declared.{scopes.Scope.Scope, tables.Fact.Fact as KeptFact}
-use Rattle.comp_read.proofs.Places.{HasInstance}
 use Rattle.comp_meaning.specs.Reads as reads
 use Rattle.read_exports.specs.declared.members.Part.TheVariants as parts
 
@@ -73,8 +71,7 @@ module _ (t : Tables) where
 
   -- so it is where each type that is shown is a name of its place
   pub all_have : (ms : List NumberedMember) → AllByRecursion (λ (m : NumberedMember). IsPartIn t m.part) ms → AllByRecursion (λ (m : NumberedMember). HavePaths t m.part) ms
-  all_have [] all = tt
-  all_have (m ∷ ms) all = (part_has m.part all.0, all_have ms all.1)
+  all_have ms = recursion_weaker (λ (m : NumberedMember). IsPartIn t m.part) (λ (m : NumberedMember). HavePaths t m.part) (λ m is. part_has m.part is) ms
 
   scope_left : (is : List NumberedInstance) → filter (has_no_path t) (map (λ (i : NumberedInstance). i.place) is) ≡ map (λ (i : NumberedInstance). i.place) (filter (no_path t) is)
   scope_left [] = refl

@@ -7,7 +7,7 @@ use Rattle.wit_model.proofs.{Chains.has_once, NameLaws.read_path_is_spelled}
 use Rattle.plan_meaning.specs.{FollowedNumbers.AreMembersIn, FollowedNumbers.IsPartIn, FollowedNumbers.IsViewIn, GatheredPlan.functions_seen}
 use Rattle.plan_meaning.specs.NumberedMembers.{Homes, HomesStand, IsMember, NumberedMember, ShowsPart, home_at, NumberedPart, interface, world}
 use Rattle.plan_meaning.specs.NumberedViews.{AreTables, NumberedFunction, NumberedSight, NumberedView, Tables, path_at, path_text, shown_function, sight_of, view_of}
-use Rattle.plan_meaning.specs.NumberedWorlds.{HasPath, NumberedInstance, are_once, instance_of, sights_of_instance}
+use Rattle.plan_meaning.specs.NumberedWorlds.{HasPath, NumberedInstance, are_once, sights_of_instance}
 use Rattle.plan_meaning.proofs.NumberedWorlds.{path_is, path_number}
 use Rattle.plan_types.specs.Orders.{places_of_part}
 use Rattle.plan_type_laws.specs.ShownMarks.{has_no_path}
@@ -34,19 +34,17 @@ module _ (t : Tables) where
 
     others : (q : ℕ) (path : Text) → path_at t q ≡ Some path → (ns : List ℕ) → map (path_at t) (filter (λ m. not (m == q)) ns) ≡ filter (λ o. not (is_under path o)) (map (path_at t) ns)
     others q path e [] = refl
-    others q path e (n ∷ ns) = by (n == q) (is_under path (path_at t n)) (same_path q path e n (path_at t n) refl) (others q path e ns)
+    others q path e (n ∷ ns) = by (n == q) (others q path e ns) ∙ sym (ap (λ b. cond (not b) (path_at t n ∷ right) right) (same_path q path e n (path_at t n) refl))
       where
-        left : List ℕ
-        left = filter (λ m. not (m == q)) ns
-
         right : List (Option Text)
         right = filter (λ o. not (is_under path o)) (map (path_at t) ns)
 
-        by : (b c : Bool) → c ≡ b → map (path_at t) left ≡ right → map (path_at t) (cond (not b) (n ∷ left) left) ≡ cond (not c) (path_at t n ∷ right) right
-        by true true f rest = rest
-        by false false f rest = ap (λ os. path_at t n ∷ os) rest
-        by true false f rest = absurd cc
-        by false true f rest = absurd cc
+        left : List ℕ
+        left = filter (λ m. not (m == q)) ns
+
+        by : (b : Bool) → map (path_at t) left ≡ right → map (path_at t) (cond (not b) (n ∷ left) left) ≡ cond (not b) (path_at t n ∷ right) right
+        by true rest = rest
+        by false rest = ap (λ os. path_at t n ∷ os) rest
 
     -- a place without a path stands once
     pub pathless : (q : ℕ) → path_at t q ≡ None → (ns : List ℕ) → has ns q ≡ has (filter (has_no_path t) ns) q
@@ -78,8 +76,7 @@ module _ (t : Tables) where
 
         by : (o : Option Text) → path_at t n ≡ o → are_once (rest_of (is_none o)) ≡ true → (are_once (filter (has_no_path t) ns) ≡ true → map (path_at t) (once ns) ≡ once_by_path (map (path_at t) ns))
             → path_at t n ∷ map (path_at t) (filter (λ m. not (m == n)) (once ns)) ≡ once_by_path (o ∷ map (path_at t) ns)
-        by None e alone more =
-            λ i. e i ∷ (ap (map (path_at t)) (none_left n (once ns) (has_once n ns
+        by None e alone more = λ i. e i ∷ (ap (map (path_at t)) (none_left n (once ns) (has_once n ns
             ∙ (pathless n e ns ∙ not-true (has (filter (has_no_path t) ns) n) (first_true (not (has (filter (has_no_path t) ns) n)) (are_once (filter (has_no_path t) ns)) alone))))
             ∙ more (second_true (not (has (filter (has_no_path t) ns) n)) (are_once (filter (has_no_path t) ns)) alone)) i
         by (Some path) e alone more = λ i. e i ∷ (others n path e (once ns) ∙ ap (filter (λ o. not (is_under path o))) (more alone)) i
@@ -88,16 +85,14 @@ module _ (t : Tables) where
     pub names_alike : (q : ℕ) → HasPath t q → (seen : List NumberedSight) → AllByRecursion (λ (s : NumberedSight). HasPath t s.place) seen
         → map (λ f. f.0) (reads.functions_of (path_text t q) (map (sight_of t) seen)) ≡ map (λ (f : Text × NumberedFunction). f.0) (functions_seen q seen)
     names_alike q path [] all = refl
-    names_alike q path (s ∷ seen) all = by (text_eq (path_text t q) (path_text t s.place) && s.whole) (s.place == q && s.whole) (ap (λ b. b && s.whole) (path_number t tables q s.place path all.0))
-        (names_alike q path seen all.1)
+    names_alike q path (s ∷ seen) all = ap (λ b. map (λ f. f.0) (cond (b && s.whole) (map (shown_function t) s.view.functions) (reads.functions_of (path_text t q) (map (sight_of t) seen))))
+        (path_number t tables q s.place path all.0) ∙ by (s.place == q && s.whole) (names_alike q path seen all.1)
       where
-        by : (a b : Bool) → a ≡ b → map (λ f. f.0) (reads.functions_of (path_text t q) (map (sight_of t) seen)) ≡ map (λ (f : Text × NumberedFunction). f.0) (functions_seen q seen)
-            → map (λ f. f.0) (cond a (map (shown_function t) s.view.functions) (reads.functions_of (path_text t q) (map (sight_of t) seen))) ≡ map (λ (f : Text × NumberedFunction). f.0)
+        by : (b : Bool) → map (λ f. f.0) (reads.functions_of (path_text t q) (map (sight_of t) seen)) ≡ map (λ (f : Text × NumberedFunction). f.0) (functions_seen q seen)
+            → map (λ f. f.0) (cond b (map (shown_function t) s.view.functions) (reads.functions_of (path_text t q) (map (sight_of t) seen))) ≡ map (λ (f : Text × NumberedFunction). f.0)
             (cond b s.view.functions (functions_seen q seen))
-        by true true e more = map_of_map (λ f. f.0) (shown_function t) s.view.functions
-        by false false e more = more
-        by true false e more = absurd cc
-        by false true e more = absurd cc
+        by true more = map_of_map (λ f. f.0) (shown_function t) s.view.functions
+        by false more = more
 
     -- ---- members
 
@@ -117,8 +112,7 @@ module _ (t : Tables) where
 
     pub part_paths : (h : Homes) → HomesStand t h → (m : NumberedMember) (x : reads.Member) → slice_get h.packages m.package_ ≡ Some x.package_ → x.label ≡ m.label
         → (a : NumberedPart) (b : reads.Part) → ShowsPart t h m a b → IsPartIn t a → map (path_at t) (places_of_part a) ≡ shown_under (record { label = x.label; package_ = x.package_; part = b })
-    part_paths h stand m x package_ under (world w) (reads.Part.world scope) shows is = map_of_map (path_at t) (λ (i : NumberedInstance). i.place) w.instances
-        ∙ (sym (map_of_map (λ i. i.interface) (instance_of t) w.instances) ∙ sym (ap (map (λ i. i.interface)) shows.instances))
+    part_paths h stand m x package_ under (world w) (reads.Part.world scope) shows is = search (std_rules, map_of_map)
     part_paths h stand m x package_ under (interface p v imports) (reads.Part.interface view views) shows is =
         append_of_map _ _ _ ∙ (λ i. (map_of_map (path_at t) (λ (i : ℕ × NumberedView). i.0) imports
         ∙ (sym (imported_paths imports is.1) ∙ (sym (map_of_map (λ i. Some i.0) (λ (i : ℕ × NumberedView). (path_text t i.0, view_of t i.1)) imports) ∙ sym (ap (map (λ i. Some i.0)) shows.imported))))

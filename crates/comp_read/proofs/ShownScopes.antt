@@ -2,7 +2,7 @@
 use Rattle.std.proofs.Common.{rules as std_rules, slice_get, ◌≡◌, refl, sym, ap, subst, ◌∙◌, ℕ, ◌&&◌, List, [], ◌∷◌, ◌++◌, map, Option, Some}
 use Rattle.std.specs.List.{AllZip, flat_map}
 use Rattle.wit_model.specs.{Text.Text, Names.PackageIdentity, Names.path_in}
-use Rattle.comp_bytes.specs.{Levels.PartType, Levels.Piece, Levels.shows, Levels.wraps, Reading.◌>>=◌}
+use Rattle.comp_bytes.specs.{Levels.Entry, Levels.PartType, Levels.Piece, Levels.shows, Levels.wraps, Reading.◌>>=◌}
 use Rattle.comp_bytes.proofs.Readers.{bind_some, when_some}
 use Rattle.comp_meaning.specs.{ByLevels.entry_scope, Follow.Instance, Follow.Scope, Follow.View, Follow.each, Follow.provided, Rules.distinct}
 use Rattle.comp_meaning.specs.Reads.{Member, Part, are_reached, exported_view, imported_view, labelled_path}
@@ -27,7 +27,7 @@ use Rattle.read_parts.specs.declared.members.FollowedPart.TheVariants as followe
 
 -- ---- one part
 
-abbrev meant_scope : PartScope → Scope
+abbrev pub meant_scope : PartScope → Scope
 meant_scope (world path scope) = scope
 meant_scope (interface scope) = scope
 
@@ -38,19 +38,21 @@ paths_in scope = map (λ i. i.interface) scope.instances
 abbrev Stands : Scope → Type 0
 Stands scope = ScopeStands scope × InstancesAreSeen scope
 
-part_stands : (a : PartType) (p : PartScope) → part_scope a ≡ Some p → Stands (meant_scope p)
-part_stands (wraps es name) p e =
-    let path = bind_some (world_path name) (λ path. entry_scope es >>= λ scope. Some (world path scope)) p e in
-    let scope = bind_some (entry_scope es) (λ scope. Some (world path.0 scope)) p path.2 in
-    subst (λ (q : PartScope). Stands (meant_scope q)) (some_is (world path.0 scope.0) p scope.2) (entry_scope_stands es scope.0 scope.1)
-part_stands (shows es) p e =
-    let scope = bind_some (entry_scope es) (λ scope. Some (interface scope)) p e in
-    subst (λ (q : PartScope). Stands (meant_scope q)) (some_is (interface scope.0) p scope.2) (entry_scope_stands es scope.0 scope.1)
+-- What holds of each scope of entries holds of the scope of a part.
+module _ (P : Scope → Type 0) (each_holds : (es : List Entry) (scope : Scope) → entry_scope es ≡ Some scope → P scope) where
+  part_holds : (a : PartType) (p : PartScope) → part_scope a ≡ Some p → P (meant_scope p)
+  part_holds (wraps es name) p e =
+      let path = bind_some (world_path name) (λ path. entry_scope es >>= λ scope. Some (world path scope)) p e in
+      let scope = bind_some (entry_scope es) (λ scope. Some (world path.0 scope)) p path.2 in
+      subst (λ (q : PartScope). P (meant_scope q)) (some_is (world path.0 scope.0) p scope.2) (each_holds es scope.0 scope.1)
+  part_holds (shows es) p e =
+      let scope = bind_some (entry_scope es) (λ scope. Some (interface scope)) p e in
+      subst (λ (q : PartScope). P (meant_scope q)) (some_is (interface scope.0) p scope.2) (each_holds es scope.0 scope.1)
 
-pub one_stands : (x : Text × PartType) (y : Text × PartScope) → labelled_scope x ≡ Some y → Stands (meant_scope y.1)
-one_stands x y e =
-    let p = bind_some (part_scope x.1) (λ p. let z : Text × PartScope = (x.0, p) in Some z) y e in
-    subst (λ (z : Text × PartScope). Stands (meant_scope z.1)) (some_is (x.0, p.0) y p.2) (part_stands x.1 p.0 p.1)
+  pub labelled_holds : (x : Text × PartType) (y : Text × PartScope) → labelled_scope x ≡ Some y → P (meant_scope y.1)
+  labelled_holds x y e =
+      let p = bind_some (part_scope x.1) (λ p. let z : Text × PartScope = (x.0, p) in Some z) y e in
+      subst (λ (z : Text × PartScope). P (meant_scope z.1)) (some_is (x.0, p.0) y p.2) (part_holds x.1 p.0 p.1)
 
 abbrev member_of : Text → PackageIdentity × Part → Member
 member_of label p = record { label = label; package_ = p.0; part = p.1 }
@@ -107,8 +109,7 @@ mapped_zip g f h (x ∷ xs) [] all = absurd all
 mapped_zip g f h (x ∷ xs) (y ∷ ys) all = append_of_map g (f x) (flat_map f xs) ∙ (λ i. all.0 i ++ mapped_zip g f h xs ys all.1 i)
 
 -- two lists that lie beside a third lie beside each other
-chained : {A B C D : Type 0} (R : A → B → Type 0) (Q : D → C → Type 0) (g : B → D) (xs : List A) (ys : List B) (zs : List C) → AllZip R xs ys → AllZip Q (map g ys) zs
-    → AllZip (λ x z. Unit {0}) xs zs
+chained : {A B C D : Type 0} (R : A → B → Type 0) (Q : D → C → Type 0) (g : B → D) (xs : List A) (ys : List B) (zs : List C) → AllZip R xs ys → AllZip Q (map g ys) zs → AllZip (λ x z. Unit {0}) xs zs
 chained R Q g [] [] [] a b = tt
 chained R Q g [] [] (z ∷ zs) a b = absurd b
 chained R Q g [] (y ∷ ys) zs a b = absurd a
@@ -124,7 +125,8 @@ zip_of_map P g (x ∷ xs) (y ∷ ys) all = (all.0, zip_of_map P g xs ys all.1)
 
 module _ (pieces : List Piece) (x : Followed) (h : Homes) (ms : List KeptMember) (members : List Member) (input : IsReadInput pieces x h ms members) where
   -- each scope stands under the paths of its part
-  pub scope_under : (n : ℕ) (f : FollowedMember) (y : Member) → slice_get x.members.items n ≡ Some f → slice_get members n ≡ Some y → map (path_at (tables_of x)) (scope_places (scope_in (tables_of x) f)) ≡ shown_under y
+  pub scope_under : (n : ℕ) (f : FollowedMember) (y : Member) → slice_get x.members.items n ≡ Some f → slice_get members n ≡ Some y
+      → map (path_at (tables_of x)) (scope_places (scope_in (tables_of x) f)) ≡ shown_under y
   scope_under n f y f_at y_at =
       let scopes = bind_some (scopes_of pieces) (each member_of_scope) members input.reads in
       let numbers = input_in_numbers pieces x input.followed in
@@ -133,7 +135,7 @@ module _ (pieces : List Piece) (x : Followed) (h : Homes) (ms : List KeptMember)
       let z = zip_at (λ s m. member_of_scope s ≡ Some m) scopes.0 members (each_beside member_of_scope scopes.0 members scopes.2) n s.0 s_at in
       let p = zip_at_right (λ u v. labelled_scope u ≡ Some v) input.followed.parts scopes.0
       (each_beside labelled_scope input.followed.parts scopes.0 (scopes_found pieces input.followed.parts input.followed.exported scopes.0 scopes.1)) n s.0 s_at in
-      part_named (tables_of x) f.part s.0.1 s.2.1 ∙ (one_paths s.0 z.0 (one_stands p.0 s.0 p.2) z.2 ∙ ap shown_under (one_item members n z.0 y z.1 y_at))
+      part_named (tables_of x) f.part s.0.1 s.2.1 ∙ (one_paths s.0 z.0 (labelled_holds Stands entry_scope_stands p.0 s.0 p.2) z.2 ∙ ap shown_under (one_item members n z.0 y z.1 y_at))
 
   pub scopes_under : AllZip (λ (w : NumberedScope) (z : Member). map (path_at (tables_of x)) (scope_places w) ≡ shown_under z) (scopes_in x) members
   scopes_under = zip_of_map (λ (w : NumberedScope) (z : Member). map (path_at (tables_of x)) (scope_places w) ≡ shown_under z) (scope_in (tables_of x)) x.members.items members

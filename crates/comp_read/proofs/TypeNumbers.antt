@@ -11,17 +11,15 @@ use Rattle.comp_read.proofs.{Ordered.instance_of_any, ShownOrder.part_paths, Wor
 use Rattle.comp_read.proofs.{Views.instance_placed, Views.same_numbers, Views.told_same, Members.instance_shown, Members.placed, Members.tables}
 use Rattle.comp_read.proofs.ShownScopes.{scope_under, scope_in, scope_places}
 use Rattle.base_lemmas.proofs.Elements.{contains-one, get-contains, last_of, all-contained, all_at, all_both, all_pass, contains-later, contains-map, first-contained, map_from, zip_at, zip_at_right, zip_each}
-use Rattle.base_lemmas.proofs.{Lists.last_or, Lists.flat_mapped, Lists.get_back, Lists.mapped_get, Lists.one_item}
+use Rattle.base_lemmas.proofs.{Lists.last_or, Lists.flat_mapped, Lists.get_back, Lists.mapped_get, Lists.one_item, Elements.zip_map}
 use Rattle.base_lemmas.proofs.Bools.{left_of as first_true, right_of as second_true}
 use Rattle.comp_bytes.specs.Levels.{Piece}
-use Rattle.plan_meaning.specs.{FollowedNumbers.IsPartIn, FollowedNumbers.IsViewIn, NumberedRules.Fact, PlanRules.are_rising}
+use Rattle.plan_meaning.specs.{FollowedNumbers.IsPartIn, FollowedNumbers.IsViewIn, NumberedRules.Fact, PlanRules.are_rising, Renumbering.IsPart}
 use Rattle.plan_meaning.specs.NumberedMembers.{Homes, IsMember, NumberedMember}
 use Rattle.plan_meaning.specs.NumberedViews.{NumberedSight, NumberedSlot, NumberedType, NumberedView, Tables, first_at, path_at}
 use Rattle.plan_meaning.specs.{NumberedWorlds.HasPath, NumberedWorlds.NumberedInstance, NumberedWorlds.NumberedScope, Plan.PlannedInterface, Plan.numbers_of}
-use Rattle.plan_meaning.specs.Renumbering.{IsPart}
 use Rattle.plan_parts.specs.{Interfaces.slot_part, Kept.AreMarked}
-use Rattle.plan_package.specs.Views.{views_of_members, views_of_part}
-use Rattle.plan_package.specs.WholeInterfaces.{Home, ListsNumber, PlansPlace}
+use Rattle.plan_package.specs.{Views.views_of_members, Views.views_of_part, WholeInterfaces.Home, WholeInterfaces.ListsNumber, WholeInterfaces.PlansPlace}
 use Rattle.plan_laws.specs.OneWorld.{AreOwnInterfaces}
 use Rattle.plan_laws.proofs.{FirstViews.first_is, Inside.flat_cases}
 use Rattle.read_exports.specs.Members.{numbered_member, numbered_members, numbered_part}
@@ -158,10 +156,8 @@ rises_flat f (x ∷ xs) own between = rising_both (f x) (flat_map f xs) (first_t
 
 -- lists that are made of items that are alike
 pub zip_flat : {A B C : Type 0} (f : A → List C) (g : B → List C) (xs : List A) (ys : List B) → AllZip (λ x y. f x ≡ g y) xs ys → flat_map f xs ≡ flat_map g ys
-zip_flat f g [] [] zip = refl
-zip_flat f g [] (y ∷ ys) zip = absurd zip
-zip_flat f g (x ∷ xs) [] zip = absurd zip
-zip_flat f g (x ∷ xs) (y ∷ ys) zip = λ i. zip.0 i ++ zip_flat f g xs ys zip.1 i
+zip_flat {C = C} f g xs ys zip = let id : List C → List C = λ l. l in
+    flat_mapped id f xs ∙ (ap (flat_map id) (sym (zip_map (λ x y. f x ≡ g y) f g (λ x y e. sym e) xs ys zip)) ∙ sym (flat_mapped id g ys))
 
 -- ---- parts
 
@@ -170,10 +166,7 @@ abbrev pub part_numbers : NumberedView → List ℕ
 part_numbers v = map (λ (y : NumberedType). part_of y.slot) v.types
 
 numbered_parts : (t : Tables) (p : ℕ) (xs : List NumberedType) (ns : List ℕ) → AllZip (IsNumbered t p) xs ns → map (λ (y : NumberedType). part_of y.slot) xs ≡ map (λ n. 14 + n) ns
-numbered_parts t p [] [] z = refl
-numbered_parts t p [] (n ∷ ns) z = absurd z
-numbered_parts t p (x ∷ xs) [] z = absurd z
-numbered_parts t p (x ∷ xs) (n ∷ ns) z = λ i. z.0.0 i ∷ numbered_parts t p xs ns z.1 i
+numbered_parts t p xs ns z = sym (zip_map (IsNumbered t p) (λ (y : NumberedType). part_of y.slot) (λ n. 14 + n) (λ y n is. sym is.0) xs ns z)
 
 pub same_part : (s : NumberedSlot) → slot_part s ≡ part_of s
 same_part x = search std_rules

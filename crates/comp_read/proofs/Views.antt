@@ -6,8 +6,7 @@ use Rattle.wit_model.specs.{Text.Text, Tree.Place}
 use Rattle.comp_bytes.specs.Levels.{Piece}
 use Rattle.comp_meaning.specs.Rules.{distinct}
 use Rattle.plan_meaning.specs.FollowedNumbers.{IsCalledIn, IsMetFrom, IsShownIn, IsSlotOf, IsViewIn}
-use Rattle.plan_meaning.specs.{NumberedMembers.Homes, NumberedMembers.sights_of_members, Shapes.named_shape}
-use Rattle.plan_meaning.specs.NumberedRules.{Fact, is_interface}
+use Rattle.plan_meaning.specs.{NumberedMembers.Homes, NumberedMembers.sights_of_members, Shapes.named_shape, NumberedRules.Fact, NumberedRules.is_interface}
 use Rattle.plan_meaning.specs.NumberedViews.{AllOf, AreTables, NumberedSight, NumberedSlot, NumberedType, NumberedView, PartsOf, Tables, TypePasses, function_at, path_at, view_of}
 use Rattle.plan_meaning.specs.NumberedWorlds.{HasPath, NumberedInstance, NumberedScope, instance_of}
 use Rattle.plan_meaning.proofs.Lists.{any_get}

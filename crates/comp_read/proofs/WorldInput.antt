@@ -8,8 +8,8 @@ use Rattle.comp_meaning.specs.{ByLevels.world_of_pieces, Follow.each, Follow.pro
 use Rattle.read_shown.specs.{Kinds.NamesHaveKinds, Parts.MemberStands}
 use Rattle.read_shown.proofs.MeaningKinds.{worlds_have_kinds}
 use Rattle.plan_meaning.specs.{FollowedNumbers.IsPartIn, FollowedNumbers.IsViewIn, NumberedRules.Fact}
-use Rattle.plan_meaning.specs.NumberedMembers.{Homes, IsKnownSight, NumberedMember, NumberedPart, interface, sights_of_members, world, world_shown, are_interfaces}
-use Rattle.plan_meaning.specs.NumberedViews.{NumberedSight, NumberedView, Tables, agree_in_numbers}
+use Rattle.plan_meaning.specs.NumberedMembers.{Homes, IsKnownSight, NumberedMember, NumberedPart, interface, world, world_shown, sights_of_members}
+use Rattle.plan_meaning.specs.NumberedViews.{NumberedSight, NumberedView, Tables}
 use Rattle.plan_meaning.specs.NumberedWorlds.{NumberedInstance, NumberedScope, Shows, are_once, sights_of_scope}
 use Rattle.read_parts.specs.declared.following.Followed.{Followed}
 use Rattle.read_numbers.specs.{FactLaws.known_by, NumberedInput.tables_of}
@@ -105,10 +105,7 @@ module _ (pieces : List Piece) (x : Followed) (facts : List KeptFact) (h : Homes
     nms = numbered_members own
 
     pub views_obey : ViewsObey t known (m ∷ [])
-    views_obey = record {
-      agree = ap agree_in_numbers (append-nil (sights_of_scope t W)) ∙ agree t h known n label.now W given.obeys nms are;
-      interfaces = ap (are_interfaces t known) (append-nil (sights_of_scope t W)) ∙ interfaces t h known n label.now W given.obeys nms are;
-    }
+    views_obey = search (std_rules, agree, append-nil, interfaces)
 
     base : IsInput t h (m ∷ []) read_members
     base = is_input pieces x h (m ∷ []) read_members input known views_obey
@@ -125,11 +122,7 @@ module _ (pieces : List Piece) (x : Followed) (facts : List KeptFact) (h : Homes
     numbers = all_of (λ (k : NumberedMember). IsPartIn t k.part) nms (λ k c.
         let is = own_at t h n W nms are k c in
         subst (IsPartIn t) (sym is.part) (
-          (
-            is.path,
-            all_at (λ (i : NumberedInstance). IsViewIn t i.place i.view) W.instances base.numbers.0.instances (record { place = is.place; view = is.view })
-                is.among,
-          ),
+          (is.path, all_at (λ (i : NumberedInstance). IsViewIn t i.place i.view) W.instances base.numbers.0.instances (record { place = is.place; view = is.view }) is.among),
           tt,
         ))
 
@@ -159,7 +152,7 @@ module _ (pieces : List Piece) (x : Followed) (facts : List KeptFact) (h : Homes
     placed =
         let base_placed = are_placed pieces x h (m ∷ []) read_members input known views_obey in
         record {
-          names = (base_placed.names.0, each_own (PartNames t) ((λ x p v e. search std_rules)));
+          names = (base_placed.names.0, each_own (PartNames t) (λ x p v e. search std_rules));
           apart = ap (λ (ps : List ℕ). are_once (filter (has_no_path t) (places_of_part (world W) ++ ps))) (no_places nms (λ k c. c)) ∙ base_placed.apart;
         }
 

@@ -2,8 +2,7 @@
 use Rattle.std.proofs.Common.{◌≡◌, ap, subst, ◌∙◌, ℕ, ◌≤◌, List, length, Option, Some, slice_get}
 use Rattle.wit_model.specs.declared.model.{Resolve.Resolve, World.World}
 use Rattle.wit_model.specs.{Lookup.world_at, Meaning.WorldPackage, Meant.MeantWorld, Names.PackageIdentity, Valid.IsValid}
-use Rattle.plan_meaning.specs.{Built.IsBuilt, Built.planned_world, NumberedViews.Tables, Plan.Plan, Plan.PlannedWorld}
-use Rattle.plan_meaning.specs.PlanRules.{IsPlan}
+use Rattle.plan_meaning.specs.{Built.IsBuilt, Built.planned_world, NumberedViews.Tables, Plan.Plan, Plan.PlannedWorld, PlanRules.IsPlan}
 use Rattle.plan_meaning.proofs.NothingElse.{world_holds_alone}
 use Rattle.plan_build.specs.{Buildable.IsBuildable, MeansPlan.MeansPlan}
 use Rattle.plan_build.proofs.BuildableLaws.{plans_are_buildable}

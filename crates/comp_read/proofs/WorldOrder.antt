@@ -7,7 +7,7 @@ use Rattle.std.specs.Option.{option_map_or, option_or}
 use Rattle.wit_model.specs.{Names.PackageIdentity, Names.is_label, Names.path_in, Text.Text, Text.text_of, Text.text_eq, Lookup.package_at, Uses.has, Uses.once}
 use Rattle.plan_meaning.specs.{Plan.PlannedPackage, Plan.Plan, Built.IsBuilt, Built.planned_package, NumberedRules.Fact, NumberedRules.is_interface}
 use Rattle.plan_meaning.specs.NumberedViews.{NumberedSight, Tables, path_at, agree_in_numbers, agree_with_first_in_numbers, agrees_with_first, first_at, first_whole_at, same_types, same_whole, AreTables}
-use Rattle.plan_meaning.specs.NumberedMembers.{Homes, NumberedMember, NumberedPart, home_at, is_of_package, are_interfaces, are_package, is_interface_of, is_named_in, is_one_world, sights_of_members, stands_at_top, world, HomesStand}
+use Rattle.plan_meaning.specs.NumberedMembers.{Homes, NumberedMember, home_at, is_of_package, are_interfaces, are_package, is_interface_of, is_named_in, is_one_world, sights_of_members, stands_at_top, world, HomesStand}
 use Rattle.plan_meaning.specs.NumberedWorlds.{NumberedInstance, sights_of_instance, NumberedScope, sights_of_scope, HasPath, are_once}
 use Rattle.plan_package.specs.{WholeInterfaces.Home, PlanWhole.places_in, PlanWhole.PlansWhole}
 use Rattle.plan_package.specs.WholePackages.{ListsPlace, PlansPackage, another, entries_from, entry_of, the_main, interfaces_in}
@@ -204,8 +204,7 @@ module _ (t : Tables) (h : Homes) (are_homes : AreHomesOf t h) (n : ℕ) where
     -- each is one of no imports
     places_alone : (ks : List NumberedMember) → AllByRecursion (IsOwnInterface t h n (numbered_scope w)) ks → flat_map (λ (k : NumberedMember). places_of_part k.part) ks ≡ places_of ks
     places_alone [] all = refl
-    places_alone (k ∷ ks) all = ap (λ (a : NumberedPart). places_of_part a ++ flat_map (λ (x : NumberedMember). places_of_part x.part) ks) all.0.part
-        ∙ (ap (λ ps. all.0.place ∷ ps) (places_alone ks all.1) ∙ sym (ap (λ (a : NumberedPart). place_of_part a ++ places_of ks) all.0.part))
+    places_alone (k ∷ ks) all = search (std_rules, places_alone ks all.1)
 
     within : list_all (has met) (places_of (numbered_members own)) ≡ true
     within = ap (list_all (has met)) own_are ∙ passing_within (is_of_package h n) met met (λ z there. there)
@@ -218,8 +217,7 @@ module _ (t : Tables) (h : Homes) (are_homes : AreHomesOf t h) (n : ℕ) where
         ∙ nothing_new met (places_of (numbered_members own)) within)))
 
     own_numbers : numbers (interfaces_in (m ∷ own)) ≡ filter (is_of_package h n) (places_in (m ∷ own))
-    own_numbers = numbers_of_places (m ∷ own) ∙ (ap (λ (a : Part). place_of_part (numbered_part a) ++ places_of (numbered_members own)) is
-        ∙ (own_are ∙ sym (ap (filter (is_of_package h n)) places_are)))
+    own_numbers = search (std_rules, numbers_of_places, own_are, places_are)
 
     pub world_packages_rise : (packages : List PackageIdentity) (p : Plan) → PlansWhole t packages (home_at h) n (m ∷ own) p → PackagesRise p
     world_packages_rise packages p planned k q at = by (planned.packages.each k q at)

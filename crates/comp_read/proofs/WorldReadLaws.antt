@@ -80,7 +80,7 @@ module _ (pieces : List Piece) (x : Followed) (facts : List KeptFact) (h : Homes
       (read_labels_stand pieces x h (m ∷ []) (read_members pieces x facts h label n w given) (input pieces x facts h label n w given)).labels.0,
       all_of (λ (k : Member). is_label k.label.now ≡ true) own (λ k c. own_label t tables h given.stand n W nms are (numbered_member k) (contains-map numbered_member own k c)),
     );
-    apart = ap (λ (ls : List Text). distinct (label.now ∷ ls)) (sym ((map_of_map (λ (k : NumberedMember). k.label) numbered_member own)))
+    apart = ap (λ (ls : List Text). distinct (label.now ∷ ls)) (sym (map_of_map (λ (k : NumberedMember). k.label) numbered_member own))
         ∙ labels_differ t tables h given.stand n W nms are known label.now given.obeys;
   }
 
@@ -90,7 +90,7 @@ module _ (pieces : List Piece) (x : Followed) (facts : List KeptFact) (h : Homes
   rise q s e =
       let first = first_is q (views_of_members (numbered_members (m ∷ own))) s e in
       subst (λ (p : ℕ). IsRisingView t p s.view) first.1 (view_rises pieces x h (m ∷ []) (read_members pieces x facts h label n w given) (input pieces x facts h label n w given) known
-      (views_obey pieces x facts h label n w given own are) s ((Contains-append_left (map whole_view W.instances) [] s (view_among t h n W nms are label.now s first.0))))
+      (views_obey pieces x facts h label n w given own are) s (Contains-append_left (map whole_view W.instances) [] s (view_among t h n W nms are label.now s first.0)))
 
   -- ---- worlds and places
 
