@@ -70,9 +70,7 @@ module _ (marks : List Bool) (kept : List ℕ) (are : AreMarked marks kept) wher
   at_least zero n e = omega arith
   at_least (suc j) n e =
       let before = earlier kept j n e in
-      let less = at_least j before.0 before.1 in
-      let rise = rises j before.0 n before.1 e in
-      omega (arith, less, rise)
+      omega (arith, at_least j before.0 before.1, rises j before.0 n before.1 e)
 
 few_kept : (marks : List Bool) (kept : List ℕ) → AreMarked marks kept → (bound : ℕ) → ((n : ℕ) → is_marked marks n ≡ true → n < bound) → length kept ≤ bound
 few_kept marks [] are bound below = omega arith

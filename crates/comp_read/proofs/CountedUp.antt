@@ -156,9 +156,6 @@ module _ (many : ℕ) where
       ap below same
   joined_below (n ∷ ns) within k fits front low is all = by (joined_below ns (λ m c. within m (contains-later n ns m c)))
     where
-      not_past : k < n → ⊥
-      not_past less = let wrong = low k (is.0 k less tt) in omega (arith, wrong)
-
       inside : n < many
       inside = within n (first-contained n ns)
 
@@ -189,7 +186,7 @@ module _ (many : ℕ) where
 
       fresh : CountOn ns → k ≤ n → joined_all (joined (below k) n) ns ≡ below many
       fresh on past =
-          let same : n ≡ k = elim (cases_lt k n) [ inl more ↦ absurd (not_past more) | inr le ↦ omega (arith, le, past) ] in
+          let same : n ≡ k = elim (cases_lt k n) [ inl more ↦ absurd (let wrong = low k (is.0 k more tt) in omega (arith, wrong)) | inr le ↦ omega (arith, le, past) ] in
           ap (λ (b : Bool). joined_all (cond b (below k) (below k ++ n ∷ [])) ns) (absent past (has (below k) n) refl)
           ∙ (ap (λ (m : ℕ). joined_all (below k ++ m ∷ []) ns) same
           ∙ on (suc k) (omega (arith, same, inside)) (front ++ n ∷ []) (front_low (suc k) (omega (arith, same)) (omega arith)) is.1 (left (suc k) (omega (arith, same)) (omega arith)))

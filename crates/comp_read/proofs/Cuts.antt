@@ -12,8 +12,8 @@ use Rattle.comp_meaning.proofs.RulesLemmas.{not_twice}
 use Rattle.plan_meaning.specs.NumberedViews.{NumberedType, Tables, path_at}
 use Rattle.plan_meaning.specs.{NumberedWorlds.NumberedInstance, NumberedWorlds.NumberedScope, NumberedWorlds.NumberedSeen, Shapes.Shape, Shapes.named_shape}
 use Rattle.read_follow.specs.declared.{scopes.Instance.Instance, scopes.Seen.Seen, scopes.Shown.Shown, slots.Slot.Slot, views.ShownType.ShownType}
-use Rattle.read_follow.specs.{Following.IsShownIn, Following.IsSlotIn, Following.IsTypeSlot, Functions.FunctionShape, Placed.IsTypeNamed}
-use Rattle.read_follow.specs.Scopes.{IsImportNamed, IsInstanceIn, IsShownAs, IsShownBy, IsStage, World, by_import, by_instance, world_of, instance_in, meant_at, seen_in, world_signatures, world_trees}
+use Rattle.read_follow.specs.{Following.IsSlotIn, Following.IsTypeSlot, Functions.FunctionShape, Placed.IsTypeNamed}
+use Rattle.read_follow.specs.Scopes.{IsImportNamed, IsShownAs, IsShownBy, IsStage, World, by_import, by_instance, world_of, instance_in, meant_at, seen_in, world_signatures, world_trees}
 use Rattle.read_follow.proofs.{DefiningLaws.all_at, DefiningLaws.longer, ComponentLaws.place_in, ComponentLaws.places_are, ComponentLaws.places_before}
 use Rattle.read_follow.proofs.PlacedLaws.{stands_on, stood}
 use Rattle.read_parts.specs.declared.{following.Followed.Followed, members.Member.Member}
@@ -155,9 +155,8 @@ module _ (pieces : List Piece) (x : Followed) (followed : IsFollowed pieces x) (
         by : (o : IsOf n j i) (z : ShownType) (k : ℕ) → slice_get o.one.view.types.items k ≡ Some z → StandsBefore m (length then.instances) n j → part_of (numbered_slot z.slot) < 14 + many
         by o z k z_at (inl less) = omega (arith, staged.types_below n o.member o.there less j o.one o.at k z z_at, slot_number z.slot, base_within)
         by o z k z_at (inr (same, low)) =
-            let shown_in = all_at (IsShownIn then.shapes then.signatures) o.one.view.types.items k z
-            (all_at (IsInstanceIn then.shapes then.signatures then.paths) then.instances j o.one stage.world.instances
-            (stood then.instances (world_in member).instances stage.instances_grow j o.one low
+            let shown_in = all_at _ _ k z
+            (all_at _ _ j o.one stage.world.instances (stood then.instances (world_in member).instances stage.instances_grow j o.one low
             (subst (λ (w : Member). slice_get (scope_of w.part).instances.items j ≡ Some o.one) (sym (one_member n o.member o.there same)) o.at))).types z_at in
             slot_below then.shapes then.signatures z.slot shown_in.slot shown_in.kind
 
@@ -195,8 +194,7 @@ module _ (pieces : List Piece) (x : Followed) (followed : IsFollowed pieces x) (
                 → u.shown ≡ shown.Type name part o → StandsBefore m (length then.imports) n j → part < 14 + many
             part_low y y_at u u_at name part o e (inl less) = omega (arith, staged.imports_below n y y_at less j u u_at name part o e, base_within)
             part_low y y_at u u_at name part o e (inr (same, low)) = (subst (λ (v : Shown). IsShownAs then.shapes then.signatures then.paths (length then.instances) v) e
-                (all_at (λ (v : Seen). IsShownAs then.shapes then.signatures then.paths (length then.instances) v.shown) then.imports j u stage.world.imports
-                (stood then.imports (world_in member).imports stage.imports_grow j u low
+                (all_at _ _ j u stage.world.imports (stood then.imports (world_in member).imports stage.imports_grow j u low
                 (subst (λ (w : Member). slice_get (scope_of w.part).imports.items j ≡ Some u) (sym (one_member n y y_at same)) u_at)))).0
 
     -- ---- what came behind
@@ -232,14 +230,6 @@ module _ (pieces : List Piece) (x : Followed) (followed : IsFollowed pieces x) (
         keys : List Text
         keys = map (λ (k : NumberedSeen). k.key) w.imports
 
-        seen_at : (y : Member) → scope_in y ≡ w → (l : ℕ) (u : Seen) → slice_get (scope_of y.part).imports.items l ≡ Some u → (label : Bor (List ℕ)) (part : ℕ) (o : Option ℕ)
-            → u.shown ≡ shown.Type label part o → label.now ≡ s.key → slice_get keys l ≡ Some s.key
-        seen_at y same l u u_at label part o shows named =
-            let vs = map instance_view (scope_of y.part).instances.items in
-            mapped_get (λ (k : NumberedSeen). k.key) w.imports l (numbered_seen x.places vs u)
-            (subst (λ (k : NumberedScope). slice_get k.imports l ≡ Some (numbered_seen x.places vs u)) same (mapped_get (numbered_seen x.places vs) (scope_of y.part).imports.items l u u_at))
-            ∙ ap Some (ap (λ (v : Shown). (numbered_seen x.places vs (record { shown = v; external_id = u.external_id })).key) shows ∙ named)
-
         earlier : (k l : ℕ) → k ≡ n → StandsBefore m (length then.imports) k l → StandsBehind m (length then.imports) n j → l < j
         earlier k l same (inl less) (inl more) = absurd (omega (arith, less, more, same))
         earlier k l same (inl less) (inr (one, le)) = absurd (omega (arith, less, one, same))
@@ -253,7 +243,11 @@ module _ (pieces : List Piece) (x : Followed) (followed : IsFollowed pieces x) (
             let one : k ≡ n = placed.homes k n (scope_in y) w (mapped_get scope_in ms k y y_at) w_at (sym own) in
             let same : mine.0 ≡ y = one_item ms n mine.0 y mine.1 (subst (λ (z : ℕ). slice_get ms z ≡ Some y) one y_at) in
             let is_w : scope_in y ≡ w = subst (λ (z : Member). scope_in z ≡ w) same mine.2 in
-            (not_twice keys apart l j s.key (earlier k l one before behind) (seen_at y is_w l u u_at label part o shows named) (mapped_get (λ (k : NumberedSeen). k.key) w.imports j s s_at))
+            (not_twice keys apart l j s.key (earlier k l one before behind) (let vs = map instance_view (scope_of y.part).instances.items in
+            mapped_get (λ (k : NumberedSeen). k.key) w.imports l (numbered_seen x.places vs u)
+            (subst (λ (k : NumberedScope). slice_get k.imports l ≡ Some (numbered_seen x.places vs u)) is_w (mapped_get (numbered_seen x.places vs) (scope_of y.part).imports.items l u u_at))
+            ∙ ap Some (ap (λ (v : Shown). (numbered_seen x.places vs (record { shown = v; external_id = u.external_id })).key) shows ∙ named))
+            (mapped_get (λ (k : NumberedSeen). k.key) w.imports j s s_at))
 
     pub is_cut : IsCut t ws m (length then.instances) (length then.imports) many
     is_cut = record { views_before = views_before; views_behind = views_behind; types_before = types_before; types_behind = types_behind }
@@ -328,10 +322,13 @@ module _ (ps qs : List ℕ) where
   pub late : (k q : ℕ) → slice_get (once (ps ++ qs)) k ≡ Some q → length (once ps) ≤ k → Contains ps q → ⊥
   late k q e past c =
       let at = contains-get (once ps) q (has-contains (once ps) q (has_once q ps ∙ contains-has ps q c)) in
-      let low = found_below (once ps) at.0 q at.1 in
-      let there : slice_get (once (ps ++ qs)) at.0 ≡ Some q = ap (λ (zs : List ℕ). slice_get zs at.0) behind.1 ∙ front_at (once ps) behind.0 at.0 q at.1 in
-      let same = (subst IsOnce (joined_behind [] (ps ++ qs)) (all_once [] (ps ++ qs) none_twice)) at.0 k q there e in
-      omega (arith, low, past, same)
+      omega (
+        arith,
+        found_below (once ps) at.0 q at.1,
+        past,
+        ((subst IsOnce (joined_behind [] (ps ++ qs)) (all_once [] (ps ++ qs) none_twice)) at.0 k q
+            (ap (λ (zs : List ℕ). slice_get zs at.0) behind.1 ∙ front_at (once ps) behind.0 at.0 q at.1) e),
+      )
 
 -- ---- beginnings
 

@@ -8,10 +8,7 @@ use Rattle.comp_bytes.proofs.Readers.{bind_some, when_some}
 use Rattle.comp_meaning.specs.{ByLevels.Top, ByLevels.exported_parts, ByLevels.top_export, ByLevels.top_part, ByLevels.top_piece, Reads.steps}
 use Rattle.comp_meaning.specs.{Follow.each, Follow.when, Rules.distinct}
 use Rattle.comp_meaning.proofs.EntryLaws.{steps_keep}
-use Rattle.read_parts.specs.declared.members.Member.{Member as FollowedMember}
 use Rattle.read_parts.specs.Followed.{PartScope, labelled_scope}
-use Rattle.read_members.specs.PartMembers.{IsMemberOf}
-use Rattle.read_numbers.specs.NumberedInput.{tables_of, MemberShown}
 use Rattle.read_numbers.proofs.InputNumbers.{input_in_numbers}
 use Rattle.read_exports.specs.declared.members.Member.{Member}
 use Rattle.comp_read.specs.InputLaws.{ReadLabelsStand}
@@ -77,8 +74,7 @@ parts_named pieces parts e = by (bind_some (steps top_piece start pieces) (λ to
 
 scope_labels : (parts : List (Text × PartType)) (scopes : List (Text × PartScope)) → AllZip (λ y s. labelled_scope y ≡ Some s) parts scopes
     → map (λ (p : Text × PartType). p.0) parts ≡ map (λ (s : Text × PartScope). s.0) scopes
-scope_labels parts scopes all = sym (zip_map (λ y s. labelled_scope y ≡ Some s) (λ (p : Text × PartType). p.0) (λ (s : Text × PartScope). s.0) (λ y z e. search (std_rules, bind_some, same-some))
-    parts scopes all)
+scope_labels parts scopes all = sym (zip_map _ _ _ (λ y z e. search (std_rules, bind_some, same-some)) parts scopes all)
 
 pub read_labels_stand : ReadLabelsStand
 read_labels_stand pieces x h ms members input =
@@ -86,8 +82,7 @@ read_labels_stand pieces x h ms members input =
     let parts = input.followed.parts in
     let named = parts_named pieces parts input.followed.exported in
     let same = scope_labels parts shown.scopes (each_beside labelled_scope parts shown.scopes (scopes_found pieces parts input.followed.exported shown.scopes shown.found))
-    ∙ (zip_map (MemberShown (tables_of x)) (λ (y : FollowedMember). y.label.now) (λ (s : Text × PartScope). s.0) (λ y s is. is.0) x.members.items shown.scopes shown.shown
-    ∙ sym (zip_map (IsMemberOf (tables_of x)) (λ (y : FollowedMember). y.label.now) (λ (m : Member). m.label.now) (λ y m is. is.0) x.members.items ms input.are)) in
+    ∙ (zip_map _ _ _ (λ y s is. is.0) x.members.items shown.scopes shown.shown ∙ sym (zip_map _ _ _ (λ y m is. is.0) x.members.items ms input.are)) in
     record {
       labels = all_unmapped (λ (label : Text). is_label label ≡ true) (λ (m : Member). m.label.now) ms (subst (AllByRecursion (λ (label : Text). is_label label ≡ true)) same named.labels);
       apart = ap distinct (sym same) ∙ named.apart;

@@ -83,11 +83,8 @@ module _ (pieces : List Piece) (x : Followed) (h : Homes) (ms : List Member) (me
         let whole = subst (λ (ps : List ℕ). are_once (filter (has_no_path t) ps) ≡ true) rest.1 alone in
         many_places t (tables pieces x h ms members input) front_places rest.0 whole
         ∙ ap (λ (os : List (Option Text)). length (once_by_path os)) (append_of_map (path_at t) (flat_map scope_places (take m ws)) (take cut.instances (scope_places w))
-        ∙ (λ i. earlier i ++ sym cut.paths_are i))
-      where
-        earlier : map (path_at t) (flat_map scope_places (take m ws)) ≡ flat_map shown_under (take m members)
-        earlier = mapped_zip (path_at t) scope_places shown_under (take m ws) (take m members)
-            (zip_take (λ (v : NumberedScope) (z : reads.Member). map (path_at t) (scope_places v) ≡ shown_under z) m ws members (scopes_under pieces x h ms members input))
+        ∙ (λ i. (mapped_zip (path_at t) scope_places shown_under (take m ws) (take m members)
+        (zip_take (λ (v : NumberedScope) (z : reads.Member). map (path_at t) (scope_places v) ≡ shown_under z) m ws members (scopes_under pieces x h ms members input))) i ++ sym cut.paths_are i))
 
     worlds_are : worlds_before ms m ≡ (shown_until members m y.part scope).worlds
     worlds_are = many_worlds t h ms members input.shown m
@@ -149,11 +146,16 @@ module _ (pieces : List Piece) (x : Followed) (h : Homes) (ms : List Member) (me
           (subst (λ (ns : List ℕ). Contains ns b) (sym (type_numbers_are i)) c)
       high_of b (named.IsNamedBehind.in_world k j v id v_at import_at same side) =
           let o = of_world k j v id v_at import_at b same in
-          let behind = behind_there ms m kept_member.kept kept_member.kept_at cut.imports much.imports counts k j o.v o.owner
-          (subst (λ (c : ℕ). (c < k) ⊎ ((k ≡ c) × (much.imports ≤ j))) (sym worlds_are) side) in
-          let number = cut.cut.types_behind o.owner.number j (numbered_scope o.v.1) o.import_.seen o.import_.declared o.scope_at o.import_.at o.import_.is o.differ behind o.import_.number
-          o.import_.row in
-          record { part = 14 + o.import_.number; is = o.import_.kept_; so = omega (arith, number) }
+          record {
+            part = 14 + o.import_.number;
+            is = o.import_.kept_;
+            so = omega (
+              arith,
+              cut.cut.types_behind o.owner.number j (numbered_scope o.v.1) o.import_.seen o.import_.declared o.scope_at o.import_.at o.import_.is o.differ
+                  (behind_there ms m kept_member.kept kept_member.kept_at cut.imports much.imports counts k j o.v o.owner
+                  (subst (λ (c : ℕ). (c < k) ⊎ ((k ≡ c) × (much.imports ≤ j))) (sym worlds_are) side)) o.import_.number o.import_.row,
+            );
+          }
 
       pub named_less : (a b : ℕ) → IsNamedBefore r much a → IsNamedBehind r much b → a < b
       named_less a b before behind =

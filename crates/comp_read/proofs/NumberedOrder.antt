@@ -314,11 +314,10 @@ module _ (t : Tables) (tables : AreTables t) where
       met_in_part : (k a m : ℕ) → number_for k ≡ Some a → Contains (met_by (met_of r) a) m → IsNameInside t tables kept p are k m
       met_in_part k a m is c =
           let from = number_back k a is in
-          let low = found_below kept a from.0 from.2 in
-          let x = within_there p.types a (omega (arith, low, long)) in
-          let same : met_of r ≡ met_in p = sym (met_are r p.main) ∙ ap met_in (sym (is_plan p r built)) in
+          let x = within_there p.types a (omega (arith, found_below kept a from.0 from.2, long)) in
           subst (λ (q : ℕ). IsNameInside t tables kept p are q m) (sym from.1)
-          (names_are_inside t tables kept p are a from.0 x.0 x.1 from.2 m (subst (λ (table : List (List ℕ)). Contains (met_by table a) m) same c))
+          (names_are_inside t tables kept p are a from.0 x.0 x.1 from.2 m (subst (λ (table : List (List ℕ)). Contains (met_by table a) m)
+          (sym (met_are r p.main) ∙ ap met_in (sym (is_plan p r built))) c))
 
       one_name : (c : DeclaringScope) (a b m n : ℕ) → Contains scoped (c, a) → Contains scoped (c, b) → IsNameInside t tables kept p are a m → IsNameInside t tables kept p are b n
           → number_tree r m ≡ number_tree r n → m ≡ n
@@ -327,9 +326,8 @@ module _ (t : Tables) (tables : AreTables t) where
           let left = tree_is x.number m x.kept_there ∙ (tree_there x.number (named_shape x.place x.name) x.at ∙ name_tree (place_at t) trees x.place x.name) in
           let right = tree_is y.number n y.kept_there ∙ (tree_there y.number (named_shape y.place y.name) y.at ∙ name_tree (place_at t) trees y.place y.name) in
           let names : Tree.named (place_at t x.place) x.name ≡ Tree.named (place_at t y.place) y.name = sym left ∙ (e ∙ right) in
-          let places : place_at t x.place ≡ place_at t y.place = cc in
           let labels : x.name ≡ y.name = cc in
-          let place : x.place ≡ y.place = near c a b a_in b_in x.place y.place x.has y.has places in
+          let place : x.place ≡ y.place = near c a b a_in b_in x.place y.place x.has y.has cc in
           let shape : named_shape y.place y.name ≡ named_shape x.place x.name = λ k. named_shape (sym place k) (sym labels k) in
           let number : x.number ≡ y.number = tables.shapes.apart x.number y.number (named_shape x.place x.name) x.at (y.at ∙ ap Some shape) in
           are.once m n y.number (x.kept_there ∙ ap Some number) y.kept_there

@@ -58,10 +58,9 @@ module _ (t : Tables) (tables : AreTables t) (h : Homes) (stand : HomesStand t h
         let is = own_at t h n w ms are k c in
         let spelled = spelled_as t tables h stand n is.place k.label is.path is.home in
         subst (Contains scope.instances) (λ i. record {
-          interface = (spelled.path ∙ ap (λ (i : PackageIdentity). Some (path_in i k.label)) (same-some spelled.identity identity (sym spelled.there ∙ there))) i;
+          interface = (spelled.path ∙ ap (λ (i : PackageIdentity). Some (path_in i k.label)) (same-some _ _ (sym spelled.there ∙ there))) i;
           view = view_of t is.view;
-        }) (subst (λ (xs : List Instance). Contains xs (instance_of t (record { place = is.place; view = is.view }))) (sym shows.instances)
-        (contains-map (instance_of t) w.instances (record { place = is.place; view = is.view }) is.among))
+        }) (subst (λ (xs : List Instance). Contains xs (instance_of t (record { place = is.place; view = is.view }))) (sym shows.instances) (contains-map _ _ _ is.among))
 
     abbrev alone : NumberedMember → NumberedView → reads.Member
     alone k v = record { label = k.label; package_ = identity; part = reads.Part.interface (view_of t v) [] }

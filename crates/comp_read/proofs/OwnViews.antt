@@ -31,9 +31,6 @@ split_more f [] i d low = absurd (omega (arith, low))
 split_more f (x ∷ xs) zero d low = refl
 split_more f (x ∷ xs) (suc i) d low = ap (λ ys. f x ∷ ys) (split_more f xs i d (omega (arith, low)))
 
-pub taken_more : {A B : Type 0} (f : A → B) (xs : List A) (i : ℕ) (d : A) → i < length xs → map f (take (suc i) xs) ≡ map f (take i xs) ++ f (get_or xs i d) ∷ []
-taken_more f xs i d low = ap (map f) (take-suc xs i d low) ∙ append_of_map f (take i xs) (get_or xs i d ∷ [])
-
 flat_more : {A B : Type 0} (f : A → List B) (xs : List A) (x : A) (y : B) → f x ≡ y ∷ [] → flat_map f (xs ++ x ∷ []) ≡ flat_map f xs ++ y ∷ []
 flat_more f [] x y e = ap (λ ys. ys ++ []) e
 flat_more f (z ∷ xs) x y e = ap (λ ys. f z ++ ys) (flat_more f xs x y e) ∙ behind (f z)
@@ -158,12 +155,9 @@ module _ (h : Homes) (n : ℕ) (done rest : List NumberedSight) (s : NumberedSig
     not_before : (u : NumberedSight) → Contains done u → u.place ≡ s.place → ⊥
     not_before u c same = no_true (sym none ∙ (ap (has places) (sym same) ∙ g.all u c (ap (is_of_package h n) same ∙ home_is_of h n s.place label home)))
 
-    own_among : IsOwnAmong h n seen m
-    own_among = search (std_rules, first_behind, rest, not_before)
-
     new_step : Next (places ++ s.place ∷ []) (ms ++ m ∷ [])
     new_step = record {
-      each = all_both (IsOwnAmong h n seen) ms (m ∷ []) g.each (own_among, tt);
+      each = all_both (IsOwnAmong h n seen) ms (m ∷ []) g.each ((search (std_rules, first_behind, rest, not_before)), tt);
       of = flat_more (λ (k : NumberedMember). place_of_part k.part) ms m s.place (ap place_of_part is.part) ∙ ap (λ ps. ps ++ s.place ∷ []) g.of;
       all = λ u c of. elim (next_view u c) [
         | inl among ↦ contains-has (places ++ s.place ∷ []) u.place (Contains-append_left places (s.place ∷ []) u.place (has-contains places u.place (g.all u among of)))
@@ -211,7 +205,7 @@ module _ {A : Type 0} (f : A → NumberedSight) (xs : List A) (h : Homes) (n i :
       let rest = map f (drop (suc i) xs) in
       let split = split_more f xs i d low in
       let next = one_gathered h n done rest s places ms (subst (λ (seen : List NumberedSight). IsGathered h n seen done places ms) split g) later more adds in
-      let so_far : map f (take (i + 1) xs) ≡ done ++ s ∷ [] = ap (λ (k : ℕ). map f (take k xs)) (one_more i) ∙ taken_more f xs i d low in
+      let so_far : map f (take (i + 1) xs) ≡ done ++ s ∷ [] = ap (λ (k : ℕ). map f (take k xs)) (one_more i) ∙ (ap (map f) (take-suc xs i d low) ∙ append_of_map f (take i xs) (get_or xs i d ∷ [])) in
       subst (λ (seen : List NumberedSight). IsGathered h n seen (map f (take (i + 1) xs)) later more) (sym split)
       (subst (λ (those : List NumberedSight). IsGathered h n (done ++ s ∷ rest) those later more) (sym so_far) next)
 
@@ -301,8 +295,7 @@ module _ (t : Tables) (h : Homes) (n : ℕ) (w : NumberedScope) (ms : List Numbe
       let from = flat_cases (λ (k : NumberedMember). views_of_part k.part) ms s c in
       let is = own_at from.0 from.1 in
       subst (Contains (map whole_view w.instances)) (let is = own_at from.0 from.1 in
-      one-contained (view_of_own from.0 is) s (subst (λ (a : NumberedPart). Contains (views_of_part a) s) is.part from.2))
-      (contains-map whole_view w.instances (record { place = is.place; view = is.view }) is.among)
+      one-contained (view_of_own from.0 is) s (subst (λ (a : NumberedPart). Contains (views_of_part a) s) is.part from.2)) (contains-map _ _ _ is.among)
 
   -- beside the world itself
   pub sight_among : (label : Text) (s : NumberedSight) → Contains (sights_of_members t (record { label = label; package_ = n; part = world w } ∷ ms)) s → Contains (sights_of_scope t w) s

@@ -142,8 +142,7 @@ module _ (pieces : List Piece) (x : Followed) (h : Homes) (ms : List Member) (me
   smaller : (q d : ℕ) → Contains (package_at q) d → (c : ℕ) → c < d → IsOfSmaller (HasPath t) package_at q c
   smaller q d there c less =
       let y = number_of_home (home_at h q) d there in
-      let same = y.2 in
-      by (order q y.0.0 y.0.1 (search std_rules) c (omega (arith, less, same)))
+      by (order q y.0.0 y.0.1 (search std_rules) c (omega (arith, less, y.2)))
     where
       by : (c < 0) ⊎ HasPlaceBefore h.homes q c → IsOfSmaller (HasPath t) package_at q c
       by (inl none) = absurd (omega (arith, none))

@@ -43,8 +43,7 @@ module _ (t : Tables) where
       new e c =
           let from = from_map (λ (z : NumberedInstance). z.place) (filter (no_path t) is) i.place c in
           let there = contains-get is from.0 (filter_from (no_path t) is from.0 from.1).0 in
-          let wrong = apart 0 (suc there.0) i from.0 refl there.1 (no_place (path_at t i.place) e) (sym from.2) in
-          omega (arith, wrong)
+          omega (arith, apart 0 (suc there.0) i from.0 refl there.1 (no_place (path_at t i.place) e) (sym from.2))
 
       by : (b : Bool) → no_path t i ≡ b → AreDifferent (map (λ (z : NumberedInstance). z.place) (filter (no_path t) is))
           → AreDifferent (map (λ (z : NumberedInstance). z.place) (if b then i ∷ filter (no_path t) is else filter (no_path t) is))

@@ -167,10 +167,9 @@ module _ (pieces : List Piece) (x : Followed) (h : Homes) (ms : List Member) (me
       let n = input.followed.followed.numbers in
       let t = tables_of x in
       let good = tables pieces x h ms members input in
-      let low = count_below 0 (bare_parts n.parts) (length t.shapes) n.counted in
       let inside : (c : DeclaringScope) (a : ℕ) → Contains n.parts (c, a) → a < 14 + length t.shapes =
-      λ c a a_in. all_at (λ (q : ℕ). q < 14 + length t.shapes) (bare_parts n.parts) low a (contains-map (λ (s : DeclaringScope × ℕ). s.1) n.parts (c, a) a_in) in
-      let over = all_at (IsScopedBy x.table x.functions x.places x.members.items) n.parts n.scoped in
+      λ c a a_in. all_at _ _ (count_below 0 (bare_parts n.parts) (length t.shapes) n.counted) a (contains-map _ _ _ a_in) in
+      let over = all_at _ _ n.scoped in
       numbers_follow t good kept p are long r built n.parts n.counted (declared_trees input.followed.parts)
       (sym (append-nil (scoped_trees (shape_trees (place_at t) t.shapes) n.parts)) ∙ n.trees (place_at t) (places_stand x.places)) (λ c a b a_in b_in.
       let both = both_over x good.shapes x.members.items c a b (over (c, a) a_in) (over (c, b) b_in) in

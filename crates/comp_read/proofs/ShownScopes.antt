@@ -1,11 +1,11 @@
 -- The instances of what was followed stand under the paths that the parts show, in their order.
-use Rattle.std.proofs.Common.{rules as std_rules, slice_get, ◌≡◌, refl, sym, ap, subst, ◌∙◌, ℕ, ◌&&◌, List, [], ◌∷◌, ◌++◌, map, Option, Some}
+use Rattle.std.proofs.Common.{rules as std_rules, slice_get, ◌≡◌, refl, sym, ap, subst, ◌∙◌, ℕ, List, [], ◌∷◌, ◌++◌, map, Option, Some}
 use Rattle.std.specs.List.{AllZip, flat_map}
 use Rattle.wit_model.specs.{Text.Text, Names.PackageIdentity, Names.path_in}
 use Rattle.comp_bytes.specs.{Levels.Entry, Levels.PartType, Levels.Piece, Levels.shows, Levels.wraps, Reading.◌>>=◌}
 use Rattle.comp_bytes.proofs.Readers.{bind_some, when_some}
-use Rattle.comp_meaning.specs.{ByLevels.entry_scope, Follow.Instance, Follow.Scope, Follow.View, Follow.each, Follow.provided, Rules.distinct}
-use Rattle.comp_meaning.specs.Reads.{Member, Part, are_reached, exported_view, imported_view, labelled_path}
+use Rattle.comp_meaning.specs.{ByLevels.entry_scope, Follow.Instance, Follow.Scope, Follow.View, Follow.each}
+use Rattle.comp_meaning.specs.Reads.{Member, Part}
 use Rattle.read_shown.specs.{Instances.InstancesAreSeen, Parts.named_instance, Scopes.ScopeStands}
 use Rattle.read_shown.proofs.{ByLevels.entry_scope_stands, Parts.interface_shows}
 use Rattle.plan_meaning.specs.{NumberedMembers.Homes, NumberedMembers.IsMember, NumberedViews.Tables, NumberedViews.path_at}
@@ -64,18 +64,13 @@ named_paths is imports last all = search (std_rules, append_of_map, map_of_map)
 
 interface_paths : (label : Text) (scope : Scope) → Stands scope → (p : PackageIdentity × Part) → part_of_scope label (interface scope) ≡ Some p → paths_in scope ≡ shown_under (member_of label p)
 interface_paths label scope st p e =
-    let exported = bind_some (exported_view scope.exports) (λ exported. each imported_view scope.imports >>= λ imports. labelled_path label exported.0 >>= λ package_.
-    provided (distinct (exported.0 ∷ map (λ i. i.0) imports) && are_reached imports exported.1) (package_, Part.interface exported.1 imports)) p e in
-    let imports = bind_some (each imported_view scope.imports) (λ imports. labelled_path label exported.0.0 >>= λ package_.
-    provided (distinct (exported.0.0 ∷ map (λ i. i.0) imports) && are_reached imports exported.0.1) (package_, Part.interface exported.0.1 imports)) p exported.2 in
-    let package_ = bind_some (labelled_path label exported.0.0) (λ package_.
-    provided (distinct (exported.0.0 ∷ map (λ i. i.0) imports.0) && are_reached imports.0 exported.0.1) (package_, Part.interface exported.0.1 imports.0)) p imports.2 in
-    let w = when_some (distinct (exported.0.0 ∷ map (λ i. i.0) imports.0) && are_reached imports.0 exported.0.1) (Some (package_.0, Part.interface exported.0.1 imports.0)) p package_.2 in
-    subst (λ (q : PackageIdentity × Part). paths_in scope ≡ shown_under (member_of label q)) (some_is (package_.0, Part.interface exported.0.1 imports.0) p w.1)
+    let exported = bind_some _ _ p e in
+    let imports = bind_some _ _ p exported.2 in
+    let package_ = bind_some _ _ p imports.2 in
+    let w = when_some _ _ p package_.2 in
+    subst (λ (q : PackageIdentity × Part). paths_in scope ≡ shown_under (member_of label q)) (some_is _ p w.1)
     (named_paths scope.instances imports.0 (path_in package_.0 label, exported.0.1)
-    (interface_shows label scope st.0 st.1 exported.0 exported.1 imports.0 imports.1 package_.0 package_.1
-    (first_true (distinct (exported.0.0 ∷ map (λ i. i.0) imports.0)) (are_reached imports.0 exported.0.1) w.0)
-    (second_true (distinct (exported.0.0 ∷ map (λ i. i.0) imports.0)) (are_reached imports.0 exported.0.1) w.0)))
+    (interface_shows label scope st.0 st.1 exported.0 exported.1 imports.0 imports.1 package_.0 package_.1 (first_true _ _ w.0) (second_true _ _ w.0)))
 
 world_paths : (label path : Text) (scope : Scope) (p : PackageIdentity × Part) → part_of_scope label (world path scope) ≡ Some p → paths_in scope ≡ shown_under (member_of label p)
 world_paths label path scope p e = search std_rules

@@ -324,13 +324,11 @@ module _ (pieces : List Piece) (x : Followed) (h : Homes) (ms : List Member) (me
         let z = shown_number kept v.0.view j.types (b.2 v.0 v.1).types d d_in in
         let first = shown_at a.0 u.0 u.1 in
         let second = shown_at b.0 v.0 v.1 in
-        let pair : Before a.0 b.0 = subst (λ (qs : List ℕ). Pairs Before qs) (sym met) (joined_pairs Before [] [] places ((λ c d. d), (λ c d. d)) (λ k l a b at there less. absurd cc) places_new) k l
-        a.0 b.0 a.1 b.1 less in
-        let parts_less =
-        pair first.scope first.number (instance_shown u.0) first.at first.place second.scope second.number (instance_shown v.0) second.at second.place (part_of y.0.slot) (part_of z.0.slot)
-        (contains-map (λ (w : NumberedType). part_of w.slot) u.0.view.types y.0 y.1) (contains-map (λ (w : NumberedType). part_of w.slot) v.0.view.types z.0 z.1) in
         kept_less marks kept marked (part_of y.0.slot) (part_of z.0.slot) c d (subst (λ (p : ℕ). IsPart kept p (14 + c)) (same_part y.0.slot) y.2)
-        (subst (λ (p : ℕ). IsPart kept p (14 + d)) (same_part z.0.slot) z.2) parts_less
+        (subst (λ (p : ℕ). IsPart kept p (14 + d)) (same_part z.0.slot) z.2)
+        ((subst (λ (qs : List ℕ). Pairs Before qs) (sym met) (joined_pairs Before [] [] places ((λ c d. d), (λ c d. d)) (λ k l a b at there less. absurd cc) places_new) k l a.0 b.0 a.1 b.1 less)
+        first.scope first.number (instance_shown u.0) first.at first.place second.scope second.number (instance_shown v.0) second.at second.place (part_of y.0.slot) (part_of z.0.slot)
+        (contains-map (λ (w : NumberedType). part_of w.slot) u.0.view.types y.0 y.1) (contains-map (λ (w : NumberedType). part_of w.slot) v.0.view.types z.0 z.1))
 
     pub all_rise : list_all (λ (i : PlannedInterface). are_rising (numbers_of i.types)) is ≡ true → are_rising (flat_map (λ (i : PlannedInterface). numbers_of i.types) is) ≡ true
     all_rise own = rises_flat (λ (i : PlannedInterface). numbers_of i.types) is own between

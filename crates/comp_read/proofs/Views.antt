@@ -16,7 +16,7 @@ use Rattle.read_numbers.specs.PlacedNumbers.{part_of, IsFirstSeen, IsInstanceAt,
 use Rattle.plan_type_laws.proofs.PartPlaces.{parts_weaker}
 use Rattle.read_exports.specs.Members.{numbered_members, numbered_part}
 use Rattle.read_exports.specs.declared.members.{Member.Member, Part.Part}
-use Rattle.read_rules.specs.{Reached.numbered_import, Scopes.numbered_scope, Views.numbered_view}
+use Rattle.read_rules.specs.{Reached.numbered_import, Views.numbered_view}
 use Rattle.plan_package.specs.Views.{views_of_part}
 use Rattle.plan_laws.specs.FirstViews.{told}
 use Rattle.plan_laws.proofs.{FirstViews.one_told, FirstViews.sight_there, ShownRules.instances_obey}
@@ -204,16 +204,14 @@ module _ (pieces : List Piece) (x : Followed) (h : Homes) (ms : List Member) (me
 
       of_part : (a : Part) → b.0.part ≡ a → distinct (names_of i.view.types) ≡ true
       of_part (parts.World w) e =
-          let read = world_read pieces x h ms members input b.0 (get-contains ms m b.0 b.1.at) w e in
+          let read = world_read pieces x h ms members input b.0 (get-contains _ m _ b.1.at) w e in
           tree_names t (follow.place_of (path_at t i.place)) i.view (instances_obey read.scope read.stands (instance_of t i)
           (subst (λ is. Contains is (instance_of t i)) (sym read.shows.instances)
-          (contains-map (instance_of t) (numbered_scope w).instances i (get-contains (numbered_scope w).instances j i
-          (ap (λ (z : NumberedScope). slice_get z.instances j) ((world_scope pieces x h ms members input m b.0 b.1 w e).shows ∙ b.2) ∙ there.instance_at)))))
+          (contains-map _ _ i (get-contains _ j i (ap (λ (z : NumberedScope). slice_get z.instances j) ((world_scope pieces x h ms members input m b.0 b.1 w e).shows ∙ b.2) ∙ there.instance_at)))))
       of_part (parts.Interface p v imports) e =
           let of = of_member m j i there in
-          let same : of.member ≡ b.0 = one_item ms m of.member b.0 of.there b.1.at in
           (let s = instance_sight m j i there (interface_path pieces x h ms members input m b.0 b.1 p (numbered_view v) (map numbered_import imports.now) (ap numbered_part e) (sight i of.viewed.whole)
-          (subst (λ (y : Member). Contains (views_of_part (numbered_part y.part)) (sight i of.viewed.whole)) same of.viewed.there)) in
+          (subst (λ (y : Member). Contains (views_of_part (numbered_part y.part)) (sight i of.viewed.whole)) (one_item ms m of.member b.0 of.there b.1.at) of.viewed.there)) in
           number_names t known i.place i.view (all-contained (λ (y : NumberedSight). is_interface t known y.place y.view) sights (sight i s.0) obey.interfaces s.1))
 
   -- ---- all names rise

@@ -83,9 +83,8 @@ module _ (pieces : List Piece) (x : Followed) (h : Homes) (ms : List Member) (me
       by [] (y ∷ ys) all stand one all_known is = absurd all
       by (m ∷ ns) [] all stand one all_known is = absurd all
       by (m ∷ ns) (y ∷ ys) all stand one all_known is = packages_have_kinds (y ∷ ys) (package_shown y.package_ (y ∷ ys)) stand
-          (packages_in_numbers t (tables pieces x h ms members input) h input.homes known n y.package_
-          (ap (slice_get h.packages) (eqb-true n m.package_ (first_true (n == m.package_) (list_all (λ (z : NumberedMember). n == z.package_) ns) one)) ∙ all.0.package_) (m ∷ ns) (y ∷ ys) all
-          all_known ∙ ap (λ b. provided b (package_shown y.package_ (y ∷ ys))) is)
+          (packages_in_numbers t (tables pieces x h ms members input) h input.homes known n y.package_ (ap (slice_get h.packages) (eqb-true n _ (first_true _ _ one)) ∙ all.0.package_) (m ∷ ns)
+          (y ∷ ys) all all_known ∙ ap (λ b. provided b (package_shown y.package_ (y ∷ ys))) is)
 
   pub package_input : AreHomesOf t h → IsPackageInput t h known n ms members
   package_input homes = record {

@@ -7,10 +7,10 @@ use Rattle.comp_bytes.specs.{Levels.Piece, Reading.◌>>=◌}
 use Rattle.comp_meaning.specs.{ByLevels.world_of_pieces, Follow.each, Follow.provided, Reads.world_of_members, Reads.world_with}
 use Rattle.read_shown.specs.{Kinds.NamesHaveKinds, Parts.MemberStands}
 use Rattle.read_shown.proofs.MeaningKinds.{worlds_have_kinds}
-use Rattle.plan_meaning.specs.{FollowedNumbers.IsPartIn, FollowedNumbers.IsViewIn, NumberedRules.Fact}
+use Rattle.plan_meaning.specs.{FollowedNumbers.IsPartIn, NumberedRules.Fact}
 use Rattle.plan_meaning.specs.NumberedMembers.{Homes, IsKnownSight, NumberedMember, NumberedPart, interface, world, world_shown, sights_of_members}
-use Rattle.plan_meaning.specs.NumberedViews.{NumberedSight, NumberedView, Tables}
-use Rattle.plan_meaning.specs.NumberedWorlds.{NumberedInstance, NumberedScope, Shows, are_once, sights_of_scope}
+use Rattle.plan_meaning.specs.NumberedViews.{NumberedView, Tables}
+use Rattle.plan_meaning.specs.NumberedWorlds.{NumberedScope, Shows, are_once}
 use Rattle.read_parts.specs.declared.following.Followed.{Followed}
 use Rattle.read_numbers.specs.{FactLaws.known_by, NumberedInput.tables_of}
 use Rattle.plan_type_laws.specs.ShownMarks.{ArePlaced, PartNames, has_no_path, places_of_part}
@@ -121,10 +121,7 @@ module _ (pieces : List Piece) (x : Followed) (facts : List KeptFact) (h : Homes
     numbers : AllByRecursion (λ (k : NumberedMember). IsPartIn t k.part) nms
     numbers = all_of (λ (k : NumberedMember). IsPartIn t k.part) nms (λ k c.
         let is = own_at t h n W nms are k c in
-        subst (IsPartIn t) (sym is.part) (
-          (is.path, all_at (λ (i : NumberedInstance). IsViewIn t i.place i.view) W.instances base.numbers.0.instances (record { place = is.place; view = is.view }) is.among),
-          tt,
-        ))
+        subst (IsPartIn t) (sym is.part) ((is.path, all_at _ _ base.numbers.0.instances (record { place = is.place; view = is.view }) is.among), tt))
 
     -- a property of each part that is an interface of which nothing is imported
     each_own : (P : Part → Type 0) → ((a : Part) (p : ℕ) (v : NumberedView) → numbered_part a ≡ interface p v [] → P a) → AllByRecursion (λ (k : Member). P k.part) own
@@ -158,9 +155,6 @@ module _ (pieces : List Piece) (x : Followed) (facts : List KeptFact) (h : Homes
 
     -- ---- what is known
 
-    known_sight : (s : NumberedSight) → Contains (sights_of_scope t W) s → IsKnownSight t known s
-    known_sight s c = all_at _ _ (sights_known pieces x h (m ∷ []) read_members input facts given.known) s (Contains-append_left _ _ s c)
-
     pub packaged : IsPackageInput t h known n (m ∷ own) all_trees
     packaged = record {
       input = whole_input;
@@ -168,7 +162,8 @@ module _ (pieces : List Piece) (x : Followed) (facts : List KeptFact) (h : Homes
       kinds = world_names_have_kinds t base.tables h given.stand n tree.identity tree.there W nms are label.now tree.scope tree.shows one_has_kinds;
       placed = placed;
       lengths = lengths_fit pieces x h (m ∷ []) read_members input;
-      sights = all_of (IsKnownSight t known) (sights_of_members t (numbered_members (m ∷ own))) (λ s c. known_sight s (sight_among t h n W nms are label.now s c));
+      sights = all_of (IsKnownSight t known) (sights_of_members t (numbered_members (m ∷ own)))
+          (λ s c. (all_at _ _ (sights_known pieces x h (m ∷ []) read_members input facts given.known) s (Contains-append_left _ _ s (sight_among t h n W nms are label.now s c))));
       scopes = ((parts_known pieces x h (m ∷ []) read_members input facts given.known).0, own_part (PartIsKnown t known) (λ k c p v e. tt));
       obeys = obeys_package t h known n label.now W given.obeys nms are;
     }

@@ -6,7 +6,7 @@ use Rattle.std.specs.List.{AllZip, filter, list_all, AllByRecursion, flat_map, C
 use Rattle.std.specs.Option.{option_map_or, option_or}
 use Rattle.wit_model.specs.{Names.PackageIdentity, Names.is_label, Names.path_in, Text.Text, Text.text_of, Text.text_eq, Lookup.package_at, Uses.has, Uses.once}
 use Rattle.plan_meaning.specs.{Plan.PlannedPackage, Plan.Plan, Built.IsBuilt, Built.planned_package, NumberedRules.Fact, NumberedRules.is_interface}
-use Rattle.plan_meaning.specs.NumberedViews.{NumberedSight, Tables, path_at, agree_in_numbers, agree_with_first_in_numbers, agrees_with_first, first_at, first_whole_at, same_types, same_whole, AreTables}
+use Rattle.plan_meaning.specs.NumberedViews.{NumberedSight, Tables, path_at, agree_in_numbers, agrees_with_first, same_types, same_whole, AreTables}
 use Rattle.plan_meaning.specs.NumberedMembers.{Homes, NumberedMember, home_at, is_of_package, are_interfaces, are_package, is_interface_of, is_named_in, is_one_world, sights_of_members, stands_at_top, world, HomesStand}
 use Rattle.plan_meaning.specs.NumberedWorlds.{NumberedInstance, sights_of_instance, NumberedScope, sights_of_scope, HasPath, are_once}
 use Rattle.plan_package.specs.{WholeInterfaces.Home, PlanWhole.places_in, PlanWhole.PlansWhole}
@@ -287,17 +287,14 @@ module _ (t : Tables) (h : Homes) (known : ℕ → Fact) (n : ℕ) (label : Text
 
   agrees : (s : NumberedSight) → Contains seen s → agrees_with_first all_seen s ≡ true
   agrees s c =
-      let whole : s.whole ≡ true = ap (λ (x : NumberedSight). x.whole) (sym (scope_sight t w s c).is) in
       let more = sights_of_members t ms in
-      let first : first_at s.place all_seen ≡ first_at s.place seen = found_first (λ (x : NumberedSight). s.place == x.place) seen more s c (same-number s.place) in
-      let first_whole : first_whole_at s.place all_seen ≡ first_whole_at s.place seen =
-      found_first (λ (x : NumberedSight). s.place == x.place && x.whole) seen more s c (both (s.place == s.place) s.whole (same-number s.place) whole) in
-      (λ i. option_map_or (λ f. same_types f s) (first i) true && (not s.whole || option_map_or (λ f. same_whole f s) (first_whole i) true)) ∙ all-contained (agrees_with_first seen) seen s
+      (λ i. option_map_or (λ f. same_types f s) ((found_first (λ (x : NumberedSight). s.place == x.place) seen more s c (same-number s.place)) i) true
+      && (not s.whole || option_map_or (λ f. same_whole f s) ((found_first (λ (x : NumberedSight). s.place == x.place && x.whole) seen more s c
+      (both (s.place == s.place) s.whole (same-number s.place) (ap (λ (x : NumberedSight). x.whole) (sym (scope_sight t w s c).is)))) i) true)) ∙ all-contained (agrees_with_first seen) seen s
       (search (std_rules, all_alike, first_true, agree_by_first, both, agree, interfaces)) c
 
   all_agree : agree_in_numbers all_seen ≡ true
-  all_agree = first_true (agree_in_numbers all_seen) (are_interfaces t known all_seen)
-      (agree_by_first t known all_seen ∙ both (agree_with_first_in_numbers [] all_seen) (are_interfaces t known all_seen)
+  all_agree = first_true _ _ (agree_by_first t known all_seen ∙ both _ _
       (all_alike [] all_seen ∙ all_pass (agrees_with_first all_seen) all_seen (λ s c. agrees s (sight_among t h n w ms are label s c))) all_interfaces)
 
   -- ---- the package
@@ -364,14 +361,13 @@ module _ (t : Tables) (tables : AreTables t) (h : Homes) (stand : HomesStand t h
     own_differ (k ∷ ms) within once =
         let is = own_at t h n w all are k (within k (0, omega arith, refl)) in
         let split : are_once (is.place ∷ places ms) ≡ true = ap (λ (ps : List ℕ). are_once (ps ++ places ms)) (sym (ap place_of_part is.part)) ∙ once in
-        both (not (list_any (text_eq k.label) (labels ms))) (distinct (labels ms)) (not_among k.label (labels ms) (λ l c same.
+        both _ _ (not_among k.label (labels ms) (λ l c same.
         let from = from_map (λ (x : NumberedMember). x.label) ms l c in
         let other = own_at t h n w all are from.0 (within from.0 (contains-later k ms from.0 from.1)) in
-        no_true (sym (ap not (contains-has (places ms) is.place (contains-flat (λ (x : NumberedMember). place_of_part x.part) ms from.0 is.place from.1
+        no_true (sym (ap not (contains-has _ _ (contains-flat (λ (x : NumberedMember). place_of_part x.part) ms from.0 is.place from.1
         (subst (λ (ps : List ℕ). Contains ps is.place) (sym (ap place_of_part other.part))
         (subst (λ (p : ℕ). Contains (other.place ∷ []) p) (sym (one_place is.place other.place k.label from.0.label is.path other.path is.home other.home (same ∙ sym from.2)))
-        (contains-one other.place)))))) ∙ first_true (not (has (places ms) is.place)) (are_once (places ms)) split)))
-        (own_differ ms (λ x c. within x (contains-later k ms x c)) (second_true (not (has (places ms) is.place)) (are_once (places ms)) split))
+        (contains-one other.place)))))) ∙ first_true _ _ split))) (own_differ ms (λ x c. within x (contains-later k ms x c)) (second_true _ _ split))
 
     -- the label of the world is none of theirs
     world_differs : (known : ℕ → Fact) (label : Text) → is_one_world t h known n label w ≡ true → not (list_any (text_eq label) (labels all)) ≡ true

@@ -19,7 +19,7 @@ use Rattle.read_rules.specs.declared.{scopes.Scope.Scope, tables.Fact.Fact as Ke
 use Rattle.plan_types.specs.Orders.{places_of_part}
 use Rattle.plan_package.specs.{PlanWhole.places_in, PlanWhole.MayBeWhole, WholeWorlds.world_in_part, WholeWorlds.worlds_in}
 use Rattle.plan_package.specs.Views.{views_of_members, whole_view}
-use Rattle.plan_laws.specs.{Apart.FirstsRise, OneWorld.IsWorldInput, ShownWhole.AreReached}
+use Rattle.plan_laws.specs.{Apart.FirstsRise, ShownWhole.AreReached}
 use Rattle.plan_laws.specs.{FirstViews.IsRisingView, WholePlaces.LabelsStand, WholePlan.IsOfMember, WholePlan.IsWholeInput, WholeReasonsForeign.PartIsReached}
 use Rattle.plan_laws.specs.{WholeCondition.PartIsBare, WholeWorlds.WorldIsFollowed, WholeWorlds.WorldsAreFollowed}
 use Rattle.plan_laws.proofs.{FirstViews.first_is, ShownRules.all_of}
@@ -128,9 +128,6 @@ module _ (pieces : List Piece) (x : Followed) (facts : List KeptFact) (h : Homes
   whole : IsWholeInput t h n (m ∷ own)
   whole = search (std_rules, tree pieces x facts h label n w given, sources, labels, rise, followed, met, reached)
 
-  world_input : IsWorldInput t h known n m own (tree pieces x facts h label n w given).scope
-  world_input = record { world = w; is = refl; own_ = are; obeys = given.obeys; shows = (tree pieces x facts h label n w given).shows }
-
   pub is_whole : IsWholeWorld pieces t facts h m own
   unfolding whole
   is_whole = record {
@@ -139,7 +136,7 @@ module _ (pieces : List Piece) (x : Followed) (facts : List KeptFact) (h : Homes
     whole = whole;
     planned = whole_may_be_planned t h known n (m ∷ own) (all_trees pieces x facts h label n w given own are) (packaged pieces x facts h label n w given own are) (tt, each_own PartIsBare (λ p v. tt));
     scope = (tree pieces x facts h label n w given).scope;
-    world = world_input;
+    world = record { world = w; is = refl; own_ = are; obeys = given.obeys; shows = (tree pieces x facts h label n w given).shows };
     means = world_means pieces x facts h label n w given;
     meaning = (world_found pieces x facts h label n w given).0;
     found = (world_found pieces x facts h label n w given).1;
