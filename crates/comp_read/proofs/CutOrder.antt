@@ -213,9 +213,7 @@ module _ (pieces : List Piece) (x : Followed) (h : Homes) (ms : List Member) (me
 
   -- an instance of the place of this one, of a scope where it stands
   there_in : (n j : ℕ) (u : NumberedScope) (q : ℕ) → slice_get ws n ≡ Some u → slice_get (scope_places u) j ≡ Some q → (o : NumberedInstance) × IsInstanceAt ws n j o × (o.place ≡ q)
-  there_in n j u q u_at q_at =
-      let o = get_back (λ (i : NumberedInstance). i.place) u.instances j q q_at in
-      (o.0, record { scope = u; at = u_at; instance_at = o.1 }, o.2)
+  there_in n j u q u_at q_at = search (std_rules, get_back)
 
   -- a type of one of them is a type of the other
   told : (n j : ℕ) (i : NumberedInstance) → IsInstanceAt ws n j i → (k l : ℕ) (o : NumberedInstance) → IsInstanceAt ws k l o → i.place ≡ o.place → (y : NumberedType) → Contains i.view.types y

@@ -1,5 +1,5 @@
 -- The places of a beginning among all places, each where it stands first.
-use Rattle.std.proofs.Common.{rules as std_rules, ◌≡◌, refl, sym, ap, subst, ◌∙◌, ℕ, ◌+◌, ◌<◌, ◌≤◌, inl, inr, arith, true, List, [], ◌∷◌, ◌++◌, length, length-append, map, Option, Some, None, slice_get, take, unwrap_or, zero, suc, append_assoc, drop}
+use Rattle.std.proofs.Common.{rules as std_rules, ◌≡◌, refl, sym, ap, subst, ◌∙◌, ℕ, ◌+◌, ◌<◌, ◌≤◌, inl, inr, arith, true, List, [], ◌∷◌, ◌++◌, length, length-append, map, Option, Some, None, slice_get, take, zero, suc, append_assoc, drop}
 use Rattle.std.proofs.lemmas.{Bool.cases_lt, Option.slice_get_within as found_below, Option.same_Some as same-some, List.take-append-drop}
 use Rattle.std.proofs.Math.{ListN.length-map, Seq.take-append_seam}
 use Rattle.std.proofs.lemmas.List.Elements.{Contains-append_cases, Contains-append_left, Contains-append_right}
@@ -13,7 +13,7 @@ use Rattle.plan_meaning.specs.NumberedViews.{NumberedType, Tables, path_at}
 use Rattle.plan_meaning.specs.{NumberedWorlds.NumberedInstance, NumberedWorlds.NumberedScope, NumberedWorlds.NumberedSeen, Shapes.Shape, Shapes.named_shape}
 use Rattle.read_follow.specs.declared.{scopes.Instance.Instance, scopes.Seen.Seen, scopes.Shown.Shown, slots.Slot.Slot, views.ShownType.ShownType}
 use Rattle.read_follow.specs.{Following.IsSlotIn, Following.IsTypeSlot, Functions.FunctionShape, Placed.IsTypeNamed}
-use Rattle.read_follow.specs.Scopes.{IsImportNamed, IsShownAs, IsShownBy, IsStage, World, by_import, by_instance, world_of, instance_in, meant_at, seen_in, world_signatures, world_trees}
+use Rattle.read_follow.specs.Scopes.{IsImportNamed, IsShownAs, IsShownBy, IsStage, World, by_import, by_instance, world_of, meant_at, seen_in, world_signatures, world_trees}
 use Rattle.read_follow.proofs.{DefiningLaws.all_at, DefiningLaws.longer, ComponentLaws.place_in, ComponentLaws.places_are, ComponentLaws.places_before}
 use Rattle.read_follow.proofs.PlacedLaws.{stands_on, stood}
 use Rattle.read_parts.specs.declared.{following.Followed.Followed, members.Member.Member}
@@ -174,10 +174,8 @@ module _ (pieces : List Piece) (x : Followed) (followed : IsFollowed pieces x) (
             → numbered_shown (map instance_view (scope_of y.part).instances.items) u.shown ≡ worlds.declares d
             → slice_get x.table number ≡ Some (named_shape (scope_of y.part).home (numbered_seen x.places (map instance_view (scope_of y.part).instances.items) u).key)
             → StandsBefore m (length then.imports) n j → number < many
-        by y y_at u u_at (shown.Instance key k) e wrong here side =
-            let other : worlds.instance _ _ ≡ worlds.declares d = ap (numbered_shown (map instance_view (scope_of y.part).instances.items)) (sym e) ∙ wrong in absurd cc
-        by y y_at u u_at (shown.Function name k) e wrong here side =
-            let other : worlds.function k ≡ worlds.declares d = ap (numbered_shown (map instance_view (scope_of y.part).instances.items)) (sym e) ∙ wrong in absurd cc
+        by y y_at u u_at (shown.Instance key k) e wrong here side = search std_rules
+        by y y_at u u_at (shown.Function name k) e wrong here side = search std_rules
         by y y_at u u_at (shown.Type name part o) e same here side =
             let part_is = subst (λ (v : Shown). IsImportNamed x.table (scope_of y.part).home v) e
             (all_at (λ (v : Seen). IsImportNamed x.table (scope_of y.part).home v.shown) (scope_of y.part).imports.items j u (followed.followed.placed n y y_at).placed.named u_at) in
@@ -287,15 +285,10 @@ module _ (pieces : List Piece) (x : Followed) (followed : IsFollowed pieces x) (
 
   -- the places of its instances
   taken_places : take (length was.instances) (places_of_scope (numbered_scope x.places (scope_of member.part))) ≡ map (λ (i : Instance). i.place) was.instances
-  taken_places =
-      let grows = (stage pieces x followed placed m raw at member there front back split).instances_grow in
-      let f : Instance → ℕ = λ i. i.place in
-      ap (take (length was.instances)) (map_of_map (λ (i : NumberedInstance). i.place) numbered_instance items ∙ (ap (map f) grows.is ∙ append_of_map f was.instances grows.more))
-      ∙ (ap (λ (n : ℕ). take n (map f was.instances ++ map f grows.more)) (sym (length-map was.instances f)) ∙ take-append_seam (map f was.instances) (map f grows.more))
+  taken_places = search (std_rules, stage, map_of_map, append_of_map, length-map, take-append_seam)
 
   paths_meant : map (λ (i : follow.Instance). i.interface) (meant_at place was).instances ≡ map (path_at (tables_of x)) (map (λ (i : Instance). i.place) was.instances)
-  paths_meant = map_of_map (λ (i : follow.Instance). i.interface) (instance_in place (world_trees place was) (world_signatures place was)) was.instances
-      ∙ ((λ j. map (λ (i : Instance). path_back (unwrap_or (slice_get x.places i.place) None) j) was.instances) ∙ sym (map_of_map (path_at (tables_of x)) (λ (i : Instance). i.place) was.instances))
+  paths_meant = search (std_rules, map_of_map, path_back)
 
   pub cut_of : (scope : follow.Scope) → steps entry_step new_scope front ≡ Some scope → IsCutOf (tables_of x) (scopes_in x) m (numbered_scope x.places (scope_of member.part)) scope
   cut_of scope read =

@@ -60,9 +60,7 @@ module _ (t : Tables) (tables : AreTables t) (kept : List ℕ) (p : Plan) (are :
         among = get-contains olds i old old_at
 
         by : IsPart kept old new → IsNameInside (14 + n) m
-        by (a_primitive small same) =
-            let wrong : None ≡ Some k = sym (ap (λ b. cond b None (Some (new - 14))) (lt-ltb new 14 (omega (arith, small, same)))) ∙ new_is in
-            absurd cc
+        by (a_primitive small same) = search (std_rules, lt-ltb)
         by (a_shape o l from old_kept to) =
             let less : l < j = are.rise l j o n old_kept kept_at (omega (arith, (all_at (λ (q : ℕ). q < 14 + n) olds (parts_before t tables kept p are n form olds at) old among), from)) in
             let there = within_there p.types l (omega (arith, becomes.range, to)) in
@@ -264,9 +262,7 @@ module _ (t : Tables) (tables : AreTables t) where
         where
           by : (o : Option ℕ) → number_for part ≡ o → HasNumber r (tree_at t part) o
           by None e = tt
-          by (Some d) e =
-              let m = number_back part d e in
-              (omega (arith, found_below kept d m.0 m.2, many_types), tree_is m.0 d m.2 ∙ ap (tree_at t) (sym m.1))
+          by (Some d) e = search (std_rules, number_back, found_below, many_types, tree_is)
 
       abbrev found : List (Option ℕ)
       found = map number_for parts

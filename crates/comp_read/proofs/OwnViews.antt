@@ -221,9 +221,7 @@ module _ (t : Tables) (packages : List PackageIdentity) (homes : List (Option (�
 
   pub own_are : (views : List NumberedSight) → views ≡ sights_of_scope t w → (ms : List NumberedMember) → AreOwnAmong (homes_alone homes) n views ms
       → AreOwnInterfaces t (homes_in packages homes) n w ms
-  own_are views same ms are =
-      let here = subst (λ (ss : List NumberedSight). AreOwnAmong (homes_alone homes) n ss ms) same are in
-      record { each = recursion_weaker (IsOwnAmong (homes_alone homes) n (sights_of_scope t w)) (IsOwnInterface t (homes_in packages homes) n w) own_is ms here.each; all = here.all; once = here.once }
+  own_are views same ms are = search (std_rules, recursion_weaker, own_is)
 
   pub own_stand : (views : List NumberedSight) → views ≡ sights_of_scope t w → (ms : List NumberedMember) → AreOwnAmong (homes_alone homes) n views ms → StandAsShown t (homes_in packages homes) n w ms
   own_stand views same ms are = (subst (λ (ss : List NumberedSight). AreOwnAmong (homes_alone homes) n ss ms) same are).order

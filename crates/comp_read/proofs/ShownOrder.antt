@@ -76,8 +76,7 @@ module _ (t : Tables) where
 
         by : (o : Option Text) → path_at t n ≡ o → are_once (rest_of (is_none o)) ≡ true → (are_once (filter (has_no_path t) ns) ≡ true → map (path_at t) (once ns) ≡ once_by_path (map (path_at t) ns))
             → path_at t n ∷ map (path_at t) (filter (λ m. not (m == n)) (once ns)) ≡ once_by_path (o ∷ map (path_at t) ns)
-        by None e alone more = λ i. e i ∷ (ap (map (path_at t)) (none_left n (once ns) (has_once n ns ∙ (pathless n e ns ∙ not-true (has (filter (has_no_path t) ns) n) (first_true _ _ alone))))
-            ∙ more (second_true _ _ alone)) i
+        by None e alone more = search (std_rules, none_left, has_once, pathless, not-true, first_true, second_true)
         by (Some path) e alone more = λ i. e i ∷ (others n path e (once ns) ∙ ap (filter (λ o. not (is_under path o))) (more alone)) i
 
     -- the functions of a path

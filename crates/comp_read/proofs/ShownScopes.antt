@@ -2,17 +2,17 @@
 use Rattle.std.proofs.Common.{rules as std_rules, slice_get, ◌≡◌, refl, sym, ap, subst, ◌∙◌, ℕ, List, [], ◌∷◌, ◌++◌, map, Option, Some}
 use Rattle.std.specs.List.{AllZip, flat_map}
 use Rattle.wit_model.specs.{Text.Text, Names.PackageIdentity, Names.path_in}
-use Rattle.comp_bytes.specs.{Levels.Entry, Levels.PartType, Levels.Piece, Levels.shows, Levels.wraps, Reading.◌>>=◌}
+use Rattle.comp_bytes.specs.{Levels.Entry, Levels.PartType, Levels.Piece, Levels.shows, Levels.wraps}
 use Rattle.comp_bytes.proofs.Readers.{bind_some, when_some}
 use Rattle.comp_meaning.specs.{ByLevels.entry_scope, Follow.Instance, Follow.Scope, Follow.View, Follow.each}
 use Rattle.comp_meaning.specs.Reads.{Member, Part}
 use Rattle.read_shown.specs.{Instances.InstancesAreSeen, Parts.named_instance, Scopes.ScopeStands}
 use Rattle.read_shown.proofs.{ByLevels.entry_scope_stands, Parts.interface_shows}
-use Rattle.plan_meaning.specs.{NumberedMembers.Homes, NumberedMembers.IsMember, NumberedViews.Tables, NumberedViews.path_at}
+use Rattle.plan_meaning.specs.{NumberedMembers.Homes, NumberedViews.Tables, NumberedViews.path_at}
 use Rattle.plan_meaning.specs.NumberedWorlds.{NumberedInstance, NumberedScope, Shows}
 use Rattle.read_exports.specs.declared.members.Member.{Member as KeptMember}
 use Rattle.read_parts.specs.declared.{following.Followed.Followed, members.FollowedPart.FollowedPart, members.Member.Member as FollowedMember}
-use Rattle.read_parts.specs.Followed.{PartScope, interface, labelled_scope, member_of_scope, part_of_scope, part_scope, scopes_of, world, world_path}
+use Rattle.read_parts.specs.Followed.{PartScope, interface, labelled_scope, member_of_scope, part_of_scope, part_scope, scopes_of, world}
 use Rattle.read_parts.specs.Members.{scope_of}
 use Rattle.read_numbers.specs.{NumberedInput.MemberShown, NumberedInput.PartShown, NumberedInput.tables_of, NumberedParts.numbered_scope}
 use Rattle.read_numbers.specs.PlacedNumbers.{scopes_in}
@@ -21,8 +21,6 @@ use Rattle.comp_read.specs.{Order.shown_under, ReadInput.IsReadInput}
 use Rattle.comp_read.proofs.{ByScopes.scopes_found, InterfaceViews.each_beside}
 use Rattle.base_lemmas.proofs.{Bools.left_of as first_true, Bools.right_of as second_true, Lists.append_of_map, Lists.map_of_map}
 use Rattle.base_lemmas.proofs.{Elements.zip_at, Elements.zip_at_right, Elements.zip_each, Lists.one_item, Options.some_is}
-use Rattle.read_members.specs.PartMembers.{IsMemberOf}
-use Rattle.read_exports.specs.Members.{numbered_member}
 use Rattle.read_parts.specs.declared.members.FollowedPart.TheVariants as followed
 
 -- ---- one part
@@ -41,18 +39,11 @@ Stands scope = ScopeStands scope × InstancesAreSeen scope
 -- What holds of each scope of entries holds of the scope of a part.
 module _ (P : Scope → Type 0) (each_holds : (es : List Entry) (scope : Scope) → entry_scope es ≡ Some scope → P scope) where
   part_holds : (a : PartType) (p : PartScope) → part_scope a ≡ Some p → P (meant_scope p)
-  part_holds (wraps es name) p e =
-      let path = bind_some (world_path name) (λ path. entry_scope es >>= λ scope. Some (world path scope)) p e in
-      let scope = bind_some (entry_scope es) (λ scope. Some (world path.0 scope)) p path.2 in
-      subst (λ (q : PartScope). P (meant_scope q)) (some_is (world path.0 scope.0) p scope.2) (each_holds es scope.0 scope.1)
-  part_holds (shows es) p e =
-      let scope = bind_some (entry_scope es) (λ scope. Some (interface scope)) p e in
-      subst (λ (q : PartScope). P (meant_scope q)) (some_is (interface scope.0) p scope.2) (each_holds es scope.0 scope.1)
+  part_holds (wraps es name) p e = search (std_rules, bind_some, some_is)
+  part_holds (shows es) p e = search (std_rules, bind_some, some_is)
 
   pub labelled_holds : (x : Text × PartType) (y : Text × PartScope) → labelled_scope x ≡ Some y → P (meant_scope y.1)
-  labelled_holds x y e =
-      let p = bind_some (part_scope x.1) (λ p. let z : Text × PartScope = (x.0, p) in Some z) y e in
-      subst (λ (z : Text × PartScope). P (meant_scope z.1)) (some_is (x.0, p.0) y p.2) (part_holds x.1 p.0 p.1)
+  labelled_holds x y e = search (std_rules, bind_some, some_is, part_holds)
 
 abbrev member_of : Text → PackageIdentity × Part → Member
 member_of label p = record { label = label; package_ = p.0; part = p.1 }
@@ -133,9 +124,7 @@ module _ (pieces : List Piece) (x : Followed) (h : Homes) (ms : List KeptMember)
       part_named (tables_of x) f.part s.0.1 s.2.1 ∙ (one_paths s.0 z.0 (labelled_holds Stands entry_scope_stands p.0 s.0 p.2) z.2 ∙ ap shown_under (one_item members n z.0 y z.1 y_at))
 
   pub scopes_under : AllZip (λ (w : NumberedScope) (z : Member). map (path_at (tables_of x)) (scope_places w) ≡ shown_under z) (scopes_in x) members
-  scopes_under = zip_of_map (λ (w : NumberedScope) (z : Member). map (path_at (tables_of x)) (scope_places w) ≡ shown_under z) (scope_in (tables_of x)) x.members.items members
-      (zip_each (λ (f : FollowedMember) (z : Member). Unit {0}) (λ (f : FollowedMember) (z : Member). map (path_at (tables_of x)) (scope_places (scope_in (tables_of x) f)) ≡ shown_under z)
-      x.members.items members (chained (IsMemberOf (tables_of x)) (IsMember (tables_of x) h) numbered_member x.members.items ms members input.are input.shown) scope_under)
+  scopes_under = search (std_rules, zip_of_map, zip_each, chained, scope_under)
 
   -- the places of all instances of an input, in order, are those of the paths that its parts show
   pub places_shown_under : map (path_at (tables_of x)) (flat_map scope_places (scopes_in x)) ≡ flat_map shown_under members
