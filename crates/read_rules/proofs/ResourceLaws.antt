@@ -10,9 +10,6 @@ use Rattle.read_rules.specs.{Tables.now_of, Views.numbered_type}
 use Rattle.base_lemmas.proofs.Bools.{absorbed, or_false, or_line}
 use Rattle.wit_model.proofs.TextLemmas.{text_same as same_text}
 
-or_no : (a b : Bool) → b ≡ false → a ≡ (a || b)
-or_no x b e = search std_rules
-
 -- what passes is found where it stands
 stands : (test : Text → Bool) (a : Text) (ks : List (Bor (List ℕ))) → list_any (λ o. text_eq a o.now) ks ≡ true → test a ≡ true → list_any test (map now_of ks) ≡ true
 stands test a [] among passes = absurd (cc)
@@ -20,25 +17,19 @@ stands test a (k ∷ ks) among passes = go (λ later. stands test a ks later pas
   where
     go : (list_any (λ o. text_eq a o.now) ks ≡ true → list_any test (map now_of ks) ≡ true) → (v : Bool) → text_eq a k.now ≡ v → (v || list_any (λ o. text_eq a o.now) ks) ≡ true
         → (test k.now || list_any test (map now_of ks)) ≡ true
-    go again true e h = ap (λ b. b || list_any test (map now_of ks)) (ap test (sym (same_text a k.now e)) ∙ passes)
-    go again false e h = second_of (test k.now) (list_any test (map now_of ks)) (again h)
+    go again x e h = search std_rules
 
 pub nothing_added : (test : Text → Bool) (ks : List (Bor (List ℕ))) (name : Bor (List ℕ)) (r : Bool) → r ≡ false
     → list_any test (map now_of ks) ≡ (list_any test (map now_of ks) || (r && test name.now))
-nothing_added test ks name r e = or_no (list_any test (map now_of ks)) (r && test name.now) (ap (λ b. b && test name.now) e)
+nothing_added test ks name r e = search std_rules
 
 pub name_added : (test : Text → Bool) (ks new : List (Bor (List ℕ))) (name : Bor (List ℕ)) (r : Bool) → r ≡ true → new ≡ cond (list_any (λ o. text_eq name.now o.now) ks) ks (ks ++ name ∷ [])
     → list_any test (map now_of new) ≡ (list_any test (map now_of ks) || (r && test name.now))
 name_added test ks new name r e added = go (list_any (λ o. text_eq name.now o.now) ks) refl ∙ ap (λ b. list_any test (map now_of ks) || (b && test name.now)) (sym e)
   where
     go : (v : Bool) → list_any (λ o. text_eq name.now o.now) ks ≡ v → list_any test (map now_of new) ≡ (list_any test (map now_of ks) || test name.now)
-    go true h =
-        ap (λ xs. list_any test (map now_of xs)) (added ∙ ap (λ b. cond b ks (ks ++ name ∷ [])) h)
-        ∙ absorbed (list_any test (map now_of ks)) (test name.now) (stands test name.now ks h)
-    go false h =
-        ap (λ xs. list_any test (map now_of xs)) (added ∙ ap (λ b. cond b ks (ks ++ name ∷ [])) h)
-        ∙ (ap (list_any test) (map-append now_of ks (name ∷ []))
-        ∙ (list_any-append test (map now_of ks) (name.now ∷ []) ∙ ap (λ b. list_any test (map now_of ks) || b) (or_false (test name.now))))
+    go true h = search (std_rules, absorbed (list_any test (map now_of ks)) (test name.now) (stands test name.now ks h), stands test name.now ks h)
+    go false h = search (std_rules, map-append, list_any-append, or_false)
 
 pub one_or_none : (test : Text → Bool) (name : Text) (others : List Text) (v : Bool) → list_any test (cond v (name ∷ others) others) ≡ ((v && test name) || list_any test others)
 one_or_none test name others x = search std_rules

@@ -27,10 +27,6 @@ seen_behind test (x ∷ xs) s = search (std_rules, one_or_none, or_line, seen_be
 -- ---- imports
 
 module _ (t : Tables) (home : ℕ) where
-  pub same_item : (rs ss : List Text) → AreSame rs ss → (key : Text) (s : NumberedShown)
-      → is_item (numbered_tables t) (known_in t) home rs key s ≡ is_item (numbered_tables t) (known_in t) home ss key s
-  same_item rs ss same key x = search std_rules
-
   module _ (xs : List Seen) (i : ℕ) where
     abbrev before : ℕ → List NumberedSeen
     before n = map numbered_seen (take n xs)
@@ -49,7 +45,7 @@ module _ (t : Tables) (home : ℕ) where
         here : (may_be_imported t home ks (numbered_seen one) && are_imports (numbered_tables t) (known_in t) home (before i ++ numbered_seen one ∷ []) (later (i + 1))) ≡ v
         here =
             ap (λ b. b && are_imports (numbered_tables t) (known_in t) home (before i ++ numbered_seen one ∷ []) (later (i + 1)))
-            (same_item ks (resources_seen (before i)) same one.key.now (numbered_shown one.shown))
+            (search std_rules)
             ∙ (sym (ap (λ ys. are_imports (numbered_tables t) (known_in t) home (before i) (map numbered_seen ys)) (drop_more xs i d more)) ∙ kept)
 
         pub import_fails : may_be_imported t home ks (numbered_seen one) ≡ false → false ≡ v
