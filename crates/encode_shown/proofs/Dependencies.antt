@@ -54,10 +54,7 @@ module _ (r : Resolve) (v : IsValid r) where
   used-path t k path used has_path = let def = given-by (used_interface r) (type_at r t) k used in of-kind def.0 def.1 def.0.kind refl def.2
     where
       of-owner : (a : TypeOwner) (name : Text) → owner_interface a ≡ Some k → Contains (used_by (type_ (named (place_of r a) name))) path
-      of-owner (owner.Interface j) name e =
-          let here : interface_path r j.0 ≡ Some path = ap (interface_path r) (same-some j.0 k e) ∙ has_path in
-          subst (λ o. Contains (used_by (type_ (named (place_of_path o) name))) path) (sym here) (contains-one path)
-      of-owner _ name e = absurd cc
+      of-owner x name e = search std_rules
 
       of-kind : (def : TypeDef) → type_at r t ≡ Some def → (c : TypeDefKind) → def.kind ≡ c
           → option_and_then (λ m. option_and_then (λ (target : TypeDef). owner_interface target.owner) (type_at r m)) (alias_target c) ≡ Some k

@@ -33,8 +33,7 @@ label-behind (p ∷ ps) (b ∷ bs) h = go (label-behind ps bs) (p == b) refl h
   where
     go : (option_map_or is_label (after_prefix ps bs) false ≡ true → is_label_behind ps bs ≡ true) → (v : Bool) → (p == b) ≡ v
         → option_map_or is_label (cond v (after_prefix ps bs) None) false ≡ true → is_label_behind (p ∷ ps) (b ∷ bs) ≡ true
-    go more true e h = ap (λ v. (v && starts_with nat_eq bs ps) && is_label (drop (length ps) bs)) e ∙ more h
-    go more false e h = absurd cc
+    go more x e h = search std_rules
 
 -- ---- signatures
 

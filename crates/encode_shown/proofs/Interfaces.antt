@@ -34,12 +34,9 @@ resource-listed [] t c h = absurd (let l = c.1 in omega (arith, l))
 resource-listed (x ∷ ts) t (Prim.Native.Nat.zero, l, e) h = search std_rules
 resource-listed (x ∷ ts) t (Prim.Native.Nat.suc k, l, e) h = search (std_rules, one-more-resource, resource-listed ts t (k, omega (arith, l), e) h)
 
-itself-declared : (r : Resolve) (k : TypeDefKind) → is_resource_itself k ≡ true → is_resource (declared_by (trees_of r) k) ≡ true
-itself-declared r x h = search std_rules
-
 -- a resource itself is declared as one
 pub resource-declared : (r : Resolve) (n : ℕ) (def : TypeDef) → type_at r n ≡ Some def → is_resource_itself def.kind ≡ true → is_resource (type_meaning_at r n).declaration ≡ true
-resource-declared r n def at h = ap (λ m. is_resource m.declaration) (meaning-there r n def at) ∙ itself-declared r def.kind h
+resource-declared r n def at h = ap (λ m. is_resource m.declaration) (meaning-there r n def at) ∙ (search std_rules)
 
 -- a named type of an owner obeys the rules in the owner's place
 pub named-type-obeys : (r : Resolve) → IsValid r → (o : TypeOwner) → same_owner o owner.None ≡ false → (n : ℕ) (name : Text) → IsNamedType r o n name
