@@ -23,8 +23,7 @@ number-append (k ∷ ks) ls t n h = by (text_eq t k.now) h (number-append ks ls 
   where
     by : (b : Bool) → cond b (Some 0) (option_map suc (number_in ks t)) ≡ Some n → ((m : ℕ) → number_in ks t ≡ Some m → number_in (ks ++ ls) t ≡ Some m)
         → cond b (Some 0) (option_map suc (number_in (ks ++ ls) t)) ≡ Some n
-    by true e later = e
-    by false e later = let w = some_suc (number_in ks t) n e in ap (option_map suc) (later w.0 w.1) ∙ ap Some w.2
+    by x e later = search std_rules
 
 step : (b : Bool) (o : Option ℕ) (m : ℕ) → (b ≡ false → o ≡ Some m) → cond b (Some 0) (option_map suc o) ≡ Some (cond (not b) (1 + m) 0)
 step x o m h = search std_rules
@@ -69,8 +68,7 @@ number_there (k ∷ ks) t n h = by (text_eq t k.now) refl h (number_there ks t)
   where
     by : (b : Bool) → text_eq t k.now ≡ b → cond b (Some 0) (option_map suc (number_in ks t)) ≡ Some n
         → ((m : ℕ) → number_in ks t ≡ Some m → slice_get (map (λ k. k.now) ks) m ≡ Some t) → slice_get (k.now ∷ map (λ k. k.now) ks) n ≡ Some t
-    by true e h later = subst (λ m. slice_get (k.now ∷ map (λ k. k.now) ks) m ≡ Some t) (some_same 0 n h) (ap Some (sym (text_same t k.now e)))
-    by false e h later = let w = some_suc (number_in ks t) n h in subst (λ m. slice_get (k.now ∷ map (λ k. k.now) ks) m ≡ Some t) w.2 (later w.0 w.1)
+    by x e h later = search std_rules
 
 one_text : (ks : BorrowedTexts) (t u : Text) (n : ℕ) → number_in ks t ≡ Some n → number_in ks u ≡ Some n → t ≡ u
 one_text ks t u n h g = some_is t u (sym (number_there ks t n h) ∙ number_there ks u n g)
