@@ -63,16 +63,11 @@ module _ (old : World) (bytes : List ℕ) where
       (ap (λ (p : RawEntry × List ℕ). p.1) same, subst (λ (p : RawEntry × List ℕ). Goes (weight p.0) (λ m. entry_step m p.0) old new) same g)
 
   pub read_stops : (x : RawEntry) (rest : List ℕ) (paths : List (Option Text)) (e : Refusal) → entry_at bytes ≡ Some (x, rest) → Stops (λ m. entry_step m x) old paths e → StopsAt bytes old paths e
-  read_stops x rest paths e is h y behind at =
-      let same : (x, rest) ≡ (y, behind) = some_same (x, rest) (y, behind) (sym is ∙ at) in
-      subst (λ (p : RawEntry × List ℕ). Stops (λ m. entry_step m p.0) old paths e) same h
+  read_stops x rest paths e is h y behind at = subst (λ (p : RawEntry × List ℕ). Stops (λ m. entry_step m p.0) old paths e) (some_same (x, rest) (y, behind) (sym is ∙ at)) h
 
   -- none is there
   pub unread_stops : (paths : List (Option Text)) (e : Refusal) → Refuses e (entry_at bytes) → StopsAt bytes old paths e
-  unread_stops paths e r x behind at place of = refused e (entry_at bytes) (entry_step (meant_at place old) x) (λ none. absurd (not_found (x, behind) (sym none ∙ at))) r
-    where
-      not_found : (found : RawEntry × List ℕ) → None ≡ Some found → ⊥
-      not_found found h = absurd cc
+  unread_stops paths e r x behind at place of = refused e (entry_at bytes) (entry_step (meant_at place old) x) (λ none. absurd ((absurd cc))) r
 
 pub stops_alike : (e other : Refusal) (bytes : List ℕ) (old : World) (paths : List (Option Text)) → AreAlike e other → StopsAt bytes old paths e → StopsAt bytes old paths other
 stops_alike e other bytes old paths a h x behind at place of = alike e other (entry_step (meant_at place old) x) a (h x behind at place of)
@@ -112,8 +107,7 @@ module _ (old : World) (st : IsWorld old) where
       (in_scope (slot_in (shape_trees place more) (functions_in (shape_trees place more) more_fs) s) (meant_at place old)))
       → Goes few step old (with_slots more more_fs ss)
   pushed more more_fs gs gf tables s is over forms few step ss next count counted follows =
-      goes_on old st more more_fs old.paths gs gf (same_list old.paths) tables (s ∷ []) [] [] [] [] few step (with_slots more more_fs ss)
-      (λ i. record {
+      goes_on old st more more_fs old.paths gs gf (same_list old.paths) tables (s ∷ []) [] [] [] [] few step (with_slots more more_fs ss) (λ i. record {
         home = old.home;
         shapes = more;
         signatures = more_fs;
@@ -123,18 +117,13 @@ module _ (old : World) (st : IsWorld old) where
         imports = sym (append-nil old.imports) i;
         exports = sym (append-nil old.exports) i;
         used = sym (append-nil old.used) i;
-      })
-      (extended_world old st more more_fs old.paths gs gf (same_list old.paths) tables (s ∷ []) [] [] [] [] (is, tt) tt tt tt)
-      (λ base places p.
+      }) (extended_world old st more more_fs old.paths gs gf (same_list old.paths) tables (s ∷ []) [] [] [] [] (is, tt) tt tt tt) (λ base places p.
       extended_placed old st more more_fs old.paths gs gf (same_list old.paths) tables (s ∷ []) [] [] [] [] base places (length old.shapes) p [] (length more) (omega arith) (over base places p, tt)
-      (λ j x at past. absurd (none_past old.instances j x at past)) tt tt tt (tt, tt)
-      (λ j x at past. absurd (none_past old.instances j x at past)) (λ n q name low at. inl (forms.names n q name at)) (λ n form parts low at. forms.formed n form parts at) refl
-      (λ j x c at here past. absurd (none_past old.imports j x at past)))
-      (all_before old.paths (old.instances ++ [])) (none_behind (length old.paths) old.paths)
-      (let same = ap (λ us. waiting us 0 (old.slots ++ s ∷ [])) (append-nil old.used) in
+      (λ j x at past. absurd (none_past old.instances j x at past)) tt tt tt (tt, tt) (λ j x at past. absurd (none_past old.instances j x at past))
+      (λ n q name low at. inl (forms.names n q name at)) (λ n form parts low at. forms.formed n form parts at) refl (λ j x c at here past. absurd (none_past old.imports j x at past)))
+      (all_before old.paths (old.instances ++ [])) (none_behind (length old.paths) old.paths) (let same = ap (λ us. waiting us 0 (old.slots ++ s ∷ [])) (append-nil old.used) in
       let push = waiting_push old.used 0 old.slots s in
-      omega (arith, same, push, count))
-      (all_in None (parts_in (s ∷ []))) (slot_numbered old st more more_fs old.paths gs gf (same_list old.paths) tables s [] [] is counted)
+      omega (arith, same, push, count)) (all_in None (parts_in (s ∷ []))) (slot_numbered old st more more_fs old.paths gs gf (same_list old.paths) tables s [] [] is counted)
       (λ place of. follows place of ∙ ap Some (plus_slot (meant_at place old) (slot_in (shape_trees place more) (functions_in (shape_trees place more) more_fs) s)))
 
   names_at : (place : ℕ → Place) → AreNames (world_trees place old) old.slots
@@ -143,16 +132,15 @@ module _ (old : World) (st : IsWorld old) where
   pub defined_goes : (d : DefinedType) (more : List Shape) (ss : List Slot) → IsTable more → IsDefined old.shapes old.slots d more ss
       → Goes 1 (λ m. component_step m (Declaration.defined d)) old (with_slots more old.signatures ss)
   defined_goes d more ss table is =
-      let tables : AreTables (length old.paths) more old.signatures = record {
+      pushed more old.signatures is.grown (same_list old.signatures) (record {
         table = table;
         placed = is.placed (length old.paths) st.tables.placed;
-        signatures = functions_wider (length old.shapes) (length more) old.signatures (longer old.shapes more is.grown) st.tables.signatures;
-      } in
-      pushed more old.signatures is.grown (same_list old.signatures) tables (slots.Value is.part) is.range
+        signatures =
+            functions_wider (length old.shapes) (length more) old.signatures (longer old.shapes more is.grown) st.tables.signatures;
+      }) (slots.Value is.part) is.range
       (λ base places p. definition_over (MayMeet (map has_path old.paths) old.home) (meant_at apart old).slots p.slots d (part_tree (shape_trees apart more) is.part)
       (is.found apart (world_signatures apart old) (names_at apart)))
-      is.forms 1 (λ m. component_step m (Declaration.defined d)) ss is.next
-      (let count = is.count in omega (arith, count)) (length more, is.counted, refl)
+      is.forms 1 (λ m. component_step m (Declaration.defined d)) ss is.next (let count = is.count in omega (arith, count)) (length more, is.counted, refl)
       (λ place of. ap (λ o. o >>= λ t. Some (in_scope (follow.value t) (meant_at place old))) (is.found place (world_signatures place old) (names_at place)))
 
   pub defined_stops : (d : DefinedType) (e : Refusal) → IsUndefined old.shapes old.slots d e → Stops (λ m. component_step m (Declaration.defined d)) old old.paths e
@@ -162,22 +150,18 @@ module _ (old : World) (st : IsWorld old) where
   pub signed_goes : (f : FunctionType) (more_fs : List FunctionShape) (ss : List Slot) → IsDefinedFunction old.signatures old.slots f more_fs ss
       → Goes 1 (λ m. component_step m (Declaration.function f)) old (with_slots old.shapes more_fs ss)
   signed_goes f more_fs ss is =
-      let inside : is.number < length more_fs = found_below more_fs is.number is.shape is.at in
-      let grows = joins_grow old.signatures more_fs is.shape is.joins in
-      let tables : AreTables (length old.paths) old.shapes more_fs = record {
+      pushed old.shapes more_fs (same_list old.shapes) (joins_grow old.signatures more_fs is.shape is.joins)
+      (record {
         table = st.tables.table;
         placed = st.tables.placed;
-        signatures = joins_all (IsFunctionIn (length old.shapes)) old.signatures more_fs is.shape is.joins st.tables.signatures
+        signatures =
+            joins_all (IsFunctionIn (length old.shapes)) old.signatures more_fs is.shape is.joins st.tables.signatures
             (is.ranges (length old.shapes) (ranges_of old.shapes old.signatures old.slots st.slots));
-      } in
-      pushed old.shapes more_fs (same_list old.shapes) grows tables (slots.Function is.number) inside
-      (λ base places p.
+      }) (slots.Function is.number) (found_below more_fs is.number is.shape is.at) (λ base places p.
       subst (λ (s : Signature). SignatureOver (MayMeet (map has_path old.paths) old.home) s)
       (sym (ap (λ o. unwrap_or o no_signature) (mapped_get (signature_in (world_trees apart old)) more_fs is.number is.shape is.at)))
       (signature_over (MayMeet (map has_path old.paths) old.home) (meant_at apart old).slots p.slots f (signature_in (world_trees apart old) is.shape)
-      (is.found (world_trees apart old) (world_signatures apart old))))
-      (no_shapes old.shapes) 1 (λ m. component_step m (Declaration.function f)) ss is.next (omega arith) refl
-      (λ place of.
+      (is.found (world_trees apart old) (world_signatures apart old)))) (no_shapes old.shapes) 1 (λ m. component_step m (Declaration.function f)) ss is.next (omega arith) refl (λ place of.
       ap (λ o. o >>= λ s. Some (in_scope (follow.function s) (meant_at place old))) (is.found (world_trees place old) (world_signatures place old))
       ∙ ap (λ s. Some (in_scope (follow.function s) (meant_at place old)))
       (sym (ap (λ o. unwrap_or o no_signature) (mapped_get (signature_in (world_trees place old)) more_fs is.number is.shape is.at))))
@@ -209,12 +193,10 @@ module _ (old : World) (st : IsWorld old) where
         → StopsAt bytes old old.paths e
     function_stops e h x behind at = by (function_type_at is_async front) refl (sym (function_entry is_async bytes front begins) ∙ at)
       where
-        by : (o : Option (FunctionType × List ℕ)) → function_type_at is_async front ≡ o → entered_as o ≡ Some (x, behind)
-            → Stops (λ m. entry_step m x) old old.paths e
+        by : (o : Option (FunctionType × List ℕ)) → function_type_at is_async front ≡ o → entered_as o ≡ Some (x, behind) → Stops (λ m. entry_step m x) old old.paths e
         by None e s = absurd cc
         by (Some f) is s =
-            let same : (plain (Declaration.function f.0), f.1) ≡ (x, behind) = some_same (plain (Declaration.function f.0), f.1) (x, behind) s in
-            subst (λ (p : RawEntry × List ℕ). Stops (λ m. entry_step m p.0) old old.paths e) same (signed_stops f.0 e (h f.0 f.1 is))
+            subst (λ (p : RawEntry × List ℕ). Stops (λ m. entry_step m p.0) old old.paths e) (some_same (plain (Declaration.function f.0), f.1) (x, behind) s) (signed_stops f.0 e (h f.0 f.1 is))
 
   -- ---- aliases
 
@@ -258,12 +240,10 @@ module _ (old : World) (st : IsWorld old) where
         by : (o : Option Instance) → slice_get old.instances m ≡ o
             → exported_slot name (slice_get (map (instance_in place T F) old.instances) m) ≡ (slot_of_instance old.paths name o >>= λ s. Some (slot_in T F s))
         by None e = ap (exported_slot name) (mapped_none (instance_in place T F) old.instances m e)
-        by (Some x) e =
-            let inside = all_at (IsInstanceIn old.shapes old.signatures old.paths) old.instances m x st.instances e in
-            ap (exported_slot name) (mapped_get (instance_in place T F) old.instances m x e)
+        by (Some x) e = ap (exported_slot name) (mapped_get (instance_in place T F) old.instances m x e)
             ∙ (ap (λ o. o >>= λ slot. provided (has_path (path_of (place x.place))) slot) (found_meant name x.view.types.items)
             ∙ (provided_slot (has_path (path_of (place x.place))) (find_slot name x.view.types.items)
-            ∙ ap (λ b. (find_slot name x.view.types.items >>= λ s. provided b s) >>= λ s. Some (slot_in T F s)) (path_is x.place inside.place)))
+            ∙ ap (λ b. (find_slot name x.view.types.items >>= λ s. provided b s) >>= λ s. Some (slot_in T F s)) (path_is x.place (all_at _ _ m x st.instances e).place)))
 
     alias_meant : (a : Alias) → component_step (meant_at place old) (Declaration.alias_of a) ≡ (taken_from old.paths old.instances a >>= λ s. Some (in_scope (slot_in T F s) (meant_at place old)))
     alias_meant (Alias.of_outer scopes n) = refl
@@ -313,10 +293,9 @@ module _ (old : World) (st : IsWorld old) where
           → SlotOver (MayMeet (map has_path old.paths) old.home) (slot_in (world_trees apart old) (world_signatures apart old) s)
       by None at f = absurd cc
       by (Some x) at f =
-          let inside = all_at (IsInstanceIn old.shapes old.signatures old.paths) old.instances m x st.instances at in
           let k = kept (has_path (unwrap_or (slice_get old.paths x.place) None)) (find_slot name x.view.types.items) f in
           found_over old.shapes st.tables.table old.signatures (MayMeet (map has_path old.paths) old.home) x.place (path_met old.paths old.home x.place (path_marked old.paths x.place k.0))
-          name x.view.types.items inside.types (p.instances m x at).named s k.1
+          name x.view.types.items (all_at (IsInstanceIn old.shapes old.signatures old.paths) old.instances m x st.instances at).types (p.instances m x at).named s k.1
 
   no_wait : (s : Slot) → IsTypeSlot s → waits s ≡ 0
   no_wait (slots.Value part) h = refl
@@ -328,9 +307,8 @@ module _ (old : World) (st : IsWorld old) where
       → Goes 1 (λ m. component_step m (Declaration.alias_of a)) old (with_slots old.shapes old.signatures ss)
   alias_goes a s ss taken next =
       let h = taken_in a s taken in
-      let none = no_wait s h.1 in
       pushed old.shapes old.signatures (same_list old.shapes) (same_list old.signatures) st.tables s h.0 (λ base places p. taken_over base places p a s taken) (no_shapes old.shapes)
-      1 (λ m. component_step m (Declaration.alias_of a)) ss next (omega (arith, none)) (slot_counted old.shapes old.signatures s h.0)
+      1 (λ m. component_step m (Declaration.alias_of a)) ss next (omega (arith, no_wait s h.1)) (slot_counted old.shapes old.signatures s h.0)
       (λ place of. alias_meant place of a ∙ ap (λ o. o >>= λ x. Some (in_scope (slot_in (world_trees place old) (world_signatures place old) x) (meant_at place old))) taken)
 
   pub alias_stops : (a : Alias) (e : Refusal) → Refuses e (taken_from old.paths old.instances a) → Stops (λ m. component_step m (Declaration.alias_of a)) old old.paths e
@@ -344,8 +322,7 @@ module _ (old : World) (st : IsWorld old) where
   held_goes b around ss whole behind next =
       let many = sequence_length held_declaration_at b.count b.bytes.now (items_in held_declaration_at b, []) whole in
       pushed old.shapes old.signatures (same_list old.shapes) (same_list old.signatures) st.tables (slots.Instance b around) whole (λ base places p. tt) (no_shapes old.shapes)
-      (length (items_in held_declaration_at b))
-      (λ m. entry_step m (holds (items_in held_declaration_at b))) ss next (omega (arith, many)) refl
+      (length (items_in held_declaration_at b)) (λ m. entry_step m (holds (items_in held_declaration_at b))) ss next (omega (arith, many)) refl
       (λ place of. ap (λ n. Some (in_scope (follow.instance (items_in held_declaration_at b) n) (meant_at place old)))
       (length-map old.slots (slot_in (world_trees place old) (world_signatures place old)) ∙ sym behind))
 
@@ -422,7 +399,6 @@ module _ (start : World) (b : Body) where
       reached : (next : World) → Goes (weight x) (λ m. entry_step m x) now next → (ys : List RawEntry) → f.es ≡ x ∷ ys → IsStage start.shapes start.home all next (i + 1) next
       reached next g ys same =
           let front = f.stage.front in
-          let one = length-append front (x ∷ []) in
           let long = f.stage.long in
           record {
             world = g.world;
@@ -435,19 +411,15 @@ module _ (start : World) (b : Body) where
             front = front ++ x ∷ [];
             back = ys;
             split = f.behind ∙ (ap (λ zs. front ++ zs) same ∙ sym (append_assoc front (x ∷ []) ys));
-            long = omega (arith, one, long);
-            follows = λ place of.
-                one_step entry_step new_scope front x
-                ∙ (ap (λ o. o >>= λ m. entry_step m x) (f.stage.follows place (places_before now.paths next.paths g.paths_grow place of)) ∙ g.follows place of);
+            long = omega (arith, (length-append front (x ∷ [])), long);
+            follows = λ place of. one_step entry_step new_scope front x ∙ (ap (λ o. o >>= λ m. entry_step m x) (f.stage.follows place (places_before now.paths next.paths g.paths_grow place of))
+                ∙ g.follows place of);
           }
 
       pub followed_on : (next : World) → Goes (weight x) (λ m. entry_step m x) now next → IsFollowedTo start b (i + 1) behind next
       unfolding reached
       followed_on next g =
           let p = peeled entry_at (b.count - (i + 1)) rest f.es left_here x behind at in
-          let before = f.count in
-          let step = g.count in
-          let split = ap weights p.2 in
           record {
             world = g.world;
             shapes_grow = grow_on start.shapes now.shapes next.shapes f.shapes_grow g.shapes_grow;
@@ -458,27 +430,23 @@ module _ (start : World) (b : Body) where
             order = g.order (length start.paths) f.met f.order;
             es = p.0;
             left = p.1;
-            count = omega (arith, before, step, split);
+            count = omega (arith, f.count, g.count, ap weights p.2);
             follows = λ place of. sym (steps_on place (places_before now.paths next.paths g.paths_grow place of) (Some (meant_at place next)) (g.follows place of) p.0 p.2);
             stage = reached next g p.0 p.2;
             behind = (reached next g p.0 p.2).split;
             parts = f.parts ++ g.numbers.parts;
             counted = count_scoped (length start.shapes) f.parts (length now.shapes) g.numbers.parts (length next.shapes) f.counted g.numbers.counted;
             trees = λ place of.
-                let before = places_before now.paths next.paths g.paths_grow place of in
                 let T = world_trees place now in
                 let U = world_trees place next in
                 let along = trees_along (meant_at place next) p.0 in
-                let kept = scoped_grown place now.shapes next.shapes g.shapes_grow f.parts (count_below (length start.shapes) (bare_parts f.parts) (length now.shapes) f.counted) in
-                let one : trees_along (meant_at place now) f.es ≡ scoped_trees U g.numbers.parts ++ along =
-                ap (trees_along (meant_at place now)) p.2
-                ∙ (ap (λ o. option_map_or (λ last. trees_since (meant_at place now) last ++ trees_along last p.0) o []) (g.follows place of)
-                ∙ ap (λ ts. ts ++ along) (g.numbers.trees place of)) in
-                ap (λ ts. ts ++ along) (append_of_map (λ p. (p.0, part_tree U p.1)) f.parts g.numbers.parts ∙ ap (λ ts. ts ++ scoped_trees U g.numbers.parts) kept)
+                ap (λ ts. ts ++ along) (append_of_map _ _ _ ∙ ap (λ ts. ts ++ scoped_trees U g.numbers.parts)
+                (scoped_grown place now.shapes next.shapes g.shapes_grow f.parts (count_below (length start.shapes) (bare_parts f.parts) (length now.shapes) f.counted)))
                 ∙ (append_assoc (scoped_trees T f.parts) (scoped_trees U g.numbers.parts) along
-                ∙ (ap (λ ts. scoped_trees T f.parts ++ ts) (sym one) ∙ f.trees place before));
-            scoped =
-                all_both (λ (p : Option ℕ × ℕ). IsScopedIn next p.0 p.1) f.parts g.numbers.parts
+                ∙ (ap (λ ts. scoped_trees T f.parts ++ ts) (sym (ap (trees_along (meant_at place now)) p.2
+                ∙ (ap (λ o. option_map_or (λ last. trees_since (meant_at place now) last ++ trees_along last p.0) o []) (g.follows place of) ∙ ap (λ ts. ts ++ along) (g.numbers.trees place of))))
+                ∙ f.trees place (places_before now.paths next.paths g.paths_grow place of)));
+            scoped = all_both (λ (p : Option ℕ × ℕ). IsScopedIn next p.0 p.1) f.parts g.numbers.parts
                 (all_still_scoped now next g.shapes_grow g.paths_grow g.home g.instances_grow f.parts (count_below (length start.shapes) (bare_parts f.parts) (length now.shapes) f.counted) f.scoped)
                 (g.numbers.scoped start.shapes start.home (g.placed start.shapes start.home f.placed));
             stages = stages_on start.shapes start.home all now next (weight x) (λ m. entry_step m x) g i f.stages (reached next g p.0 p.2);
@@ -510,14 +478,12 @@ module _ (start : World) (b : Body) where
 
   pub followed_whole : (i : ℕ) (rest : List ℕ) (now : World) → IsFollowedTo start b i rest now → i ≤ b.count → b.count ≤ i → IsFollowedTo start b b.count [] now
   followed_whole i rest now f le ge =
-      let same : i ≡ b.count = omega (arith, le, ge) in
-      let none = none_left entry_at (b.count - i) rest f.es (omega (arith, ge)) f.left in
-      subst (λ (n : ℕ). IsFollowedTo start b n [] now) same (subst (λ (bytes : List ℕ). IsFollowedTo start b i bytes now) none.1 f)
+      subst (λ (n : ℕ). IsFollowedTo start b n [] now) (omega (arith, le, ge))
+      (subst (λ (bytes : List ℕ). IsFollowedTo start b i bytes now) (none_left entry_at (b.count - i) rest f.es (omega (arith, ge)) f.left).1 f)
 
 -- nothing has been followed
 pub followed_none : (home : ℕ) (shapes : List Shape) (fs : List FunctionShape) (paths : List (Option Text)) (b : Body) → AreTables (length paths) shapes fs → slice_get paths home ≡ Some None
-    → HasNoNames home shapes → IsBody entry_at b
-    → (new : World) → new ≡ start_of home shapes fs paths → IsFollowedTo (start_of home shapes fs paths) b 0 b.bytes.now new
+    → HasNoNames home shapes → IsBody entry_at b → (new : World) → new ≡ start_of home shapes fs paths → IsFollowedTo (start_of home shapes fs paths) b 0 b.bytes.now new
 followed_none home shapes fs paths b tables own fresh whole new e = subst (λ (w : World). IsFollowedTo (start_of home shapes fs paths) b 0 b.bytes.now w) (sym e) (record {
   world = world;
   shapes_grow = same_list shapes;
@@ -595,13 +561,10 @@ settled_meant T F used n (slots.Instance b around ∷ ss) h = ap (λ v. list_any
 
 module _ (home : ℕ) (shapes : List Shape) (fs : List FunctionShape) (before paths : List (Option Text)) (own : paths ≡ before ++ None ∷ []) (new_home : home ≡ length before) (b : Body) (now : World) (f : IsFollowedTo (start_of home shapes fs paths) b b.count [] now) where
   steps_end : (place : ℕ → Place) → ArePlacesOf now.paths place → steps entry_step new_scope (items_in entry_at b) ≡ Some (meant_at place now)
-  steps_end place of =
-      let none = none_left entry_at (b.count - b.count) [] f.es (omega arith) f.left in
-      sym (f.follows place of) ∙ ap (steps entry_step (meant_at place now)) none.0
+  steps_end place of = sym (f.follows place of) ∙ ap (steps entry_step (meant_at place now)) (none_left entry_at (b.count - b.count) [] f.es (omega arith) f.left).0
 
   scope_is : (place : ℕ → Place) → ArePlacesOf now.paths place → (v : Bool) → are_settled now.used 0 now.slots ≡ v → entry_scope (items_in entry_at b) ≡ provided v (meant_at place now)
-  scope_is place of v e =
-      ap (λ o. o >>= λ scope. provided (all_used scope.used 0 scope.slots) scope) (steps_end place of)
+  scope_is place of v e = ap (λ o. o >>= λ scope. provided (all_used scope.used 0 scope.slots) scope) (steps_end place of)
       ∙ ap (λ w. provided w (meant_at place now))
       (settled_meant (world_trees place now) (world_signatures place now) now.used 0 now.slots (names_of place now.shapes now.signatures now.slots f.world.tables.table f.world.slots) ∙ e)
 
@@ -618,10 +581,7 @@ module _ (home : ℕ) (shapes : List Shape) (fs : List FunctionShape) (before pa
     paths_grow = grow_on before paths now.paths (record { more = None ∷ []; is = own }) f.paths_grow;
     count = (let count = f.count in omega (arith, count));
     placed = subst (λ (n : ℕ). IsPlacedWorld shapes n now) new_home f.placed;
-    met = λ q path at. elim (f.met q path at) [
-      | inl below ↦ inl (below_pathless before paths own q path (stood paths now.paths f.paths_grow q (Some path) below at))
-      | inr met ↦ inr met
-    ];
+    met = λ q path at. elim (f.met q path at) [ inl below ↦ inl (below_pathless before paths own q path (stood paths now.paths f.paths_grow q (Some path) below at)) | inr met ↦ inr met ];
     order = λ j x at q path there less. elim (f.order j x at q path there less) [
       | inl below ↦ inl (below_pathless before paths own q path (stood paths now.paths f.paths_grow q (Some path) below there))
       | inr met ↦ inr met

@@ -36,13 +36,10 @@ unfolding sequence_at held_declaration_at
 held_sequence zero bytes = refl
 held_sequence (suc n) bytes = by_first n (held_sequence n) (declaration_at bytes)
 
-by_count : (o : Option (ℕ × List ℕ)) → free (o >>= λ n. sequence_at declaration_at n.0 n.1) ≡ (o >>= λ n. sequence_at held_declaration_at n.0 n.1)
-by_count x = search (std_rules, held_sequence)
-
 -- the declarations of an instance type behind their number
 pub held_behind : (bytes : List ℕ) (o : Option (ℕ × List ℕ)) → u32_at bytes ≡ o → held_at bytes ≡ (o >>= λ n. sequence_at held_declaration_at n.0 n.1)
 unfolding held_at vector_at
-held_behind bytes o e = by_count (u32_at bytes) ∙ ap (λ p. p >>= λ n. sequence_at held_declaration_at n.0 n.1) e
+held_behind bytes o e = (search (std_rules, held_sequence)) ∙ ap (λ p. p >>= λ n. sequence_at held_declaration_at n.0 n.1) e
 
 -- what spells a declaration of an instance type
 abbrev pub IsHeld : Declaration → Spellings

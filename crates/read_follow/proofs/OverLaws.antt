@@ -62,8 +62,7 @@ module _ (P : Place → Type 0) where
         by : (o : Option Meant) → slice_get slots n ≡ o → resource_in o ≡ Some t → AllByRecursion (TreeOver P) (t ∷ [])
         by None at h = absurd cc
         by (Some (value u)) at h = absurd cc
-        by (Some (resource place name)) at h = subst (λ u. AllByRecursion (TreeOver P) (u ∷ [])) (some_is (Tree.named place name) t h)
-            (name_over place name (all_at (SlotOver P) slots n (resource place name) all at), tt)
+        by (Some (resource place name)) at h = subst (λ u. AllByRecursion (TreeOver P) (u ∷ [])) (some_is _ t h) (name_over place name (all_at _ _ n (resource place name) all at), tt)
         by (Some (function f)) at h = absurd cc
         by (Some (instance ds around)) at h = absurd cc
 
@@ -90,31 +89,24 @@ module _ (P : Place → Type 0) where
     definition_over (DefinedType.primitive p) t e = subst (TreeOver P) (some_is (Tree.primitive (primitive_of_type p)) t e) (λ x c. absurd (none_in x c))
     definition_over (DefinedType.record_of fields) t e =
         let b = bind_some (each (field_type slots) fields) (λ fs. provided (is_filled fields) (tree.record_tree fs)) t e in
-        let w = when_some (is_filled fields) (Some (tree.record_tree b.0)) t b.2 in
-        subst (TreeOver P) (some_is (tree.record_tree b.0) t w.1)
+        subst (TreeOver P) (some_is (tree.record_tree b.0) t (when_some (is_filled fields) (Some (tree.record_tree b.0)) t b.2).1)
         (parts_over (map (λ f. f.1) b.0) (seconds (TreeOver P) b.0 (each_over (field_type slots) (λ (f : Text × Tree). TreeOver P f.1) field_over fields b.0 b.1)))
     definition_over (DefinedType.variant_of cases) t e =
         let b = bind_some (each (case_type slots) cases) (λ cs. provided (is_filled cases) (tree.variant_tree cs)) t e in
-        let w = when_some (is_filled cases) (Some (tree.variant_tree b.0)) t b.2 in
-        subst (TreeOver P) (some_is (tree.variant_tree b.0) t w.1)
+        subst (TreeOver P) (some_is (tree.variant_tree b.0) t (when_some (is_filled cases) (Some (tree.variant_tree b.0)) t b.2).1)
         (given_parts (map (λ c. c.1) b.0) (seconds (λ o. IfSome o (TreeOver P)) b.0 (each_over (case_type slots) (λ (c : Text × Option Tree). IfSome c.1 (TreeOver P)) case_over cases b.0 b.1)))
     definition_over (DefinedType.list_of v) t e =
         let b = bind_some (value_type slots v) (λ u. Some (tree.list_tree u)) t e in
         subst (TreeOver P) (some_is (tree.list_tree b.0) t b.2) (parts_over (b.0 ∷ []) (type_over v b.0 b.1, tt))
     definition_over (DefinedType.fixed_length_list_of v n) t e =
         let b = bind_some (value_type slots v) (λ u. provided (nat_le 1 n) (tree.fixed_list_tree u n)) t e in
-        let w = when_some (nat_le 1 n) (Some (tree.fixed_list_tree b.0 n)) t b.2 in
-        subst (TreeOver P) (some_is (tree.fixed_list_tree b.0 n) t w.1) (parts_over (b.0 ∷ []) (type_over v b.0 b.1, tt))
+        subst (TreeOver P) (some_is (tree.fixed_list_tree b.0 n) t (when_some (nat_le 1 n) (Some (tree.fixed_list_tree b.0 n)) t b.2).1) (parts_over (b.0 ∷ []) (type_over v b.0 b.1, tt))
     definition_over (DefinedType.tuple_of vs) t e =
         let b = bind_some (each (value_type slots) vs) (λ ts. provided (is_filled vs) (tree.tuple_tree ts)) t e in
         let w = when_some (is_filled vs) (Some (tree.tuple_tree b.0)) t b.2 in
         subst (TreeOver P) (some_is (tree.tuple_tree b.0) t w.1) (parts_over b.0 (each_over (value_type slots) (TreeOver P) type_over vs b.0 b.1))
-    definition_over (DefinedType.flags_of names) t e =
-        let w = when_some (is_filled names) (Some (tree.flags_tree names)) t e in
-        subst (TreeOver P) (some_is (tree.flags_tree names) t w.1) (parts_over [] tt)
-    definition_over (DefinedType.enum_of names) t e =
-        let w = when_some (is_filled names) (Some (tree.enum_tree names)) t e in
-        subst (TreeOver P) (some_is (tree.enum_tree names) t w.1) (parts_over [] tt)
+    definition_over (DefinedType.flags_of names) t e = subst (TreeOver P) (some_is (tree.flags_tree names) t (when_some (is_filled names) (Some (tree.flags_tree names)) t e).1) (parts_over [] tt)
+    definition_over (DefinedType.enum_of names) t e = subst (TreeOver P) (some_is (tree.enum_tree names) t (when_some (is_filled names) (Some (tree.enum_tree names)) t e).1) (parts_over [] tt)
     definition_over (DefinedType.option_of v) t e =
         let b = bind_some (value_type slots v) (λ u. Some (tree.option_tree u)) t e in
         subst (TreeOver P) (some_is (tree.option_tree b.0) t b.2) (parts_over (b.0 ∷ []) (type_over v b.0 b.1, tt))
@@ -142,12 +134,9 @@ module _ (P : Place → Type 0) where
 
     pub signature_over : (f : FunctionType) (s : Signature) → function_signature slots f ≡ Some s → SignatureOver P s
     signature_over f s e =
-        let ps = bind_some (each (field_type slots) f.parameters) (λ ps. given (value_type slots) f.result_type >>= λ r. Some (record { is_async = f.is_async; params = ps; result = r })) s e in
-        let r = bind_some (given (value_type slots) f.result_type) (λ r. Some (record { is_async = f.is_async; params = ps.0; result = r })) s ps.2 in
-        subst (SignatureOver P) (some_is (record { is_async = f.is_async; params = ps.0; result = r.0 }) s r.2) (
-          each_over (field_type slots) (λ (p : Text × Tree). TreeOver P p.1) field_over f.parameters ps.0 ps.1,
-          optional_over f.result_type r.0 r.1,
-        )
+        let ps = bind_some _ _ s e in
+        let r = bind_some _ _ s ps.2 in
+        subst (SignatureOver P) (some_is _ s r.2) (each_over (field_type slots) (λ (p : Text × Tree). TreeOver P p.1) field_over f.parameters ps.0 ps.1, optional_over f.result_type r.0 r.1)
 
     -- ---- imports and exports of types
 

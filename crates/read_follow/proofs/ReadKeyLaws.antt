@@ -130,31 +130,26 @@ module _ (T : List Tree) (slots : List Meant) (is_async : Bool) (bytes : List �
   meant_params [] = refl
   meant_params (p ∷ ps) = ap (λ rest. param_meant T p ∷ rest) (meant_params ps)
 
-  pub key_found : (k : FunctionKey) (behind rest : List ℕ) → k.is_async ≡ is_async
-      → vector_at (made_at (field_type slots) field_at) bytes ≡ Some (map (param_meant T) k.params.items, behind)
+  pub key_found : (k : FunctionKey) (behind rest : List ℕ) → k.is_async ≡ is_async → vector_at (made_at (field_type slots) field_at) bytes ≡ Some (map (param_meant T) k.params.items, behind)
       → made_at (given (value_type slots)) result_list_at behind ≡ Some (option_map (part_tree T) k.result, rest)
       → made_at (function_signature slots) (function_type_at is_async) bytes ≡ Some (signature_in T (function_shape k), rest)
   unfolding signature_in
-  key_found k behind rest kind ps r =
-      function_made slots is_async bytes
-      ∙ (ap (with_outcome slots is_async) ps
-      ∙ (ap (ended_by slots is_async (map (param_meant T) k.params.items)) r
+  key_found k behind rest kind ps r = function_made slots is_async bytes
+      ∙ (ap (with_outcome slots is_async) ps ∙ (ap (ended_by slots is_async (map (param_meant T) k.params.items)) r
       ∙ (λ i. Some (record { is_async = sym kind i; params = meant_params k.params.items i; result = option_map (part_tree T) k.result }, rest))))
 
   pub no_key : vector_at (made_at (field_type slots) field_at) bytes ≡ None → made_at (function_signature slots) (function_type_at is_async) bytes ≡ None
   no_key e = function_made slots is_async bytes ∙ ap (with_outcome slots is_async) e
 
   pub no_end : (ps : List (Bor (List ℕ) × ℕ)) (behind : List ℕ) → vector_at (made_at (field_type slots) field_at) bytes ≡ Some (map (param_meant T) ps, behind)
-      → made_at (given (value_type slots)) result_list_at behind ≡ None
-      → made_at (function_signature slots) (function_type_at is_async) bytes ≡ None
+      → made_at (given (value_type slots)) result_list_at behind ≡ None → made_at (function_signature slots) (function_type_at is_async) bytes ≡ None
   no_end ps behind e none = function_made slots is_async bytes ∙ (ap (with_outcome slots is_async) e ∙ ap (ended_by slots is_async (map (param_meant T) ps)) none)
 
 -- ---- the type that is in front
 
 module _ (slots : List Meant) (is_async : Bool) (bytes : List ℕ) (f : FunctionType) (behind : List ℕ) (at : function_type_at is_async bytes ≡ Some (f, behind)) where
   -- what was found is what it stands for, and what is behind it
-  pub signature_read : (s : Signature) (rest : List ℕ) → made_at (function_signature slots) (function_type_at is_async) bytes ≡ Some (s, rest)
-      → (function_signature slots f ≡ Some s) × (rest ≡ behind)
+  pub signature_read : (s : Signature) (rest : List ℕ) → made_at (function_signature slots) (function_type_at is_async) bytes ≡ Some (s, rest) → (function_signature slots f ≡ Some s) × (rest ≡ behind)
   signature_read s rest e = by (function_signature slots f) (sym (made_on (function_signature slots) (function_type_at is_async) bytes f behind at) ∙ e)
     where
       by : (o : Option Signature) → followed_by behind o ≡ Some (s, rest) → (o ≡ Some s) × (rest ≡ behind)

@@ -21,9 +21,6 @@ use Rattle.read_follow.specs.declared.slots.Slot.TheVariants as slots
 
 -- ---- what is well-formed stays so
 
-key_wider : (paths more : List (Option (List ℕ))) → Grows paths more → (k : InstanceKey) → IsKeyIn paths k → IsKeyIn more k
-key_wider paths more g k h = search (std_rules, slice_front, found_below)
-
 -- what a scope stands for, with these more
 abbrev pub plus : MeantScope → List Meant → List MeantInstance → List MeantSeen → List MeantSeen → List ℕ → MeantScope
 plus m ss is im ex us = record { slots = m.slots ++ ss; instances = m.instances ++ is; imports = m.imports ++ im; exports = m.exports ++ ex; used = m.used ++ us }
@@ -60,8 +57,7 @@ all_before paths is q path at = inl (found_below paths q (Some path) at)
 
 -- places that were met, and more of them
 pub paths_met : (old more : List (Option (List ℕ))) → Grows old more → (is all : List Instance) → Grows is all
-    → ((q : ℕ) (path : List ℕ) → slice_get more q ≡ Some (Some path) → (q < length old) ⊎ IsPlaceMet all q)
-    → (before : ℕ) → ArePathsMet before old is → ArePathsMet before more all
+    → ((q : ℕ) (path : List ℕ) → slice_get more q ≡ Some (Some path) → (q < length old) ⊎ IsPlaceMet all q) → (before : ℕ) → ArePathsMet before old is → ArePathsMet before more all
 paths_met old more gp is all gi new before h q path at = elim (new q path at) [
   | inl below ↦ elim (h q path (stood old more gp q (Some path) below at)) [ inl first ↦ inl first | inr met ↦ inr (met_still is all gi q met) ]
   | inr met ↦ inr met
@@ -131,7 +127,7 @@ module _ (old : World) (st : IsWorld old) (more : List Shape) (more_fs : List Fu
   more_instances = let long = length-append old.instances xs in omega (arith, long)
 
   wider_shown : (s : Shown) → IsShownAs old.shapes old.signatures old.paths (length old.instances) s → IsShownAs more more_fs more_paths (length (old.instances ++ xs)) s
-  wider_shown (shown.Instance key n) h = (key_wider old.paths more_paths gp key h.0, (let below = h.1 in let long = more_instances in omega (arith, below, long)))
+  wider_shown (shown.Instance key n) h = ((search (std_rules, slice_front, found_below)), (let below = h.1 in let long = more_instances in omega (arith, below, long)))
   wider_shown (shown.Function name f) h = wider_number m old.shapes more old.signatures more_fs st.tables gs gf f h
   wider_shown (shown.Type name part d) h = (wider_part m old.shapes more old.signatures more_fs st.tables gs gf part h.0, wider_declared m old.shapes more old.signatures more_fs st.tables gs gf d h.1)
 
@@ -178,11 +174,8 @@ module _ (old : World) (st : IsWorld old) (more : List Shape) (more_fs : List Fu
     viewed_same None n e = refl
     viewed_same (Some x) n e = let h = all_at (IsInstanceIn old.shapes old.signatures old.paths) old.instances n x st.instances e in view_stays x.view h.types h.functions
 
-    viewed_stays : (n : ℕ) → n < length old.instances → viewed U G (slice_get (old.instances ++ xs) n) ≡ viewed T F (slice_get old.instances n)
-    viewed_stays n below = ap (viewed U G) (slice_front old.instances xs n below) ∙ viewed_same (slice_get old.instances n) n refl
-
     shown_stays : (s : Shown) → IsShownAs old.shapes old.signatures old.paths (length old.instances) s → shown_in place U G (old.instances ++ xs) s ≡ shown_in place T F old.instances s
-    shown_stays (shown.Instance key n) h = ap (MeantShown.instance (key_at place key)) (viewed_stays n h.1)
+    shown_stays (shown.Instance key n) h = ap (MeantShown.instance (key_at place key)) ((ap (viewed U G) (slice_front old.instances xs n h.1) ∙ viewed_same (slice_get old.instances n) n refl))
     shown_stays (shown.Function name f) h = ap (λ o. MeantShown.function (unwrap_or o no_signature)) (signature_stays m old.shapes more old.signatures more_fs st.tables gs gf place f h)
     shown_stays (shown.Type name part d) h = ap MeantShown.declares (declared_stays m old.shapes more old.signatures more_fs st.tables gs gf place d h.1)
 
@@ -216,8 +209,7 @@ module _ (old : World) (st : IsWorld old) (more : List Shape) (more_fs : List Fu
   IsNumbered parts = CountUp (length old.shapes) (bare_parts parts) (length more)
       × ((place : ℕ → Place) → ArePlacesOf more_paths place
       → all_in None (flat_map slot_trees (slots_in (U place) (G place) ss))
-      ++ used_trees (slots_in (U place) (G place) (old.slots ++ ss)) (length old.instances) (map (instance_in place (U place) (G place)) xs) us
-      ≡ scoped_trees (U place) parts)
+      ++ used_trees (slots_in (U place) (G place) (old.slots ++ ss)) (length old.instances) (map (instance_in place (U place) (G place)) xs) us ≡ scoped_trees (U place) parts)
       × ((base : List Shape) (places : ℕ) → IsPlacedWorld base places extended → AreScopedIn extended parts)
 
   numbers_on : (parts : List (Option ℕ × ℕ)) → IsNumbered parts → Numbers old extended
@@ -227,24 +219,20 @@ module _ (old : World) (st : IsWorld old) (more : List Shape) (more_fs : List Fu
     trees = λ place of.
         let S = slots_in (U place) (G place) ss in
         let X = map (instance_in place (U place) (G place)) xs in
-        ap (trees_since (meant_at place old)) (extended_meant place)
-        ∙ (since_plus (meant_at place old) S X (map (seen_in place (U place) (G place) (old.instances ++ xs)) im) (map (seen_in place (U place) (G place) (old.instances ++ xs)) ex) us
-        ∙ ((λ i. all_in None (flat_map slot_trees S) ++ used_trees (sym (slots_plus place) i) (length_of_map (instance_in place (T place) (F place)) old.instances i) X us)
-        ∙ is.1 place of));
+        ap (trees_since (meant_at place old)) (extended_meant place) ∙ (since_plus (meant_at place old) S X (map (seen_in place (U place) (G place) (old.instances ++ xs)) im)
+        (map (seen_in place (U place) (G place) (old.instances ++ xs)) ex) us
+        ∙ ((λ i. all_in None (flat_map slot_trees S) ++ used_trees (sym (slots_plus place) i) (length_of_map (instance_in place (T place) (F place)) old.instances i) X us) ∙ is.1 place of));
     scoped = is.2;
   }
 
   -- the step of the definition makes the scope that stands for it
   pub goes_on : (few : ℕ) (step : MeantScope → Option MeantScope) (new : World) → new ≡ extended → IsWorld extended
       → ((base : List Shape) (places : ℕ) → IsPlacedWorld base places old → IsPlacedWorld base places extended)
-      → ((q : ℕ) (path : List ℕ) → slice_get more_paths q ≡ Some (Some path) → (q < length old.paths) ⊎ IsPlaceMet (old.instances ++ xs) q)
-      → StandBehind (length old.paths) more_paths xs
-      → length more + waiting (old.used ++ us) 0 (old.slots ++ ss) ≤ length old.shapes + waiting old.used 0 old.slots + few
-      → (parts : List (Option ℕ × ℕ)) → IsNumbered parts
+      → ((q : ℕ) (path : List ℕ) → slice_get more_paths q ≡ Some (Some path) → (q < length old.paths) ⊎ IsPlaceMet (old.instances ++ xs) q) → StandBehind (length old.paths) more_paths xs
+      → length more + waiting (old.used ++ us) 0 (old.slots ++ ss) ≤ length old.shapes + waiting old.used 0 old.slots + few → (parts : List (Option ℕ × ℕ)) → IsNumbered parts
       → ((place : ℕ → Place) → ArePlacesOf more_paths place
       → step (meant_at place old) ≡ Some (plus (meant_at place old) (slots_in (U place) (G place) ss) (map (instance_in place (U place) (G place)) xs)
-      (map (seen_in place (U place) (G place) (old.instances ++ xs)) im) (map (seen_in place (U place) (G place) (old.instances ++ xs)) ex) us))
-      → Goes few step old new
+      (map (seen_in place (U place) (G place) (old.instances ++ xs)) im) (map (seen_in place (U place) (G place) (old.instances ++ xs)) ex) us)) → Goes few step old new
   goes_on few step new e world placed met behind count parts numbered follows = subst (λ (w : World). Goes few step old w) (sym e) (record {
     world = world;
     shapes_grow = gs;
@@ -253,8 +241,7 @@ module _ (old : World) (st : IsWorld old) (more : List Shape) (more_fs : List Fu
     count = count;
     placed = placed;
     met = paths_met old.paths more_paths gp old.instances (old.instances ++ xs) (record { more = xs; is = refl }) met;
-    order = λ before was. paths_in_order old.paths more_paths gp old.instances xs (λ j x at. (all_at (IsInstanceIn old.shapes old.signatures old.paths) old.instances j x st.instances at).place)
-        behind before was;
+    order = λ before was. paths_in_order old.paths more_paths gp old.instances xs (λ j x at. (all_at _ _ j x st.instances at).place) behind before was;
     numbers = numbers_on parts numbered;
     home = refl;
     instances_grow = record { more = xs; is = refl };
@@ -308,11 +295,13 @@ waiting_used used zero n (x ∷ ss) s at unused = here x (let same : x ≡ s = c
     here (slots.Resource part) e = let none = ap waits (sym e) in let rest = waiting_fewer used (n + 0) (suc n) ss in omega (arith, none, rest)
     here (slots.Function f) e = let none = ap waits (sym e) in let rest = waiting_fewer used (n + 0) (suc n) ss in omega (arith, none, rest)
     here (slots.Instance b around) e =
-        let count = ap waits (sym e) in
-        let rest = waiting_fewer used (n + 0) (suc n) ss in
-        let now = ap (λ u. cond u 0 b.count) (any_more used (n + 0) n ∙ (ap (λ u. list_any (λ m. m == n) used || u) (eq-eqb (n + 0) n zeroth) ∙ last (list_any (λ m. m == n) used))) in
-        let before = ap (λ u. cond u 0 b.count) (ap (λ j. list_any (λ m. m == j) used) (sym zeroth) ∙ unused) in
-        omega (arith, count, rest, now, before)
+        omega (
+          arith,
+          ap waits (sym e),
+          (waiting_fewer used (n + 0) (suc n) ss),
+          (ap (λ u. cond u 0 b.count) (any_more used (n + 0) n ∙ (ap (λ u. list_any (λ m. m == n) used || u) (eq-eqb (n + 0) n zeroth) ∙ last (list_any (λ m. m == n) used)))),
+          (ap (λ u. cond u 0 b.count) (ap (λ j. list_any (λ m. m == j) used) (sym zeroth) ∙ unused)),
+        )
       where
         last : (u : Bool) → (u || true) ≡ true
         last true = refl
@@ -329,7 +318,4 @@ waiting_used used (suc k) n (x ∷ ss) s at unused = there x (waiting_used used 
         by (slots.Value part) h = h
         by (slots.Resource part) h = h
         by (slots.Function f) h = h
-        by (slots.Instance b around) h =
-            let same = ap (λ u. cond u 0 b.count) (any_more used (n + suc k) n) in
-            let less = fewer (list_any (λ j. j == n) used) ((n + suc k) == n) b.count in
-            omega (arith, h, same, less)
+        by (slots.Instance b around) h = omega (arith, h, (ap (λ u. cond u 0 b.count) (any_more used (n + suc k) n)), (fewer (list_any (λ j. j == n) used) ((n + suc k) == n) b.count))
