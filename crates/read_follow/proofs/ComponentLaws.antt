@@ -1,5 +1,5 @@
 -- One entry of a component type after the other.
-use Rattle.std.proofs.Common.{◌≡◌, inl, inr, refl, sym, ap, ◌∙◌, subst, ℕ, zero, suc, ◌+◌, ◌-◌, ◌<◌, ◌≤◌, ◌==◌, ◌&&◌, arith, Bool, true, false, cond, List, [], ◌∷◌, ◌++◌, map, append_assoc, length, length-append, Option, Some, None, slice_get, unwrap_or}
+use Rattle.std.proofs.Common.{rules as std_rules, ◌≡◌, inl, inr, refl, sym, ap, ◌∙◌, subst, ℕ, zero, suc, ◌+◌, ◌-◌, ◌<◌, ◌≤◌, ◌==◌, ◌&&◌, arith, Bool, true, false, cond, List, [], ◌∷◌, ◌++◌, map, append_assoc, length, length-append, Option, Some, None, slice_get, unwrap_or}
 use Rattle.std.proofs.{Math.ListN.length-map, lemmas.List.append-nil, lemmas.Option.same_Some as some_same, lemmas.Option.slice_get_within as found_below}
 use Rattle.std.proofs.lemmas.Bool.{cases_lt}
 use Rattle.std.specs.{List.AllByRecursion, List.list_any, Option.option_map_or}
@@ -25,30 +25,16 @@ use Rattle.read_follow.proofs.{NumberingLaws.count_below, NumberingLaws.count_sc
 use Rattle.read_follow.proofs.{ReadKeyLaws.entered_as, ReadKeyLaws.function_entry, SectionLaws.alike}
 use Rattle.read_follow.proofs.{OverLaws.definition_over, OverLaws.signature_over, PlaceLaws.below_pathless, Refusing.refused, SlotLaws.mapped_none}
 use Rattle.read_follow.proofs.PlacedScopes.{extended_placed, found_over, none_past, path_marked, path_met}
-use Rattle.read_follow.proofs.ScopeLaws.{all_before, extended_world, goes_on, none_behind, plus_slot, waiting_push, waits}
+use Rattle.read_follow.proofs.ScopeLaws.{all_before, extended_world, goes_on, none_behind, plus_slot, waiting_push, waits, world_with}
 use Rattle.read_follow.proofs.StepLaws.{after_first, grow_on, guarded, headed, none_left, none_less, peeled, sequence_more, unread}
-use Rattle.base_lemmas.proofs.{Elements.all_both, Lists.append_of_map, Lists.mapped_get, Lists.slice_front, Numbers.less}
+use Rattle.base_lemmas.proofs.{Elements.all_both, Lists.append_of_map, Lists.mapped_get, Lists.slice_front, Lists.within_there as slice_there, Numbers.less}
 use Rattle.comp_meaning.specs.Follow as follow
 use Rattle.read_follow.specs.declared.slots.Slot.TheVariants as slots
 
 -- ---- the same step in other words
 
 pub goes_as : (few : ℕ) (f g : MeantScope → Option MeantScope) (old new : World) → ((m : MeantScope) → g m ≡ f m) → Goes few f old new → Goes few g old new
-goes_as few f g old new same s = record {
-  world = s.world;
-  shapes_grow = s.shapes_grow;
-  signatures_grow = s.signatures_grow;
-  paths_grow = s.paths_grow;
-  count = s.count;
-  placed = s.placed;
-  met = s.met;
-  order = s.order;
-  numbers = s.numbers;
-  home = s.home;
-  instances_grow = s.instances_grow;
-  imports_grow = s.imports_grow;
-  follows = λ place of. same (meant_at place old) ∙ s.follows place of;
-}
+goes_as few f g old new same s = subst (λ (h : MeantScope → Option MeantScope). Goes few h old new) (λ i m. sym (same m) i) s
 
 pub stops_as : (f g : MeantScope → Option MeantScope) (old : World) (paths : List (Option Text)) (e : Refusal) → ((m : MeantScope) → g m ≡ f m) → Stops f old paths e → Stops g old paths e
 stops_as f g old paths e same h place of = refused e (f (meant_at place old)) (g (meant_at place old)) (λ none. same (meant_at place old) ∙ none) (h place of)
@@ -107,17 +93,9 @@ module _ (old : World) (st : IsWorld old) where
       (in_scope (slot_in (shape_trees place more) (functions_in (shape_trees place more) more_fs) s) (meant_at place old)))
       → Goes few step old (with_slots more more_fs ss)
   pushed more more_fs gs gf tables s is over forms few step ss next count counted follows =
-      goes_on old st more more_fs old.paths gs gf (same_list old.paths) tables (s ∷ []) [] [] [] [] few step (with_slots more more_fs ss) (λ i. record {
-        home = old.home;
-        shapes = more;
-        signatures = more_fs;
-        paths = old.paths;
-        slots = next i;
-        instances = sym (append-nil old.instances) i;
-        imports = sym (append-nil old.imports) i;
-        exports = sym (append-nil old.exports) i;
-        used = sym (append-nil old.used) i;
-      }) (extended_world old st more more_fs old.paths gs gf (same_list old.paths) tables (s ∷ []) [] [] [] [] (is, tt) tt tt tt) (λ base places p.
+      goes_on old st more more_fs old.paths gs gf (same_list old.paths) tables (s ∷ []) [] [] [] [] few step (with_slots more more_fs ss)
+      (λ i. world_with old.home more more_fs old.paths (next i) (sym (append-nil old.instances) i) (sym (append-nil old.imports) i) (sym (append-nil old.exports) i) (sym (append-nil old.used) i))
+      (extended_world old st more more_fs old.paths gs gf (same_list old.paths) tables (s ∷ []) [] [] [] [] (is, tt) tt tt tt) (λ base places p.
       extended_placed old st more more_fs old.paths gs gf (same_list old.paths) tables (s ∷ []) [] [] [] [] base places (length old.shapes) p [] (length more) (omega arith) (over base places p, tt)
       (λ j x at past. absurd (none_past old.instances j x at past)) tt tt tt (tt, tt) (λ j x at past. absurd (none_past old.instances j x at past))
       (λ n q name low at. inl (forms.names n q name at)) (λ n form parts low at. forms.formed n form parts at) refl (λ j x c at here past. absurd (none_past old.imports j x at past)))
@@ -209,25 +187,15 @@ module _ (old : World) (st : IsWorld old) where
 
     found_meant : (name : Text) (ts : List ShownType) → find_type name (map (shown_type T F) ts) ≡ (find_slot name ts >>= λ s. Some (slot_in T F s))
     found_meant name [] = refl
-    found_meant name (t ∷ ts) = by (text_eq name t.name.now) (found_meant name ts)
-      where
-        by : (b : Bool) → find_type name (map (shown_type T F) ts) ≡ (find_slot name ts >>= λ s. Some (slot_in T F s))
-            → cond b (Some (slot_in T F t.slot)) (find_type name (map (shown_type T F) ts)) ≡ (cond b (Some t.slot) (find_slot name ts) >>= λ s. Some (slot_in T F s))
-        by true rest = refl
-        by false rest = rest
+    found_meant name (t ∷ ts) = search (std_rules, found_meant name ts)
+
+    path_same : (o : Option Text) → has_path (path_of (follow.place_of o)) ≡ has_path o
+    path_same x = search std_rules
 
     path_is : (p : ℕ) → p < length old.paths → has_path (path_of (place p)) ≡ has_path (unwrap_or (slice_get old.paths p) None)
-    path_is p below = by old.paths p below (of p)
-      where
-        same : (o : Option Text) → has_path (path_of (follow.place_of o)) ≡ has_path o
-        same None = refl
-        same (Some path) = refl
-
-        by : (ps : List (Option Text)) (k : ℕ) → k < length ps → ((o : Option Text) → slice_get ps k ≡ Some o → place p ≡ follow.place_of o)
-            → has_path (path_of (place p)) ≡ has_path (unwrap_or (slice_get ps k) None)
-        by [] k h f = absurd (omega (arith, h))
-        by (q ∷ ps) zero h f = ap (λ x. has_path (path_of x)) (f q refl) ∙ same q
-        by (q ∷ ps) (suc k) h f = by ps k (omega (arith, h)) f
+    path_is p below =
+        let found = slice_there old.paths p below in
+        ap (λ x. has_path (path_of x)) (of p found.0 found.1) ∙ (path_same found.0 ∙ ap (λ o. has_path (unwrap_or o None)) (sym found.1))
 
     provided_slot : (b : Bool) (o : Option Slot) → ((o >>= λ s. Some (slot_in T F s)) >>= λ slot. provided b slot) ≡ ((o >>= λ s. provided b s) >>= λ s. Some (slot_in T F s))
     provided_slot b None = refl
@@ -263,20 +231,18 @@ module _ (old : World) (st : IsWorld old) where
       by true f rest = let same : t.slot ≡ s = cc in (subst (λ (x : Slot). IsSlotIn old.shapes old.signatures x) same h.0.slot, subst (λ (x : Slot). IsTypeSlot x) same h.0.kind)
       by false f rest = rest f
 
+  given_if : (b : Bool) (o : Option Slot) (s : Slot) → (o >>= λ x. provided b x) ≡ Some s → (b ≡ true) × (o ≡ Some s)
+  given_if x y s e = search std_rules
+
   taken_in : (a : Alias) (s : Slot) → taken_from old.paths old.instances a ≡ Some s → IsSlotIn old.shapes old.signatures s × IsTypeSlot s
   taken_in (Alias.of_outer scopes n) s e = absurd cc
   taken_in (Alias.of_export m name) s e = by (slice_get old.instances m) refl e
     where
-      kept : (b : Bool) (o : Option Slot) → (o >>= λ x. provided b x) ≡ Some s → o ≡ Some s
-      kept b None e = absurd cc
-      kept true (Some x) e = e
-      kept false (Some x) e = absurd cc
-
       by : (o : Option Instance) → slice_get old.instances m ≡ o → slot_of_instance old.paths name o ≡ Some s → IsSlotIn old.shapes old.signatures s × IsTypeSlot s
       by None at f = absurd cc
       by (Some x) at f =
           let inside = all_at (IsInstanceIn old.shapes old.signatures old.paths) old.instances m x st.instances at in
-          found_in name x.view.types.items inside.types s (kept (has_path (unwrap_or (slice_get old.paths x.place) None)) (find_slot name x.view.types.items) f)
+          found_in name x.view.types.items inside.types s (given_if (has_path (unwrap_or (slice_get old.paths x.place) None)) (find_slot name x.view.types.items) s f).1
 
   -- what an alias takes over is a name of a place with a path
   taken_over : (base : List Shape) (places : ℕ) → IsPlacedWorld base places old → (a : Alias) (s : Slot) → taken_from old.paths old.instances a ≡ Some s
@@ -284,24 +250,16 @@ module _ (old : World) (st : IsWorld old) where
   taken_over base places p (Alias.of_outer scopes n) s e = absurd cc
   taken_over base places p (Alias.of_export m name) s e = by (slice_get old.instances m) refl e
     where
-      kept : (b : Bool) (o : Option Slot) → (o >>= λ x. provided b x) ≡ Some s → (b ≡ true) × (o ≡ Some s)
-      kept b None e = absurd cc
-      kept true (Some x) e = (refl, e)
-      kept false (Some x) e = absurd cc
-
       by : (o : Option Instance) → slice_get old.instances m ≡ o → slot_of_instance old.paths name o ≡ Some s
           → SlotOver (MayMeet (map has_path old.paths) old.home) (slot_in (world_trees apart old) (world_signatures apart old) s)
       by None at f = absurd cc
       by (Some x) at f =
-          let k = kept (has_path (unwrap_or (slice_get old.paths x.place) None)) (find_slot name x.view.types.items) f in
+          let k = given_if (has_path (unwrap_or (slice_get old.paths x.place) None)) (find_slot name x.view.types.items) s f in
           found_over old.shapes st.tables.table old.signatures (MayMeet (map has_path old.paths) old.home) x.place (path_met old.paths old.home x.place (path_marked old.paths x.place k.0))
           name x.view.types.items (all_at (IsInstanceIn old.shapes old.signatures old.paths) old.instances m x st.instances at).types (p.instances m x at).named s k.1
 
   no_wait : (s : Slot) → IsTypeSlot s → waits s ≡ 0
-  no_wait (slots.Value part) h = refl
-  no_wait (slots.Resource part) h = refl
-  no_wait (slots.Function f) h = absurd h
-  no_wait (slots.Instance b n) h = absurd h
+  no_wait x h = search std_rules
 
   pub alias_goes : (a : Alias) (s : Slot) (ss : List Slot) → taken_from old.paths old.instances a ≡ Some s → ss ≡ old.slots ++ s ∷ []
       → Goes 1 (λ m. component_step m (Declaration.alias_of a)) old (with_slots old.shapes old.signatures ss)
@@ -550,12 +508,7 @@ followed_none home shapes fs paths b tables own fresh whole new e = subst (λ (w
 settled_meant : (T : List Tree) (F : List Signature) (used : List ℕ) (n : ℕ) (ss : List Slot) → AreNames T ss → all_used used n (slots_in T F ss) ≡ are_settled used n ss
 settled_meant T F used n [] h = refl
 settled_meant T F used n (slots.Value part ∷ ss) h = settled_meant T F used (suc n) ss h
-settled_meant T F used n (slots.Resource part ∷ ss) h = by (part_tree T part) h.0 ∙ settled_meant T F used (suc n) ss h.1
-  where
-    by : (t : Tree) → IsName t → all_used used n (resource_slot t ∷ slots_in T F ss) ≡ all_used used (suc n) (slots_in T F ss)
-    by (Tree.primitive p) h = absurd h
-    by (Tree.named place name) h = refl
-    by (Tree.node form ts) h = absurd h
+settled_meant T F used n (slots.Resource part ∷ ss) h = search (std_rules, settled_meant T F used (suc n) ss h.1)
 settled_meant T F used n (slots.Function f ∷ ss) h = settled_meant T F used (suc n) ss h
 settled_meant T F used n (slots.Instance b around ∷ ss) h = ap (λ v. list_any (λ m. m == n) used && v) (settled_meant T F used (suc n) ss h)
 

@@ -15,7 +15,7 @@ use Rattle.plan_meaning.specs.Shapes.{Shape, code, form_of, named_shape, node_sh
 use Rattle.plan_meaning.proofs.ShapeLaws.{form_back, name_tree, node_tree, one_number, part_behind, tree_at_number}
 use Rattle.plan_meaning.proofs.ShapesLemmas.{no_sort as no_name}
 use Rattle.read_follow.proofs.{NumberingLaws.adds_next, TableGrowth.part_kept, TableGrowth.trees_length, TableGrowth.trees_more}
-use Rattle.base_lemmas.proofs.{Elements.all_end, Lists.get_back as mapped_back, Lists.last_or, Lists.within_there as slice_there}
+use Rattle.base_lemmas.proofs.{Elements.all_at_too, Elements.all_end, Lists.get_back as mapped_back, Lists.last_or, Lists.within_there as slice_there}
 use Rattle.read_follow.specs.declared.slots.Slot.TheVariants as slots
 
 -- ---- lists that grow
@@ -76,6 +76,11 @@ trees_behind : (place : ℕ → Place) (ss us : List Shape) → (U : List Tree) 
 trees_behind place ss [] = ([], ap (shape_trees place) (append-nil ss) ∙ sym (append-nil (shape_trees place ss)))
 trees_behind place ss (u ∷ us) = search (std_rules, append_assoc, trees_more, trees_behind place (ss ++ u ∷ []) us)
 
+-- what is the same for each that holds
+pub map_so : {A B : Type 0} (P : A → Type 0) (f g : A → B) → ((x : A) → P x → f x ≡ g x) → (xs : List A) → AllByRecursion P xs → map f xs ≡ map g xs
+map_so P f g same [] h = refl
+map_so P f g same (x ∷ xs) h = λ i. same x h.0 i ∷ map_so P f g same xs h.1 i
+
 module _ (place : ℕ → Place) (ss new : List Shape) (grown : Grows ss new) where
   -- a part stands for what it did
   pub part_grown : (k : ℕ) → k < 14 + length ss → part_tree (shape_trees place new) k ≡ part_tree (shape_trees place ss) k
@@ -84,29 +89,23 @@ module _ (place : ℕ → Place) (ss new : List Shape) (grown : Grows ss new) wh
       ap (λ us. part_tree (shape_trees place us) k) grown.is ∙ (ap (λ U. part_tree U k) rest.1 ∙ part_kept (shape_trees place ss) rest.0 k (omega (arith, h, trees_length place ss)))
 
   pub parts_grown : (ks : List ℕ) → AllByRecursion (λ k. k < 14 + length ss) ks → map (part_tree (shape_trees place new)) ks ≡ map (part_tree (shape_trees place ss)) ks
-  parts_grown [] h = refl
-  parts_grown (k ∷ ks) h = λ i. part_grown k h.0 i ∷ parts_grown ks h.1 i
+  parts_grown ks h = map_so _ _ _ part_grown ks h
 
   -- so it is with their scopes
   pub scoped_grown : {S : Type 0} (ps : List (S × ℕ)) → AllByRecursion (λ k. k < 14 + length ss) (bare_parts ps) → scoped_trees (shape_trees place new) ps ≡ scoped_trees (shape_trees place ss) ps
   scoped_grown [] h = refl
   scoped_grown (p ∷ ps) h = λ i. (p.0, part_grown p.1 h.0 i) ∷ scoped_grown ps h.1 i
 
-  params_grown : (ps : List (Text × ℕ)) → AllByRecursion (λ p. p.1 < 14 + length ss) ps → map (param_tree (shape_trees place new)) ps ≡ map (param_tree (shape_trees place ss)) ps
-  params_grown [] h = refl
-  params_grown (p ∷ ps) h = λ i. (p.0, part_grown p.1 h.0 i) ∷ params_grown ps h.1 i
-
   outcome_grown : (o : Option ℕ) → IfSome o (λ k. k < 14 + length ss) → option_map (part_tree (shape_trees place new)) o ≡ option_map (part_tree (shape_trees place ss)) o
   outcome_grown x h = search (std_rules, part_grown)
 
   signature_grown : (s : FunctionShape) → IsFunctionIn (length ss) s → signature_in (shape_trees place new) s ≡ signature_in (shape_trees place ss) s
   unfolding signature_in
-  signature_grown s h = λ i. record { is_async = s.is_async; params = params_grown s.params h.params i; result = outcome_grown s.outcome h.outcome i }
+  signature_grown s h = λ i. record { is_async = s.is_async; params = map_so _ _ _ (λ (q : Text × ℕ) b j. (q.0, part_grown q.1 b j)) s.params h.params i; result = outcome_grown s.outcome h.outcome i }
 
   -- the types of functions are what they were
   pub functions_grown : (fs : List FunctionShape) → AreFunctionsIn (length ss) fs → functions_in (shape_trees place new) fs ≡ functions_in (shape_trees place ss) fs
-  functions_grown [] h = refl
-  functions_grown (f ∷ fs) h = λ i. signature_grown f h.0 i ∷ functions_grown fs h.1 i
+  functions_grown fs h = map_so _ _ _ signature_grown fs h
 
 -- ---- keys of maps
 
@@ -176,9 +175,7 @@ undefined ss old d e table r place F named = r (shape_trees place ss) F named (n
 -- ---- equal signatures
 
 pub all_at : {A : Type 0} (P : A → Type 0) (xs : List A) (n : ℕ) (x : A) → AllByRecursion P xs → slice_get xs n ≡ Some x → P x
-all_at P [] n x all e = absurd cc
-all_at P (y ∷ xs) zero x all e = let same : y ≡ x = cc in subst P same all.0
-all_at P (y ∷ xs) (suc n) x all e = all_at P xs n x all.1 e
+all_at P xs n x all e = all_at_too P xs all n x e
 
 module _ (place : ℕ → Place) (distinct : (p q : ℕ) → place p ≡ place q → p ≡ q) (ss : List Shape) (table : IsTable ss) where
   abbrev trees : List Tree

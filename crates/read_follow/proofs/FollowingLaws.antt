@@ -13,10 +13,11 @@ use Rattle.read_follow.specs.{Numbering.slot_parts, Numbering.CountUp, Placed.ap
 use Rattle.read_follow.specs.Slots.{no_signature, resource_slot, slot_in, slots_in, AreInRange, AreNames, IsName}
 use Rattle.plan_meaning.specs.Shapes.{Shape, named_shape, part_tree, shape_trees, IsTable}
 use Rattle.plan_meaning.proofs.ShapeLaws.{name_tree, part_behind, tree_at_number}
-use Rattle.read_follow.proofs.DefiningLaws.{functions_grown, longer, no_shapes, one_longer, part_grown, same_list}
+use Rattle.read_follow.proofs.DefiningLaws.{functions_grown, longer, no_shapes, one_longer, part_grown, same_list, map_so}
 use Rattle.read_follow.proofs.{NumberingLaws.count_pushed, OverLaws.definition_over, OverLaws.signature_over, PlacedLaws.same_types}
 use Rattle.read_follow.proofs.Refusing.{refused}
 use Rattle.base_lemmas.proofs.{Elements.all_end, Lists.mapped_get, Lists.slice_front}
+use Rattle.plan_meaning.proofs.Lists.{each_so}
 use Rattle.wit_model.specs.Tree as tree
 use Rattle.comp_meaning.specs.Follow as follow
 use Rattle.read_follow.specs.declared.slots.Slot.TheVariants as slots
@@ -74,16 +75,14 @@ module _ (m : ℕ) (shapes more : List Shape) (fs more_fs : List FunctionShape) 
   wider_declared (Some k) h = wider_part k h
 
   pub wider_slots : (ss : List Slot) → AreSlotsIn shapes fs ss → AreSlotsIn more more_fs ss
-  wider_slots [] h = tt
-  wider_slots (s ∷ ss) h = (wider_slot s h.0, wider_slots ss h.1)
+  wider_slots ss h = each_so _ _ wider_slot ss h
 
   pub wider_types : (ts : List ShownType) → AllByRecursion (IsShownIn shapes fs) ts → AllByRecursion (IsShownIn more more_fs) ts
   wider_types [] h = tt
   wider_types (t ∷ ts) h = (record { slot = wider_slot t.slot h.0.slot; declared = wider_declared t.declared h.0.declared; kind = h.0.kind }, wider_types ts h.1)
 
   pub wider_functions : (ts : List ShownFunction) → AllByRecursion (IsShownFunctionIn fs) ts → AllByRecursion (IsShownFunctionIn more_fs) ts
-  wider_functions [] h = tt
-  wider_functions (f ∷ ts) h = (wider_number f.function h.0, wider_functions ts h.1)
+  wider_functions ts h = each_so _ _ (λ (f : ShownFunction). wider_number f.function) ts h
 
   module _ (place : ℕ → Place) where
     abbrev T : List Tree
@@ -108,8 +107,7 @@ module _ (m : ℕ) (shapes more : List Shape) (fs more_fs : List FunctionShape) 
     slot_stays (slots.Instance b n) h = refl
 
     pub slots_stay : (ss : List Slot) → AreSlotsIn shapes fs ss → slots_in U (functions_in U more_fs) ss ≡ slots_in T (functions_in T fs) ss
-    slots_stay [] h = refl
-    slots_stay (s ∷ ss) h = λ i. slot_stays s h.0 i ∷ slots_stay ss h.1 i
+    slots_stay ss h = map_so _ _ _ slot_stays ss h
 
     pub declared_stays : (o : Option ℕ) → IfSome o (λ k. k < 14 + length shapes) → declared_in U o ≡ declared_in T o
     declared_stays None h = refl
@@ -123,8 +121,7 @@ module _ (m : ℕ) (shapes more : List Shape) (fs more_fs : List FunctionShape) 
     }
 
     pub types_stay : (ts : List ShownType) → AllByRecursion (IsShownIn shapes fs) ts → map (shown_type U (functions_in U more_fs)) ts ≡ map (shown_type T (functions_in T fs)) ts
-    types_stay [] h = refl
-    types_stay (t ∷ ts) h = λ i. type_stays t h.0 i ∷ types_stay ts h.1 i
+    types_stay ts h = map_so _ _ _ type_stays ts h
 
     pub functions_stay : (ts : List ShownFunction) → AllByRecursion (IsShownFunctionIn fs) ts → map (shown_function (functions_in U more_fs)) ts ≡ map (shown_function (functions_in T fs)) ts
     functions_stay [] h = refl
@@ -133,12 +130,11 @@ module _ (m : ℕ) (shapes more : List Shape) (fs more_fs : List FunctionShape) 
 
 pub functions_wider : (n m : ℕ) (fs : List FunctionShape) → n ≤ m → AreFunctionsIn n fs → AreFunctionsIn m fs
 functions_wider n m [] le h = tt
-functions_wider n m (f ∷ fs) le h = (record { params = params_wider f.params h.0.params; outcome = outcome_wider f.outcome h.0.outcome }, functions_wider n m fs le h.1)
+functions_wider n m (f ∷ fs) le h = (
+  record { params = each_so _ _ (λ (q : Text × ℕ) b. omega (arith, b, le)) f.params h.0.params; outcome = outcome_wider f.outcome h.0.outcome },
+  functions_wider n m fs le h.1,
+)
   where
-    params_wider : (ps : List (Text × ℕ)) → AllByRecursion (λ p. p.1 < 14 + n) ps → AllByRecursion (λ p. p.1 < 14 + m) ps
-    params_wider [] all = tt
-    params_wider (p ∷ ps) all = (omega (arith, all.0, le), params_wider ps all.1)
-
     outcome_wider : (o : Option ℕ) → IfSome o (λ k. k < 14 + n) → IfSome o (λ k. k < 14 + m)
     outcome_wider None b = tt
     outcome_wider (Some k) b = omega (arith, b, le)

@@ -15,6 +15,7 @@ use Rattle.read_follow.proofs.{DefiningLaws.all_at, DefiningLaws.longer, Followi
 use Rattle.read_follow.proofs.PlacedLaws.{met_wider, name_wider, stands_on, stood, types_named_wider}
 use Rattle.read_follow.proofs.ScopeLaws.{exported, extended, extended_meant, imported, view_stays, F, G, T, U}
 use Rattle.base_lemmas.proofs.{Elements.all_both, Lists.at_last, Lists.last_or, Lists.within_there as slice_there}
+use Rattle.plan_meaning.proofs.Lists.{each_so}
 use Rattle.wit_model.specs.Tree as tree
 use Rattle.read_follow.specs.declared.scopes.Shown.TheVariants as shown
 use Rattle.read_follow.specs.declared.slots.Slot.TheVariants as slots
@@ -22,34 +23,23 @@ use Rattle.read_follow.specs.declared.slots.Slot.TheVariants as slots
 -- ---- what is over fewer places is over more
 
 module _ (P Q : Place → Type 0) (weaker : (x : Place) → P x → Q x) where
-  params_weaker : (ps : List (Text × Tree)) → AllByRecursion (λ (p : Text × Tree). TreeOver P p.1) ps → AllByRecursion (λ (p : Text × Tree). TreeOver Q p.1) ps
-  params_weaker [] h = tt
-  params_weaker (p ∷ ps) h = ((λ x c. weaker x (h.0 x c)), params_weaker ps h.1)
-
   signature_weaker : (f : Signature) → SignatureOver P f → SignatureOver Q f
-  signature_weaker f h = (params_weaker f.params h.0, (search std_rules))
+  signature_weaker f h = (each_so (λ (p : Text × Tree). TreeOver P p.1) (λ (p : Text × Tree). TreeOver Q p.1) (λ p t x c. weaker x (t x c)) f.params h.0, (search std_rules))
 
   declaration_weaker : (d : tree.Declaration) → DeclarationOver P d → DeclarationOver Q d
   declaration_weaker y h = search std_rules
 
-  slots_weaker : (ss : List Meant) → AllByRecursion (SlotOver P) ss → AllByRecursion (SlotOver Q) ss
-  slots_weaker [] h = tt
-  slots_weaker (s ∷ ss) h = ((search (std_rules, signature_weaker)), slots_weaker ss h.1)
+  slot_weaker : (s : Meant) → SlotOver P s → SlotOver Q s
+  slot_weaker y h = search (std_rules, signature_weaker)
 
-  types_weaker : (ts : List MeantType) → AllByRecursion (TypeOver P) ts → AllByRecursion (TypeOver Q) ts
-  types_weaker [] h = tt
-  types_weaker (t ∷ ts) h = (declaration_weaker t.meaning.declaration h.0, types_weaker ts h.1)
-
-  functions_weaker : (fs : List (Text × FunctionMeaning)) → AllByRecursion (FunctionOver P) fs → AllByRecursion (FunctionOver Q) fs
-  functions_weaker [] h = tt
-  functions_weaker (f ∷ fs) h = (signature_weaker f.1.signature h.0, functions_weaker fs h.1)
+  shown_weaker : (s : MeantShown) → ShownOver P s → ShownOver Q s
+  shown_weaker x h = search (std_rules, signature_weaker, declaration_weaker)
 
   view_weaker : (v : MeantView) → ViewOver P v → ViewOver Q v
-  view_weaker v h = record { types = types_weaker v.types h.types; functions = functions_weaker v.functions h.functions }
-
-  all_shown_weaker : (ss : List MeantSeen) → AllByRecursion (λ (s : MeantSeen). ShownOver P s.shown) ss → AllByRecursion (λ (s : MeantSeen). ShownOver Q s.shown) ss
-  all_shown_weaker [] h = tt
-  all_shown_weaker (s ∷ ss) h = ((search (std_rules, signature_weaker, declaration_weaker)), all_shown_weaker ss h.1)
+  view_weaker v h = record {
+    types = each_so _ _ (λ (t : MeantType). declaration_weaker t.meaning.declaration) v.types h.types;
+    functions = each_so _ _ (λ (f : Text × FunctionMeaning). signature_weaker f.1.signature) v.functions h.functions;
+  }
 
 -- ---- a scope with something more
 
@@ -85,23 +75,15 @@ module _ (old : World) (st : IsWorld old) (more : List Shape) (more_fs : List Fu
   still_shown q name part (by_instance j x at is among) = by_instance j x (stands_on old.instances (old.instances ++ xs) instances_grow j x at) is among
   still_shown q name part (by_import j s label d at is named own) = by_import j s label d (stands_on old.imports (old.imports ++ im) imports_grow j s at) is named own
 
-  imports_named : (seen : List Seen) → AllByRecursion (λ (s : Seen). IsImportNamed old.shapes old.home s.shown) seen → AllByRecursion (λ (s : Seen). IsImportNamed more old.home s.shown) seen
-  imports_named [] h = tt
-  imports_named (s ∷ seen) h = (one s.shown h.0, imports_named seen h.1)
-    where
-      one : (x : Shown) → IsImportNamed old.shapes old.home x → IsImportNamed more old.home x
-      one (shown.Instance key n) h = tt
-      one (shown.Function name f) h = tt
-      one (shown.Type name part d) h = name_wider old.shapes more gs old.home name.now part h
+  import_named : (x : Shown) → IsImportNamed old.shapes old.home x → IsImportNamed more old.home x
+  import_named (shown.Instance key n) h = tt
+  import_named (shown.Function name f) h = tt
+  import_named (shown.Type name part d) h = name_wider old.shapes more gs old.home name.now part h
 
   key_still : (x : Shown) → IsKeyPlaced old.instances x → IsKeyPlaced (old.instances ++ xs) x
   key_still (shown.Instance key n) h = (h.0, stands_on old.instances (old.instances ++ xs) instances_grow n h.0 h.1, h.2)
   key_still (shown.Function name f) h = tt
   key_still (shown.Type name part d) h = tt
-
-  keys_still : (seen : List Seen) → AllByRecursion (λ (s : Seen). IsKeyPlaced old.instances s.shown) seen → AllByRecursion (λ (s : Seen). IsKeyPlaced (old.instances ++ xs) s.shown) seen
-  keys_still [] h = tt
-  keys_still (s ∷ seen) h = (key_still s.shown h.0, keys_still seen h.1)
 
   module _ (base : List Shape) (count till : ℕ) (p : IsPlacedAmong base count till old) where
     own_still : (j : ℕ) (x : Instance) → j < length old.instances → ((path : Text) × (slice_get old.paths x.place ≡ Some (Some path))) ⊎ IsInlinePlace count old j x
@@ -189,14 +171,16 @@ module _ (old : World) (st : IsWorld old) (more : List Shape) (more_fs : List Fu
             home = p.home;
             fresh = p.fresh;
             slots = subst (λ (zs : List Meant). AllByRecursion (SlotOver (New old.home)) zs) (sym (ap (λ (m : MeantScope). m.slots) meant))
-                (all_both (SlotOver (New old.home)) before.slots _ (slots_weaker (Old old.home) (New old.home) (met_still old.home) before.slots p.slots) hs);
+                (all_both (SlotOver (New old.home)) before.slots _ (each_so _ _ (slot_weaker (Old old.home) (New old.home) (met_still old.home)) before.slots p.slots) hs);
             imports = subst (λ (zs : List MeantSeen). AllByRecursion (λ (s : MeantSeen). ShownOver (New old.home) s.shown) zs) (sym (ap (λ (m : MeantScope). m.imports) meant))
-                (all_both (λ (s : MeantSeen). ShownOver (New old.home) s.shown) before.imports _ (all_shown_weaker (Old old.home) (New old.home) (met_still old.home) before.imports p.imports) hi);
+                (all_both (λ (s : MeantSeen). ShownOver (New old.home) s.shown) before.imports _
+                (each_so _ _ (λ (s : MeantSeen). shown_weaker (Old old.home) (New old.home) (met_still old.home) s.shown) before.imports p.imports) hi);
             exports = subst (λ (zs : List MeantSeen). AllByRecursion (λ (s : MeantSeen). ShownOver (New old.home) s.shown) zs) (sym (ap (λ (m : MeantScope). m.exports) meant))
-                (all_both (λ (s : MeantSeen). ShownOver (New old.home) s.shown) before.exports _ (all_shown_weaker (Old old.home) (New old.home) (met_still old.home) before.exports p.exports) he);
-            named = all_both (λ (s : Seen). IsImportNamed more old.home s.shown) old.imports im (imports_named old.imports p.named) hn;
-            imports_keyed = all_both (λ (s : Seen). IsKeyPlaced (old.instances ++ xs) s.shown) old.imports im (keys_still old.imports p.imports_keyed) hk.0;
-            exports_keyed = all_both (λ (s : Seen). IsKeyPlaced (old.instances ++ xs) s.shown) old.exports ex (keys_still old.exports p.exports_keyed) hk.1;
+                (all_both (λ (s : MeantSeen). ShownOver (New old.home) s.shown) before.exports _
+                (each_so _ _ (λ (s : MeantSeen). shown_weaker (Old old.home) (New old.home) (met_still old.home) s.shown) before.exports p.exports) he);
+            named = all_both (λ (s : Seen). IsImportNamed more old.home s.shown) old.imports im (each_so _ _ (λ (s : Seen). import_named s.shown) old.imports p.named) hn;
+            imports_keyed = all_both (λ (s : Seen). IsKeyPlaced (old.instances ++ xs) s.shown) old.imports im (each_so _ _ (λ (s : Seen). key_still s.shown) old.imports p.imports_keyed) hk.0;
+            exports_keyed = all_both (λ (s : Seen). IsKeyPlaced (old.instances ++ xs) s.shown) old.exports ex (each_so _ _ (λ (s : Seen). key_still s.shown) old.exports p.exports_keyed) hk.1;
             formed = λ n form parts low at. elim (forms n form parts low at) [
               | inl below ↦ p.formed n form parts below (stood old.shapes more gs n (node_shape form parts) (let inside = p.within in omega (arith, below, inside)) at)
               | inr formed ↦ inr formed

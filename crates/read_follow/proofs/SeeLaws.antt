@@ -19,7 +19,7 @@ use Rattle.read_follow.proofs.DefiningLaws.{adds_cases, adds_grow, adds_name, ad
 use Rattle.read_follow.proofs.{FollowingLaws.declared_stays, FollowingLaws.functions_wider, FollowingLaws.names_of, PlacedLaws.stands_on, PlacedLaws.stood}
 use Rattle.read_follow.proofs.{OverLaws.named_over, Refusing.refused, ScopedLaws.slot_numbered, SlotLaws.at_slot}
 use Rattle.read_follow.proofs.PlacedScopes.{both_pass, counts_below, extended_placed, import_passes, imported_many, none_past, one_counted, seen_passes}
-use Rattle.read_follow.proofs.ScopeLaws.{all_before, exported, extended, extended_world, goes_on, imported, none_behind, plus, plus_seen, plus_type, waiting_push, waits}
+use Rattle.read_follow.proofs.ScopeLaws.{all_before, exported, extended, extended_world, goes_on, imported, none_behind, plus, plus_seen, plus_type, waiting_push, waits, world_with}
 use Rattle.read_follow.proofs.ShowLaws.{declared_range, name_counted, name_in, name_stands, old_range, own_over}
 use Rattle.base_lemmas.proofs.Lists.{at_last, last_or}
 use Rattle.wit_model.specs.Tree as tree
@@ -77,17 +77,9 @@ module _ (old : World) (st : IsWorld old) (b : Bool) (name : ExternName) (n : �
       let gf = same_list old.signatures in
       let gp = same_list old.paths in
       let inside : k < length old.signatures = all_at (IsSlotIn old.shapes old.signatures) old.slots n (slots.Function k) st.slots at in
-      goes_on old st old.shapes old.signatures old.paths gs gf gp st.tables [] [] (imported b s) (exported b s) [] 1 (see_function (direction b) (raw_name name) n) new (e ∙ (λ i. record {
-        home = old.home;
-        shapes = old.shapes;
-        signatures = old.signatures;
-        paths = old.paths;
-        slots = sym (append-nil old.slots) i;
-        instances = sym (append-nil old.instances) i;
-        imports = imports_are b old.imports s i;
-        exports = exports_are b old.exports s i;
-        used = sym (append-nil old.used) i;
-      })) (extended_world old st old.shapes old.signatures old.paths gs gf gp st.tables [] [] (imported b s) (exported b s) [] tt tt
+      goes_on old st old.shapes old.signatures old.paths gs gf gp st.tables [] [] (imported b s) (exported b s) [] 1 (see_function (direction b) (raw_name name) n) new
+      (e ∙ (λ i. world_with old.home old.shapes old.signatures old.paths (sym (append-nil old.slots) i) (sym (append-nil old.instances) i) (imports_are b old.imports s i)
+      (exports_are b old.exports s i) (sym (append-nil old.used) i))) (extended_world old st old.shapes old.signatures old.paths gs gf gp st.tables [] [] (imported b s) (exported b s) [] tt tt
       (all_imported (λ (x : Seen). IsShownAs old.shapes old.signatures old.paths (length (old.instances ++ [])) x.shown) b s inside)
       (all_exported (λ (x : Seen). IsShownAs old.shapes old.signatures old.paths (length (old.instances ++ [])) x.shown) b s inside)) (λ base places p.
       let P = MayMeet (map has_path old.paths) old.home in
@@ -225,17 +217,9 @@ module _ (old : World) (st : IsWorld old) (name : ExternName) (kind : ComponentT
         signatures = functions_wider (length old.shapes) (length more) old.signatures le st.tables.signatures;
       } in
       let inside : IsSlotIn more old.signatures s = subst (λ (x : Slot). IsSlotIn more old.signatures x) (sym is) (name_in marks (base old) bs name old.home kind made.is_resource more number at) in
-      goes_on old st more old.signatures old.paths gs gf gp tables (s ∷ []) [] (seen ∷ []) [] [] 1 (see_type (raw_name name) kind) new (e ∙ (λ i. record {
-        home = old.home;
-        shapes = more;
-        signatures = old.signatures;
-        paths = old.paths;
-        slots = old.slots ++ s ∷ [];
-        instances = sym (append-nil old.instances) i;
-        imports = old.imports ++ seen ∷ [];
-        exports = sym (append-nil old.exports) i;
-        used = sym (append-nil old.used) i;
-      })) (extended_world old st more old.signatures old.paths gs gf gp tables (s ∷ []) [] (seen ∷ []) [] [] (inside, tt) tt
+      goes_on old st more old.signatures old.paths gs gf gp tables (s ∷ []) [] (seen ∷ []) [] [] 1 (see_type (raw_name name) kind) new
+      (e ∙ (λ i. world_with old.home more old.signatures old.paths (old.slots ++ s ∷ []) (sym (append-nil old.instances) i) (old.imports ++ seen ∷ []) (sym (append-nil old.exports) i)
+      (sym (append-nil old.used) i))) (extended_world old st more old.signatures old.paths gs gf gp tables (s ∷ []) [] (seen ∷ []) [] [] (inside, tt) tt
       ((omega (arith, found_below more number (named_shape old.home name.text.now) at), declared_range marks (base old) bs name old.home kind made.declared more le range), tt) tt) (λ first places p.
       let P = MayMeet (map has_path old.paths) old.home in
       let U = shape_trees apart more in

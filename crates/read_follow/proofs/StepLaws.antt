@@ -217,11 +217,9 @@ same_view marks before here shapes fs ss ts us et gs hs ef p = search std_rules
 module _ (marks : List Bool) (here : ℕ) (start : State) (tables : AreTables (length marks) start.shapes start.signatures) (outer : List Slot) (inside : AreSlotsIn start.shapes start.signatures outer) (b : Body) where
   pub followed_none : (ss : List Slot) (ts : List ShownType) (fs : List ShownFunction) → ss ≡ [] → ts ≡ [] → fs ≡ [] → IsBody held_declaration_at b
       → IsFollowed marks here start outer b 0 b.bytes.now (record { shapes = start.shapes; signatures = start.signatures; slots = ss; types = ts; functions = fs })
-  followed_none ss ts fs es et ef whole = subst (λ (xs : List ShownFunction). IsFollowed marks here start outer b 0 b.bytes.now
-      (record { shapes = start.shapes; signatures = start.signatures; slots = ss; types = ts; functions = xs })) (sym ef)
-      (subst (λ (xs : List ShownType). IsFollowed marks here start outer b 0 b.bytes.now (record { shapes = start.shapes; signatures = start.signatures; slots = ss; types = xs; functions = [] }))
-      (sym et) (subst (λ (xs : List Slot). IsFollowed marks here start outer b 0 b.bytes.now (record { shapes = start.shapes; signatures = start.signatures; slots = xs; types = []; functions = [] }))
-      (sym es) (record {
+  followed_none ss ts fs es et ef whole =
+      subst (λ (now : State). IsFollowed marks here start outer b 0 b.bytes.now now)
+      (λ i. record { shapes = start.shapes; signatures = start.signatures; slots = sym es i; types = sym et i; functions = sym ef i }) (record {
         state = record { tables = tables; slots = tt; types = tt; functions = tt };
         shapes_grow = same_list start.shapes;
         signatures_grow = same_list start.signatures;
@@ -239,7 +237,7 @@ module _ (marks : List Bool) (here : ℕ) (start : State) (tables : AreTables (l
         ds = items_in held_declaration_at b;
         left = ap (λ n. sequence_at held_declaration_at n b.bytes.now) (none_less b.count) ∙ whole;
         follows = λ place marked. refl;
-      })))
+      })
 
   module _ (i : ℕ) (rest : List ℕ) (now : State) (f : IsFollowed marks here start outer b i rest now) where
     -- what stands around is what it was

@@ -20,9 +20,9 @@ use Rattle.read_follow.proofs.{DefiningLaws.all_at, DefiningLaws.longer, Followi
 use Rattle.read_follow.proofs.{NumberingLaws.bare_all, NumberingLaws.scoped_all, PlacedLaws.stands_on, PlacedLaws.stood, SlotLaws.at_slot, SlotLaws.no_slot}
 use Rattle.read_follow.proofs.PlacedScopes.{added_seen, both_pass, extended_placed, import_passes, imported_many, one_counted, only_last, seen_passes}
 use Rattle.read_follow.proofs.{Refusing.refused, ScopedLaws.instance_scoped}
-use Rattle.read_follow.proofs.ScopeLaws.{exported, extended, extended_world, goes_on, imported, one_behind, plus, plus_instance, waiting_used}
+use Rattle.read_follow.proofs.ScopeLaws.{exported, extended, extended_world, goes_on, imported, one_behind, plus, plus_instance, waiting_used, world_with}
 use Rattle.read_follow.proofs.SeeLaws.{added_exports, added_imports, all_exported, all_imported, exports_are, imports_are, seen_plus}
-use Rattle.base_lemmas.proofs.{Lists.at_last, Numbers.nothing_more as none_before}
+use Rattle.base_lemmas.proofs.{Lists.at_last, Lists.get_back, Numbers.nothing_more as none_before}
 use Rattle.comp_meaning.specs.Follow as follow
 use Rattle.read_follow.specs.declared.scopes.Shown.TheVariants as shown
 use Rattle.read_follow.specs.declared.slots.Slot.TheVariants as slots
@@ -88,17 +88,11 @@ module _ (marks : List Bool) (here : ℕ) (start : State) (ss : List Slot) (used
 
 -- ---- an instance under its key
 
-marked_paths : (paths : List (Option Text)) (place : ℕ → Place) → ArePlacesOf paths place → AreMarked (map has_path paths) place
-marked_paths paths place of n b e = by paths n e (of n)
-  where
-    path_is : (o : Option Text) → is_path (follow.place_of o) ≡ has_path o
-    path_is None = refl
-    path_is (Some path) = refl
+path_is : (o : Option Text) → is_path (follow.place_of o) ≡ has_path o
+path_is x = search std_rules
 
-    by : (ps : List (Option Text)) (k : ℕ) → slice_get (map has_path ps) k ≡ Some b → ((o : Option Text) → slice_get ps k ≡ Some o → place n ≡ follow.place_of o) → is_path (place n) ≡ b
-    by [] k e f = absurd cc
-    by (p ∷ ps) zero e f = let same : has_path p ≡ b = cc in ap is_path (f p refl) ∙ (path_is p ∙ same)
-    by (p ∷ ps) (suc k) e f = by ps k e f
+marked_paths : (paths : List (Option Text)) (place : ℕ → Place) → ArePlacesOf paths place → AreMarked (map has_path paths) place
+marked_paths paths place of n b e = let m = get_back has_path paths n b e in ap is_path (of n m.0 m.1) ∙ (path_is m.0 ∙ m.2)
 
 -- the interface of a key is that of its place
 module _ (paths : List (Option Text)) (place : ℕ → Place) (of : ArePlacesOf paths place) where
@@ -231,17 +225,11 @@ module _ (old : World) (st : IsWorld old) (b : Bool) (name : ExternName) (n : �
     }
 
   pub instance_goes : Grows old.paths paths → IsFreshKey old.paths key → IsOnlyNew old.paths (place_number key) paths → (v : View) (more : List Shape) (more_fs : List FunctionShape)
-      → IsUsedView (map has_path paths) (place_number key) (tables_of old.shapes old.signatures) old.slots old.used n v (tables_of more more_fs) → (new : World) → new ≡ record {
-        home = old.home;
-        shapes = more;
-        signatures = more_fs;
-        paths = paths;
-        slots = old.slots;
-        instances = old.instances ++ record { place = place_number key; view = v } ∷ [];
-        imports = added_imports b old.imports (record { shown = shown.Instance key (length old.instances); external_id = name.external_id });
-        exports = added_exports b old.exports (record { shown = shown.Instance key (length old.instances); external_id = name.external_id });
-        used = old.used ++ n ∷ [];
-      } → Goes 0 (see_instance (direction b) (raw_name name) n) old new
+      → IsUsedView (map has_path paths) (place_number key) (tables_of old.shapes old.signatures) old.slots old.used n v (tables_of more more_fs) → (new : World)
+      → new ≡ world_with old.home more more_fs paths old.slots (old.instances ++ record { place = place_number key; view = v } ∷ [])
+      (added_imports b old.imports (record { shown = shown.Instance key (length old.instances); external_id = name.external_id }))
+      (added_exports b old.exports (record { shown = shown.Instance key (length old.instances); external_id = name.external_id })) (old.used ++ n ∷ [])
+      → Goes 0 (see_instance (direction b) (raw_name name) n) old new
   instance_goes gp fresh only v more more_fs u new e =
       let x : Instance = record { place = place_number key; view = v } in
       let s : Seen = record { shown = shown.Instance key (length old.instances); external_id = name.external_id } in
@@ -249,17 +237,9 @@ module _ (old : World) (st : IsWorld old) (b : Bool) (name : ExternName) (n : �
       let gf = u.view.signatures_grow in
       let tables : AreTables (length paths) more more_fs = subst (λ (k : ℕ). AreTables k more more_fs) (length-map paths has_path) u.view.tables in
       let fits : IsShownAs more more_fs paths (length (old.instances ++ x ∷ [])) s.shown = (is_key.stands, omega (arith, (length-append old.instances (x ∷ [])))) in
-      goes_on old st more more_fs paths gs gf gp tables [] (x ∷ []) (imported b s) (exported b s) (n ∷ []) 0 (see_instance (direction b) (raw_name name) n) new (e ∙ (λ i. record {
-        home = old.home;
-        shapes = more;
-        signatures = more_fs;
-        paths = paths;
-        slots = sym (append-nil old.slots) i;
-        instances = old.instances ++ x ∷ [];
-        imports = imports_are b old.imports s i;
-        exports = exports_are b old.exports s i;
-        used = old.used ++ n ∷ [];
-      })) (extended_world old st more more_fs paths gs gf gp tables [] (x ∷ []) (imported b s) (exported b s) (n ∷ []) tt
+      goes_on old st more more_fs paths gs gf gp tables [] (x ∷ []) (imported b s) (exported b s) (n ∷ []) 0 (see_instance (direction b) (raw_name name) n) new
+      (e ∙ (λ i. world_with old.home more more_fs paths (sym (append-nil old.slots) i) (old.instances ++ x ∷ []) (imports_are b old.imports s i) (exports_are b old.exports s i)
+      (old.used ++ n ∷ []))) (extended_world old st more more_fs paths gs gf gp tables [] (x ∷ []) (imported b s) (exported b s) (n ∷ []) tt
       (record { place = search (std_rules, found_below); types = u.view.types; functions = u.view.functions }, tt)
       (all_imported (λ (y : Seen). IsShownAs more more_fs paths (length (old.instances ++ x ∷ [])) y.shown) b s fits)
       (all_exported (λ (y : Seen). IsShownAs more more_fs paths (length (old.instances ++ x ∷ [])) y.shown) b s fits)) (λ base places p.
