@@ -1,7 +1,7 @@
 -- A body has all the bytes of its items.
 use Rattle.std.proofs.Common.{rules as std_rules, ◌≡◌, refl, sym, ap, ◌∙◌, ℕ, ◌+◌, ◌-◌, ◌≤◌, arith, List, [], ◌++◌, length, take, Option, Some, None, append-nil}
 use Rattle.std.proofs.lemmas.{List.take_at, List.length-append, Option.same_Some as some_is}
-use Rattle.comp_bytes.specs.{Form.Spellings, Form.Sequence, Laws.IsReadBy, Reading.Reader, Reading.sequence_at}
+use Rattle.comp_bytes.specs.{Form.Spellings, Laws.IsReadBy, Reading.Reader, Reading.sequence_at}
 use Rattle.comp_bytes.proofs.PartLaws.{sequence_takes, sequence_again}
 use Rattle.read_follow.specs.declared.bodies.Body.{Body}
 use Rattle.read_follow.specs.Bodies.{behind, items_of, items_in, IsBody}

@@ -17,7 +17,7 @@ use Rattle.read_follow.specs.Numbering.{all_in, bare_parts, parts_in, scoped_tre
 use Rattle.read_follow.specs.{Pieces.AreAlike, ReadKeys.function_byte}
 use Rattle.read_follow.specs.{Placed.apart, Placed.HasNoNames, Placed.MayMeet, Placed.SignatureOver, Placed.SlotOver, Places.has_path, Places.ArePlacesOf}
 use Rattle.read_follow.specs.Scopes.{are_settled, find_slot, instance_in, meant_at, path_of, slot_of_instance, start_of, taken_from, waiting, weight, weights, world_signatures, world_trees, Enters, Goes, HasStages, IsFollowedTo, IsInstanceIn, IsPlacedWorld, IsScopedIn, IsScopeOf, IsStage, IsWorld, Stops, StopsAt, World}
-use Rattle.read_follow.specs.Slots.{no_signature, resource_slot, slot_in, slots_in, AreNames, IsName}
+use Rattle.read_follow.specs.Slots.{no_signature, slot_in, slots_in, AreNames}
 use Rattle.plan_meaning.specs.Shapes.{Shape, named_shape, node_shape, part_tree, shape_trees, IsTable}
 use Rattle.read_follow.proofs.DefiningLaws.{all_at, longer, no_shapes, same_list, scoped_grown}
 use Rattle.read_follow.proofs.FollowingLaws.{functions_wider, joins_all, joins_grow, names_of, ranges_of, slot_counted}
@@ -32,12 +32,6 @@ use Rattle.comp_meaning.specs.Follow as follow
 use Rattle.read_follow.specs.declared.slots.Slot.TheVariants as slots
 
 -- ---- the same step in other words
-
-pub goes_as : (few : ℕ) (f g : MeantScope → Option MeantScope) (old new : World) → ((m : MeantScope) → g m ≡ f m) → Goes few f old new → Goes few g old new
-goes_as few f g old new same s = subst (λ (h : MeantScope → Option MeantScope). Goes few h old new) (λ i m. sym (same m) i) s
-
-pub stops_as : (f g : MeantScope → Option MeantScope) (old : World) (paths : List (Option Text)) (e : Refusal) → ((m : MeantScope) → g m ≡ f m) → Stops f old paths e → Stops g old paths e
-stops_as f g old paths e same h place of = refused e (f (meant_at place old)) (g (meant_at place old)) (λ none. same (meant_at place old) ∙ none) (h place of)
 
 -- ---- the entry in front
 

@@ -1,5 +1,5 @@
 -- Types of values and of functions in tables that grow.
-use Rattle.std.proofs.Common.{rules as std_rules, ◌≡◌, ◌⊎◌, refl, sym, ap, ◌∙◌, subst, ℕ, zero, suc, ◌+◌, ◌<◌, ◌≤◌, arith, inl, inr, true, false, List, [], ◌∷◌, ◌++◌, map, length, Option, Some, option_map, IfSome, slice_get, unwrap_or, append_assoc, append-nil, length-append}
+use Rattle.std.proofs.Common.{rules as std_rules, ◌≡◌, ◌⊎◌, refl, sym, ap, ◌∙◌, ℕ, ◌+◌, ◌<◌, ◌≤◌, arith, inl, inr, true, List, [], ◌∷◌, ◌++◌, map, length, Option, Some, option_map, IfSome, slice_get, unwrap_or, append_assoc, append-nil, length-append}
 use Rattle.std.proofs.lemmas.{Bool.cases_lt, Option.slice_get_past, Option.slice_get_within as found_below}
 use Rattle.std.specs.List.{AllByRecursion}
 use Rattle.wit_model.specs.{Meaning.Signature, Text.Text, Tree.Form, Tree.Place, Tree.Tree, Tree.children, Types.no_tree}

@@ -1,5 +1,5 @@
 -- The key of each form, from the parts that its indexes stand for.
-use Rattle.std.proofs.Common.{rules as std_rules, ◌≡◌, refl, sym, ap, ◌∙◌, subst, ℕ, ◌&&◌, ◌+◌, ◌<◌, ◌≤◌, arith, inl, inr, Bool, true, false, List, [], ◌∷◌, ◌++◌, map, length, Option, Some, None, Result, Ok, Err, IfOk, IfSome, IsOkUnless, is_some, option_map, option_to_list, unwrap_or, slice_get}
+use Rattle.std.proofs.Common.{rules as std_rules, ◌≡◌, refl, sym, ap, ◌∙◌, subst, ℕ, ◌&&◌, ◌+◌, ◌<◌, arith, inl, inr, Bool, true, false, List, [], ◌∷◌, ◌++◌, map, Option, Some, None, Result, Ok, Err, IfOk, IfSome, IsOkUnless, is_some, option_map, option_to_list, unwrap_or, slice_get}
 use Rattle.std.proofs.lemmas.{Bool.le-leb, Bool.lt-ltb, Option.slice_get_past}
 use Rattle.std.specs.{List.AllByRecursion}
 use Rattle.wit_model.specs.{Meaning.Signature, Types.no_tree}

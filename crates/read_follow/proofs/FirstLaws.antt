@@ -1,6 +1,6 @@
 -- Entries, the first of which is read already: the others are what is behind it, also where the entries are cut from the bytes.
 use Rattle.std.proofs.Common.{◌≡◌, sym, ap, ◌∙◌, ℕ, suc, ◌-◌, ◌<◌, arith, List, ◌∷◌, ◌++◌, length, take, Option, Some, None, append_assoc}
-use Rattle.comp_bytes.specs.{Levels.Entry, Levels.entry_at, Levels.IsEntry, Reading.◌>>=◌, Reading.sequence_at}
+use Rattle.comp_bytes.specs.{Levels.Entry, Levels.entry_at, Reading.◌>>=◌, Reading.sequence_at}
 use Rattle.comp_bytes.proofs.{LevelLaws.entry_law, PartLaws.sequence_takes}
 use Rattle.read_follow.specs.Bodies.{behind}
 use Rattle.read_follow.proofs.{BodyLaws.cut_is, BodyLaws.found_before, SkipLaws.behind_as}

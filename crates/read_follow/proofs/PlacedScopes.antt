@@ -1,5 +1,5 @@
 -- Names stay in their places as a scope of a component type goes on.
-use Rattle.std.proofs.Common.{rules as std_rules, ◌≡◌, ◌⊎◌, inl, inr, refl, sym, ap, ◌∙◌, subst, ℕ, zero, suc, ◌+◌, ◌<◌, ◌≤◌, arith, Bool, true, false, cond, List, [], ◌∷◌, ◌++◌, map, length, length-append, Option, Some, None, IfSome, slice_get, unwrap_or, append_assoc}
+use Rattle.std.proofs.Common.{rules as std_rules, ◌≡◌, ◌⊎◌, inl, inr, refl, sym, ap, ◌∙◌, subst, ℕ, zero, suc, ◌+◌, ◌<◌, ◌≤◌, arith, Bool, true, false, cond, List, [], ◌∷◌, ◌++◌, map, length, length-append, Option, Some, None, slice_get, unwrap_or, append_assoc}
 use Rattle.std.proofs.lemmas.{Bool.cases_lt, Bool.false≢true, List.append-nil, Option.slice_get_within as found_below}
 use Rattle.std.specs.List.{AllByRecursion}
 use Rattle.wit_model.specs.{Meaning.FunctionMeaning, Meaning.Signature, Text.Text, Text.text_eq, Tree.Form, Tree.Place, Tree.Tree}
@@ -8,7 +8,7 @@ use Rattle.read_follow.specs.declared.{instance_keys.InstanceKey.InstanceKey, sc
 use Rattle.read_follow.specs.declared.{scopes.Seen.Seen, slots.Slot.Slot}
 use Rattle.read_follow.specs.{Defining.Grows, Functions.functions_in, Functions.FunctionShape, Places.has_path}
 use Rattle.read_follow.specs.{Following.AreTables, Following.IsShownIn, Following.IsTypeSlot, Slots.resource_slot, Slots.slot_in, Slots.slots_in}
-use Rattle.read_follow.specs.Placed.{apart, slot_part, DeclarationOver, FunctionOver, IsNameAs, IsTypeNamed, MayMeet, SignatureOver, SlotOver, TreeOver, TypeOver, ViewOver}
+use Rattle.read_follow.specs.Placed.{apart, slot_part, DeclarationOver, IsNameAs, IsTypeNamed, MayMeet, SignatureOver, SlotOver, TreeOver, ViewOver}
 use Rattle.read_follow.specs.Scopes.{find_slot, meant_at, seen_in, view_in, IsCounted, IsCountedAs, IsFirstOf, IsImportNamed, IsKeyPlaced, IsInlinePlace, IsInstanceIn, IsInstanceSeen, as_export, as_import, IsPlacedAmong, IsPlacedInstance, IsShownAs, IsShownBy, by_instance, by_import, IsWorld, ShownOver, World}
 use Rattle.plan_meaning.specs.{PlanRules.is_form, Shapes.Shape, Shapes.named_shape, Shapes.node_shape, Shapes.shape_trees, Shapes.IsTable}
 use Rattle.read_follow.proofs.{DefiningLaws.all_at, DefiningLaws.longer, FollowingLaws.name_part, OverLaws.name_over}

@@ -5,12 +5,12 @@ use Rattle.std.specs.List.{AllByRecursion, flat_map, list_any}
 use Rattle.wit_model.specs.{Meaning.Signature, Tree.Place, Tree.Tree}
 use Rattle.comp_bytes.specs.RawOf.{text_of}
 use Rattle.comp_meaning.specs.Follow.{Scope as MeantScope, Seen as MeantSeen, Shown as MeantShown, Instance as MeantInstance, Slot as Meant, in_scope, see}
-use Rattle.read_follow.specs.declared.{instance_keys.InstanceKey.InstanceKey, scopes.Instance.Instance, scopes.Seen.Seen, scopes.Shown.Shown, slots.Slot.Slot}
+use Rattle.read_follow.specs.declared.{scopes.Instance.Instance, scopes.Seen.Seen, scopes.Shown.Shown, slots.Slot.Slot}
 use Rattle.read_follow.specs.declared.views.View.{View}
 use Rattle.read_follow.specs.{Defining.Grows, Following.AreSlotsIn, Following.AreTables, Following.IsShownFunctionIn, Following.IsShownIn, Following.IsSlotIn}
 use Rattle.read_follow.specs.Functions.{functions_in, FunctionShape}
 use Rattle.read_follow.specs.Numbering.{all_in, bare_parts, scoped_trees, slot_trees, trees_since, used_trees, CountUp}
-use Rattle.read_follow.specs.{Places.key_at, Places.ArePlacesOf, Places.IsKeyIn, Slots.no_signature, Slots.slot_in, Slots.slots_in}
+use Rattle.read_follow.specs.{Places.key_at, Places.ArePlacesOf, Slots.no_signature, Slots.slot_in, Slots.slots_in}
 use Rattle.read_follow.specs.Scopes.{direction, instance_in, meant_at, seen_in, shown_in, view_in, viewed, waiting, ArePathsInOrder, ArePathsMet, AreScopedIn, AreSeenIn, Goes, IsInstanceIn, IsPlaceMet, IsPlaceMetBefore, IsPlacedWorld, IsShownAs, IsWorld, Numbers, World}
 use Rattle.plan_meaning.specs.Shapes.{Shape, shape_trees}
 use Rattle.read_follow.proofs.{DefiningLaws.all_at, DefiningLaws.longer, DefiningLaws.map_so, NumberingLaws.since_plus, PlacedLaws.stands_on, PlacedLaws.stood}

@@ -8,8 +8,8 @@ use Rattle.comp_bytes.specs.Reading.{◌>>=◌}
 use Rattle.comp_meaning.specs.Follow.{Scope as MeantScope, Seen as MeantSeen, Instance as MeantInstance, Slot as Meant, function_in, in_scope, is_simple, named_type, provided, see, see_function, see_type}
 use Rattle.read_follow.specs.declared.{names.ExternName.ExternName, refusal.Refusal.Refusal, scopes.Instance.Instance, scopes.Seen.Seen, shows.NewName.NewName}
 use Rattle.read_follow.specs.declared.slots.Slot.{Slot}
-use Rattle.read_follow.specs.{Defining.Grows, Placed.apart, Placed.DeclarationOver, Placed.MayMeet, Placed.SignatureOver, Placed.SlotOver, Places.has_path}
-use Rattle.read_follow.specs.{ExternNames.raw_name, Following.declared_in, Following.AreTables, Following.IsSlotIn, Following.IsState, Following.State}
+use Rattle.read_follow.specs.{Defining.Grows, Placed.apart, Placed.DeclarationOver, Placed.MayMeet, Placed.SlotOver, Places.has_path}
+use Rattle.read_follow.specs.{ExternNames.raw_name, Following.AreTables, Following.IsSlotIn, Following.IsState, Following.State}
 use Rattle.read_follow.specs.{Found.Refuses, Slots.no_signature, Slots.slot_in, Slots.slots_in, Slots.AreInRange, Slots.AreNames}
 use Rattle.read_follow.specs.{Functions.functions_in, Functions.IsFunctionIn, Numbering.all_in, Numbering.parts_in, Numbering.slot_parts, Numbering.CountUp}
 use Rattle.read_follow.specs.InstanceScopes.{name_meant, name_slot, named_by}

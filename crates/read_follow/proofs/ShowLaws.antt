@@ -9,7 +9,7 @@ use Rattle.comp_meaning.specs.Follow.{InstanceScope as MeantScope, Slot as Meant
 use Rattle.read_follow.specs.declared.{names.ExternName.ExternName, refusal.Refusal.Refusal, views.ShownFunction.ShownFunction, views.ShownType.ShownType}
 use Rattle.read_follow.specs.declared.{shows.NewName.NewName, slots.Slot.Slot}
 use Rattle.read_follow.specs.{ExternNames.raw_name, Found.Refuses, Functions.functions_in}
-use Rattle.read_follow.specs.Following.{declared_in, scope_at, shown_function, shown_type, signatures_at, slots_at, trees_at, AreTables, Halts, IsShownFunctionIn, IsShownIn, IsSlotIn, IsState, IsTypeSlot, State, Steps}
+use Rattle.read_follow.specs.Following.{scope_at, shown_function, shown_type, signatures_at, slots_at, trees_at, AreTables, Halts, IsShownFunctionIn, IsShownIn, IsSlotIn, IsState, IsTypeSlot, State, Steps}
 use Rattle.read_follow.specs.{InstanceScopes.name_meant, InstanceScopes.name_slot, InstanceScopes.named_by, Numbering.slot_parts, Numbering.CountUp}
 use Rattle.read_follow.specs.Placed.{apart, slot_part, DeclarationOver, MayMeet, SlotOver, ViewOver}
 use Rattle.read_follow.specs.Slots.{no_signature, resource_slot, slot_in, slots_in, AreInRange, AreNames, IsName}

@@ -2,7 +2,7 @@
 use Rattle.std.proofs.Common.{rules as std_rules, ◌≡◌, refl, sym, ap, ◌∙◌, subst, ℕ, ◌+◌, ◌-◌, ◌<◌, arith, inl, inr, Bool, true, false, cond, List, length, Option, Some, None, slice_get, unwrap_or, suc, ◌≤◌, ◌&&◌, ◌==◌, [], ◌∷◌, ◌++◌, append_assoc}
 use Rattle.std.proofs.lemmas.Bool.{lt-ltb, le-ltb, false≢true}
 use Rattle.std.proofs.lemmas.Option.{none-some as not_some, same_Some as some_same, slice_get_within as found_below}
-use Rattle.wit_model.specs.{Meaning.Signature, Text.Text, Tree.Place, Tree.Tree, Types.no_tree}
+use Rattle.wit_model.specs.{Meaning.Signature, Tree.Place, Tree.Tree, Types.no_tree}
 use Rattle.comp_meaning.specs.Follow.{is_foreign_name, InstanceScope as MeantScope, in_instance, instance_step, instance_steps, instance_view, new_instance, provided}
 use Rattle.read_follow.specs.declared.{slots.Slot.Slot, bodies.Body.Body, views.View.View}
 use Rattle.read_follow.specs.declared.{refusal.Refusal.Refusal, views.InstanceScope.InstanceScope, views.ShownFunction.ShownFunction, views.ShownType.ShownType}

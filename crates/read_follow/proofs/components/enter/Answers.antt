@@ -1,8 +1,7 @@
 use Rattle.std.proofs.Common.{◌∙◌, ap, length, subst, List}
-use Rattle.comp_meaning.specs.{ByLevels.entry_step, Follow.component_step}
-use Rattle.read_follow.specs.declared.{bodies.Entry.Entry, slots.Slot.Slot}
-use Rattle.read_follow.specs.{Bodies.raw_entry, Bodies.IsWhole, Declares.raw_declared, Scopes.world_of, Scopes.Stops}
-use Rattle.read_follow.proofs.{ComponentLaws.held_goes, ComponentLaws.stops_as, FollowingLaws.if_err}
+use Rattle.read_follow.specs.declared.{slots.Slot.Slot}
+use Rattle.read_follow.specs.{Bodies.IsWhole, Scopes.world_of}
+use Rattle.read_follow.proofs.{ComponentLaws.held_goes}
 use Rattle.read_follow.proofs.components.enter.Goals as goal
 
 pub returns-in-Plain-clause-absent : goal.returns-in-Plain-clause-absent

@@ -14,10 +14,8 @@ loop-init c =
     )
 
 pub returns-in-Err-clause-absent : goal.returns-in-Err-clause-absent
-returns-in-Err-clause-absent c =
-    stopped_on (start_of c.args.home c.args.table.now c.args.functions.now c.args.places.now) c.args.entries.body c.loop.counter c.loop.rest.now
-    (world_of c.loop.table c.loop.functions c.loop.places c.loop.scope) c.loop.invariant.0 c.loop-test.true
-    c.enter_front.new.places c.in-Err.refusal c.in-Err.ensures.grows c.in-Err.ensures.absent
+returns-in-Err-clause-absent c = stopped_on (start_of c.args.home c.args.table.now c.args.functions.now c.args.places.now) c.args.entries.body c.loop.counter c.loop.rest.now
+    (world_of c.loop.table c.loop.functions c.loop.places c.loop.scope) c.loop.invariant.0 c.loop-test.true c.enter_front.new.places c.in-Err.refusal c.in-Err.ensures.grows c.in-Err.ensures.absent
 
 pub loop-preserved : goal.loop-preserved
 loop-preserved c = (
@@ -28,6 +26,5 @@ loop-preserved c = (
 )
 
 pub returns-clause-followed : goal.returns-clause-followed
-returns-clause-followed c =
-    followed_whole (start_of c.args.home c.args.table.now c.args.functions.now c.args.places.now) c.args.entries.body c.loop.counter c.loop.rest.now
+returns-clause-followed c = followed_whole (start_of c.args.home c.args.table.now c.args.functions.now c.args.places.now) c.args.entries.body c.loop.counter c.loop.rest.now
     (world_of c.loop.table c.loop.functions c.loop.places c.loop.scope) c.loop.invariant.0 c.loop.auto.counter-end c.loop-test.false

@@ -1,10 +1,8 @@
-use Rattle.std.proofs.Common.{ap, true, false}
 use Rattle.comp_bytes.specs.{Raw.Declaration, RawOf.raw_alias, RawOf.raw_defined, RawOf.raw_function}
-use Rattle.comp_meaning.specs.Follow.{component_step, see_described}
-use Rattle.read_follow.specs.declared.declarations.Declared.{Declared}
-use Rattle.read_follow.specs.{Declares.raw_declared, Defining.Grows, Defining.IsDefined, Defining.IsDefinedFunction, Defining.IsUndefined, ExternNames.raw_name}
-use Rattle.read_follow.specs.{NameTables.AreNamesOf, Scopes.direction, Scopes.world_of, Scopes.Goes, Scopes.Stops}
-use Rattle.read_follow.proofs.ComponentLaws.{alias_goes, alias_stops, defined_goes, defined_stops, goes_as, signed_goes, signed_stops, stops_as}
+use Rattle.comp_meaning.specs.Follow.{component_step}
+use Rattle.read_follow.specs.{Defining.Grows, Defining.IsDefined, Defining.IsDefinedFunction, Defining.IsUndefined}
+use Rattle.read_follow.specs.{NameTables.AreNamesOf, Scopes.world_of, Scopes.Goes, Scopes.Stops}
+use Rattle.read_follow.proofs.ComponentLaws.{alias_goes, alias_stops, defined_goes, defined_stops, signed_goes, signed_stops}
 use Rattle.read_follow.proofs.{FollowingLaws.if_err, FollowingLaws.on_ok, FollowingLaws.ranges_of, NameTableLaws.names_grow}
 use Rattle.read_follow.proofs.components.step.Goals as goal
 
@@ -59,11 +57,9 @@ pub returns-in-Export-clause-absent : goal.returns-in-Export-clause-absent
 returns-in-Export-clause-absent c = rw c.in-Export.is c.see-in-Export.ensures.absent
 
 pub returns-in-Import-clause-names : goal.returns-in-Import-clause-names
-returns-in-Import-clause-names c =
-    on_ok (Grows c.args.scope.now.instances.items c.see.new.scope.instances.items) (AreNamesOf c.args.names.now c.see.new.scope.instances.items) c.see.result
+returns-in-Import-clause-names c = on_ok (Grows c.args.scope.now.instances.items c.see.new.scope.instances.items) (AreNamesOf c.args.names.now c.see.new.scope.instances.items) c.see.result
     (λ g. names_grow c.args.names.now c.args.scope.now.instances.items c.see.new.scope.instances.items g c.requires.names) c.see.ensures.instances
 
 pub returns-in-Export-clause-names : goal.returns-in-Export-clause-names
-returns-in-Export-clause-names c =
-    on_ok (Grows c.args.scope.now.instances.items c.see-in-Export.new.scope.instances.items) (AreNamesOf c.args.names.now c.see-in-Export.new.scope.instances.items) c.see-in-Export.result
-    (λ g. names_grow c.args.names.now c.args.scope.now.instances.items c.see-in-Export.new.scope.instances.items g c.requires.names) c.see-in-Export.ensures.instances
+returns-in-Export-clause-names c = on_ok (Grows c.args.scope.now.instances.items c.see-in-Export.new.scope.instances.items) (AreNamesOf c.args.names.now c.see-in-Export.new.scope.instances.items)
+    c.see-in-Export.result (λ g. names_grow c.args.names.now c.args.scope.now.instances.items c.see-in-Export.new.scope.instances.items g c.requires.names) c.see-in-Export.ensures.instances

@@ -1,14 +1,13 @@
-use Rattle.std.proofs.Common.{ap, ℕ, List}
+use Rattle.std.proofs.Common.{ℕ, List}
 use Rattle.wit_model.specs.Tree.{Place}
 use Rattle.comp_bytes.specs.{Raw.Declaration, RawOf.raw_alias, RawOf.raw_defined, RawOf.raw_function}
 use Rattle.comp_meaning.specs.Follow.{Slot as Meant}
-use Rattle.read_follow.specs.declared.{declarations.Declared.Declared, slots.Slot.Slot}
-use Rattle.read_follow.specs.{Declares.raw_declared, Following.Halts, Following.Steps, InstanceScopes.state_of, InstanceScopes.step_of, Slots.slots_in}
+use Rattle.read_follow.specs.declared.{slots.Slot.Slot}
+use Rattle.read_follow.specs.{Following.Halts, Following.Steps, InstanceScopes.state_of, InstanceScopes.step_of, Slots.slots_in}
 use Rattle.read_follow.specs.{Defining.IsDefined, Defining.IsDefinedFunction, Defining.IsUndefined, Functions.functions_in, Functions.FunctionShape}
 use Rattle.plan_meaning.specs.Shapes.{Shape, shape_trees}
-use Rattle.read_follow.proofs.FollowingLaws.{defined_halts, defined_step, function_halts, function_step, halts_as, if_err, on_ok, ranges_of, steps_as}
+use Rattle.read_follow.proofs.FollowingLaws.{defined_halts, defined_step, function_halts, function_step, if_err, on_ok, ranges_of}
 use Rattle.read_follow.proofs.StepLaws.{alias_halts, alias_step}
-use Rattle.read_follow.specs.declared.declarations.Declared.TheVariants as declared
 use Rattle.read_follow.proofs.instances.step.Goals as goal
 
 -- what stands around

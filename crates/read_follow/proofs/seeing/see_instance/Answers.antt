@@ -34,7 +34,6 @@ returns-in-Err-used_view-clause-absent c =
     instance_stops old c.requires c.args.is_import c.args.name c.args.n c.key_of.new.places c.in-Ok.key c.in-Ok.ensures.key c.in-Err-used_view.refusal none
 
 pub returns-in-Ok-used_view-clause-instances : goal.returns-in-Ok-used_view-clause-instances
-returns-in-Ok-used_view-clause-instances c =
-    on_ok (IsInstanceAdded c.args.scope.now c.push_instance.new.scope c.args.is_import c.in-Ok.key c.args.name.external_id c.args.n c.in-Ok-used_view.view)
+returns-in-Ok-used_view-clause-instances c = on_ok (IsInstanceAdded c.args.scope.now c.push_instance.new.scope c.args.is_import c.in-Ok.key c.args.name.external_id c.args.n c.in-Ok-used_view.view)
     (Grows c.args.scope.now.instances.items c.push_instance.new.scope.instances.items) c.push_instance.result
     (λ a. record { more = record { place = place_number c.in-Ok.key; view = c.in-Ok-used_view.view } ∷ []; is = a.instances }) c.push_instance.ensures.added

@@ -1,4 +1,4 @@
-use Rattle.std.proofs.Common.{◌∙◌, ap, sym, refl, ℕ, Option}
+use Rattle.std.proofs.Common.{sym, refl, ℕ, Option}
 use Rattle.wit_model.specs.Tree.{Place}
 use Rattle.comp_bytes.specs.declared.forms.ComponentTypeRef.{ComponentTypeRef}
 use Rattle.comp_meaning.specs.Follow.{InstanceScope as MeantScope, is_simple, show, show_function, show_type, when}
