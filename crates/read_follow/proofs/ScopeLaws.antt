@@ -15,7 +15,7 @@ use Rattle.read_follow.specs.Scopes.{direction, instance_in, meant_at, seen_in, 
 use Rattle.plan_meaning.specs.Shapes.{Shape, shape_trees}
 use Rattle.read_follow.proofs.{DefiningLaws.all_at, DefiningLaws.longer, DefiningLaws.map_so, NumberingLaws.since_plus, PlacedLaws.stands_on, PlacedLaws.stood}
 use Rattle.read_follow.proofs.FollowingLaws.{declared_stays, functions_stay, signature_stays, slots_stay, types_stay, wider_declared, wider_functions, wider_number, wider_part, wider_slots, wider_types}
-use Rattle.base_lemmas.proofs.{Elements.all_both, Lists.length_of_map, Lists.slice_front, Lists.split_at}
+use Rattle.base_lemmas.proofs.{Bools.or_true, Elements.all_both, Lists.length_of_map, Lists.slice_front, Lists.split_at}
 use Rattle.plan_meaning.proofs.Lists.{each_so}
 use Rattle.read_follow.specs.declared.scopes.Shown.TheVariants as shown
 use Rattle.read_follow.specs.declared.slots.Slot.TheVariants as slots
@@ -278,9 +278,6 @@ waiting_fewer used m n [] = omega arith
 waiting_fewer used m n (x ∷ ss) =
     let same = ap (λ u. cond u 0 (waits x)) (any_more used m n) in
     omega (arith, same, waiting_more (used ++ m ∷ []) n x ss, waiting_more used n x ss, fewer (list_any (λ k. k == n) used) (m == n) (waits x), waiting_fewer used m (suc n) ss)
-
-or_true : (u : Bool) → (u || true) ≡ true
-or_true x = search std_rules
 
 -- what is used waits no more
 pub waiting_used : (used : List ℕ) (k n : ℕ) (ss : List Slot) (s : Slot) → slice_get ss k ≡ Some s → list_any (λ m. m == n + k) used ≡ false
