@@ -68,8 +68,7 @@ sequence_length {A = A} reader (suc n) bytes xs e = by (reader bytes) (sym (sequ
         omega (arith, long, many)
 
     by : (o : Option (A × List ℕ)) → after_first reader n o ≡ Some xs → ((behind : List ℕ) (ys : List A × List ℕ) → sequence_at reader n behind ≡ Some ys → length ys.0 ≡ n) → length xs.0 ≡ suc n
-    by None h f = absurd cc
-    by (Some x) h f = more x.0 (sequence_at reader n x.1) (f x.1) h
+    by x h f = search (std_rules, more)
 
 -- ---- a slot more
 
@@ -103,14 +102,11 @@ module _ (old : World) (st : IsWorld old) where
 
   pub defined_goes : (d : DefinedType) (more : List Shape) (ss : List Slot) → IsTable more → IsDefined old.shapes old.slots d more ss
       → Goes 1 (λ m. component_step m (Declaration.defined d)) old (with_slots more old.signatures ss)
-  defined_goes d more ss table is =
-      pushed more old.signatures is.grown (same_list old.signatures) (record {
-        table = table;
-        placed = is.placed (length old.paths) st.tables.placed;
-        signatures =
-            functions_wider (length old.shapes) (length more) old.signatures (longer old.shapes more is.grown) st.tables.signatures;
-      }) (slots.Value is.part) is.range
-      (λ base places p. definition_over (MayMeet (map has_path old.paths) old.home) (meant_at apart old).slots p.slots d (part_tree (shape_trees apart more) is.part)
+  defined_goes d more ss table is = pushed more old.signatures is.grown (same_list old.signatures) (record {
+    table = table;
+    placed = is.placed (length old.paths) st.tables.placed;
+    signatures = functions_wider (length old.shapes) (length more) old.signatures (longer old.shapes more is.grown) st.tables.signatures;
+  }) (slots.Value is.part) is.range (λ base places p. definition_over (MayMeet (map has_path old.paths) old.home) (meant_at apart old).slots p.slots d (part_tree (shape_trees apart more) is.part)
       (is.found apart (world_signatures apart old) (names_at apart)))
       is.forms 1 (λ m. component_step m (Declaration.defined d)) ss is.next (let count = is.count in omega (arith, count)) (length more, is.counted, refl)
       (λ place of. ap (λ o. o >>= λ t. Some (in_scope (follow.value t) (meant_at place old))) (is.found place (world_signatures place old) (names_at place)))
@@ -121,15 +117,12 @@ module _ (old : World) (st : IsWorld old) where
 
   pub signed_goes : (f : FunctionType) (more_fs : List FunctionShape) (ss : List Slot) → IsDefinedFunction old.signatures old.slots f more_fs ss
       → Goes 1 (λ m. component_step m (Declaration.function f)) old (with_slots old.shapes more_fs ss)
-  signed_goes f more_fs ss is =
-      pushed old.shapes more_fs (same_list old.shapes) (joins_grow old.signatures more_fs is.shape is.joins)
-      (record {
-        table = st.tables.table;
-        placed = st.tables.placed;
-        signatures =
-            joins_all (IsFunctionIn (length old.shapes)) old.signatures more_fs is.shape is.joins st.tables.signatures
-            (is.ranges (length old.shapes) (ranges_of old.shapes old.signatures old.slots st.slots));
-      }) (slots.Function is.number) (found_below more_fs is.number is.shape is.at) (λ base places p.
+  signed_goes f more_fs ss is = pushed old.shapes more_fs (same_list old.shapes) (joins_grow old.signatures more_fs is.shape is.joins) (record {
+    table = st.tables.table;
+    placed = st.tables.placed;
+    signatures = joins_all (IsFunctionIn (length old.shapes)) old.signatures more_fs is.shape is.joins st.tables.signatures
+        (is.ranges (length old.shapes) (ranges_of old.shapes old.signatures old.slots st.slots));
+  }) (slots.Function is.number) (found_below more_fs is.number is.shape is.at) (λ base places p.
       subst (λ (s : Signature). SignatureOver (MayMeet (map has_path old.paths) old.home) s)
       (sym (ap (λ o. unwrap_or o no_signature) (mapped_get (signature_in (world_trees apart old)) more_fs is.number is.shape is.at)))
       (signature_over (MayMeet (map has_path old.paths) old.home) (meant_at apart old).slots p.slots f (signature_in (world_trees apart old) is.shape)
@@ -201,19 +194,14 @@ module _ (old : World) (st : IsWorld old) where
       where
         by : (o : Option Instance) → slice_get old.instances m ≡ o
             → exported_slot name (slice_get (map (instance_in place T F) old.instances) m) ≡ (slot_of_instance old.paths name o >>= λ s. Some (slot_in T F s))
-        by None e = ap (exported_slot name) (mapped_none (instance_in place T F) old.instances m e)
-        by (Some x) e = ap (exported_slot name) (mapped_get (instance_in place T F) old.instances m x e)
-            ∙ (ap (λ o. o >>= λ slot. provided (has_path (path_of (place x.place))) slot) (found_meant name x.view.types.items)
-            ∙ (provided_slot (has_path (path_of (place x.place))) (find_slot name x.view.types.items)
-            ∙ ap (λ b. (find_slot name x.view.types.items >>= λ s. provided b s) >>= λ s. Some (slot_in T F s)) (path_is x.place (all_at _ _ m x st.instances e).place)))
+        by x e = search (std_rules, mapped_none, mapped_get, found_meant, provided_slot, path_is, all_at)
 
     alias_meant : (a : Alias) → component_step (meant_at place old) (Declaration.alias_of a) ≡ (taken_from old.paths old.instances a >>= λ s. Some (in_scope (slot_in T F s) (meant_at place old)))
     alias_meant (Alias.of_outer scopes n) = refl
     alias_meant (Alias.of_export m name) = ap (λ o. o >>= λ slot. Some (in_scope slot (meant_at place old))) (exported_meant name m) ∙ by (slot_of_instance old.paths name (slice_get old.instances m))
       where
         by : (o : Option Slot) → ((o >>= λ s. Some (slot_in T F s)) >>= λ slot. Some (in_scope slot (meant_at place old))) ≡ (o >>= λ s. Some (in_scope (slot_in T F s) (meant_at place old)))
-        by None = refl
-        by (Some s) = refl
+        by x = search std_rules
 
   found_in : (name : Text) (ts : List ShownType) → AllByRecursion (IsShownIn old.shapes old.signatures) ts → (s : Slot) → find_slot name ts ≡ Some s → IsSlotIn old.shapes old.signatures s
       × IsTypeSlot s
@@ -222,8 +210,7 @@ module _ (old : World) (st : IsWorld old) where
     where
       by : (b : Bool) → cond b (Some t.slot) (find_slot name ts) ≡ Some s → (find_slot name ts ≡ Some s → IsSlotIn old.shapes old.signatures s × IsTypeSlot s) → IsSlotIn old.shapes old.signatures s
           × IsTypeSlot s
-      by true f rest = let same : t.slot ≡ s = cc in (subst (λ (x : Slot). IsSlotIn old.shapes old.signatures x) same h.0.slot, subst (λ (x : Slot). IsTypeSlot x) same h.0.kind)
-      by false f rest = rest f
+      by x f rest = search std_rules
 
   given_if : (b : Bool) (o : Option Slot) (s : Slot) → (o >>= λ x. provided b x) ≡ Some s → (b ≡ true) × (o ≡ Some s)
   given_if x y s e = search std_rules
@@ -294,14 +281,12 @@ one_step : {S A : Type 0} (step : S → A → Option S) (state : S) (xs : List A
 one_step {S = S} step state [] x = by (step state x)
   where
     by : (o : Option S) → (o >>= λ next. Some next) ≡ o
-    by None = refl
-    by (Some next) = refl
+    by x = search std_rules
 one_step {S = S} {A = A} step state (y ∷ xs) x = by (step state y) (λ next. one_step step next xs x)
   where
     by : (o : Option S) → ((next : S) → steps step next (xs ++ x ∷ []) ≡ (steps step next xs >>= λ last. step last x))
         → (o >>= λ next. steps step next (xs ++ x ∷ [])) ≡ ((o >>= λ next. steps step next xs) >>= λ last. step last x)
-    by None more = refl
-    by (Some next) more = more next
+    by x more = search (std_rules, more)
 
 -- ---- stages
 
@@ -429,8 +414,7 @@ module _ (start : World) (b : Body) where
         by (Some x) is = nothing_on x.0 x.1 is paths e grows (h x.0 x.1 is)
 
   pub followed_whole : (i : ℕ) (rest : List ℕ) (now : World) → IsFollowedTo start b i rest now → i ≤ b.count → b.count ≤ i → IsFollowedTo start b b.count [] now
-  followed_whole i rest now f le ge =
-      subst (λ (n : ℕ). IsFollowedTo start b n [] now) (omega (arith, le, ge))
+  followed_whole i rest now f le ge = subst (λ (n : ℕ). IsFollowedTo start b n [] now) (omega (arith, le, ge))
       (subst (λ (bytes : List ℕ). IsFollowedTo start b i bytes now) (none_left entry_at (b.count - i) rest f.es (omega (arith, ge)) f.left).1 f)
 
 -- nothing has been followed

@@ -136,8 +136,7 @@ functions_wider n m (f ∷ fs) le h = (
 )
   where
     outcome_wider : (o : Option ℕ) → IfSome o (λ k. k < 14 + n) → IfSome o (λ k. k < 14 + m)
-    outcome_wider None b = tt
-    outcome_wider (Some k) b = omega (arith, b, le)
+    outcome_wider x b = search std_rules
 
 pub joins_grow : {X : Type 0} (old new : List X) (x : X) → Joins old x new → Grows old new
 joins_grow old new x stays = same_list old

@@ -1,5 +1,5 @@
 -- Declarations of an instance type: those of which none is an import.
-use Rattle.std.proofs.Common.{rules as std_rules, ◌≡◌, refl, sym, ap, ◌∙◌, ℕ, zero, suc, Bool, true, false, cond, List, ◌∷◌, Option, Some, None}
+use Rattle.std.proofs.Common.{rules as std_rules, ◌≡◌, refl, sym, ap, ◌∙◌, ℕ, zero, suc, Bool, false, cond, List, ◌∷◌, Option, Some, None}
 use Rattle.comp_bytes.specs.{Raw.Declaration, Form.Spellings, Laws.IsReadBy, Spelling.IsDeclaration}
 use Rattle.comp_bytes.specs.{Levels.import_free, Levels.held_at, Reading.◌>>=◌, Reading.u32_at, Reading.sequence_at, Reading.vector_at, Reading.declaration_at}
 use Rattle.comp_bytes.proofs.{Readers.bind_some, DeclarationLaws.declaration_law}
@@ -60,5 +60,4 @@ held_declaration_law = record {
     unless x y e = by (is_import x.0) refl e
       where
         by : (b : Bool) → is_import x.0 ≡ b → cond b None (Some x) ≡ Some y → (is_import x.0 ≡ false) × (x ≡ y)
-        by true is h = absurd cc
-        by false is h = (is, cc)
+        by x is h = search std_rules

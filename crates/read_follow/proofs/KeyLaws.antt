@@ -41,7 +41,6 @@ pub key_same : (a b : Key) → same_key a b ≡ true → shape_of a ≡ shape_of
 key_same a b e = search (std_rules, eqb-true, first_true, second_true, labels_same, text_same)
 
 pub key_again : (a b : Key) → shape_of a ≡ shape_of b → same_key a b ≡ true
-key_again a b e =
-    both (a.sort == b.sort) _ (eq-eqb a.sort b.sort (ap (λ (s : Shape). s.sort) e))
+key_again a b e = both (a.sort == b.sort) _ (eq-eqb a.sort b.sort (ap (λ (s : Shape). s.sort) e))
     (both (a.number == b.number) _ (eq-eqb a.number b.number (ap (λ (s : Shape). s.number) e))
     (both _ _ (labels_again a.labels.items b.labels.items (ap (λ (s : Shape). s.labels) e)) ((bytes_eq-Decides a.parts.items b.parts.items).1 (ap (λ (s : Shape). s.parts) e))))

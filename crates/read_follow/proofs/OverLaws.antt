@@ -6,7 +6,7 @@ use Rattle.wit_model.specs.{Meaning.Signature, Text.Text, Tree.Place, Tree.Tree,
 use Rattle.comp_bytes.specs.declared.forms.{ComponentValType.ComponentValType, ComponentTypeRef.ComponentTypeRef}
 use Rattle.comp_bytes.specs.{Raw.Labeled, Raw.DefinedType, Raw.FunctionType, Reading.◌>>=◌}
 use Rattle.comp_bytes.proofs.Readers.{bind_some, when_some}
-use Rattle.comp_meaning.specs.Follow.{Slot as Meant, value, resource, function, instance, each, given, provided, is_filled, is_key, primitive_of_type, value_in, resource_in, value_type, field_type, case_type, declared_by, definition, function_signature, named_like, named_type}
+use Rattle.comp_meaning.specs.Follow.{Slot as Meant, resource, each, given, provided, is_filled, is_key, primitive_of_type, value_in, resource_in, value_type, field_type, case_type, declared_by, definition, function_signature, named_like, named_type}
 use Rattle.read_follow.specs.{Facts.places, Facts.places_in, Placed.DeclarationOver, Placed.SignatureOver, Placed.SlotOver, Placed.TreeOver}
 use Rattle.read_follow.proofs.DefiningLaws.{all_at}
 use Rattle.base_lemmas.proofs.{Elements.none_in, Elements.seconds, Options.some_is}
@@ -50,21 +50,13 @@ module _ (P : Place → Type 0) where
     value_over n t e = by (slice_get slots n) refl e
       where
         by : (o : Option Meant) → slice_get slots n ≡ o → value_in o ≡ Some t → TreeOver P t
-        by None at h = absurd cc
-        by (Some (value u)) at h = subst (TreeOver P) (some_is u t h) (all_at (SlotOver P) slots n (value u) all at)
-        by (Some (resource place name)) at h = absurd cc
-        by (Some (function f)) at h = absurd cc
-        by (Some (instance ds around)) at h = absurd cc
+        by x at h = search (std_rules, some_is, all_at)
 
     resource_over : (n : ℕ) (t : Tree) → resource_in (slice_get slots n) ≡ Some t → AllByRecursion (TreeOver P) (t ∷ [])
     resource_over n t e = by (slice_get slots n) refl e
       where
         by : (o : Option Meant) → slice_get slots n ≡ o → resource_in o ≡ Some t → AllByRecursion (TreeOver P) (t ∷ [])
-        by None at h = absurd cc
-        by (Some (value u)) at h = absurd cc
-        by (Some (resource place name)) at h = subst (λ u. AllByRecursion (TreeOver P) (u ∷ [])) (some_is _ t h) (name_over place name (all_at _ _ n (resource place name) all at), tt)
-        by (Some (function f)) at h = absurd cc
-        by (Some (instance ds around)) at h = absurd cc
+        by x at h = search (std_rules, some_is, name_over, all_at)
 
     type_over : (v : ComponentValType) (t : Tree) → value_type slots v ≡ Some t → TreeOver P t
     type_over (values.Primitive p) t e = subst (TreeOver P) (some_is (Tree.primitive (primitive_of_type p)) t e) (λ x c. absurd (none_in x c))
@@ -147,9 +139,6 @@ module _ (P : Place → Type 0) where
         first d slot h same = subst (λ (x : tree.Declaration × Meant). DeclarationOver P x.0) (some_is (d, slot) found same) h
 
         by : (o : Option Meant) → slice_get slots n ≡ o → (o >>= λ slot. declared_by slot >>= λ d. Some (d, named_like slot place name)) ≡ Some found → DeclarationOver P found.0
-        by (Some (value u)) at h = first (tree.Declaration.type_ u) (named_like (value u) place name) (all_at (SlotOver P) slots n (value u) all at) h
-        by (Some (resource q x)) at h = first (tree.Declaration.type_ (Tree.named q x)) (named_like (resource q x) place name) (name_over q x (all_at (SlotOver P) slots n (resource q x) all at)) h
-        by (Some (function f)) at h = absurd cc
-        by _ at h = absurd cc
+        by x at h = search (std_rules, first, all_at, name_over)
     named_over place name refs.SubResource found e = subst (λ (x : tree.Declaration × Meant). DeclarationOver P x.0) (some_is (tree.Declaration.resource, resource place name) found e) tt
     named_over place name _ found e = absurd cc

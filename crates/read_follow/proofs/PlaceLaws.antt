@@ -80,8 +80,7 @@ pub paths_apart : (shapes : List (Text × ℕ)) (marks : List Bool) → ArePlace
 paths_apart shapes marks kept m n path em en = kept.apart m n (path, 0) (shape_of_path shapes m em) (shape_of_path shapes n en)
   where
     is_shape : (x : Text × ℕ) (b : Bool) → (x.1 == 0) ≡ b → cond b (Some x.0) None ≡ Some path → x ≡ (path, 0)
-    is_shape x true e same = let text : x.0 ≡ path = cc in let zero = eqb-true x.1 0 e in λ i. (text i, zero i)
-    is_shape x false e same = absurd cc
+    is_shape x y e same = search (std_rules, eqb-true)
 
     shape_of_path : (xs : List (Text × ℕ)) (k : ℕ) → slice_get (map path_in xs) k ≡ Some (Some path) → slice_get xs k ≡ Some (path, 0)
     shape_of_path [] k e = absurd cc

@@ -104,8 +104,7 @@ module _ (marks : List Bool) (before : List Shape) (here : ℕ) (old new : State
                   type = t;
                   at = at_last old.types t;
                   named = named;
-                  is =
-                      is ∙ ap (λ m. 14 + m) (table.apart number n (named_shape q name) (at ∙ ap Some h.1) e);
+                  is = is ∙ ap (λ m. 14 + m) (table.apart number n (named_shape q name) (at ∙ ap Some h.1) e);
                 },
               )
         ]

@@ -1,5 +1,5 @@
 -- What imports, exports and aliases of a component type show.
-use Rattle.std.proofs.Common.{rules as std_rules, ◌≡◌, ◌⊎◌, inl, inr, refl, sym, ap, ◌∙◌, subst, ℕ, ◌+◌, ◌<◌, ◌≤◌, arith, Bool, true, false, cond, List, [], ◌∷◌, ◌++◌, map, length, Option, Some, None, IfSome, slice_get, unwrap_or, Result, OnOk}
+use Rattle.std.proofs.Common.{rules as std_rules, ◌≡◌, ◌⊎◌, inl, inr, refl, sym, ap, ◌∙◌, subst, ℕ, ◌+◌, ◌<◌, ◌≤◌, arith, Bool, true, cond, List, [], ◌∷◌, ◌++◌, map, length, Option, Some, None, IfSome, slice_get, unwrap_or, Result, OnOk}
 use Rattle.std.proofs.{Math.ListN.length-map, lemmas.Bool.cases_lt, lemmas.List.append-nil, lemmas.Option.slice_get_within as found_below}
 use Rattle.std.specs.List.{AllByRecursion}
 use Rattle.wit_model.specs.{Meaning.Signature, Text.Text, Tree.Place, Tree.Tree}
@@ -175,8 +175,7 @@ module _ (old : World) (st : IsWorld old) (name : ExternName) (kind : ComponentT
               ]
 
           declared_below : (o : Option ℕ) → length old.shapes ≤ number → IfSome o (λ k. k < 14 + length old.shapes) → IfSome o (λ k. k < 14 + number)
-          declared_below None past h = tt
-          declared_below (Some k) past h = omega (arith, h, past)
+          declared_below x past h = search std_rules
 
           behind : length old.shapes ≤ number → IsLastName (p.counts ++ length more ∷ []) (length old.imports) (length more) (14 + number) d
           behind past =
@@ -184,14 +183,13 @@ module _ (old : World) (st : IsWorld old) (name : ExternName) (kind : ComponentT
               record {
                 last = omega (arith, inside, past, one);
                 declared = declared_below d past range;
-                others = λ i b e less.
-                    omega (
-                      arith,
-                      (counts_below first places (length old.shapes) old p i b
-                          (stood p.counts (p.counts ++ length more ∷ []) (record { more = length more ∷ []; is = refl }) i b (omega (arith, less, p.many)) e)),
-                      inside,
-                      past,
-                    );
+                others = λ i b e less. omega (
+                  arith,
+                  (counts_below first places (length old.shapes) old p i b
+                      (stood p.counts (p.counts ++ length more ∷ []) (record { more = length more ∷ []; is = refl }) i b (omega (arith, less, p.many)) e)),
+                  inside,
+                  past,
+                );
               }
 
   pub type_goes : (made : NewName) → IfSome made.declared (λ k. (n : ℕ) → AreInRange n old.slots → k < 14 + n)
@@ -237,16 +235,14 @@ module _ (old : World) (st : IsWorld old) (name : ExternName) (kind : ComponentT
             (named_by (world_trees apart old) (apart old.home) name.text.now made)
             (found (world_trees apart old) (world_signatures apart old) (apart old.home) name.text.now (names_of apart old.shapes old.signatures old.slots st.tables.table st.slots))),
         tt,
-      ) tt
-      (record { number = number; is = refl; at = at }, tt) ((tt, tt), tt) (λ j x e past. absurd (none_past old.instances j x e past))
+      ) tt (record { number = number; is = refl; at = at }, tt) ((tt, tt), tt) (λ j x e past. absurd (none_past old.instances j x e past))
       (type_names first places p more number at new seen made.declared refl refl refl adds table) (λ n form parts low e. adds_name old.shapes more old.home name.text.now adds n form parts e) refl
       (one_counted first places (length old.shapes) old p new true seen c refl le (omega arith)
       (type_counted first places p more number at new seen made.declared refl gs (adds_one old.shapes more (named_shape old.home name.text.now) adds)
       (old_range marks (base old) bs name old.home kind made.declared range)))) (all_before old.paths (old.instances ++ [])) (none_behind (length old.paths) old.paths)
       (let same = ap (λ us. waiting us 0 (old.slots ++ s ∷ [])) (append-nil old.used) in
       omega (arith, same, waiting_push old.used 0 old.slots s, (ap waits is ∙ no_wait made.is_resource (14 + number)), adds_one old.shapes more (named_shape old.home name.text.now) adds))
-      (all_in None (parts_in (s ∷ [])))
-      (slot_numbered old st more old.signatures old.paths gs gf gp tables s (seen ∷ []) [] inside
+      (all_in None (parts_in (s ∷ []))) (slot_numbered old st more old.signatures old.paths gs gf gp tables s (seen ∷ []) [] inside
       (subst (λ (x : Slot). CountUp (length old.shapes) (slot_parts x) (length more)) (sym is) (name_counted marks (base old) bs name old.home kind made.is_resource more number at adds))) (λ place of.
       let U = shape_trees place more in
       let G = functions_in U old.signatures in
@@ -257,10 +253,8 @@ module _ (old : World) (st : IsWorld old) (name : ExternName) (kind : ComponentT
             (old_range marks (base old) bs name old.home kind made.declared range)) i,
         sym (ap (slot_in U G) is ∙ (name_stands marks (base old) bs name old.home kind place made.is_resource more number table at
             ∙ ap (λ p. name_meant made.is_resource p name.text.now) (of old.home None st.own))) i,
-      )))
-      ∙ (ap (λ v. provided v (see (direction true) (seen_in place U G (old.instances ++ []) seen) (in_scope (slot_in U G s) m))) simple
+      ))) ∙ (ap (λ v. provided v (see (direction true) (seen_in place U G (old.instances ++ []) seen) (in_scope (slot_in U G s) m))) simple
       ∙ ap Some (plus_type m (slot_in U G s) (seen_in place U G (old.instances ++ []) seen)))))
     where
       no_wait : (r : Bool) (k : ℕ) → waits (name_slot r k) ≡ 0
-      no_wait true k = refl
-      no_wait false k = refl
+      no_wait x k = search std_rules

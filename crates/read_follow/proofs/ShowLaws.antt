@@ -206,13 +206,10 @@ module _ (marks : List Bool) (old : State) (st : IsState (length marks) old) (na
           follows = λ place marked.
               let U = shape_trees place more in
               ap (with_named (scope_at place old)) (found (trees_at place old) (signatures_at place old) (place here) name.text.now
-              (names_of place old.shapes old.signatures old.slots st.tables.table st.slots))
-              ∙ ((λ i. with_named (scope_at place old) (Some (
-                sym (declared_stays (length marks) old.shapes more old.signatures old.signatures st.tables gs gf place made.declared
-                    (old_range made.declared range)) i,
+              (names_of place old.shapes old.signatures old.slots st.tables.table st.slots)) ∙ ((λ i. with_named (scope_at place old) (Some (
+                sym (declared_stays (length marks) old.shapes more old.signatures old.signatures st.tables gs gf place made.declared (old_range made.declared range)) i,
                 sym (ap (slot_in U (functions_in U old.signatures)) is ∙ name_stands place made.is_resource more number table at) i,
-              )))
-              ∙ ap Some (sym (shown_scope (length marks) old st more old.signatures gs gf tables s inside ss next t shown ts last place)));
+              ))) ∙ ap Some (sym (shown_scope (length marks) old st more old.signatures gs gf tables s inside ss next t shown ts last place)));
         }
 
 -- ---- either of them

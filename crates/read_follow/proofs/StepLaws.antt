@@ -133,9 +133,7 @@ module _ (marks : List Bool) (old : State) (st : IsState (length marks) old) (he
   taken_over (Alias.of_outer scopes n) s e = by (slice_get outer n) refl e
     where
       foreign : (b c : Bool) (x : Slot) → provided (b && c) x ≡ Some s → (x ≡ s) × (c ≡ true)
-      foreign true true x h = (some_same x s h, refl)
-      foreign true false x h = absurd cc
-      foreign false c x h = absurd cc
+      foreign x y c h = search (std_rules, some_same)
 
       by : (o : Option Slot) → slice_get outer n ≡ o → (o >>= λ x. provided (scopes == 1 && foreign_slot marks old.shapes x) x) ≡ Some s
           → SlotOver (MayMeet marks here) (slot_in (trees_at apart old) (signatures_at apart old) s)
@@ -217,8 +215,7 @@ same_view marks before here shapes fs ss ts us et gs hs ef p = search std_rules
 module _ (marks : List Bool) (here : ℕ) (start : State) (tables : AreTables (length marks) start.shapes start.signatures) (outer : List Slot) (inside : AreSlotsIn start.shapes start.signatures outer) (b : Body) where
   pub followed_none : (ss : List Slot) (ts : List ShownType) (fs : List ShownFunction) → ss ≡ [] → ts ≡ [] → fs ≡ [] → IsBody held_declaration_at b
       → IsFollowed marks here start outer b 0 b.bytes.now (record { shapes = start.shapes; signatures = start.signatures; slots = ss; types = ts; functions = fs })
-  followed_none ss ts fs es et ef whole =
-      subst (λ (now : State). IsFollowed marks here start outer b 0 b.bytes.now now)
+  followed_none ss ts fs es et ef whole = subst (λ (now : State). IsFollowed marks here start outer b 0 b.bytes.now now)
       (λ i. record { shapes = start.shapes; signatures = start.signatures; slots = sym es i; types = sym et i; functions = sym ef i }) (record {
         state = record { tables = tables; slots = tt; types = tt; functions = tt };
         shapes_grow = same_list start.shapes;

@@ -269,8 +269,7 @@ module _ (old : World) (st : IsWorld old) (b : Bool) (name : ExternName) (n : �
         (subst (λ k. waiting (old.used ++ k ∷ []) 0 old.slots + u.body.count ≤ waiting old.used 0 old.slots) (none_before n)
             (waiting_used old.used n 0 old.slots (slots.Instance u.body u.around) u.slot (ap (λ k. list_any (λ m. m == k) old.used) (none_before n) ∙ u.unused))),
         u.view.count,
-      ))
-      (all_in (Some (length old.instances)) u.view.parts) (
+      )) (all_in (Some (length old.instances)) u.view.parts) (
         subst (λ (ps : List ℕ). CountUp (length old.shapes) ps (length more)) (sym (bare_all (Some (length old.instances)) u.view.parts)) u.view.counted,
         (λ place of. held_numbered gp v more more_fs u place of),
         (λ base places p. instance_scoped (extended old st more more_fs paths gs gf gp tables [] (x ∷ []) (imported b s) (exported b s) (n ∷ [])) (length old.instances) x (at_last old.instances x)
