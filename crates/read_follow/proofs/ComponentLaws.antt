@@ -176,13 +176,10 @@ module _ (old : World) (st : IsWorld old) where
     found_meant name [] = refl
     found_meant name (t ∷ ts) = search (std_rules, found_meant name ts)
 
-    path_same : (o : Option Text) → has_path (path_of (follow.place_of o)) ≡ has_path o
-    path_same x = search std_rules
-
     path_is : (p : ℕ) → p < length old.paths → has_path (path_of (place p)) ≡ has_path (unwrap_or (slice_get old.paths p) None)
     path_is p below =
         let found = slice_there old.paths p below in
-        ap (λ x. has_path (path_of x)) (of p found.0 found.1) ∙ (path_same found.0 ∙ ap (λ o. has_path (unwrap_or o None)) (sym found.1))
+        ap (λ x. has_path (path_of x)) (of p found.0 found.1) ∙ ((search std_rules) ∙ ap (λ o. has_path (unwrap_or o None)) (sym found.1))
 
     provided_slot : (b : Bool) (o : Option Slot) → ((o >>= λ s. Some (slot_in T F s)) >>= λ slot. provided b slot) ≡ ((o >>= λ s. provided b s) >>= λ s. Some (slot_in T F s))
     provided_slot b None = refl

@@ -73,9 +73,6 @@ sums_more s f parts t h one = record {
 pub tells_along : (f : Fact) (t u : (ℕ → Place) → Tree) → ((place : ℕ → Place) → t place ≡ u place) → Tells f t → Tells f u
 tells_along f t u e h = search std_rules
 
-primitive_tells : (p : Primitive) → Tells primitive_fact (λ place. Tree.primitive p)
-primitive_tells p = record { levels = λ place. refl; names = λ place. refl; plain = λ place. refl; parts = λ place. refl; labels = λ place. refl }
-
 primitive_at : (k : ℕ) → k < 14 → (p : Primitive) × ((T : List Tree) → part_tree T k ≡ Tree.primitive p)
 primitive_at k small =
     let found = slice_there primitives k small in
@@ -91,7 +88,8 @@ module _ (facts : List Fact) where
       | inl small ↦
           let p = primitive_at k small in
           subst (λ f. Tells f (λ place. part_tree (trees place) k)) (sym (front_fact k small))
-          (tells_along primitive_fact (λ place. Tree.primitive p.0) (λ place. part_tree (trees place) k) (λ place. sym (p.1 (trees place))) (primitive_tells p.0))
+          (tells_along primitive_fact (λ place. Tree.primitive p.0) (λ place. part_tree (trees place) k) (λ place. sym (p.1 (trees place)))
+          ((record { levels = λ place. refl; names = λ place. refl; plain = λ place. refl; parts = λ place. refl; labels = λ place. refl })))
       | inr n ↦
           let found = slice_there facts n.0 (omega (arith, h, n.1)) in
           subst (λ f. Tells f (λ place. part_tree (trees place) k)) (sym ((search std_rules)))

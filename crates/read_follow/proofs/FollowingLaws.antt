@@ -130,13 +130,7 @@ module _ (m : ℕ) (shapes more : List Shape) (fs more_fs : List FunctionShape) 
 
 pub functions_wider : (n m : ℕ) (fs : List FunctionShape) → n ≤ m → AreFunctionsIn n fs → AreFunctionsIn m fs
 functions_wider n m [] le h = tt
-functions_wider n m (f ∷ fs) le h = (
-  record { params = each_so _ _ (λ (q : Text × ℕ) b. omega (arith, b, le)) f.params h.0.params; outcome = outcome_wider f.outcome h.0.outcome },
-  functions_wider n m fs le h.1,
-)
-  where
-    outcome_wider : (o : Option ℕ) → IfSome o (λ k. k < 14 + n) → IfSome o (λ k. k < 14 + m)
-    outcome_wider x b = search std_rules
+functions_wider n m (f ∷ fs) le h = (record { params = each_so _ _ (λ (q : Text × ℕ) b. omega (arith, b, le)) f.params h.0.params; outcome = search std_rules }, functions_wider n m fs le h.1)
 
 pub joins_grow : {X : Type 0} (old new : List X) (x : X) → Joins old x new → Grows old new
 joins_grow old new x stays = same_list old

@@ -45,15 +45,12 @@ params_again (x ∷ xs) (y ∷ ys) e =
 outcomes_same : (a b : Option ℕ) → option_eq nat_eq a b ≡ true → a ≡ b
 outcomes_same z u e = search std_rules
 
-outcomes_again : (a b : Option ℕ) → a ≡ b → option_eq nat_eq a b ≡ true
-outcomes_again z u e = search std_rules
-
 pub function_same : (a b : FunctionKey) → same_function a b ≡ true → function_shape a ≡ function_shape b
 function_same a b e = search (std_rules, beq_same, first_true, second_true, params_same, outcomes_same)
 
 pub function_again : (a b : FunctionKey) → function_shape a ≡ function_shape b → same_function a b ≡ true
 function_again a b e = both (beq a.is_async b.is_async) _ (ap (beq a.is_async) (sym (ap (λ (s : FunctionShape). s.is_async) e)) ∙ beq_again a.is_async)
-    (both _ _ (params_again a.params.items b.params.items (ap (λ (s : FunctionShape). s.params) e)) (outcomes_again a.result b.result (ap (λ (s : FunctionShape). s.outcome) e)))
+    (both _ _ (params_again a.params.items b.params.items (ap (λ (s : FunctionShape). s.params) e)) ((search std_rules)))
 
 -- ---- parameters, one after the other
 

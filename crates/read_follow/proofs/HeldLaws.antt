@@ -57,7 +57,4 @@ held_declaration_law = record {
 }
   where
     unless : (x y : Declaration × List ℕ) → cond (is_import x.0) None (Some x) ≡ Some y → (is_import x.0 ≡ false) × (x ≡ y)
-    unless x y e = by (is_import x.0) refl e
-      where
-        by : (b : Bool) → is_import x.0 ≡ b → cond b None (Some x) ≡ Some y → (is_import x.0 ≡ false) × (x ≡ y)
-        by x is h = search std_rules
+    unless x y e = search std_rules

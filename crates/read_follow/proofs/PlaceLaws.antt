@@ -79,12 +79,9 @@ none_read x n e path given = let none : None ≡ Some path = sym (no_path x n e)
 pub paths_apart : (shapes : List (Text × ℕ)) (marks : List Bool) → ArePlaces shapes marks → ArePathsApart (map path_in shapes)
 paths_apart shapes marks kept m n path em en = kept.apart m n (path, 0) (shape_of_path shapes m em) (shape_of_path shapes n en)
   where
-    is_shape : (x : Text × ℕ) (b : Bool) → (x.1 == 0) ≡ b → cond b (Some x.0) None ≡ Some path → x ≡ (path, 0)
-    is_shape x y e same = search (std_rules, eqb-true)
-
     shape_of_path : (xs : List (Text × ℕ)) (k : ℕ) → slice_get (map path_in xs) k ≡ Some (Some path) → slice_get xs k ≡ Some (path, 0)
     shape_of_path [] k e = absurd cc
-    shape_of_path (x ∷ xs) zero e = let same : path_in x ≡ Some path = cc in ap Some (is_shape x (x.1 == 0) refl same)
+    shape_of_path (x ∷ xs) zero e = let same : path_in x ≡ Some path = cc in ap Some ((search (std_rules, eqb-true)))
     shape_of_path (x ∷ xs) (suc k) e = shape_of_path xs k e
 
 -- what is known of a number is known of it as it is counted

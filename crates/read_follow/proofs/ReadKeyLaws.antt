@@ -102,17 +102,10 @@ module _ (slots : List Meant) (is_async : Bool) where
       last ps rest None = refl
       last ps rest (Some t) = refl
 
-      unended : (behind : List ℕ) → result_list_at behind ≡ None → (m : Option (List (Text × Tree))) → None ≡ with_outcome (followed_by behind m)
-      unended behind e z = search (std_rules, made_unread)
-
-      ended : (v : Option ComponentValType) (behind rest : List ℕ) → result_list_at behind ≡ Some (v, rest) → (m : Option (List (Text × Tree)))
-          → followed_by rest (m >>= λ ps. given (value_type slots) v >>= λ t. Some (signed ps t)) ≡ with_outcome (followed_by behind m)
-      ended v behind rest e u = search (std_rules, last, made_on)
-
       parts : (fs : List (Labeled ComponentValType)) (behind : List ℕ) (o : Option (Option ComponentValType × List ℕ)) → result_list_at behind ≡ o
           → meant_as (function_signature slots) (typed_as is_async (both_read fs o)) ≡ with_outcome (followed_by behind (each (field_type slots) fs))
-      parts fs behind None e = unended behind e (each (field_type slots) fs)
-      parts fs behind (Some v) e = ended v.0 behind v.1 e (each (field_type slots) fs)
+      parts fs behind None e = search (std_rules, made_unread)
+      parts fs behind (Some v) e = search (std_rules, last, made_on)
 
       by : (o : Option (List (Labeled ComponentValType) × List ℕ))
           → meant_as (function_signature slots) (typed_as is_async (o >>= λ x. both_read x.0 (result_list_at x.1))) ≡ with_outcome (meant_as (each (field_type slots)) o)

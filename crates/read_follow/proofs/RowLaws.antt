@@ -141,9 +141,6 @@ pub part_more : (ss : List Slot) (ks : List ℕ) (p : Option ℕ) → ((n : ℕ)
     → (n : ℕ) → AreInRange n ss → AllByRecursion (λ k. k < 14 + n) (ks ++ option_to_list p)
 part_more ss ks x all one n ranges = search (std_rules, append-nil, all_end)
 
-given_list : (f : ℕ → Tree) (p : Option ℕ) → map f (option_to_list p) ≡ option_to_list (option_map f p)
-given_list f x = search std_rules
-
 module _ {X A : Type 0} (raw : X → A) (all : List X) (i : ℕ) where
   pub raw_at : (d : X) → i < length all → drop i (map raw all) ≡ raw (get_or all i d) ∷ drop (i + 1) (map raw all)
   raw_at d more = drop-map raw i all ∙ (ap (map raw) (drop_more all i d more) ∙ ap (λ xs. raw (get_or all i d) ∷ xs) (sym (drop-map raw (i + 1) all)))
@@ -201,7 +198,7 @@ module _ (ss : List Slot) (all : List (Bor (List ℕ) × Option ComponentValType
         rows_more (case_type (slots_in T F ss)) case_labels case_trees (map labeled all) i labels (map (part_tree T) ks) (kept T F) (labeled x) (raw_at labeled all i d more)
         (x.0.now, option_map (part_tree T) p) nls (map (part_tree T) nks) (ap (λ o. o >>= λ t. Some (x.0.now, t)) (e T F))
         (el ∙ ap (λ c. labels ++ (x.0.now, c) ∷ []) (mark ∙ sym ((search std_rules))))
-        (ap (map (part_tree T)) ek ∙ (map-append (part_tree T) ks (option_to_list p) ∙ ap (λ ts. map (part_tree T) ks ++ ts) (given_list (part_tree T) p)))
+        (ap (map (part_tree T)) ek ∙ (map-append (part_tree T) ks (option_to_list p) ∙ ap (λ ts. map (part_tree T) ks ++ ts) ((search std_rules))))
 
     pub case_refused : (e : Refusal) → ((T : List Tree) (F : List Signature) → Refuses e (payload (value_type (slots_in T F ss)) (get_or all i d).1)) → (T : List Tree) (F : List Signature)
         → Refuses e (each (case_type (slots_in T F ss)) (map labeled all))

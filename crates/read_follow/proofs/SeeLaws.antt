@@ -6,7 +6,7 @@ use Rattle.wit_model.specs.{Meaning.Signature, Text.Text, Tree.Place, Tree.Tree}
 use Rattle.comp_bytes.specs.declared.forms.ComponentTypeRef.{ComponentTypeRef}
 use Rattle.comp_bytes.specs.Reading.{◌>>=◌}
 use Rattle.comp_meaning.specs.Follow.{Scope as MeantScope, Seen as MeantSeen, Instance as MeantInstance, Slot as Meant, function_in, in_scope, is_simple, named_type, provided, see, see_function, see_type}
-use Rattle.read_follow.specs.declared.{names.ExternName.ExternName, refusal.Refusal.Refusal, scopes.Instance.Instance, scopes.Seen.Seen, shows.NewName.NewName}
+use Rattle.read_follow.specs.declared.{names.ExternName.ExternName, refusal.Refusal.Refusal, scopes.Seen.Seen, shows.NewName.NewName}
 use Rattle.read_follow.specs.declared.slots.Slot.{Slot}
 use Rattle.read_follow.specs.{Defining.Grows, Placed.apart, Placed.DeclarationOver, Placed.MayMeet, Placed.SlotOver, Places.has_path}
 use Rattle.read_follow.specs.{ExternNames.raw_name, Following.AreTables, Following.IsSlotIn, Following.IsState, Following.State}
@@ -149,11 +149,8 @@ module _ (old : World) (st : IsWorld old) (name : ExternName) (kind : ComponentT
           → IsCountedAs new (p.counts ++ length more ∷ []) (length old.imports) (length more) (shown.Type name.text (14 + number) d)
       type_counted gs one range = elim (cases_lt number (length old.shapes)) [ inl below ↦ inl (repeated below) | inr past ↦ inr (behind past) ]
         where
-          not_home : (j : ℕ) (x : Instance) → slice_get old.instances j ≡ Some x → x.place ≡ old.home → ⊥
-          not_home j x there is = elim (p.instances j x there).own [ inl path ↦ cc | inr inline ↦ inline.not_home is ]
-
           from_shown : IsShownBy old old.home name.text.now (14 + number) → IsImportRepeated new.imports (length old.imports) name.text.now
-          from_shown (by_instance j x there is among) = absurd (not_home j x there is)
+          from_shown (by_instance j x there is among) = absurd ((elim (p.instances j x there).own [ inl path ↦ cc | inr inline ↦ inline.not_home is ]))
           from_shown (by_import j y label o there is named own) = record {
             number = j;
             earlier = found_below old.imports j y there;

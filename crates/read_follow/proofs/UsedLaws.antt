@@ -88,11 +88,8 @@ module _ (marks : List Bool) (here : ℕ) (start : State) (ss : List Slot) (used
 
 -- ---- an instance under its key
 
-path_is : (o : Option Text) → is_path (follow.place_of o) ≡ has_path o
-path_is x = search std_rules
-
 marked_paths : (paths : List (Option Text)) (place : ℕ → Place) → ArePlacesOf paths place → AreMarked (map has_path paths) place
-marked_paths paths place of n b e = let m = get_back has_path paths n b e in ap is_path (of n m.0 m.1) ∙ (path_is m.0 ∙ m.2)
+marked_paths paths place of n b e = let m = get_back has_path paths n b e in ap is_path (of n m.0 m.1) ∙ ((search std_rules) ∙ m.2)
 
 -- the interface of a key is that of its place
 module _ (paths : List (Option Text)) (place : ℕ → Place) (of : ArePlacesOf paths place) where
