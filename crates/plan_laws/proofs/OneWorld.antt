@@ -36,6 +36,9 @@ functions_in_front (x ∷ xs) ys s whole c = by (x.place == s.place && x.whole) 
     by false e more (suc j, low, same) = more (j, omega (arith, low), same)
 
 module _ (t : Tables) (h : Homes) (n : ℕ) (m : Member) (own : List Member) (w : Scope) (is : m.part ≡ parts.World w) (own_are : AreOwnInterfaces t h n (numbered_scope w) (numbered_members own)) where
+  abbrev ms : List Member
+  ms = m ∷ own
+
   abbrev shown : List NumberedSight
   shown = sights_of_scope t (numbered_scope w)
 
@@ -43,13 +46,13 @@ module _ (t : Tables) (h : Homes) (n : ℕ) (m : Member) (own : List Member) (w 
   others = sights_of_members t (numbered_members own)
 
   -- the views of the world come first
-  pub views_first : sights_of_members t (numbered_members (m ∷ own)) ≡ shown ++ others
+  pub views_first : sights_of_members t (numbered_members ms) ≡ shown ++ others
   views_first = ap (λ a. sights_of_part t (numbered_part a) ++ others) is
 
-  pub shown_among : (s : NumberedSight) → Contains shown s → Contains (sights_of_members t (numbered_members (m ∷ own))) s
+  pub shown_among : (s : NumberedSight) → Contains shown s → Contains (sights_of_members t (numbered_members ms)) s
   shown_among s c = subst (λ ss. Contains ss s) (sym views_first) (Contains-append_left shown others s c)
 
-  pub functions_shown : (s : NumberedSight) → Contains shown s → functions_seen s.place (sights_of_members t (numbered_members (m ∷ own))) ≡ functions_seen s.place shown
+  pub functions_shown : (s : NumberedSight) → Contains shown s → functions_seen s.place (sights_of_members t (numbered_members ms)) ≡ functions_seen s.place shown
   functions_shown s c = ap (functions_seen s.place) views_first ∙ functions_in_front shown others s (ap (λ (x : NumberedSight). x.whole) (sym (instance_of_view t (numbered_scope w) s c).2)) c
 
   -- the place of one of those interfaces is one that the world shows
@@ -62,9 +65,9 @@ module _ (t : Tables) (h : Homes) (n : ℕ) (m : Member) (own : List Member) (w 
       (one.first, first.0, first.1 ∙ ap (λ (x : NumberedSight). x.place) view)
 
   -- so is each place under a path
-  pub place_shown : (q : ℕ) → Contains (places_in (m ∷ own)) q → HasPath t q → (s : NumberedSight) × Contains shown s × (s.place ≡ q)
+  pub place_shown : (q : ℕ) → Contains (places_in ms) q → HasPath t q → (s : NumberedSight) × Contains shown s × (s.place ≡ q)
   place_shown q c path =
-      let seen = sight_of_place t (m ∷ own) q c path in
+      let seen = sight_of_place t ms q c path in
       by seen.0 seen.2 (Contains-append_cases shown others seen.0 (subst (λ ss. Contains ss seen.0) views_first seen.1))
     where
       by : (s : NumberedSight) → s.place ≡ q → Contains shown s ⊎ Contains others s → (r : NumberedSight) × Contains shown r × (r.place ≡ q)
@@ -77,14 +80,14 @@ module _ (t : Tables) (h : Homes) (n : ℕ) (m : Member) (own : List Member) (w 
   no_worlds [] all = refl
   no_worlds (x ∷ xs) all = search (std_rules, no_worlds xs all.1)
 
-  pub one_world : worlds_in (m ∷ own) ≡ (m.label.now, w) ∷ []
+  pub one_world : worlds_in ms ≡ (m.label.now, w) ∷ []
   one_world = ap (λ a. world_in_part m.label.now a ++ worlds_in own) is ∙ ap (λ ws. (m.label.now, w) ∷ ws) (no_worlds own own_are.each)
 
   -- A plan of all this has it as its one world.
   pub record IsPlannedAlone (kept : List ℕ) (p : Plan) : Type 0 where
     pub world : PlannedWorld
     pub alone : p.worlds ≡ world ∷ []
-    pub plans : PlansWorld t kept (places_in (m ∷ own)) n (m.label.now, w) world
+    pub plans : PlansWorld t kept (places_in ms) n (m.label.now, w) world
 
-  pub planned_alone : (p : Plan) (planned : PlansWhole t h.packages (home_at h) n (m ∷ own) p) → IsPlannedAlone planned.kept p
+  pub planned_alone : (p : Plan) (planned : PlansWhole t h.packages (home_at h) n ms p) → IsPlannedAlone planned.kept p
   planned_alone p planned = search (std_rules, one_world)
