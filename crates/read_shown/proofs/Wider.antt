@@ -1,16 +1,12 @@
 -- What is well-formed stays so where more names are met.
-use Rattle.std.proofs.Common.{rules as std_rules}
-use Rattle.std.proofs.{Common.Bool, Common.true, Common.false, ByRecursion.All-weaker as recursion_weaker}
+use Rattle.std.proofs.{Common.rules as std_rules, Common.Bool, Common.true, Common.false, ByRecursion.All-weaker as recursion_weaker}
 use Rattle.wit_model.specs.{Text.Text, Tree.Place, Tree.Tree, Tree.Trees, Meaning.Signature}
 use Rattle.comp_meaning.specs.Follow.{Slot}
-use Rattle.read_shown.specs.Trees.{is_handle, HandleStands, TreeStands, PartsStand, SignatureStands, DeclarationStands, SlotStands}
+use Rattle.read_shown.specs.Trees.{is_handle, TreeStands, PartsStand, SignatureStands, DeclarationStands, SlotStands}
 use Rattle.read_shown.proofs.Lists.{some_weaker}
 use Rattle.wit_model.specs.Tree as tree
 
 module _ (Met More : Place → Text → Bool → Type 0) (wider : (place : Place) (name : Text) (b : Bool) → Met place name b → More place name b) where
-  handle_wider : (ts : Trees) → HandleStands Met ts → HandleStands More ts
-  handle_wider x h = search std_rules
-
   mutual
     pub tree_wider : (t : Tree) → TreeStands Met t → TreeStands More t
     tree_wider (Tree.primitive p) h = tt
@@ -18,7 +14,7 @@ module _ (Met More : Place → Text → Bool → Type 0) (wider : (place : Place
     tree_wider (Tree.node form ts) h = (h.0, parts_wider (is_handle form) ts h.1)
 
     parts_wider : (handle : Bool) (ts : Trees) → PartsStand Met handle ts → PartsStand More handle ts
-    parts_wider true ts h = handle_wider ts h
+    parts_wider true ts h = search std_rules
     parts_wider false Trees.no_children h = tt
     parts_wider false (Trees.child t ts) h = (tree_wider t h.0, parts_wider false ts h.1)
 
