@@ -2,7 +2,7 @@
 use Rattle.std.proofs.Common.{rules as std_rules, ◌≡◌, inl, inr, refl, sym, ap, subst, ◌∙◌, ℕ, zero, suc, Bool, true, false, not, ◌&&◌, ◌||◌, List, [], ◌∷◌, ◌++◌, map, flat_map, Option, Some, None, slice_get}
 use Rattle.std.proofs.lemmas.List.Elements.{Contains-append_left, Contains-append_right}
 use Rattle.std.specs.{List.Contains, List.list_all, List.list_any, Cmp.Lexicographic.pointwise}
-use Rattle.wit_model.specs.{Text.Text, Text.text_eq, Names.PackageIdentity, Names.path_in, Meaning.TypeMeaning, Tree.Place}
+use Rattle.wit_model.specs.{Text.Text, Names.PackageIdentity, Names.path_in, Meaning.TypeMeaning, Tree.Place}
 use Rattle.wit_model.proofs.{Elements.contains-flat, Elements.contains-get, VersionLaws.same_text}
 use Rattle.comp_meaning.specs.{Follow.View, Follow.ShownType, Follow.Instance, Rules.distinct, Rules.is_interface, SameLaws.named_meaning}
 use Rattle.comp_meaning.specs.Reads.{Part, Member, Sight, agree, all_agree, are_interfaces, of_instance, same_functions, same_shown, sights}
@@ -34,20 +34,11 @@ one_number v apart m n t u at there same = one_place (map (λ (x : ShownType). x
 
 any_front : {A : Type 0} (test : A → Bool) (xs ys : List A) → list_any test (xs ++ ys) ≡ false → list_any test xs ≡ false
 any_front test [] ys e = refl
-any_front test (x ∷ xs) ys e = by (test x) e (any_front test xs ys)
-  where
-    by : (b : Bool) → (b || list_any test (xs ++ ys)) ≡ false → (list_any test (xs ++ ys) ≡ false → list_any test xs ≡ false) → (b || list_any test xs) ≡ false
-    by true h rest = h
-    by false h rest = rest h
+any_front test (x ∷ xs) ys e = search (std_rules, any_front test xs ys)
 
 pub distinct_front : (xs ys : List Text) → distinct (xs ++ ys) ≡ true → distinct xs ≡ true
 distinct_front [] ys e = refl
-distinct_front (x ∷ xs) ys e = by (list_any (text_eq x) (xs ++ ys)) refl e (distinct_front xs ys)
-  where
-    by : (b : Bool) → list_any (text_eq x) (xs ++ ys) ≡ b → (not b && distinct (xs ++ ys)) ≡ true → (distinct (xs ++ ys) ≡ true → distinct xs ≡ true)
-        → (not (list_any (text_eq x) xs) && distinct xs) ≡ true
-    by true is h rest = absurd cc
-    by false is h rest = ap (λ c. not c && distinct xs) (any_front (text_eq x) xs ys is) ∙ rest h
+distinct_front (x ∷ xs) ys e = search (std_rules, any_front, distinct_front xs ys)
 
 -- the names of an interface differ
 pub names_differ : (place : Place) (v : View) → is_interface place v ≡ true → NamesDiffer v

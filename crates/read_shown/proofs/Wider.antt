@@ -19,10 +19,7 @@ module _ (Met More : Place → Text → Bool → Type 0) (wider : (place : Place
     parts_wider false (Trees.child t ts) h = (tree_wider t h.0, parts_wider false ts h.1)
 
   pub signature_wider : (f : Signature) → SignatureStands Met f → SignatureStands More f
-  signature_wider f h = (
-    recursion_weaker (λ (p : Text × Tree). TreeStands Met p.1) (λ p. TreeStands More p.1) (λ p. tree_wider p.1) f.params h.0,
-    some_weaker (TreeStands Met) (TreeStands More) tree_wider f.result h.1,
-  )
+  signature_wider f h = search (std_rules, recursion_weaker, tree_wider, some_weaker)
 
   pub declaration_wider : (d : tree.Declaration) (b : Bool) → DeclarationStands Met d b → DeclarationStands More d b
   declaration_wider (tree.Declaration.type_ (Tree.named place name)) b h = wider place name b h
