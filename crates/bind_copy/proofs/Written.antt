@@ -1,5 +1,5 @@
 -- Items that are given new values one after the other, where they stand.
-use Rattle.std.proofs.Common.{rules as std_rules, ◌≡◌, refl, sym, ap, subst, ◌∙◌, ℕ, ◌+◌, ◌≤◌, arith, List, [], ◌∷◌, ◌++◌, length, set, append_assoc, append-nil, Some, slice_get}
+use Rattle.std.proofs.Common.{rules as std_rules, ◌≡◌, refl, sym, ap, subst, ◌∙◌, ℕ, ◌+◌, ◌≤◌, List, [], ◌∷◌, ◌++◌, length, set, append_assoc, Some, slice_get}
 use Rattle.std.proofs.{lemmas.List.length-append, lemmas.List.Elements.length_all_zip, lemmas.List.Elements.AllZip-push, Math.Seq.set-append_seam}
 use Rattle.std.specs.{List.AllZip, Map.values_of}
 use Rattle.indexmap.specs.IndexMap.{set_value_at}

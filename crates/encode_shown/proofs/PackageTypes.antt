@@ -12,8 +12,8 @@ use Rattle.wit_model.proofs.AnyOrder.{distinct-texts}
 use Rattle.wit_model.specs.declared.model.{Resolve.Resolve, Package.Package, PackageId.PackageId, InterfaceId.InterfaceId, World.World}
 use Rattle.comp_bytes.specs.{Raw.Declarations, Raw.Section, Spelling.IsComponent, Reading.◌>>=◌}
 use Rattle.comp_bytes.proofs.Readers.{bind_some}
-use Rattle.comp_meaning.specs.{Follow.Scope, Follow.each, Follow.is_filled, Follow.component_scope, Rules.distinct}
-use Rattle.comp_meaning.specs.Reads.{Member, Part, part_of, member, interface_part, exported_types, package_of_members, world_of_members, Reads, ReadsWorld}
+use Rattle.comp_meaning.specs.{Follow.each, Follow.is_filled, Rules.distinct}
+use Rattle.comp_meaning.specs.Reads.{Member, Part, member, interface_part, exported_types, package_of_members, world_of_members, Reads, ReadsWorld}
 use Rattle.comp_meaning.proofs.MeaningLaws.{one_meaning, one_world}
 use Rattle.encode_shown.specs.Views.{ShowsInterfaceMember, ShowsWorldMember}
 use Rattle.encode_shown.specs.PackageTypes.{IsInterfaceType, IsWorldType, IsListedWorldType, ArePackageTypes}

@@ -5,7 +5,7 @@ use Rattle.std.proofs.lemmas.List.{Folds.list_all-append, Folds.list_all-map, El
 use Rattle.std.specs.declared.alloc.Global.{Global}
 use Rattle.std.specs.{Prelude.is_some, Prelude.filter_map, Prelude.flat_map, List.Contains, List.list_all, Option.option_map_or}
 use Rattle.wit_model.specs.{Text.Text, Text.text_of, Lookup.type_at, Lookup.place_of, Uses.alias_target}
-use Rattle.wit_model.specs.Tree.{Tree, Place, Primitive, Declaration, type_, primitive, named, levels}
+use Rattle.wit_model.specs.Tree.{Tree, Place, Primitive, type_, primitive, named, levels}
 use Rattle.wit_model.specs.Types.{declared_by, tree_of, tree_at, tree_of_declaration, type_tree, number_tree, trees_of, no_tree, number_of, declaration_of}
 use Rattle.wit_model.specs.Parts.{member_types, handled, kind_numbers, met_by, met_of, used_by_type, same_owner, has_owner, is_resource, is_resource_kind, is_resource_type}
 use Rattle.wit_model.specs.Rules.{is_named_kind, is_named_number, passes, in_list, is_use, kind_labels, are_member_labels}

@@ -1,19 +1,19 @@
 -- The paths that a declaration uses are those of the interfaces that it uses.
 use Rattle.std.proofs.Common.{rules as std_rules, ◌≡◌, ◌⊎◌, inl, inr, refl, sym, subst, ap, ◌∙◌, ℕ, suc, zero, Bool, true, false, ◌&&◌, ◌||◌, ◌==◌, cond, List, [], ◌∷◌, Option, Some, None, String, arith}
-use Rattle.std.proofs.{lemmas.Bool.both_ways, lemmas.Cmp.nat_list_eq_equiv, Math.Logic.⊎_elim}
+use Rattle.std.proofs.{Math.Logic.⊎_elim}
 use Rattle.std.specs.declared.alloc.Global.{Global}
 use Rattle.std.specs.{Prelude.option_and_then, Prelude.option_to_list, Prelude.flat_map, List.Contains, List.list_all, Option.option_map_or}
 use Rattle.indexmap.specs.IndexMap.{values}
 use Rattle.wit_model.specs.{Text.Text, Text.text_of, Text.text_eq, Tree.Tree, Tree.type_, Tree.named}
-use Rattle.wit_model.specs.{Types.declared_by, Types.trees_of, Types.type_tree, Types.declaration_of, Meant.type_meaning_at, Meant.no_type, Meant.type_meaning}
+use Rattle.wit_model.specs.{Types.type_tree, Types.declaration_of, Meant.type_meaning_at, Meant.no_type, Meant.type_meaning}
 use Rattle.wit_model.specs.{Lookup.type_at, Lookup.interface_at, Lookup.interface_path, Lookup.place_of, Valid.IsValid}
 use Rattle.wit_model.specs.Uses.{has, alias_target, owner_interface, used_interface, interface_used_by, direct_deps}
-use Rattle.wit_model.specs.declared.model.{Resolve.Resolve, Interface.Interface, TypeDefKind.TypeDefKind, TypeOwner.TypeOwner, «Type».«Type» as ValueType}
+use Rattle.wit_model.specs.declared.model.{Resolve.Resolve, Interface.Interface, TypeOwner.TypeOwner, «Type».«Type» as ValueType}
 use Rattle.wit_model.specs.declared.model.{TypeDef.TypeDef, TypeId.TypeId}
 use Rattle.wit_model.proofs.{Shown.deps_pass, Elements.none-in, Elements.has-contains, Elements.contains-has}
 use Rattle.comp_meaning.specs.{Follow.View, Follow.ShownType, Rules.used_by, Rules.used_by_view, Rules.others_than}
 use Rattle.encode_shown.specs.Views.{shown_type, home_of, types_of}
-use Rattle.encode_shown.proofs.{Children.is_alias, Basics.bool-cases, Basics.option-cases, Parts.alias-target, Members.meaning-there}
+use Rattle.encode_shown.proofs.{Basics.bool-cases, Basics.option-cases, Parts.alias-target, Members.meaning-there}
 use Rattle.base_lemmas.proofs.{Bools.left_of as first_true, Numbers.equal}
 use Rattle.base_lemmas.proofs.Elements.{all-contained, all_pass as all-from, contains-later, contains-map, map_from as contains-mapped}
 use Rattle.wit_model.specs.declared.model.TypeDefKind.TheVariants as kind

@@ -1,14 +1,13 @@
 -- Names of resources, added to a set one by one.
 use Rattle.std.proofs.Common.{rules as std_rules, ◌≡◌, refl, sym, ap, ◌∙◌, ℕ, ◌+◌, ◌<◌, ◌≤◌, Bool, true, false, ◌&&◌, ◌||◌, cond, List, [], ◌∷◌, ◌++◌, map, drop, length, get_or}
 use Rattle.std.proofs.Math.ListN.{drop_of_length-le}
-use Rattle.std.proofs.lemmas.{List.drop_more, List.map-append, List.Folds.list_any-append, Bool.or_right as second_of}
+use Rattle.std.proofs.lemmas.{List.drop_more, List.map-append, List.Folds.list_any-append}
 use Rattle.std.specs.{Borrow.Bor, List.list_any}
 use Rattle.wit_model.specs.Text.{Text, text_eq}
 use Rattle.plan_meaning.specs.NumberedRules.{is_no_part, resources_of}
 use Rattle.read_rules.specs.declared.views.ViewType.{ViewType}
 use Rattle.read_rules.specs.{Tables.now_of, Views.numbered_type}
 use Rattle.base_lemmas.proofs.Bools.{absorbed, or_false, or_line}
-use Rattle.wit_model.proofs.TextLemmas.{text_same as same_text}
 
 -- what passes is found where it stands
 stands : (test : Text → Bool) (a : Text) (ks : List (Bor (List ℕ))) → list_any (λ o. text_eq a o.now) ks ≡ true → test a ≡ true → list_any test (map now_of ks) ≡ true

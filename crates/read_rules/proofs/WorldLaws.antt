@@ -6,7 +6,7 @@ use Rattle.std.specs.{Borrow.Bor, List.flat_map, List.list_all, List.list_any, O
 use Rattle.wit_model.specs.{Text.Text, Uses.has, Names.is_label}
 use Rattle.comp_meaning.specs.Rules.{distinct}
 use Rattle.plan_meaning.specs.{NumberedRules.is_declared, NumberedRules.is_function, NumberedRules.is_interface, NumberedViews.function_at}
-use Rattle.plan_meaning.specs.NumberedWorlds.{NumberedSeen, NumberedShown, are_imports, is_item, is_resource_seen, others_than, path_seen, place_of_key, resources_seen, stand_earlier, used_by, uses_of}
+use Rattle.plan_meaning.specs.NumberedWorlds.{NumberedSeen, are_imports, is_item, is_resource_seen, others_than, path_seen, place_of_key, resources_seen, stand_earlier, used_by, uses_of}
 use Rattle.read_rules.specs.declared.{scopes.Seen.Seen, scopes.Shown.Shown, views.View.View}
 use Rattle.read_rules.specs.declared.{tables.Tables.Tables, views.ViewType.ViewType, scopes.InstanceKey.InstanceKey, tables.FunctionType.FunctionType}
 use Rattle.read_rules.specs.{Places.places_of, Resources.AreSame, Uses.IsPlaceAdded, Uses.item_stands}

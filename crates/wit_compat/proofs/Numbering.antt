@@ -1,5 +1,5 @@
 -- Texts by number: a number is one text's, and stays.
-use Rattle.std.proofs.Common.{rules as std_rules, ◌≡◌, refl, sym, ap, ◌∙◌, ℕ, ◌+◌, ◌==◌, suc, ◌↔◌, IsTrue, Bool, true, false, cond, not, ◌||◌, List, [], ◌∷◌, ◌++◌, map, Option, Some, None, option_map, slice_get, subst, true≢false}
+use Rattle.std.proofs.Common.{rules as std_rules, ◌≡◌, refl, sym, ap, ◌∙◌, ℕ, ◌+◌, ◌==◌, suc, ◌↔◌, IsTrue, Bool, true, false, cond, not, ◌||◌, List, [], ◌∷◌, ◌++◌, map, Option, Some, None, option_map, slice_get, true≢false}
 use Rattle.std.proofs.lemmas.{Bool.eqb-true, Bool.eq-eqb, List.map-append}
 use Rattle.std.specs.{Borrow.Bor, List.list_any, List.position_or_len}
 use Rattle.wit_model.specs.Text.{Text, text_eq}
@@ -10,9 +10,6 @@ use Rattle.base_lemmas.proofs.Options.{some_is, some_same}
 
 abbrev is_text : Text → Bor (List ℕ) → Bool
 is_text t k = text_eq t k.now
-
-some_suc : (o : Option ℕ) (n : ℕ) → option_map suc o ≡ Some n → (m : ℕ) × (o ≡ Some m) × (suc m ≡ n)
-some_suc x n h = search std_rules
 
 -- ---- a text more
 

@@ -13,7 +13,7 @@ use Rattle.wit_model.proofs.{Entries.each_from_at, Entries.lists_pass, TreeTable
 use Rattle.wit_compat.specs.declared.{look.Look.Look, side.Path.Path}
 use Rattle.wit_compat.specs.{Opened.form_of, Opened.is_there, Opened.opened_kind, Opened.places_of, Table.AllInRange, Table.InRange, Table.is_alias, Walk.Pair}
 use Rattle.wit_compat.specs.TwoSides.{path_text, IsKnown, name_leaf, rank, AllSame, IsParted, SameType, Says}
-use Rattle.wit_compat.proofs.Alike.{below_number, is_below, node_children, node_form, places_below, primitive_back, primitive_in, tree_of_number}
+use Rattle.wit_compat.proofs.Alike.{below_number, is_below, node_children, node_form, places_below, primitive_back, primitive_in}
 use Rattle.wit_compat.proofs.OpenedTable.{built, opened_built}
 use Rattle.base_lemmas.proofs.{Bools.left_of as first_true, Bools.not_or, Elements.all-contained as all_contained, Elements.get-contains as contains_at}
 use Rattle.base_lemmas.proofs.Lists.{take_found as take_more_at, within_there as found_at}
