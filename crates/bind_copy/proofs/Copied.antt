@@ -1,5 +1,5 @@
 -- Entries that are copied into a map one behind the other, those that a test passes, where no key stands twice.
-use Rattle.std.proofs.Common.{◌≡◌, refl, sym, ap, subst, ◌∙◌, Bool, true, false, List, [], ◌∷◌, ◌++◌, cond, append-nil}
+use Rattle.std.proofs.Common.{rules as std_rules, ◌≡◌, refl, sym, ap, subst, ◌∙◌, Bool, true, false, List, [], ◌∷◌, ◌++◌, cond, append-nil}
 use Rattle.std.proofs.lemmas.{List.append_assoc, List.Elements.filter-append, List.Elements.AllZip-push}
 use Rattle.std.specs.{List.filter, List.AllByRecursion, List.AllZip, List.IsDistinct, Map.keys_of}
 use Rattle.indexmap.specs.IndexMap.{insert_entry}
@@ -30,9 +30,7 @@ module _ {K V : Type 0} (eq apart : K → K → Bool) (R : K × V → K × V →
 
       go : ((ys : List (K × V)) → AllZip R (filter p xs) ys → AllByRecursion (λ q. eq n.0 q ≡ false) (keys_of ys))
           → (b : Bool) (done : List (K × V)) → AllZip R (cond b (x ∷ filter p xs) (filter p xs)) done → AllByRecursion (λ q. eq n.0 q ≡ false) (keys_of done)
-      go more false done zip = more done zip
-      go more true [] zip = absurd zip
-      go more true (y ∷ ys) zip = (same x e y n zip.0 r ∙ differs, more ys zip.1)
+      go more z done zip = search (std_rules, differs)
 
   module _ (whole rest done : List (K × V)) (e : K × V) (before : CopiedSoFar R p whole (e ∷ rest) done) where
     abbrev front : List (K × V)

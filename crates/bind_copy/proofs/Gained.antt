@@ -23,14 +23,10 @@ module _ (interfaces : List ℕ) where
   pub same_images : (x y u v : WorldKey) → IsKeyUnder interfaces x u → IsKeyUnder interfaces y v → key_eq v u ≡ become_one interfaces x y
   same_images z y v w r s = search std_rules
 
-  -- a key stands here exactly where its image does
-  key_here : (k image : WorldKey) → IsKeyUnder interfaces k image → (y : WorldKey) → key_eq image y ≡ is_key_under interfaces k y
-  key_here x z r y = search std_rules
-
   any_here : (k image : WorldKey) → IsKeyUnder interfaces k image → (es : List (WorldKey × WorldItem))
       → list_any (key_eq image) (keys_of es) ≡ list_any (λ (e : WorldKey × WorldItem). is_key_under interfaces k e.0) es
   any_here k image r [] = refl
-  any_here k image r (e ∷ es) = ap₂ (λ a b. a || b) (key_here k image r e.0) (any_here k image r es)
+  any_here k image r (e ∷ es) = ap₂ (λ a b. a || b) (search std_rules) (any_here k image r es)
 
   pub new_here : (k image : WorldKey) → IsKeyUnder interfaces k image → (es : List (WorldKey × WorldItem)) → not (is_some (lookup (key_eq image) es)) ≡ is_new_under interfaces es k
   new_here k image r es = ap not (is_some-lookup (key_eq image) es ∙ any_here k image r es)

@@ -1,5 +1,5 @@
 -- Items that are given new values one after the other, where they stand.
-use Rattle.std.proofs.Common.{rules as std_rules, ◌≡◌, refl, sym, ap, subst, ◌∙◌, ℕ, ◌+◌, ◌≤◌, arith, List, [], ◌∷◌, ◌++◌, length, set, append_assoc, append-nil, Some, slice_get}
+use Rattle.std.proofs.Common.{rules as std_rules, ◌≡◌, refl, sym, ap, subst, ◌∙◌, ℕ, ◌+◌, ◌≤◌, List, [], ◌∷◌, ◌++◌, length, set, append_assoc, Some, slice_get}
 use Rattle.std.proofs.{lemmas.List.length-append, lemmas.List.Elements.length_all_zip, lemmas.List.Elements.AllZip-push, Math.Seq.set-append_seam}
 use Rattle.std.specs.{List.AllZip, Map.values_of}
 use Rattle.indexmap.specs.IndexMap.{set_value_at}
@@ -35,13 +35,8 @@ module _ {X : Type 0} (R : X → X → Type 0) (Left : List X → Type 0) where
   all_written old now place past s = go s.rest refl
     where
       go : (l : List X) → s.rest ≡ l → AllZip R old now
-      go [] at =
-          subst (λ l. AllZip R l now) (sym (s.were ∙ (ap (λ l. s.front ++ l) at ∙ append-nil s.front)))
-          (subst (λ l. AllZip R s.front l) (sym (s.are ∙ (ap (λ l. s.done ++ l) at ∙ append-nil s.done))) s.each)
-      go (x ∷ xs) at =
-          let long : length now ≡ length s.done + length (x ∷ xs) = ap length s.are ∙ (length-append s.done s.rest ∙ ap (λ l. length s.done + length l) at) in
-          let count = s.count in
-          absurd (omega (arith, long, count, past))
+      go [] at = search std_rules
+      go (x ∷ xs) at = search (std_rules, length-append)
 
 -- ---- in a list
 
@@ -75,9 +70,7 @@ module _ {K V : Type 0} (R : K × V → K × V → Type 0) (Left : List (K × V)
 
       go : (l : List (K × V)) → s.rest ≡ l → (k : K) × ((rest : List (K × V)) × Left ((k, v) ∷ rest))
       go [] none = absurd (none_there 0 v (ap (λ l. slice_get (values_of l) 0) (sym none) ∙ here))
-      go (e ∷ es) some =
-          let same : e.1 ≡ v = some_is e.1 v (ap (λ l. slice_get (values_of l) 0) (sym some) ∙ here) in
-          (e.0, (es, subst Left (some ∙ ap (λ w. (e.0, w) ∷ es) same) s.left))
+      go (e ∷ es) some = search (std_rules, some_is, here)
 
   pub value_written : (old now new : List (K × V)) (place : ℕ) (v w : V) → slice_get (values_of now) place ≡ Some v
       → ((k : K) (rest : List (K × V)) → Left ((k, v) ∷ rest) → R (k, v) (k, w)) → new ≡ set_value_at now place w

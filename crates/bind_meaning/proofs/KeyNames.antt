@@ -1,19 +1,15 @@
 -- Texts without a byte, and the names of functions, which lack those that paths and keys are cut by.
-use Rattle.std.proofs.Common.{◌≡◌, refl, sym, ap, subst, ◌∙◌, arith, ℕ, ◌+◌, Bool, true, false, ◌&&◌, ◌||◌, ◌==◌, not, cond, [], ◌∷◌, ◌++◌, codes, drop, Option, Some, None, option_and_then, String, eq-eqb}
-use Rattle.std.proofs.lemmas.{Bool.and_from, Bool.not-true, List.Folds.list_all-append, Option.some_pair_parts, Option.same_Some as same-some}
+use Rattle.std.proofs.Common.{rules as std_rules, ◌≡◌, refl, sym, ap, subst, ◌∙◌, ℕ, ◌+◌, Bool, true, false, ◌&&◌, ◌||◌, ◌==◌, not, cond, [], ◌∷◌, ◌++◌, codes, drop, Option, Some, None, String, eq-eqb}
+use Rattle.std.proofs.lemmas.{Bool.and_from, Bool.not-true, List.Folds.list_all-append, Option.some_pair_parts}
 use Rattle.std.specs.{List.list_all, List.Contains, Option.option_map_or}
 use Rattle.std.specs.declared.alloc.Global.{Global}
-use Rattle.wit_model.specs.declared.model.{Resolve.Resolve, TypeDef.TypeDef, World.World}
-use Rattle.wit_model.specs.declared.model.{Interface.Interface, Function.Function, FunctionKind.FunctionKind, «TypeOwner».TypeOwner, WorldItem.WorldItem}
-use Rattle.wit_model.specs.{Text.Text, Text.optional_text, Text.text_eq, Text.text_of, Lookup.interface_at, Lookup.resource_of, Lookup.type_at, Lookup.world_at}
-use Rattle.wit_model.specs.{Names.constructor_name, Names.cut, Names.is_label, Names.method_name, Parts.same_owner}
-use Rattle.wit_model.specs.Rules.{after_prefix, entries_labels, function_labels, is_freestanding, is_member, is_member_name, is_member_of, is_name_key, is_resource_itself, is_stability, item_labels, key_label, passes, resource_name}
+use Rattle.wit_model.specs.declared.model.{Resolve.Resolve, TypeDef.TypeDef, World.World, Interface.Interface, Function.Function, FunctionKind.FunctionKind, «TypeOwner».TypeOwner, WorldItem.WorldItem}
+use Rattle.wit_model.specs.{Text.Text, Text.optional_text, Text.text_eq, Text.text_of, Lookup.interface_at, Lookup.resource_of, Lookup.type_at, Lookup.world_at, Names.constructor_name, Names.cut, Names.is_label, Parts.same_owner}
+use Rattle.wit_model.specs.Rules.{after_prefix, function_labels, is_freestanding, is_member, is_member_name, is_member_of, is_name_key, is_resource_itself, is_stability, item_labels, key_label, passes, resource_name}
 use Rattle.wit_model.specs.Valid.{IsValid, as_interface, as_world, function_names, functions_of_interface, item_function, labels}
-use Rattle.wit_model.proofs.{Entries.each_from_at, Entries.lists_pass, Prefixes.after_sound as after-front, ValidLemmas.world_passes as world-passes}
-use Rattle.wit_model.proofs.{NameLaws.label_lacks, OnePath.interface-passes, TextLemmas.text_same as text-same}
+use Rattle.wit_model.proofs.{Entries.each_from_at, Entries.lists_pass, Prefixes.after_sound as after-front, ValidLemmas.world_passes as world-passes, NameLaws.label_lacks, OnePath.interface-passes, TextLemmas.text_same as text-same}
+use Rattle.bind_meaning.proofs.Listed.{by_option, given, tested}
 use Rattle.base_lemmas.proofs.{Bools.left_of as first_true, Bools.right_of as second_true, Elements.all-contained, Elements.contains-map}
-use Rattle.wit_model.specs.declared.model.FunctionKind.TheVariants as call
-use Rattle.wit_model.specs.declared.model.WorldItem.TheVariants as item
 use Rattle.wit_model.specs.declared.model.WorldKey.TheVariants as key
 
 -- ---- texts
@@ -80,74 +76,50 @@ colon = record { of_labels = label_lacks 58 refl; of_methods = refl; of_statics 
 module _ (c : ℕ) (apart : IsApart c) where
   -- what follows a mark, a label and a dot
   marked_lacks : (mark name : Text) (f : Function) → Lacks c mark → is_label name ≡ true → is_member_name (mark ++ (name ++ (46 ∷ []))) f ≡ true → Lacks c (text_of f.name)
-  marked_lacks mark name f plain label h = go (after_prefix (mark ++ (name ++ (46 ∷ []))) (text_of f.name)) refl h
-    where
-      go : (o : Option Text) → after_prefix (mark ++ (name ++ (46 ∷ []))) (text_of f.name) ≡ o → option_map_or is_label o false ≡ true → Lacks c (text_of f.name)
-      go None e g = absurd cc
-      go (Some rest) e g =
-          let whole = after-front (mark ++ (name ++ (46 ∷ []))) (text_of f.name) rest e in
-          subst (Lacks c) (sym whole)
-          (lacks-both c (mark ++ (name ++ (46 ∷ []))) rest (lacks-both c mark (name ++ (46 ∷ [])) plain (lacks-both c name (46 ∷ []) (apart.of_labels name label) apart.of_dots))
-          (apart.of_labels rest g))
+  marked_lacks mark name f plain label h =
+      let front = mark ++ (name ++ (46 ∷ [])) in
+      let rest = tested is_label (after_prefix front (text_of f.name)) h in
+      subst (Lacks c) (sym (after-front front (text_of f.name) rest.0 rest.1))
+      (lacks-both c front rest.0 (lacks-both c mark (name ++ (46 ∷ [])) plain (lacks-both c name (46 ∷ []) (apart.of_labels name label) apart.of_dots)) (apart.of_labels rest.0 rest.2))
+
+  constructor_lacks : (name : Text) (f : Function) → is_label name ≡ true → text_eq (text_of f.name) (constructor_name name) ≡ true → Lacks c (text_of f.name)
+  constructor_lacks name f label h = subst (Lacks c) (sym (text-same (text_of f.name) (constructor_name name) h))
+      (lacks-both c (codes "[constructor]") name apart.of_constructors (apart.of_labels name label))
 
   member_lacks : (r : Resolve) (n : ℕ) (name : Text) (f : Function) (k : FunctionKind) → is_label name ≡ true → (not (is_freestanding k) || is_label (text_of f.name)) ≡ true
       → is_member_of r n name f k ≡ true → Lacks c (text_of f.name)
-  member_lacks r n name f call.Freestanding label own h = apart.of_labels (text_of f.name) own
-  member_lacks r n name f call.AsyncFreestanding label own h = apart.of_labels (text_of f.name) own
-  member_lacks r n name f (call.Method id) label own h = marked_lacks (codes "[method]") name f apart.of_methods label (first_true (is_member_name (method_name name []) f) _ h)
-  member_lacks r n name f (call.AsyncMethod id) label own h = marked_lacks (codes "[method]") name f apart.of_methods label (first_true (is_member_name (method_name name []) f) _ h)
-  member_lacks r n name f (call.Static id) label own h = marked_lacks (codes "[static]") name f apart.of_statics label h
-  member_lacks r n name f (call.AsyncStatic id) label own h = marked_lacks (codes "[static]") name f apart.of_statics label h
-  member_lacks r n name f (call.Constructor id) label own h =
-      let same = text-same (text_of f.name) (constructor_name name) (first_true (text_eq (text_of f.name) (constructor_name name)) _ h) in
-      subst (Lacks c) (sym same) (lacks-both c (codes "[constructor]") name apart.of_constructors (apart.of_labels name label))
+  member_lacks r n name f x label own h =
+      search (std_rules, apart.of_labels, marked_lacks (codes "[method]") name f apart.of_methods, marked_lacks (codes "[static]") name f apart.of_statics, constructor_lacks, first_true)
 
   module _ (r : Resolve) (v : IsValid r) where
     type-label : (n : ℕ) (def : TypeDef) → type_at r n ≡ Some def → passes (λ name. is_label (text_of name)) def.name ≡ true
     unfolding labels
-    type-label n def at =
-        let here : 0 + n ≡ n = omega arith in
-        first_true (passes (λ name. is_label (text_of name)) def.name) _ (each_from_at (labels.type_ r) 0 r.types.items n def (lists_pass labels r v.rules.labels).3 at)
+    type-label n def at = search (std_rules, first_true, each_from_at, lists_pass)
 
     resource-label : (o : TypeOwner) (n : ℕ) (name : Text) → resource_name r o n ≡ Some name → is_label name ≡ true
-    resource-label o n name h = go (type_at r n) refl h
+    resource-label o n name h =
+        let d = given (λ (def : TypeDef). cond (is_resource_itself def.kind && same_owner def.owner o) (optional_text def.name) None) (type_at r n) name h in
+        named (is_resource_itself d.0.kind && same_owner d.0.owner o) d.0.name (type-label n d.0 d.1) d.2
       where
-        given : (b : Bool) (t : Option (String Global)) → passes (λ s. is_label (text_of s)) t ≡ true → cond b (optional_text t) None ≡ Some name → is_label name ≡ true
-        given true (Some s) w e = ap is_label (sym (same-some (text_of s) name e)) ∙ w
-        given _ _ w e = absurd cc
-
-        go : (d : Option TypeDef) → type_at r n ≡ d → option_and_then (λ def. cond (is_resource_itself def.kind && same_owner def.owner o) (optional_text def.name) None) d ≡ Some name
-            → is_label name ≡ true
-        go None at e = absurd cc
-        go (Some def) at e = given (is_resource_itself def.kind && same_owner def.owner o) def.name (type-label n def at) e
+        named : (b : Bool) (t : Option (String Global)) → passes (λ s. is_label (text_of s)) t ≡ true → cond b (optional_text t) None ≡ Some name → is_label name ≡ true
+        named x y w e = search std_rules
 
     -- the name of a function lacks the byte
     function_lacks : (o : TypeOwner) (f : Function) → (not (is_freestanding f.kind) || is_label (text_of f.name)) ≡ true → is_member r o f ≡ true → Lacks c (text_of f.name)
-    function_lacks o f own belongs = go f.kind refl own belongs
+    function_lacks o f own belongs = by_option (resource_of f.kind) (λ none. apart.of_labels (text_of f.name) (unowned f.kind none own)) (λ n is.
+        let tests = λ (name : Text). is_member_of r n name f f.kind in
+        let name = tested tests (resource_name r o n) (sym (ap (passes (λ m. option_map_or (λ name. is_member_of r m name f f.kind) (resource_name r o m) false)) is) ∙ belongs) in
+        member_lacks r n name.0 f f.kind (resource-label o n name.0 name.1) own name.2)
       where
-        named : (k : FunctionKind) (n : ℕ) → (t : Option Text) → resource_name r o n ≡ t → (not (is_freestanding k) || is_label (text_of f.name)) ≡ true
-            → option_map_or (λ name. is_member_of r n name f k) t false ≡ true → Lacks c (text_of f.name)
-        named k n None at own h = absurd cc
-        named k n (Some name) at own h = member_lacks r n name f k (resource-label o n name at) own h
-
-        go : (k : FunctionKind) → f.kind ≡ k → (not (is_freestanding k) || is_label (text_of f.name)) ≡ true
-            → passes (λ n. option_map_or (λ name. is_member_of r n name f k) (resource_name r o n) false) (resource_of k) ≡ true → Lacks c (text_of f.name)
-        go call.Freestanding is own h = apart.of_labels (text_of f.name) own
-        go call.AsyncFreestanding is own h = apart.of_labels (text_of f.name) own
-        go (call.Method id) is own h = named (call.Method id) id.0 (resource_name r o id.0) refl own h
-        go (call.AsyncMethod id) is own h = named (call.AsyncMethod id) id.0 (resource_name r o id.0) refl own h
-        go (call.Static id) is own h = named (call.Static id) id.0 (resource_name r o id.0) refl own h
-        go (call.AsyncStatic id) is own h = named (call.AsyncStatic id) id.0 (resource_name r o id.0) refl own h
-        go (call.Constructor id) is own h = named (call.Constructor id) id.0 (resource_name r o id.0) refl own h
+        unowned : (k : FunctionKind) → resource_of k ≡ None → (not (is_freestanding k) || is_label (text_of f.name)) ≡ true → is_label (text_of f.name) ≡ true
+        unowned x none h = search std_rules
 
     -- the name under which a function of an interface stands lacks the byte
     pub listed_lacks : (n : ℕ) (owner : Interface) → interface_at r n ≡ Some owner → (name : String Global) (f : Function) → Contains owner.functions.entries (name, f) → Lacks c (text_of name)
     unfolding labels function_names
     listed_lacks n owner at name f stands =
         let passed = interface-passes labels r v.rules.labels n owner at in
-        let rest = second_true (passes (λ name. is_label (text_of name)) owner.name) _ passed in
-        let both = second_true (is_stability owner.stability) _ rest in
-        let all = first_true (list_all function_labels (functions_of_interface owner)) _ both in
+        let all : list_all function_labels (functions_of_interface owner) ≡ true = search (std_rules, first_true, second_true, passed) in
         let labelled = all-contained function_labels (functions_of_interface owner) f all (contains-map (λ (e : String Global × Function). e.1) owner.functions.entries (name, f) stands) in
         let own = first_true (not (is_freestanding f.kind) || is_label (text_of f.name)) _ labelled in
         let tested = all-contained (λ e. text_eq (text_of e.0) (text_of e.1.name) && is_member r (as_interface n) e.1) owner.functions.entries (name, f)
@@ -160,11 +132,8 @@ module _ (c : ℕ) (apart : IsApart c) where
     unfolding labels function_names
     key_lacks n w at name shown stands =
         let passed = world-passes labels r v.rules.labels n w at in
-        let rest = second_true (is_label (text_of w.name)) _ passed in
-        let both = second_true (is_stability w.stability) _ rest in
-        let imported = first_true (entries_labels w.imports.entries) _ both in
-        let exported = second_true (entries_labels w.imports.entries) _ both in
-        let all = list_all-append (λ e. key_label e.0 e.1 && item_labels e.1) w.imports.entries w.exports.entries ∙ and_from _ _ imported exported in
+        let both = second_true (is_stability w.stability) _ (second_true (is_label (text_of w.name)) _ passed) in
+        let all = list_all-append (λ e. key_label e.0 e.1 && item_labels e.1) w.imports.entries w.exports.entries ∙ both in
         let here = all-contained (λ e. key_label e.0 e.1 && item_labels e.1) (w.imports.entries ++ w.exports.entries) (key.Name name, shown) all stands in
         let tested = all-contained (λ e. passes (λ f. is_name_key (text_of f.name) e.0 && is_member r (as_world n) f) (item_function e.1)) (w.imports.entries ++ w.exports.entries)
         (key.Name name, shown)
@@ -173,9 +142,4 @@ module _ (c : ℕ) (apart : IsApart c) where
       where
         go : (shown : WorldItem) → key_label (key.Name name) shown ≡ true → passes (λ f. is_name_key (text_of f.name) (key.Name name) && is_member r (as_world n) f) (item_function shown) ≡ true
             → Lacks c (text_of name)
-        go (item.Interface id stability docs external_id) label h = apart.of_labels (text_of name) label
-        go (item.Type_ id) label h = apart.of_labels (text_of name) label
-        go (item.Function f) label h =
-            let same = text-same (text_of name) (text_of f.name) (first_true (is_name_key (text_of f.name) (key.Name name)) _ h) in
-            subst (Lacks c) (sym same) (function_lacks (as_world n) f (ap (λ t. not (is_freestanding f.kind) || is_label t) (sym same) ∙ label)
-            (second_true (is_name_key (text_of f.name) (key.Name name)) _ h))
+        go x label h = search (std_rules, apart.of_labels, text-same, first_true, function_lacks, second_true)

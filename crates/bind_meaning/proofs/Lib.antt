@@ -4,6 +4,8 @@ pub mod Maps
 pub mod ClashLaws
 -- Bindings by lists: they don't clash where no two entries of their lists do, and their union is that of the lists. Serves laws::by_lists; crates above.
 pub mod ListLaws
+-- What stands in lists, and what is found in them under a key. Serves EachOrder, KeyNames, WorldBindings, WorldPaths; crates above.
+pub mod Listed
 -- The union of bindings is a binding, and it doesn't matter which comes first. Serves laws::both_orders, laws::clashes; crates above.
 pub mod UnionLaws
 -- Many bindings can be merged exactly where no two of them clash. Serves laws::any_order; crates above.
@@ -18,8 +20,6 @@ pub mod Examples
 pub mod InterfaceExamples
 -- Texts without a byte, and the names of functions, which lack those that paths and keys are cut by. Serves WorldBindings; crates above.
 pub mod KeyNames
--- What stands in lists, and what is found in them under a key. Serves WorldBindings, WorldPaths; crates above.
-pub mod Listed
 -- Worked examples: worlds that bind in every order, and one that binds in none. Serves no function.
 mod OrderExamples
 -- The empty root world unites with each world that shows no interface at its path, and gains what that world has. Serves laws::one_world_is_bound; crates above.

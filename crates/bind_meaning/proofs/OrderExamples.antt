@@ -2,8 +2,7 @@
 use Rattle.std.proofs.Common.{◌≡◌, refl, sym, subst, List, [], ◌∷◌, None}
 use Rattle.std.specs.Prelude.{codes}
 use Rattle.wit_model.specs.{Names.cut, Meaning.WorldPackage}
-use Rattle.bind_meaning.specs.{Binding.Binding, ByMeaning.binding_of_world, Clash.CanUnite}
-use Rattle.bind_meaning.specs.{Lists.Listed, Lists.ListsAgree, Lists.binding_from, Orders.ArePairwise, Orders.Folds, Orders.IsReordered, Roots.root_binding}
+use Rattle.bind_meaning.specs.{Binding.Binding, ByMeaning.binding_of_world, Clash.CanUnite, Lists.Listed, Lists.ListsAgree, Lists.binding_from, Orders.ArePairwise, Orders.Folds, Orders.IsReordered, Roots.root_binding}
 use Rattle.bind_meaning.proofs.{EachOrder.every_order_folds, ListLaws.got, ListLaws.united_by_lists, WorldLists.binding_listed, WorldLists.world_lists}
 use Rattle.bind_meaning.proofs.InterfaceExamples.{key_shown, showing, test_path, test_shown, under_its_path}
 use Rattle.bind_meaning.proofs.Orders.{pairwise_folds}

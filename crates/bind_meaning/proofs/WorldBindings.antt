@@ -1,23 +1,20 @@
 -- A world of a valid `Resolve`, bound, is a binding.
-use Rattle.std.proofs.Common.{arith, rules as std_rules, slice_get, filter_map, ◌≡◌, refl, sym, ap, subst, ◌∙◌, ℕ, true, false, not, ◌&&◌, ◌||◌, List, [], ◌∷◌, map, length, Option, Some, option_map, option_and_then, unwrap_or, String, Contains}
+use Rattle.std.proofs.Common.{Bool, ◌++◌, arith, rules as std_rules, slice_get, filter_map, ◌≡◌, refl, sym, ap, subst, ◌∙◌, ℕ, true, false, not, ◌&&◌, ◌||◌, List, [], ◌∷◌, map, length, Option, Some, option_map, option_and_then, unwrap_or, String, Contains}
 use Rattle.std.proofs.lemmas.{Bool.false_from_ne_true, Bool.lt-ltb, List.Elements.Contains-append_left, List.Elements.Contains-append_right}
-use Rattle.std.specs.{Prelude.is_some, Prelude.option_to_list, Map.keys_of, Option.option_map_or, Cmp.Lexicographic.nat_list_cmp_total}
-use Rattle.std.specs.{List.AllByRecursion, List.IsDistinct, List.list_all, List.list_any, FinMap.find, FinMap.from_entries, FinMap.get, FinMap.get-from_entries}
+use Rattle.std.specs.{Prelude.is_some, Prelude.option_to_list, Map.keys_of, Option.option_map_or, Cmp.Lexicographic.nat_list_cmp_total, List.AllByRecursion, List.IsDistinct, List.list_all, List.list_any, FinMap.find, FinMap.from_entries, FinMap.get, FinMap.get-from_entries}
 use Rattle.std.specs.declared.alloc.Global.{Global}
-use Rattle.wit_model.specs.declared.model.{Interface.Interface, Package.Package, PackageId.PackageId, Resolve.Resolve, WorldItem.WorldItem, WorldKey.WorldKey}
+use Rattle.wit_model.specs.declared.model.{Package.Package, PackageId.PackageId, Resolve.Resolve, WorldItem.WorldItem, WorldKey.WorldKey}
 use Rattle.wit_model.specs.declared.model.World.{World}
 use Rattle.wit_model.specs.{Text.Text, Text.text_cmp, Text.text_eq, Text.text_of, Names.path_in, Meaning.Entry, Meaning.InterfaceMeaning, Meaning.WorldMeaning}
 use Rattle.wit_model.specs.Lookup.{identity_of, interface_at, interface_path, key_text, path_in_package, path_of_interface, path_of_world, world_at}
 use Rattle.wit_model.specs.Meant.{entries_meaning, entry_meaning, interface_meaning, interface_meaning_at, no_world, world_meaning, world_meaning_at}
-use Rattle.wit_model.specs.Rules.{are_distinct, entries_in_range, export_stands, import_stands, in_list, is_id, is_interface_key, item_in_range, key_in_range, package_number, passes}
-use Rattle.wit_model.specs.Uses.{item_interface}
+use Rattle.wit_model.specs.Rules.{are_distinct, entries_in_range, export_stands, import_stands, in_list, is_interface_key, item_in_range, key_in_range, package_number, passes}
 use Rattle.wit_model.specs.Valid.{IsValid, is_place, key_eq, numbers_in_range, places, world_items}
-use Rattle.wit_model.proofs.{Elements.contains-filter_map, Elements.contains-get, OnePath.found-in, OnePath.has-path, OnePath.named-path, OnePath.path-once}
+use Rattle.wit_model.proofs.{Elements.contains-filter_map, Elements.contains-get, OnePath.found-in, OnePath.has-path, OnePath.named-path, OnePath.path-once, AnyOrder.found-there as find-contains, TextLemmas.text_same as text-same, ValidLemmas.world_passes as world-passes}
 use Rattle.wit_model.proofs.Maps.{there_some as contains-find}
-use Rattle.wit_model.proofs.{AnyOrder.found-there as find-contains, TextLemmas.text_same as text-same, ValidLemmas.world_passes as world-passes}
 use Rattle.bind_meaning.specs.{Binding.Stand, ByNumbers.WorldsAreBindings, ByNumbers.interfaces_by_path, ByNumbers.worlds_by_path}
 use Rattle.bind_meaning.proofs.{KeyNames.Lacks, KeyNames.colon, KeyNames.goes-on, KeyNames.key_lacks, Listed.from-given, Listed.given, Listed.mapped}
-use Rattle.bind_meaning.proofs.WorldPaths.{path-apart, path_at, world-once}
+use Rattle.bind_meaning.proofs.{Searches.stands-first, Searches.stands-second, WorldPaths.path-apart, WorldPaths.path_at, WorldPaths.world-once}
 use Rattle.base_lemmas.proofs.{Bools.left_of as first_true, Bools.right_of as second_true, Numbers.same-number, Options.there as some-of}
 use Rattle.base_lemmas.proofs.Elements.{all-contained, contains-later, contains-one, first-contained, get-contains}
 use Rattle.wit_model.specs.declared.model.WorldKey.TheVariants as key
@@ -94,12 +91,12 @@ module _ (r : Resolve) where
         )
 
     apart : (path : Text) → Stand (get (from_entries {R = text_cmp} (interfaces_by_path r)) path) (get (from_entries {R = text_cmp} (worlds_by_path r)) path) → ⊥
-    apart path s = by (get (from_entries {R = text_cmp} (interfaces_by_path r)) path) (get (from_entries {R = text_cmp} (worlds_by_path r)) path) refl refl s
-      where
-        by : (o : Option InterfaceMeaning) (p : Option WorldMeaning) → get (from_entries {R = text_cmp} (interfaces_by_path r)) path ≡ o → get (from_entries {R = text_cmp} (worlds_by_path r)) path ≡ p
-            → Stand o p → ⊥
-        by (Some x) (Some y) e f s = let i = interface-under path x e in let w = world-under path y f in path-apart r v i.number w.number path i.under w.under
-        by _ _ e f s = absurd s
+    apart path s =
+        let x = some-of (get (from_entries {R = text_cmp} (interfaces_by_path r)) path) (stands-first _ _ s) in
+        let y = stands-second _ _ s in
+        let i = interface-under path x.0 x.1 in
+        let w = world-under path y.0 y.1 in
+        path-apart r v i.number w.number path i.under w.under
 
 -- ---- the texts of keys
 
@@ -146,24 +143,22 @@ module _ (r : Resolve) (v : IsValid r) where
     stand = world-passes world_items r v.rules.world_items n w at
 
     interface-key : (k : ℕ) (shown : WorldItem) → is_interface_key r k shown ≡ true → in_list r.interfaces.items k ≡ true → is_some (interface_path r k) ≡ true
-    interface-key k shown h inside =
-        let found = found-in r.interfaces.items k inside in
-        named-path r v k (ap (λ (o : Option Interface). option_map_or (λ other. is_some other.name) o false) found.1
-        ∙ (ap (passes (λ (other : Interface). is_some other.name)) (sym found.1) ∙ second_true (is_id k (item_interface shown)) _ h))
+    interface-key k shown h inside = search (std_rules, found-in, named-path, second_true)
+
+    side-key : (es : List (WorldKey × WorldItem)) (test : WorldKey × WorldItem → Bool)
+        → ((k : ℕ) (shown : WorldItem) → test (key.Interface (record { 0 = k }), shown) ≡ true → is_interface_key r k shown ≡ true)
+        → ((e : WorldKey × WorldItem) → Contains es e → Contains (w.imports.entries ++ w.exports.entries) e) → list_all test es ≡ true → entries_in_range r es ≡ true
+        → (e : WorldKey × WorldItem) → Contains es e → IsKey e.0
+    side-key es test shows among all inside (key.Name name, shown) c = key_lacks 58 colon r v n w at name shown (among (key.Name name, shown) c)
+    side-key es test shows among all inside (key.Interface id, shown) c = interface-key id.0 shown (shows id.0 shown (all-contained test es (key.Interface id, shown) all c))
+        (first_true (key_in_range r (key.Interface id)) _ (all-contained (λ e. key_in_range r e.0 && item_in_range r e.1) es (key.Interface id, shown) inside c))
 
     pub import-key : (e : WorldKey × WorldItem) → Contains w.imports.entries e → IsKey e.0
-    import-key (key.Name name, shown) c = key_lacks 58 colon r v n w at name shown (Contains-append_left w.imports.entries w.exports.entries (key.Name name, shown) c)
-    import-key (key.Interface id, shown) c = interface-key id.0 shown
-        (all-contained (λ e. import_stands r n e.0 e.1) w.imports.entries (key.Interface id, shown) (first_true (list_all (λ e. import_stands r n e.0 e.1) w.imports.entries) _ stand) c)
-        (first_true (key_in_range r (key.Interface id)) _ (all-contained (λ e. key_in_range r e.0 && item_in_range r e.1) w.imports.entries (key.Interface id, shown)
-        (first_true (entries_in_range r w.imports.entries) _ ranges) c))
+    import-key = side-key w.imports.entries (λ e. import_stands r n e.0 e.1) (λ k shown h. h) (Contains-append_left w.imports.entries w.exports.entries) (first_true _ _ stand) (first_true _ _ ranges)
 
     pub export-key : (e : WorldKey × WorldItem) → Contains w.exports.entries e → IsKey e.0
-    export-key (key.Name name, shown) c = key_lacks 58 colon r v n w at name shown (Contains-append_right w.imports.entries w.exports.entries (key.Name name, shown) c)
-    export-key (key.Interface id, shown) c = interface-key id.0 shown
-        (all-contained (λ e. export_stands r e.0 e.1) w.exports.entries (key.Interface id, shown) (second_true (list_all (λ e. import_stands r n e.0 e.1) w.imports.entries) _ stand) c)
-        (first_true (key_in_range r (key.Interface id)) _ (all-contained (λ e. key_in_range r e.0 && item_in_range r e.1) w.exports.entries (key.Interface id, shown)
-        (second_true (entries_in_range r w.imports.entries) _ ranges) c))
+    export-key = side-key w.exports.entries (λ e. export_stands r e.0 e.1) (λ k shown h. h) (Contains-append_right w.imports.entries w.exports.entries)
+        (second_true (list_all (λ e. import_stands r n e.0 e.1) w.imports.entries) _ stand) (second_true (entries_in_range r w.imports.entries) _ ranges)
 
     pub imports-distinct : are_distinct (map (λ e. e.0) (entries_meaning r w.imports.entries)) ≡ true
     imports-distinct = distinct-entries w.imports.entries import-key (v.distinct_keys.worlds n w at).0

@@ -1,5 +1,5 @@
 -- A world is known by its path: in valid packages no two have the same, and none has that of an interface.
-use Rattle.std.proofs.Common.{rules as std_rules, ◌≡◌, refl, sym, ap, ◌∙◌, ℕ, Bool, true, false, not, ◌||◌, cond, List, [], ◌∷◌, Option, Some, option_map, option_and_then, String}
+use Rattle.std.proofs.Common.{rules as std_rules, ◌≡◌, sym, ap, ◌∙◌, ℕ, true, not, List, Option, Some, option_map, option_and_then, String}
 use Rattle.std.proofs.lemmas.Option.{same_Some as some-same}
 use Rattle.std.specs.{Prelude.is_some, List.list_any, HashMap.get_by_text, Map.keys_of, Map.lookup}
 use Rattle.std.specs.declared.alloc.Global.{Global}
@@ -7,9 +7,10 @@ use Rattle.wit_model.specs.declared.model.{Resolve.Resolve, Package.Package, Pac
 use Rattle.wit_model.specs.{Text.Text, Text.text_eq, Text.text_of, Names.is_label, Names.path_in, Valid.IsValid, Valid.labels, Valid.places}
 use Rattle.wit_model.specs.Lookup.{identity_of, interface_path, package_at, path_in_package, path_of_world, world_at}
 use Rattle.wit_model.specs.Rules.{is_id, is_world_name, world_is_listed}
-use Rattle.wit_model.proofs.{NameLaws.one_path, VersionLaws.same_name, ValidLemmas.world_passes as world-passes}
+use Rattle.wit_model.proofs.{RulesLemmas.is_id_some, NameLaws.one_path, VersionLaws.same_name, ValidLemmas.world_passes as world-passes}
 use Rattle.wit_model.proofs.OnePath.{HasPath, has-path, interface-passes, one-number, package-name, package-once, path-label}
 use Rattle.bind_meaning.proofs.Listed.{given, mapped}
+use Rattle.base_lemmas.proofs.Elements.{any-at, contains-map, lookup_stands}
 use Rattle.base_lemmas.proofs.Bools.{left_of as first_true, not-false as not-both, right_of as second_true}
 
 -- what a path is of
@@ -36,14 +37,11 @@ has-world-path r n path e =
 -- a name that leads to a world is a world's
 found-name : (t : Text) (es : List (String Global × WorldId)) (n : ℕ) → is_id n (option_map (λ id. id.0) (lookup (λ k. text_eq t (text_of k)) es)) ≡ true
     → list_any (λ other. text_eq t (text_of other)) (keys_of es) ≡ true
-found-name t [] n h = absurd cc
-found-name t (e ∷ es) n h = by (text_eq t (text_of e.0)) h (found-name t es n)
-  where
-    by : (b : Bool) → is_id n (option_map (λ id. id.0) (cond b (Some e.1) (lookup (λ k. text_eq t (text_of k)) es))) ≡ true
-        → (is_id n (option_map (λ id. id.0) (lookup (λ k. text_eq t (text_of k)) es)) ≡ true → list_any (λ other. text_eq t (text_of other)) (keys_of es) ≡ true)
-        → (b || list_any (λ other. text_eq t (text_of other)) (keys_of es)) ≡ true
-    by true h later = refl
-    by false h later = later h
+found-name t es n h =
+    let test = λ (k : String Global). text_eq t (text_of k) in
+    let id = mapped (λ (id : WorldId). id.0) (lookup test es) n (is_id_some n _ h) in
+    let x = lookup_stands test es id.0 id.1 in
+    any-at test (keys_of es) x.0 (contains-map (λ (e : String Global × WorldId). e.0) es (x.0, id.0) x.1) x.2
 
 module _ (r : Resolve) (v : IsValid r) where
   pub world-label : (n : ℕ) (path : Text) (h : HasWorldPath r n path) → is_label (text_of h.def.name) ≡ true
@@ -53,8 +51,7 @@ module _ (r : Resolve) (v : IsValid r) where
   -- it stands in its package under its name
   pub world-listed : (n : ℕ) (path : Text) (h : HasWorldPath r n path) → world_is_listed n (text_of h.def.name) h.package_ ≡ true
   unfolding places
-  world-listed n path h =
-      search (std_rules, second_true (is_some h.def.package) _ (world-passes places r v.rules.places n h.def h.there), world-passes places r v.rules.places n h.def h.there)
+  world-listed n path h = cc (second_true (is_some h.def.package) _ (world-passes places r v.rules.places n h.def h.there), world-passes places r v.rules.places n h.def h.there)
 
   -- what has one path has one package and one name
   one_home : (k l : ℕ) (p q : Package) → package_at r k ≡ Some p → package_at r l ≡ Some q → (s t : Text) → is_label s ≡ true → is_label t ≡ true

@@ -3,15 +3,13 @@ use Rattle.std.proofs.Common.{◌≡◌, refl, sym, ap, subst, ◌∙◌, ℕ, a
 use Rattle.std.proofs.lemmas.{List.map-append, Simd.map-map, List.Elements.Contains-append_right as behind}
 use Rattle.std.specs.{List.Contains, List.AllByRecursion, List.IsDistinct, FinMap.find}
 use Rattle.wit_model.specs.declared.model.{Resolve.Resolve, Interface.Interface, WorldKey.WorldKey, WorldItem.WorldItem}
-use Rattle.wit_model.specs.{Text.Text, Text.text_eq, Text.text_cmp, Meaning.Entry, Meaning.InterfaceMeaning, Valid.Keeps, Valid.KeepsRules, Checks.references}
-use Rattle.wit_model.specs.{Lookup.interface_at, Lookup.interface_path, Lookup.key_text, Meant.entry_meaning, Meant.entries_meaning, Meant.world_meaning}
+use Rattle.wit_model.specs.{Text.Text, Text.text_eq, Text.text_cmp, Meaning.Entry, Meaning.InterfaceMeaning, Valid.Keeps, Valid.KeepsRules, Checks.references, Lookup.interface_at, Lookup.interface_path, Lookup.key_text, Meant.entry_meaning, Meant.entries_meaning}
 use Rattle.wit_model.specs.Rules.{entries_in_range}
 use Rattle.wit_model.proofs.{Distinct.text_eq_flip, Maps.there_some}
 use Rattle.bind_meaning.specs.Union.{followed_by}
 use Rattle.bind_union.specs.Carried.{Renumbering, IsCarried}
 use Rattle.bind_union.specs.{Joined.Joined, Joined.none, Joined.met, Joined.added, Meanings.HaveDistinctTexts, Meanings.BoundMeans}
-use Rattle.bind_union.proofs.{Namesakes.entry_under, Namesakes.find_is, Meanings.has_path, Meanings.key_means, Meanings.item_means, Meanings.entries_mean}
-use Rattle.bind_union.proofs.{Itself.itself, Itself.carried_itself, Itself.joined_itself, Itself.world_range, Kept.below}
+use Rattle.bind_union.proofs.{Namesakes.entry_under, Namesakes.find_is, Meanings.has_path, Meanings.key_means, Meanings.item_means, Meanings.entries_mean, Itself.itself, Itself.carried_itself, Itself.joined_itself, Itself.world_range, Kept.below}
 use Rattle.base_lemmas.proofs.Elements.{all_at, contains-later, contains-map}
 
 abbrev texts : Resolve → List (WorldKey × WorldItem) → List Text
@@ -42,16 +40,11 @@ module _ (r s : Resolve) (f : Renumbering) (valid : KeepsRules r) (is : IsCarrie
       → entries_meaning s news ≡ filter is_added (entries_meaning r olds)
   news_mean _ _ none h = refl
   news_mean _ _ (met old there olds news c k i rest) h =
+      let y = there_some meant (key_text s there.0) (entry_meaning s there.1) (subst (λ (es : List (Text × Entry InterfaceMeaning)). Contains es (key_text s there.0, entry_meaning s there.1)) same
+      (contains-map (λ (e : WorldKey × WorldItem). (key_text s e.0, entry_meaning s e.1)) own there c)) in
       news_mean olds news rest h
-      ∙ sym (ap (λ b. cond b ((key_text r old.0, entry_meaning r old.1) ∷ filter is_added (entries_meaning r olds)) (filter is_added (entries_meaning r olds))) found)
-    where
-      at : Contains meant (key_text r old.0, entry_meaning s there.1)
-      at = subst (λ (es : List (Text × Entry InterfaceMeaning)). Contains es (key_text r old.0, entry_meaning s there.1)) same
-          (subst (λ (t : Text). Contains (entries_meaning s own) (t, entry_meaning s there.1)) (key_means r s f valid is below_s inline_copied pathless old.0 there.0 k)
-          (contains-map (λ (e : WorldKey × WorldItem). (key_text s e.0, entry_meaning s e.1)) own there c))
-
-      found : is_added (key_text r old.0, entry_meaning r old.1) ≡ false
-      found = let y = there_some meant (key_text r old.0) (entry_meaning s there.1) at in ap is_none y.1
+      ∙ sym (ap (λ b. cond b ((key_text r old.0, entry_meaning r old.1) ∷ filter is_added (entries_meaning r olds)) (filter is_added (entries_meaning r olds)))
+      (ap (λ t. is_none (find text_cmp t meant)) (sym (key_means r s f valid is below_s inline_copied pathless old.0 there.0 k)) ∙ ap is_none y.1))
   news_mean _ _ (added old new olds news n z rest) h =
       (λ i. (key i, item_means r s f valid is below_s inline_copied pathless old.1 new.1 z.1 i) ∷ news_mean olds news rest (λ q c. h q (contains-later (key_text s new.0) (texts s news) q c)) i)
       ∙ sym (ap (λ b. cond b ((key_text r old.0, entry_meaning r old.1) ∷ filter is_added (entries_meaning r olds)) (filter is_added (entries_meaning r olds))) not_there)
@@ -71,16 +64,8 @@ module _ (r s : Resolve) (f : Renumbering) (valid : KeepsRules r) (is : IsCarrie
 
 pub bound_means : BoundMeans
 bound_means own other merged bound other_bound first second left_out valid_own valid_other is imports exports = (
-  joined_mean other merged second valid_other.rules is.second_copies.carried below_s is.second_copies.inline_copied (has_path other valid_other) is.own_bound.imports.entries
-      (world_meaning own is.own_bound).imports
-      (entries_mean own merged (itself own) valid_own.rules carried below_s (λ m i h at without. h) (has_path own valid_own) is.own_bound.imports.entries is.own_bound.imports.entries
-      (joined_itself own valid_own.rules is.own_bound.imports.entries range.0))
-      is.joined.old.imports.entries is.joined.new_imports is.joined.image.imports.entries is.joined.imports is.joined.joined_imports imports,
-  joined_mean other merged second valid_other.rules is.second_copies.carried below_s is.second_copies.inline_copied (has_path other valid_other) is.own_bound.exports.entries
-      (world_meaning own is.own_bound).exports
-      (entries_mean own merged (itself own) valid_own.rules carried below_s (λ m i h at without. h) (has_path own valid_own) is.own_bound.exports.entries is.own_bound.exports.entries
-      (joined_itself own valid_own.rules is.own_bound.exports.entries range.1))
-      is.joined.old.exports.entries is.joined.new_exports is.joined.image.exports.entries is.joined.exports is.joined.joined_exports exports,
+  side is.own_bound.imports.entries range.0 is.joined.old.imports.entries is.joined.new_imports is.joined.image.imports.entries is.joined.imports is.joined.joined_imports imports,
+  side is.own_bound.exports.entries range.1 is.joined.old.exports.entries is.joined.new_exports is.joined.image.exports.entries is.joined.exports is.joined.joined_exports exports,
 )
   where
     below_s : Keeps references merged
@@ -91,3 +76,8 @@ bound_means own other merged bound other_bound first second left_out valid_own v
 
     range : (entries_in_range own is.own_bound.imports.entries ≡ true) × (entries_in_range own is.own_bound.exports.entries ≡ true)
     range = world_range own valid_own.rules bound is.own_bound is.bound_at
+
+    side : (es : List (WorldKey × WorldItem)) → entries_in_range own es ≡ true → (olds news whole : List (WorldKey × WorldItem)) → whole ≡ es ++ news → Joined second es olds news
+        → HaveDistinctTexts merged whole → entries_meaning merged whole ≡ followed_by (entries_meaning own es) (entries_meaning other olds)
+    side es h = joined_mean other merged second valid_other.rules is.second_copies.carried below_s is.second_copies.inline_copied (has_path other valid_other) es (entries_meaning own es)
+        (entries_mean own merged (itself own) valid_own.rules carried below_s (λ m i h at without. h) (has_path own valid_own) es es (joined_itself own valid_own.rules es h))

@@ -1,19 +1,15 @@
 -- What is carried into another `Resolve` stands in the same places, for the same trees, and meets the same named types.
-use Rattle.std.proofs.Common.{rules as std_rules, ◌≡◌, ◌⊎◌, refl, sym, ap, subst, ◌∙◌, ℕ, zero, suc, ◌<◌, ◌+◌, arith, true, ◌||◌, ◌==◌, nat_lt, ltb-true, List, [], ◌∷◌, ◌++◌, map, Option, Some, None, option_map, option_and_then, option_to_list, is_some}
+use Rattle.std.proofs.Common.{rules as std_rules, ◌≡◌, ◌⊎◌, refl, sym, ap, subst, ◌∙◌, ℕ, ◌<◌, ◌+◌, arith, true, ◌||◌, ◌==◌, nat_lt, ltb-true, List, [], ◌∷◌, ◌++◌, map, Option, Some, None, option_map, option_and_then, option_to_list, is_some}
 use Rattle.std.proofs.lemmas.{Bool.or_right, Bool.and_from as both, List.Folds.list_all-append, List.map-append}
 use Rattle.std.specs.{Prelude.String, List.list_all, List.flat_map, Option.option_map_or}
 use Rattle.std.specs.declared.alloc.Global.{Global}
-use Rattle.wit_model.specs.declared.model.{Resolve.Resolve, Package.Package, TypeDef.TypeDef}
-use Rattle.wit_model.specs.declared.model.{PackageName.PackageName, Interface.Interface, TypeOwner.TypeOwner, «Type».«Type» as ValueType}
-use Rattle.wit_model.specs.{Text.Text, Text.text_of, Text.optional_text, Names.path_in, Checks.references}
+use Rattle.wit_model.specs.declared.model.{Resolve.Resolve, Package.Package, TypeDef.TypeDef, PackageName.PackageName, Interface.Interface, TypeOwner.TypeOwner, «Type».«Type» as ValueType}
+use Rattle.wit_model.specs.{Text.Text, Text.optional_text, Names.path_in, Checks.references, Types.number_of, Types.number_tree, Types.type_tree, Valid.is_place, Valid.Keeps, Valid.KeepsRules, Valid.numbers_in_range, Parts.kind_numbers, Parts.met_by, Parts.met_of, Parts.used_by_type, Uses.has, Rules.passes, Rules.in_list, Rules.package_number}
 use Rattle.wit_model.specs.Lookup.{package_at, interface_at, identity_of, path_in_package, path_of_interface, interface_path, place_of}
-use Rattle.wit_model.specs.{Types.number_of, Types.number_tree, Types.type_tree, Valid.is_place, Valid.Keeps, Valid.KeepsRules, Valid.numbers_in_range}
-use Rattle.wit_model.specs.{Parts.kind_numbers, Parts.met_by, Parts.met_of, Parts.used_by_type, Uses.has, Rules.passes, Rules.in_list, Rules.package_number}
-use Rattle.wit_model.proofs.{Entries.each_from_all, Entries.lists_pass, Entries.types_keep, TreeTable.kept_numbers, Elements.has-contains, RulesLemmas.each_at}
-use Rattle.wit_model.proofs.{Checks.below_at, Owners.met_step, OnePath.found-in}
+use Rattle.wit_model.proofs.{Entries.each_from_all, Entries.lists_pass, Entries.types_keep, TreeTable.kept_numbers, Elements.has-contains, RulesLemmas.each_at, Checks.below_at, Owners.met_step, OnePath.found-in}
 use Rattle.bind_union.specs.{Views.renamed_type, Images.HasImageKind, Images.AreCarried, Images.RefersBelow}
 use Rattle.bind_union.specs.Carried.{Renumbering, owner_under, carries_owner, IsSameName, IsNamesake, IsType, IsInterface, IsCarried}
-use Rattle.bind_union.proofs.{Images.same_trees, Images.numbers_of_view, ViewTests.numbers_same}
+use Rattle.bind_union.proofs.{Lists.by_less, Images.same_trees, Images.numbers_of_view, ViewTests.numbers_same}
 use Rattle.base_lemmas.proofs.{Bools.left_of as first_true, Bools.right_of as second_true, Elements.all-contained, Numbers.same-number}
 
 -- ---- rules of a valid one
@@ -131,26 +127,11 @@ module _ (r s : Resolve) (f : Renumbering) (valid : KeepsRules r) (is : IsCarrie
           (ap (flat_map (met_by (met_of s))) (numbers_same f.types t.def.kind t.image.kind k.kinds) ∙ rest.0, rest.1)
 
       go : (x y : Option (String Global)) → t.def.name ≡ x → t.image.name ≡ y → optional_text t.image.name ≡ optional_text t.def.name → IsMetAlike n
-      go None None e d same =
-          let k = unnamed (image_kind t.def t.image e t.kind) in (
-            (new ∙ ap (λ o. option_map_or (λ name. f.types n ∷ []) o (used_by_type s t.image)) d)
-                ∙ (k.0 ∙ sym (ap (map f.types) (old ∙ ap (λ o. option_map_or (λ name. n ∷ []) o (used_by_type r t.def)) e))),
-            ap (list_all f.carries_type) (old ∙ ap (λ o. option_map_or (λ name. n ∷ []) o (used_by_type r t.def)) e) ∙ k.1,
-          )
-      go None (Some y) e d same = let wrong : None ≡ Some (text_of y) = sym (sym (ap optional_text d) ∙ (same ∙ ap optional_text e)) in absurd cc
-      go (Some x) None e d same = let wrong : None ≡ Some (text_of x) = sym (ap optional_text d) ∙ (same ∙ ap optional_text e) in absurd cc
-      go (Some x) (Some y) e d same = (
-        (new ∙ ap (λ o. option_map_or (λ name. f.types n ∷ []) o (used_by_type s t.image)) d) ∙ sym (ap (map f.types) (old ∙ ap (λ o. option_map_or (λ name. n ∷ []) o (used_by_type r t.def)) e)),
-        ap (list_all f.carries_type) (old ∙ ap (λ o. option_map_or (λ name. n ∷ []) o (used_by_type r t.def)) e) ∙ both _ _ c refl,
-      )
-
-  met_below : (fuel n : ℕ) → n < fuel → f.carries_type n ≡ true → IsMetAlike n
-  met_below zero n h c = absurd (omega (arith, h))
-  met_below (suc fuel) n h c = met_step_same n c (λ m low d. met_below fuel m (omega (arith, low, h)) d)
+      go z u e d same = search (std_rules, unnamed, image_kind, t, new, old, both)
 
   -- what is met at a new number are the new numbers of what is met
   pub met_same : (n : ℕ) → f.carries_type n ≡ true → IsMetAlike n
-  met_same n c = met_below (suc n) n (omega arith) c
+  met_same = by_less (λ n. f.carries_type n ≡ true → IsMetAlike n) (λ n smaller c. met_step_same n c smaller)
 
   pub used_same : (ns : List ℕ) → list_all f.carries_type ns ≡ true
       → (flat_map (met_by (met_of s)) (map f.types ns) ≡ map f.types (flat_map (met_by (met_of r)) ns)) × (list_all f.carries_type (flat_map (met_by (met_of r)) ns) ≡ true)

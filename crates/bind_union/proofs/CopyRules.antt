@@ -1,30 +1,24 @@
 -- What the rules ask of a type, of a function and of an entry of a world holds of its copy.
 use Rattle.std.proofs.Common.{arith, rules as std_rules, ◌≡◌, refl, sym, ap, ◌∙◌, ℕ, Bool, true, false, ◌&&◌, ◌||◌, not, nat_lt, nat_le, List, map, Option, Some, None, option_map, option_to_list, is_some, filter_map, [], ◌∷◌, ◌++◌, is_none, slice_get}
-use Rattle.std.proofs.lemmas.{Bool.or_left, Bool.or_right, Bool.lt-ltb, Bool.and_from as both, List.Folds.list_all-map, List.Folds.list_all-append}
-use Rattle.std.proofs.lemmas.{Option.slice_get_within, Option.slice_get-map, Simd.map-map, List.map-append}
+use Rattle.std.proofs.lemmas.{Bool.lt-ltb, Bool.and_from as both, List.Folds.list_all-map, List.Folds.list_all-append, Option.slice_get_within, Simd.map-map, List.map-append}
 use Rattle.std.specs.{Prelude.String, Prelude.◌^◌, Prelude.codes, List.list_all, List.flat_map, Option.option_map_or}
 use Rattle.std.specs.declared.alloc.Global.{Global}
 use Rattle.semver.specs.declared.Version.{Version}
 use Rattle.semver.specs.{Identifiers.parts_of, Grammar.is_pre_release, Grammar.is_build}
-use Rattle.wit_model.specs.declared.model.{Resolve.Resolve, TypeOwner.TypeOwner, «Type».«Type» as ValueType, TypeDefKind.TypeDefKind, FunctionKind.FunctionKind}
-use Rattle.wit_model.specs.declared.model.{Stability.Stability, TypeDef.TypeDef, Function.Function, Param.Param, WorldKey.WorldKey, WorldItem.WorldItem}
-use Rattle.wit_model.specs.{Text.text_of, Text.optional_text, Text.Text, Text.text_eq, Uses.alias_target, Uses.owner_interface}
-use Rattle.wit_model.specs.{Names.is_label, Names.is_version, Names.constructor_name, Names.method_name, Names.static_name, Types.number_of, Checks.references}
-use Rattle.wit_model.specs.{Lookup.type_at, Lookup.interface_at, Lookup.resource_of, Tree.levels}
+use Rattle.wit_model.specs.declared.model.{Resolve.Resolve, TypeOwner.TypeOwner, «Type».«Type» as ValueType, TypeDefKind.TypeDefKind, FunctionKind.FunctionKind, Stability.Stability, TypeDef.TypeDef, Function.Function, Param.Param, WorldKey.WorldKey, WorldItem.WorldItem}
+use Rattle.wit_model.specs.{Text.text_of, Text.optional_text, Text.Text, Text.text_eq, Uses.alias_target, Uses.owner_interface, Names.is_label, Names.is_version, Types.number_of, Checks.references, Lookup.type_at, Lookup.interface_at, Lookup.resource_of, Tree.levels}
 use Rattle.wit_model.specs.Parts.{kind_numbers, member_types, handled, met_by, met_of, is_resource, is_resource_type, same_owner, has_owner, used_by_type, function_types, function_numbers, used_by_values, used_by_function}
-use Rattle.wit_model.specs.Rules.{passes, is_stability, are_member_labels, is_named_kind, is_named_number, is_shallow, is_use, in_list, is_freestanding, function_labels, function_stays, function_in_range, resource_name, is_own_of, is_borrow_of, type_is, is_result_of_own, constructs, takes_self, after_prefix, is_member_name, is_member_of, is_member, text_is, key_in_range, item_in_range, key_label, item_labels, is_name_key, is_interface_key, is_own_type, import_stands, export_stands}
+use Rattle.wit_model.specs.Rules.{passes, is_stability, are_member_labels, is_named_kind, is_named_number, is_shallow, is_use, in_list, is_freestanding, function_labels, function_stays, function_in_range, resource_name, is_own_of, is_borrow_of, type_is, is_result_of_own, constructs, takes_self, is_member_of, is_member, text_is, key_in_range, item_in_range, key_label, item_labels, is_name_key, is_interface_key, is_own_type, import_stands, export_stands}
 use Rattle.wit_model.specs.Valid.{Keeps, KeepsRules, labels, owners, shapes, named_kinds, handles, depths, as_world, item_function}
-use Rattle.wit_model.proofs.{Lists.list_all_filter_map, TextLemmas.some_alike as named_alike, PartsLemmas.owner_itself, PartsLemmas.owner_same as owner_equal}
-use Rattle.wit_model.proofs.{ValidLemmas.type_passes}
+use Rattle.wit_model.proofs.{Lists.list_all_filter_map, TextLemmas.some_alike as named_alike, PartsLemmas.owner_itself, PartsLemmas.owner_same as owner_equal, ValidLemmas.type_passes}
 use Rattle.bind_union.specs.{Views.renamed_type, Views.kind_view, Images.HasImageKind, Joined.Joined, Joined.none, Joined.met, Joined.added}
 use Rattle.bind_union.specs.Carried.{Renumbering, StabilityView, unknown, stable, unstable, stability_view, owner_under, carries_owner, copies_owner, IsType, IsTypeCopy, IsCarried, call_under, IsFunctionCopy, KeyBecomes, ItemBecomes, EntryBecomes}
 use Rattle.bind_union.proofs.{Lists.no_true, Carrying.kind_carried, Carrying.type_tree_same, Carrying.used_same}
 use Rattle.bind_union.proofs.ViewTests.{types_same, handled_same, alias_same, labels_same, shape_same, named_same, numbers_same, view_ok, ok_by_view, ok_under, own_kept, borrow_kept, numbers_under, number_under, one_given}
 use Rattle.bind_union.proofs.Homes.{alias_of_all, handled_of_all, members_of_all, resource_same_at, resource_type_same, owner_stays, owner_apart, alias_there, all_given}
-use Rattle.base_lemmas.proofs.{Bools.left_of as first_true, Bools.right_of as second_true, Elements.all_two, Numbers.equal, Numbers.same-number}
+use Rattle.base_lemmas.proofs.{Bools.left_of as first_true, Bools.right_of as second_true, Elements.all_two, Lists.heads_equal, Numbers.equal, Numbers.same-number}
 use Rattle.wit_model.specs.declared.model.TypeOwner.TheVariants as owner
 use Rattle.bind_union.proofs.Homes as homes
-use Rattle.wit_model.specs.declared.model.FunctionKind.TheVariants as call
 use Rattle.wit_model.specs.declared.model.WorldKey.TheVariants as key
 use Rattle.wit_model.specs.declared.model.WorldItem.TheVariants as item
 
@@ -78,6 +72,19 @@ added_pass f own p q one _ _ (added old new olds news n z rest) h = both _ _ (on
 pub text_alike : (a b : Option (String Global)) (t : Text) → optional_text a ≡ optional_text b → text_is a t ≡ text_is b t
 text_alike a b t e = search std_rules
 
+pub unowned : (f : Renumbering) (o : TypeOwner) → same_owner (owner_under f o) owner.None ≡ same_owner o owner.None
+unowned f x = search std_rules
+
+pub passes_under : (f : ℕ → ℕ) (c p q : ℕ → Bool) → ((m : ℕ) → c m ≡ true → p m ≡ true → q (f m) ≡ true) → (o : Option ℕ) → passes c o ≡ true → passes p o ≡ true → passes q (option_map f o) ≡ true
+passes_under f c p q one x d h = search std_rules
+
+weaker : (a b c d x y z w : Bool) → (a ≡ true → x ≡ true) → (b ≡ true → y ≡ true) → (c ≡ true → z ≡ true) → (a ≡ false → d ≡ true → w ≡ true)
+    → (a || (b || (c && d))) ≡ true → (x || (y || (z && w))) ≡ true
+weaker x y z w a b c d p q u v h = search std_rules
+
+either_passes : (a b c d : Bool) → (a ≡ true → c ≡ true) → (b ≡ true → d ≡ true) → (a || b) ≡ true → (c || d) ≡ true
+either_passes x y c d p q h = search std_rules
+
 module _ (r s : Resolve) (f : Renumbering) (valid : KeepsRules r) (is : IsCarried r s f) (below_s : Keeps references s) where
   -- what is asked of each type of a value
   pub values_pass : (p q : ValueType → Bool) → ((t : ValueType) → list_all f.carries_type (option_to_list (number_of t)) ≡ true → p t ≡ true → q (renamed_type f.types t) ≡ true)
@@ -124,11 +131,8 @@ module _ (r s : Resolve) (f : Renumbering) (valid : KeepsRules r) (is : IsCarrie
         both _ _
         ((λ i. not (named_same f.types t.def.kind t.image.kind k.kind.kinds i) || named_alike t.image.name t.def.name t.name i) ∙ first_true _ _ old)
         (ap (passes (is_named_number s)) (alias_same f.types t.def.kind t.image.kind k.kind.kinds)
-        ∙ target (alias_target t.def.kind) (alias_of_all f.carries_type t.def.kind parts) (second_true (not (is_named_kind t.def.kind) || is_some t.def.name) _ old))
-      where
-        target : (o : Option ℕ) → passes f.carries_type o ≡ true → passes (is_named_number r) o ≡ true → passes (is_named_number s) (option_map f.types o) ≡ true
-        target None c h = refl
-        target (Some m) c h = named_number m c h
+        ∙ passes_under f.types f.carries_type (is_named_number r) (is_named_number s) named_number (alias_target t.def.kind) (alias_of_all f.carries_type t.def.kind parts)
+        (second_true (not (is_named_kind t.def.kind) || is_some t.def.name) _ old))
 
     -- handles
     pub handle_passes : handles.type_ s (f.types n) t.image ≡ true
@@ -139,11 +143,8 @@ module _ (r s : Resolve) (f : Renumbering) (valid : KeepsRules r) (is : IsCarrie
         (ap (list_all (λ x. not (is_resource_type s x))) (types_same f.types t.def.kind t.image.kind k.kind.kinds)
         ∙ values_pass (λ x. not (is_resource_type r x)) (λ x. not (is_resource_type s x)) no_resource_passes (member_types t.def.kind) values (first_true _ _ old))
         (ap (passes (is_resource s)) (handled_same f.types t.def.kind t.image.kind k.kind.kinds)
-        ∙ target (handled t.def.kind) (handled_of_all f.carries_type t.def.kind parts) (second_true (list_all (λ x. not (is_resource_type r x)) (member_types t.def.kind)) _ old))
-      where
-        target : (o : Option ℕ) → passes f.carries_type o ≡ true → passes (is_resource r) o ≡ true → passes (is_resource s) (option_map f.types o) ≡ true
-        target None c h = refl
-        target (Some m) c h = resource_same_at r s f valid is below_s m c ∙ h
+        ∙ passes_under f.types f.carries_type (is_resource r) (is_resource s) (λ m c h. resource_same_at r s f valid is below_s m c ∙ h) (handled t.def.kind)
+        (handled_of_all f.carries_type t.def.kind parts) (second_true (list_all (λ x. not (is_resource_type r x)) (member_types t.def.kind)) _ old))
 
     -- depths
     pub depth_passes : depths.type_ s (f.types n) t.image ≡ true
@@ -167,31 +168,18 @@ module _ (r s : Resolve) (f : Renumbering) (valid : KeepsRules r) (is : IsCarrie
     pub used_there : used_by_type s t.image ≡ map f.types (used_by_type r t.def)
     used_there = ap (flat_map (met_by (met_of s))) (numbers_same f.types t.def.kind t.image.kind k.kind.kinds) ∙ (used_same r s f valid is below_s (kind_numbers t.def.kind) parts).0
 
-    unowned : (o : TypeOwner) → same_owner (owner_under f o) owner.None ≡ same_owner o owner.None
-    unowned (owner.World id) = refl
-    unowned _ = refl
-
     -- an owner that is not alone is none
     copied_alone : (o : TypeOwner) → copies_owner f o ≡ true → same_owner o owner.None ≡ false → homes.alone r s f valid is below_s o ≡ true
-    copied_alone (owner.World id) c h = c
-    copied_alone (owner.Interface id) c h = c
-    copied_alone owner.None c h = no_true (sym h)
+    copied_alone x c h = search std_rules
 
     abbrev is_named_interface : Resolve → Option ℕ → Bool
     is_named_interface r o = option_map_or (λ i. option_map_or (λ other. is_some other.name) (interface_at r i) false) o false
 
     named_interface : (o : TypeOwner) → carries_owner f o ≡ true → is_named_interface r (owner_interface o) ≡ true → is_named_interface s (owner_interface (owner_under f o)) ≡ true
-    named_interface (owner.World id) c h = h
-    named_interface owner.None c h = h
-    named_interface (owner.Interface id) c h =
-        let i = is.interfaces id.0 c in
-        ap (λ x. option_map_or (λ other. is_some other.name) x false) i.at_image
-        ∙ (named_alike i.image.name i.old.name i.name
-        ∙ (sym (ap (λ x. option_map_or (λ other. is_some other.name) x false) i.found) ∙ h))
+    named_interface y c h = search std_rules
 
     negated : (a b : Bool) → (a ≡ true → b ≡ true) → not b ≡ true → not a ≡ true
-    negated true b h e = no_true (sym (ap not (h refl)) ∙ e)
-    negated false b h e = refl
+    negated x b h e = search std_rules
 
     use_passes : same_owner t.def.owner owner.None ≡ false → is_use r t.def ≡ true → is_use s t.image ≡ true
     use_passes owned h =
@@ -216,29 +204,13 @@ module _ (r s : Resolve) (f : Renumbering) (valid : KeepsRules r) (is : IsCarrie
             (first_true _ _ old))
             (ap (λ x. is_named_interface s (owner_interface x)) u.home ∙ named_interface u.def.owner u.carries_home (second_true (not (same_owner u.def.owner t.def.owner)) _ old))
 
-    abbrev first_test : Bool
-    first_test = same_owner t.image.owner owner.None
-
-    abbrev second_test : Bool
-    second_test = list_all (has_owner s t.image.owner) (used_by_type s t.image)
-
-    abbrev third_test : Bool
-    third_test = is_some t.image.name && is_use s t.image
-
     pub stay_passes : owners.type_ s (f.types n) t.image ≡ true
     unfolding owners
-    stay_passes = go (same_owner t.def.owner owner.None) (list_all (has_owner r t.def.owner) (used_by_type r t.def)) (is_some t.def.name) (is_use r t.def) refl refl refl refl
-        (type_passes owners r valid.owners n t.def t.found)
-      where
-        go : (a b c d : Bool) → same_owner t.def.owner owner.None ≡ a → list_all (has_owner r t.def.owner) (used_by_type r t.def) ≡ b → is_some t.def.name ≡ c → is_use r t.def ≡ d
-            → (a || (b || (c && d))) ≡ true → (first_test || (second_test || third_test)) ≡ true
-        go true b c d p q u v h = or_left first_test (second_test || third_test) (ap (λ o. same_owner o owner.None) t.home ∙ (unowned t.def.owner ∙ p))
-        go false true c d p q u v h =
-            or_right first_test (second_test || third_test) (or_left second_test third_test
-            ((λ i. list_all (has_owner s (t.home i)) (used_there i)) ∙ all_owned t.def.owner (used_by_type r t.def) used q))
-        go false false true true p q u v h = or_right first_test (second_test || third_test)
-            (or_right second_test third_test (both _ _ (named_alike t.image.name t.def.name t.name ∙ u) (use_passes p v)))
-        go false false _ _ p q u v h = no_true h
+    stay_passes = weaker (same_owner t.def.owner owner.None) (list_all (has_owner r t.def.owner) (used_by_type r t.def)) (is_some t.def.name) (is_use r t.def)
+        (same_owner t.image.owner owner.None) (list_all (has_owner s t.image.owner) (used_by_type s t.image)) (is_some t.image.name) (is_use s t.image)
+        (λ h. ap (λ o. same_owner o owner.None) t.home ∙ (unowned f t.def.owner ∙ h))
+        (λ h. (λ i. list_all (has_owner s (t.home i)) (used_there i)) ∙ all_owned t.def.owner (used_by_type r t.def) used h)
+        (λ h. named_alike t.image.name t.def.name t.name ∙ h) use_passes (type_passes owners r valid.owners n t.def t.found)
 
   -- an unnamed type is copied
   unnamed_kind : (n : ℕ) (t : IsType r s f n) → is_none t.def.name ≡ true → (is_none t.image.name ≡ true) × HasImageKind f.types f.carries_type t.def t.image
@@ -287,30 +259,19 @@ module _ (r s : Resolve) (f : Renumbering) (valid : KeepsRules r) (is : IsCarrie
         ∙ sym (map-append (renamed_type f.types) (map (λ p. p.ty) g.params.items) (option_to_list g.result))
       where
         params : map (λ p. p.ty) h.params.items ≡ map (renamed_type f.types) (map (λ p. p.ty) g.params.items)
-        params =
-            sym (map-map (λ (x : Text × ValueType). x.1) (λ p. (text_of p.name, p.ty)) h.params.items)
-            ∙ (ap (map (λ (x : Text × ValueType). x.1)) c.params
-            ∙ (map-map (λ (x : Text × ValueType). x.1) (λ p. (text_of p.name, renamed_type f.types p.ty)) g.params.items
-            ∙ sym (map-map (renamed_type f.types) (λ p. p.ty) g.params.items)))
+        params = simp map-map (simp map-map at (ap (map (λ (x : Text × ValueType). x.1)) c.params))
 
     names_there : map (λ p. text_of p.name) h.params.items ≡ map (λ p. text_of p.name) g.params.items
-    names_there =
-        sym (map-map (λ (x : Text × ValueType). x.0) (λ p. (text_of p.name, p.ty)) h.params.items)
-        ∙ (ap (map (λ (x : Text × ValueType). x.0)) c.params
-        ∙ map-map (λ (x : Text × ValueType). x.0) (λ p. (text_of p.name, renamed_type f.types p.ty)) g.params.items)
+    names_there = simp map-map at (ap (map (λ (x : Text × ValueType). x.0)) c.params)
 
     values_carried : list_all f.carries_type (filter_map number_of (function_types g)) ≡ true
     values_carried = first_true _ _ (sym (list_all-append f.carries_type (filter_map number_of (function_types g)) (option_to_list (resource_of g.kind))) ∙ c.parts)
 
     pub resource_carried : passes f.carries_type (resource_of g.kind) ≡ true
-    resource_carried = sym (all_given f.carries_type (resource_of g.kind)) ∙ second_true (list_all f.carries_type (filter_map number_of (function_types g))) _
-        (sym (list_all-append f.carries_type (filter_map number_of (function_types g)) (option_to_list (resource_of g.kind))) ∙ c.parts)
+    resource_carried = search (std_rules, all_given, second_true, list_all-append, parts)
 
     pub function_numbers_there : function_numbers h ≡ map f.types (function_numbers g)
-    function_numbers_there =
-        (λ i. (ap (filter_map number_of) types_there ∙ numbers_under f.types (function_types g)) i
-        ++ (ap (λ k. option_to_list (resource_of k)) c.kind ∙ (ap option_to_list (resource_under f g.kind) ∙ one_given f.types (resource_of g.kind))) i)
-        ∙ sym (map-append f.types (filter_map number_of (function_types g)) (option_to_list (resource_of g.kind)))
+    function_numbers_there = search (std_rules, types_there, numbers_under, resource_under, one_given, map-append)
 
     -- numbers in range
     pub function_range_passes : function_in_range s h ≡ true
@@ -321,10 +282,8 @@ module _ (r s : Resolve) (f : Renumbering) (valid : KeepsRules r) (is : IsCarrie
         (function_numbers g) c.parts c.parts)
 
     -- labels
-    pub function_labels_pass : function_labels g ≡ true → function_labels h ≡ true
-    function_labels_pass old =
-        (λ i. (not ((ap is_freestanding c.kind ∙ freestanding_under f g.kind) i) || is_label (c.name i))
-        && (are_member_labels (names_there i) && stability_alike h.stability g.stability c.stability i)) ∙ old
+    pub function_labels_same : function_labels h ≡ function_labels g
+    function_labels_same = search (std_rules, freestanding_under, names_there, stability_alike)
 
     -- owners
     pub function_stays_passes : (o : TypeOwner) → function_stays r o g ≡ true → function_stays s (owner_under f o) h ≡ true
@@ -335,104 +294,64 @@ module _ (r s : Resolve) (f : Renumbering) (valid : KeepsRules r) (is : IsCarrie
 
     -- all that it uses
     pub function_uses : (used_by_function s h ≡ map f.types (used_by_function r g)) × (list_all f.carries_type (used_by_function r g) ≡ true)
-    function_uses =
-        let used = used_same r s f valid is below_s (function_numbers g) c.parts in
-        (ap (flat_map (met_by (met_of s))) function_numbers_there ∙ used.0, used.1)
+    function_uses = search (std_rules, used_same r s f valid is below_s (function_numbers g) c.parts, function_numbers_there)
 
     -- handles
     pub function_handles_pass : list_all (λ t. not (is_resource_type r t)) (function_types g) ≡ true → list_all (λ t. not (is_resource_type s t)) (function_types h) ≡ true
-    function_handles_pass old =
-        ap (list_all (λ t. not (is_resource_type s t))) types_there
-        ∙ values_pass (λ t. not (is_resource_type r t)) (λ t. not (is_resource_type s t)) (no_resource_passes) (function_types g) values_carried old
+    function_handles_pass old = search (std_rules, types_there, values_pass, no_resource_passes, values_carried)
 
     -- depths
     pub function_depths_pass : list_all (is_shallow r) (function_types g) ≡ true → list_all (is_shallow s) (function_types h) ≡ true
-    function_depths_pass old =
-        ap (list_all (is_shallow s)) types_there
-        ∙ values_pass (is_shallow r) (is_shallow s) (shallow_passes) (function_types g) values_carried old
+    function_depths_pass old = search (std_rules, types_there, values_pass, shallow_passes, values_carried)
 
     -- function names
+    abbrev given : ValueType → Bool
+    given t = list_all f.carries_type (option_to_list (number_of t))
+
+    -- the types of the parameters, and of the result
+    pub given_values : (list_all given (map (λ p. p.ty) g.params.items) ≡ true) × (list_all given (option_to_list g.result) ≡ true)
+    given_values =
+        let all = sym (list_all-append given (map (λ p. p.ty) g.params.items) (option_to_list g.result)) ∙ (sym (list_all_filter_map f.carries_type number_of (function_types g)) ∙ values_carried) in
+        (first_true _ _ all, second_true (list_all given (map (λ p. p.ty) g.params.items)) _ all)
+
     constructs_there : (n : ℕ) → constructs r n g ≡ true → constructs s (f.types n) h ≡ true
-    constructs_there n old = ap (λ o. option_map_or (λ t. type_is s (is_own_of (f.types n)) t || type_is s (is_result_of_own s (f.types n)) t) o false) c.result ∙ go g.result given old
+    constructs_there n old =
+        ap (λ o. option_map_or (λ t. type_is s (is_own_of (f.types n)) t || type_is s (is_result_of_own s (f.types n)) t) o false) c.result ∙ go g.result given_values.1 old
       where
-        given : list_all f.carries_type (filter_map number_of (option_to_list g.result)) ≡ true
-        given =
-            list_all_filter_map f.carries_type number_of (option_to_list g.result)
-            ∙ second_true (list_all (λ t. list_all f.carries_type (option_to_list (number_of t))) (map (λ p. p.ty) g.params.items)) _
-            (sym (list_all-append (λ t. list_all f.carries_type (option_to_list (number_of t))) (map (λ p. p.ty) g.params.items) (option_to_list g.result))
-            ∙ (sym (list_all_filter_map f.carries_type number_of (function_types g)) ∙ values_carried))
-
-        either : (x : ValueType) → list_all f.carries_type (option_to_list (number_of x)) ≡ true → (a b : Bool) → type_is r (is_own_of n) x ≡ a → type_is r (is_result_of_own r n) x ≡ b
-            → (a || b) ≡ true
-            → (type_is s (is_own_of (f.types n)) (renamed_type f.types x) || type_is s (is_result_of_own s (f.types n)) (renamed_type f.types x)) ≡ true
-        either x d true b p q e = or_left _ _ (type_is_there (is_own_of n) (is_own_of (f.types n)) (own_there n) x d p)
-        either x d false true p q e = or_right (type_is s (is_own_of (f.types n)) (renamed_type f.types x)) _
-            (type_is_there (is_result_of_own r n) (is_result_of_own s (f.types n)) (result_there n) x d q)
-        either x d false false p q e = no_true e
-
-        go : (o : Option ValueType) → list_all f.carries_type (filter_map number_of (option_to_list o)) ≡ true
-            → option_map_or (λ t. type_is r (is_own_of n) t || type_is r (is_result_of_own r n) t) o false ≡ true
+        go : (o : Option ValueType) → list_all given (option_to_list o) ≡ true → option_map_or (λ t. type_is r (is_own_of n) t || type_is r (is_result_of_own r n) t) o false ≡ true
             → option_map_or (λ t. type_is s (is_own_of (f.types n)) t || type_is s (is_result_of_own s (f.types n)) t) (option_map (renamed_type f.types) o) false ≡ true
         go None d e = e
-        go (Some x) d e = either x (first_true _ _ (sym (list_all_filter_map f.carries_type number_of (x ∷ [])) ∙ d)) (type_is r (is_own_of n) x) (type_is r (is_result_of_own r n) x) refl refl e
+        go (Some x) d e = either_passes _ _ _ _ (type_is_there (is_own_of n) (is_own_of (f.types n)) (own_there n) x (first_true _ _ d))
+            (type_is_there (is_result_of_own r n) (is_result_of_own s (f.types n)) (result_there n) x (first_true _ _ d)) e
 
     self_there : (n : ℕ) → takes_self r n g ≡ true → takes_self s (f.types n) h ≡ true
-    self_there n old =
-        by_view s h (is_borrow_of (f.types n))
-        ∙ (ap (λ (ps : List (Text × ValueType)). self_view s (is_borrow_of (f.types n)) (slice_get ps 0)) c.params
-        ∙ (ap (self_view s (is_borrow_of (f.types n))) (slice_get-map (λ p. (text_of p.name, renamed_type f.types p.ty)) g.params.items 0)
-        ∙ go g.params.items (first_true _ _ (sym (list_all-append (λ t. list_all f.carries_type (option_to_list (number_of t))) (map (λ p. p.ty) g.params.items) (option_to_list g.result))
-        ∙ (sym (list_all_filter_map f.carries_type number_of (function_types g)) ∙ values_carried))) old))
+    self_there n old = go g.params.items h.params.items c.params given_values.0 old
       where
-        self_view : Resolve → (TypeDef → Bool) → Option (Text × ValueType) → Bool
-        self_view x test o = option_map_or (λ p. text_eq p.0 (codes "self") && type_is x test p.1) o false
-
-        by_view : (x : Resolve) (k : Function) (test : TypeDef → Bool)
-            → option_map_or (λ p. text_eq (text_of p.name) (codes "self") && type_is x test p.ty) (slice_get k.params.items 0) false ≡ self_view x test
-            (slice_get (map {B = Text × ValueType} (λ p. (text_of p.name, p.ty)) k.params.items) 0)
-        by_view x k test = step k.params.items
-          where
-            step : (ps : List Param)
-                → option_map_or (λ p. text_eq (text_of p.name) (codes "self") && type_is x test p.ty) (slice_get ps 0) false ≡ self_view x test
-                (slice_get (map {B = Text × ValueType} (λ p. (text_of p.name, p.ty)) ps) 0)
-            step [] = refl
-            step (p ∷ ps) = refl
-
-        go : (ps : List Param) → list_all (λ t. list_all f.carries_type (option_to_list (number_of t))) (map (λ p. p.ty) ps) ≡ true
-            → option_map_or (λ p. text_eq (text_of p.name) (codes "self") && type_is r (is_borrow_of n) p.ty) (slice_get ps 0) false ≡ true
-            → self_view s (is_borrow_of (f.types n)) (option_map (λ p. (text_of p.name, renamed_type f.types p.ty)) (slice_get ps 0)) ≡ true
-        go [] d e = e
-        go (p ∷ ps) d e = both _ _ (first_true _ _ e) (type_is_there (is_borrow_of n) (is_borrow_of (f.types n)) (borrow_there n) p.ty (first_true _ _ d)
+        go : (ps qs : List Param) → ◌≡◌ {A = List (Text × ValueType)} (map (λ p. (text_of p.name, p.ty)) qs) (map (λ p. (text_of p.name, renamed_type f.types p.ty)) ps)
+            → list_all given (map (λ p. p.ty) ps) ≡ true → option_map_or (λ p. text_eq (text_of p.name) (codes "self") && type_is r (is_borrow_of n) p.ty) (slice_get ps 0) false ≡ true
+            → option_map_or (λ p. text_eq (text_of p.name) (codes "self") && type_is s (is_borrow_of (f.types n)) p.ty) (slice_get qs 0) false ≡ true
+        go [] qs same d e = no_true e
+        go (p ∷ ps) [] same d e = absurd cc
+        go (p ∷ ps) (q ∷ qs) same d e =
+            let one = heads_equal _ _ _ _ same in
+            (λ i. text_eq (one i).0 (codes "self") && type_is s (is_borrow_of (f.types n)) (one i).1)
+            ∙ both _ _ (first_true _ _ e) (type_is_there (is_borrow_of n) (is_borrow_of (f.types n)) (borrow_there n) p.ty (first_true _ _ d)
             (second_true (text_eq (text_of p.name) (codes "self")) _ e))
 
     pub member_passes : (o : TypeOwner) → is_member r o g ≡ true → is_member s (owner_under f o) h ≡ true
     member_passes o old =
         ap (passes (λ n. option_map_or (λ name. is_member_of s n name h h.kind) (resource_name s (owner_under f o) n) false)) (ap resource_of c.kind ∙ resource_under f g.kind)
-        ∙ go (resource_of g.kind) resource_carried old
+        ∙ passes_under f.types f.carries_type (λ n. option_map_or (λ name. is_member_of r n name g g.kind) (resource_name r o n) false)
+        (λ n. option_map_or (λ name. is_member_of s n name h h.kind) (resource_name s (owner_under f o) n) false)
+        (λ n d. named n d (resource_name r o n) refl) (resource_of g.kind) resource_carried old
       where
         of : (n : ℕ) (name : Text) (k : FunctionKind) → is_member_of r n name g k ≡ true → is_member_of s (f.types n) name h (call_under f k) ≡ true
-        of n name call.Freestanding e = refl
-        of n name call.AsyncFreestanding e = refl
-        of n name (call.Method id) e = both _ _ (ap (λ t. option_map_or is_label (after_prefix (method_name name []) t) false) c.name ∙ first_true _ _ e)
-            (self_there n (second_true (is_member_name (method_name name []) g) _ e))
-        of n name (call.AsyncMethod id) e = both _ _ (ap (λ t. option_map_or is_label (after_prefix (method_name name []) t) false) c.name ∙ first_true _ _ e)
-            (self_there n (second_true (is_member_name (method_name name []) g) _ e))
-        of n name (call.Static id) e = ap (λ t. option_map_or is_label (after_prefix (static_name name []) t) false) c.name ∙ e
-        of n name (call.AsyncStatic id) e = ap (λ t. option_map_or is_label (after_prefix (static_name name []) t) false) c.name ∙ e
-        of n name (call.Constructor id) e = both _ _ (ap (λ t. text_eq t (constructor_name name)) c.name ∙ first_true _ _ e)
-            (constructs_there n (second_true (text_eq (text_of g.name) (constructor_name name)) _ e))
+        of n name x e = search (std_rules, both, first_true, self_there, second_true, constructs_there)
 
         named : (n : ℕ) → f.carries_type n ≡ true → (x : Option Text) → resource_name r o n ≡ x → option_map_or (λ name. is_member_of r n name g g.kind) x false ≡ true
             → option_map_or (λ name. is_member_of s (f.types n) name h h.kind) (resource_name s (owner_under f o) (f.types n)) false ≡ true
         named n d None e old = no_true old
-        named n d (Some name) e old =
-            ap (λ x. option_map_or (λ name. is_member_of s (f.types n) name h h.kind) x false) (resource_named o n d name e)
-            ∙ (ap (is_member_of s (f.types n) name h) c.kind ∙ of n name g.kind old)
-
-        go : (x : Option ℕ) → passes f.carries_type x ≡ true → passes (λ n. option_map_or (λ name. is_member_of r n name g g.kind) (resource_name r o n) false) x ≡ true
-            → passes (λ n. option_map_or (λ name. is_member_of s n name h h.kind) (resource_name s (owner_under f o) n) false) (option_map f.types x) ≡ true
-        go None d e = refl
-        go (Some n) d e = named n d (resource_name r o n) refl e
+        named n d (Some name) e old = search (std_rules, resource_named o n d name e, of n name g.kind old)
 
   interface_there : (n : ℕ) → f.carries_interface n ≡ true → in_list s.interfaces.items (f.interfaces n) ≡ true
   interface_there n c = let i = is.interfaces n c in lt-ltb _ _ (slice_get_within s.interfaces.items (f.interfaces n) i.image i.at_image)
@@ -456,7 +375,7 @@ module _ (r s : Resolve) (f : Renumbering) (valid : KeepsRules r) (is : IsCarrie
 
   item_labels_pass : (i j : WorldItem) → ItemBecomes f i j → item_labels i ≡ true → item_labels j ≡ true
   item_labels_pass (item.Interface a st docs ext) (item.Interface b st2 docs2 ext2) z h = stability_alike st2 st z.2 ∙ h
-  item_labels_pass (item.Function g) (item.Function k) z h = function_labels_pass g k z h
+  item_labels_pass (item.Function g) (item.Function k) z h = function_labels_same g k z ∙ h
   item_labels_pass (item.Type_ a) (item.Type_ b) z h = refl
   item_labels_pass _ _ z e = absurd z
 

@@ -1,14 +1,13 @@
 -- What is carried keeps its owner, and a resource stays one.
-use Rattle.std.proofs.Common.{rules as std_rules, ◌&&◌, ◌≡◌, refl, sym, ap, ◌∙◌, ℕ, zero, suc, ◌<◌, arith, Bool, true, false, ◌||◌, nat_lt, ltb-true, Option, Some, None, option_map, option_to_list, filter_map}
+use Rattle.std.proofs.Common.{rules as std_rules, ◌&&◌, ◌≡◌, sym, ap, ◌∙◌, ℕ, ◌<◌, arith, Bool, true, false, ◌||◌, nat_lt, Option, option_map, option_to_list, filter_map}
 use Rattle.std.specs.{List.list_all, Option.option_map_or}
 use Rattle.wit_model.specs.declared.model.{Resolve.Resolve, TypeDef.TypeDef, TypeDefKind.TypeDefKind, TypeOwner.TypeOwner, «Type».«Type» as ValueType}
 use Rattle.wit_model.specs.{Types.number_of, Uses.alias_target, Rules.passes, Rules.is_resource_itself, Valid.Keeps, Valid.KeepsRules, Checks.references}
 use Rattle.wit_model.specs.Parts.{kind_numbers, member_types, handled, is_resource, is_resource_type, is_resource_kind, same_owner, has_owner}
 use Rattle.wit_model.proofs.{Checks.below_at, Resources.resource_step, PartsLemmas.owner_itself, PartsLemmas.owner_same as owner_equal}
-use Rattle.bind_union.specs.{Views.renamed_type}
+use Rattle.bind_union.specs.Views.{renamed_type}
 use Rattle.bind_union.specs.Carried.{Renumbering, Rises, owner_under, carries_owner, IsType, IsCarried}
-use Rattle.bind_union.proofs.Lists.{no_true}
-use Rattle.bind_union.proofs.{ViewTests.number_under, Carrying.references_of}
+use Rattle.bind_union.{proofs.Lists.by_less, proofs.Lists.no_true, proofs.ViewTests.number_under, proofs.Carrying.references_of}
 use Rattle.base_lemmas.proofs.{Bools.left_of as first_true, Bools.right_of as second_true, Numbers.equal, Numbers.same-number}
 use Rattle.wit_model.specs.declared.model.TypeOwner.TheVariants as owner
 
@@ -70,16 +69,11 @@ module _ (r s : Resolve) (f : Renumbering) (valid : KeepsRules r) (is : IsCarrie
       a = alias_there n t
 
       target : (o : Option ℕ) → passes f.carries_type o ≡ true → passes (λ m. nat_lt m n) o ≡ true → option_map_or (is_resource s) (option_map f.types o) false ≡ option_map_or (is_resource r) o false
-      target None d low = refl
-      target (Some m) d low = smaller m (ltb-true m n low) d
-
-  resource_below : (fuel n : ℕ) → n < fuel → f.carries_type n ≡ true → is_resource s (f.types n) ≡ is_resource r n
-  resource_below zero n h c = absurd (omega (arith, h))
-  resource_below (suc fuel) n h c = resource_step_same n c (λ m low d. resource_below fuel m (omega (arith, low, h)) d)
+      target x d low = search std_rules
 
   -- a number is a resource exactly where the new one is
   pub resource_same_at : (n : ℕ) → f.carries_type n ≡ true → is_resource s (f.types n) ≡ is_resource r n
-  resource_same_at n c = resource_below (suc n) n (omega arith) c
+  resource_same_at = by_less (λ n. f.carries_type n ≡ true → is_resource s (f.types n) ≡ is_resource r n) (λ n smaller c. resource_step_same n c smaller)
 
   pub resource_type_same : (t : ValueType) → list_all f.carries_type (option_to_list (number_of t)) ≡ true → is_resource_type s (renamed_type f.types t) ≡ is_resource_type r t
   resource_type_same t h = search (std_rules, number_under, resource_same_at, first_true)

@@ -1,5 +1,5 @@
 -- Types under other numbers stand for the same trees.
-use Rattle.std.proofs.Common.{rules as std_rules, ◌≡◌, refl, sym, ap, ◌∙◌, ℕ, zero, suc, ◌<◌, Bool, true, nat_lt, List, [], ◌∷◌, ◌++◌, map, arith, ltb-true, append-nil, Option, Some, None, option_map, unwrap_or}
+use Rattle.std.proofs.Common.{rules as std_rules, ◌≡◌, refl, sym, ap, ◌∙◌, ℕ, ◌<◌, Bool, true, nat_lt, List, [], ◌∷◌, ◌++◌, map, ltb-true, append-nil, Option, Some, None, option_map, unwrap_or}
 use Rattle.std.specs.{Prelude.String, Prelude.option_to_list, List.list_all, List.flat_map, List.filter_map, List.cons_option}
 use Rattle.std.specs.declared.alloc.Global.{Global}
 use Rattle.wit_model.specs.declared.model.{Resolve.Resolve, TypeDef.TypeDef, TypeDefKind.TypeDefKind, «Type».«Type» as ValueType, Field.Field, Case.Case}
@@ -9,6 +9,7 @@ use Rattle.wit_model.specs.Types.{no_tree, number_of, tree_at, tree_of, declared
 use Rattle.wit_model.proofs.TreeTable.{trees_at}
 use Rattle.bind_union.specs.Views.{KindView, record_view, variant_view, tuple_view, own_view, borrow_view, option_view, result_view, list_view, map_view, fixed_list_view, future_view, stream_view, alias_view, kind_view, renamed_type, renamed, declared_view, type_numbers, optional_numbers, view_numbers}
 use Rattle.bind_union.specs.Images.{HasImageKind, IsCarriedType, AreCarried, RefersBelow, SameTrees, SameDeclarations}
+use Rattle.bind_union.proofs.Lists.{by_less}
 use Rattle.base_lemmas.proofs.{Bools.left_of as first_true, Bools.right_of as second_true, Lists.map_of_map as mapped_twice}
 use Rattle.wit_model.specs.declared.model.TypeDefKind.TheVariants as kind
 use Rattle.wit_model.specs.declared.model.Handle.TheVariants as handle
@@ -137,60 +138,45 @@ tree_by_name : (r : Resolve) (trees : List Tree) (def : TypeDef)
 tree_by_name r trees def = search std_rules
 
 module _ (r s : Resolve) (f : ℕ → ℕ) (carried : ℕ → Bool) (below_r : RefersBelow r) (below_s : RefersBelow s) (are : AreCarried r s f carried) where
-  same_at : (n : ℕ) → Type 0
+  abbrev same_at : ℕ → Type 0
   same_at n = carried n ≡ true → number_tree s (f n) ≡ number_tree r n
 
-  -- from smaller numbers, those that are carried
-  each_same : (n : ℕ) → ((m : ℕ) → m < n → carried m ≡ true → number_tree s (f m) ≡ number_tree r m) → (ns : List ℕ) → list_all (λ m. nat_lt m n) ns ≡ true → list_all carried ns ≡ true
+  each_of : (p q : ℕ → Bool) → ((m : ℕ) → p m ≡ true → q m ≡ true → number_tree s (f m) ≡ number_tree r m) → (ns : List ℕ) → list_all p ns ≡ true → list_all q ns ≡ true
       → Each (Same f (trees_of s) (trees_of r)) ns
-  each_same n same [] small all = tt
-  each_same n same (m ∷ ns) small all =
-      (same m (ltb-true m n (first_true _ _ small)) (first_true _ _ all), each_same n same ns (second_true _ _ small) (second_true _ _ all))
+  each_of p q one [] h k = tt
+  each_of p q one (n ∷ ns) h k = (one n (first_true _ _ h) (first_true _ _ k), each_of p q one ns (second_true _ _ h) (second_true _ _ k))
 
-  found : (n : ℕ) (def : TypeDef) → type_at r n ≡ Some def → number_tree r n ≡ by_name (place_of r def.owner) (optional_text def.name) (tree_of_declaration (declared_by (trees_of r) def.kind))
-  found n def is = ap (λ o. unwrap_or o no_tree) (trees_at r n def is (below_r n def is)) ∙ tree_by_name r (trees_of r) def
+  -- from smaller numbers, those that are carried
+  each_same : (n : ℕ) → ((m : ℕ) → m < n → same_at m) → (ns : List ℕ) → list_all (λ m. nat_lt m n) ns ≡ true → list_all carried ns ≡ true → Each (Same f (trees_of s) (trees_of r)) ns
+  each_same n same = each_of (λ m. nat_lt m n) carried (λ m low. same m (ltb-true m n low))
 
-  found_there : (n : ℕ) (def : TypeDef) → type_at s n ≡ Some def → number_tree s n ≡ by_name (place_of s def.owner) (optional_text def.name) (tree_of_declaration (declared_by (trees_of s) def.kind))
-  found_there n def is = ap (λ o. unwrap_or o no_tree) (trees_at s n def is (below_s n def is)) ∙ tree_by_name s (trees_of s) def
+  found_in : (x : Resolve) → RefersBelow x → (n : ℕ) (def : TypeDef) → type_at x n ≡ Some def
+      → number_tree x n ≡ by_name (place_of x def.owner) (optional_text def.name) (tree_of_declaration (declared_by (trees_of x) def.kind))
+  found_in x below n def is = ap (λ o. unwrap_or o no_tree) (trees_at x n def is (below n def is)) ∙ tree_by_name x (trees_of x) def
 
   -- a kind whose numbers stand for the same declares the same
   kind_same : (def image : TypeDef) → HasImageKind f carried def image → Each (Same f (trees_of s) (trees_of r)) (view_numbers (kind_view def.kind))
       → declared_by (trees_of s) image.kind ≡ declared_by (trees_of r) def.kind
   kind_same def image h each = search (std_rules, declared_by_view, view_same)
 
-  one_same : (n : ℕ) → ((m : ℕ) → m < n → carried m ≡ true → number_tree s (f m) ≡ number_tree r m) → carried n ≡ true → number_tree s (f n) ≡ number_tree r n
+  one_same : (n : ℕ) → ((m : ℕ) → m < n → same_at m) → same_at n
   one_same n same is =
       let c = are n is in
-      found_there (f n) c.image c.at_image
+      found_in s below_s (f n) c.image c.at_image
       ∙ ((λ i. by_name (c.is_image.place i) (c.is_image.name i) (tree_of_declaration (declared_by (trees_of s) c.image.kind)))
       ∙ (unnamed_same c (c.def.name) refl
-      ∙ sym (found n c.def c.found)))
+      ∙ sym (found_in r below_r n c.def c.found)))
     where
       unnamed_same : (c : IsCarriedType r s f carried n) (o : Option (String Global)) → c.def.name ≡ o →
           by_name (place_of r c.def.owner) (optional_text c.def.name) (tree_of_declaration (declared_by (trees_of s) c.image.kind))
           ≡ by_name (place_of r c.def.owner) (optional_text c.def.name) (tree_of_declaration (declared_by (trees_of r) c.def.kind))
-      unnamed_same c None e =
-          let h = c.is_image.kind e in
-          ap (λ d. by_name (place_of r c.def.owner) (optional_text c.def.name) (tree_of_declaration d))
-          (kind_same c.def c.image h
-          (each_same n same (view_numbers (kind_view c.def.kind)) (ap (list_all (λ m. nat_lt m n)) (numbers_of_view c.def.kind) ∙ below_r n c.def c.found) h.parts))
-      unnamed_same c (Some name) e =
-          ap (λ o. by_name (place_of r c.def.owner) (optional_text o) (tree_of_declaration (declared_by (trees_of s) c.image.kind))) e
-          ∙ sym (ap (λ o. by_name (place_of r c.def.owner) (optional_text o) (tree_of_declaration (declared_by (trees_of r) c.def.kind))) e)
-
-  below_same : (fuel n : ℕ) → n < fuel → carried n ≡ true → number_tree s (f n) ≡ number_tree r n
-  below_same zero n h is = absurd (omega (arith, h))
-  below_same (suc fuel) n h is = one_same n (λ m small c. below_same fuel m (omega (arith, h, small)) c) is
+      unnamed_same c x e = search (std_rules, kind_same, each_same, numbers_of_view)
 
   pub all_same : (n : ℕ) → carried n ≡ true → number_tree s (f n) ≡ number_tree r n
-  all_same n is = below_same (suc n) n (omega arith) is
+  all_same = by_less same_at one_same
 
   pub declarations_same : (def image : TypeDef) → HasImageKind f carried def image → declaration_of s image ≡ declaration_of r def
-  declarations_same def image h = kind_same def image h (each_carried (view_numbers (kind_view def.kind)) h.parts)
-    where
-      each_carried : (ns : List ℕ) → list_all carried ns ≡ true → Each (Same f (trees_of s) (trees_of r)) ns
-      each_carried [] all = tt
-      each_carried (n ∷ ns) all = (all_same n (first_true _ _ all), each_carried ns (second_true _ _ all))
+  declarations_same def image h = kind_same def image h (each_of carried carried (λ n c d. all_same n c) (view_numbers (kind_view def.kind)) h.parts h.parts)
 
 pub same_trees : SameTrees
 same_trees r s f carried below_r below_s are n is = all_same r s f carried below_r below_s are n is

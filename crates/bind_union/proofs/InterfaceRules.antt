@@ -1,27 +1,21 @@
 -- What an interface uses, and what the rules ask of it, holds of its copy, with its numbers in order.
-use Rattle.std.proofs.Common.{rules as std_rules, ◌≡◌, refl, sym, ap, subst, ◌∙◌, ℕ, Bool, true, false, not, ◌==◌, List, [], map, Option, Some, None, option_map, option_to_list, slice_get, ◌+◌, ◌||◌, cond, ◌∷◌, ◌++◌, inl, ◌&&◌, nat_lt, ltb-true}
-use Rattle.std.proofs.lemmas.{Option.same_Some as same-some, Bool.or_right, Bool.and_from as both, Bool.lt-ltb, List.Sums.sum_by-cons, List.Folds.list_all-map}
-use Rattle.std.proofs.lemmas.Simd.{map-map}
+use Rattle.std.proofs.Common.{arith, rules as std_rules, ◌≡◌, refl, sym, ap, subst, ◌∙◌, ℕ, Bool, true, false, not, ◌==◌, List, [], map, Option, Some, option_map, option_to_list, ◌+◌, ◌||◌, cond, ◌∷◌, ◌++◌, inl, ◌&&◌, nat_lt, ltb-true}
+use Rattle.std.proofs.{lemmas.Bool.and_from as both, lemmas.Bool.lt-ltb, lemmas.List.Sums.sum_by-cons, lemmas.List.Folds.list_all-map, lemmas.Simd.map-map}
 use Rattle.std.specs.{List.list_all, List.Contains, List.AllZip, List.list_any, Option.option_map_or, Prelude.count_by, Prelude.String}
 use Rattle.indexmap.specs.IndexMap.{values, keys}
 use Rattle.wit_model.specs.declared.model.{Resolve.Resolve, Interface.Interface, TypeId.TypeId, TypeOwner.TypeOwner, Function.Function}
-use Rattle.wit_model.specs.{Lookup.interface_at, Checks.references, Names.is_label}
+use Rattle.wit_model.specs.{Lookup.interface_at, Checks.references, Text.Text, Text.text_of, Text.text_eq, Parts.function_types, Parts.is_resource_type, Parts.used_by_type}
 use Rattle.wit_model.specs.Uses.{has, once, owner_interface, interface_used_by, interfaces_used_by, direct_deps}
-use Rattle.wit_model.specs.Rules.{passes, interface_type_numbers, each_after, is_stability, function_labels, is_named_of, used_by_number, are_in_order, function_stays, is_shallow, is_member}
+use Rattle.wit_model.specs.Rules.{passes, interface_type_numbers, each_after, function_labels, is_named_of, used_by_number, are_in_order, function_stays, is_shallow, is_member}
 use Rattle.wit_model.specs.Valid.{Keeps, KeepsRules, as_interface, functions_of_interface, labels, order_of_types, owners, handles, depths, function_names}
-use Rattle.wit_model.specs.{Text.Text, Text.text_of, Text.text_eq, Parts.function_types, Parts.is_resource_type, Parts.used_by_type}
-use Rattle.wit_model.proofs.{Elements.has-contains, Elements.contains-has, Elements.contains-filter_map, Chains.has_once, Chains.all_has as passes_at}
-use Rattle.wit_model.proofs.{UsesLemmas.has_filter, UsesLemmas.filter_has, UsesLemmas.all_from_has, TextLemmas.some_alike as named_alike}
-use Rattle.wit_model.proofs.{RulesLemmas.after_of_map, OnePath.interface-passes, PartsLemmas.owner_itself, PartsLemmas.owner_same as owner_equal}
-use Rattle.bind_meaning.proofs.Listed.{from-map}
+use Rattle.wit_model.proofs.{Elements.has-contains, Elements.contains-has, Elements.contains-filter_map, Chains.has_once, Chains.all_has as passes_at, UsesLemmas.has_filter, UsesLemmas.filter_has, UsesLemmas.all_from_has, TextLemmas.some_alike as named_alike, RulesLemmas.after_of_map, OnePath.interface-passes, PartsLemmas.owner_itself, PartsLemmas.owner_same as owner_equal}
+use Rattle.bind_meaning.proofs.Listed.{mapped, from-map}
 use Rattle.bind_union.specs.Carried.{Renumbering, owner_under, carries_owner, IsInterface, IsCarried, Rises, IsFunctionEntry, IsInterfaceCopy}
 use Rattle.bind_union.proofs.{Lists.no_true, Homes.apart}
-use Rattle.bind_union.proofs.CopyRules.{label_alike, stability_alike, used, used_there, function_labels_pass, function_stays_passes, function_handles_pass, function_depths_pass, member_passes}
+use Rattle.bind_union.proofs.CopyRules.{label_alike, stability_alike, used, used_there, function_labels_same, function_stays_passes, function_handles_pass, function_depths_pass, member_passes}
 use Rattle.base_lemmas.proofs.Elements.{contains-map, contains-one, filter_map_from, get-contains, all_two, any_of_map as list_any_mapped, zip_map}
 use Rattle.base_lemmas.proofs.{Numbers.equal, Numbers.same-number, Bools.left_of as first_true, Bools.right_of as second_true}
 use Rattle.std.specs.declared.alloc.Global.{Global}
-
--- what each number of a list passes, all pass
 
 pub given_contains : {X : Type 0} (o : Option X) (x : X) → o ≡ Some x → Contains (option_to_list o) x
 given_contains o x e = subst (λ (p : Option _). Contains (option_to_list p) x) (sym e) (contains-one x)
@@ -33,7 +27,15 @@ zip_all R p q one [] [] z h = refl
 zip_all R p q one (x ∷ xs) (y ∷ ys) z h = both _ _ (one x y z.0 (first_true _ _ h)) (zip_all R p q one xs ys z.1 (second_true (p x) _ h))
 zip_all R p q one _ _ z h = absurd z
 
--- what the relation makes equal is one list
+-- what a number that is asked for passes there, where it was asked for and passed here
+pub implied_all : (f : ℕ → ℕ) (carries a b c d : ℕ → Bool) → ((m : ℕ) → carries m ≡ true → c (f m) ≡ true → a m ≡ true) → ((m : ℕ) → b m ≡ true → d (f m) ≡ true) → (ns : List ℕ)
+    → list_all carries ns ≡ true → list_all (λ m. not (a m) || b m) ns ≡ true → list_all (λ m. not (c m) || d m) (map f ns) ≡ true
+implied_all f carries a b c d back there ns k h =
+    list_all-map (λ m. not (c m) || d m) f ns
+    ∙ all_two carries (λ m. not (a m) || b m) (λ m. not (c (f m)) || d (f m)) (λ m i. implied (a m) (b m) (c (f m)) (d (f m)) (back m i) (there m)) ns k h
+  where
+    implied : (a b c d : Bool) → (c ≡ true → a ≡ true) → (b ≡ true → d ≡ true) → (not a || b) ≡ true → (not c || d) ≡ true
+    implied x y z d k j h = search std_rules
 
 pub has_map : (f : ℕ → ℕ) (ns : List ℕ) (n : ℕ) → has ns n ≡ true → has (map f ns) (f n) ≡ true
 has_map f ns n h = contains-has (map f ns) (f n) (contains-map f ns n (has-contains ns n h))
@@ -56,9 +58,7 @@ module _ (f : ℕ → ℕ) (carries copies : ℕ → Bool) (rise : Rises f carri
       ∙ sym (sum_by-cons (λ k. cond (k == n) 1 0) m ns))
     where
       test : (a : Bool) → (m == n) ≡ a → (b : Bool) → (f m == f n) ≡ b → (f m == f n) ≡ (m == n)
-      test true p b q = subst (λ (k : ℕ). (f m == f k) ≡ (m == k)) (equal m n p) (same-number (f m) ∙ sym (same-number m))
-      test false p false q = q ∙ sym p
-      test false p true q = no_true (sym p ∙ (subst (λ (k : ℕ). (m == k) ≡ true) (apart f carries copies rise copied m n (first_true _ _ all) c (equal (f m) (f n) q)) (same-number m)))
+      test x p b q = search std_rules
 
   -- ---- lists in order
 
@@ -72,24 +72,14 @@ module _ (f : ℕ → ℕ) (carries copies : ℕ → Bool) (rise : Rises f carri
   abbrev pub after_uses : (ℕ → List ℕ) → List ℕ → List ℕ → ℕ → Bool
   after_uses uses ns before n = list_all (λ m. not (has ns m) || has before m) (uses n)
 
-  use_there : (ns before : List ℕ) → list_all copies ns ≡ true → (used : List ℕ) → list_all carries used ≡ true → list_all (λ m. not (has ns m) || has before m) used ≡ true
-      → list_all (λ m. not (has (map f ns) m) || has (map f before) m) (map f used) ≡ true
-  use_there ns before all [] c h = refl
-  use_there ns before all (m ∷ used) c h = both _ _ (one (has ns m) refl (has (map f ns) (f m)) refl (first_true _ _ h))
-      (use_there ns before all used (second_true _ _ c) (second_true (not (has ns m) || has before m) _ h))
-    where
-      one : (a : Bool) → has ns m ≡ a → (b : Bool) → has (map f ns) (f m) ≡ b → (not (has ns m) || has before m) ≡ true → (not (has (map f ns) (f m)) || has (map f before) (f m)) ≡ true
-      one a p false q g = ap (λ b. not b || has (map f before) (f m)) q
-      one true p true q g = or_right (not (has (map f ns) (f m))) (has (map f before) (f m)) (has_map f before m (sym (ap (λ b. not b || has before m) p) ∙ g))
-      one false p true q g = no_true (sym p ∙ has_back ns all m (first_true _ _ c) q)
-
   pub order_there : (uses uses_there : ℕ → List ℕ) (ns : List ℕ) → list_all copies ns ≡ true
       → ((n : ℕ) → copies n ≡ true → (uses_there (f n) ≡ map f (uses n)) × (list_all carries (uses n) ≡ true))
       → each_after (after_uses uses ns) [] ns ≡ true → each_after (after_uses uses_there (map f ns)) [] (map f ns) ≡ true
   order_there uses uses_there ns all each h =
       after_of_map (after_uses uses_there (map f ns)) f [] ns
       ∙ after_weaker copies (after_uses uses ns) (λ before n. after_uses uses_there (map f ns) (map f before) (f n))
-      (λ before n c g. ap (list_all (λ m. not (has (map f ns) m) || has (map f before) m)) (each n c).0 ∙ use_there ns before all (uses n) (each n c).1 g) [] ns all h
+      (λ before n c g. ap (list_all (λ m. not (has (map f ns) m) || has (map f before) m)) (each n c).0
+      ∙ implied_all f carries (has ns) (has before) (has (map f ns)) (has (map f before)) (has_back ns all) (has_map f before) (uses n) (each n c).1 g) [] ns all h
 
 module _ (r s : Resolve) (f : Renumbering) (valid : KeepsRules r) (is : IsCarried r s f) (below_s : Keeps references s) where
   interface_of_owner : (o : TypeOwner) → carries_owner f o ≡ true → (owner_interface (owner_under f o) ≡ option_map f.interfaces (owner_interface o))
@@ -124,16 +114,7 @@ module _ (r s : Resolve) (f : Renumbering) (valid : KeepsRules r) (is : IsCarrie
       i = is.interfaces n c
 
       other : (m k : ℕ) → (b : Bool) → (m == n) ≡ b → f.interfaces m ≡ k → not (k == f.interfaces n) ≡ true → (m == n) ≡ false
-      other m k false e same h = e
-      other m k true e same h = no_true (sym (ap not (ap (λ (x : ℕ). f.interfaces x == f.interfaces n) (equal m n e) ∙ same-number (f.interfaces n)))
-          ∙ (ap (λ (x : ℕ). not (x == f.interfaces n)) same ∙ h))
-
-      used : (k m : ℕ) (o : Option ℕ) → interface_used_by r k ≡ o → has (interface_type_numbers i.old) k ≡ true → passes f.carries_interface o ≡ true → option_map f.interfaces o ≡ Some m
-          → not (m == f.interfaces n) ≡ true → p m ≡ true
-      used k m None e listed d same apart = absurd (let wrong : ⊥ = cc in wrong)
-      used k m (Some j) e listed d same apart =
-          let to : f.interfaces j ≡ m = same-some (f.interfaces j) m same in
-          subst (λ (x : ℕ). p x ≡ true) to (one j d (passes_at q (direct_deps r n) j h (dep_of n i.old i.found k j listed e (other j m (j == n) refl to apart))))
+      other m k y e same h = search (std_rules, no_true, equal, same-number)
 
       each : (m : ℕ) → has (direct_deps s (f.interfaces n)) m ≡ true → p m ≡ true
       each m listed =
@@ -141,12 +122,12 @@ module _ (r s : Resolve) (f : Renumbering) (valid : KeepsRules r) (is : IsCarrie
           let among : has (interfaces_used_by s i.image) m ≡ true = sym (ap (λ o. has (option_map_or (interfaces_used_by s) o []) m) i.at_image)
           ∙ (sym (has_once m (option_map_or (interfaces_used_by s) (interface_at s (f.interfaces n)) [])) ∙ two.0) in
           let from = filter_map_from (λ (id : TypeId). interface_used_by s id.0) (values i.image.types) m (has-contains (interfaces_used_by s i.image) m among) in
-          let back = i.types from.1.0 (contains-has (interface_type_numbers i.image) from.1.0 (in_map (values i.image.types) from.0 from.1 from.2)) in
+          let back = i.types from.1.0 (contains-has (interface_type_numbers i.image) from.1.0 (contains-map (λ (x : TypeId). x.0) (values i.image.types) from.1
+          (get-contains (values i.image.types) from.0 from.1 from.2))) in
           let image = interface_used_there back.0 back.2 in
-          used back.0 m (interface_used_by r back.0) refl back.1 image.1 (sym image.0 ∙ (ap (interface_used_by s) back.3 ∙ from.3)) two.1
-        where
-          in_map : (ids : List TypeId) (k : ℕ) (id : TypeId) → slice_get ids k ≡ Some id → Contains (map (λ (x : TypeId). x.0) ids) id.0
-          in_map ids k id e = contains-map (λ (x : TypeId). x.0) ids id (get-contains ids k id e)
+          let j = mapped f.interfaces (interface_used_by r back.0) m (sym image.0 ∙ (ap (interface_used_by s) back.3 ∙ from.3)) in
+          subst (λ (x : ℕ). p x ≡ true) j.2 (one j.0 (sym (ap (passes f.carries_interface) j.1) ∙ image.1)
+          (passes_at q (direct_deps r n) j.0 h (dep_of n i.old i.found back.0 j.0 back.1 j.1 (other j.0 m (j.0 == n) refl j.2 two.1))))
 
   -- a named type of an owner is one of the new owner
   pub named_of_there : (o : TypeOwner) (n : ℕ) → f.carries_type n ≡ true → is_named_of r o n ≡ true → is_named_of s (owner_under f o) (f.types n) ≡ true
@@ -175,27 +156,13 @@ module _ (r s : Resolve) (f : Renumbering) (valid : KeepsRules r) (is : IsCarrie
     c = i.copied copy
 
     pub type_numbers : interface_type_numbers i.image ≡ map f.types (interface_type_numbers i.old)
-    type_numbers =
-        map-map (λ (id : TypeId). id.0) (λ e. e.1) i.image.types.entries
-        ∙ (sym (map-map (λ (e : Text × ℕ). e.1) (λ e. (text_of e.0, e.1.0)) i.image.types.entries)
-        ∙ (ap (map (λ (e : Text × ℕ). e.1)) c.types
-        ∙ (map-map (λ (e : Text × ℕ). e.1) (λ e. (text_of e.0, f.types e.1.0)) i.old.types.entries
-        ∙ (sym (map-map f.types (λ e. e.1.0) i.old.types.entries)
-        ∙ ap (map f.types) (sym (map-map (λ (id : TypeId). id.0) (λ e. e.1) i.old.types.entries))))))
+    type_numbers = simp map-map (simp map-map at (ap (map (λ (e : Text × ℕ). e.1)) c.types))
 
     type_keys : map text_of (keys i.image.types) ≡ map text_of (keys i.old.types)
-    type_keys =
-        map-map text_of (λ e. e.0) i.image.types.entries
-        ∙ (sym (map-map (λ (e : Text × ℕ). e.0) (λ e. (text_of e.0, e.1.0)) i.image.types.entries)
-        ∙ (ap (map (λ (e : Text × ℕ). e.0)) c.types
-        ∙ (map-map (λ (e : Text × ℕ). e.0) (λ e. (text_of e.0, f.types e.1.0)) i.old.types.entries
-        ∙ sym (map-map text_of (λ e. e.0) i.old.types.entries))))
+    type_keys = simp map-map (simp map-map at (ap (map (λ (e : Text × ℕ). e.0)) c.types))
 
     function_keys : map text_of (keys i.image.functions) ≡ map text_of (keys i.old.functions)
-    function_keys =
-        map-map text_of (λ e. e.0) i.image.functions.entries
-        ∙ (zip_map (IsFunctionEntry f) (λ e. text_of e.0) (λ e. text_of e.0) (λ a b z. z.0) i.old.functions.entries i.image.functions.entries c.functions
-        ∙ sym (map-map text_of (λ e. e.0) i.old.functions.entries))
+    function_keys = grind (arith, map-map, i, zip_map)
 
     pub all_copies : list_all f.copies_type (interface_type_numbers i.old) ≡ true
     all_copies = list_all-map f.copies_type (λ (id : TypeId). id.0) (values i.old.types) ∙ c.copies
@@ -203,36 +170,30 @@ module _ (r s : Resolve) (f : Renumbering) (valid : KeepsRules r) (is : IsCarrie
     -- what is asked of each function
     pub each_function : (p q : Function → Bool) → ((a b : String Global × Function) → IsFunctionEntry f a b → p a.1 ≡ true → q b.1 ≡ true) → list_all p (functions_of_interface i.old) ≡ true
         → list_all q (functions_of_interface i.image) ≡ true
-    each_function p q one h =
-        list_all-map q (λ e. e.1) i.image.functions.entries
-        ∙ zip_all (IsFunctionEntry f) (λ e. p e.1) (λ e. q e.1) one i.old.functions.entries i.image.functions.entries c.functions (sym (list_all-map p (λ e. e.1) i.old.functions.entries) ∙ h)
+    each_function p q one h = search (std_rules, list_all-map, i, zip_all)
 
     -- labels
-    apart_by_text : (a : Interface)
-        → list_all (λ name. not (list_any (λ other. text_eq (text_of name) (text_of other)) (keys a.functions))) (keys a.types) ≡ list_all
-        (λ t. not (list_any (text_eq t) (map text_of (keys a.functions)))) (map text_of (keys a.types))
-    apart_by_text a =
-        (λ j. list_all (λ name. not (sym (list_any_mapped (text_eq (text_of name)) text_of (keys a.functions)) j)) (keys a.types))
-        ∙ sym (list_all-map (λ t. not (list_any (text_eq t) (map text_of (keys a.functions)))) text_of (keys a.types))
+    abbrev apart_names : Interface → Bool
+    apart_names a = list_all (λ name. not (list_any (λ other. text_eq (text_of name) (text_of other)) (keys a.functions))) (keys a.types)
+
+    apart_by_text : (a : Interface) → apart_names a ≡ list_all (λ t. not (list_any (text_eq t) (map text_of (keys a.functions)))) (map text_of (keys a.types))
+    apart_by_text a = search (std_rules, list_any_mapped, list_all-map)
+
+    functions_labelled : list_all function_labels (functions_of_interface i.image) ≡ list_all function_labels (functions_of_interface i.old)
+    functions_labelled =
+        let by = λ (es : List (String Global × Function)). list_all-map function_labels (λ e. e.1) es ∙ sym (list_all-map (λ (b : Bool). b) (λ e. function_labels e.1) es) in
+        by i.image.functions.entries
+        ∙ (ap (list_all (λ b. b)) (zip_map (IsFunctionEntry f) (λ e. function_labels e.1) (λ e. function_labels e.1) (λ a b z. function_labels_same r s f valid is below_s a.1 b.1 z.1)
+        i.old.functions.entries i.image.functions.entries c.functions) ∙ sym (by i.old.functions.entries))
 
     pub interface_labels_pass : labels.interface_ s (f.interfaces n) i.image ≡ true
     unfolding labels
-    interface_labels_pass = both _ _ (label_alike i.image.name i.old.name i.name ∙ first_true _ _ old)
-        (both _ _ (stability_alike i.image.stability i.old.stability c.stability ∙ first_true _ _ after_name)
-        (both _ _ (each_function function_labels function_labels (λ a b z. function_labels_pass r s f valid is below_s a.1 b.1 z.1) (first_true _ _ after_stability))
-        (apart_by_text i.image ∙ ((λ j. list_all (λ t. not (list_any (text_eq t) (function_keys j))) (type_keys j))
-        ∙ (sym (apart_by_text i.old) ∙ second_true (list_all function_labels (functions_of_interface i.old)) _ after_stability)))))
+    interface_labels_pass =
+        (λ j. label_alike i.image.name i.old.name i.name j && (stability_alike i.image.stability i.old.stability c.stability j && (functions_labelled j && apart_there j)))
+        ∙ interface-passes labels r valid.labels n i.old i.found
       where
-        old : labels.interface_ r n i.old ≡ true
-        old = interface-passes labels r valid.labels n i.old i.found
-
-        after_name : (is_stability i.old.stability && (list_all function_labels (functions_of_interface i.old) && list_all
-            (λ name. not (list_any (λ other. text_eq (text_of name) (text_of other)) (keys i.old.functions))) (keys i.old.types))) ≡ true
-        after_name = second_true (passes (λ name. is_label (text_of name)) i.old.name) _ old
-
-        after_stability : (list_all function_labels (functions_of_interface i.old) && list_all (λ name. not (list_any (λ other. text_eq (text_of name) (text_of other)) (keys i.old.functions)))
-            (keys i.old.types)) ≡ true
-        after_stability = second_true (is_stability i.old.stability) _ after_name
+        apart_there : apart_names i.image ≡ apart_names i.old
+        apart_there = apart_by_text i.image ∙ ((λ j. list_all (λ t. not (list_any (text_eq t) (function_keys j))) (type_keys j)) ∙ sym (apart_by_text i.old))
 
     -- order of types
     pub interface_order_passes : order_of_types.interface_ s (f.interfaces n) i.image ≡ true

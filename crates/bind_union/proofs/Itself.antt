@@ -1,12 +1,11 @@
 -- What was there is carried into what grows, under its own numbers.
-use Rattle.std.proofs.Common.{rules as std_rules, ◌≡◌, ◌⊎◌, inl, inr, refl, sym, ap, ◌∙◌, ℕ, zero, suc, ◌<◌, true, false, ◌&&◌, List, [], ◌∷◌, ◌++◌, map, Option, Some, option_map, slice_get}
+use Rattle.std.proofs.Common.{rules as std_rules, ◌≡◌, ◌⊎◌, inl, refl, sym, ap, ◌∙◌, ℕ, zero, suc, ◌<◌, true, false, ◌&&◌, List, [], ◌∷◌, ◌++◌, map, Option, Some, option_map, slice_get}
 use Rattle.std.proofs.lemmas.List.Folds.{list_all-map}
 use Rattle.std.specs.{Prelude.String, List.AllZip, List.list_all}
 use Rattle.std.specs.declared.alloc.Global.{Global}
 use Rattle.indexmap.specs.IndexMap.{values}
-use Rattle.wit_model.specs.declared.model.{Resolve.Resolve, Package.Package, World.World, TypeId.TypeId, WorldKey.WorldKey}
-use Rattle.wit_model.specs.declared.model.{TypeOwner.TypeOwner, Function.Function, FunctionKind.FunctionKind, WorldItem.WorldItem, «Type».«Type» as ValueType}
-use Rattle.wit_model.specs.{Lookup.package_at, Lookup.world_at, Valid.KeepsRules, Valid.numbers_in_range, Valid.is_place}
+use Rattle.wit_model.specs.declared.model.{Resolve.Resolve, Package.Package, Interface.Interface, TypeDef.TypeDef, World.World, TypeId.TypeId, WorldKey.WorldKey, TypeOwner.TypeOwner, Function.Function, FunctionKind.FunctionKind, WorldItem.WorldItem, «Type».«Type» as ValueType}
+use Rattle.wit_model.specs.{Lookup.package_at, Lookup.interface_at, Lookup.type_at, Lookup.world_at, Valid.KeepsRules, Valid.numbers_in_range, Valid.is_place}
 use Rattle.wit_model.specs.Parts.{kind_numbers}
 use Rattle.wit_model.specs.Rules.{passes, in_list, package_number, interface_type_numbers, function_in_range, owner_in_range, key_in_range, item_in_range, entries_in_range}
 use Rattle.wit_model.proofs.{OnePath.found-in, OnePath.interface-passes, ValidLemmas.type_passes, ValidLemmas.world_passes as world-passes}
@@ -14,9 +13,8 @@ use Rattle.wit_model.proofs.Chains.{all_has as passes_at}
 use Rattle.bind_union.specs.Views.{KindView, kind_view, renamed_type, renamed}
 use Rattle.bind_union.specs.{Images.HasImageKind, Joined.Joined, Joined.none, Joined.added, Merged.BeginsWith}
 use Rattle.bind_union.specs.Carried.{Renumbering, IsSameName, owner_under, carries_owner, copies_owner, call_under, IsFunctionCopy, IsFunctionEntry, IsType, IsInterface, IsCarried, KeyBecomes, ItemBecomes}
-use Rattle.bind_union.proofs.{Lists.no_true, Images.numbers_of_view}
+use Rattle.bind_union.proofs.Images.{numbers_of_view}
 use Rattle.base_lemmas.proofs.Bools.{left_of as first_true, right_of as second_true}
-use Rattle.wit_model.specs.declared.model.TypeOwner.TheVariants as owner
 
 abbrev pub itself : Resolve → Renumbering
 itself r = record {
@@ -104,23 +102,37 @@ module _ (r : Resolve) (valid : KeepsRules r) where
   world_range n w e =
       search (std_rules, second_true (passes (in_list r.packages.items) (package_number w.«package»)) _ (world_numbers n w e), world_numbers n w e)
 
+  -- what an interface and a type refer to is in range
+  pub interface_range : (n : ℕ) (i : Interface) → interface_at r n ≡ Some i
+      → (list_all (in_list r.types.items) (interface_type_numbers i) ≡ true) × (list_all (function_in_range r) (values i.functions) ≡ true)
+  unfolding numbers_in_range
+  interface_range n i e =
+      let old : (is_place n && (passes (in_list r.packages.items) (package_number i.«package»)
+      && (list_all (λ id. in_list r.types.items id.0) (values i.types) && list_all (function_in_range r) (values i.functions)))) ≡ true =
+      interface-passes numbers_in_range r valid.numbers_in_range n i e in
+      let two = second_true (passes (in_list r.packages.items) (package_number i.«package»)) _ (second_true (is_place n) _ old) in
+      (list_all-map (in_list r.types.items) (λ (id : TypeId). id.0) (values i.types) ∙ first_true _ _ two, second_true (list_all (λ id. in_list r.types.items id.0) (values i.types)) _ two)
+
+  pub type_range : (n : ℕ) (def : TypeDef) → type_at r n ≡ Some def → (list_all (in_list r.types.items) (kind_numbers def.kind) ≡ true) × (owner_in_range r def.owner ≡ true)
+  unfolding numbers_in_range
+  type_range n def e =
+      let old : (is_place n && (list_all (in_list r.types.items) (kind_numbers def.kind) && owner_in_range r def.owner)) ≡ true = type_passes numbers_in_range r valid.numbers_in_range n def e in
+      let two = second_true (is_place n) _ old in
+      (first_true _ _ two, second_true (list_all (in_list r.types.items) (kind_numbers def.kind)) _ two)
+
   module _ (s : Resolve) (types : BeginsWith r.types.items s.types.items) (interfaces : BeginsWith r.interfaces.items s.interfaces.items) (packages : (n : ℕ) (p : Package) → package_at r n ≡ Some p → (q : Package) × (package_at s n ≡ Some q) × IsSameName p.name q.name) where
     carried_owner : (o : TypeOwner) → owner_in_range r o ≡ true → (carries_owner f o ≡ true) × (copies_owner f o ≡ true)
-    carried_owner (owner.World id) h = (h, h)
-    carried_owner (owner.Interface id) h = (h, h)
-    carried_owner owner.None h = (refl, refl)
+    carried_owner x h = search std_rules
 
     type_itself : (n : ℕ) → in_list r.types.items n ≡ true → IsType r s f n
-    unfolding numbers_in_range
     type_itself n c =
         let d = found-in r.types.items n c in
-        let old : (is_place n && (list_all (in_list r.types.items) (kind_numbers d.0.kind) && owner_in_range r d.0.owner)) ≡ true = type_passes numbers_in_range r valid.numbers_in_range n d.0 d.1 in
-        let two = second_true (is_place n) _ old in
-        let home = carried_owner d.0.owner (second_true (list_all (in_list r.types.items) (kind_numbers d.0.kind)) _ two) in
+        let range = type_range n d.0 d.1 in
+        let home = carried_owner d.0.owner range.1 in
         let kind : HasImageKind f.types f.carries_type d.0 d.0 = record {
           kinds = sym (same_view (kind_view d.0.kind));
           parts =
-              ap (list_all (in_list r.types.items)) (numbers_of_view d.0.kind) ∙ first_true _ _ two;
+              ap (list_all (in_list r.types.items)) (numbers_of_view d.0.kind) ∙ range.0;
         } in
         record {
           def = d.0;
@@ -135,15 +147,10 @@ module _ (r : Resolve) (valid : KeepsRules r) where
         }
 
     interface_itself : (n : ℕ) → in_list r.interfaces.items n ≡ true → IsInterface r s f n
-    unfolding numbers_in_range
     interface_itself n c =
         let d = found-in r.interfaces.items n c in
         let i = d.0 in
-        let old : (is_place n && (passes (in_list r.packages.items) (package_number i.«package»)
-        && (list_all (λ id. in_list r.types.items id.0) (values i.types) && list_all (function_in_range r) (values i.functions)))) ≡ true =
-        interface-passes numbers_in_range r valid.numbers_in_range n i d.1 in
-        let two = second_true (passes (in_list r.packages.items) (package_number i.«package»)) _ (second_true (is_place n) _ old) in
-        let numbers = first_true (list_all (λ id. in_list r.types.items id.0) (values i.types)) _ two in
+        let range = interface_range n i d.1 in
         record {
           old = i;
           found = d.1;
@@ -151,19 +158,17 @@ module _ (r : Resolve) (valid : KeepsRules r) where
           at_image = get_begin r.interfaces.items s.interfaces.items interfaces n i d.1;
           name = refl;
           in_package = λ h. option_same (package_number i.«package»);
-          types = λ m h. (m, h, passes_at (in_list r.types.items) (interface_type_numbers i) m (list_all-map (in_list r.types.items) (λ (id : TypeId). id.0) (values i.types) ∙ numbers) h, refl);
+          types = λ m h. (m, h, passes_at (in_list r.types.items) (interface_type_numbers i) m range.0 h, refl);
           copied = λ h. record {
             types = refl;
-            copies = numbers;
-            functions = zip_itself i.functions.entries (sym (list_all-map (function_in_range r) (λ (e : String Global × Function). e.1) i.functions.entries) ∙ second_true
-                (list_all (λ id. in_list r.types.items id.0) (values i.types)) _ two);
+            copies = sym (list_all-map (in_list r.types.items) (λ (id : TypeId). id.0) (values i.types)) ∙ range.0;
+            functions = zip_itself i.functions.entries (sym (list_all-map (function_in_range r) (λ (e : String Global × Function). e.1) i.functions.entries) ∙ range.1);
             stability = refl;
           };
         }
 
     rise : {X : Type 0} (xs : List X) (m n : ℕ) → in_list xs m ≡ true → in_list xs n ≡ true → (m < n) ⊎ (in_list xs m ≡ false) → m < n
-    rise xs m n c d (inl h) = h
-    rise xs m n c d (inr h) = no_true (sym h ∙ c)
+    rise xs m n c d x = search std_rules
 
     pub carried_itself : IsCarried r s f
     carried_itself = record {

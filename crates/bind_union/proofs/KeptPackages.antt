@@ -1,25 +1,30 @@
 -- What stands in the packages of what was merged has its name and its package there, and no two packages have one name.
-use Rattle.std.proofs.Common.{rules as std_rules, arith, ◌≡◌, ◌⊎◌, inl, inr, refl, sym, ap, ◌∙◌, ℕ, Bool, true, false, ◌&&◌, ◌||◌, ◌==◌, not, List, [], Option, Some, subst}
+pub use Rattle.bind_meaning.proofs.Listed.{tested as found_option}
+use Rattle.std.proofs.Common.{rules as std_rules, arith, ◌≡◌, ◌⊎◌, inl, inr, refl, sym, ap, ◌∙◌, ℕ, Bool, true, false, ◌&&◌, ◌||◌, ◌==◌, not, List, [], Option, None, Some, subst}
 use Rattle.std.proofs.lemmas.{Bool.lt-ltb, Bool.or_right, Bool.and_from as both, Bool.or_left, Option.slice_get_within, Option.same_Some as same-some}
 use Rattle.std.proofs.lemmas.List.Folds.{list_all-append, list_all-map}
 use Rattle.std.specs.{Prelude.String, List.list_all, Option.option_map_or}
 use Rattle.std.specs.declared.alloc.Global.{Global}
 use Rattle.indexmap.specs.IndexMap.{values}
-use Rattle.wit_model.specs.declared.model.{Resolve.Resolve, Package.Package, InterfaceId.InterfaceId, WorldId.WorldId, World.World, PackageName.PackageName}
-use Rattle.wit_model.specs.{Text.Text, Text.text_of, Text.text_eq, Lookup.package_at, Lookup.interface_at, Lookup.world_at, Names.is_label, Names.is_version}
+use Rattle.wit_model.specs.declared.model.{Resolve.Resolve, Package.Package, InterfaceId.InterfaceId, WorldId.WorldId, PackageName.PackageName}
+use Rattle.wit_model.specs.{Text.Text, Text.text_of, Text.text_eq, Lookup.package_at, Lookup.interface_at, Lookup.world_at, Lookup.identity_of, Names.is_label, Names.is_version}
 use Rattle.wit_model.specs.Rules.{each_from, passes, in_list, is_id, text_is, package_number, interface_belongs, world_belongs, names_itself, is_world_name, same_package_name}
 use Rattle.wit_model.specs.Valid.{Rule, Keeps, KeepsRules, numbers_in_range, places, names_in_packages, package_names}
-use Rattle.wit_model.proofs.{Entries.free_passes, TextLemmas.named_too}
-use Rattle.wit_model.proofs.{OnePath.found-in, OnePath.package-passes, RulesLemmas.each_by_number, RulesLemmas.each_at, RulesLemmas.name_flip}
+use Rattle.wit_model.proofs.{Entries.packages_keep, TextLemmas.named_too, OnePath.found-in, OnePath.package-passes, RulesLemmas.each_by_number, RulesLemmas.each_at, RulesLemmas.name_flip}
 use Rattle.bind_union.specs.Carried.{Renumbering, IsSameName}
 use Rattle.bind_union.specs.Merged.{interface_names, world_names, IsJoinedPackage, PackageStands, grown, brought, IsKeptPackage, IsPackageOf, IsMerged}
-use Rattle.bind_union.proofs.{CopyRules.text_alike, CopyRules.version_alike, CopyRules.are_parts, ViewTests.id_under, Itself.get_begin, PackageNames.names_pass}
+use Rattle.bind_union.proofs.{Lists.by_number, Carrying.same_identity, CopyRules.text_alike, CopyRules.version_alike, CopyRules.are_parts, ViewTests.id_under, Itself.get_begin, PackageNames.names_pass}
 use Rattle.base_lemmas.proofs.{Bools.left_of as first_true, Bools.right_of as second_true, Elements.all_three, Elements.all_weaker, Elements.all_two}
 use Rattle.base_lemmas.proofs.Numbers.{equal, same-number}
 
 pub kept : (rule : Rule) (s : Resolve) → each_from (rule.package_ s) 0 s.packages.items ≡ true → each_from (rule.interface_ s) 0 s.interfaces.items ≡ true
     → each_from (rule.world_ s) 0 s.worlds.items ≡ true → each_from (rule.type_ s) 0 s.types.items ≡ true → Keeps rule s
 kept rule s ps is ws ts = both _ _ ps (both _ _ is (both _ _ ws ts))
+
+-- where a package's number is in range
+pub by_package : (r : Resolve) (P : Option ℕ → Type 0) → P None → ((k : ℕ) (p : Package) → package_at r k ≡ Some p → P (Some k)) → (p : Option ℕ) → passes (in_list r.packages.items) p ≡ true → P p
+by_package r P none some None h = none
+by_package r P none some (Some k) h = let p = found-in r.packages.items k h in some k p.0 p.1
 
 -- the interface is there, and has this name and this package
 abbrev pub is_interface_of : Resolve → ℕ → Text × ℕ → Bool
@@ -67,9 +72,6 @@ module _ (r : Resolve) (valid : KeepsRules r) (n : ℕ) (p : Package) (found : p
   worlds_stand = search (std_rules, list_all-map, all_two, found-in, both, second_true, first_true, ranges, belong)
 
 -- ---- back to the rules
-
-pub found_option : {A : Type 0} (test : A → Bool) (o : Option A) → option_map_or test o false ≡ true → (x : A) × (o ≡ Some x) × (test x ≡ true)
-found_option test y h = search std_rules
 
 module _ (r : Resolve) (n : ℕ) (p : Package) (stand : list_all (is_interface_of r n) (interface_names p) ≡ true) (worlds : list_all (is_world_of r n) (world_names p) ≡ true) where
   each_interface : (q : String Global × InterfaceId → Bool) → ((e : String Global × InterfaceId) → is_interface_of r n (text_of e.0, e.1.0) ≡ true → q e ≡ true)
@@ -123,16 +125,13 @@ module _ (own other merged : Resolve) (bound other_bound : ℕ) (first second : 
       ap (λ o. option_map_or (λ i. text_is i.name e.0 && is_id n (package_number i.«package»)) o false) (get_begin own.interfaces.items merged.interfaces.items is.interfaces e.1 i.0 i.1) ∙ i.2
 
   own_world : (n : ℕ) (e : Text × ℕ) → is_world_of own n e ≡ true → is_world_of merged n e ≡ true
-  own_world n e h = go (found_option _ (world_at own e.1) h) (e.1 == bound) refl
-    where
-      go : (w : World) × (world_at own e.1 ≡ Some w) × ((text_eq (text_of w.name) e.0 && is_id n (package_number w.«package»)) ≡ true) → (b : Bool) → (e.1 == bound) ≡ b → is_world_of merged n e ≡ true
-      go w false apart = ap (λ o. option_map_or (λ w. text_eq (text_of w.name) e.0 && is_id n (package_number w.«package»)) o false) (is.worlds e.1 w.0 w.1 apart) ∙ w.2
-      go w true same =
-          let here : second.worlds other_bound ≡ e.1 = is.bound_there ∙ sym (equal e.1 bound same) in
-          let old : is.own_bound ≡ w.0 = same-some is.own_bound w.0 (sym is.bound_at ∙ (ap (world_at own) (sym (equal e.1 bound same)) ∙ w.1)) in
-          ap (λ o. option_map_or (λ w. text_eq (text_of w.name) e.0 && is_id n (package_number w.«package»)) o false) (sym (ap (world_at merged) here) ∙ is.joined.at_image)
-          ∙ ((λ i. text_eq (text_of (is.bound_name i)) e.0 && is_id n (package_number (is.bound_package i)))
-          ∙ ((λ i. text_eq (text_of (old i).name) e.0 && is_id n (package_number (old i).«package»)) ∙ w.2))
+  own_world n e h =
+      let w = found_option _ (world_at own e.1) h in
+      by_number e.1 bound (λ same.
+      let old : is.own_bound ≡ w.0 = same-some is.own_bound w.0 (sym is.bound_at ∙ (ap (world_at own) (sym same) ∙ w.1)) in
+      ap (λ o. option_map_or (λ w. text_eq (text_of w.name) e.0 && is_id n (package_number w.«package»)) o false) (ap (world_at merged) (same ∙ sym is.bound_there) ∙ is.joined.at_image)
+      ∙ ((λ i. text_eq (text_of ((is.bound_name ∙ ap (λ x. x.name) old) i)) e.0 && is_id n (package_number ((is.bound_package ∙ ap (λ x. x.«package») old) i))) ∙ w.2))
+      (λ apart. ap (λ o. option_map_or (λ w. text_eq (text_of w.name) e.0 && is_id n (package_number w.«package»)) o false) (is.worlds e.1 w.0 w.1 apart) ∙ w.2)
 
   copied_interface : (n : ℕ) (name : Text) (m : ℕ) → first.copies_interface m ≡ true → is_interface_of other n (name, m) ≡ true
       → is_interface_of merged (first.packages n) (name, first.interfaces m) ≡ true
@@ -170,26 +169,24 @@ module _ (own other merged : Resolve) (bound other_bound : ℕ) (first second : 
   all_stand n q e = go (is.package_from n (slice_get_within merged.packages.items n q e))
     where
       go : IsKeptPackage own merged n ⊎ IsPackageOf other first n → (list_all (is_interface_of merged n) (interface_names q) ≡ true) × (list_all (is_world_of merged n) (world_names q) ≡ true)
-      go (inl k) =
-          let h = own_stand n k.old k.found in
-          let here : k.image ≡ q = same-some k.image q (sym k.at_image ∙ e) in (
-            ap (λ x. list_all (is_interface_of merged n) (interface_names x)) (sym here) ∙ (ap (list_all (is_interface_of merged n)) k.interfaces ∙ h.0),
-            ap (λ x. list_all (is_world_of merged n) (world_names x)) (sym here) ∙ (ap (list_all (is_world_of merged n)) k.worlds ∙ h.1),
-          )
-      go (inr k) =
-          let h = stand_of k.number k.old k.found (is.packages_stand k.number k.old k.found) in
-          let here : h.0 ≡ q = same-some h.0 q (sym h.1 ∙ (ap (package_at merged) k.here ∙ e)) in
-          ((λ i. list_all (is_interface_of merged (sym k.here i)) (interface_names (sym here i))) ∙ h.2, (λ i. list_all (is_world_of merged (sym k.here i)) (world_names (sym here i))) ∙ h.3)
+      go (inl k) = search (std_rules, own_stand n k.old k.found, same-some k.image q (sym k.at_image ∙ e))
+      go (inr k) = search (std_rules, stand_of k.number k.old k.found (is.packages_stand k.number k.old k.found))
 
   -- names in packages
   pub names_in_packages_kept : Keeps names_in_packages merged
   unfolding names_in_packages
   names_in_packages_kept =
-      kept names_in_packages merged (each_by_number (names_in_packages.package_ merged) merged.packages.items (λ n q e. let h = all_stand n q e in names_hold merged n q h.0 h.1))
-      (free_passes merged 0 merged.interfaces.items) (free_passes merged 0 merged.worlds.items) (free_passes merged 0 merged.types.items)
+      packages_keep names_in_packages.package_ merged (each_by_number (names_in_packages.package_ merged) merged.packages.items (λ n q e. let h = all_stand n q e in names_hold merged n q h.0 h.1))
 
   own_name : (n : ℕ) (p q : Package) → package_at own n ≡ Some p → package_at merged n ≡ Some q → IsSameName p.name q.name
   own_name n p q e at = let x = is.packages n p e in subst (λ (y : Package). IsSameName p.name y.name) (same-some x.0 q (sym x.1 ∙ at)) x.2
+
+  -- an own package in which one of the other stands has its name
+  pub grown_name : (k : ℕ) (o p : Package) → package_at own (first.packages k) ≡ Some o → package_at other k ≡ Some p → identity_of o.name ≡ identity_of p.name
+  grown_name k o p at e =
+      let q = is.packages (first.packages k) o at in
+      let x = is.first_copies.carried.packages k p e in
+      sym (same_identity o.name q.0.name q.2) ∙ (ap (λ y. identity_of y.name) (same-some q.0 x.image (sym q.1 ∙ x.at_image)) ∙ same_identity p.name x.image.name x.name)
 
   name_from : (n : ℕ) (q : Package) → package_at merged n ≡ Some q → NameFrom own other first n q.name
   name_from n q e = go (is.package_from n (slice_get_within merged.packages.items n q e))
@@ -225,16 +222,12 @@ module _ (own other merged : Resolve) (bound other_bound : ℕ) (first second : 
   two_apart n m q o (theirs k p e here fresh x) (theirs l u d there new y) = go (l == k) refl (apart_in other valid_other k l p u e d)
     where
       go : (b : Bool) → (l == k) ≡ b → (b || not (same_package_name p.name u.name)) ≡ true → ((m == n) || not (same_package_name q o)) ≡ true
-      go true same h = or_left (m == n) (not (same_package_name q o)) (subst (λ (z : ℕ). (m == z) ≡ true) (sym there ∙ (ap first.packages (equal l k same) ∙ here)) (same-number m))
-      go false same h = or_right (m == n) (not (same_package_name q o)) (ap not (same_name p.name q u.name o x y) ∙ h)
+      go v same h = search (std_rules, or_left, equal, same-number, or_right, same_name)
 
   -- package names
   pub package_names_kept : Keeps package_names merged
   unfolding package_names
-  package_names_kept =
-      kept package_names merged
-      (each_by_number (package_rule merged) merged.packages.items (λ n q e.
+  package_names_kept = packages_keep package_names.package_ merged (each_by_number (package_rule merged) merged.packages.items (λ n q e.
       let from = name_from n q e in
       both _ _ (named_well n q.name from) (each_by_number (λ m other. (m == n) || not (same_package_name q.name other.name)) merged.packages.items
       (λ m o d. two_apart n m q.name o.name from (name_from m o d)))))
-      (free_passes merged 0 merged.interfaces.items) (free_passes merged 0 merged.worlds.items) (free_passes merged 0 merged.types.items)

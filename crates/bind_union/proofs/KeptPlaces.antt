@@ -1,25 +1,22 @@
 -- In what was merged interfaces and worlds stand in their packages, and each inline interface in one world.
-use Rattle.std.proofs.Common.{rules as std_rules, ◌≡◌, ◌⊎◌, inl, inr, refl, sym, ap, subst, ◌∙◌, ℕ, zero, suc, ◌<◌, ◌≤◌, ◌+◌, arith, Bool, true, false, ◌&&◌, ◌||◌, ◌==◌, not, List, [], ◌∷◌, ◌++◌, append-nil, length, filter_map, Option, Some, None, option_map, option_and_then, is_some}
-use Rattle.std.proofs.lemmas.Bool.{false_from_ne_true, not-true, lt-ltb, or_left, or_right, and_from as both, cases_lt as low_or_high}
+use Rattle.std.proofs.Common.{rules as std_rules, ◌≡◌, ◌⊎◌, inl, inr, refl, sym, ap, ◌∙◌, ℕ, ◌<◌, ◌≤◌, ◌+◌, arith, Bool, true, false, ◌&&◌, ◌||◌, ◌==◌, not, List, [], ◌++◌, append-nil, length, filter_map, Option, Some, None, option_map, option_and_then, is_some}
+use Rattle.std.proofs.lemmas.Bool.{false_from_ne_true, not-true, lt-ltb, and_from as both, cases_lt as low_or_high}
 use Rattle.std.proofs.lemmas.Option.{slice_get_within, same_Some as same-some}
 use Rattle.std.specs.{Prelude.String, Prelude.sum_by, List.list_all, List.Contains, Option.option_map_or, Option.option_eq}
 use Rattle.std.specs.declared.alloc.Global.{Global}
 use Rattle.wit_model.specs.declared.model.{Resolve.Resolve, Package.Package, PackageId.PackageId, Interface.Interface, WorldKey.WorldKey, WorldItem.WorldItem}
 use Rattle.wit_model.specs.declared.model.World.{World}
-use Rattle.wit_model.specs.{Text.Text, Text.text_of, Text.text_eq, Text.optional_text, Lookup.package_at, Lookup.interface_at, Lookup.world_at}
-use Rattle.wit_model.specs.{Uses.has, Uses.item_interface, Uses.items_of, Valid.Keeps, Valid.KeepsRules, Valid.places}
-use Rattle.wit_model.specs.Rules.{passes, each_from, in_list, is_id, package_number, interface_is_listed, world_is_listed, is_world_name, times_shown}
-use Rattle.wit_model.proofs.{Entries.free_passes, Elements.none-in, VersionLaws.same_text, RulesLemmas.each_by_number}
-use Rattle.wit_model.proofs.{OnePath.found-in, OnePath.interface-passes, TextLemmas.text_same as text-same, ValidLemmas.world_passes as world-passes}
-use Rattle.bind_union.proofs.{Listed.under_text, Itself.world_package, Itself.get_begin, Itself.world_range, Kept.each_interface_of_three, Kept.each_world}
-use Rattle.bind_union.proofs.{Lists.no_true, Homes.apart, Carrying.interface_package}
+use Rattle.wit_model.specs.{Text.Text, Text.text_of, Text.text_eq, Text.optional_text, Lookup.package_at, Lookup.interface_at, Lookup.world_at, Uses.has, Uses.item_interface, Uses.items_of, Valid.Keeps, Valid.KeepsRules, Valid.places}
+use Rattle.wit_model.specs.Rules.{each_from, is_id, package_number, interface_is_listed, world_is_listed, is_world_name, times_shown}
+use Rattle.wit_model.proofs.{Entries.free_passes, Elements.none-in, VersionLaws.same_text, RulesLemmas.each_by_number, OnePath.found-in, OnePath.interface-passes, TextLemmas.text_same as text-same, ValidLemmas.world_passes as world-passes}
+use Rattle.bind_union.proofs.{Listed.under_text, Itself.world_package, Itself.get_begin, Itself.world_range, Kept.each_interface_of_three, Kept.each_world, Lists.by_number, Lists.no_true, Homes.apart, Carrying.interface_package}
 use Rattle.bind_union.proofs.WorldOrder.{items, numbers_append, interfaces_in, one_sums, one_of_sum, shown, times_are, counted_append, none_counted, none_added, past_range, range_interfaces, same_times}
-use Rattle.bind_union.proofs.KeptPackages.{kept, is_interface_of, is_world_of, interfaces_stand, worlds_stand, all_stand, places_hold, found_option}
+use Rattle.bind_union.proofs.KeptPackages.{kept, by_package, is_interface_of, is_world_of, interfaces_stand, worlds_stand, all_stand, places_hold, found_option}
 use Rattle.bind_union.proofs.PackageNames.{added_from, name_append, interfaces_by_name, worlds_by_name, world_name_listed, found_name, still_found, copy_found, found_behind}
 use Rattle.bind_union.specs.{Carried.Renumbering, Carried.IsInterface, Joined.Joined, Joined.IsJoined}
-use Rattle.bind_union.specs.Merged.{interface_names, world_names, is_name, IsJoinedPackage, PackageStands, grown, brought, IsKeptPackage, IsPackageOf, IsCopyUnder, AreCopies, IsWorldCopy, IsMerged}
+use Rattle.bind_union.specs.Merged.{interface_names, world_names, is_name, IsJoinedPackage, PackageStands, grown, brought, IsKeptPackage, IsPackageOf, AreCopies, IsMerged}
 use Rattle.base_lemmas.proofs.Bools.{left_of as first_true, right_of as second_true, or_false}
-use Rattle.base_lemmas.proofs.Elements.{all-contained, all_by_number as all_by_get, get-contains}
+use Rattle.base_lemmas.proofs.Elements.{any-at, all-contained, all_by_number as all_by_get, get-contains}
 use Rattle.base_lemmas.proofs.Numbers.{differ, unequal, equal, same-number}
 
 types_free : (s : Resolve) → each_from (places.type_ s) 0 s.types.items ≡ true
@@ -65,9 +62,6 @@ pub world_place : (r : Resolve) (n : ℕ) (w : World) → places.world_ r n w �
 unfolding places
 world_place r n w = λ j. some_number w.«package» j && option_map_or (world_is_listed n (text_of w.name)) (option_and_then (package_at r) (package_number w.«package»)) true
 
-option_itself : (p : Option ℕ) → option_eq ◌==◌ p p ≡ true
-option_itself x = search std_rules
-
 option_equal : (p q : Option ℕ) → option_eq ◌==◌ p q ≡ true → p ≡ q
 option_equal x y h = search std_rules
 
@@ -85,10 +79,7 @@ inline_holds s t p k w at one same others =
     (all_by_get (λ y. (times_shown t y == 0) || option_eq ◌==◌ (package_number y.«package») p) s.worlds.items (λ m y e. each m y e (m == k) refl))
   where
     each : (m : ℕ) (y : World) → world_at s m ≡ Some y → (b : Bool) → (m == k) ≡ b → ((times_shown t y == 0) || option_eq ◌==◌ (package_number y.«package») p) ≡ true
-    each m y e false apart = or_left (times_shown t y == 0) _ (ap (λ n. n == 0) (others m y e apart))
-    each m y e true here =
-        let w_is : w ≡ y = same-some w y (sym at ∙ (ap (world_at s) (sym (equal m k here)) ∙ e)) in
-        or_right (times_shown t y == 0) _ (ap (λ q. option_eq ◌==◌ q p) (ap (λ x. package_number x.«package») (sym w_is) ∙ same) ∙ option_itself p)
+    each m y e z apart = search std_rules
 
 -- the world that shows an inline interface, and that no other does
 abbrev ShownOnce : Resolve → ℕ → Option ℕ → Type 0
@@ -102,10 +93,11 @@ inline_found r n p h =
     let here = all-contained (λ w. (times_shown n w == 0) || option_eq ◌==◌ (package_number w.«package») p) r.worlds.items one.1 all (get-contains r.worlds.items one.0 one.1 one.2) in
     (one.0, one.1, one.2, one.3, option_equal (package_number one.1.«package») p (sym (ap (λ k. (k == 0) || option_eq ◌==◌ (package_number one.1.«package») p) one.3) ∙ here), one.4)
 
+not_neither : (a b : Bool) → (a ≡ false → b ≡ false → ⊥) → (a || b) ≡ true
+not_neither x y h = search std_rules
+
 pub listed_name : (t : Text) (n : ℕ) (es : List (Text × ℕ)) → Contains es (t, n) → is_name t es ≡ true
-listed_name t n [] c = none-in (t, n) c
-listed_name t n (e ∷ es) (zero, l, h) = or_left _ _ (ap (λ x. text_eq t x.0) h ∙ same_text t t refl)
-listed_name t n (e ∷ es) (suc k, l, h) = or_right (text_eq t e.0) (is_name t es) (listed_name t n es (k, omega (arith, l), h))
+listed_name t n es c = any-at (λ (e : Text × ℕ). text_eq t e.0) es (t, n) c (same_text t t refl)
 
 -- ---- what stood in a package stands there
 
@@ -124,19 +116,13 @@ module _ (own other merged : Resolve) (bound other_bound : ℕ) (first second : 
           → ((name : Text) (w : ℕ) → Contains (world_names x.old) (name, w) → left_out w ≡ false → is_name name (interface_names o) ≡ false) → IsGrown p q
       by_joined o d x j apart_names = record {
         more_interfaces = j.new_interfaces;
-        interfaces = ap interface_names (sym image) ∙ (j.interfaces ∙ ap (λ y. interface_names y ++ j.new_interfaces) same);
+        interfaces = cc;
         more_worlds = j.new_worlds;
-        worlds = ap world_names (sym image) ∙ (j.worlds ∙ ap (λ y. world_names y ++ j.new_worlds) same);
+        worlds = cc;
         apart = λ name h. false_from_ne_true _ (λ k.
             let a = added_from first.worlds first.carries_world left_out (world_names o) (world_names x.old) j.new_worlds j.joined_worlds name k in
-            no_true (sym (apart_names a.0 a.1 a.2 a.3) ∙ ((λ z. is_name (sym (text-same name a.0 a.4) z) (interface_names (same z))) ∙ h)));
+            no_true (sym (apart_names a.0 a.1 a.2 a.3) ∙ ((λ z. is_name (sym (text-same name a.0 a.4) z) (interface_names (same-some o p (sym d ∙ e) z))) ∙ h)));
       }
-        where
-          same : o ≡ p
-          same = same-some o p (sym d ∙ e)
-
-          image : j.image ≡ q
-          image = same-some j.image q (sym j.at_image ∙ (ap (package_at merged) x.here ∙ at))
 
       stands : (x : IsPackageOf other first k) → PackageStands own merged first left_out x.number x.old → IsGrown p q
       stands x (grown o d j a b) = by_joined o (ap (package_at own) (sym x.here) ∙ d) x j b
@@ -144,16 +130,13 @@ module _ (own other merged : Resolve) (bound other_bound : ℕ) (first second : 
 
       go : IsKeptPackage own merged k ⊎ IsPackageOf other first k → IsGrown p q
       go (inr x) = stands x (is.packages_stand x.number x.old x.found)
-      go (inl x) =
-          let same : x.old ≡ p = same-some x.old p (sym x.found ∙ e) in
-          let image : x.image ≡ q = same-some x.image q (sym x.at_image ∙ at) in
-          record {
-            more_interfaces = [];
-            interfaces = ap interface_names (sym image) ∙ (x.interfaces ∙ (ap interface_names same ∙ sym (append-nil (interface_names p))));
-            more_worlds = [];
-            worlds = ap world_names (sym image) ∙ (x.worlds ∙ (ap world_names same ∙ sym (append-nil (world_names p))));
-            apart = λ name h. refl;
-          }
+      go (inl x) = record {
+        more_interfaces = [];
+        interfaces = cc (append-nil (interface_names p));
+        more_worlds = [];
+        worlds = cc (append-nil (world_names p));
+        apart = λ name h. refl;
+      }
 
   -- ---- own interfaces and worlds
 
@@ -163,11 +146,11 @@ module _ (own other merged : Resolve) (bound other_bound : ℕ) (first second : 
       let g = grown_package k p q.0 e q.1 in
       let old = sym (listed_in own n t k p e) ∙ h in
       let found = first_true _ _ old in
+      let names : is_name t (world_names q.0) ≡ is_name t (world_names p) =
+      cc (g.worlds, name_append t (world_names p) g.more_worlds, g.apart t (found_name t n (interface_names p) found), or_false (is_name t (world_names p))) in
       listed_in merged n t k q.0 q.1
       ∙ both _ _ (ap (λ es. is_id n (under_text t es)) g.interfaces ∙ still_found t n (interface_names p) g.more_interfaces found)
-      (ap not (ap (is_name t) g.worlds ∙ (name_append t (world_names p) g.more_worlds
-      ∙ (ap (λ b. is_name t (world_names p) || b) (g.apart t (found_name t n (interface_names p) found)) ∙ or_false (is_name t (world_names p)))))
-      ∙ second_true (is_id n (under_text t (interface_names p))) _ old)
+      (ap not names ∙ second_true (is_id n (under_text t (interface_names p))) _ old)
 
   own_world_listed : (n : ℕ) (t : Text) (k : ℕ) (p : Package) → package_at own k ≡ Some p → world_by own n t (Some k) ≡ true → world_by merged n t (Some k) ≡ true
   own_world_listed n t k p e h =
@@ -239,27 +222,9 @@ module _ (own other merged : Resolve) (bound other_bound : ℕ) (first second : 
 
   -- ---- worlds
 
-  -- where the package is in range
-  own_listed_at : (n : ℕ) (t : Text) (p : Option ℕ) → passes (in_list own.packages.items) p ≡ true → listed_by own n t p ≡ true → listed_by merged n t p ≡ true
-  own_listed_at n t None c h = refl
-  own_listed_at n t (Some k) c h = let q = found-in own.packages.items k c in own_listed n t k q.0 q.1 h
-
-  copy_listed_at : (m : ℕ) → first.copies_interface m ≡ true → (t : Text) (p : Option ℕ) → passes (in_list other.packages.items) p ≡ true → listed_by other m t p ≡ true
-      → listed_by merged (first.interfaces m) t (option_map first.packages p) ≡ true
-  copy_listed_at m copy t None c h = refl
-  copy_listed_at m copy t (Some k) c h = let q = found-in other.packages.items k c in copy_listed m copy t k q.0 q.1 h
-
-  own_world_at : (n : ℕ) (t : Text) (p : Option ℕ) → passes (in_list own.packages.items) p ≡ true → world_by own n t p ≡ true → world_by merged n t p ≡ true
-  own_world_at n t None c h = h
-  own_world_at n t (Some k) c h = let q = found-in own.packages.items k c in own_world_listed n t k q.0 q.1 h
-
-  copy_world_at : (m : ℕ) → first.carries_world m ≡ true → (t : Text) (p : Option ℕ) → passes (in_list other.packages.items) p ≡ true → world_by other m t p ≡ true
-      → world_by merged (first.worlds m) t (option_map first.packages p) ≡ true
-  copy_world_at m d t None c h = h
-  copy_world_at m d t (Some k) c h = let q = found-in other.packages.items k c in copy_world_listed m d t k q.0 q.1 h
-
   own_world_place : (n : ℕ) (w : World) → world_at own n ≡ Some w → world_by merged n (text_of w.name) (package_number w.«package») ≡ true
-  own_world_place n w e = own_world_at n (text_of w.name) (package_number w.«package») (world_package own valid_own n w e)
+  own_world_place n w e = by_package own (λ p. world_by own n (text_of w.name) p ≡ true → world_by merged n (text_of w.name) p ≡ true) (λ h. h)
+      (own_world_listed n (text_of w.name)) (package_number w.«package») (world_package own valid_own n w e)
       (sym (world_place own n w) ∙ world-passes places own valid_own.places n w e)
 
   copy_world_place : (m : ℕ) (c : first.carries_world m ≡ true) → places.world_ merged (first.worlds m) (is.first_worlds m c).joined.image ≡ true
@@ -268,7 +233,8 @@ module _ (own other merged : Resolve) (bound other_bound : ℕ) (first second : 
       let j = w.joined in
       world_place merged (first.worlds m) j.image
       ∙ ((λ i. world_by merged (first.worlds m) (w.name i) (w.in_package i))
-      ∙ copy_world_at m c (text_of j.old.name) (package_number j.old.«package») (world_package other valid_other m j.old j.found)
+      ∙ by_package other (λ p. world_by other m (text_of j.old.name) p ≡ true → world_by merged (first.worlds m) (text_of j.old.name) (option_map first.packages p) ≡ true) (λ h. h)
+      (copy_world_listed m c (text_of j.old.name)) (package_number j.old.«package») (world_package other valid_other m j.old j.found)
       (sym (world_place other m j.old) ∙ world-passes places other valid_other.places m j.old j.found))
 
   bound_place : places.world_ merged bound is.joined.image ≡ true
@@ -283,16 +249,15 @@ module _ (own other merged : Resolve) (bound other_bound : ℕ) (first second : 
 
   pub world_case : (k : ℕ) (y : World) → world_at merged k ≡ Some y → WorldCase k y
   world_case k y e = elim (low_or_high k (length own.worlds.items)) [
-    | inl low ↦ own_one (k == bound) refl (found-in own.worlds.items k (lt-ltb k (length own.worlds.items) low))
-    | inr high ↦ copied (is.world_from k high (slice_get_within merged.worlds.items k y e))
+    | inl low ↦
+        let x = found-in own.worlds.items k (lt-ltb k (length own.worlds.items) low) in
+        by_number k bound (λ here. inr (inl (here, same-some is.joined.image y (sym is.joined.at_image ∙ (ap (world_at merged) (is.bound_there ∙ sym here) ∙ e)))))
+        (λ apart. inl (x.1 ∙ ap Some (same-some x.0 y (sym (is.worlds k x.0 x.1 apart) ∙ e)), apart))
+    | inr high ↦
+        let c = is.world_from k high (slice_get_within merged.worlds.items k y e) in
+        let j = (is.first_worlds c.0 c.1).joined in
+        inr (inr (c.0, c.1, c.2, same-some j.image y (sym j.at_image ∙ (ap (world_at merged) c.2 ∙ e))))
   ]
-    where
-      own_one : (b : Bool) → (k == bound) ≡ b → (x : World) × (world_at own k ≡ Some x) → WorldCase k y
-      own_one false apart x = inl (x.1 ∙ ap Some (same-some x.0 y (sym (is.worlds k x.0 x.1 apart) ∙ e)), apart)
-      own_one true same x = let here = equal k bound same in inr (inl (here, same-some is.joined.image y (sym is.joined.at_image ∙ (ap (world_at merged) (is.bound_there ∙ sym here) ∙ e))))
-
-      copied : IsCopyUnder first.worlds first.carries_world k → WorldCase k y
-      copied c = let j = (is.first_worlds c.0 c.1).joined in inr (inr (c.0, c.1, c.2, same-some j.image y (sym j.at_image ∙ (ap (world_at merged) c.2 ∙ e))))
 
   -- an inline interface that is shown anew is a copy
   shown_copy : (f : Renumbering) → AreCopies own other merged f → (a : ℕ) → f.carries_interface a ≡ true → (v : Interface) → interface_at merged (f.interfaces a) ≡ Some v → v.name ≡ None
@@ -316,8 +281,7 @@ module _ (own other merged : Resolve) (bound other_bound : ℕ) (first second : 
 
   joined_times : (f : Renumbering) (n : ℕ) (oi oe : List (WorldKey × WorldItem)) (j : IsJoined other merged f n oi oe) (t : ℕ)
       → times_shown t j.image ≡ (shown t oi + shown t j.new_imports) + (shown t oe + shown t j.new_exports)
-  joined_times f n oi oe j t =
-      search (std_rules, times_are t j.image, shown t, counted_append item_interface t oi j.new_imports, counted_append item_interface t oe j.new_exports)
+  joined_times f n oi oe j t = search (std_rules, times_are t j.image, shown t, counted_append item_interface t oi j.new_imports, counted_append item_interface t oe j.new_exports)
 
   abbrev oi : List (WorldKey × WorldItem)
   oi = is.own_bound.imports.entries
@@ -325,25 +289,35 @@ module _ (own other merged : Resolve) (bound other_bound : ℕ) (first second : 
   abbrev oe : List (WorldKey × WorldItem)
   oe = is.own_bound.exports.entries
 
+  no_more : (f : Renumbering) → AreCopies own other merged f → (n : ℕ) (oi oe : List (WorldKey × WorldItem)) (j : IsJoined other merged f n oi oe) (t : ℕ) (v : Interface)
+      → interface_at merged t ≡ Some v → v.name ≡ None → ((a : ℕ) → f.copies_interface a ≡ true → f.interfaces a ≡ t → ⊥) → times_shown t j.image ≡ shown t oi + shown t oe
+  no_more f copies n oi oe j t v e inline none_such =
+      let whole = joined_times f n oi oe j t in
+      let a = not_among f copies oi j.old.imports.entries j.new_imports j.joined_imports t v e inline none_such in
+      let b = not_among f copies oe j.old.exports.entries j.new_exports j.joined_exports t v e inline none_such in
+      omega (arith, whole, a, b)
+
+  copied_times : (f : Renumbering) → AreCopies own other merged f → (m : ℕ) → f.copies_interface m ≡ true → (n : ℕ) (oi oe : List (WorldKey × WorldItem)) (j : IsJoined other merged f n oi oe)
+      → has (filter_map item_interface (items oi)) (f.interfaces m) ≡ false → has (filter_map item_interface (items oe)) (f.interfaces m) ≡ false
+      → times_shown (f.interfaces m) j.image ≡ times_shown m j.old
+  copied_times f copies m copy n oi oe j fresh_i fresh_e =
+      let whole = joined_times f n oi oe j (f.interfaces m) in
+      let a = same_copies f copies m copy oi fresh_i j.old.imports.entries j.new_imports j.joined_imports in
+      let b = same_copies f copies m copy oe fresh_e j.old.exports.entries j.new_exports j.joined_exports in
+      let c = none_counted item_interface (f.interfaces m) (items oi) fresh_i in
+      let d = none_counted item_interface (f.interfaces m) (items oe) fresh_e in
+      let all = times_are m j.old in
+      omega (arith, whole, a, b, c, d, all)
+
   -- in the bound world
   bound_times : (t : ℕ) (v : Interface) → interface_at merged t ≡ Some v → v.name ≡ None → ((a : ℕ) → second.copies_interface a ≡ true → second.interfaces a ≡ t → ⊥)
       → times_shown t is.joined.image ≡ times_shown t is.own_bound
-  bound_times t v e inline none_such =
-      let whole = joined_times second other_bound oi oe is.joined t in
-      let own_times = times_are t is.own_bound in
-      let a = not_among second is.second_copies oi is.joined.old.imports.entries is.joined.new_imports is.joined.joined_imports t v e inline none_such in
-      let b = not_among second is.second_copies oe is.joined.old.exports.entries is.joined.new_exports is.joined.joined_exports t v e inline none_such in
-      omega (arith, whole, own_times, a, b)
+  bound_times t v e inline none_such = no_more second is.second_copies other_bound oi oe is.joined t v e inline none_such ∙ sym (times_are t is.own_bound)
 
   -- in a copy
   copy_times : (m : ℕ) (c : first.carries_world m ≡ true) (t : ℕ) (v : Interface) → interface_at merged t ≡ Some v → v.name ≡ None
       → ((a : ℕ) → first.copies_interface a ≡ true → first.interfaces a ≡ t → ⊥) → times_shown t (is.first_worlds m c).joined.image ≡ 0
-  copy_times m c t v e inline none_such =
-      let j = (is.first_worlds m c).joined in
-      let whole = joined_times first m [] [] j t in
-      let a = not_among first is.first_copies [] j.old.imports.entries j.new_imports j.joined_imports t v e inline none_such in
-      let b = not_among first is.first_copies [] j.old.exports.entries j.new_exports j.joined_exports t v e inline none_such in
-      omega (arith, whole, a, b)
+  copy_times m c = no_more first is.first_copies m [] [] (is.first_worlds m c).joined
 
   -- an own world shows no copy
   past_times : (k : ℕ) (w : World) → world_at own k ≡ Some w → (t : ℕ) → length own.interfaces.items ≤ t → times_shown t w ≡ 0
@@ -356,55 +330,32 @@ module _ (own other merged : Resolve) (bound other_bound : ℕ) (first second : 
 
   -- what is shown is among the items
   among : (n : ℕ) (w : World) → times_shown n w ≡ 1 → has (filter_map item_interface (items_of w)) n ≡ true
-  among n w one = numbers_append item_interface (items w.imports.entries) (items w.exports.entries) n ∙ go (has (filter_map item_interface (items w.imports.entries)) n) refl
-      (has (filter_map item_interface (items w.exports.entries)) n) refl
-    where
-      go : (a : Bool) → has (filter_map item_interface (items w.imports.entries)) n ≡ a → (b : Bool) → has (filter_map item_interface (items w.exports.entries)) n ≡ b
-          → (has (filter_map item_interface (items w.imports.entries)) n || has (filter_map item_interface (items w.exports.entries)) n) ≡ true
-      go true e b d = or_left _ _ e
-      go false e true d = or_right (has (filter_map item_interface (items w.imports.entries)) n) _ d
-      go false e false d =
-          let a = times_are n w in
-          let x = none_counted item_interface n (items w.imports.entries) e in
-          let y = none_counted item_interface n (items w.exports.entries) d in
-          let wrong : ⊥ = omega (arith, a, x, y, one) in absurd wrong
+  among n w one = numbers_append item_interface (items w.imports.entries) (items w.exports.entries) n ∙ not_neither _ _ (λ e d.
+      let a = times_are n w in
+      let x = none_counted item_interface n (items w.imports.entries) e in
+      let y = none_counted item_interface n (items w.exports.entries) d in
+      omega (arith, a, x, y, one))
+
+  -- where no other own world, nor the bound one, nor a copy shows it, no other world does
+  no_others : (t k : ℕ) → ((m : ℕ) (y : World) → world_at own m ≡ Some y → (m == k) ≡ false → times_shown t y ≡ 0) → ((bound == k) ≡ false → times_shown t is.joined.image ≡ 0)
+      → ((m : ℕ) (c : first.carries_world m ≡ true) → (first.worlds m == k) ≡ false → times_shown t (is.first_worlds m c).joined.image ≡ 0)
+      → (m : ℕ) (y : World) → world_at merged m ≡ Some y → (m == k) ≡ false → times_shown t y ≡ 0
+  no_others t k ours at_bound copies m y d apart = search (std_rules, world_case m y d)
 
   -- own ones
   own_inline : (n : ℕ) (i : Interface) → interface_at own n ≡ Some i → i.name ≡ None → inline_by own n (package_number i.«package») ≡ true → inline_by merged n (package_number i.«package») ≡ true
-  own_inline n i e inline h = go (x.0 == bound) refl
-    where
-      x : ShownOnce own n (package_number i.«package»)
-      x = inline_found own n (package_number i.«package») h
-
-      there_at : interface_at merged n ≡ Some i
-      there_at = get_begin own.interfaces.items merged.interfaces.items is.interfaces n i e
-
-      low : n < length own.interfaces.items
-      low = slice_get_within own.interfaces.items n i e
-
-      no_first : (a : ℕ) → first.copies_interface a ≡ true → first.interfaces a ≡ n → ⊥
-      no_first a c same = let high = is.first_copies.new_interfaces a c in omega (arith, high, low, same)
-
-      no_second : (a : ℕ) → second.copies_interface a ≡ true → second.interfaces a ≡ n → ⊥
-      no_second a c same = let high = is.second_copies.new_interfaces a c in omega (arith, high, low, same)
-
-      others : (m : ℕ) (y : World) → world_at merged m ≡ Some y → (m == x.0) ≡ false → times_shown n y ≡ 0
-      others m y d apart = elim (world_case m y d) [
-        | inl w ↦ x.5 m y w.0 apart
-        | inr v ↦ elim v [
-          | inl b ↦ ap (times_shown n) (sym b.1) ∙ (bound_times n i there_at inline no_second ∙ x.5 m is.own_bound (ap (world_at own) b.0 ∙ is.bound_at) apart)
-          | inr c ↦ ap (times_shown n) (sym c.3) ∙ copy_times c.0 c.1 n i there_at inline no_first
-        ]
-      ]
-
-      go : (b : Bool) → (x.0 == bound) ≡ b → inline_by merged n (package_number i.«package») ≡ true
-      go false apart = inline_holds merged n (package_number i.«package») x.0 x.1 (is.worlds x.0 x.1 x.2 apart) x.3 x.4 others
-      go true same =
-          let here : x.0 ≡ bound = equal x.0 bound same in
-          let w_is : is.own_bound ≡ x.1 = same-some is.own_bound x.1 (sym is.bound_at ∙ (ap (world_at own) (sym here) ∙ x.2)) in
-          inline_holds merged n (package_number i.«package») x.0 is.joined.image (ap (world_at merged) (here ∙ sym is.bound_there) ∙ is.joined.at_image)
-          (bound_times n i there_at inline no_second ∙ (ap (times_shown n) w_is ∙ x.3))
-          (ap package_number is.bound_package ∙ (ap (λ w. package_number w.«package») w_is ∙ x.4)) others
+  own_inline n i e inline h =
+      let x = inline_found own n (package_number i.«package») h in
+      let there_at = get_begin own.interfaces.items merged.interfaces.items is.interfaces n i e in
+      let low = slice_get_within own.interfaces.items n i e in
+      let bound_same = bound_times n i there_at inline (λ a c same. let high = is.second_copies.new_interfaces a c in omega (arith, high, low, same)) in
+      let others = no_others n x.0 x.5 (λ apart. bound_same ∙ x.5 bound is.own_bound is.bound_at apart)
+      (λ m c apart. copy_times m c n i there_at inline (λ a c same. let high = is.first_copies.new_interfaces a c in omega (arith, high, low, same))) in
+      by_number x.0 bound (λ same.
+      let w_is : is.own_bound ≡ x.1 = same-some is.own_bound x.1 (sym is.bound_at ∙ (ap (world_at own) (sym same) ∙ x.2)) in
+      inline_holds merged n (package_number i.«package») x.0 is.joined.image (ap (world_at merged) (same ∙ sym is.bound_there) ∙ is.joined.at_image)
+      (bound_same ∙ (ap (times_shown n) w_is ∙ x.3)) (ap package_number is.bound_package ∙ (ap (λ w. package_number w.«package») w_is ∙ x.4)) others)
+      (λ apart. inline_holds merged n (package_number i.«package») x.0 x.1 (is.worlds x.0 x.1 x.2 apart) x.3 x.4 others)
 
   image_inline : (f : Renumbering) → AreCopies own other merged f → (m : ℕ) (i : IsInterface other merged f m) → i.old.name ≡ None → i.image.name ≡ None
   image_inline f copies m i inline = no_text i.image.name (i.name ∙ some_text i.old.name inline)
@@ -413,103 +364,34 @@ module _ (own other merged : Resolve) (bound other_bound : ℕ) (first second : 
   first_inline : (m : ℕ) (copy : first.copies_interface m ≡ true) (i : IsInterface other merged first m) → i.old.name ≡ None → inline_by other m (package_number i.old.«package») ≡ true
       → inline_by merged (first.interfaces m) (option_map first.packages (package_number i.old.«package»)) ≡ true
   first_inline m copy i inline h =
-      inline_holds merged (first.interfaces m) (option_map first.packages (package_number i.old.«package»)) (first.worlds x.0) j.image j.at_image one
-      (w.in_package ∙ ap (option_map first.packages) (ap (λ y. package_number y.«package») old_is ∙ x.4)) others
-    where
-      x : ShownOnce other m (package_number i.old.«package»)
-      x = inline_found other m (package_number i.old.«package») h
-
-      c : first.carries_world x.0 ≡ true
-      c = is.first_copies.inline_shown m i.old x.0 x.1 copy i.found inline x.2 (among m x.1 x.3)
-
-      w : IsWorldCopy other merged first x.0
-      w = is.first_worlds x.0 c
-
-      j : IsJoined other merged first x.0 [] []
-      j = w.joined
-
-      old_is : j.old ≡ x.1
-      old_is = same-some j.old x.1 (sym j.found ∙ x.2)
-
-      inline_there : i.image.name ≡ None
-      inline_there = image_inline first is.first_copies m i inline
-
-      high : length own.interfaces.items ≤ first.interfaces m
-      high = is.first_copies.new_interfaces m copy
-
-      same : (k : ℕ) (v : IsJoined other merged first k [] []) → times_shown (first.interfaces m) v.image ≡ times_shown m v.old
-      same k v =
-          let whole = joined_times first k [] [] v (first.interfaces m) in
-          let a = same_copies first is.first_copies m copy [] refl v.old.imports.entries v.new_imports v.joined_imports in
-          let b = same_copies first is.first_copies m copy [] refl v.old.exports.entries v.new_exports v.joined_exports in
-          let all = times_are m v.old in
-          omega (arith, whole, a, b, all)
-
-      one : times_shown (first.interfaces m) j.image ≡ 1
-      one = same x.0 j ∙ (ap (times_shown m) old_is ∙ x.3)
-
-      no_second : (a : ℕ) → second.copies_interface a ≡ true → second.interfaces a ≡ first.interfaces m → ⊥
-      no_second a d e = let less = is.second_behind m a copy d in omega (arith, less, e)
-
-      others : (k : ℕ) (y : World) → world_at merged k ≡ Some y → (k == first.worlds x.0) ≡ false → times_shown (first.interfaces m) y ≡ 0
-      others k y d apart = elim (world_case k y d) [
-        | inl v ↦ past_times k y v.0 (first.interfaces m) high
-        | inr v ↦ elim v [
-          | inl b ↦ ap (times_shown (first.interfaces m)) (sym b.1) ∙ (bound_times (first.interfaces m) i.image i.at_image inline_there no_second ∙ past_times bound is.own_bound is.bound_at
-              (first.interfaces m) high)
-          | inr v ↦
-              let u = (is.first_worlds v.0 v.1).joined in
-              ap (times_shown (first.interfaces m)) (sym v.3) ∙ (same v.0 u ∙ x.5 v.0 u.old u.found (unequal v.0 x.0 (λ e. differ k (first.worlds x.0) apart (sym v.2 ∙ ap first.worlds e))))
-        ]
-      ]
+      let x = inline_found other m (package_number i.old.«package») h in
+      let w = is.first_worlds x.0 (is.first_copies.inline_shown m i.old x.0 x.1 copy i.found inline x.2 (among m x.1 x.3)) in
+      let old_is : w.joined.old ≡ x.1 = same-some w.joined.old x.1 (sym w.joined.found ∙ x.2) in
+      let high = is.first_copies.new_interfaces m copy in
+      let same = λ (k : ℕ) (v : IsJoined other merged first k [] []). copied_times first is.first_copies m copy k [] [] v refl refl in
+      inline_holds merged (first.interfaces m) (option_map first.packages (package_number i.old.«package»)) (first.worlds x.0) w.joined.image w.joined.at_image
+      (same x.0 w.joined ∙ (ap (times_shown m) old_is ∙ x.3)) (w.in_package ∙ ap (option_map first.packages) (ap (λ y. package_number y.«package») old_is ∙ x.4))
+      (no_others (first.interfaces m) (first.worlds x.0) (λ k y d apart. past_times k y d (first.interfaces m) high)
+      (λ apart. bound_times (first.interfaces m) i.image i.at_image (image_inline first is.first_copies m i inline)
+      (λ a d e. let less = is.second_behind m a copy d in omega (arith, less, e)) ∙ past_times bound is.own_bound is.bound_at (first.interfaces m) high)
+      (λ k d apart. let u = (is.first_worlds k d).joined in same k u ∙ x.5 k u.old u.found (unequal k x.0 (λ e. differ (first.worlds k) (first.worlds x.0) apart (ap first.worlds e)))))
 
   -- those that are copied twice
   second_inline_holds : (m : ℕ) (copy : second.copies_interface m ≡ true) (i : IsInterface other merged second m) → i.old.name ≡ None → inline_by other m (package_number i.old.«package») ≡ true
       → inline_by merged (second.interfaces m) (package_number is.own_bound.«package») ≡ true
   second_inline_holds m copy i inline h =
+      let x = inline_found other m (package_number i.old.«package») h in
+      let here = is.second_worlds x.0 (is.second_copies.inline_shown m i.old x.0 x.1 copy i.found inline x.2 (among m x.1 x.3)) in
+      let high = is.second_copies.new_interfaces m copy in
+      let range = world_range own valid_own bound is.own_bound is.bound_at in
+      let one = copied_times second is.second_copies m copy other_bound oi oe is.joined (past_range own.interfaces.items _ (second.interfaces m) (range_interfaces own oi range.0) high)
+      (past_range own.interfaces.items _ (second.interfaces m) (range_interfaces own oe range.1) high)
+      ∙ (ap (times_shown m) (same-some is.joined.old x.1 (sym is.joined.found ∙ (ap (world_at other) (sym here) ∙ x.2))) ∙ x.3) in
       inline_holds merged (second.interfaces m) (package_number is.own_bound.«package») bound is.joined.image (ap (world_at merged) (sym is.bound_there) ∙ is.joined.at_image) one
-      (ap package_number is.bound_package) others
-    where
-      x : ShownOnce other m (package_number i.old.«package»)
-      x = inline_found other m (package_number i.old.«package») h
-
-      here : x.0 ≡ other_bound
-      here = is.second_worlds x.0 (is.second_copies.inline_shown m i.old x.0 x.1 copy i.found inline x.2 (among m x.1 x.3))
-
-      old_is : is.joined.old ≡ x.1
-      old_is = same-some is.joined.old x.1 (sym is.joined.found ∙ (ap (world_at other) (sym here) ∙ x.2))
-
-      inline_there : i.image.name ≡ None
-      inline_there = image_inline second is.second_copies m i inline
-
-      high : length own.interfaces.items ≤ second.interfaces m
-      high = is.second_copies.new_interfaces m copy
-
-      one : times_shown (second.interfaces m) is.joined.image ≡ 1
-      one =
-          let range = world_range own valid_own bound is.own_bound is.bound_at in
-          let fresh_i = past_range own.interfaces.items _ (second.interfaces m) (range_interfaces own oi range.0) high in
-          let fresh_e = past_range own.interfaces.items _ (second.interfaces m) (range_interfaces own oe range.1) high in
-          let whole = joined_times second other_bound oi oe is.joined (second.interfaces m) in
-          let a = same_copies second is.second_copies m copy oi fresh_i is.joined.old.imports.entries is.joined.new_imports is.joined.joined_imports in
-          let b = same_copies second is.second_copies m copy oe fresh_e is.joined.old.exports.entries is.joined.new_exports is.joined.joined_exports in
-          let c = none_counted item_interface (second.interfaces m) (items oi) fresh_i in
-          let d = none_counted item_interface (second.interfaces m) (items oe) fresh_e in
-          let all = times_are m is.joined.old in
-          let old : times_shown m is.joined.old ≡ 1 = ap (times_shown m) old_is ∙ x.3 in
-          omega (arith, whole, a, b, c, d, all, old)
-
-      no_first : (a : ℕ) → first.copies_interface a ≡ true → first.interfaces a ≡ second.interfaces m → ⊥
-      no_first a d e = let less = is.second_behind a m d copy in omega (arith, less, e)
-
-      others : (k : ℕ) (y : World) → world_at merged k ≡ Some y → (k == bound) ≡ false → times_shown (second.interfaces m) y ≡ 0
-      others k y d apart = elim (world_case k y d) [
-        | inl v ↦ past_times k y v.0 (second.interfaces m) high
-        | inr v ↦ elim v [
-          | inl b ↦ no_true (sym apart ∙ subst (λ (z : ℕ). (z == bound) ≡ true) (sym b.0) (same-number bound))
-          | inr v ↦ ap (times_shown (second.interfaces m)) (sym v.3) ∙ copy_times v.0 v.1 (second.interfaces m) i.image i.at_image inline_there no_first
-        ]
-      ]
+      (ap package_number is.bound_package)
+      (no_others (second.interfaces m) bound (λ k y d apart. past_times k y d (second.interfaces m) high) (λ apart. no_true (sym apart ∙ same-number bound))
+      (λ k d apart. copy_times k d (second.interfaces m) i.image i.at_image (image_inline second is.second_copies m i inline)
+      (λ a d e. let less = is.second_behind a m d copy in omega (arith, less, e))))
 
   -- ---- interfaces
 
@@ -517,7 +399,8 @@ module _ (own other merged : Resolve) (bound other_bound : ℕ) (first second : 
   own_place n i e =
       interface_place merged n i
       ∙ place_kept own merged n n (optional_text i.name) (package_number i.«package») (package_number i.«package») (λ h. h)
-      (λ t x. own_listed_at n t (package_number i.«package») (interface_package own valid_own n i e)) (λ none. own_inline n i e (no_text i.name none))
+      (λ t x. by_package own (λ p. listed_by own n t p ≡ true → listed_by merged n t p ≡ true) (λ h. refl) (own_listed n t)
+      (package_number i.«package») (interface_package own valid_own n i e)) (λ none. own_inline n i e (no_text i.name none))
       (sym (interface_place own n i) ∙ interface-passes places own valid_own.places n i e)
 
   some_mapped : (g : ℕ → ℕ) (p : Option ℕ) → is_some p ≡ true → is_some (option_map g p) ≡ true
@@ -532,7 +415,8 @@ module _ (own other merged : Resolve) (bound other_bound : ℕ) (first second : 
       interface_place merged (first.interfaces m) i.image
       ∙ ((λ j. place_by merged (first.interfaces m) (i.name j) (is.first_packages m c j))
       ∙ place_kept other merged m (first.interfaces m) (optional_text i.old.name) p (option_map first.packages p) (some_mapped first.packages p)
-      (λ t x. copy_listed_at m copy t p (interface_package other valid_other m i.old i.found)) (λ none. first_inline m copy i (no_text i.old.name none))
+      (λ t x. by_package other (λ p. listed_by other m t p ≡ true → listed_by merged (first.interfaces m) t (option_map first.packages p) ≡ true) (λ h. refl) (copy_listed m copy t) p
+      (interface_package other valid_other m i.old i.found)) (λ none. first_inline m copy i (no_text i.old.name none))
       (sym (interface_place other m i.old) ∙ interface-passes places other valid_other.places m i.old i.found))
 
   second_place : (m : ℕ) (copy : second.copies_interface m ≡ true)

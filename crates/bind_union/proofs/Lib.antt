@@ -1,20 +1,20 @@
+-- What follows from false, and numbers by cases and by the smaller ones. Serves Carrying, CopyRules, Homes, Images and 12 more; crates above.
+pub mod Lists
 -- Types under other numbers stand for the same trees. Serves laws::renumbered; crates above.
 pub mod Images
--- Lists and options that are made entry by entry of others. Serves CopyRules, Homes, InterfaceRules, Itself and 10 more; crates above.
-pub mod Lists
--- What was there is carried into what grows, under its own numbers. Serves BoundMeanings, Kept, KeptPackages, KeptPlaces and 4 more; crates above.
+-- What was there is carried into what grows, under its own numbers. Serves BoundMeanings, Kept, KeptPackages, KeptPlaces and 5 more; crates above.
 pub mod Itself
--- What the rules ask of a kind, by its view, and the same under other numbers. Serves Carrying, CopyRules, Homes, Kept and 4 more; crates above.
+-- What the rules ask of a kind, by its view, and the same under other numbers. Serves Carrying, CopyRules, Homes, Kept and 3 more; crates above.
 pub mod ViewTests
--- What is carried into another `Resolve` stands in the same places, for the same trees, and meets the same named types. Serves CopyRules, Homes, Kept, KeptPlaces and 4 more; crates above.
+-- What is carried into another `Resolve` stands in the same places, for the same trees, and meets the same named types. Serves CopyRules, Homes, Kept, KeptPackages and 5 more; crates above.
 pub mod Carrying
 -- What is carried keeps its owner, and a resource stays one. Serves CopyRules, InterfaceRules, KeptPlaces, Listed and 3 more; crates above.
 pub mod Homes
--- What the rules ask of a type, of a function and of an entry of a world holds of its copy. Serves InterfaceRules, Kept, KeptPackages, WorldOrder and 1 more.
+-- What the rules ask of a type, of a function and of an entry of a world holds of its copy. Serves InterfaceRules, Kept, KeptPackages, Meanings and 2 more.
 pub mod CopyRules
 -- What an interface uses, and what the rules ask of it, holds of its copy, with its numbers in order. Serves Kept, Listed, WorldOrder, WorldRules.
 pub mod InterfaceRules
--- What an item of a world uses stands before it where its copy stands, too, and an interface or a type is an item there as often. Serves Kept, KeptPlaces, Listed, WorldRules.
+-- What an item of a world uses stands before it where its copy stands, too, and an interface or a type is an item there as often. Serves Kept, KeptPlaces, Listed, Namesakes and 1 more.
 mod WorldOrder
 -- A copied type stands in its new owner's list under its name, once. Serves Kept, KeptPlaces, Namesakes, PackageNames and 2 more; crates above.
 pub mod Listed

@@ -1,18 +1,16 @@
 -- A copied type stands in its new owner's list under its name, once.
-use Rattle.std.proofs.Common.{rules as std_rules, ◌≡◌, refl, sym, ap, ◌∙◌, ℕ, arith, Bool, true, false, ◌&&◌, ◌||◌, cond, not, ◌==◌, List, [], ◌∷◌, ◌++◌, map, Option, Some, None, option_map, option_and_then, filter_map}
-use Rattle.std.proofs.lemmas.Bool.{and_from as both}
+use Rattle.std.proofs.Common.{rules as std_rules, ◌≡◌, refl, sym, ap, ◌∙◌, ℕ, arith, Bool, true, false, ◌&&◌, cond, ◌==◌, List, [], ◌∷◌, ◌++◌, map, Option, Some, option_map, option_and_then, filter_map}
+use Rattle.std.proofs.lemmas.{Bool.false_from_ne_true, Simd.map-map, Bool.and_from as both}
 use Rattle.std.specs.{Prelude.count_by, Prelude.bytes_eq, List.list_any, Map.lookup, Map.keys_of, HashMap.get_by, HashMap.get_by_text}
 use Rattle.wit_model.specs.declared.model.{Resolve.Resolve, Interface.Interface, TypeId.TypeId, WorldKey.WorldKey, WorldItem.WorldItem}
-use Rattle.wit_model.specs.{Text.Text, Text.text_of, Text.text_eq, Uses.has, Valid.Keeps, Valid.KeepsRules, Checks.references}
+use Rattle.wit_model.specs.{Text.Text, Text.text_of, Uses.has, Valid.Keeps, Valid.KeepsRules, Checks.references}
 use Rattle.wit_model.specs.Rules.{is_id, is_name_key, item_type, interface_type_numbers, is_listed_in_interface, is_listed_in_world}
-use Rattle.wit_model.proofs.{Distinct.text_eq_flip, TextLemmas.text_same as text-same}
 use Rattle.bind_union.specs.Carried.{Renumbering, KeyBecomes, IsInterface, IsCarried}
 use Rattle.bind_union.specs.Joined.{is_new, same_key, Joined, none, met, added, IsJoined}
 use Rattle.bind_union.proofs.{Lists.no_true, InterfaceRules.count_same, InterfaceRules.copies_carried, InterfaceRules.type_numbers, ViewTests.id_under}
 use Rattle.bind_union.proofs.Homes.{apart}
 use Rattle.bind_union.proofs.WorldOrder.{items, types_in, becomes, id_stands, counted_append, counted_numbers, none_counted, met_is_other, same_times}
-use Rattle.base_lemmas.proofs.{Bools.left_of as first_true, Bools.right_of as second_true, Maps.lookup_of_map}
-use Rattle.wit_model.specs.declared.model.WorldKey.TheVariants as key
+use Rattle.base_lemmas.proofs.{Bools.first_false, Bools.second_false, Bools.not-false, Elements.any-contains, Elements.any-at, Elements.any_of_map, Bools.left_of as first_true, Bools.right_of as second_true, Maps.lookup_of_map}
 use Rattle.bind_union.proofs.InterfaceRules as interface_rules
 
 -- ---- interfaces
@@ -44,54 +42,33 @@ module _ (r s : Resolve) (f : Renumbering) (valid : KeepsRules r) (is : IsCarrie
       c_types = (i.copied copy).types
 
       new_found : under_text name (map (λ e. (text_of e.0, f.types e.1.0)) i.old.types.entries) ≡ option_map f.types (under_text name (map (λ e. (text_of e.0, e.1.0)) i.old.types.entries))
-      new_found =
-          lookup_of_map (λ t. bytes_eq name t) text_of (λ (id : TypeId). f.types id.0) i.old.types.entries
-          ∙ (twice (lookup (λ k. bytes_eq name (text_of k)) i.old.types.entries)
-          ∙ ap (option_map f.types) (sym (lookup_of_map (λ t. bytes_eq name t) text_of (λ (id : TypeId). id.0) i.old.types.entries)))
-        where
-          twice : (o : Option TypeId) → option_map (λ id. f.types id.0) o ≡ option_map f.types (option_map (λ id. id.0) o)
-          twice None = refl
-          twice (Some id) = refl
+      new_found = simp map-map at (lookup_of_map (λ t. bytes_eq name t) (λ (t : Text). t) f.types (map (λ e. (text_of e.0, e.1.0)) i.old.types.entries))
 
 -- ---- worlds
 
 pub lookup_append : {K X : Type 0} (test : K → Bool) (xs ys : List (K × X)) → list_any test (keys_of xs) ≡ false → lookup test (xs ++ ys) ≡ lookup test ys
 lookup_append test [] ys h = refl
-lookup_append test (x ∷ xs) ys h = go (lookup_append test xs ys) (test x.0) h
-  where
-    go : (list_any test (keys_of xs) ≡ false → lookup test (xs ++ ys) ≡ lookup test ys) → (b : Bool) → (b || list_any test (keys_of xs)) ≡ false
-        → cond b (Some x.1) (lookup test (xs ++ ys)) ≡ lookup test ys
-    go rest true h = no_true (sym h)
-    go rest false h = rest h
+lookup_append test (x ∷ xs) ys h = ap (λ b. cond b (Some x.1) (lookup test (xs ++ ys))) (first_false _ _ h) ∙ lookup_append test xs ys (second_false (test x.0) _ h)
+
+else_same : {A : Type 0} (b : Bool) (x y z v : A) → cond b x y ≡ v → (y ≡ v → z ≡ v) → cond b x z ≡ v
+else_same x u y z v h more = search std_rules
 
 pub lookup_first : {K X : Type 0} (test : K → Bool) (xs ys : List (K × X)) (v : X) → lookup test xs ≡ Some v → lookup test (xs ++ ys) ≡ Some v
 lookup_first test [] ys v h = absurd cc
-lookup_first test (x ∷ xs) ys v h = go (lookup_first test xs ys v) (test x.0) h
-  where
-    go : (lookup test xs ≡ Some v → lookup test (xs ++ ys) ≡ Some v) → (b : Bool) → cond b (Some x.1) (lookup test xs) ≡ Some v → cond b (Some x.1) (lookup test (xs ++ ys)) ≡ Some v
-    go rest true h = h
-    go rest false h = rest h
+lookup_first test (x ∷ xs) ys v h = else_same (test x.0) (Some x.1) (lookup test xs) (lookup test (xs ++ ys)) (Some v) h (lookup_first test xs ys v)
 
 -- a name is no key where it is new
 name_key_new : (f : Renumbering) (name : Text) (k : WorldKey) → is_name_key name k ≡ true → (own : List (WorldKey × WorldItem)) → is_new f own k ≡ true
     → list_any (is_name_key name) (keys_of own) ≡ false
-name_key_new f name (key.Interface id) h own new = no_true h
-name_key_new f name (key.Name a) h [] new = refl
-name_key_new f name (key.Name a) h (x ∷ own) new = go x.0 new (name_key_new f name (key.Name a) h own)
+name_key_new f name k h own new = false_from_ne_true _ (λ e.
+    let x = any-contains (λ (y : WorldKey × WorldItem). is_name_key name y.0) own (sym (any_of_map (is_name_key name) (λ (y : WorldKey × WorldItem). y.0) own) ∙ e) in
+    not-false _ new (any-at (λ (y : WorldKey × WorldItem). same_key f k y.0) own x.0 x.1 (one_key k x.0.0 h x.2)))
   where
-    same : text_of a ≡ name
-    same = text-same (text_of a) name h
+    one_key : (k l : WorldKey) → is_name_key name k ≡ true → is_name_key name l ≡ true → same_key f k l ≡ true
+    one_key x y h e = search std_rules
 
-    rest_new : (b c : Bool) → not (b || c) ≡ true → (b ≡ false) × (not c ≡ true)
-    rest_new true c e = no_true e
-    rest_new false c e = (refl, e)
-
-    go : (l : WorldKey) → not (same_key f (key.Name a) l || list_any (λ (y : WorldKey × WorldItem). same_key f (key.Name a) y.0) own) ≡ true
-        → (is_new f own (key.Name a) ≡ true → list_any (is_name_key name) (keys_of own) ≡ false) → (is_name_key name l || list_any (is_name_key name) (keys_of own)) ≡ false
-    go (key.Interface id) e rest = rest e
-    go (key.Name b) e rest =
-        let two = rest_new (text_eq (text_of a) (text_of b)) (list_any (λ (y : WorldKey × WorldItem). same_key f (key.Name a) y.0) own) e in
-        ap (λ c. c || list_any (is_name_key name) (keys_of own)) (text_eq_flip (text_of b) name ∙ (ap (λ t. text_eq t (text_of b)) (sym same) ∙ two.0)) ∙ rest two.1
+by_cond : {A P : Type 0} (test : A → Bool) (b : Bool) (x y : A) → test (cond b x y) ≡ true → (b ≡ true → test x ≡ true → P) → (b ≡ false → test y ≡ true → P) → P
+by_cond test x u y h p q = search std_rules
 
 module _ (r s : Resolve) (f : Renumbering) (valid : KeepsRules r) (is : IsCarried r s f) (below_s : Keeps references s) (m : ℕ) (c : f.copies_type m ≡ true) (name : Text) where
   -- the copied type is none of those that were there
@@ -101,32 +78,20 @@ module _ (r s : Resolve) (f : Renumbering) (valid : KeepsRules r) (is : IsCarrie
   same_name_key : (k l : WorldKey) → KeyBecomes f k l → is_name_key name l ≡ is_name_key name k
   same_name_key x y z = search std_rules
 
+  abbrev finds : ℕ → Option WorldItem → Bool
+  finds n o = is_id n (option_and_then item_type o)
+
   -- it is found among what is added, under a new key
   found_added : (own : List (WorldKey × WorldItem)) → IsFresh own → (olds news : List (WorldKey × WorldItem)) → Joined f own olds news
-      → is_id m (option_and_then item_type (lookup (is_name_key name) olds)) ≡ true
-      → (is_id (f.types m) (option_and_then item_type (lookup (is_name_key name) news)) ≡ true) × (list_any (is_name_key name) (keys_of own) ≡ false)
+      → finds m (lookup (is_name_key name) olds) ≡ true → (finds (f.types m) (lookup (is_name_key name) news) ≡ true) × (list_any (is_name_key name) (keys_of own) ≡ false)
   found_added own fresh _ _ none h = no_true h
-  found_added own fresh _ _ (met old there olds news held k stands rest) h = go (found_added own fresh olds news rest) (is_name_key name old.0) h
-    where
-      go : (is_id m (option_and_then item_type (lookup (is_name_key name) olds)) ≡ true → (is_id (f.types m) (option_and_then item_type (lookup (is_name_key name) news)) ≡ true)
-          × (list_any (is_name_key name) (keys_of own) ≡ false)) → (b : Bool) → is_id m (option_and_then item_type (cond b (Some old.1) (lookup (is_name_key name) olds))) ≡ true
-          → (is_id (f.types m) (option_and_then item_type (lookup (is_name_key name) news)) ≡ true) × (list_any (is_name_key name) (keys_of own) ≡ false)
-      go more true e = no_true (sym (met_is_other f (types_in f) m own fresh old.1 there held stands) ∙ e)
-      go more false e = more e
-  found_added own fresh _ _ (added old new olds news fresh_key z rest) h = go (found_added own fresh olds news rest) (is_name_key name old.0) refl h
-    where
-      go : (is_id m (option_and_then item_type (lookup (is_name_key name) olds)) ≡ true → (is_id (f.types m) (option_and_then item_type (lookup (is_name_key name) news)) ≡ true)
-          × (list_any (is_name_key name) (keys_of own) ≡ false)) → (b : Bool) → is_name_key name old.0 ≡ b
-          → is_id m (option_and_then item_type (cond b (Some old.1) (lookup (is_name_key name) olds))) ≡ true
-          → (is_id (f.types m) (option_and_then item_type (cond (is_name_key name new.0) (Some new.1) (lookup (is_name_key name) news))) ≡ true) × (list_any (is_name_key name) (keys_of own) ≡ false)
-      go again true k e = (
-        ap (λ b. is_id (f.types m) (option_and_then item_type (cond b (Some new.1) (lookup (is_name_key name) news)))) (same_name_key old.0 new.0 z.0 ∙ k)
-            ∙ id_stands f (types_in f) old.1 new.1 (becomes f old.1 new.1 z.1) m e,
-        name_key_new f name old.0 k own fresh_key,
-      )
-      go again false k e =
-          let more = again e in
-          (ap (λ b. is_id (f.types m) (option_and_then item_type (cond b (Some new.1) (lookup (is_name_key name) news)))) (same_name_key old.0 new.0 z.0 ∙ k) ∙ more.0, more.1)
+  found_added own fresh _ _ (met old there olds news held k stands rest) h = by_cond (finds m) (is_name_key name old.0) (Some old.1) (lookup (is_name_key name) olds) h
+      (λ k e. no_true (sym (met_is_other f (types_in f) m own fresh old.1 there held stands) ∙ e)) (λ k. found_added own fresh olds news rest)
+  found_added own fresh _ _ (added old new olds news fresh_key z rest) h =
+      let here = λ (b : Bool) (k : is_name_key name old.0 ≡ b). ap (λ x. finds (f.types m) (cond x (Some new.1) (lookup (is_name_key name) news))) (same_name_key old.0 new.0 z.0 ∙ k) in
+      by_cond (finds m) (is_name_key name old.0) (Some old.1) (lookup (is_name_key name) olds) h
+      (λ k e. (here true k ∙ id_stands f (types_in f) old.1 new.1 (becomes f old.1 new.1 z.1) m e, name_key_new f name old.0 k own fresh_key))
+      (λ k e. let more = found_added own fresh olds news rest e in (here false k ∙ more.0, more.1))
 
   pub listed_in_world : (n : ℕ) (own_imports own_exports : List (WorldKey × WorldItem)) (j : IsJoined r s f n own_imports own_exports) → IsFresh own_imports → is_listed_in_world m name j.old ≡ true
       → is_listed_in_world (f.types m) name j.image ≡ true
@@ -161,5 +126,4 @@ stays_listed name n own more fresh h =
   where
     go : (o : Option WorldItem) → lookup (is_name_key name) own ≡ o → is_id n (option_and_then item_type o) ≡ true
         → is_id n (option_and_then item_type (lookup (is_name_key name) (own ++ more))) ≡ true
-    go None e k = no_true k
-    go (Some v) e k = ap (λ o. is_id n (option_and_then item_type o)) (lookup_first (is_name_key name) own more v e) ∙ k
+    go x e k = search (std_rules, no_true, lookup_first)

@@ -1,23 +1,17 @@
 -- What is carried means what it meant.
-use Rattle.std.proofs.Common.{rules as std_rules, ◌≡◌, ◌⊎◌, inl, inr, refl, sym, ap, ◌∙◌, ℕ, true, false, List, [], ◌∷◌, map, Option, Some, None, option_map, option_to_list, is_some, unwrap_or, filter_map, length}
-use Rattle.std.proofs.lemmas.{List.Folds.list_all-append, Bool.lt-ltb, Bool.and_from as both, Option.slice_get_within, Simd.map-map}
+use Rattle.std.proofs.Common.{arith, rules as std_rules, ◌≡◌, refl, sym, ap, ◌∙◌, ℕ, true, false, List, [], ◌∷◌, map, Option, Some, None, option_map, option_to_list, is_some, unwrap_or}
+use Rattle.std.proofs.lemmas.{Bool.lt-ltb, Option.slice_get_within, Simd.map-map}
 use Rattle.std.specs.{Prelude.String, List.list_all, Option.option_map_or, FinMap.from_entries}
 use Rattle.std.specs.declared.alloc.Global.{Global}
-use Rattle.wit_model.specs.declared.model.{Resolve.Resolve, TypeId.TypeId, Param.Param, Function.Function}
-use Rattle.wit_model.specs.declared.model.{Interface.Interface, WorldKey.WorldKey, WorldItem.WorldItem, FunctionKind.FunctionKind, «Type».«Type» as ValueType}
-use Rattle.wit_model.specs.{Text.Text, Text.text_of, Tree.Tree, Meaning.TypeMeaning, Meaning.FunctionMeaning, Meaning.Item, Meaning.interface, Meaning.inline}
-use Rattle.wit_model.specs.{Lookup.interface_at, Lookup.interface_path, Lookup.key_text, Lookup.is_async, Lookup.resource_of, Types.number_of, Types.type_tree}
-use Rattle.wit_model.specs.{Parts.function_types, Valid.Keeps, Valid.KeepsRules, Valid.IsValid, Checks.references}
-use Rattle.wit_model.specs.Meant.{signature_of, function_meaning, type_meaning, type_meaning_at, no_type, interface_meaning, interface_meaning_at, interface_item, entry_meaning, entries_meaning, world_meaning, world_meaning_at, no_world}
-use Rattle.wit_model.proofs.{Lists.list_all_filter_map, Elements.none-in, OnePath.named-path}
+use Rattle.wit_model.specs.declared.model.{Resolve.Resolve, TypeId.TypeId, Param.Param, Function.Function, Interface.Interface, WorldKey.WorldKey, WorldItem.WorldItem, FunctionKind.FunctionKind, «Type».«Type» as ValueType}
+use Rattle.wit_model.specs.{Text.Text, Text.text_of, Tree.Tree, Meaning.TypeMeaning, Meaning.FunctionMeaning, Lookup.interface_at, Lookup.interface_path, Lookup.key_text, Lookup.is_async, Types.number_of, Types.type_tree, Valid.Keeps, Valid.KeepsRules, Valid.IsValid, Checks.references}
+use Rattle.wit_model.specs.Meant.{signature_of, function_meaning, type_meaning, type_meaning_at, no_type, interface_meaning, interface_meaning_at, interface_item, entry_meaning, entries_meaning, world_meaning_at}
+use Rattle.wit_model.proofs.{Elements.none-in, OnePath.named-path}
 use Rattle.bind_union.specs.{Views.renamed_type, Meanings.OwnMeansTheSame, Meanings.CopiesMeanTheSame, Meanings.MergedMeans}
-use Rattle.bind_union.specs.Carried.{Renumbering, call_under, IsFunctionCopy, IsFunctionEntry, IsInterfaceCopy, KeyBecomes, ItemBecomes, IsCarried}
+use Rattle.bind_union.specs.Carried.{Renumbering, call_under, IsFunctionCopy, IsInterfaceCopy, KeyBecomes, ItemBecomes, IsCarried}
 use Rattle.bind_union.specs.Joined.{Joined, none, met, added, IsJoined}
-use Rattle.bind_union.proofs.{Carrying.references_of, Carrying.refers_below, Carrying.carried_types, Carrying.type_tree_same, Carrying.path_same}
-use Rattle.bind_union.proofs.{Images.same_declarations, Itself.itself, Itself.carried_itself, Kept.Source, Kept.own_source, Kept.own_joined, Kept.below}
+use Rattle.bind_union.proofs.{Carrying.references_of, Carrying.refers_below, Carrying.carried_types, Carrying.type_tree_same, Carrying.path_same, CopyRules.given_values, Images.same_declarations, Itself.itself, Itself.carried_itself, Kept.own_joined, Kept.below}
 use Rattle.base_lemmas.proofs.{Bools.left_of as first_true, Bools.right_of as second_true, Elements.zip_map, Numbers.unequal}
-use Rattle.wit_model.specs.declared.model.WorldKey.TheVariants as key
-use Rattle.wit_model.specs.declared.model.WorldItem.TheVariants as item
 
 async_under : (f : Renumbering) (k : FunctionKind) → is_async (call_under f k) ≡ is_async k
 async_under f x = search std_rules
@@ -37,33 +31,20 @@ module _ (r s : Resolve) (f : Renumbering) (valid : KeepsRules r) (is : IsCarrie
   -- ---- functions
 
   module _ (g h : Function) (c : IsFunctionCopy f g h) where
-    carried_values : list_all (λ t. list_all f.carries_type (option_to_list (number_of t))) (function_types g) ≡ true
-    carried_values = sym (list_all_filter_map f.carries_type number_of (function_types g)) ∙ first_true _ _
-        (sym (list_all-append f.carries_type (filter_map number_of (function_types g)) (option_to_list (resource_of g.kind))) ∙ c.parts)
-
     params_mean : (ps : List Param) → list_all (λ t. list_all f.carries_type (option_to_list (number_of t))) (map (λ p. p.ty) ps) ≡ true
         → map {B = Text × Tree} (λ p. (text_of p.name, type_tree s (renamed_type f.types p.ty))) ps ≡ map (λ p. (text_of p.name, type_tree r p.ty)) ps
     params_mean [] h = refl
-    params_mean (p ∷ ps) h = λ i. (text_of p.name, type_tree_same r s f valid is below_s p.ty (first_true _ _ h) i) ∷ params_mean ps
-        (second_true (list_all f.carries_type (option_to_list (number_of p.ty))) _ h) i
+    params_mean (p ∷ ps) h = search (std_rules, type_tree_same, first_true, second_true, params_mean ps (second_true (list_all f.carries_type (option_to_list (number_of p.ty))) _ h))
 
     result_means : (o : Option ValueType) → list_all (λ t. list_all f.carries_type (option_to_list (number_of t))) (option_to_list o) ≡ true
         → option_map (type_tree s) (option_map (renamed_type f.types) o) ≡ option_map (type_tree r) o
-    result_means None h = refl
-    result_means (Some t) h = ap Some (type_tree_same r s f valid is below_s t (first_true _ _ h))
+    result_means x h = search (std_rules, type_tree_same, first_true)
 
     params_are : map {B = Text × Tree} (λ p. (text_of p.name, type_tree s p.ty)) h.params.items ≡ map (λ p. (text_of p.name, type_tree r p.ty)) g.params.items
-    params_are =
-        sym (map-map (λ (x : Text × ValueType). (x.0, type_tree s x.1)) (λ p. (text_of p.name, p.ty)) h.params.items)
-        ∙ (ap (map (λ (x : Text × ValueType). (x.0, type_tree s x.1))) c.params
-        ∙ (map-map (λ (x : Text × ValueType). (x.0, type_tree s x.1)) (λ p. (text_of p.name, renamed_type f.types p.ty)) g.params.items
-        ∙ params_mean g.params.items (first_true _ _ (sym (list_all-append (λ t. list_all f.carries_type (option_to_list (number_of t))) (map (λ p. p.ty) g.params.items) (option_to_list g.result))
-        ∙ carried_values))))
+    params_are = simp map-map at (ap (map {B = Text × Tree} (λ (x : Text × ValueType). (x.0, type_tree s x.1))) c.params) ∙ params_mean g.params.items (given_values r s f valid is below_s g h c).0
 
     result_is : option_map (type_tree s) h.result ≡ option_map (type_tree r) g.result
-    result_is = ap (option_map (type_tree s)) c.result ∙ result_means g.result
-        (second_true (list_all (λ t. list_all f.carries_type (option_to_list (number_of t))) (map (λ p. p.ty) g.params.items)) _
-        (sym (list_all-append (λ t. list_all f.carries_type (option_to_list (number_of t))) (map (λ p. p.ty) g.params.items) (option_to_list g.result)) ∙ carried_values))
+    result_is = ap (option_map (type_tree s)) c.result ∙ result_means g.result (given_values r s f valid is below_s g h c).1
 
     pub signature_means : signature_of s h ≡ signature_of r g
     signature_means = λ i. record { is_async = (ap is_async c.kind ∙ async_under f g.kind) i; params = params_are i; result = result_is i }
@@ -73,31 +54,19 @@ module _ (r s : Resolve) (f : Renumbering) (valid : KeepsRules r) (is : IsCarrie
 
   -- ---- interfaces
 
-  types_mean : (es : List (Text × ℕ)) → list_all (λ (e : Text × ℕ). f.copies_type e.1) es ≡ true
-      → map {B = Text × TypeMeaning} (λ (e : Text × ℕ). (e.0, type_meaning_at s (f.types e.1))) es ≡ map (λ (e : Text × ℕ). (e.0, type_meaning_at r e.1)) es
+  types_mean : (es : List (String Global × TypeId)) → list_all (λ (id : TypeId). f.copies_type id.0) (map (λ e. e.1) es) ≡ true
+      → map {B = Text × TypeMeaning} (λ e. (text_of e.0, type_meaning_at s (f.types e.1.0))) es ≡ map (λ e. (text_of e.0, type_meaning_at r e.1.0)) es
   types_mean [] h = refl
-  types_mean (e ∷ es) h = λ i. (e.0, type_means e.1 (first_true _ _ h) i) ∷ types_mean es (second_true (f.copies_type e.1) _ h) i
+  types_mean (e ∷ es) h = λ i. (text_of e.0, type_means e.1.0 (first_true _ _ h) i) ∷ types_mean es (second_true (f.copies_type e.1.0) _ h) i
 
   interface_means : (old image : Interface) → IsInterfaceCopy f old image → interface_meaning s image ≡ interface_meaning r old
   interface_means old image c = λ i. record { types = types_are i; functions = from_entries (functions_are i) }
     where
-      copied : (es : List (String Global × TypeId)) → list_all (λ (id : TypeId). f.copies_type id.0) (map (λ e. e.1) es) ≡ true
-          → list_all (λ (e : Text × ℕ). f.copies_type e.1) (map (λ e. (text_of e.0, e.1.0)) es) ≡ true
-      copied [] h = refl
-      copied (e ∷ es) h = both _ _ (first_true _ _ h) (copied es (second_true (f.copies_type e.1.0) _ h))
-
       types_are : map {B = Text × TypeMeaning} (λ e. (text_of e.0, type_meaning_at s e.1.0)) image.types.entries ≡ map (λ e. (text_of e.0, type_meaning_at r e.1.0)) old.types.entries
-      types_are =
-          sym (map-map (λ (x : Text × ℕ). (x.0, type_meaning_at s x.1)) (λ e. (text_of e.0, e.1.0)) image.types.entries)
-          ∙ (ap (map (λ (x : Text × ℕ). (x.0, type_meaning_at s x.1))) c.types
-          ∙ (map-map (λ (x : Text × ℕ). (x.0, type_meaning_at s x.1)) (λ e. (text_of e.0, f.types e.1.0)) old.types.entries
-          ∙ (sym (map-map (λ (x : Text × ℕ). (x.0, type_meaning_at s (f.types x.1))) (λ e. (text_of e.0, e.1.0)) old.types.entries)
-          ∙ (types_mean (map (λ e. (text_of e.0, e.1.0)) old.types.entries) (copied old.types.entries c.copies)
-          ∙ map-map (λ (x : Text × ℕ). (x.0, type_meaning_at r x.1)) (λ e. (text_of e.0, e.1.0)) old.types.entries))))
+      types_are = simp map-map at (ap (map {B = Text × TypeMeaning} (λ (x : Text × ℕ). (x.0, type_meaning_at s x.1))) c.types) ∙ types_mean old.types.entries c.copies
 
       functions_are : map {B = Text × FunctionMeaning} (λ e. (text_of e.0, function_meaning s e.1)) image.functions.entries ≡ map (λ e. (text_of e.0, function_meaning r e.1)) old.functions.entries
-      functions_are = zip_map (IsFunctionEntry f) (λ e. (text_of e.0, function_meaning r e.1)) (λ e. (text_of e.0, function_meaning s e.1)) (λ a b z i. (z.0 i, function_means a.1 b.1 z.1 i))
-          old.functions.entries image.functions.entries c.functions
+      functions_are = search (std_rules, zip_map, function_means)
 
   pub interface_means_at : (n : ℕ) → f.copies_interface n ≡ true → interface_meaning_at s (f.interfaces n) ≡ interface_meaning_at r n
   interface_means_at n copy = search (std_rules, interface_means)
@@ -107,32 +76,13 @@ module _ (r s : Resolve) (f : Renumbering) (valid : KeepsRules r) (is : IsCarrie
   module _ (inline_copied : (m : ℕ) (i : Interface) → f.carries_interface m ≡ true → interface_at r m ≡ Some i → i.name ≡ None → f.copies_interface m ≡ true)
       (pathless : (m : ℕ) (i : Interface) → interface_at r m ≡ Some i → is_some i.name ≡ true → interface_path r m ≡ None → ⊥) where
     interface_item_means : (m : ℕ) → f.carries_interface m ≡ true → interface_item s (f.interfaces m) ≡ interface_item r m
-    interface_item_means m c = ap (λ o. option_map_or interface o (inline (interface_meaning_at s (f.interfaces m)))) (path_same r s f valid is below_s m c) ∙ go (interface_path r m) refl
-      where
-        named : (o : Option (String Global)) → (is.interfaces m c).old.name ≡ o → interface_path r m ≡ None → f.copies_interface m ≡ true ⊎ (is_some (is.interfaces m c).old.name ≡ true)
-        named None e h = inl (inline_copied m (is.interfaces m c).old c (is.interfaces m c).found e)
-        named (Some x) e h = inr (ap is_some e)
-
-        go : (o : Option Text) → interface_path r m ≡ o → option_map_or interface o (inline (interface_meaning_at s (f.interfaces m))) ≡ option_map_or interface o (inline (interface_meaning_at r m))
-        go (Some path) e = refl
-        go None e = ap inline (means (named (is.interfaces m c).old.name refl e))
-          where
-            means : f.copies_interface m ≡ true ⊎ (is_some (is.interfaces m c).old.name ≡ true) → interface_meaning_at s (f.interfaces m) ≡ interface_meaning_at r m
-            means (inl copy) = interface_means_at m copy
-            means (inr has_name) = absurd (pathless m (is.interfaces m c).old (is.interfaces m c).found has_name e)
+    interface_item_means m c = grind (arith, path_same, interface_means_at)
 
     pub key_means : (k l : WorldKey) → KeyBecomes f k l → key_text s l ≡ key_text r k
-    key_means (key.Name a) (key.Name b) z = z
-    key_means (key.Interface a) (key.Interface b) z = ap (λ o. unwrap_or o []) (ap (interface_path s) z.0 ∙ path_same r s f valid is below_s a.0 z.1)
-    key_means _ _ z = absurd z
+    key_means x y z = search (std_rules, unwrap_or, path_same)
 
     pub item_means : (i j : WorldItem) → ItemBecomes f i j → entry_meaning s j ≡ entry_meaning r i
-    item_means (item.Interface a st docs ext) (item.Interface b st2 docs2 ext2) z = λ i. record { item = (ap (interface_item s) z.0 ∙ interface_item_means a.0 z.1) i; external_id = z.3 i }
-    item_means (item.Function g) (item.Function h) z = λ i. record { item = Item.function (signature_means g h z i); external_id = z.external_id i }
-    item_means (item.Type_ a) (item.Type_ b) z =
-        let same : type_meaning_at s b.0 ≡ type_meaning_at r a.0 = ap (type_meaning_at s) z.0 ∙ type_means a.0 z.1 in
-        λ i. record { item = Item.declares (same i).declaration; external_id = (same i).external_id }
-    item_means _ _ z = absurd z
+    item_means x y z = search (std_rules, interface_item_means, signature_means, type_means)
 
     pub entries_mean : (xs ys : List (WorldKey × WorldItem)) → Joined f [] xs ys → entries_meaning s ys ≡ entries_meaning r xs
     entries_mean _ _ none = refl
@@ -140,14 +90,7 @@ module _ (r s : Resolve) (f : Renumbering) (valid : KeepsRules r) (is : IsCarrie
     entries_mean _ _ (added old new olds news n z rest) = λ i. (key_means old.0 new.0 z.0 i, item_means old.1 new.1 z.1 i) ∷ entries_mean olds news rest i
 
     pub world_means : (n : ℕ) (j : IsJoined r s f n [] []) → world_meaning_at s (f.worlds n) ≡ world_meaning_at r n
-    world_means n j =
-        ap (λ o. option_map_or (world_meaning s) o no_world) j.at_image
-        ∙ ((λ i. record {
-          imports = (ap (entries_meaning s) j.imports ∙ entries_mean j.old.imports.entries j.new_imports j.joined_imports) i;
-          exports =
-              (ap (entries_meaning s) j.exports ∙ entries_mean j.old.exports.entries j.new_exports j.joined_exports) i;
-        })
-        ∙ sym (ap (λ o. option_map_or (world_meaning r) o no_world) j.found))
+    world_means n j = search (std_rules, entries_mean)
 
 -- ---- the whole
 
@@ -160,29 +103,14 @@ merged_means own other merged bound other_bound first second left_out valid_own 
     below_s : Keeps references merged
     below_s = below own other merged bound other_bound first second left_out valid_own.rules valid_other.rules is
 
-    c : Source merged
-    c = own_source own other merged bound other_bound first second left_out valid_own.rules valid_other.rules is
-
     carried : IsCarried own merged (itself own)
     carried = carried_itself own valid_own.rules merged is.types is.interfaces is.packages
 
     ours : OwnMeansTheSame own merged bound
-    ours = record {
-      interfaces = λ n i e.
-          let low = lt-ltb n (length own.interfaces.items) (slice_get_within own.interfaces.items n i e) in
-          (interface_means_at own merged (itself own) valid_own.rules carried below_s n low, path_same own merged (itself own) valid_own.rules carried below_s n low);
-      worlds = λ n w e apart.
-          world_means own merged (itself own) valid_own.rules carried below_s (λ m i h at without. h) (has_path own valid_own) n
-          (own_joined own other merged bound other_bound first second left_out valid_own.rules valid_other.rules is n w e (unequal n bound apart));
-    }
+    ours = search (std_rules, lt-ltb, slice_get_within, interface_means_at, itself, carried, below_s, path_same, world_means, has_path, own_joined, unequal)
 
     copies : CopiesMeanTheSame other merged first
-    copies = record {
-      interfaces = λ n copy. (
-        interface_means_at other merged first valid_other.rules is.first_copies.carried below_s n copy,
-        path_same other merged first valid_other.rules is.first_copies.carried below_s n (is.first_copies.carried.copied_interfaces n copy),
-      );
-    }
+    copies = search (std_rules, interface_means_at, carried, below_s, path_same)
 
     copied_worlds : (n : ℕ) → first.carries_world n ≡ true → world_meaning_at merged (first.worlds n) ≡ world_meaning_at other n
     copied_worlds n d = world_means other merged first valid_other.rules is.first_copies.carried below_s is.first_copies.inline_copied (has_path other valid_other) n (is.first_worlds n d).joined

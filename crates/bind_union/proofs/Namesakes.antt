@@ -1,10 +1,8 @@
 -- Types of interfaces of one path and one sense stand for each other.
-use Rattle.std.proofs.Common.{rules as std_rules, ◌≡◌, ◌⊎◌, inl, inr, refl, sym, ap, subst, ◌∙◌, ℕ, zero, suc, ◌+◌, arith, Bool, true, false, ◌&&◌, ◌||◌, ◌==◌, not, cond, List, [], ◌∷◌, map, nat_lt, Option, Some, None, option_map, is_some, unwrap_or}
-use Rattle.std.proofs.lemmas.{Cmp.nat_list_cmp_total, List.Sums.sum_by-cons, List.Folds.list_all-map, Simd.map-map, Option.same_Some as same-some}
-use Rattle.std.specs.{Prelude.String, Prelude.bytes_eq, Prelude.count_by, Option.option_map_or, FinMap.find, FinMap.from_entries, FinMap.get-from_entries}
-use Rattle.std.specs.{List.list_all, List.Contains, Map.lookup, HashMap.get_by_text}
+use Rattle.std.proofs.Common.{slice_get, rules as std_rules, ◌≡◌, ◌⊎◌, inl, inr, refl, sym, ap, subst, ◌∙◌, ℕ, arith, Bool, true, false, ◌&&◌, ◌||◌, ◌==◌, not, cond, List, [], ◌∷◌, map, nat_lt, Option, Some, None, option_map, is_some, unwrap_or}
+use Rattle.std.proofs.lemmas.{Cmp.nat_list_cmp_total, Simd.map-map, Option.same_Some as same-some}
+use Rattle.std.specs.{Prelude.String, Prelude.bytes_eq, Prelude.count_by, Option.option_map_or, FinMap.find, FinMap.from_entries, FinMap.get-from_entries, List.list_all, List.Contains, Map.lookup, HashMap.get_by_text}
 use Rattle.std.specs.declared.alloc.Global.{Global}
-use Rattle.indexmap.specs.IndexMap.{values}
 use Rattle.wit_model.specs.declared.model.{Resolve.Resolve, Interface.Interface, TypeId.TypeId, TypeDef.TypeDef, TypeDefKind.TypeDefKind, TypeOwner.TypeOwner}
 use Rattle.wit_model.specs.Text.{Text, text_of, text_eq, text_cmp, optional_text, TextMap}
 use Rattle.wit_model.specs.Lookup.{interface_at, type_at, interface_path, place_of, place_of_path}
@@ -13,16 +11,13 @@ use Rattle.wit_model.specs.Types.{no_tree, tree_at, declared_by, trees_of, decla
 use Rattle.wit_model.specs.Parts.{kind_numbers, same_owner, has_owner, met_by, met_of, used_by_type}
 use Rattle.wit_model.specs.Uses.{has, alias_target, owner_interface}
 use Rattle.wit_model.specs.{Meaning.TypeMeaning, Meaning.InterfaceSense, Meant.interface_meaning, Meant.type_meaning, Meant.type_meaning_at, Meant.no_type}
-use Rattle.wit_model.specs.Rules.{passes, in_list, is_id, package_number, function_in_range, interface_type_numbers, is_listed, is_listed_in_interface, is_named_of, is_named_number, are_in_order, is_use, is_resource_itself, is_named_kind, owner_in_range}
-use Rattle.wit_model.specs.Valid.{IsValid, is_place, as_interface, numbers_in_range, order_of_types, owners, named_kinds}
-use Rattle.wit_model.proofs.{AnyOrder.same-text, Functions.all_flat}
-use Rattle.wit_model.proofs.{Elements.none-in, Elements.contains-has, Elements.has-contains, Owners.met_step, Owners.owned_stays, Chains.all_has as passes_at}
-use Rattle.wit_model.proofs.{OnePath.path-once, OnePath.named-path, OnePath.found-in, OnePath.interface-passes, PartsLemmas.owner_same as owner_equal}
-use Rattle.wit_model.proofs.{TreeTable.kept_trees_at, RulesLemmas.is_id_some as some_id, TextLemmas.text_same as text-same, ValidLemmas.type_passes}
+use Rattle.wit_model.specs.Rules.{passes, in_list, is_id, interface_type_numbers, is_listed, is_listed_in_interface, is_named_of, is_named_number, are_in_order, is_use, is_resource_itself, is_named_kind}
+use Rattle.wit_model.specs.Valid.{IsValid, as_interface, order_of_types, owners, named_kinds}
+use Rattle.wit_model.proofs.{AnyOrder.same-text, Functions.all_flat, Elements.contains-has, Elements.contains-get, Elements.has-contains, Owners.met_step, Owners.owned_stays, Chains.all_has as passes_at, OnePath.path-once, OnePath.named-path, OnePath.found-in, OnePath.interface-passes, PartsLemmas.owner_same as owner_equal, TreeTable.kept_trees_at, RulesLemmas.is_id_some as some_id, TextLemmas.text_same as text-same, ValidLemmas.type_passes}
 use Rattle.bind_meaning.proofs.Listed.{from-map}
 use Rattle.bind_union.specs.Matching.{type_names, IsMatch, AreMatched, AreNamesakes, MatchesAreNamesakes, MatchesAreOnto}
-use Rattle.bind_union.proofs.{Lists.no_true, Carrying.references_of, Homes.alias_of_all, Listed.under_text, Listed.found_by_text}
-use Rattle.base_lemmas.proofs.{Bools.left_of as first_true, Bools.right_of as second_true, Elements.contains-later, Elements.contains-map, Maps.lookup_of_map}
+use Rattle.bind_union.proofs.{Lists.by_number, Lists.no_true, Carrying.references_of, Homes.alias_of_all, Itself.interface_range, Itself.type_range, WorldOrder.one_of_sum, Listed.under_text, Listed.found_by_text}
+use Rattle.base_lemmas.proofs.{Options.there as some_of, Bools.left_of as first_true, Bools.right_of as second_true, Elements.contains-map, Elements.lookup_stands, Lists.mapped_get, Maps.lookup_of_map}
 use Rattle.base_lemmas.proofs.Numbers.{equal, same-number}
 use Rattle.wit_model.specs.declared.model.TypeOwner.TheVariants as owner
 
@@ -67,12 +62,7 @@ name_in (node form ts) = []
 
 -- what is found stands there
 pub under_contains : (name : Text) (es : List (Text × ℕ)) (t : ℕ) → under_text name es ≡ Some t → Contains es (name, t)
-under_contains name [] t h = let wrong : ⊥ = cc in absurd wrong
-under_contains name (e ∷ es) t h = go (bytes_eq name e.0) refl h (under_contains name es t)
-  where
-    go : (b : Bool) → text_eq name e.0 ≡ b → cond b (Some e.1) (under_text name es) ≡ Some t → (under_text name es ≡ Some t → Contains es (name, t)) → Contains (e ∷ es) (name, t)
-    go true k h rest = (0, omega arith, λ i. (sym (text-same name e.0 k) i, same-some e.1 t h i))
-    go false k h rest = contains-later e es (name, t) (rest h)
+under_contains name es t h = let x = lookup_stands (λ k. bytes_eq name k) es t h in subst (λ (k : Text). Contains es (k, t)) (sym (text-same name x.0 x.2)) x.1
 
 pub number_listed : (es : List (Text × ℕ)) (name : Text) (t : ℕ) → Contains es (name, t) → has (map (λ (e : Text × ℕ). e.1) es) t ≡ true
 number_listed es name t c = contains-has (map (λ (e : Text × ℕ). e.1) es) t (contains-map (λ (e : Text × ℕ). e.1) es (name, t) c)
@@ -80,46 +70,24 @@ number_listed es name t c = contains-has (map (λ (e : Text × ℕ). e.1) es) t 
 abbrev often : ℕ → List (Text × ℕ) → ℕ
 often t es = count_by (λ k. k == t) (map (λ (e : Text × ℕ). e.1) es)
 
-stands_often : (es : List (Text × ℕ)) (name : Text) (t : ℕ) → Contains es (name, t) → often t es ≡ 0 → ⊥
-stands_often [] name t c h = none-in (name, t) c
-stands_often (e ∷ es) name t c h = go (e.1 == t) refl c (stands_often es name t)
+-- what stands once stands at one place
+one_place : (ns : List ℕ) (t : ℕ) → count_by (λ k. k == t) ns ≡ 1 → (i j : ℕ) → slice_get ns i ≡ Some t → slice_get ns j ≡ Some t → i ≡ j
+one_place ns t h i j p q = here i p ∙ sym (here j q)
   where
-    step : often t (e ∷ es) ≡ cond (e.1 == t) 1 0 + often t es
-    step = sum_by-cons (λ k. cond (k == t) 1 0) e.1 (map (λ (x : Text × ℕ). x.1) es)
+    here : (m : ℕ) → slice_get ns m ≡ Some t → m ≡ (one_of_sum (λ k. cond (k == t) 1 0) ns h).0
+    here m e =
+        let once = one_of_sum (λ k. cond (k == t) 1 0) ns h in
+        let one : cond (t == t) 1 0 ≡ 1 = ap {B = ℕ} (λ b. cond b 1 0) (same-number t) in
+        by_number m once.0 (λ same. same) (λ apart. let none = once.4 m t e apart in absurd (omega (arith, one, none)))
 
-    go : (b : Bool) → (e.1 == t) ≡ b → Contains (e ∷ es) (name, t) → (Contains es (name, t) → often t es ≡ 0 → ⊥) → ⊥
-    go true k c rest = let one : cond (e.1 == t) 1 0 ≡ 1 = ap {B = ℕ} (λ b. cond b 1 0) k in let s = step in omega (arith, s, one, h)
-    go false k (zero, l, d) rest = no_true (sym k ∙ subst (λ (x : ℕ). (e.1 == x) ≡ true) (ap (λ (x : Text × ℕ). x.1) d) (same-number e.1))
-    go false k (suc i, l, d) rest = let one : cond (e.1 == t) 1 0 ≡ 0 = ap {B = ℕ} (λ b. cond b 1 0) k in let s = step in rest (i, omega (arith, l), d) (omega (arith, s, one, h))
-
--- what stands once stands under one name
+-- and so under one name
 one_name : (es : List (Text × ℕ)) (a b : Text) (t : ℕ) → Contains es (a, t) → Contains es (b, t) → often t es ≡ 1 → a ≡ b
-one_name [] a b t c d h = none-in (a, t) c
-one_name (e ∷ es) a b t c d h = go c d (one_name es a b t)
-  where
-    step : often t (e ∷ es) ≡ cond (e.1 == t) 1 0 + often t es
-    step = sum_by-cons (λ k. cond (k == t) 1 0) e.1 (map (λ (x : Text × ℕ). x.1) es)
-
-    is_head : (x : Text) → e ≡ (x, t) → often t es ≡ 0
-    is_head x d =
-        let one : cond (e.1 == t) 1 0 ≡ 1 = ap {B = ℕ} (λ b. cond b 1 0) (subst (λ (y : ℕ). (e.1 == y) ≡ true) (ap (λ (y : Text × ℕ). y.1) d) (same-number e.1)) in
-        let s = step in omega (arith, s, one, h)
-
-    rest_once : (x : Text) → Contains es (x, t) → often t es ≡ 1
-    rest_once x c = by (e.1 == t) refl
-      where
-        by : (y : Bool) → (e.1 == t) ≡ y → often t es ≡ 1
-        by true k =
-            let one : cond (e.1 == t) 1 0 ≡ 1 = ap {B = ℕ} (λ b. cond b 1 0) k in
-            let s = step in
-            absurd (stands_often es x t c (omega (arith, s, one, h)))
-        by false k = let one : cond (e.1 == t) 1 0 ≡ 0 = ap {B = ℕ} (λ b. cond b 1 0) k in let s = step in omega (arith, s, one, h)
-
-    go : Contains (e ∷ es) (a, t) → Contains (e ∷ es) (b, t) → (Contains es (a, t) → Contains es (b, t) → often t es ≡ 1 → a ≡ b) → a ≡ b
-    go (zero, l, c) (zero, m, d) rest = ap (λ (x : Text × ℕ). x.0) (sym c ∙ d)
-    go (zero, l, c) (suc j, m, d) rest = absurd (stands_often es b t (j, omega (arith, m), d) (is_head a c))
-    go (suc i, l, c) (zero, m, d) rest = absurd (stands_often es a t (i, omega (arith, l), c) (is_head b d))
-    go (suc i, l, c) (suc j, m, d) rest = rest (i, omega (arith, l), c) (j, omega (arith, m), d) (rest_once a (i, omega (arith, l), c))
+one_name es a b t c d h =
+    let i = contains-get es (a, t) c in
+    let j = contains-get es (b, t) d in
+    let number = λ (e : Text × ℕ). e.1 in
+    let place = one_place (map number es) t h i.0 j.0 (mapped_get number es i.0 (a, t) i.1) (mapped_get number es j.0 (b, t) j.1) in
+    ap (λ (e : Text × ℕ). e.0) (same-some (a, t) (b, t) (sym i.1 ∙ (ap (slice_get es) place ∙ j.1)))
 
 pub numbers_are : (i : Interface) → interface_type_numbers i ≡ map (λ (e : Text × ℕ). e.1) (type_names i)
 numbers_are i = map-map (λ (id : TypeId). id.0) (λ e. e.1) i.types.entries ∙ sym (map-map (λ (e : Text × ℕ). e.1) (λ e. (text_of e.0, e.1.0)) i.types.entries)
@@ -149,46 +117,20 @@ module _ (r : Resolve) (v : IsValid r) where
 
   -- a type that stands under a name bears it
   pub listed_type : (n : ℕ) (i : Interface) → interface_at r n ≡ Some i → (name : Text) (t : ℕ) → Contains (type_names i) (name, t) → IsListedType n i name t
-  unfolding order_of_types numbers_in_range
-  listed_type n i at name t c = by d.0.name refl
-    where
-      listed : has (interface_type_numbers i) t ≡ true
-      listed = ap (λ ns. has ns t) (numbers_are i) ∙ number_listed (type_names i) name t c
-
-      range : (is_place n && (passes (in_list r.packages.items) (package_number i.«package»)
-          && (list_all (λ id. in_list r.types.items id.0) (values i.types) && list_all (function_in_range r) (values i.functions)))) ≡ true
-      range = interface-passes numbers_in_range r v.rules.numbers_in_range n i at
-
-      low : list_all (in_list r.types.items) (interface_type_numbers i) ≡ true
-      low = list_all-map (in_list r.types.items) (λ (id : TypeId). id.0) (values i.types) ∙ first_true (list_all (λ id. in_list r.types.items id.0) (values i.types))
-          (list_all (function_in_range r) (values i.functions)) (second_true (passes (in_list r.packages.items) (package_number i.«package»))
-          (list_all (λ id. in_list r.types.items id.0) (values i.types) && list_all (function_in_range r) (values i.functions)) (second_true (is_place n) _ range))
-
-      d : (x : TypeDef) × (type_at r t ≡ Some x)
-      d = found-in r.types.items t (passes_at (in_list r.types.items) (interface_type_numbers i) t low listed)
-
-      order : (list_all (is_named_of r (as_interface n)) (interface_type_numbers i) && are_in_order r (interface_type_numbers i)) ≡ true
-      order = interface-passes order_of_types r v.rules.order_of_types n i at
-
-      ours : (is_some d.0.name && same_owner d.0.owner (as_interface n)) ≡ true
-      ours = sym (ap (passes (λ def. is_some def.name && same_owner def.owner (as_interface n))) d.1) ∙ passes_at (is_named_of r (as_interface n)) (interface_type_numbers i) t
-          (first_true (list_all (is_named_of r (as_interface n)) (interface_type_numbers i)) (are_in_order r (interface_type_numbers i)) order) listed
-
-      home : d.0.owner ≡ as_interface n
-      home = owner_equal d.0.owner (as_interface n) (second_true (is_some d.0.name) (same_owner d.0.owner (as_interface n)) ours)
-
-      by : (o : Option (String Global)) → d.0.name ≡ o → IsListedType n i name t
-      by None e = no_true (sym (ap is_some e) ∙ first_true (is_some d.0.name) (same_owner d.0.owner (as_interface n)) ours)
-      by (Some s) e =
-          let x = home_listed t d.0 d.1 s e n home i at in
-          let same : text_of s ≡ name = one_name (type_names i) (text_of s) name t (under_contains (text_of s) (type_names i) t x.0) c x.1 in
-          record {
-            def = d.0;
-            found = d.1;
-            name_is = ap optional_text e ∙ ap Some same;
-            home = home;
-            under = ap (λ y. under_text y (type_names i)) (sym same) ∙ x.0;
-          }
+  unfolding order_of_types
+  listed_type n i at name t c =
+      let listed = ap (λ ns. has ns t) (numbers_are i) ∙ number_listed (type_names i) name t c in
+      let d = found-in r.types.items t (passes_at (in_list r.types.items) (interface_type_numbers i) t (interface_range r v.rules n i at).0 listed) in
+      let order : (list_all (is_named_of r (as_interface n)) (interface_type_numbers i) && are_in_order r (interface_type_numbers i)) ≡ true =
+      interface-passes order_of_types r v.rules.order_of_types n i at in
+      let ours : (is_some d.0.name && same_owner d.0.owner (as_interface n)) ≡ true =
+      sym (ap (passes (λ def. is_some def.name && same_owner def.owner (as_interface n))) d.1)
+      ∙ passes_at (is_named_of r (as_interface n)) (interface_type_numbers i) t (first_true _ _ order) listed in
+      let home = owner_equal d.0.owner (as_interface n) (second_true (is_some d.0.name) _ ours) in
+      let s = some_of d.0.name (first_true _ _ ours) in
+      let x = home_listed t d.0 d.1 s.0 s.1 n home i at in
+      let same : text_of s.0 ≡ name = one_name (type_names i) (text_of s.0) name t (under_contains (text_of s.0) (type_names i) t x.0) c x.1 in
+      record { def = d.0; found = d.1; name_is = ap optional_text s.1 ∙ ap Some same; home = home; under = ap (λ y. under_text y (type_names i)) (sym same) ∙ x.0 }
 
   -- the tree of a named type is its name
   pub named_tree : (t : ℕ) (def : TypeDef) → type_at r t ≡ Some def → (s : String Global) → def.name ≡ Some s → tree_at (trees_of r) t ≡ named (place_of r def.owner) (text_of s)
@@ -204,26 +146,12 @@ module _ (r : Resolve) (v : IsValid r) where
 
   -- the target of an alias has a name
   pub target_named : (t : ℕ) (def : TypeDef) → type_at r t ≡ Some def → (u : ℕ) → alias_target def.kind ≡ Some u → IsTarget u
-  unfolding named_kinds numbers_in_range
-  target_named t def e u alias = by d.0.name refl
-    where
-      range : (is_place t && (list_all (in_list r.types.items) (kind_numbers def.kind) && owner_in_range r def.owner)) ≡ true
-      range = type_passes numbers_in_range r v.rules.numbers_in_range t def e
-
-      d : (x : TypeDef) × (type_at r u ≡ Some x)
-      d = found-in r.types.items u (sym (ap (passes (in_list r.types.items)) alias) ∙ alias_of_all (in_list r.types.items) def.kind
-          (first_true (list_all (in_list r.types.items) (kind_numbers def.kind)) (owner_in_range r def.owner) (second_true (is_place t) _ range)))
-
-      old : ((not (is_named_kind def.kind) || is_some def.name) && passes (is_named_number r) (alias_target def.kind)) ≡ true
-      old = type_passes named_kinds r v.rules.named_kinds t def e
-
-      has_name : is_some d.0.name ≡ true
-      has_name = sym (ap (passes (λ x. is_some x.name)) d.1) ∙ (sym (ap (passes (is_named_number r)) alias) ∙ second_true (not (is_named_kind def.kind) || is_some def.name)
-          (passes (is_named_number r) (alias_target def.kind)) old)
-
-      by : (o : Option (String Global)) → d.0.name ≡ o → IsTarget u
-      by None k = no_true (sym (ap is_some k) ∙ has_name)
-      by (Some s) k = record { def = d.0; found = d.1; name = s; named_ = k }
+  unfolding named_kinds
+  target_named t def e u alias =
+      let d = found-in r.types.items u (sym (ap (passes (in_list r.types.items)) alias) ∙ alias_of_all (in_list r.types.items) def.kind (type_range r v.rules t def e).0) in
+      let old : ((not (is_named_kind def.kind) || is_some def.name) && passes (is_named_number r) (alias_target def.kind)) ≡ true = type_passes named_kinds r v.rules.named_kinds t def e in
+      let s = some_of d.0.name (sym (ap (passes (λ x. is_some x.name)) d.1) ∙ (sym (ap (passes (is_named_number r)) alias) ∙ second_true (not (is_named_kind def.kind) || is_some def.name) _ old)) in
+      record { def = d.0; found = d.1; name = s.0; named_ = s.1 }
 
   -- what a type with an owner is another name of has the same owner, or belongs to an interface with a path
   pub target_owner : (t : ℕ) (def : TypeDef) → type_at r t ≡ Some def → same_owner def.owner owner.None ≡ false → (u : ℕ) → alias_target def.kind ≡ Some u
@@ -278,14 +206,7 @@ module _ {X : Type 0} where
 
 -- what stands under a name means what its type does
 pub meaning_under : (r : Resolve) (i : Interface) (name : Text) → entry_under name (interface_meaning r i).types ≡ option_map (type_meaning_at r) (under_text name (type_names i))
-meaning_under r i name =
-    lookup_of_map (text_eq name) text_of (λ (id : TypeId). type_meaning_at r id.0) i.types.entries
-    ∙ (twice (lookup (λ k. text_eq name (text_of k)) i.types.entries)
-    ∙ ap (option_map (type_meaning_at r)) (sym (lookup_of_map (λ t. bytes_eq name t) text_of (λ (id : TypeId). id.0) i.types.entries)))
-  where
-    twice : (o : Option TypeId) → option_map (λ id. type_meaning_at r id.0) o ≡ option_map (type_meaning_at r) (option_map (λ id. id.0) o)
-    twice None = refl
-    twice (Some id) = refl
+meaning_under r i name = simp map-map at (lookup_of_map (text_eq name) (λ (t : Text). t) (type_meaning_at r) (type_names i))
 
 module _ (own other : Resolve) (interfaces types : ℕ → ℕ) (valid_own : IsValid own) (valid_other : IsValid other) where
   same_under : (n : ℕ) (is : IsMatch own other interfaces types n) (name : Text)
@@ -344,44 +265,25 @@ module _ (own other : Resolve) (interfaces types : ℕ → ℕ) (valid_own : IsV
 
   module _ (matched : AreMatched own other interfaces types) where
     pub place_back : (o : TypeOwner) (path : Text) → place_of own o ≡ of_interface path → (b : ℕ) × (o ≡ as_interface b) × (interface_path own b ≡ Some path)
-    place_back (owner.Interface id) path h = (id.0, refl, go (interface_path own id.0) h)
-      where
-        go : (o : Option Text) → place_of_path o ≡ of_interface path → o ≡ Some path
-        go None h = no_true (ap (λ p. is_here p) h)
-        go (Some x) h = ap (λ p. path_of p) h
-    place_back _ path h = no_true (ap (λ p. is_here p) h)
-
-    pub the_path : (o : Option Text) → is_some o ≡ true → (path : Text) × (o ≡ Some path)
-    the_path None h = no_true h
-    the_path (Some x) h = (x, refl)
+    place_back y path h = search std_rules
 
     -- what has one path and one name is one
     pub same_by_path : (u v a : ℕ) (x : IsTarget other valid_other u) → x.def.owner ≡ as_interface a → is_some (interface_path other a) ≡ true → (y : IsTarget own valid_own v)
         → named (place_of own y.def.owner) (text_of y.name) ≡ named (place_of other x.def.owner) (text_of x.name)
         → IsMatch own other interfaces types a ⊎ ((m : ℕ) → interface_path own m ≡ interface_path other a → ⊥) → types u ≡ v
-    same_by_path u v a x there_ has_path y trees m = by m
-      where
-        path : (p : Text) × (interface_path other a ≡ Some p)
-        path = the_path (interface_path other a) has_path
-
-        place : place_of own y.def.owner ≡ of_interface path.0
-        place = ap place_in trees ∙ (ap (place_of other) there_ ∙ ap place_of_path path.1)
-
-        names : text_of y.name ≡ text_of x.name
-        names = ap name_in trees
-
-        b : (k : ℕ) × (y.def.owner ≡ as_interface k) × (interface_path own k ≡ Some path.0)
-        b = place_back y.def.owner path.0 place
-
-        by : IsMatch own other interfaces types a ⊎ ((m : ℕ) → interface_path own m ≡ interface_path other a → ⊥) → types u ≡ v
-        by (inr none_such) = absurd (none_such b.0 (b.2 ∙ sym path.1))
-        by (inl m) =
-            let here_ : interfaces a ≡ b.0 = path-once own valid_own (interfaces a) b.0 path.0 (m.path ∙ path.1) b.2 in
-            let listed = home_listed other valid_other u x.def x.found x.name x.named_ a there_ m.old m.found in
-            let c = under_contains (text_of x.name) (type_names m.old) u listed.0 in
-            let image_ = listed_type own valid_own (interfaces a) m.image m.at_image (text_of x.name) (types u) (m.by_name (text_of x.name) u c) in
-            let target = home_listed own valid_own v y.def y.found y.name y.named_ b.0 b.1 m.image (ap (interface_at own) (sym here_) ∙ m.at_image) in
-            same-some (types u) v (sym image_.under ∙ (ap (λ s. under_text s (type_names m.image)) (sym names) ∙ target.0))
+    same_by_path u v a x there_ has_path y trees m =
+        let path = some_of (interface_path other a) has_path in
+        let b = place_back y.def.owner path.0 (ap place_in trees ∙ (ap (place_of other) there_ ∙ ap place_of_path path.1)) in
+        elim m [
+          | inr none_such ↦ absurd (none_such b.0 (b.2 ∙ sym path.1))
+          | inl m ↦
+              let here_ = path-once own valid_own (interfaces a) b.0 path.0 (m.path ∙ path.1) b.2 in
+              let listed = home_listed other valid_other u x.def x.found x.name x.named_ a there_ m.old m.found in
+              let c = under_contains (text_of x.name) (type_names m.old) u listed.0 in
+              let image_ = listed_type own valid_own (interfaces a) m.image m.at_image (text_of x.name) (types u) (m.by_name (text_of x.name) u c) in
+              let target = home_listed own valid_own v y.def y.found y.name y.named_ b.0 b.1 m.image (ap (interface_at own) (sym here_) ∙ m.at_image) in
+              same-some (types u) v (sym image_.under ∙ (ap (λ s. under_text s (type_names m.image)) (sym (ap name_in trees)) ∙ target.0))
+        ]
 
     same_target : (n : ℕ) (is : IsMatch own other interfaces types n) (t : ℕ) (def image : TypeDef) → type_at other t ≡ Some def → type_at own (types t) ≡ Some image → def.owner ≡ as_interface n
         → declaration_of own image ≡ declaration_of other def → (o : Option ℕ) → alias_target def.kind ≡ o → alias_target image.kind ≡ option_map types o
@@ -413,8 +315,7 @@ module _ (own other : Resolve) (interfaces types : ℕ → ℕ) (valid_own : IsV
         }
       where
         has_text : (o : Option (String Global)) (name : Text) → optional_text o ≡ Some name → is_some o ≡ true
-        has_text None name h = let wrong : None ≡ Some name = h in absurd cc
-        has_text (Some s) name h = refl
+        has_text x name h = search std_rules
 
 pub matches_are_namesakes : MatchesAreNamesakes
 matches_are_namesakes own other interfaces types valid_own valid_other matched n is t h = namesakes own other interfaces types valid_own valid_other matched n is t h

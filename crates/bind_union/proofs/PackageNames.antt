@@ -1,13 +1,13 @@
 -- Names in packages that were joined.
-use Rattle.std.proofs.Common.{rules as std_rules, ◌≡◌, ◌⊎◌, inl, inr, refl, sym, ap, subst, ◌∙◌, ℕ, zero, suc, Bool, true, false, ◌||◌, cond, List, [], ◌∷◌, ◌++◌, arith, Option, Some, option_map}
-use Rattle.std.proofs.lemmas.{Bool.or_left, Bool.or_right, Bool.and_from as both, List.Folds.list_any-append}
+use Rattle.std.proofs.Common.{rules as std_rules, ◌≡◌, ◌⊎◌, inl, inr, refl, sym, ap, subst, ◌∙◌, ℕ, zero, suc, Bool, true, false, ◌||◌, cond, List, ◌∷◌, ◌++◌, arith, Option, Some, option_map}
+use Rattle.std.proofs.lemmas.{Bool.and_from as both, List.Folds.list_any-append}
 use Rattle.std.specs.{Prelude.bytes_eq, List.list_all, List.list_any, List.Contains, Map.keys_of, HashMap.get_by_text}
-use Rattle.wit_model.proofs.{Elements.none-in, TextLemmas.text_same as text-same}
+use Rattle.wit_model.proofs.{RulesLemmas.is_id_some, Elements.none-in}
 use Rattle.wit_model.specs.declared.model.{Package.Package, InterfaceId.InterfaceId, WorldId.WorldId}
 use Rattle.wit_model.specs.{Text.Text, Text.text_of, Text.text_eq, Rules.is_id, Rules.is_world_name}
 use Rattle.bind_union.specs.Merged.{interface_names, world_names, is_name, JoinedNames, none, met, left, added}
-use Rattle.bind_union.proofs.{Lists.no_true, ViewTests.id_under, Listed.under_text, Listed.lookup_append, Listed.lookup_first}
-use Rattle.base_lemmas.proofs.{Bools.left_of as first_true, Bools.right_of as second_true, Elements.any_of_map, Elements.contains-later, Maps.lookup_of_map}
+use Rattle.bind_union.proofs.{Lists.no_true, Listed.under_text, Listed.lookup_append, Listed.lookup_first}
+use Rattle.base_lemmas.proofs.{Bools.left_of as first_true, Bools.right_of as second_true, Elements.any_of_map, Elements.any-at, Elements.lookup_stands, Elements.contains-later, Maps.lookup_of_map}
 
 -- what each name passes, what is added passes
 pub names_pass : (number : ℕ → ℕ) (copies left_out : ℕ → Bool) (own : List (Text × ℕ)) (p q : Text × ℕ → Bool)
@@ -31,8 +31,7 @@ added_from number copies left_out own _ _ (added name old olds news c l n rest) 
   where
     go : (is_name t news ≡ true → (x : Text) × (k : ℕ) × Contains olds (x, k) × (left_out k ≡ false) × (text_eq t x ≡ true)) → (b : Bool) → text_eq t name ≡ b → (b || is_name t news) ≡ true
         → (x : Text) × (k : ℕ) × Contains ((name, old) ∷ olds) (x, k) × (left_out k ≡ false) × (text_eq t x ≡ true)
-    go more true e h = (name, old, (0, omega arith, refl), l, e)
-    go more false e h = let r = more h in (r.0, r.1, contains-later (name, old) olds (r.0, r.1) r.2, r.3, r.4)
+    go more x e h = search (std_rules, contains-later)
 
 -- what stood under a name is met, left out or copied
 pub joined_name : (number : ℕ → ℕ) (copies left_out : ℕ → Bool) (own olds news : List (Text × ℕ)) → JoinedNames number copies left_out own olds news → (name : Text) (n : ℕ) → Contains olds (name, n)
@@ -61,13 +60,7 @@ world_name_listed p name = search (std_rules, any_of_map)
 
 -- a number that is found under a name stands under it
 pub found_name : (name : Text) (n : ℕ) (es : List (Text × ℕ)) → is_id n (under_text name es) ≡ true → is_name name es ≡ true
-found_name name n [] h = no_true h
-found_name name n (e ∷ es) h = go (bytes_eq name e.0) refl h (found_name name n es)
-  where
-    go : (b : Bool) → text_eq name e.0 ≡ b → is_id n (cond b (Some e.1) (under_text name es)) ≡ true → (is_id n (under_text name es) ≡ true → is_name name es ≡ true)
-        → (text_eq name e.0 || is_name name es) ≡ true
-    go true e h rest = or_left _ _ e
-    go false e h rest = or_right _ _ (rest h)
+found_name name n es h = let x = lookup_stands (λ t. bytes_eq name t) es n (is_id_some n (under_text name es) h) in any-at (λ (e : Text × ℕ). text_eq name e.0) es (x.0, n) x.1 x.2
 
 -- a number that was found stays so
 pub still_found : (name : Text) (n : ℕ) (own more : List (Text × ℕ)) → is_id n (under_text name own) ≡ true → is_id n (under_text name (own ++ more)) ≡ true
@@ -92,8 +85,7 @@ copy_found number copies left_out own _ _ (added t old olds news c l new rest) n
   where
     go : (is_id n (under_text name olds) ≡ true → (is_id (number n) (under_text name news) ≡ true) × (is_name name own ≡ false)) → (b : Bool) → text_eq name t ≡ b
         → is_id n (cond b (Some old) (under_text name olds)) ≡ true → (is_id (number n) (cond b (Some (number old)) (under_text name news)) ≡ true) × (is_name name own ≡ false)
-    go more true e k = (id_under number n (Some old) k, subst (λ (x : Text). is_name x own ≡ false) (sym (text-same name t e)) new)
-    go more false e k = more k
+    go more y e k = search std_rules
 
 pub found_behind : (name : Text) (n : ℕ) (own news : List (Text × ℕ)) → is_id n (under_text name news) ≡ true → is_name name own ≡ false → is_id n (under_text name (own ++ news)) ≡ true
 found_behind name n own news h new = ap (is_id n) (lookup_append (λ t. bytes_eq name t) own news (no_key name own new)) ∙ h

@@ -1,20 +1,14 @@
 -- The interfaces of what was merged, by path, are those of both.
 use Rattle.std.proofs.Common.{rules as std_rules, ◌≡◌, refl, ◌⊎◌, inl, inr, sym, ap, ◌∙◌, ℕ, ◌≤◌, arith, Bool, true, false, [], length, Option, Some, None, option_map, option_and_then}
-use Rattle.std.proofs.lemmas.{Bool.lt-ltb, Bool.cases_lt as low_or_high, Option.slice_get_within, Option.same_Some as same-some}
-use Rattle.std.specs.{Prelude.String, List.Contains}
+use Rattle.std.proofs.lemmas.{Bool.lt-ltb, Bool.cases_lt as low_or_high, Option.slice_get_within}
+use Rattle.std.specs.Prelude.{String}
 use Rattle.std.specs.declared.alloc.Global.{Global}
 use Rattle.wit_model.specs.declared.model.{Resolve.Resolve, Interface.Interface}
-use Rattle.wit_model.specs.{Text.Text, Text.text_of, Text.optional_text, Checks.references}
-use Rattle.wit_model.specs.{Names.path_in, Lookup.interface_at, Lookup.interface_path, Lookup.path_of_interface, Lookup.identity_of, Meant.interface_meaning_at}
-use Rattle.wit_model.specs.{Meaning.InterfaceMeaning, Rules.is_id, Rules.text_is, Rules.package_number, Valid.Keeps, Valid.IsValid, Valid.HasDistinctKeys}
-use Rattle.wit_model.proofs.{Elements.none-in}
-use Rattle.wit_model.proofs.{OnePath.HasPath, OnePath.has-path, OnePath.path-listed, OnePath.path-once, OnePath.found-in, RulesLemmas.is_id_some as some_id}
-use Rattle.bind_union.specs.Carried.{Renumbering}
-use Rattle.bind_union.specs.Merged.{interface_names, PackageStands, grown, brought, IsCopyUnder, IsMerged}
+use Rattle.wit_model.specs.{Text.Text, Text.text_of, Text.optional_text, Checks.references, Names.path_in, Lookup.interface_at, Lookup.interface_path, Lookup.path_of_interface, Lookup.identity_of, Meant.interface_meaning_at, Meaning.InterfaceMeaning, Rules.is_id, Rules.text_is, Rules.package_number, Valid.Keeps, Valid.IsValid, Valid.HasDistinctKeys}
+use Rattle.wit_model.proofs.{Elements.none-in, OnePath.has-path, OnePath.path-listed, OnePath.path-once, OnePath.found-in, RulesLemmas.is_id_some as some_id}
+use Rattle.bind_union.specs.{Carried.Renumbering, Merged.interface_names, Merged.grown, Merged.brought, Merged.IsCopyUnder, Merged.IsMerged}
 use Rattle.bind_union.specs.Meanings.{OwnMeansTheSame, CopiesMeanTheSame, Shows, ShowsNone, InterfacesAreUnited}
-use Rattle.bind_union.proofs.{KeptPackages.is_interface_of, KeptPackages.interfaces_stand, KeptPackages.found_option, Namesakes.under_contains}
-use Rattle.bind_union.proofs.{Carrying.path_parts, Carrying.path_by, Carrying.same_identity, Carrying.path_same, Meanings.merged_means, Valid.merged_is_valid}
-use Rattle.bind_union.proofs.{Kept.below, PackageNames.joined_name, PackageNames.interfaces_by_name, Listed.under_text}
+use Rattle.bind_union.proofs.{KeptPackages.grown_name, KeptPackages.is_interface_of, KeptPackages.interfaces_stand, KeptPackages.found_option, Namesakes.under_contains, Carrying.path_parts, Carrying.path_by, Carrying.path_same, Meanings.merged_means, Valid.merged_is_valid, Kept.below, PackageNames.joined_name, PackageNames.interfaces_by_name, Listed.under_text}
 use Rattle.base_lemmas.proofs.{Bools.left_of as first_true, Bools.right_of as second_true, Elements.all-contained}
 
 pub some_name : (o : Option (String Global)) (t : Text) → text_is o t ≡ true → optional_text o ≡ Some t
@@ -67,9 +61,7 @@ module _ (own other merged : Resolve) (bound other_bound : ℕ) (first second : 
 
         copy : length own.interfaces.items ≤ n → IsCopyUnder first.interfaces first.copies_interface n ⊎ IsCopyUnder second.interfaces second.copies_interface n → Shows other path meaning
             × ShowsNone own path
-        copy high (inl c) =
-            let m = copied c.0 c.1 in
-            ((c.0, sym m.1 ∙ (ap (interface_path merged) c.2 ∙ e), sym m.0 ∙ (ap (interface_meaning_at merged) c.2 ∙ d)), new_path n high e)
+        copy high (inl c) = search (std_rules, copied, new_path)
         copy high (inr c) =
             let carried = is.second_copies.carried.copied_interfaces c.0 c.1 in
             let i = is.second_copies.carried.interfaces c.0 carried in
@@ -78,44 +70,32 @@ module _ (own other merged : Resolve) (bound other_bound : ℕ) (first second : 
             let wrong : None ≡ Some path = sym nothing ∙ (sym same ∙ (ap (interface_path merged) c.2 ∙ e)) in absurd cc
 
     from_other : Shows other path meaning → ShowsNone own path → Shows merged path meaning
-    from_other (n, e, d) none_such = stands (is.packages_stand h.home.0 h.package_ h.stands)
-      where
-        h : HasPath other n path
-        h = has-path other n path e
-
-        held : Contains (interface_names h.package_) (text_of h.name, n)
-        held = under_contains (text_of h.name) (interface_names h.package_) n
-            (some_id n (under_text (text_of h.name) (interface_names h.package_)) (sym (ap (is_id n) (interfaces_by_name h.package_ (text_of h.name))) ∙ path-listed other valid_other n path h))
-
-        brings : first.copies_interface n ≡ true → Shows merged path meaning
-        brings copy = let m = copied n copy in (first.interfaces n, m.1 ∙ e, m.0 ∙ d)
-
-        stands : PackageStands own merged first left_out h.home.0 h.package_ → Shows merged path meaning
-        stands (brought high j fresh) =
-            elim (joined_name first.interfaces first.copies_interface (λ n. false) [] (interface_names h.package_) j.new_interfaces j.joined_interfaces (text_of h.name) n held refl) [
-              | inl c ↦ none-in (text_of h.name, first.interfaces n) c
-              | inr c ↦ brings c
-            ]
-        stands (grown o at j a b) = by (joined_name first.interfaces first.copies_interface (λ n. false) (interface_names o) (interface_names h.package_) j.new_interfaces
-            j.joined_interfaces (text_of h.name) n held refl)
-          where
-            by : Contains (interface_names o) (text_of h.name, first.interfaces n) ⊎ (first.copies_interface n ≡ true) → Shows merged path meaning
-            by (inr c) = brings c
-            by (inl c) =
-                let i = found_option _ (interface_at own (first.interfaces n)) (all-contained (is_interface_of own (first.packages h.home.0)) (interface_names o) (text_of h.name, first.interfaces n)
+    from_other (n, e, d) none_such =
+        let h = has-path other n path e in
+        let name = text_of h.name in
+        let held = under_contains name (interface_names h.package_) n
+        (some_id n (under_text name (interface_names h.package_)) (sym (ap (is_id n) (interfaces_by_name h.package_ name)) ∙ path-listed other valid_other n path h)) in
+        let brings : first.copies_interface n ≡ true → Shows merged path meaning = λ copy. let m = copied n copy in (first.interfaces n, m.1 ∙ e, m.0 ∙ d) in
+        let joined = joined_name first.interfaces first.copies_interface (λ n. false) in
+        elim (is.packages_stand h.home.0 h.package_ h.stands) [
+          | brought high j fresh ↦ elim (joined [] (interface_names h.package_) j.new_interfaces j.joined_interfaces name n held refl) [
+            | inl c ↦ none-in (name, first.interfaces n) c
+            | inr c ↦ brings c
+          ]
+          | grown o at j a b ↦ elim (joined (interface_names o) (interface_names h.package_) j.new_interfaces j.joined_interfaces name n held refl) [
+            | inr c ↦ brings c
+            | inl c ↦
+                let i = found_option _ (interface_at own (first.interfaces n)) (all-contained (is_interface_of own (first.packages h.home.0)) (interface_names o) (name, first.interfaces n)
                 (interfaces_stand own valid_own.rules (first.packages h.home.0) o at) c) in
-                let q = is.packages (first.packages h.home.0) o at in
-                let p = is.first_copies.carried.packages h.home.0 h.package_ h.stands in
-                let one : p.image ≡ q.0 = same-some p.image q.0 (sym p.at_image ∙ q.1) in
-                let identities : identity_of o.name ≡ identity_of h.package_.name =
-                sym (same_identity o.name q.0.name q.2) ∙ (ap (λ x. identity_of x.name) (sym one) ∙ same_identity h.package_.name p.image.name p.name) in
-                let its_path : interface_path own (first.interfaces n) ≡ Some (path_in (identity_of o.name) (text_of h.name)) =
+                let its_path : interface_path own (first.interfaces n) ≡ Some (path_in (identity_of o.name) name) =
                 ap (option_and_then (path_of_interface own)) i.1
                 ∙ (path_parts own i.0
-                ∙ ((λ z. path_by own (some_name i.0.name (text_of h.name) (first_true _ _ i.2) z)
-                (some_id (first.packages h.home.0) (package_number i.0.«package») (second_true (text_is i.0.name (text_of h.name)) _ i.2) z))
-                ∙ ap (option_map (λ package_. path_in (identity_of package_.name) (text_of h.name))) at)) in
-                absurd (none_such (first.interfaces n) (its_path ∙ ap Some (ap (λ x. path_in x (text_of h.name)) identities ∙ sym h.spelled)))
+                ∙ ((λ z. path_by own (some_name i.0.name name (first_true _ _ i.2) z) (some_id (first.packages h.home.0) (package_number i.0.«package») (second_true (text_is i.0.name name) _ i.2) z))
+                ∙ ap (option_map (λ package_. path_in (identity_of package_.name) name)) at)) in
+                absurd (none_such (first.interfaces n) (its_path ∙ ap Some (ap (λ x. path_in x name)
+                (grown_name own other merged bound other_bound first second left_out valid_own.rules valid_other.rules is h.home.0 o h.package_ at h.stands) ∙ sym h.spelled)))
+          ]
+        ]
 
 pub interfaces_are_united : InterfacesAreUnited
 interfaces_are_united own other merged bound other_bound first second left_out valid_own valid_other distinct is path meaning = (

@@ -1,21 +1,15 @@
 -- The worlds of what was merged, by path, are those of both, but for the bound one.
-use Rattle.std.proofs.Common.{rules as std_rules, ◌≡◌, ◌⊎◌, inl, inr, refl, sym, ap, subst, ◌∙◌, ℕ, arith, Bool, true, false, ◌==◌, [], Option, Some, None, option_map, option_and_then}
+use Rattle.std.proofs.Common.{rules as std_rules, ◌≡◌, ◌⊎◌, inl, inr, refl, sym, ap, subst, ◌∙◌, ℕ, arith, Bool, true, false, ◌==◌, [], Option, Some, option_map, option_and_then}
 use Rattle.std.proofs.lemmas.Option.{same_Some as same-some}
-use Rattle.std.specs.{Option.option_map_or, List.Contains}
-use Rattle.wit_model.specs.declared.model.{Resolve.Resolve, Package.Package, World.World}
-use Rattle.wit_model.specs.{Text.Text, Text.text_of, Text.text_eq, Rules.passes, Rules.in_list, Rules.is_id, Rules.package_number, Rules.same_package_name}
-use Rattle.wit_model.specs.{Names.path_in, Meaning.WorldMeaning, Meant.world_meaning, Meant.no_world, Checks.references}
-use Rattle.wit_model.specs.{Lookup.package_at, Lookup.world_at, Lookup.path_of_world, Lookup.identity_of, Valid.Keeps, Valid.IsValid}
-use Rattle.wit_model.proofs.{NameLaws.one_path, VersionLaws.same_name, Elements.none-in}
-use Rattle.wit_model.proofs.{OnePath.package-name, OnePath.package-once, OnePath.found-in, RulesLemmas.is_id_some as some_id, TextLemmas.text_same as text-same}
+use Rattle.std.specs.Option.{option_map_or}
+use Rattle.wit_model.specs.declared.model.{Resolve.Resolve, World.World}
+use Rattle.wit_model.specs.{Text.Text, Text.text_of, Text.text_eq, Rules.passes, Rules.in_list, Rules.is_id, Rules.package_number, Names.path_in, Meaning.WorldMeaning, Meant.world_meaning, Meant.no_world, Checks.references, Lookup.package_at, Lookup.world_at, Lookup.path_of_world, Lookup.identity_of, Valid.Keeps, Valid.IsValid}
+use Rattle.wit_model.proofs.{NameLaws.one_path, VersionLaws.same_name, Elements.none-in, OnePath.package-name, OnePath.package-once, OnePath.found-in, RulesLemmas.is_id_some as some_id, TextLemmas.text_same as text-same}
 use Rattle.bind_meaning.proofs.WorldPaths.{HasWorldPath, has-world-path, world-label, world-listed}
 use Rattle.bind_union.specs.{Carried.Renumbering, Meanings.ShowsWorld, Meanings.ShowsNoWorld, Meanings.WorldsAreUnited}
-use Rattle.bind_union.specs.Merged.{world_names, is_name, PackageStands, grown, brought, IsMerged}
-use Rattle.bind_union.proofs.{Lists.no_true, Kept.below}
-use Rattle.bind_union.proofs.{Carrying.path_by, Carrying.same_path_by, Carrying.same_identity, Itself.world_package, Listed.under_text, Meanings.merged_means}
-use Rattle.bind_union.proofs.{KeptPackages.is_world_of, KeptPackages.worlds_stand, KeptPackages.found_option, KeptPlaces.world_case, KeptPlaces.own_world_low}
-use Rattle.bind_union.proofs.{PackageNames.joined_name, PackageNames.worlds_by_name, PackageNames.found_name, PackageNames.copy_found, Namesakes.under_contains}
-use Rattle.base_lemmas.proofs.{Bools.left_of as first_true, Bools.right_of as second_true, Elements.all-contained, Numbers.equal, Numbers.same-number}
+use Rattle.bind_union.specs.Merged.{world_names, is_name, grown, brought, IsMerged}
+use Rattle.bind_union.proofs.{Lists.by_number, Lists.no_true, Kept.below, Carrying.path_by, Carrying.same_path_by, Carrying.same_identity, Itself.world_package, Listed.under_text, Meanings.merged_means, KeptPackages.by_package, KeptPackages.grown_name, KeptPackages.is_world_of, KeptPackages.worlds_stand, KeptPackages.found_option, KeptPlaces.world_case, KeptPlaces.own_world_low, PackageNames.joined_name, PackageNames.worlds_by_name, PackageNames.found_name, PackageNames.copy_found, Namesakes.under_contains}
+use Rattle.base_lemmas.proofs.{Bools.left_of as first_true, Bools.right_of as second_true, Elements.all-contained, Numbers.same-number}
 
 -- the path of a world by its name and its package
 pub world_path : (r : Resolve) (w : World) → path_of_world r w ≡ path_by r (Some (text_of w.name)) (package_number w.«package»)
@@ -32,13 +26,9 @@ module _ (own other merged : Resolve) (bound other_bound : ℕ) (first second : 
   -- ---- paths
 
   own_path_by : (t : Text) (p : Option ℕ) → passes (in_list own.packages.items) p ≡ true → path_by merged (Some t) p ≡ path_by own (Some t) p
-  own_path_by t None h = refl
-  own_path_by t (Some k) h =
-      let p = found-in own.packages.items k h in
-      let q = is.packages k p.0 p.1 in
+  own_path_by t = by_package own (λ p. path_by merged (Some t) p ≡ path_by own (Some t) p) refl (λ k p e. let q = is.packages k p e in
       ap (option_map (λ package_. path_in (identity_of package_.name) t)) q.1
-      ∙ (ap (λ d. Some (path_in d t)) (same_identity p.0.name q.0.name q.2)
-      ∙ sym (ap (option_map (λ package_. path_in (identity_of package_.name) t)) p.1))
+      ∙ (ap (λ d. Some (path_in d t)) (same_identity p.name q.0.name q.2) ∙ sym (ap (option_map (λ package_. path_in (identity_of package_.name) t)) e)))
 
   own_path : (n : ℕ) (w : World) → world_at own n ≡ Some w → path_of_world merged w ≡ path_of_world own w
   own_path n w e = search (std_rules, world_path, own_path_by, world_package)
@@ -78,47 +68,29 @@ module _ (own other merged : Resolve) (bound other_bound : ℕ) (first second : 
 
   -- ---- one path
 
-  -- names of one text in own and in other packages
-  grown_identity : (k : ℕ) (o p : Package) → package_at own (first.packages k) ≡ Some o → package_at other k ≡ Some p → identity_of o.name ≡ identity_of p.name
-  grown_identity k o p at e =
-      let q = is.packages (first.packages k) o at in
-      let x = is.first_copies.carried.packages k p e in
-      let one : x.image ≡ q.0 = same-some x.image q.0 (sym x.at_image ∙ q.1) in
-      sym (same_identity o.name q.0.name q.2) ∙ (ap (λ y. identity_of y.name) (sym one) ∙ same_identity p.name x.image.name x.name)
-
   -- a world that is copied has the path of no own one
   no_own_world : (m : ℕ) (c : first.carries_world m ≡ true) (path : Text) → path_of_world other (is.first_worlds m c).joined.old ≡ Some path → ShowsNoWorld own path
-  no_own_world m c path e n w at own_e = stands (is.packages_stand h.home.0 h.package_ h.stands)
-    where
-      h : HasWorldPath other m path
-      h = has-world-path other m path (ap (option_and_then (path_of_world other)) (is.first_worlds m c).joined.found ∙ e)
-
-      g : HasWorldPath own n path
-      g = has-world-path own n path (ap (option_and_then (path_of_world own)) at ∙ own_e)
-
-      parts : (identity_of g.package_.name ≡ identity_of h.package_.name) × (text_of g.def.name ≡ text_of h.def.name)
-      parts = one_path (identity_of g.package_.name) (identity_of h.package_.name) (text_of g.def.name) (text_of h.def.name) (package-name own valid_own g.home.0 g.package_ g.stands).identity
-          (world-label own valid_own n path g) (package-name other valid_other h.home.0 h.package_ h.stands).identity (world-label other valid_other m path h) (sym g.spelled ∙ h.spelled)
-
-      same_packages : same_package_name g.package_.name h.package_.name ≡ true
-      same_packages = (same_name g.package_.name h.package_.name (package-name own valid_own g.home.0 g.package_ g.stands).version
-          (package-name other valid_other h.home.0 h.package_ h.stands).version).1 parts.0
-
-      stands : PackageStands own merged first left_out h.home.0 h.package_ → ⊥
-      stands (brought high j fresh) = no_true (sym (fresh g.home.0 g.package_ g.stands) ∙ same_packages)
-      stands (grown o d j a b) =
-          let own_name = package-name own valid_own (first.packages h.home.0) o d in
-          let g_name = package-name own valid_own g.home.0 g.package_ g.stands in
-          let again : same_package_name o.name g.package_.name ≡ true = (same_name o.name g.package_.name own_name.version g_name.version).1
-          (grown_identity h.home.0 o h.package_ d h.stands ∙ sym parts.0) in
-          let home : g.home.0 ≡ first.packages h.home.0 = package-once own valid_own (first.packages h.home.0) g.home.0 o g.package_ d g.stands again in
-          let one : g.package_ ≡ o = same-some g.package_ o (sym g.stands ∙ (ap (package_at own) home ∙ d)) in
-          let there_ : is_name (text_of g.def.name) (world_names o) ≡ true = ap (λ x. is_name (text_of g.def.name) (world_names x)) (sym one) ∙ found_name (text_of g.def.name) n
-          (world_names g.package_) (listed_by_path own valid_own n path g) in
-          let new = copy_found first.worlds first.carries_world left_out (world_names o) (world_names h.package_) j.new_worlds j.joined_worlds (text_of h.def.name) m
-          (λ x y. let low = own_world_low own other merged bound other_bound first second left_out valid_own.rules valid_other.rules is (first.packages h.home.0) o d x (first.worlds m) y in let high =
-          is.new_worlds m c in omega (arith, low, high)) (is.not_left_out m c) (listed_by_path other valid_other m path h) in
-          no_true (sym new.1 ∙ (ap (λ x. is_name x (world_names o)) (sym parts.1) ∙ there_))
+  no_own_world m c path e n w at own_e =
+      let h = has-world-path other m path (ap (option_and_then (path_of_world other)) (is.first_worlds m c).joined.found ∙ e) in
+      let g = has-world-path own n path (ap (option_and_then (path_of_world own)) at ∙ own_e) in
+      let g_name = package-name own valid_own g.home.0 g.package_ g.stands in
+      let h_name = package-name other valid_other h.home.0 h.package_ h.stands in
+      let parts = one_path (identity_of g.package_.name) (identity_of h.package_.name) (text_of g.def.name) (text_of h.def.name) g_name.identity (world-label own valid_own n path g) h_name.identity
+      (world-label other valid_other m path h) (sym g.spelled ∙ h.spelled) in
+      elim (is.packages_stand h.home.0 h.package_ h.stands) [
+        | brought high j fresh ↦ no_true (sym (fresh g.home.0 g.package_ g.stands) ∙ (same_name g.package_.name h.package_.name g_name.version h_name.version).1 parts.0)
+        | grown o d j a b ↦
+            let again = (same_name o.name g.package_.name (package-name own valid_own (first.packages h.home.0) o d).version g_name.version).1
+            (grown_name own other merged bound other_bound first second left_out valid_own.rules valid_other.rules is h.home.0 o h.package_ d h.stands ∙ sym parts.0) in
+            let home = package-once own valid_own (first.packages h.home.0) g.home.0 o g.package_ d g.stands again in
+            let one : g.package_ ≡ o = same-some g.package_ o (sym g.stands ∙ (ap (package_at own) home ∙ d)) in
+            let there_ : is_name (text_of g.def.name) (world_names o) ≡ true = ap (λ x. is_name (text_of g.def.name) (world_names x)) (sym one) ∙ found_name (text_of g.def.name) n
+            (world_names g.package_) (listed_by_path own valid_own n path g) in
+            let new = copy_found first.worlds first.carries_world left_out (world_names o) (world_names h.package_) j.new_worlds j.joined_worlds (text_of h.def.name) m
+            (λ x y. let low = own_world_low own other merged bound other_bound first second left_out valid_own.rules valid_other.rules is (first.packages h.home.0) o d x (first.worlds m) y in
+            let high = is.new_worlds m c in omega (arith, low, high)) (is.not_left_out m c) (listed_by_path other valid_other m path h) in
+            no_true (sym new.1 ∙ (ap (λ x. is_name x (world_names o)) (sym parts.1) ∙ there_))
+      ]
 
   module _ (path : Text) (meaning : WorldMeaning) (not_bound : path_of_world own is.own_bound ≡ Some path → ⊥) where
     copied : (m : ℕ) (c : first.carries_world m ≡ true) → path_of_world other (is.first_worlds m c).joined.old ≡ Some path → world_meaning other (is.first_worlds m c).joined.old ≡ meaning
@@ -159,55 +131,43 @@ module _ (own other merged : Resolve) (bound other_bound : ℕ) (first second : 
             )
 
     from_own : ShowsWorld own path meaning → ShowsWorld merged path meaning
-    from_own x = go (x.number == bound) refl
-      where
-        go : (b : Bool) → (x.number == bound) ≡ b → ShowsWorld merged path meaning
-        go false apart = record {
+    from_own x = by_number x.number bound (λ same. absurd (not_bound (ap (path_of_world own) (same-some is.own_bound x.world
+        (sym is.bound_at ∙ (ap (world_at own) (sym same) ∙ x.found))) ∙ x.path_is)))
+        (λ apart. record {
           number = x.number;
           world = x.world;
           found = is.worlds x.number x.world x.found apart;
           path_is = own_path x.number x.world x.found ∙ x.path_is;
-          means =
-              own_means x.number x.world x.found apart ∙ x.means;
-        }
-        go true same =
-            let one : is.own_bound ≡ x.world = same-some is.own_bound x.world (sym is.bound_at ∙ (ap (world_at own) (sym (equal x.number bound same)) ∙ x.found)) in
-            absurd (not_bound (ap (path_of_world own) one ∙ x.path_is))
+          means = own_means x.number x.world x.found apart ∙ x.means;
+        })
 
     from_other : (x : ShowsWorld other path meaning) → left_out x.number ≡ false → ShowsNoWorld own path → ShowsWorld merged path meaning
-    from_other x kept none_such = stands (is.packages_stand h.home.0 h.package_ h.stands)
-      where
-        h : HasWorldPath other x.number path
-        h = has-world-path other x.number path (ap (option_and_then (path_of_world other)) x.found ∙ x.path_is)
-
-        held : Contains (world_names h.package_) (text_of h.def.name, x.number)
-        held = under_contains (text_of h.def.name) (world_names h.package_) x.number
-            (some_id x.number (under_text (text_of h.def.name) (world_names h.package_)) (listed_by_path other valid_other x.number path h))
-
-        brings : first.carries_world x.number ≡ true → ShowsWorld merged path meaning
-        brings c =
-            let old : (is.first_worlds x.number c).joined.old ≡ x.world = same-some (is.first_worlds x.number c).joined.old x.world (sym (is.first_worlds x.number c).joined.found ∙ x.found) in
-            copied x.number c (ap (path_of_world other) old ∙ x.path_is) (ap (world_meaning other) old ∙ x.means)
-
-        stands : PackageStands own merged first left_out h.home.0 h.package_ → ShowsWorld merged path meaning
-        stands (brought high j fresh) = elim (joined_name first.worlds first.carries_world left_out [] (world_names h.package_) j.new_worlds j.joined_worlds (text_of h.def.name) x.number held kept) [
-          | inl c ↦ none-in (text_of h.def.name, first.worlds x.number) c
-          | inr c ↦ brings c
-        ]
-        stands (grown o at j a b) = by (joined_name first.worlds first.carries_world left_out (world_names o) (world_names h.package_) j.new_worlds j.joined_worlds (text_of h.def.name)
-            x.number held kept)
-          where
-            by : Contains (world_names o) (text_of h.def.name, first.worlds x.number) ⊎ (first.carries_world x.number ≡ true) → ShowsWorld merged path meaning
-            by (inr c) = brings c
-            by (inl c) =
-                let w = found_option _ (world_at own (first.worlds x.number)) (all-contained (is_world_of own (first.packages h.home.0)) (world_names o) (text_of h.def.name, first.worlds x.number)
+    from_other x kept none_such =
+        let h = has-world-path other x.number path (ap (option_and_then (path_of_world other)) x.found ∙ x.path_is) in
+        let name = text_of h.def.name in
+        let held = under_contains name (world_names h.package_) x.number (some_id x.number (under_text name (world_names h.package_)) (listed_by_path other valid_other x.number path h)) in
+        let brings = λ (c : first.carries_world x.number ≡ true).
+        let old : (is.first_worlds x.number c).joined.old ≡ x.world = same-some (is.first_worlds x.number c).joined.old x.world (sym (is.first_worlds x.number c).joined.found ∙ x.found) in
+        copied x.number c (ap (path_of_world other) old ∙ x.path_is) (ap (world_meaning other) old ∙ x.means) in
+        elim (is.packages_stand h.home.0 h.package_ h.stands) [
+          | brought high j fresh ↦ elim (joined_name first.worlds first.carries_world left_out [] (world_names h.package_) j.new_worlds j.joined_worlds name x.number held kept) [
+            | inl c ↦ none-in (name, first.worlds x.number) c
+            | inr c ↦ brings c
+          ]
+          | grown o at j a b ↦ elim (joined_name first.worlds first.carries_world left_out (world_names o) (world_names h.package_) j.new_worlds j.joined_worlds name x.number held kept) [
+            | inr c ↦ brings c
+            | inl c ↦
+                let w = found_option _ (world_at own (first.worlds x.number)) (all-contained (is_world_of own (first.packages h.home.0)) (world_names o) (name, first.worlds x.number)
                 (worlds_stand own valid_own.rules (first.packages h.home.0) o at) c) in
-                let name : text_of w.0.name ≡ text_of h.def.name = text-same (text_of w.0.name) (text_of h.def.name) (first_true _ _ w.2) in
-                let its_path : path_of_world own w.0 ≡ Some (path_in (identity_of o.name) (text_of h.def.name)) =
+                let same : text_of w.0.name ≡ name = text-same (text_of w.0.name) name (first_true _ _ w.2) in
+                let its_path : path_of_world own w.0 ≡ Some (path_in (identity_of o.name) name) =
                 world_path own w.0
-                ∙ ((λ z. path_by own (Some (name z)) (some_id (first.packages h.home.0) (package_number w.0.«package») (second_true (text_eq (text_of w.0.name) (text_of h.def.name)) _ w.2) z))
-                ∙ ap (option_map (λ package_. path_in (identity_of package_.name) (text_of h.def.name))) at) in
-                absurd (none_such (first.worlds x.number) w.0 w.1 (its_path ∙ ap Some (ap (λ d. path_in d (text_of h.def.name)) (grown_identity h.home.0 o h.package_ at h.stands) ∙ sym h.spelled)))
+                ∙ ((λ z. path_by own (Some (same z)) (some_id (first.packages h.home.0) (package_number w.0.«package») (second_true (text_eq (text_of w.0.name) name) _ w.2) z))
+                ∙ ap (option_map (λ package_. path_in (identity_of package_.name) name)) at) in
+                absurd (none_such (first.worlds x.number) w.0 w.1 (its_path ∙ ap Some (ap (λ d. path_in d name)
+                (grown_name own other merged bound other_bound first second left_out valid_own.rules valid_other.rules is h.home.0 o h.package_ at h.stands) ∙ sym h.spelled)))
+          ]
+        ]
 
 pub worlds_are_united : WorldsAreUnited
 worlds_are_united own other merged bound other_bound first second left_out valid_own valid_other distinct is = (

@@ -4,19 +4,16 @@ use Rattle.std.proofs.lemmas.Option.{same_Some as same-some}
 use Rattle.std.specs.{Prelude.String, Prelude.count_by, List.list_all, List.Contains, Option.option_map_or, Map.lookup, HashMap.get_by}
 use Rattle.std.specs.declared.alloc.Global.{Global}
 use Rattle.wit_model.specs.declared.model.{Resolve.Resolve, World.World, WorldKey.WorldKey, WorldItem.WorldItem, TypeDef.TypeDef}
-use Rattle.wit_model.specs.{Text.Text, Text.text_of, Text.optional_text, Types.trees_of, Types.declaration_of, Parts.kind_numbers, Parts.same_owner}
-use Rattle.wit_model.specs.Lookup.{world_at, type_at, interface_path, place_of, place_of_path, key_text}
-use Rattle.wit_model.specs.Tree.{Declaration, named}
-use Rattle.wit_model.specs.{Uses.alias_target, Uses.item_interface, Valid.IsValid, Valid.as_interface, Valid.as_world, Valid.order_of_types, Valid.world_items}
+use Rattle.wit_model.specs.{Text.Text, Text.text_of, Text.optional_text, Types.trees_of, Types.declaration_of, Parts.kind_numbers, Parts.same_owner, Uses.alias_target, Uses.item_interface, Valid.IsValid, Valid.as_interface, Valid.as_world, Valid.order_of_types, Valid.world_items}
+use Rattle.wit_model.specs.{Lookup.world_at, Lookup.type_at, Lookup.interface_path, Lookup.place_of, Lookup.key_text, Tree.Declaration, Tree.named}
 use Rattle.wit_model.specs.Meaning.{Item, interface, inline, function, declares, Entry, InterfaceSense, item_sense}
 use Rattle.wit_model.specs.Meant.{type_meaning, type_meaning_at, no_type, interface_item, interface_meaning_at, item_meaning}
 use Rattle.wit_model.specs.Rules.{passes, is_id, text_is, is_name_key, item_type, key_in_range, item_in_range, world_type_numbers, is_listed, is_listed_in_world, import_stands, export_stands}
-use Rattle.wit_model.proofs.{OnePath.path-once, OnePath.found-in, RulesLemmas.is_id_some as some_id, TextLemmas.text_same as text-same}
-use Rattle.wit_model.proofs.{PartsLemmas.owner_same as owner_equal, ValidLemmas.type_passes, ValidLemmas.world_passes as world-passes}
+use Rattle.wit_model.proofs.{OnePath.path-once, OnePath.found-in, RulesLemmas.is_id_some as some_id, TextLemmas.text_same as text-same, PartsLemmas.owner_same as owner_equal, ValidLemmas.type_passes, ValidLemmas.world_passes as world-passes}
 use Rattle.bind_union.specs.{Carried.Renumbering, Joined.ItemStandsFor}
 use Rattle.bind_union.specs.Matching.{IsMatch, AreMatched, WorldsAgree, AreWorldNamesakes, MetImportsStand}
 use Rattle.bind_union.proofs.{Lists.no_true, Itself.world_range}
-use Rattle.bind_union.proofs.Namesakes.{resource_declares, declares_resource, is_here, place_in, name_in, IsTarget, same_by_path, target_owner, alias_alike}
+use Rattle.bind_union.proofs.Namesakes.{resource_declares, declares_resource, name_in, IsTarget, same_by_path, target_owner, alias_alike}
 use Rattle.base_lemmas.proofs.{Bools.left_of as first_true, Bools.right_of as second_true, Elements.all-contained, Elements.lookup_stands}
 use Rattle.wit_model.specs.declared.model.WorldKey.TheVariants as key
 use Rattle.wit_model.specs.declared.model.WorldItem.TheVariants as item
@@ -89,8 +86,7 @@ module _ (r : Resolve) (v : IsValid r) (n : ℕ) (w : World) (at : world_at r n 
       in_it = sym (ap (passes (is_listed_in_world t (text_of s))) at) ∙ (sym (ap (is_listed r t (text_of s)) home) ∙ listed)
 
       key_is : (k : WorldKey) → is_name_key (text_of s) k ≡ true → key_text r k ≡ text_of s
-      key_is (key.Name label) h = text-same (text_of label) (text_of s) h
-      key_is (key.Interface id) h = no_true h
+      key_is x h = search std_rules
 
       go : (o : Option WorldItem) → lookup (is_name_key (text_of s)) w.imports.entries ≡ o → is_id t (option_and_then item_type o) ≡ true → IsImported (text_of s) t
       go None k h = no_true h
@@ -204,12 +200,7 @@ module _ (own other : Resolve) (f : Renumbering) (bound other_bound : ℕ) (vali
         let p = type_imported other valid_other other_bound is.other_world is.other_at u a.def a.found a.name a.named_ home in
         let q = type_imported own valid_own bound is.own_world is.own_at v b.def b.found b.name b.named_ ours in
         is.types q.entry p.entry q.held p.held (q.text ∙ (ap name_in trees ∙ sym p.text)) v u q.is_type p.is_type
-    same_in_world u v a b home trees (inr c) = no_true (sym (ap is_here (ap place_in trees ∙ ap (place_of other) home))
-        ∙ (ap (λ o. is_here (place_of own o)) c.1 ∙ path_place (interface_path own c.0) c.2))
-      where
-        path_place : (o : Option Text) → is_some o ≡ true → is_here (place_of_path o) ≡ true
-        path_place None h = h
-        path_place (Some p) h = refl
+    same_in_world u v a b home trees (inr c) = search std_rules
 
     alias_same : (o : Option ℕ) → alias_target old.def.kind ≡ o → alias_target new.def.kind ≡ option_map f.types o
     alias_same = alias_alike own other f.interfaces f.types valid_own valid_other (f.types t) t old.def new.def old.found new.found same_declarations targets

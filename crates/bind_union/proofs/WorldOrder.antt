@@ -1,21 +1,18 @@
 -- What an item of a world uses stands before it where its copy stands, too, and an interface or a type is an item there as often.
-use Rattle.std.proofs.Common.{rules as std_rules, ◌≡◌, refl, sym, ap, subst, ◌∙◌, ℕ, Bool, true, false, ◌||◌, not, ◌==◌, List, [], ◌∷◌, ◌++◌, append_assoc, map, filter, Option, Some, None, option_map, option_to_list, filter_map, zero, suc, ◌≤◌, ◌+◌, arith, cond, ltb-true, length, slice_get}
-use Rattle.std.proofs.lemmas.{Bool.or_left, Bool.or_right, Bool.and_from as both, Bool.false_from_ne_true, List.Folds.list_all-map, List.Folds.list_any-append}
-use Rattle.std.proofs.lemmas.{List.Elements.filter_map-append, List.Sums.sum_by-cons, List.Sums.sum_by-append, List.map-append, Option.same_Some as same-some}
+use Rattle.std.proofs.Common.{rules as std_rules, ◌≡◌, refl, sym, ap, subst, ◌∙◌, ℕ, Bool, true, false, ◌||◌, ◌==◌, List, [], ◌∷◌, ◌++◌, append_assoc, map, filter, Option, Some, None, option_map, option_to_list, filter_map, zero, suc, ◌≤◌, ◌+◌, arith, cond, ltb-true, length, slice_get}
+use Rattle.std.proofs.lemmas.{Bool.or_left, Bool.or_right, Bool.and_from as both, Bool.false_from_ne_true, List.Folds.list_all-map, List.Folds.list_any-append, List.Elements.filter_map-append, List.Sums.sum_by-cons, List.Sums.sum_by-append, List.map-append, Option.same_Some as same-some}
 use Rattle.std.specs.{List.list_all, List.Contains, List.cons_option, Prelude.count_by, Prelude.sum_by}
 use Rattle.wit_model.specs.declared.model.{Resolve.Resolve, WorldKey.WorldKey, WorldItem.WorldItem, World.World}
-use Rattle.wit_model.specs.{Parts.has_owner, Parts.used_by_function, Checks.references}
-use Rattle.wit_model.specs.{Uses.has, Uses.item_interface, Uses.direct_deps, Uses.interface_used_by, Valid.Keeps, Valid.KeepsRules, Valid.as_world}
+use Rattle.wit_model.specs.{Parts.has_owner, Parts.used_by_function, Checks.references, Uses.has, Uses.item_interface, Uses.direct_deps, Uses.interface_used_by, Valid.Keeps, Valid.KeepsRules, Valid.as_world}
 use Rattle.wit_model.specs.Rules.{passes, is_id, each_after, item_type, used_by_number, used_interfaces, used_types, uses_stand_before, in_list, times_shown, item_in_range, entries_in_range}
 use Rattle.wit_model.proofs.{Elements.contains-has, Elements.contains-filter_map, Owners.all_filter, Lists.list_all_filter_map, Chains.all_has as passes_at}
 use Rattle.wit_model.proofs.RulesLemmas.{is_id_some}
 use Rattle.bind_union.specs.Carried.{Renumbering, ItemBecomes, EntryBecomes, IsCarried}
 use Rattle.bind_union.specs.Joined.{ItemStandsFor, Joined, none, met, added}
 use Rattle.bind_union.proofs.{Homes.owner_back, CopyRules.function_uses, ViewTests.id_under, Lists.no_true}
-use Rattle.bind_union.proofs.InterfaceRules.{deps_there, interface_used_there, given_contains, number_uses}
-use Rattle.base_lemmas.proofs.Bools.{left_of as first_true, right_of as second_true, or_false, both_ways, first_false, second_false}
-use Rattle.base_lemmas.proofs.Elements.{all_two, all_weaker, contains-map}
-use Rattle.base_lemmas.proofs.Numbers.{differ, equal, same-number, unequal}
+use Rattle.bind_union.proofs.InterfaceRules.{implied_all, deps_there, interface_used_there, given_contains, number_uses}
+use Rattle.base_lemmas.proofs.Bools.{left_of as first_true, right_of as second_true, or_false, first_false, second_false}
+use Rattle.base_lemmas.proofs.{Elements.all_weaker, Elements.contains-map, Numbers.differ, Numbers.same-number, Numbers.unequal}
 use Rattle.wit_model.specs.declared.model.WorldItem.TheVariants as item
 
 abbrev pub items : List (WorldKey × WorldItem) → List WorldItem
@@ -62,29 +59,19 @@ module _ (f : Renumbering) where
   interfaces_in = record { number = item_interface; under = f.interfaces; marks = f.carries_interface; stands = stands; marked = marked }
     where
       stands : (i j : WorldItem) → ItemStandsFor f i j → item_interface j ≡ option_map f.interfaces (item_interface i)
-      stands (item.Interface a st docs ext) (item.Interface b st2 docs2 ext2) z = ap Some z
-      stands (item.Interface a st docs ext) _ z = absurd z
-      stands _ (item.Interface b st2 docs2 ext2) z = absurd z
-      stands _ _ z = refl
+      stands x y z = search std_rules
 
       marked : (i j : WorldItem) → ItemBecomes f i j → passes f.carries_interface (item_interface i) ≡ true
-      marked (item.Interface a st docs ext) (item.Interface b st2 docs2 ext2) z = z.1
-      marked (item.Interface a st docs ext) _ z = absurd z
-      marked _ _ z = refl
+      marked x y z = search std_rules
 
   abbrev pub types_in : Numbered f
   types_in = record { number = item_type; under = f.types; marks = f.copies_type; stands = stands; marked = marked }
     where
       stands : (i j : WorldItem) → ItemStandsFor f i j → item_type j ≡ option_map f.types (item_type i)
-      stands (item.Type_ a) (item.Type_ b) z = ap Some z
-      stands (item.Type_ a) _ z = absurd z
-      stands _ (item.Type_ b) z = absurd z
-      stands _ _ z = refl
+      stands x y z = search std_rules
 
       marked : (i j : WorldItem) → ItemBecomes f i j → passes f.copies_type (item_type i) ≡ true
-      marked (item.Type_ a) (item.Type_ b) z = z.1
-      marked (item.Type_ a) _ z = absurd z
-      marked _ _ z = refl
+      marked x y z = search std_rules
 
   -- a copy stands for what it copies
   pub becomes : (i j : WorldItem) → ItemBecomes f i j → ItemStandsFor f i j
@@ -148,15 +135,8 @@ module _ (r s : Resolve) (f : Renumbering) (valid : KeepsRules r) (is : IsCarrie
       → list_all q (filter (has_owner s (as_world (f.worlds w))) (map f.types used)) ≡ true
   world_types p q one used c h =
       all_filter q (has_owner s (as_world (f.worlds w))) (map f.types used)
-      ∙ (list_all-map (λ n. not (has_owner s (as_world (f.worlds w)) n) || q n) f.types used
-      ∙ all_two f.carries_type (λ n. not (has_owner r (as_world w) n) || p n) (λ n. not (has_owner s (as_world (f.worlds w)) (f.types n)) || q (f.types n))
-      (λ n d e. each n d e (has_owner s (as_world (f.worlds w)) (f.types n)) refl) used c (sym (all_filter p (has_owner r (as_world w)) used) ∙ h))
-    where
-      each : (n : ℕ) → f.carries_type n ≡ true → (not (has_owner r (as_world w) n) || p n) ≡ true → (b : Bool) → has_owner s (as_world (f.worlds w)) (f.types n) ≡ b
-          → (not (has_owner s (as_world (f.worlds w)) (f.types n)) || q (f.types n)) ≡ true
-      each n d e false k = ap (λ b. not b || q (f.types n)) k
-      each n d e true k = or_right (not (has_owner s (as_world (f.worlds w)) (f.types n))) (q (f.types n))
-          (one n (sym (ap (λ b. not b || p n) (owner_back r s f valid is below_s (as_world w) n carries d k)) ∙ e))
+      ∙ implied_all f.types f.carries_type (has_owner r (as_world w)) p (has_owner s (as_world (f.worlds w))) q
+      (λ n d k. owner_back r s f valid is below_s (as_world w) n carries d k) one used c (sym (all_filter p (has_owner r (as_world w)) used) ∙ h)
 
   pub item_stands : (olds news : List WorldItem) (old new : WorldKey × WorldItem) → EntryBecomes f old new → Covers f olds news → uses_stand_before r w olds old.1 ≡ true
       → uses_stand_before s (f.worlds w) news new.1 ≡ true
@@ -214,15 +194,10 @@ module _ {X : Type 0} (g : X → ℕ) where
   pub one_sums : (xs : List X) (k : ℕ) (x : X) → slice_get xs k ≡ Some x → g x ≡ 1 → ((m : ℕ) (y : X) → slice_get xs m ≡ Some y → (m == k) ≡ false → g y ≡ 0) → sum_by g xs ≡ 1
   one_sums [] k x e one h = absurd cc
   one_sums (z ∷ xs) zero x e one h =
-      let a = sum_by-cons g z xs in
-      let b : g z ≡ 1 = ap g (same-some z x e) ∙ one in
-      let c = none_sums xs (λ k y d. h (suc k) y d (unequal (suc k) 0 (λ s. omega (arith, s)))) in
-      a ∙ omega (arith, b, c)
+      sum_by-cons g z xs ∙ (λ i. (ap g (same-some z x e) ∙ one) i + none_sums xs (λ k y d. h (suc k) y d (unequal (suc k) 0 (λ s. omega (arith, s)))) i)
   one_sums (z ∷ xs) (suc k) x e one h =
-      let a = sum_by-cons g z xs in
-      let b : g z ≡ 0 = h 0 z refl (unequal 0 (suc k) (λ s. omega (arith, s))) in
-      let c = one_sums xs k x e one (λ m y d n. h (suc m) y d (unequal (suc m) (suc k) (λ s. differ m k n (omega (arith, s))))) in
-      a ∙ omega (arith, b, c)
+      sum_by-cons g z xs
+      ∙ (λ i. h 0 z refl (unequal 0 (suc k) (λ s. omega (arith, s))) i + one_sums xs k x e one (λ m y d n. h (suc m) y d (unequal (suc m) (suc k) (λ s. differ m k n (omega (arith, s))))) i)
 
   -- where the sum is one, one element is
   pub one_of_sum : (xs : List X) → sum_by g xs ≡ 1 → (k : ℕ) × (x : X) × (slice_get xs k ≡ Some x) × (g x ≡ 1) × ((m : ℕ) (y : X) → slice_get xs m ≡ Some y → (m == k) ≡ false → g y ≡ 0)
@@ -236,12 +211,10 @@ module _ {X : Type 0} (g : X → ℕ) where
 
       rest : g z ≡ 0 → (r : (k : ℕ) × (x : X) × (slice_get xs k ≡ Some x) × (g x ≡ 1) × ((m : ℕ) (y : X) → slice_get xs m ≡ Some y → (m == k) ≡ false → g y ≡ 0)) → (m : ℕ) (y : X)
           → slice_get (z ∷ xs) m ≡ Some y → (m == suc r.0) ≡ false → g y ≡ 0
-      rest e r zero y d n = sym (ap g (same-some z y d)) ∙ e
-      rest e r (suc m) y d n = r.4 m y d (unequal m r.0 (λ s. differ (suc m) (suc r.0) n (ap suc s)))
+      rest e r x y d n = search std_rules
 
       head_only : sum_by g xs ≡ 0 → (m : ℕ) (y : X) → slice_get (z ∷ xs) m ≡ Some y → (m == 0) ≡ false → g y ≡ 0
-      head_only s zero y d n = no_true (sym n ∙ same-number 0)
-      head_only s (suc m) y d n = nothing xs s m y d
+      head_only s x y d n = search (std_rules, no_true, same-number, nothing)
 
       go : (sum_by g xs ≡ 1 → (k : ℕ) × (x : X) × (slice_get xs k ≡ Some x) × (g x ≡ 1) × ((m : ℕ) (y : X) → slice_get xs m ≡ Some y → (m == k) ≡ false → g y ≡ 0)) → (a : ℕ) → g z ≡ a
           → g z + sum_by g xs ≡ 1 → (k : ℕ) × (x : X) × (slice_get (z ∷ xs) k ≡ Some x) × (g x ≡ 1) × ((m : ℕ) (y : X) → slice_get (z ∷ xs) m ≡ Some y → (m == k) ≡ false → g y ≡ 0)
@@ -280,9 +253,7 @@ module _ (h : WorldItem → Option ℕ) (n : ℕ) where
   none_counted [] e = refl
   none_counted (x ∷ xs) e =
       let both_ = sym (numbers_cons h x xs n) ∙ e in
-      let here : cond (is_id n (h x)) 1 0 ≡ 0 = ap {B = ℕ} (λ b. cond b 1 0) (first_false _ _ both_) in
-      let rest = none_counted xs (second_false (is_id n (h x)) _ both_) in
-      counted_cons x xs ∙ omega (arith, here, rest)
+      counted_cons x xs ∙ (λ i. cond (first_false (is_id n (h x)) (has (filter_map h xs) n) both_ i) 1 0 + none_counted xs (second_false (is_id n (h x)) _ both_) i)
 
 -- ---- numbers in range
 
@@ -307,16 +278,11 @@ module _ (f : Renumbering) (s : Numbered f) where
   pub shown_from : (own olds news : List (WorldKey × WorldItem)) → Joined f own olds news → (t : ℕ) → has (filter_map s.number (items news)) t ≡ true → (a : ℕ) × (s.marks a ≡ true) × (s.under a ≡ t)
   shown_from own _ _ none t h = no_true h
   shown_from own _ _ (met old there olds news c k i rest) t h = shown_from own olds news rest t h
-  shown_from own _ _ (added old new olds news n z rest) t h = go (is_id t (s.number new.1)) refl (sym (numbers_cons s.number new.1 (items news) t) ∙ h) (shown_from own olds news rest t)
+  shown_from own _ _ (added old new olds news n z rest) t h = either _ _ (sym (numbers_cons s.number new.1 (items news) t) ∙ h)
+      (λ e. one (s.number old.1) (s.marked old.1 new.1 z.1) (sym (ap (is_id t) (s.stands old.1 new.1 (becomes f old.1 new.1 z.1))) ∙ e)) (shown_from own olds news rest t)
     where
       one : (o : Option ℕ) → passes s.marks o ≡ true → is_id t (option_map s.under o) ≡ true → (a : ℕ) × (s.marks a ≡ true) × (s.under a ≡ t)
-      one None p e = no_true e
-      one (Some a) p e = (a, p, equal (s.under a) t e)
-
-      go : (b : Bool) → is_id t (s.number new.1) ≡ b → (b || has (filter_map s.number (items news)) t) ≡ true
-          → (has (filter_map s.number (items news)) t ≡ true → (a : ℕ) × (s.marks a ≡ true) × (s.under a ≡ t)) → (a : ℕ) × (s.marks a ≡ true) × (s.under a ≡ t)
-      go true e k more = one (s.number old.1) (s.marked old.1 new.1 z.1) (sym (ap (is_id t) (s.stands old.1 new.1 (becomes f old.1 new.1 z.1))) ∙ e)
-      go false e k more = more k
+      one x p e = search std_rules
 
   pub none_added : (own olds news : List (WorldKey × WorldItem)) → Joined f own olds news → (t : ℕ)
       → ((a : ℕ) → s.marks a ≡ true → s.under a ≡ t → ⊥) → has (filter_map s.number (items news)) t ≡ false
@@ -332,14 +298,11 @@ module _ (f : Renumbering) (s : Numbered f) where
         → counted s.number (s.under m) (items news) ≡ counted s.number m (items olds)
     same_times apart _ _ none = refl
     same_times apart _ _ (met old there olds news held k stands rest) =
-        let here : cond (is_id m (s.number old.1)) 1 0 ≡ 0 = ap {B = ℕ} (λ b. cond b 1 0) (met_is_other old.1 there held stands) in
-        let more = counted_cons s.number m old.1 (items olds) in
-        same_times apart olds news rest ∙ omega (arith, here, more)
+        search (std_rules, met_is_other old.1 there held stands, counted_cons s.number m old.1 (items olds), same_times apart olds news rest)
     same_times apart _ _ (added old new olds news key z rest) =
         counted_cons s.number (s.under m) new.1 (items news)
         ∙ ((λ i. cond ((ap (is_id (s.under m)) (s.stands old.1 new.1 (becomes f old.1 new.1 z.1)) ∙ same (s.number old.1) (s.marked old.1 new.1 z.1)) i) 1 0 + same_times apart olds news rest i)
         ∙ sym (counted_cons s.number m old.1 (items olds)))
       where
         same : (o : Option ℕ) → passes s.marks o ≡ true → is_id (s.under m) (option_map s.under o) ≡ is_id m o
-        same None p = refl
-        same (Some a) p = both_ways _ _ (λ e. subst (λ (k : ℕ). (a == k) ≡ true) (apart a p (equal (s.under a) (s.under m) e)) (same-number a)) (id_under s.under m (Some a))
+        same x p = search std_rules

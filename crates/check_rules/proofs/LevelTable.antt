@@ -71,9 +71,6 @@ cap_highest : (f : ℕ → ℕ) (ns : List ℕ) → highest (λ m. min 101 (f m)
 cap_highest f [] = refl
 cap_highest f (n ∷ ns) = ap (max (min 101 (f n))) (cap_highest f ns) ∙ cap_max (f n) (highest f ns)
 
-cap_above : (h : ℕ) → min 101 (min 101 h + 1) ≡ min 101 (h + 1)
-cap_above h = omega arith
-
 cap_kind : (h : ℕ) (k : TypeDefKind) → min 101 (levels_above (min 101 h) k) ≡ min 101 (levels_above h k)
 cap_kind h x = search std_rules
 

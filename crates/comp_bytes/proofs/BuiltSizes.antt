@@ -1,5 +1,5 @@
 -- How long a component under construction is, at least: what doesn't fit makes it too long.
-use Rattle.std.proofs.Common.{rules as std_rules, ◌≡◌, ℕ, ◌+◌, ◌^◌, ◌≤◌, Bool, false, List, [], ◌∷◌, ◌++◌, length, map, Result, Ok, Err, IsErrAnd, refl, sym, ap, subst, ◌∙◌, arith, length-append}
+use Rattle.std.proofs.Common.{rules as std_rules, ◌≡◌, ℕ, ◌+◌, ◌^◌, ◌≤◌, Bool, false, List, [], ◌∷◌, ◌++◌, length, map, Result, Ok, Err, IsErrAnd, refl, ap, ◌∙◌, arith, length-append}
 use Rattle.std.proofs.lemmas.{Bool.le-ltb, Bool.ltb-false as not_below, List.append-nil, List.Concat.flat_map-append}
 use Rattle.std.specs.{Prelude.nat_lt, List.flat_map}
 use Rattle.wit_model.specs.declared.error.Error.{Error}
@@ -53,13 +53,8 @@ slots-exports (e ∷ es) = omega (arith, slots-exports es)
 
 section_slots : (s : Section) → top_slots (parts_in s) ≤ length (section_bytes s)
 section_slots (Section.types ts) = omega (arith, slots-types ts, items_filled top_type_bytes type_filled ts, vector_longer top_type_bytes ts, framed_longer 7 (vector_bytes top_type_bytes ts))
-section_slots (Section.exports es) = omega (
-  arith,
-  slots-exports es,
-  items_filled top_export_bytes export_filled es,
-  vector_longer top_export_bytes es,
-  framed_longer 0x0b (vector_bytes top_export_bytes es),
-)
+section_slots (Section.exports es) =
+    omega (arith, slots-exports es, items_filled top_export_bytes export_filled es, vector_longer top_export_bytes es, framed_longer 0x0b (vector_bytes top_export_bytes es))
 section_slots (Section.custom name contents) = omega arith
 
 all_slots : (sections : List Section) → top_slots (parts_of sections) ≤ length (flat_map section_bytes sections)
@@ -91,11 +86,8 @@ export_longer : (sections : List Section) (e : TopExport) → length (top_export
 export_longer [] e = exports_longer [] e []
 export_longer (Section.types ts ∷ []) e = omega (arith, exports_longer [] e [], length-append (section_bytes (Section.types ts)) (flat_map section_bytes (Section.exports (e ∷ []) ∷ [])))
 export_longer (Section.exports es ∷ []) e = exports_longer es e []
-export_longer (Section.custom name contents ∷ []) e = omega (
-  arith,
-  exports_longer [] e [],
-  length-append (section_bytes (Section.custom name contents)) (flat_map section_bytes (Section.exports (e ∷ []) ∷ [])),
-)
+export_longer (Section.custom name contents ∷ []) e =
+    omega (arith, exports_longer [] e [], length-append (section_bytes (Section.custom name contents)) (flat_map section_bytes (Section.exports (e ∷ []) ∷ [])))
 export_longer (s ∷ t ∷ rest) e = omega (arith, export_longer (t ∷ rest) e, length-append (section_bytes s) (flat_map section_bytes (put_behind (t ∷ rest) (Part.top_export e))))
 
 -- ---- what is kept, and what it refuses
@@ -144,5 +136,4 @@ module _ (done items : List ℕ) (count : ℕ) (exports : Bool) (types : ℕ) (h
   -- the whole component is too long
   pub length_refused : (bytes : List ℕ) → bytes ≡ begun done ++ closed_bytes (section_id exports) count items → 2 ^ 32 ≤ length bytes → fits_component ps ≡ false
   length_refused bytes is le =
-      too_long ps (subst (λ (l : List Section). 2 ^ 32 ≤ length (component_bytes l)) (sym h.grouped)
-      (subst (λ (l : List ℕ). 2 ^ 32 ≤ length l) (is ∙ closed_begins done items count exports types h) le))
+      too_long ps (rw h.grouped (rw (is ∙ closed_begins done items count exports types h) at le))

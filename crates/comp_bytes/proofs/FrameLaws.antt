@@ -36,8 +36,7 @@ found bytes at id contents rest le e = go (read_ok frame_law bytes at (id, conte
         let slice : slice_range bytes at end ≡ front ++ contents = spelled.1 ∙ ap (λ (t : List ℕ). id ∷ t) (counted.2 ∙ ap (λ (t : List ℕ). counted.0 ++ t) counted.4) in
         let split : bytes ≡ take at bytes ++ (slice_range bytes at end ++ drop end bytes) = sym (take-append-drop at bytes) ∙ ap (λ (t : List ℕ). take at bytes ++ t) (drop_split bytes at end from) in
         let parts : bytes ≡ (take at bytes ++ front) ++ (contents ++ drop end bytes) =
-        split ∙ (ap (λ (t : List ℕ). take at bytes ++ (t ++ drop end bytes)) slice
-        ∙ (ap (λ (t : List ℕ). take at bytes ++ t) (append_assoc front contents (drop end bytes)) ∙ sym (append_assoc (take at bytes) front (contents ++ drop end bytes)))) in
+        split ∙ simp (slice, append_assoc) in
         let sliced : length (slice_range bytes at end) ≡ end - at = length-take-le (end - at) (drop at bytes)
         (let d = ap length (take-append-drop at bytes) in omega (arith, from, to, length-append (take at bytes) (drop at bytes), length-take-le at bytes le, d)) in
         let whole : end - at ≡ length front + length contents = sym sliced ∙ (ap length slice ∙ length-append front contents) in

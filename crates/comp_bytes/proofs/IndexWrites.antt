@@ -60,10 +60,7 @@ pub spells_index : (n : ℕ) → n < 2 ^ 32 → IsTypeIndex n (type_index_bytes 
 unfolding type_index_bytes
 spells_index n lt =
     let s = spells 5 n (λ a b c d. omega arith) in
-    record {
-      number = record { spelled = s.number; short = length_within 5 n; fits = lt };
-      positive = s.positive;
-    }
+    record { number = record { spelled = s.number; short = length_within 5 n; fits = lt }; positive = s.positive }
 
 -- other bytes of the same index are at least as many
 no_shorter : (room n : ℕ) (bytes : List ℕ) → AllByRecursion (λ b. b < 256) bytes → IsUnsigned n bytes → EndsPositive bytes → length (positive_bytes room n) ≤ length bytes

@@ -1,25 +1,23 @@
 -- Entries and types at the top are read as they are spelled, and are the raw forms that they stand for.
-use Rattle.std.proofs.Common.{rules as std_rules, ◌≡◌, refl, sym, ap, subst, ◌∙◌, ℕ, suc, arith, cond, eqb, List, [], ◌∷◌, ◌++◌, length, Some, None, inl, inr, append_assoc}
+use Rattle.std.proofs.Common.{rules as std_rules, ◌≡◌, refl, sym, ap, subst, ◌∙◌, ℕ, suc, arith, cond, eqb, List, [], ◌∷◌, ◌++◌, length, Some, None, append_assoc}
 use Rattle.std.proofs.lemmas.{Bool.ne_eqb, Bool.eqb-true, List.append-nil}
-use Rattle.comp_bytes.specs.{Raw.ExternName, Raw.Declaration, Raw.from_list, Raw.declaration_count, Raw.imports_nothing, Number.IsU32}
+use Rattle.comp_bytes.specs.{Raw.ExternName, Raw.Declaration, Raw.from_list, Raw.declaration_count, Raw.imports_nothing}
 use Rattle.comp_bytes.specs.Form.{Tagged, Joined, Sequence, Vector}
-use Rattle.comp_bytes.specs.{Spelling.IsDeclaration, Spelling.ComponentTypeOf, Spelling.InstanceTypeOf, Spelling.AreDeclarations, Laws.IsReadBy, Laws.Taken}
+use Rattle.comp_bytes.specs.{Spelling.IsDeclaration, Spelling.ComponentTypeOf, Spelling.InstanceTypeOf, Spelling.AreDeclarations, Laws.IsReadBy}
 use Rattle.comp_bytes.specs.Reading.{Reader, ◌>>=◌, u32_at, as_at, pair_at, tag_at, tagged_at, choose, vector_at, declaration_at}
 use Rattle.comp_bytes.specs.Levels.{Entry, plain, holds, PartType, wraps, shows, import_free, Held, IsEntry, IsWrapper, IsPartType, declarations_of, raw_part, held_at, entry_at, world_export, world_export_at, wrapper_at, part_behind_at, part_type_at}
 use Rattle.comp_bytes.proofs.{Readers.bind_some, Readers.when_some, HeldLaws.Sequence-from_list as flat_out, HeldLaws.declaration_count-from_list as count_is}
-use Rattle.comp_bytes.proofs.{NumberLaws.u32_law, FormLaws.or_some, DeclarationLaws.declaration_law}
-use Rattle.comp_bytes.proofs.{PartLaws.taken_at, PartLaws.tagged_takes, PartLaws.tag_law, PartLaws.pair_law, PartLaws.vector_law, NestedLaws.not_nested}
+use Rattle.comp_bytes.proofs.{NumberLaws.u32_law, FormLaws.or_takes, DeclarationLaws.declaration_law}
+use Rattle.comp_bytes.proofs.PartLaws.{taken_at, Takes, reshaped, join_taken, as_takes, when_takes, tagged_takes, tag_law, pair_law, vector_law}
+use Rattle.comp_bytes.proofs.NestedLaws.{not_nested}
 use Rattle.comp_bytes.specs.declared.forms.ComponentTypeRef.TheVariants as refs
 
 -- ---- entries are declarations
 
 free_is : (ds : List Declaration) → imports_nothing (from_list ds) ≡ import_free ds
 free_is [] = refl
-free_is (Declaration.defined d ∷ ds) = free_is ds
-free_is (Declaration.function f ∷ ds) = free_is ds
-free_is (Declaration.alias_of a ∷ ds) = free_is ds
 free_is (Declaration.imported name described ∷ ds) = refl
-free_is (Declaration.exported name described ∷ ds) = free_is ds
+free_is (_ ∷ ds) = free_is ds
 
 flat_into : (ds : List Declaration) (text : List ℕ) → Sequence IsDeclaration ds text → AreDeclarations (from_list ds) text
 flat_into [] text s = s
@@ -46,12 +44,8 @@ entries_out (holds ds ∷ es) text s = (s.0, s.1, s.2, (s.3.0, s.3.1, held_out d
 held_law : IsReadBy Held held_at
 unfolding held_at
 held_law = record {
-  takes = λ bytes ds rest e.
-      let b = bind_some (vector_at declaration_at bytes) (λ x. cond (import_free x.0) (Some x) None) (ds, rest) e in
-      let w = when_some (import_free b.0.0) (Some b.0) (ds, rest) b.2 in
-      let t = (vector_law declaration_law).takes bytes b.0.0 b.0.1 b.1 in
-      taken_at b.0.0 ds b.0.1 rest w.1 (record { front = t.front; parts = t.parts; spelled = (t.spelled, w.0) });
-  again = λ ds front rest s. ap (λ o. o >>= λ x. cond (import_free x.0) (Some x) None) ((vector_law declaration_law).again ds front rest s.0) ∙ ap (λ b. cond b (Some (ds, rest)) None) s.1;
+  takes = when_takes import_free (vector_law declaration_law).takes (λ ds text s free. (s, free));
+  again = λ ds front rest s. rw ((vector_law declaration_law).again ds front rest s.0, s.1) refl;
 }
 
 -- a declaration in which no other stands is no instance type, and no entry is a component type
@@ -68,19 +62,10 @@ entry_again (plain d) front rest s = rw (no_instance d front rest s, declaration
 entry_again (holds ds) front rest s = rw ((tag_law (tag_law held_law 0x42) 1).again ds front rest s) refl
 
 pub entry_law : IsReadBy IsEntry entry_at
-unfolding entry_at as_at
+unfolding entry_at
 entry_law = record {
-  takes = λ bytes x rest e.
-      elim (or_some (as_at holds (tag_at 1 (tag_at 0x42 held_at)) bytes) (as_at plain declaration_at bytes) (x, rest) e) [
-        | inl held ↦
-            let b = bind_some (tag_at 1 (tag_at 0x42 held_at) bytes) (λ y. Some (holds y.0, y.1)) (x, rest) held in
-            let t = (tag_law (tag_law held_law 0x42) 1).takes bytes b.0.0 b.0.1 b.1 in
-            taken_at (holds b.0.0) x b.0.1 rest b.2 (record { front = t.front; parts = t.parts; spelled = t.spelled })
-        | inr other ↦
-            let b = bind_some (declaration_at bytes) (λ y. Some (plain y.0, y.1)) (x, rest) other in
-            let t = declaration_law.takes bytes b.0.0 b.0.1 b.1 in
-            taken_at (plain b.0.0) x b.0.1 rest b.2 (record { front = t.front; parts = t.parts; spelled = t.spelled })
-      ];
+  takes = or_takes (as_at holds (tag_at 1 (tag_at 0x42 held_at))) (as_at plain declaration_at) (as_takes holds (tag_law (tag_law held_law 0x42) 1).takes (λ ds text s. s))
+      (as_takes plain declaration_law.takes (λ d text s. s));
   again = entry_again;
 }
 
@@ -110,23 +95,9 @@ part_out (shows es) text s = entries_behind_out es text s
 part_out (wraps es name) text s =
     let w = s.2 in
     let j = w.4 in
-    let last : j.1 ≡ j.4.0 = j.4.2 ∙ ap (λ (t : List ℕ). j.4.0 ++ t) j.4.4 ∙ append-nil j.4.0 in (
-      s.0,
-      s.1,
-      (
-        w.0,
-        w.1,
-        w.2,
-        w.3,
-        (
-          j.0,
-          j.1,
-          j.2,
-          (j.3.0, j.3.1, entries_behind_out es j.3.0 j.3.2),
-          subst (λ (t : List ℕ). IsDeclaration (Declaration.exported name (refs.Component 0)) t) (sym last) j.4.3,
-        ),
-      ),
-    )
+    let last : j.1 ≡ j.4.0 = j.4.2 ∙ ap (λ (t : List ℕ). j.4.0 ++ t) j.4.4 ∙ append-nil j.4.0 in
+    let export : IsDeclaration (Declaration.exported name (refs.Component 0)) j.1 = rw last j.4.3 in
+    (s.0, s.1, (w.0, w.1, w.2, w.3, (j.0, j.1, j.2, (j.3.0, j.3.1, entries_behind_out es j.3.0 j.3.2), export)))
 
 -- ---- types at the top are read
 
@@ -156,11 +127,7 @@ wrapper_law = record {
       let c = when_some (eqb b.0.0 2) (pair_at (tag_at 1 (tag_at 0x41 (vector_at entry_at))) world_export_at b.0.1) (w, rest) b.2 in
       let t = u32_law.takes bytes b.0.0 b.0.1 b.1 in
       let u = world_law.takes b.0.1 w rest c.1 in
-      record {
-        front = t.front ++ u.front;
-        parts = t.parts ∙ ap (λ (text : List ℕ). t.front ++ text) u.parts ∙ sym (append_assoc t.front u.front rest);
-        spelled = (t.front, u.front, refl, subst (λ (n : ℕ). IsU32 n t.front) (eqb-true _ _ c.0) t.spelled, u.spelled);
-      };
+      reshaped (join_taken t u) (λ text s. rw (eqb-true b.0.0 2 c.0) at s);
   again = λ w front rest s. rw (s.2, append_assoc s.0 s.1 rest, u32_law.again 2 s.0 (s.1 ++ rest) s.3) (world_law.again w s.1 rest s.4);
 }
 
@@ -182,18 +149,9 @@ part_again (wraps es name) front rest s = rw (s.1, wrapper_law.again (es, name) 
 part_again (shows es) front rest s = rw (s.1, no_wrapper es s.0 rest s.2, (vector_law entry_law).again es s.0 rest s.2) refl
 
 pub part_type_law : IsReadBy IsPartType part_type_at
-unfolding part_type_at tag_at part_behind_at as_at
+unfolding part_type_at tag_at part_behind_at
 part_type_law = record { takes = tagged_takes IsPartType ((0x41, part_behind_at) ∷ []) (behind, tt); again = part_again }
   where
-    behind : (bytes : List ℕ) (p : PartType) (rest : List ℕ) → part_behind_at bytes ≡ Some (p, rest) → Taken (λ q text. IsPartType q (0x41 ∷ text)) bytes p rest
-    behind bytes p rest e =
-        elim (or_some (as_at (λ w. wraps w.0 w.1) wrapper_at bytes) (as_at shows (vector_at entry_at) bytes) (p, rest) e) [
-          | inl wrapper ↦
-              let b = bind_some (wrapper_at bytes) (λ w. Some (wraps w.0.0 w.0.1, w.1)) (p, rest) wrapper in
-              let t = wrapper_law.takes bytes b.0.0 b.0.1 b.1 in
-              taken_at (wraps b.0.0.0 b.0.0.1) p b.0.1 rest b.2 (record { front = t.front; parts = t.parts; spelled = (t.front, refl, t.spelled) })
-          | inr entries ↦
-              let b = bind_some (vector_at entry_at bytes) (λ es. Some (shows es.0, es.1)) (p, rest) entries in
-              let t = (vector_law entry_law).takes bytes b.0.0 b.0.1 b.1 in
-              taken_at (shows b.0.0) p b.0.1 rest b.2 (record { front = t.front; parts = t.parts; spelled = (t.front, refl, t.spelled) })
-        ]
+    behind : Takes (λ q text. IsPartType q (0x41 ∷ text)) part_behind_at
+    behind = or_takes (as_at (λ w. wraps w.0 w.1) wrapper_at) (as_at shows (vector_at entry_at)) (as_takes (λ w. wraps w.0 w.1) wrapper_law.takes (λ w text s. (text, refl, s)))
+        (as_takes shows (vector_law entry_law).takes (λ es text s. (text, refl, s)))

@@ -1,10 +1,10 @@
 -- A name of an import or an export, from what the steps that append it do.
-use Rattle.std.proofs.Common.{rules as std_rules, ◌≡◌, ℕ, ◌^◌, ◌<◌, ◌≤◌, Bool, ◌&&◌, List, [], ◌∷◌, ◌++◌, length, Result, sym, ap, ◌∙◌, arith}
+use Rattle.std.proofs.Common.{rules as std_rules, ◌≡◌, ℕ, ◌<◌, ◌≤◌, Bool, ◌&&◌, List, [], ◌∷◌, ◌++◌, length, Result, sym, ap, ◌∙◌, arith}
 use Rattle.std.specs.List.{flat_map}
 use Rattle.wit_model.specs.declared.error.Error.{Error}
 use Rattle.comp_bytes.specs.{Form.Joined, Form.Name, Form.Sequence, Form.Vector, Spelling.attribute, Spelling.attributes, Spelling.Attribute, Spelling.NameWith}
 use Rattle.comp_bytes.specs.{Number.IsU32, Fits.fits_length, Fits.fits_given, Fits.fits_attributes, Appending.Appended, Appending.Appends}
-use Rattle.comp_bytes.specs.{Raw.ExternName, Writing.u32_bytes, Writing.name_bytes, Writing.vector_bytes, Writing.attribute_bytes, Writing.attributed_bytes}
+use Rattle.comp_bytes.specs.{Raw.ExternName, Writing.u32_bytes, Writing.name_bytes, Writing.attribute_bytes, Writing.attributed_bytes}
 use Rattle.comp_bytes.proofs.{Appends.second_fails, Appends.joined, Appends.tagged, Writes.bytes_1, Writes.spells_u32, Sequences.both, Sequences.behind}
 
 pub length-attributes : (name : ExternName) → length (attributes name) ≤ 3
@@ -27,13 +27,8 @@ module _ {X : Type 0} where
   attributed [] text n part old tag named counted new r some small e t a c b = absurd (omega arith)
   attributed (first ∷ others) text n part old tag named counted new r some small e t a c b =
       let bytes : u32_bytes (length (first ∷ others)) ≡ n ∷ [] = ap u32_bytes (sym e) ∙ bytes_1 n small in
-      let fits : length (first ∷ others) < 2 ^ 32 = omega arith in
-      let count : Appended (IsU32 (length (first ∷ others))) (u32_bytes (length (first ∷ others))) named counted = record {
-        items = c ∙ ap (λ (l : List ℕ). named ++ l) (sym bytes);
-        spelled = spells_u32 (length (first ∷ others)) fits;
-      } in
-      let vector = joined (IsU32 (length (first ∷ others))) (Sequence Attribute (first ∷ others)) (u32_bytes (length (first ∷ others))) (flat_map attribute_bytes (first ∷ others)) part part named
-      counted new r count b (λ h. h) in
-      let whole = joined (Name text) (Vector Attribute (first ∷ others)) (name_bytes text) (vector_bytes attribute_bytes (first ∷ others)) part (fits_length text && part) tag named new r a vector
-      (second_fails (fits_length text) part) in
-      tagged 2 (Joined (Name text) (Vector Attribute (first ∷ others))) (name_bytes text ++ vector_bytes attribute_bytes (first ∷ others)) (fits_length text && part) old tag new r t whole
+      let count : Appended (IsU32 (length (first ∷ others))) (u32_bytes (length (first ∷ others))) named counted =
+      record { items = c ∙ ap (λ (l : List ℕ). named ++ l) (sym bytes); spelled = spells_u32 (length (first ∷ others)) (omega arith) } in
+      let vector = joined (IsU32 (length (first ∷ others))) (Sequence Attribute (first ∷ others)) _ _ part part named counted new r count b (λ h. h) in
+      let whole = joined (Name text) (Vector Attribute (first ∷ others)) _ _ part (fits_length text && part) tag named new r a vector (second_fails (fits_length text) part) in
+      tagged 2 (Joined (Name text) (Vector Attribute (first ∷ others))) _ (fits_length text && part) old tag new r t whole

@@ -33,8 +33,7 @@ both_ends x y p = search std_rules
 
 sections_of_parts-push : (ps : List Part) (p : Part) → sections_of_parts (ps ++ p ∷ []) ≡ put_behind (sections_of_parts ps) p
 sections_of_parts-push [] (Part.top_type t) = refl
-sections_of_parts-push [] (Part.top_export e) = refl
-sections_of_parts-push [] (Part.custom name contents) = refl
+sections_of_parts-push [] _ = refl
 sections_of_parts-push (q ∷ ps) p = ap (with_part q) (sections_of_parts-push ps p) ∙ both_ends q (sections_of_parts ps) p
 
 -- the parts of sections with a part in front, or behind
@@ -50,8 +49,7 @@ parts_of-join x y = search (std_rules, map-append, append-nil)
 
 parts_of-put_behind : (sections : List Section) (p : Part) → parts_of (put_behind sections p) ≡ parts_of sections ++ p ∷ []
 parts_of-put_behind [] (Part.top_type t) = refl
-parts_of-put_behind [] (Part.top_export e) = refl
-parts_of-put_behind [] (Part.custom name contents) = refl
+parts_of-put_behind [] _ = refl
 parts_of-put_behind (s ∷ []) p = parts_of-join s p
 parts_of-put_behind (s ∷ t ∷ rest) p = ap (λ (xs : List Part). parts_in s ++ xs) (parts_of-put_behind (t ∷ rest) p) ∙ sym (append_assoc (parts_in s) (parts_of (t ∷ rest)) (p ∷ []))
 
@@ -100,8 +98,7 @@ sections_behind before p g = sections_of_parts-push (parts_of before) p ∙ ap (
 pub top_slots-append : (ps qs : List Part) → top_slots (ps ++ qs) ≡ top_slots ps + top_slots qs
 top_slots-append [] qs = omega arith
 top_slots-append (Part.top_type t ∷ ps) qs = omega (arith, top_slots-append ps qs)
-top_slots-append (Part.top_export e ∷ ps) qs = omega (arith, top_slots-append ps qs)
-top_slots-append (Part.custom name contents ∷ ps) qs = omega (arith, top_slots-append ps qs)
+top_slots-append (_ ∷ ps) qs = omega (arith, top_slots-append ps qs)
 
 pub top_slots-push : (ps : List Part) (p : Part) → top_slots (ps ++ p ∷ []) ≡ top_slots ps + top_slots (p ∷ [])
 top_slots-push ps p = top_slots-append ps (p ∷ [])

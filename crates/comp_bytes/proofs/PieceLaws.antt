@@ -1,9 +1,8 @@
 -- What is read by levels is read as the raw form that it is, and the other way round.
-use Rattle.std.proofs.Common.{rules as std_rules, ◌≡◌, refl, sym, ap, subst, ◌∙◌, ℕ, zero, suc, ◌+◌, ◌<◌, ◌≤◌, ◌^◌, arith, Bool, true, false, ◌&&◌, cond, eqb, ltb, List, [], ◌∷◌, length, map, take, drop, Option, Some, None}
+use Rattle.std.proofs.Common.{rules as std_rules, ◌≡◌, refl, sym, ap, ◌∙◌, ℕ, zero, suc, ◌+◌, ◌<◌, ◌≤◌, ◌^◌, arith, Bool, true, false, ◌&&◌, cond, eqb, ltb, List, [], ◌∷◌, length, map, take, drop, Option, Some, None}
 use Rattle.std.proofs.lemmas.{Bool.ne_eqb, List.length-map, List.length-append, List.length-drop}
 use Rattle.std.specs.{Prelude.nat_eq, Cmp.Lexicographic.pointwise}
 use Rattle.comp_bytes.specs.{Raw.TopType, Raw.Section, Form.Spellings, Form.Sequence, Spelling.IsTopType, Spelling.preamble, Laws.IsReadBy}
-use Rattle.comp_bytes.specs.Number.{IsU32}
 use Rattle.comp_bytes.specs.Reading.{Reader, ◌>>=◌, name_at, vector_at, declaration_at, type_at, top_export_at, whole, frame_at, section_of, sections_of, component_of}
 use Rattle.comp_bytes.specs.Levels.{Entry, plain, holds, PartType, wraps, shows, IsEntry, IsPartType, Piece, custom, types, exports, raw_part, raw_piece, entry_at, part_type_at, piece_of, pieces_of, pieces_in, levels_of, LevelsAreSections, PiecesByFrames, TakesBytes}
 use Rattle.comp_bytes.proofs.{Readers.bind_some, Readers.when_some, LevelLaws.part_into, LevelLaws.part_out, LevelLaws.entry_law, LevelLaws.part_type_law}
@@ -24,20 +23,17 @@ types_out : (ps : List PartType) (text : List ℕ) → Sequence IsTopType (map (
 types_out [] text s = s
 types_out (p ∷ ps) text s = (s.0, s.1, s.2, part_out p s.0 s.3, types_out ps s.1 s.4)
 
-type_count : (ps : List PartType) → length (map (λ p. TopType.component (raw_part p)) ps) ≡ length ps
-type_count ps = length-map ps (λ p. TopType.component (raw_part p))
-
 whole_types_into : (contents : List ℕ) (ps : List PartType) → whole (vector_at part_type_at contents) ≡ Some ps
     → whole (vector_at type_at contents) ≡ Some (map (λ p. TopType.component (raw_part p)) ps)
 whole_types_into contents ps e =
     let v = whole_takes (vector_law part_type_law) contents ps e in
-    whole_again (vector_law type_law) contents (top_types ps) (v.0, v.1, v.2, subst (λ (n : ℕ). IsU32 n v.0) (sym (type_count ps)) v.3, types_into ps v.1 v.4)
+    whole_again (vector_law type_law) contents (top_types ps) (v.0, v.1, v.2, rw length-map v.3, types_into ps v.1 v.4)
 
 whole_types_out : (contents : List ℕ) (ps : List PartType) → whole (vector_at type_at contents) ≡ Some (map (λ p. TopType.component (raw_part p)) ps)
     → whole (vector_at part_type_at contents) ≡ Some ps
 whole_types_out contents ps e =
     let v = whole_takes (vector_law type_law) contents (top_types ps) e in
-    whole_again (vector_law part_type_law) contents ps (v.0, v.1, v.2, subst (λ (n : ℕ). IsU32 n v.0) (type_count ps) v.3, types_out ps v.1 v.4)
+    whole_again (vector_law part_type_law) contents ps (v.0, v.1, v.2, rw length-map at v.3, types_out ps v.1 v.4)
 
 -- ---- sections
 
@@ -64,35 +60,21 @@ module _ (contents : List ℕ) where
       → (whole (vector_at top_export_at contents) >>= λ es. Some (exports es)) ≡ Some p
   exports_out x e = search std_rules
 
+-- which of three was chosen, read in two ways
+by_id : {A B : Type 0} (a b c : Bool) {x y z : Option A} {x' y' z' : Option B} {p : A} {q : B} → (x ≡ Some p → x' ≡ Some q) → (y ≡ Some p → y' ≡ Some q) → (z ≡ Some p → z' ≡ Some q)
+    → cond a x (cond b y (cond c z None)) ≡ Some p → cond a x' (cond b y' (cond c z' None)) ≡ Some q
+by_id true b c f g h e = f e
+by_id false true c f g h e = g e
+by_id false false true f g h e = h e
+by_id false false false f g h e = absurd cc
+
 piece_into : (id : ℕ) (contents : List ℕ) (p : Piece) → piece_of id contents ≡ Some p → section_of id contents ≡ Some (raw_piece p)
 unfolding piece_of section_of
-piece_into id contents p = by_id (eqb id 0) (eqb id 7) (eqb id 0x0b)
-  where
-    by_id : (a b c : Bool)
-        → cond a (name_at contents >>= λ name. Some (custom name.0 name.1)) (cond b (whole (vector_at part_type_at contents) >>= λ ps. Some (types ps))
-        (cond c (whole (vector_at top_export_at contents) >>= λ es. Some (exports es)) None)) ≡ Some p
-        → cond a (name_at contents >>= λ name. Some (Section.custom name.0 name.1))
-        (cond b (whole (vector_at type_at contents) >>= λ ts. Some (Section.types ts)) (cond c (whole (vector_at top_export_at contents) >>= λ es. Some (Section.exports es)) None)) ≡ Some
-        (raw_piece p)
-    by_id true b c e = custom_into contents p e
-    by_id false true c e = types_section_into contents p e
-    by_id false false true e = exports_into contents p e
-    by_id false false false e = absurd cc
+piece_into id contents p = by_id (eqb id 0) (eqb id 7) (eqb id 0x0b) (custom_into contents p) (types_section_into contents p) (exports_into contents p)
 
 piece_out : (id : ℕ) (contents : List ℕ) (p : Piece) → section_of id contents ≡ Some (raw_piece p) → piece_of id contents ≡ Some p
 unfolding piece_of section_of
-piece_out id contents p = by_id (eqb id 0) (eqb id 7) (eqb id 0x0b)
-  where
-    by_id : (a b c : Bool)
-        → cond a (name_at contents >>= λ name. Some (Section.custom name.0 name.1))
-        (cond b (whole (vector_at type_at contents) >>= λ ts. Some (Section.types ts)) (cond c (whole (vector_at top_export_at contents) >>= λ es. Some (Section.exports es)) None)) ≡ Some
-        (raw_piece p)
-        → cond a (name_at contents >>= λ name. Some (custom name.0 name.1)) (cond b (whole (vector_at part_type_at contents) >>= λ ps. Some (types ps))
-        (cond c (whole (vector_at top_export_at contents) >>= λ es. Some (exports es)) None)) ≡ Some p
-    by_id true b c e = custom_out contents p e
-    by_id false true c e = types_section_out contents p e
-    by_id false false true e = exports_out contents p e
-    by_id false false false e = absurd cc
+piece_out id contents p = by_id (eqb id 0) (eqb id 7) (eqb id 0x0b) (custom_out contents p) (types_section_out contents p) (exports_out contents p)
 
 -- ---- components
 
@@ -122,20 +104,20 @@ pieces_out (suc fuel) (b ∷ bytes) (p ∷ ps) e =
     let same : ◌≡◌ {A = List Section} (first.0 ∷ others.0) (raw_piece p ∷ map raw_piece ps) = some_is (first.0 ∷ others.0) (raw_piece p ∷ map raw_piece ps) others.2 in
     let one : first.0 ≡ raw_piece p = cc in
     let more : others.0 ≡ map raw_piece ps = cc in
-    rw (
-      f.1,
-      piece_out f.0.0.0 f.0.0.1 p (first.1 ∙ ap (λ (s : Section). Some s) one),
-      pieces_out fuel f.0.1 ps (others.1 ∙ ap (λ (ss : List Section). Some ss) more),
-    ) refl
+    rw (f.1, piece_out f.0.0.0 f.0.0.1 p (first.1 ∙ ap (λ (s : Section). Some s) one), pieces_out fuel f.0.1 ps (others.1 ∙ ap (λ (ss : List Section). Some ss) more)) refl
 
 -- ---- any bound that is large enough
 
-pub frame_shorter : (bytes : List ℕ) (f : ℕ × List ℕ) (rest : List ℕ) → frame_at bytes ≡ Some (f, rest) → length rest < length bytes
-frame_shorter bytes f rest e =
-    let t = frame_law.takes bytes f rest e in
+-- what is read of a form that has a byte at least takes bytes
+takes_bytes : {A : Type 0} {form : A → Spellings} {reader : Reader A} (law : IsReadBy form reader) → ((x : A) (front : List ℕ) → form x front → 0 < length front) → TakesBytes reader
+takes_bytes law filled bytes x rest e =
+    let t = law.takes bytes x rest e in
     let whole : length bytes ≡ length t.front + length rest = ap length t.parts ∙ length-append t.front rest in
-    let first : length t.front ≡ suc (length t.spelled.0) = ap length t.spelled.1 in
-    omega (arith, whole, first)
+    let some = filled x t.front t.spelled in
+    omega (arith, whole, some)
+
+pub frame_shorter : (bytes : List ℕ) (f : ℕ × List ℕ) (rest : List ℕ) → frame_at bytes ≡ Some (f, rest) → length rest < length bytes
+frame_shorter = takes_bytes frame_law (λ f front s. rw s.1 (omega arith))
 
 -- the section in front, and those that are read behind it
 abbrev behind : (List ℕ → Option (List Piece)) → Option ((ℕ × List ℕ) × List ℕ) → Option (List Piece)
@@ -186,13 +168,6 @@ pub levels_are_sections : LevelsAreSections
 levels_are_sections bytes ps = (levels_into bytes ps, levels_out bytes ps)
 
 -- ---- what is read takes bytes
-
-takes_bytes : {A : Type 0} {form : A → Spellings} {reader : Reader A} (law : IsReadBy form reader) → ((x : A) (front : List ℕ) → form x front → 0 < length front) → TakesBytes reader
-takes_bytes law filled bytes x rest e =
-    let t = law.takes bytes x rest e in
-    let whole : length bytes ≡ length t.front + length rest = ap length t.parts ∙ length-append t.front rest in
-    let some = filled x t.front t.spelled in
-    omega (arith, whole, some)
 
 pub declarations_take : TakesBytes declaration_at
 declarations_take = takes_bytes declaration_law declaration_filled

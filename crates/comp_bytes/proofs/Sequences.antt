@@ -1,20 +1,16 @@
 -- One item behind the items that a loop has appended.
-use Rattle.std.proofs.Common.{rules as std_rules, ◌≡◌, ℕ, ◌+◌, ◌<◌, Bool, false, List, [], ◌∷◌, ◌++◌, length, get_or, take, map, Result, Ok, Err, refl, sym, ap, subst, ◌∙◌, arith, append_assoc, add-one}
+use Rattle.std.proofs.Common.{rules as std_rules, ◌≡◌, ℕ, ◌+◌, ◌<◌, Bool, false, List, [], ◌∷◌, ◌++◌, length, get_or, take, map, Result, Ok, Err, sym, ap, subst, ◌∙◌, arith, append_assoc, add-one}
 use Rattle.std.proofs.Math.Seq.{take-suc}
-use Rattle.std.proofs.{Math.ListN.get_or-map, lemmas.List.append-nil, lemmas.List.length-map, lemmas.List.Folds.list_all_at as list_all-fails}
+use Rattle.std.proofs.{Math.ListN.get_or-map, lemmas.List.append-nil, lemmas.List.Concat.flat_map-append, lemmas.List.length-map, lemmas.List.Folds.list_all_at as list_all-fails}
 use Rattle.std.specs.List.{flat_map, list_all}
 use Rattle.wit_model.specs.declared.error.Error.{Error}
 use Rattle.comp_bytes.specs.{Form.Spellings, Form.Sequence, Appending.Appended, Appending.Stopped, Appending.Appends}
 use Rattle.comp_bytes.proofs.{HeldLaws.sequence_push, Appends.stopped_after, Appends.refused, BuiltLaws.sequence_append as Sequence-append}
 
-flat_map-push : {A : Type 0} (f : A → List ℕ) (xs : List A) (y : A) → flat_map f (xs ++ y ∷ []) ≡ flat_map f xs ++ f y
-flat_map-push f [] y = append-nil (f y)
-flat_map-push f (x ∷ xs) y = ap (λ (l : List ℕ). f x ++ l) (flat_map-push f xs y) ∙ sym (append_assoc (f x) (flat_map f xs) (f y))
-
 module _ {A : Type 0} (form : A → Spellings) (bytes : A → List ℕ) where
   pub one_more : (xs : List A) (y : A) (old now new : List ℕ) → Appended (Sequence form xs) (flat_map bytes xs) old now → Appended (form y) (bytes y) now new
       → Appended (Sequence form (xs ++ y ∷ [])) (flat_map bytes (xs ++ y ∷ [])) old new
-  one_more xs y old now new a b = search (std_rules, flat_map-push, append_assoc, sequence_push)
+  one_more xs y old now new a b = search (std_rules, flat_map-append, append-nil, append_assoc, sequence_push)
 
   -- the item at the index of the loop
   pub next : (xs : List A) (i : ℕ) (d : A) (old now new : List ℕ) → i < length xs → Appended (Sequence form (take i xs)) (flat_map bytes (take i xs)) old now
@@ -45,10 +41,6 @@ stopped_at form bytes test view xs i d old now new e lt a s =
     (λ fails. list_all-fails test (map view xs) i (view d) within (ap test is ∙ fails))
 
 -- ---- sequences behind sequences
-
-flat_map-append : {A : Type 0} (f : A → List ℕ) (xs ys : List A) → flat_map f (xs ++ ys) ≡ flat_map f xs ++ flat_map f ys
-flat_map-append f [] ys = refl
-flat_map-append f (x ∷ xs) ys = ap (λ (l : List ℕ). f x ++ l) (flat_map-append f xs ys) ∙ sym (append_assoc (f x) (flat_map f xs) (flat_map f ys))
 
 module _ {A : Type 0} (form : A → Spellings) (bytes : A → List ℕ) where
   pub both : (xs ys : List A) (old mid new : List ℕ) → Appended (Sequence form xs) (flat_map bytes xs) old mid → Appended (Sequence form ys) (flat_map bytes ys) mid new

@@ -52,11 +52,7 @@ length_within (suc room) n = search (std_rules, cases_lt, lt-ltb, le-ltb, length
 
 pub spells_u32 : (n : ℕ) → n < 2 ^ 32 → IsU32 n (u32_bytes n)
 unfolding u32_bytes
-spells_u32 n lt = record {
-  spelled = spells 5 n (λ a b c d. omega arith);
-  short = length_within 5 n;
-  fits = lt;
-}
+spells_u32 n lt = record { spelled = spells 5 n (λ a b c d. omega arith); short = length_within 5 n; fits = lt }
 
 -- other bytes of the same number are at least as many
 pub no_shorter : (room n : ℕ) (bytes : List ℕ) → AllByRecursion (λ b. b < 256) bytes → IsUnsigned n bytes → length (unsigned_bytes room n) ≤ length bytes

@@ -26,14 +26,8 @@ IsOnce s = distinct (map (λ f. f.0) s.view.functions) ≡ true
 type_join : (f a b : Sight) → same_types f a ≡ true → same_types f b ≡ true → same_types a b ≡ true
 type_join f a b p q = (shown_types_decide a.view.types b.view.types).1 (sym ((shown_types_decide f.view.types a.view.types).0 p) ∙ (shown_types_decide f.view.types b.view.types).0 q)
 
-type_itself : (a : Sight) → same_types a a ≡ true
-type_itself a = (shown_types_decide a.view.types a.view.types).1 refl
-
 abbrev same_in_functions : Sight → Sight → Bool
 same_in_functions a b = same_functions a.view.functions b.view.functions
-
-function_join : (f a b : Sight) → IsOnce f → IsOnce a → IsOnce b → same_in_functions f a ≡ true → same_in_functions f b ≡ true → same_in_functions a b ≡ true
-function_join f a b one two three p q = search (std_rules, functions_make_one_map)
 
 function_itself : (a : Sight) → IsOnce a → same_in_functions a a ≡ true
 function_itself a one = (functions_make_one_map a.view.functions a.view.functions one one).1 refl
@@ -41,9 +35,6 @@ function_itself a one = (functions_make_one_map a.view.functions a.view.function
 -- what agreement says, and what says it
 agree_types : (a b : Sight) → agree a b ≡ true → a.path ≡ b.path → same_types a b ≡ true
 agree_types a b h e = search std_rules
-
-agree_functions : (a b : Sight) → agree a b ≡ true → a.path ≡ b.path → a.whole ≡ true → b.whole ≡ true → same_in_functions a b ≡ true
-agree_functions a b h e p q = search std_rules
 
 agree_from : (a b : Sight) → (a.path ≡ b.path → same_types a b ≡ true) → (a.path ≡ b.path → a.whole ≡ true → b.whole ≡ true → same_in_functions a b ≡ true) → agree a b ≡ true
 agree_from a b types functions = search std_rules
@@ -62,8 +53,7 @@ found_contains p (y ∷ ys) x e = by (p y) refl (found_contains p ys x) e
 
 into : (rest earlier : List Sight) → ((x : Sight) → Contains earlier x → list_all (agree x) rest ≡ true) → all_agree rest ≡ true → agree_with_first earlier rest ≡ true
 into [] earlier before all = refl
-into (s ∷ rest) earlier before all =
-    and_from (agrees_with_first earlier s) (agree_with_first (earlier ++ s ∷ []) rest)
+into (s ∷ rest) earlier before all = and_from (agrees_with_first earlier s) (agree_with_first (earlier ++ s ∷ []) rest)
     (and_from (option_map_or (λ f. same_types f s) (first_of s.path earlier) true) (not s.whole || option_map_or (λ f. same_in_functions f s) (first_whole s.path earlier) true)
     (types (first_of s.path earlier) refl) (implied s.whole _ (λ w. functions w (first_whole s.path earlier) refl)))
     (into rest (earlier ++ s ∷ []) (λ x c. elim (Contains-append_cases earlier (s ∷ []) x c) [
@@ -83,7 +73,7 @@ into (s ∷ rest) earlier before all =
     functions w (Some f) e =
         let found = found_contains (λ x. text_eq s.path x.path && x.whole) earlier f e in
         let path = text_same s.path f.path (first_true (text_eq s.path f.path) f.whole found.0) in
-        agree_functions f s (agrees f found.1) (sym path) (second_true (text_eq s.path f.path) f.whole found.0) w
+        (search std_rules)
 
 -- what is known of the views so far: each is like the first of its path, and no function stands twice
 record Known (earlier : List Sight) : Type 0 where
@@ -100,14 +90,12 @@ module _ (earlier : List Sight) (s : Sight) (known : Known earlier) (one : IsOnc
 
   -- it agrees with each of them
   with_each : (x : Sight) → Contains earlier x → agree x s ≡ true
-  with_each x c = agree_from x s
-      (λ path.
+  with_each x c = agree_from x s (λ path.
       let first = known.types x c in
-      type_join first.0 x s first.2 (with_types first.0 (ap (λ p. first_of p earlier) (sym path) ∙ first.1)))
-      (λ path mine yours.
+      type_join first.0 x s first.2 (with_types first.0 (ap (λ p. first_of p earlier) (sym path) ∙ first.1))) (λ path mine yours.
       let first = known.functions x c mine in
       let there = found_contains (λ y. text_eq x.path y.path && y.whole) earlier first.0 first.1 in
-      function_join first.0 x s (known.once first.0 there.1) (known.once x c) one first.2 (with_functions yours first.0 (ap (λ p. first_whole p earlier) (sym path) ∙ first.1)))
+      (search (std_rules, functions_make_one_map)))
 
   -- the first that passes a test is still the first, or is the one more
   still_first : (q : Sight → Bool) (f : Sight) → find q earlier ≡ Some f → find q (earlier ++ s ∷ []) ≡ Some f
@@ -128,20 +116,16 @@ module _ (earlier : List Sight) (s : Sight) (known : Known earlier) (one : IsOnc
       | inr last ↦ subst (λ (y : Sight). (f : Sight) × (first_whole y.path (earlier ++ s ∷ []) ≡ Some f) × (same_in_functions f y ≡ true)) (last_of s x last)
           (own_functions (ap (λ y. y.whole) (last_of s x last) ∙ w) (first_whole s.path earlier) refl)
     ];
-    once = λ x c. elim (Contains-append_cases earlier (s ∷ []) x c) [
-      | inl there ↦ known.once x there
-      | inr last ↦ subst IsOnce (last_of s x last) one
-    ];
+    once = λ x c. elim (Contains-append_cases earlier (s ∷ []) x c) [ inl there ↦ known.once x there | inr last ↦ subst IsOnce (last_of s x last) one ];
   }
     where
       own_types : (o : Option Sight) → first_of s.path earlier ≡ o → (f : Sight) × (first_of s.path (earlier ++ s ∷ []) ≡ Some f) × (same_types f s ≡ true)
       own_types (Some f) e = (f, still_first (λ y. text_eq s.path y.path) f e, with_types f e)
-      own_types None e = (s, now_first (λ y. text_eq s.path y.path) e (same_text s.path s.path refl), type_itself s)
+      own_types None e = (s, now_first (λ y. text_eq s.path y.path) e (same_text s.path s.path refl), ((shown_types_decide s.view.types s.view.types).1 refl))
 
       own_functions : s.whole ≡ true → (o : Option Sight) → first_whole s.path earlier ≡ o → (f : Sight) × (first_whole s.path (earlier ++ s ∷ []) ≡ Some f) × (same_in_functions f s ≡ true)
       own_functions w (Some f) e = (f, still_first (λ y. text_eq s.path y.path && y.whole) f e, with_functions w f e)
-      own_functions w None e =
-          (s, now_first (λ y. text_eq s.path y.path && y.whole) e (and_from (text_eq s.path s.path) s.whole (same_text s.path s.path refl) w), function_itself s one)
+      own_functions w None e = (s, now_first (λ y. text_eq s.path y.path && y.whole) e (and_from (text_eq s.path s.path) s.whole (same_text s.path s.path refl) w), function_itself s one)
 
 back : (rest earlier : List Sight) → Known earlier → ((x : Sight) → Contains rest x → IsOnce x) → agree_with_first earlier rest ≡ true
     → ((x : Sight) → Contains earlier x → list_all (agree x) rest ≡ true) × (all_agree rest ≡ true)
@@ -167,9 +151,6 @@ interfaces_once seen e x c =
     distinct_behind (map (λ t. t.name) x.view.types) (map (λ f. f.0) x.view.functions) (second_true _ (distinct (map (λ t. t.name) x.view.types ++ map (λ f. f.0) x.view.functions)) interface)
 
 pub first_agrees : FirstAgrees
-first_agrees seen interfaces = either_way (all_agree seen) (agree_with_first [] seen)
-    (λ all. into seen [] (λ x c. absurd (none_contained x c)) all)
-    (λ all. (back seen [] nothing_known (interfaces_once seen interfaces) all).1)
-  where
-    nothing_known : Known []
-    nothing_known = record { types = λ x c. absurd (none_contained x c); functions = λ x c w. absurd (none_contained x c); once = λ x c. absurd (none_contained x c) }
+first_agrees seen interfaces = either_way (all_agree seen) (agree_with_first [] seen) (λ all. into seen [] (λ x c. absurd (none_contained x c)) all)
+    (λ all. (back seen [] (record { types = λ x c. absurd (none_contained x c); functions = λ x c w. absurd (none_contained x c); once = λ x c. absurd (none_contained x c) })
+    (interfaces_once seen interfaces) all).1)

@@ -34,17 +34,13 @@ self n = n
 
 instances_marked : (slots : List Slot) → instance_types slots ≡ marks (map is_instance slots)
 instances_marked [] = refl
-instances_marked (Slot.value t ∷ slots) = instances_marked slots
-instances_marked (Slot.resource place name ∷ slots) = instances_marked slots
-instances_marked (Slot.function f ∷ slots) = instances_marked slots
 instances_marked (Slot.instance ds n ∷ slots) = ap suc (instances_marked slots)
+instances_marked (_ ∷ slots) = instances_marked slots
 
 used_marked : (used : List ℕ) (n : ℕ) (slots : List Slot) → all_used used n slots ≡ all_taken self used n (map is_instance slots)
 used_marked used n [] = refl
-used_marked used n (Slot.value t ∷ slots) = used_marked used (suc n) slots
-used_marked used n (Slot.resource place name ∷ slots) = used_marked used (suc n) slots
-used_marked used n (Slot.function f ∷ slots) = used_marked used (suc n) slots
 used_marked used n (Slot.instance ds around ∷ slots) = ap (λ b. list_any (λ m. eqb m n) used && b) (used_marked used (suc n) slots)
+used_marked used n (_ ∷ slots) = used_marked used (suc n) slots
 
 -- what has been used are instance types among the slots, none twice
 abbrev IsKept : Scope → Type 0
@@ -66,15 +62,11 @@ kept_along scope _ (signs f s e) k = kept_slot scope (Slot.function s) k
 kept_along scope _ (aliases m name slot e) k = kept_slot scope slot k
 kept_along scope _ (sees_function direction name n f e) k = kept_seen direction (seen_under name (Shown.function f)) scope k
 kept_along scope _ (sees_type name described found e) k = kept_slot scope found.1 k
-kept_along scope _ (sees_instance direction name n key view new e) k =
-    search (std_rules, slice_get-map, used_is, kept_seen, seen_instance, with_instance, one_number_more)
+kept_along scope _ (sees_instance direction name n key view new e) k = search (std_rules, slice_get-map, used_is, kept_seen, seen_instance, with_instance, one_number_more)
 
 kept_entry : (scope next : Scope) (x : Entry) → entry_step scope x ≡ Some next → IsKept scope → IsKept next
 kept_entry scope next (plain d) e k = kept_along scope next (step_of scope next d e) k
 kept_entry scope next (holds ds) e k = subst IsKept (some_is (in_scope (Slot.instance ds (length scope.slots)) scope) next e) (kept_slot scope (Slot.instance ds (length scope.slots)) k)
-
-new_kept : IsKept new_scope
-new_kept = record { below = λ n h. absurd cc; count = refl }
 
 -- none is left unused exactly where there are as many uses as instance types
 none_unused : (scope : Scope) → IsKept scope → eqb (length scope.used) (instance_types scope.slots) ≡ all_used scope.used 0 scope.slots
@@ -97,7 +89,7 @@ scope_is es = ap (λ o. o >>= λ scope. provided (eqb (length scope.used) (insta
     by : (o : Option Scope) → steps entry_step new_scope es ≡ o
         → (o >>= λ scope. provided (eqb (length scope.used) (instance_types scope.slots)) scope) ≡ (o >>= λ scope. provided (all_used scope.used 0 scope.slots) scope)
     by None e = refl
-    by (Some scope) e = ap (λ b. provided b scope) (none_unused scope (steps_keep IsKept entry_step kept_entry es new_scope scope e new_kept))
+    by (Some scope) e = ap (λ b. provided b scope) (none_unused scope (steps_keep IsKept entry_step kept_entry es new_scope scope e (record { below = λ n h. absurd cc; count = refl })))
 
 -- ---- what is followed are entries
 

@@ -9,7 +9,7 @@ use Rattle.base_lemmas.proofs.Bools.{both_ways as either_way, left_of as first_t
 use Rattle.wit_model.specs.Text.{Text, TextMap, text_eq, text_cmp}
 use Rattle.wit_model.proofs.{VersionLaws.same_text, Maps.one_map, Maps.there_some, AnyOrder.found-there as found_there, TextLemmas.text_same}
 use Rattle.comp_meaning.specs.{Rules.distinct, Same.same_function, Same.stand_in}
-use Rattle.comp_meaning.specs.{Reads.same_functions, SameLaws.DecidesEquality, SameLaws.SameFunctionsStandInEachOther, SameLaws.SameFunctionsAreOneMap}
+use Rattle.comp_meaning.specs.{SameLaws.DecidesEquality, SameLaws.SameFunctionsStandInEachOther, SameLaws.SameFunctionsAreOneMap}
 use Rattle.comp_meaning.proofs.SameLaws.{functions_decide}
 use Rattle.comp_meaning.proofs.Marks.{marks, all_taken, Counted, no_number, one_number_first, no_more, exact, taken_at, true_mark, all_marked}
 
@@ -35,10 +35,8 @@ module _ {X : Type 0} where
   pub one_value : (fs : List (Text × X)) → distinct (names fs) ≡ true → (k : Text) (v w : X) → Contains fs (k, v) → Contains fs (k, w) → v ≡ w
   one_value [] e k v w (i, low, h) d = absurd (omega (arith, low))
   one_value (f ∷ fs) e k v w (zero, low, h) (zero, small, g) = sym (ap (λ z. z.1) h) ∙ ap (λ z. z.1) g
-  one_value (f ∷ fs) e k v w (zero, low, h) (suc j, small, g) =
-      absurd (none_again f fs w e (subst (λ (n : Text). Contains fs (n, w)) (sym (ap (λ z. z.0) h)) (j, omega (arith, small), g)))
-  one_value (f ∷ fs) e k v w (suc i, low, h) (zero, small, g) =
-      absurd (none_again f fs v e (subst (λ (n : Text). Contains fs (n, v)) (sym (ap (λ z. z.0) g)) (i, omega (arith, low), h)))
+  one_value (f ∷ fs) e k v w (zero, low, h) (suc j, small, g) = absurd (none_again f fs w e (subst (λ (n : Text). Contains fs (n, w)) (sym (ap (λ z. z.0) h)) (j, omega (arith, small), g)))
+  one_value (f ∷ fs) e k v w (suc i, low, h) (zero, small, g) = absurd (none_again f fs v e (subst (λ (n : Text). Contains fs (n, v)) (sym (ap (λ z. z.0) g)) (i, omega (arith, low), h)))
   one_value (f ∷ fs) e k v w (suc i, low, h) (suc j, small, g) =
       one_value fs (second_true (not (is_named fs f.0)) (distinct (names fs)) e) k v w (i, omega (arith, low), h) (j, omega (arith, small), g)
 
@@ -89,16 +87,12 @@ module _ {X : Type 0} where
       one_number_first (λ x. position x.0 gs) fs f (map (λ _. true) gs) others (false_from_ne_true (list_any (λ x. eqb (position x.0 gs) (position f.0 gs)) fs) (λ s.
       let other = position_among gs fs (position f.0 gs) s in
       let same : other.0.0 ≡ f.0 = position_one gs other.0.0 f.0 (h other.0.0 other.0.1 (behind f fs other.0 other.1)) here other.2 in
-      none_again f fs other.0.1 e (subst (λ (n : Text). Contains fs (n, other.0.1)) same other.1)))
-      (true_mark gs (position f.0 gs) (position_low gs f.0 here))
+      none_again f fs other.0.1 e (subst (λ (n : Text). Contains fs (n, other.0.1)) same other.1))) (true_mark gs (position f.0 gs) (position_low gs f.0 here))
 
   -- ---- lists of which one stands in the other
 
   no_longer : (fs gs : List (Text × X)) → ((k : Text) (v : X) → Contains fs (k, v) → Contains gs (k, v)) → distinct (names fs) ≡ true → length fs ≤ length gs
-  no_longer fs gs stand e =
-      let c = counted gs fs (λ k v c. contained_name gs k v (stand k v c)) e in
-      let most = no_more (λ f. position f.0 gs) fs (map (λ _. true) gs) c in
-      omega (arith, most, all_marked gs)
+  no_longer fs gs stand e = omega (arith, no_more (λ f. position f.0 gs) fs (map (λ _. true) gs) (counted gs fs (λ k v c. contained_name gs k v (stand k v c)) e), all_marked gs)
 
   -- as many as the others, and all among them: so the others are among these
   the_others : (fs gs : List (Text × X)) → ((k : Text) (v : X) → Contains fs (k, v) → Contains gs (k, v)) → distinct (names fs) ≡ true → distinct (names gs) ≡ true → length fs ≡ length gs
@@ -184,5 +178,4 @@ pub functions_stand : SameFunctionsStandInEachOther
 functions_stand fs gs e g = both_ways same_function functions_decide fs gs e g
 
 pub functions_make_one_map : SameFunctionsAreOneMap
-functions_make_one_map fs gs e g =
-    Decides-at (same_functions fs gs) (stand_in same_function fs gs && stand_in same_function gs fs) (functions_stand fs gs e g) (make_one_map same_function functions_decide fs gs e g)
+functions_make_one_map fs gs e g = search (std_rules, Decides-at, functions_stand, make_one_map, functions_decide)

@@ -42,13 +42,11 @@ member_levels x m e =
     let part = bind_some (part_of x.0 x.1) _ m e in
     elim (wrapped_or x.1) [
       | inl w ↦
-          let world : world_part x.0 (w.0, w.1) ≡ Some part.0 = sym (ap (part_of x.0) w.2) ∙ part.1 in
-          let scope = world_scope x.0 w.0 w.1 part.0 world in
+          let scope = world_scope x.0 w.0 w.1 part.0 (sym (ap (part_of x.0) w.2) ∙ part.1) in
           let es = followed_only w.0 scope.0 scope.1 in
           (wraps es.0 w.1, w.2 ∙ ap (λ inner. Declarations.component inner (Declarations.declares (Declaration.exported w.1 (refs.Component 0)) Declarations.no_more)) es.1)
       | inr other ↦
-          let plain_part : part_of x.0 x.1 ≡ interface_part x.0 x.1 = rw other refl in
-          let scope = interface_scope x.0 x.1 part.0 (sym plain_part ∙ part.1) in
+          let scope = interface_scope x.0 x.1 part.0 (sym (rw other refl) ∙ part.1) in
           let es = followed_only x.1 scope.0 scope.1 in
           (shows es.0, es.1)
     ]
@@ -68,16 +66,7 @@ record IsKept (top : reads.Top) : Type 0 where
   within : (i n : ℕ) → slice_get top.slots i ≡ Some n → n < length top.types
 
 kept_type : (top next : reads.Top) (t : TopType) → top_type top t ≡ Some next → IsKept top → IsKept next
-kept_type top next (TopType.component ds) e k =
-    subst IsKept (some_is (record { types = top.types ++ ds ∷ []; slots = top.slots ++ length top.types ∷ []; exported = top.exported }) next e) (record {
-      counted = subst (λ fs. Counted (λ x. x.1) top.exported fs) (sym (map-append (λ _. true) top.types (ds ∷ []))) (one_mark_more (λ x. x.1) top.exported (map (λ _. true) top.types) true k.counted);
-      within = λ i n found.
-          let more = length-append top.types (ds ∷ []) in
-          elim (appended_at top.slots (length top.types) n i found) [
-            | inl before ↦ let low = k.within i n before in omega (arith, low, more)
-            | inr last ↦ omega (arith, last, more)
-          ];
-    })
+kept_type top next (TopType.component ds) e k = search (std_rules, some_is, Counted, map-append, one_mark_more, length-append, appended_at)
 kept_type top next _ e k = absurd cc
 
 kept_export : (top next : reads.Top) (x : TopExport) → reads.top_export top x ≡ Some next → IsKept top → IsKept next
@@ -91,42 +80,35 @@ kept_export top next x e k =
     subst IsKept (some_is after next w.1) (record {
       counted = one_number_more (λ y. y.1) top.exported (x.exported_as.text, b.0) (map (λ _. true) top.types) k.counted (not-true (list_any (λ y. eqb y.1 b.0) top.exported) new.1)
           (true_mark top.types b.0 low);
-      within = λ i n found. elim (appended_at top.slots b.0 n i found) [
-        | inl before ↦ k.within i n before
-        | inr last ↦ omega (arith, last, low)
-      ];
+      within = λ i n found. elim (appended_at top.slots b.0 n i found) [ inl before ↦ k.within i n before | inr last ↦ omega (arith, last, low) ];
     })
 
-kept_section : (top next : reads.Top) (s : Section) → top_section top s ≡ Some next → IsKept top → IsKept next
-kept_section top next (Section.custom name contents) e k = subst IsKept (some_is top next e) k
-kept_section top next (Section.types ts) e k = steps_keep IsKept top_type kept_type ts top next e k
-kept_section top next (Section.exports es) e k = steps_keep IsKept reads.top_export kept_export es top next e k
+-- what types and exports keep stays behind a section
+module _ (P : reads.Top → Type 0) (types : (top next : reads.Top) (t : TopType) → top_type top t ≡ Some next → P top → P next)
+    (exports : (top next : reads.Top) (x : TopExport) → reads.top_export top x ≡ Some next → P top → P next) where
+  section_keeps : (top next : reads.Top) (s : Section) → top_section top s ≡ Some next → P top → P next
+  section_keeps top next (Section.custom name contents) e k = subst P (some_is top next e) k
+  section_keeps top next (Section.types ts) e k = steps_keep P top_type types ts top next e k
+  section_keeps top next (Section.exports es) e k = steps_keep P reads.top_export exports es top next e k
 
 abbrev empty_top : reads.Top
 empty_top = record { types = []; slots = []; exported = [] }
 
-empty_kept : IsKept empty_top
-empty_kept = record { counted = record { below = λ n h. absurd cc; count = refl }; within = λ i n h. absurd cc }
-
 -- a type that is exported has been followed
 exported_levels : (types : List Declarations) (xs : List (Text × ℕ)) (found : List (Text × Declarations)) (members : List Member) → each (λ x. raw_found x (slice_get types x.1)) xs ≡ Some found
-    → each member found ≡ Some members
-    → (n : ℕ) → list_any (λ x. eqb x.1 n) xs ≡ true → (ds : Declarations) → slice_get types n ≡ Some ds → IsLevelled ds
+    → each member found ≡ Some members → (n : ℕ) → list_any (λ x. eqb x.1 n) xs ≡ true → (ds : Declarations) → slice_get types n ≡ Some ds → IsLevelled ds
 exported_levels types [] found members e f n h ds at = absurd cc
 exported_levels types (x ∷ xs) found members e f n h ds at =
     let one = bind_some (raw_found x (slice_get types x.1)) _ found e in
     let more = bind_some (each (λ x. raw_found x (slice_get types x.1)) xs) _ found one.2 in
     let type_at = bind_some (slice_get types x.1) _ one.0 one.1 in
-    let all : each member (one.0 ∷ more.0) ≡ Some members = ap (each member) (some_is (one.0 ∷ more.0) found more.2) ∙ f in
-    let first = bind_some (member one.0) _ members all in
+    let first = bind_some (member one.0) _ members (ap (each member) (some_is (one.0 ∷ more.0) found more.2) ∙ f) in
     let others = bind_some (each member more.0) _ members first.2 in
     by one.0 first.0 first.1 type_at.0 type_at.1 (some_is (x.0, type_at.0) one.0 type_at.2) (λ k. exported_levels types xs more.0 others.0 more.1 others.1 n k ds at) (eqb x.1 n) refl
   where
     by : (y : Text × Declarations) (m : Member) → member y ≡ Some m → (d : Declarations) → slice_get types x.1 ≡ Some d → (x.0, d) ≡ y → (list_any (λ z. eqb z.1 n) xs ≡ true → IsLevelled ds)
         → (b : Bool) → eqb x.1 n ≡ b → IsLevelled ds
-    by y m followed d there is rest true same =
-        let here : d ≡ ds = some_is d ds (sym there ∙ ap (slice_get types) (eqb-true x.1 n same) ∙ at) in
-        subst IsLevelled (ap (λ z. z.1) (sym is) ∙ here) (member_levels y m followed)
+    by y m followed d there is rest true same = subst IsLevelled (ap (λ z. z.1) (sym is) ∙ (some_is d ds (sym there ∙ ap (slice_get types) (eqb-true x.1 n same) ∙ at))) (member_levels y m followed)
     by y m followed d there is rest false same = rest (sym (ap (λ b. b || list_any (λ z. eqb z.1 n) xs) same) ∙ h)
 
 -- ---- what has a meaning is read by levels
@@ -141,14 +123,6 @@ Stands n ds top = slice_get top.types n ≡ Some ds
 
 type_stays : (n : ℕ) (ds : Declarations) (top next : reads.Top) (t : TopType) → top_type top t ≡ Some next → Stands n ds top → Stands n ds next
 type_stays n ds top next x e h = search (std_rules, some_is, get_before, slice_get_within)
-
-export_stays : (n : ℕ) (ds : Declarations) (top next : reads.Top) (x : TopExport) → reads.top_export top x ≡ Some next → Stands n ds top → Stands n ds next
-export_stays n ds top next x e h = search std_rules
-
-section_stays : (n : ℕ) (ds : Declarations) (top next : reads.Top) (s : Section) → top_section top s ≡ Some next → Stands n ds top → Stands n ds next
-section_stays n ds top next (Section.custom name contents) e h = subst (Stands n ds) (some_is top next e) h
-section_stays n ds top next (Section.types ts) e h = steps_keep (Stands n ds) top_type (type_stays n ds) ts top next e h
-section_stays n ds top next (Section.exports es) e h = steps_keep (Stands n ds) reads.top_export (export_stays n ds) es top next e h
 
 types_levels : (ts : List TopType) (top next : reads.Top) → steps top_type top ts ≡ Some next → AllLevelled next → (ps : List PartType) × (ts ≡ map (λ p. TopType.component (raw_part p)) ps)
 types_levels [] top next e all = ([], refl)
@@ -166,7 +140,8 @@ sections_levels (Section.custom name contents ∷ ss) top next e all =
     (levels.custom name contents ∷ more.0, ap (λ (rest : List Section). Section.custom name contents ∷ rest) more.1)
 sections_levels (Section.types ts ∷ ss) top next e all =
     let b = bind_some (steps top_type top ts) _ next e in
-    let here = types_levels ts top b.0 b.1 (λ n ds h. all n ds (steps_keep (Stands n ds) top_section (section_stays n ds) ss b.0 next b.2 h)) in
+    let here = types_levels ts top b.0 b.1 (λ n ds h. all n ds (steps_keep (Stands n ds) top_section (section_keeps (Stands n ds) (type_stays n ds) ((λ top next x e h. search std_rules))) ss b.0
+    next b.2 h)) in
     let more = sections_levels ss b.0 next b.2 all in
     (levels.types here.0 ∷ more.0, ap (λ (xs : List TopType). Section.types xs ∷ ss) here.1 ∙ ap (λ (rest : List Section). raw_piece (levels.types here.0) ∷ rest) more.1)
 sections_levels (Section.exports es ∷ ss) top next e all =
@@ -181,7 +156,8 @@ only_levels ss found members e f =
     let b = bind_some (steps top_section empty_top ss) _ found e in
     let w = when_some (eqb (length b.0.exported) (length b.0.types) && distinct (map (λ x. x.0) b.0.exported)) (each (λ x. raw_found x (slice_get b.0.types x.1)) b.0.exported) found b.2 in
     let many = and_parts (eqb (length b.0.exported) (length b.0.types)) (distinct (map (λ x. x.0) b.0.exported)) w.0 in
-    let kept = steps_keep IsKept top_section kept_section ss empty_top b.0 b.1 empty_kept in
+    let kept = steps_keep IsKept top_section (section_keeps IsKept kept_type kept_export) ss empty_top b.0 b.1
+    (record { counted = record { below = λ n h. absurd cc; count = refl }; within = λ i n h. absurd cc }) in
     let exported_each : all_taken (λ x. x.1) b.0.exported 0 (map (λ _. true) b.0.types) ≡ true =
     sym (exact (λ x. x.1) b.0.exported (map (λ _. true) b.0.types) kept.counted) ∙ (ap (eqb (length b.0.exported)) (all_marked b.0.types) ∙ many.0) in
     sections_levels ss empty_top b.0 b.1 (λ n ds h.
@@ -206,10 +182,6 @@ each_same g f other same (x ∷ xs) = ap (λ o. o >>= λ y. each other (map g xs
 
 -- whatever is made of the members at the end
 module _ {M : Type 0} (last : List Member → Option M) where
-  same_meaning : (ps : List Piece)
-      → (exported_types (map raw_piece ps) >>= λ types. each member types >>= λ members. last members) ≡ (exported_parts ps >>= λ parts. each member_by_levels parts >>= λ members. last members)
-  same_meaning ps = search (std_rules, parts_along, labelled, each_same, member_is)
-
   pub levelled : (bytes : List ℕ) → (levels_of bytes >>= λ ps. exported_parts ps >>= λ parts. each member_by_levels parts >>= λ members. last members)
       ≡ (component_of bytes >>= λ ss. exported_types ss >>= λ types. each member types >>= λ members. last members)
   levelled bytes = by_levels (levels_of bytes) refl
@@ -222,14 +194,12 @@ module _ {M : Type 0} (last : List Member → Option M) where
           let types = bind_some (exported_types ss) _ m e in
           let members = bind_some (each member types.0) last m types.2 in
           let only = only_levels ss types.0 members.0 types.1 members.1 in
-          let read : levels_of bytes ≡ Some only.0 = (levels_are_sections bytes only.0).1 (found ∙ ap (λ (xs : List Section). Some xs) only.1) in
-          let wrong : None ≡ Some only.0 = sym none ∙ read in absurd cc
+          let wrong : None ≡ Some only.0 = sym none ∙ ((levels_are_sections bytes only.0).1 (found ∙ ap (λ (xs : List Section). Some xs) only.1)) in absurd cc
 
       by_levels : (o : Option (List Piece)) → levels_of bytes ≡ o → (o >>= λ ps. exported_parts ps >>= λ parts. each member_by_levels parts >>= λ members. last members)
           ≡ (component_of bytes >>= λ ss. exported_types ss >>= λ types. each member types >>= λ members. last members)
-      by_levels (Some ps) e =
-          let read : component_of bytes ≡ Some (map raw_piece ps) = (levels_are_sections bytes ps).0 e in
-          sym (ap (λ (o : Option (List Section)). o >>= λ ss. exported_types ss >>= λ types. each member types >>= λ members. last members) read ∙ same_meaning ps)
+      by_levels (Some ps) e = sym (ap (λ (o : Option (List Section)). o >>= λ ss. exported_types ss >>= λ types. each member types >>= λ members. last members) ((levels_are_sections bytes ps).0 e)
+          ∙ (search (std_rules, parts_along, labelled, each_same, member_is)))
       by_levels None e = no_meaning e (component_of bytes) refl (component_of bytes >>= λ ss. exported_types ss >>= λ types. each member types >>= λ members. last members) refl
 
 pub package_by_levels : PackageByLevels

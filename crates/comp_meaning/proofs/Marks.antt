@@ -20,9 +20,6 @@ pub all_marked : {A : Type 0} (xs : List A) → marks (map (λ _. true) xs) ≡ 
 all_marked [] = refl
 all_marked (x ∷ xs) = ap suc (all_marked xs)
 
-or_flip : (a b : Bool) → (a || b) ≡ (b || a)
-or_flip x b = search std_rules
-
 same_number : (a b : ℕ) → eqb (suc a) (suc b) ≡ eqb a b
 same_number a b = both_ways (eqb (suc a) (suc b)) (eqb a b) (λ e. let same = eqb-true (suc a) (suc b) e in eq-eqb a b (omega (arith, same))) (λ e. eq-eqb (suc a) (suc b) (ap suc (eqb-true a b e)))
 
@@ -75,8 +72,7 @@ module _ {A : Type 0} (key : A → ℕ) where
   taken_more : (xs : List A) (x : A) (zs : List A) → HasOneMore xs x zs → (n k : ℕ) (fs : List Bool) → key x ≡ n + k → list_any (λ y. eqb (key y) (key x)) xs ≡ false → slice_get fs k ≡ Some true
       → taken zs n fs ≡ suc (taken xs n fs)
   taken_more xs x zs more n zero (true ∷ fs) e new h = search (std_rules, eq-eqb, taken_past)
-  taken_more xs x zs more n (suc k) (true ∷ fs) e new h =
-      search (std_rules, among_other, one_more, taken_more xs x zs more (suc n) k fs (omega (arith, e)) new h)
+  taken_more xs x zs more n (suc k) (true ∷ fs) e new h = search (std_rules, among_other, one_more, taken_more xs x zs more (suc n) k fs (omega (arith, e)) new h)
   taken_more xs x zs more n (suc k) (false ∷ fs) e new h = taken_more xs x zs more (suc n) k fs (omega (arith, e)) new h
   taken_more xs x zs more n _ _ e new h = absurd cc
 
@@ -94,7 +90,7 @@ module _ {A : Type 0} (key : A → ℕ) where
   one_number_more xs x fs c new h = let long = length-append xs (x ∷ []) in grown xs x (xs ++ x ∷ []) (among_more xs x) (omega (arith, long)) fs c new h
 
   pub one_number_first : (xs : List A) (x : A) (fs : List Bool) → Counted xs fs → list_any (λ y. eqb (key y) (key x)) xs ≡ false → slice_get fs (key x) ≡ Some true → Counted (x ∷ xs) fs
-  one_number_first xs x fs c new h = grown xs x (x ∷ xs) (λ n. or_flip (eqb (key x) n) (list_any (λ y. eqb (key y) n) xs)) refl fs c new h
+  one_number_first xs x fs c new h = grown xs x (x ∷ xs) (λ n. (search std_rules)) refl fs c new h
 
   -- none at all
   taken_none : (n : ℕ) (fs : List Bool) → taken [] n fs ≡ 0
@@ -126,7 +122,6 @@ module _ {A : Type 0} (key : A → ℕ) where
 
   pub taken_at : (xs : List A) (n k : ℕ) (fs : List Bool) → all_taken xs n fs ≡ true → slice_get fs k ≡ Some true → list_any (λ x. eqb (key x) (n + k)) xs ≡ true
   taken_at xs n zero (true ∷ fs) all h = search std_rules
-  taken_at xs n (suc k) (true ∷ fs) all h =
-      search (std_rules, second_true, taken_at xs (suc n) k fs (second_true (list_any (λ x. eqb (key x) n) xs) (all_taken xs (suc n) fs) all) h)
+  taken_at xs n (suc k) (true ∷ fs) all h = search (std_rules, second_true, taken_at xs (suc n) k fs (second_true (list_any (λ x. eqb (key x) n) xs) (all_taken xs (suc n) fs) all) h)
   taken_at xs n (suc k) (false ∷ fs) all h = search (std_rules, taken_at xs (suc n) k fs all h)
   taken_at xs n _ _ all h = absurd cc

@@ -1,68 +1,37 @@
 -- Worked examples: a package of one world with functions.
 use Rattle.std.proofs.Common.{zero, suc, ◌≡◌, ℕ, List, [], ◌∷◌, ◌++◌, Some, None, take, drop, false, true, refl}
-use Rattle.std.specs.{Prelude.codes, Prelude.is_some, Prelude.if◌then◌else◌, FinMap.from_entries}
-use Rattle.comp_bytes.specs.{Raw.Declaration, Raw.Declarations, Raw.TopType, Raw.Section, Reading.plain_name, Reading.component_of}
+use Rattle.std.specs.{Prelude.codes, Prelude.is_some, Prelude.if◌then◌else◌, List.list_any, FinMap.from_entries}
+use Rattle.comp_bytes.specs.{Raw.Declaration, Raw.Declarations, Raw.TopType, Raw.Section, Raw.from_list, Reading.plain_name, Reading.component_of}
 use Rattle.wit_model.specs.{Names.cut as cut_at, Tree.Tree, Tree.Primitive, Meaning.Item}
-use Rattle.comp_meaning.proofs.Computing.{computes, one_world, meaning, world_meaning_of, unit_function, a_b, foo}
+use Rattle.comp_meaning.proofs.Computing.{computes, one_world, meaning, world_meaning_of, unit_function, a_b, foo, taking, entry, preamble, text}
 use Rattle.comp_bytes.specs.declared.forms.ComponentTypeRef.TheVariants as refs
 
-raw_of_one_world : component_of one_world ≡ Some
-    (Section.types (TopType.component
-    (Declarations.component
-    (Declarations.declares (Declaration.function (record { is_async = false; parameters = []; result_type = None }))
-    (Declarations.declares (Declaration.imported (plain_name (codes "host")) (refs.Func 0))
-    (Declarations.declares (Declaration.exported (plain_name (codes "guest")) (refs.Func 0))
-    Declarations.no_more)))
-    (Declarations.declares (Declaration.exported (plain_name (codes "a:b/foo")) (refs.Component 0))
-    Declarations.no_more)) ∷ [])
-    ∷ Section.exports (record { exported_as = plain_name (codes "foo"); type_index = 0 } ∷ []) ∷ [])
+raw_of_one_world : component_of one_world ≡ Some (Section.types (TopType.component (Declarations.component
+    (from_list (Declaration.function (record { is_async = false; parameters = []; result_type = None }) ∷ Declaration.imported (plain_name (codes "host")) (refs.Func 0)
+    ∷ Declaration.exported (plain_name (codes "guest")) (refs.Func 0) ∷ []))
+    (from_list (Declaration.exported (plain_name (codes "a:b/foo")) (refs.Component 0) ∷ []))) ∷ []) ∷ Section.exports (record { exported_as = plain_name (codes "foo"); type_index = 0 } ∷ []) ∷ [])
 unfolding computes
 raw_of_one_world = refl
 
-cut_short : component_of (take 62 one_world) ≡ None
-unfolding computes
-cut_short = refl
+-- a custom section may follow, whole
+reads_one_world : (meaning one_world ≡ Some (record { identity = a_b; interfaces = []; worlds = (codes "foo", foo) ∷ []; foreign = from_entries [] }))
+    × (world_meaning_of one_world ≡ Some (record { identity = a_b; name = codes "foo"; world = foo; shown = from_entries [] }))
+    × (meaning (one_world ++ 0 ∷ 2 ∷ 1 ∷ 0x61 ∷ []) ≡ meaning one_world) × (component_of (one_world ++ 0 ∷ 2 ∷ 1 ∷ []) ≡ None)
+unfolding computes meaning world_meaning_of cut_at unit_function a_b foo
+reads_one_world = (refl, refl, refl, refl)
 
-reads_one_world : meaning one_world ≡ Some (record { identity = a_b; interfaces = []; worlds = (codes "foo", foo) ∷ []; foreign = from_entries [] })
-unfolding computes meaning cut_at unit_function a_b foo
-reads_one_world = refl
-
-reads_world_of_one : world_meaning_of one_world ≡ Some (record { identity = a_b; name = codes "foo"; world = foo; shown = from_entries [] })
-unfolding computes world_meaning_of cut_at unit_function a_b foo
-reads_world_of_one = refl
-
--- the index of the imported function is 1, where one type stands
-out_of_scope : meaning (take 29 one_world ++ 1 ∷ drop 30 one_world) ≡ None
+-- the index of the imported function is 1, where one type stands; the preamble alone, and the types without their export, are components that mean no package
+means_nothing : list_any (λ bytes. is_some (meaning bytes)) ((take 29 one_world ++ 1 ∷ drop 30 one_world) ∷ take 8 one_world ∷ take 52 one_world ∷ []) ≡ false
 unfolding computes meaning cut_at
-out_of_scope = refl
+means_nothing = refl
 
--- the preamble alone, and the types without their export, are components that mean no package
 prefix_8 : component_of (take 8 one_world) ≡ Some []
 unfolding computes
 prefix_8 = refl
 
-means_nothing_8 : meaning (take 8 one_world) ≡ None
-unfolding computes meaning
-means_nothing_8 = refl
-
-means_nothing_52 : meaning (take 52 one_world) ≡ None
-unfolding computes meaning cut_at
-means_nothing_52 = refl
-
--- a custom section may follow, whole
-followed : meaning (one_world ++ 0 ∷ 2 ∷ 1 ∷ 0x61 ∷ []) ≡ meaning one_world
-unfolding computes meaning cut_at
-followed = refl
-
-no_prefix_between : component_of (one_world ++ 0 ∷ 2 ∷ 1 ∷ []) ≡ None
-unfolding computes
-no_prefix_between = refl
-
-asynchronous : List ℕ
-asynchronous =
-    0x00 ∷ 0x61 ∷ 0x73 ∷ 0x6d ∷ 0x0d ∷ 0x00 ∷ 0x01 ∷ 0x00 ∷ 0x07 ∷ 0x21 ∷ 0x01 ∷ 0x41 ∷ 0x02 ∷ 0x01 ∷ 0x41 ∷ 0x02 ∷ 0x01 ∷ 0x43 ∷ 0x01 ∷ 0x01 ∷ 0x6e ∷ 0x77 ∷ 0x00 ∷ 0x73 ∷
-    0x04 ∷ 0x00 ∷ 0x02 ∷ 0x67 ∷ 0x6f ∷ 0x01 ∷ 0x00 ∷ 0x04 ∷ 0x00 ∷ 0x07 ∷ 0x61 ∷ 0x3a ∷ 0x62 ∷ 0x2f ∷ 0x66 ∷ 0x6f ∷ 0x6f ∷ 0x04 ∷ 0x00 ∷ 0x0b ∷ 0x09 ∷ 0x01 ∷ 0x00 ∷ 0x03 ∷ 0x66 ∷ 0x6f ∷ 0x6f ∷ 0x03
-    ∷ 0x00 ∷ 0x00 ∷ []
+abbrev asynchronous : List ℕ
+asynchronous = preamble ++ 7 ∷ 33 ∷ 1 ∷ 65 ∷ 2 ∷ 1 ∷ 65 ∷ 2 ∷ 1 ∷ 67 ∷ 1 ∷ 1 ∷ 110 ∷ 119 ∷ 0 ∷ 115 ∷ 4 ∷ 0 ∷ 2 ∷ 103 ∷ 111 ∷ 1 ∷ 0 ∷ 4 ∷ 0 ∷ text "a:b/foo" ++ 4 ∷ 0 ∷ 11 ∷ 9 ∷ 1 ∷ 0 ∷ text "foo" ++ 3
+    ∷ 0 ∷ 0 ∷ []
 
 reads_asynchronous : meaning asynchronous ≡ Some (record {
   identity = a_b;
@@ -71,18 +40,12 @@ reads_asynchronous : meaning asynchronous ≡ Some (record {
     codes "foo",
     record {
       imports = [];
-      exports = (
-        codes "go",
-        record {
-          item = Item.function (record { is_async = true; params = (codes "n", Tree.primitive Primitive.u64) ∷ []; result = Some (Tree.primitive Primitive.string) });
-          external_id = None;
-        },
-      ) ∷ [];
+      exports = entry (codes "go") (Item.function (taking true (codes "n", Tree.primitive Primitive.u64) (Some (Tree.primitive Primitive.string)))) ∷ [];
     },
   ) ∷ [];
   foreign = from_entries [];
 })
-unfolding computes meaning cut_at a_b asynchronous
+unfolding computes meaning cut_at a_b
 reads_asynchronous = refl
 
 -- of the proper prefixes only two have a raw form

@@ -1,9 +1,9 @@
 -- The tests of Same say whether two meanings are equal.
-use Rattle.std.proofs.Common.{◌≡◌, refl, sym, ap, subst, ◌∙◌, ℕ, Bool, true, false, ◌&&◌, eqb, List, [], ◌∷◌, map, Option, Some, None}
+use Rattle.std.proofs.Common.{rules as std_rules, ◌≡◌, refl, sym, ap, subst, ◌∙◌, ℕ, Bool, true, ◌&&◌, eqb, List, [], ◌∷◌, map, Option, Some}
 use Rattle.std.proofs.lemmas.{Bool.and_from, Bool.Decides.Decides-and, Bool.Decides.Decides-eqb, Slice.Eq.bytes_eq-Decides, Slice.Eq.slice_eq-Decides}
 use Rattle.std.specs.{Prelude.slice_get, Prelude.unwrap_or, Bool.Decides, Cmp.Lexicographic.pointwise, Cmp.Derive.Mapped.pointwise-map}
 use Rattle.wit_model.specs.Text.{Text, text_eq}
-use Rattle.wit_model.specs.Tree.{Primitive, Place, Form, Tree, Trees, Declaration}
+use Rattle.wit_model.specs.Tree.{Primitive, Form, Tree, Trees, Declaration}
 use Rattle.comp_meaning.specs.Same.{same_option, same_bool, primitive_number, same_place, same_form, same_tree, same_trees, same_declaration, same_type, same_signature, same_function, same_identity}
 use Rattle.comp_meaning.specs.{Reads.same_shown, SameLaws.DecidesEquality, SameLaws.SameTypesAreEqual, SameLaws.named_meaning}
 use Rattle.base_lemmas.proofs.Bools.{left_of as first_true, right_of as second_true}
@@ -15,18 +15,14 @@ texts_decide a b = bytes_eq-Decides a b
 
 bools_decide : DecidesEquality same_bool
 bools_decide true true = (λ e. refl, λ e. refl)
-bools_decide false false = (λ e. refl, λ e. refl)
-bools_decide _ _ = (λ e. absurd cc, λ e. absurd cc)
+bools_decide _ _ = search std_rules
 
 options_decide : {A : Type 0} (same : A → A → Bool) → DecidesEquality same → (a b : Option A) → Decides (same_option same a b) (a ≡ b)
-options_decide same d None None = (λ e. refl, λ e. refl)
 options_decide same d (Some x) (Some y) = (λ e. ap Some ((d x y).0 e), λ e. (d x y).1 (let same_value : x ≡ y = cc in same_value))
-options_decide same d _ _ = (λ e. absurd cc, λ e. absurd cc)
+options_decide same d _ _ = search std_rules
 
 pairs_decide : {A B : Type 0} (same : A → A → Bool) (other : B → B → Bool) → DecidesEquality same → DecidesEquality other → (x y : A × B) → Decides (same x.0 y.0 && other x.1 y.1) (x ≡ y)
-pairs_decide same other d e x y =
-    let both = Decides-and (same x.0 y.0) (other x.1 y.1) (d x.0 y.0) (e x.1 y.1) in
-    (λ h. let parts = both.0 h in λ i. (parts.0 i, parts.1 i), λ p. both.1 (ap (λ z. z.0) p, ap (λ z. z.1) p))
+pairs_decide same other d e x y = search (std_rules, Decides-and)
 
 lists_decide : {A : Type 0} (same : A → A → Bool) → DecidesEquality same → (xs ys : List A) → Decides (pointwise same xs ys) (xs ≡ ys)
 lists_decide same d xs ys = slice_eq-Decides d xs ys (pointwise same xs ys) refl
@@ -42,22 +38,10 @@ numbered Primitive.bool = refl
 numbered _ = refl
 
 primitives_decide : (p q : Primitive) → Decides (eqb (primitive_number p) (primitive_number q)) (p ≡ q)
-primitives_decide p q = (
-  λ h. sym (numbered p) ∙ (ap primitive_of ((Decides-eqb (primitive_number p) (primitive_number q)).0 h) ∙ numbered q),
-  λ e. (Decides-eqb (primitive_number p) (primitive_number q)).1 (ap primitive_number e),
-)
+primitives_decide p q = search (std_rules, numbered, Decides-eqb)
 
 pub places_decide : DecidesEquality same_place
-places_decide p q = (place_is p q, λ e. subst (λ (x : Place). same_place p x ≡ true) e (itself p))
-  where
-    place_is : (p q : Place) → same_place p q ≡ true → p ≡ q
-    place_is (Place.of_interface a) (Place.of_interface b) e = ap Place.of_interface ((texts_decide a b).0 e)
-    place_is Place.here Place.here e = refl
-    place_is _ _ e = absurd cc
-
-    itself : (p : Place) → same_place p p ≡ true
-    itself (Place.of_interface a) = (texts_decide a a).1 refl
-    itself Place.here = refl
+places_decide p q = search std_rules
 
 cases_decide : (xs ys : List (Text × Bool)) → Decides (pointwise (λ x y. text_eq x.0 y.0 && same_bool x.1 y.1) xs ys) (xs ≡ ys)
 cases_decide = lists_decide (λ x y. text_eq x.0 y.0 && same_bool x.1 y.1) (pairs_decide text_eq same_bool texts_decide bools_decide)
@@ -68,26 +52,17 @@ labels_decide = lists_decide text_eq texts_decide
 form_is : (f g : Form) → same_form f g ≡ true → f ≡ g
 form_is (Form.record_of xs) (Form.record_of ys) e = ap Form.record_of ((labels_decide xs ys).0 e)
 form_is (Form.variant_of xs) (Form.variant_of ys) e = ap Form.variant_of ((cases_decide xs ys).0 e)
-form_is Form.list_of Form.list_of e = refl
 form_is (Form.fixed_list_of n) (Form.fixed_list_of m) e = ap Form.fixed_list_of ((Decides-eqb n m).0 e)
-form_is Form.option_of Form.option_of e = refl
-form_is Form.own_of Form.own_of e = refl
-form_is Form.borrow_of Form.borrow_of e = refl
-form_is Form.map_of Form.map_of e = refl
-form_is Form.tuple_of Form.tuple_of e = refl
 form_is (Form.flags_of xs) (Form.flags_of ys) e = ap Form.flags_of ((labels_decide xs ys).0 e)
 form_is (Form.enum_of xs) (Form.enum_of ys) e = ap Form.enum_of ((labels_decide xs ys).0 e)
-form_is (Form.result_of a b) (Form.result_of c d) e =
-    let both = (Decides-and (same_bool a c) (same_bool b d) (bools_decide a c) (bools_decide b d)).0 e in
-    ap (λ x. Form.result_of x b) both.0 ∙ ap (Form.result_of c) both.1
+form_is (Form.result_of a b) (Form.result_of c d) e = search (std_rules, Decides-and, bools_decide)
 form_is (Form.future_of a) (Form.future_of b) e = ap Form.future_of ((bools_decide a b).0 e)
 form_is (Form.stream_of a) (Form.stream_of b) e = ap Form.stream_of ((bools_decide a b).0 e)
-form_is _ _ e = absurd cc
+form_is _ _ e = search std_rules
 
 pub form_itself : (f : Form) → same_form f f ≡ true
 form_itself (Form.record_of xs) = (labels_decide xs xs).1 refl
 form_itself (Form.variant_of xs) = (cases_decide xs xs).1 refl
-form_itself Form.list_of = refl
 form_itself (Form.fixed_list_of n) = (Decides-eqb n n).1 refl
 form_itself (Form.flags_of xs) = (labels_decide xs xs).1 refl
 form_itself (Form.enum_of xs) = (labels_decide xs xs).1 refl
@@ -103,18 +78,13 @@ mutual
       let both = (Decides-and (same_place p q) (text_eq x y) (places_decide p q) (texts_decide x y)).0 e in
       ap (λ place. Tree.named place x) both.0 ∙ ap (Tree.named q) both.1
   tree_is (Tree.node f ts) (Tree.node g us) e =
-      let form = first_true (same_form f g) (same_trees ts us) e in
-      let parts = second_true (same_form f g) (same_trees ts us) e in
-      ap (λ x. Tree.node x ts) (form_is f g form) ∙ ap (Tree.node g) (trees_are ts us parts)
+      ap (λ x. Tree.node x ts) (form_is f g (first_true (same_form f g) (same_trees ts us) e)) ∙ ap (Tree.node g) (trees_are ts us (second_true (same_form f g) (same_trees ts us) e))
   tree_is _ _ e = absurd cc
 
   trees_are : (ts us : Trees) → same_trees ts us ≡ true → ts ≡ us
-  trees_are Trees.no_children Trees.no_children e = refl
   trees_are (Trees.child t ts) (Trees.child u us) e =
-      let head = first_true (same_tree t u) (same_trees ts us) e in
-      let rest = second_true (same_tree t u) (same_trees ts us) e in
-      ap (λ x. Trees.child x ts) (tree_is t u head) ∙ ap (Trees.child u) (trees_are ts us rest)
-  trees_are _ _ e = absurd cc
+      ap (λ x. Trees.child x ts) (tree_is t u (first_true (same_tree t u) (same_trees ts us) e)) ∙ ap (Trees.child u) (trees_are ts us (second_true (same_tree t u) (same_trees ts us) e))
+  trees_are _ _ e = search std_rules
 
 mutual
   pub tree_itself : (t : Tree) → same_tree t t ≡ true
@@ -133,23 +103,17 @@ trees_decide t u = (tree_is t u, λ e. subst (λ (x : Tree). same_tree t x ≡ t
 
 pub declarations_decide : DecidesEquality same_declaration
 declarations_decide (Declaration.type_ t) (Declaration.type_ u) = (λ e. ap Declaration.type_ ((trees_decide t u).0 e), λ e. (trees_decide t u).1 (let same_tree_there : t ≡ u = cc in same_tree_there))
-declarations_decide Declaration.resource Declaration.resource = (λ e. refl, λ e. refl)
-declarations_decide _ _ = (λ e. absurd cc, λ e. absurd cc)
+declarations_decide _ _ = search std_rules
 
 pub types_decide : DecidesEquality same_type
-types_decide a b =
-    let both = Decides-and (same_declaration a.declaration b.declaration) (same_option text_eq a.external_id b.external_id) (declarations_decide a.declaration b.declaration)
-    (options_decide text_eq texts_decide a.external_id b.external_id) in
-    (λ h. let parts = both.0 h in λ i. record { declaration = parts.0 i; external_id = parts.1 i }, λ e. both.1 (ap (λ x. x.declaration) e, ap (λ x. x.external_id) e))
-
-params_decide : (ps qs : List (Text × Tree)) → Decides (pointwise (λ x y. text_eq x.0 y.0 && same_tree x.1 y.1) ps qs) (ps ≡ qs)
-params_decide = lists_decide (λ x y. text_eq x.0 y.0 && same_tree x.1 y.1) (pairs_decide text_eq same_tree texts_decide trees_decide)
+types_decide a b = search (std_rules, Decides-and, declarations_decide, options_decide, texts_decide)
 
 pub signatures_decide : DecidesEquality same_signature
 signatures_decide a b =
     let params = pointwise (λ x y. text_eq x.0 y.0 && same_tree x.1 y.1) a.params b.params in
     let result = same_option same_tree a.result b.result in
-    let front = Decides-and (same_bool a.is_async b.is_async) params (bools_decide a.is_async b.is_async) (params_decide a.params b.params) in
+    let front = Decides-and (same_bool a.is_async b.is_async) params (bools_decide a.is_async b.is_async)
+    ((lists_decide (λ x y. text_eq x.0 y.0 && same_tree x.1 y.1) (pairs_decide text_eq same_tree texts_decide trees_decide)) a.params b.params) in
     let all = Decides-and (same_bool a.is_async b.is_async && params) result front (options_decide same_tree trees_decide a.result b.result) in
     (λ h. let parts = all.0 h in λ i. record { is_async = parts.0.0 i; params = parts.0.1 i; result = parts.1 i }, λ e. all.1 ((ap (λ x. x.is_async) e, ap (λ x. x.params) e), ap (λ x. x.result) e))
 
@@ -160,11 +124,7 @@ functions_decide a b =
     (λ h. let parts = both.0 h in λ i. record { signature = parts.0 i; external_id = parts.1 i }, λ e. both.1 (ap (λ x. x.signature) e, ap (λ x. x.external_id) e))
 
 pub identities_decide : DecidesEquality same_identity
-identities_decide a b =
-    let version = same_option text_eq a.version b.version in
-    let names = Decides-and (text_eq a.namespace b.namespace) (text_eq a.name b.name) (texts_decide a.namespace b.namespace) (texts_decide a.name b.name) in
-    let all = Decides-and (text_eq a.namespace b.namespace && text_eq a.name b.name) version names (options_decide text_eq texts_decide a.version b.version) in
-    (λ h. let parts = all.0 h in λ i. record { namespace = parts.0.0 i; name = parts.0.1 i; version = parts.1 i }, λ e. all.1 ((ap (λ x. x.namespace) e, ap (λ x. x.name) e), ap (λ x. x.version) e))
+identities_decide a b = search (std_rules, Decides-and, texts_decide, options_decide)
 
 -- ---- the types that views show
 

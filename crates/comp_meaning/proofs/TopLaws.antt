@@ -63,25 +63,19 @@ raw_exports top = when (eqb (length top.exported) (length top.types) && distinct
 abbrev part_exports : Top → Option (List (Text × PartType))
 part_exports top = when (eqb (length top.exported) (length top.types) && distinct (map (λ x. x.0) top.exported)) (each (λ x. part_found x (slice_get top.types x.1)) top.exported)
 
-found_along : (x : Text × ℕ) (o : Option PartType) → raw_found x (option_map raw_part o) ≡ option_map labelled (part_found x o)
-found_along x y = search std_rules
-
 each_exported : (types : List PartType) (exported : List (Text × ℕ))
     → each (λ x. raw_found x (slice_get (map raw_part types) x.1)) exported ≡ option_map (map labelled) (each (λ x. part_found x (slice_get types x.1)) exported)
-each_exported types exported =
-    ap (each (λ x. raw_found x (slice_get (map raw_part types) x.1))) (sym (map-id exported))
+each_exported types exported = ap (each (λ x. raw_found x (slice_get (map raw_part types) x.1))) (sym (map-id exported))
     ∙ each_along (λ x. x) labelled (λ x. part_found x (slice_get types x.1)) (λ x. raw_found x (slice_get (map raw_part types) x.1))
-    (λ x. ap (raw_found x) (slice_get-map raw_part types x.1) ∙ found_along x (slice_get types x.1)) exported
+    (λ x. ap (raw_found x) (slice_get-map raw_part types x.1) ∙ (search std_rules)) exported
 
 when_along : {A B : Type 0} (f : A → B) (b : Bool) (x : Option A) (y : Option B) → y ≡ option_map f x → when b y ≡ option_map f (when b x)
 when_along f x y z e = search std_rules
 
 exports_along : (top : Top) → raw_exports (raw_top top) ≡ option_map (map labelled) (part_exports top)
-exports_along top =
-    ap (λ k. when (eqb (length top.exported) k && distinct (map (λ x. x.0) top.exported)) (each (λ x. raw_found x (slice_get (map raw_part top.types) x.1)) top.exported))
-    (length-map top.types raw_part)
-    ∙ when_along (map labelled) (eqb (length top.exported) (length top.types) && distinct (map (λ x. x.0) top.exported)) (each (λ x. part_found x (slice_get top.types x.1)) top.exported)
-    (each (λ x. raw_found x (slice_get (map raw_part top.types) x.1)) top.exported) (each_exported top.types top.exported)
+exports_along top = ap (λ k. when (eqb (length top.exported) k && distinct (map (λ x. x.0) top.exported)) (each (λ x. raw_found x (slice_get (map raw_part top.types) x.1)) top.exported))
+    (length-map top.types raw_part) ∙ when_along (map labelled) (eqb (length top.exported) (length top.types) && distinct (map (λ x. x.0) top.exported))
+    (each (λ x. part_found x (slice_get top.types x.1)) top.exported) (each (λ x. raw_found x (slice_get (map raw_part top.types) x.1)) top.exported) (each_exported top.types top.exported)
 
 abbrev new_top : Top
 new_top = record { types = []; slots = []; exported = [] }

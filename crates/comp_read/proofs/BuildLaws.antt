@@ -23,10 +23,6 @@ means_some : (p : Plan) (k : PlannedPackage) → package_in p p.main ≡ Some k 
 unfolding plan_meaning
 means_some p k at = ap (option_map (package_meaning p)) at
 
-both : (r : Resolve) (n : ℕ) (m : PackageMeaning) (a b : Option PackageMeaning) → a ≡ b → (Meant r n m → a ≡ Some m) × ((a ≡ Some m) → Meant r n m) → (Meant r n m → b ≡ Some m)
-    × ((b ≡ Some m) → Meant r n m)
-both r n m a b same is = subst (λ (o : Option PackageMeaning). (Meant r n m → o ≡ Some m) × ((o ≡ Some m) → Meant r n m)) same is
-
 module _ (p : Plan) (r : Resolve) (found : Option PackageMeaning) (is : MeansFound found p) (built : IsBuildable p → IsBuilt p r) (valid : IsPlan p → IsValid r) (meant : MeansPlan p r) (others : OthersRise p p.main) where
   are_built : IsBuilt p r
   are_built = built (plans_are_buildable p is.plan.plan)
@@ -47,7 +43,7 @@ module _ (p : Plan) (r : Resolve) (found : Option PackageMeaning) (is : MeansFou
     listed = others_rise p r are_built p.main others;
     meaning = package_meaning p main.0;
     is = sym is.means ∙ means_some p main.0 main.1;
-    meant = λ m. both r p.main m (plan_meaning p) found is.means (meant.package_ is.plan m);
+    meant = λ m. (subst (λ (o : Option PackageMeaning). (Meant r p.main m → o ≡ Some m) × ((o ≡ Some m) → Meant r p.main m)) is.means (meant.package_ is.plan m));
   }
 
 -- ---- how many types there are
@@ -55,8 +51,7 @@ module _ (p : Plan) (r : Resolve) (found : Option PackageMeaning) (is : MeansFou
 -- a type that is used is one of the table
 used_within : (parts : List (List ℕ)) → PartsFall parts → (roots : List Bool) → length roots ≡ length parts → (n : ℕ) → IsUsed parts roots n → n < length parts
 used_within parts fall roots many n (marked m e) = let within = mark_within roots n e in omega (arith, within, many)
-used_within parts fall roots many n (part m k ks used at in_parts) =
-    search (std_rules, all_at (λ k. k < 14 + m) ks (fall m ks at) (14 + n) in_parts, used_within parts fall roots many m used)
+used_within parts fall roots many n (part m k ks used at in_parts) = search (std_rules, all_at (λ k. k < 14 + m) ks (fall m ks at) (14 + n) in_parts, used_within parts fall roots many m used)
 
 earlier : {A : Type 0} (xs : List A) (j : ℕ) (x : A) → slice_get xs (suc j) ≡ Some x → (y : A) × (slice_get xs j ≡ Some y)
 earlier [] j x e = let wrong : None ≡ Some x = e in absurd cc
@@ -75,17 +70,13 @@ module _ (marks : List Bool) (kept : List ℕ) (are : AreMarked marks kept) wher
   at_least zero n e = omega arith
   at_least (suc j) n e =
       let before = earlier kept j n e in
-      let less = at_least j before.0 before.1 in
-      let rise = rises j before.0 n before.1 e in
-      omega (arith, less, rise)
+      omega (arith, at_least j before.0 before.1, rises j before.0 n before.1 e)
 
 few_kept : (marks : List Bool) (kept : List ℕ) → AreMarked marks kept → (bound : ℕ) → ((n : ℕ) → is_marked marks n ≡ true → n < bound) → length kept ≤ bound
 few_kept marks [] are bound below = omega arith
 few_kept marks (x ∷ kept) are bound below =
     let last = last_of x kept in
-    let least = at_least marks (x ∷ kept) are (length kept) last.0 last.1 in
-    let low = below last.0 (mark_there marks last.0 (are.among (length kept) last.0 last.1)) in
-    omega (arith, least, low)
+    omega (arith, (at_least marks (x ∷ kept) are (length kept) last.0 last.1), below last.0 (mark_there marks last.0 (are.among (length kept) last.0 last.1)))
 
 module _ (t : Tables) (fall : TypesFall t) (packages : List PackageIdentity) (homes : ℕ → Option Home) (main : ℕ) (ms : List Member) (p : Plan) (planned : PlansWhole t packages homes main ms p) where
   abbrev all_parts : List (List ℕ)
@@ -97,11 +88,10 @@ module _ (t : Tables) (fall : TypesFall t) (packages : List PackageIdentity) (ho
   pub few_planned : length p.types ≤ length t.shapes
   few_planned =
       let used = planned.kept_for.used in
-      let many = zip_length (PlansType t planned.kept (shown_first ms) (owners_in ms)) planned.kept p.types planned.types in
       let few = few_kept planned.kept_for.marks planned.kept planned.kept_for.marked (length t.shapes) (λ n e.
       let within = used_within all_parts fall used.roots (used.many ∙ sym many_parts) n ((used.marked n).0 e) in
       subst (λ (k : ℕ). n < k) many_parts within) in
-      omega (arith, many, few)
+      omega (arith, zip_length (PlansType t planned.kept (shown_first ms) (owners_in ms)) planned.kept p.types planned.types, few)
 
   pub few_built : (r : Resolve) → IsBuilt p r → length r.types.items ≤ length t.shapes
   few_built r built = search (std_rules, length-map, few_planned)

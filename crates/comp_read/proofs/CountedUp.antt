@@ -95,8 +95,7 @@ pub record IsOfSmaller (P : ℕ → Type 0) (g : ℕ → List ℕ) (n c : ℕ) :
 pub behind_mapped : (P : ℕ → Type 0) (g : ℕ → List ℕ) → ((n d : ℕ) → Contains (g n) d → (c : ℕ) → c < d → IsOfSmaller P g n c) → (front ns : List ℕ) → StandBehind P front ns
     → StandBehind Any (flat_map g front) (flat_map g ns)
 behind_mapped P g given front [] is = tt
-behind_mapped P g given front (n ∷ ns) is =
-    behind_both Any (flat_map g front) (g n) (flat_map g ns) (behind_numbered Any (flat_map g front) (g n) here)
+behind_mapped P g given front (n ∷ ns) is = behind_both Any (flat_map g front) (g n) (flat_map g ns) (behind_numbered Any (flat_map g front) (g n) here)
     (behind_wider Any (flat_map g (front ++ n ∷ [])) (flat_map g front ++ g n) wider (flat_map g ns) (behind_mapped P g given (front ++ n ∷ []) ns is.1))
   where
     here : (j d : ℕ) → slice_get (g n) j ≡ Some d → (c : ℕ) → c < d → Any c → Contains (flat_map g front) c ⊎ IsBefore (g n) j c
@@ -115,10 +114,7 @@ behind_mapped P g given front (n ∷ ns) is =
 -- all that are smaller than one of these stand in front of them all
 pub behind_low : (front ns : List ℕ) → ((n : ℕ) → Contains ns n → (c : ℕ) → c < n → Contains front c) → StandBehind Any front ns
 behind_low front [] low = tt
-behind_low front (n ∷ ns) low = (
-  (λ c less p. low n (first-contained n ns) c less),
-  behind_low (front ++ n ∷ []) ns (λ m d c less. Contains-append_left front (n ∷ []) c (low m (contains-later n ns m d) c less)),
-)
+behind_low front (n ∷ ns) low = ((λ c less p. low n (first-contained n ns) c less), behind_low (front ++ n ∷ []) ns (λ m d c less. Contains-append_left _ _ c (low m (contains-later n ns m d) c less)))
 
 -- ---- all numbers below one
 
@@ -146,10 +142,7 @@ below_has (suc n) k low = elim (cases_lt k n) [
 
 pub has_below : (n k : ℕ) → Contains (below n) k → k < n
 has_below zero k c = none-in k c
-has_below (suc n) k c = elim (Contains-append_cases (below n) (n ∷ []) k c) [
-  | inl d ↦ (let low = has_below n k d in omega (arith, low))
-  | inr d ↦ (let same = last_of n k d in omega (arith, same))
-]
+has_below (suc n) k c = elim (Contains-append_cases (below n) (n ∷ []) k c) [ inl d ↦ (let low = has_below n k d in omega (arith, low)) | inr d ↦ (let same = last_of n k d in omega (arith, same)) ]
 
 module _ (many : ℕ) where
   -- these numbers count on from this one, where all in front are smaller
@@ -159,16 +152,10 @@ module _ (many : ℕ) where
 
   joined_below : (ns : List ℕ) → ((n : ℕ) → Contains ns n → n < many) → CountOn ns
   joined_below [] within k fits front low is all =
-      let same : k ≡ many = elim (cases_lt k many) [
-        | inl more ↦ absurd (elim (all k more) [ inl less ↦ omega (arith, less) | inr c ↦ none-in k c ])
-        | inr past ↦ omega (arith, fits, past)
-      ] in
+      let same : k ≡ many = elim (cases_lt k many) [ inl more ↦ absurd (elim (all k more) [ inl less ↦ omega (arith, less) | inr c ↦ none-in k c ]) | inr past ↦ omega (arith, fits, past) ] in
       ap below same
   joined_below (n ∷ ns) within k fits front low is all = by (joined_below ns (λ m c. within m (contains-later n ns m c)))
     where
-      not_past : k < n → ⊥
-      not_past less = let wrong = low k (is.0 k less tt) in omega (arith, wrong)
-
       inside : n < many
       inside = within n (first-contained n ns)
 
@@ -190,8 +177,7 @@ module _ (many : ℕ) where
       ]
 
       known : CountOn ns → n < k → joined_all (joined (below k) n) ns ≡ below many
-      known on old =
-          ap (λ (b : Bool). joined_all (cond b (below k) (below k ++ n ∷ [])) ns) (contains-has (below k) n (below_has k n old))
+      known on old = ap (λ (b : Bool). joined_all (cond b (below k) (below k ++ n ∷ [])) ns) (contains-has (below k) n (below_has k n old))
           ∙ on k fits (front ++ n ∷ []) (front_low k old (omega arith)) is.1 (left k old (omega arith))
 
       absent : k ≤ n → (b : Bool) → has (below k) n ≡ b → b ≡ false
@@ -200,7 +186,7 @@ module _ (many : ℕ) where
 
       fresh : CountOn ns → k ≤ n → joined_all (joined (below k) n) ns ≡ below many
       fresh on past =
-          let same : n ≡ k = elim (cases_lt k n) [ inl more ↦ absurd (not_past more) | inr le ↦ omega (arith, le, past) ] in
+          let same : n ≡ k = elim (cases_lt k n) [ inl more ↦ absurd (let wrong = low k (is.0 k more tt) in omega (arith, wrong)) | inr le ↦ omega (arith, le, past) ] in
           ap (λ (b : Bool). joined_all (cond b (below k) (below k ++ n ∷ [])) ns) (absent past (has (below k) n) refl)
           ∙ (ap (λ (m : ℕ). joined_all (below k ++ m ∷ []) ns) same
           ∙ on (suc k) (omega (arith, same, inside)) (front ++ n ∷ []) (front_low (suc k) (omega (arith, same)) (omega arith)) is.1 (left (suc k) (omega (arith, same)) (omega arith)))

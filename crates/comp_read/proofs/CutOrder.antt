@@ -14,16 +14,15 @@ use Rattle.plan_package.specs.WholeWorlds.{PlansItem, PlansWorld, a_function, a_
 use Rattle.plan_package.specs.{Views.views_of_members, WholeInterfaces.Home, WholeInterfaces.PlansPlace}
 use Rattle.plan_laws.specs.ShownNames.{DeclaresName}
 use Rattle.comp_read.specs.{Cuts.StandsBefore, Cuts.StandsBehind, Cuts.IsCut, Order.imports_in, Order.once_by_path, ReadInput.IsReadInput, ReadInput.ViewsObey}
-use Rattle.base_lemmas.proofs.Elements.{all_at_too, zip_at_right, contains-map, get-contains, map_from}
-use Rattle.base_lemmas.proofs.Lists.{mapped_get, none_there, append_of_map, length_of_map, get_back, one_item}
+use Rattle.base_lemmas.proofs.Elements.{all_at_too, zip_at_right, contains-map, map_from}
+use Rattle.base_lemmas.proofs.Lists.{mapped_get, none_there, length_of_map, get_back}
 use Rattle.comp_meaning.specs.Reads.{worlds_of}
 use Rattle.plan_type_laws.specs.ShownMarks.{has_no_path}
 use Rattle.plan_laws.proofs.OwnPlaces.{once_first}
 use Rattle.read_exports.specs.Members.{numbered_member, numbered_members}
-use Rattle.comp_read.proofs.{PlanOrder.worlds_meant, ShownOrder.paths_once, Members.instance_shown, ShownScopes.scope_places}
-use Rattle.comp_read.proofs.Cuts.{behind_front, early, first_of, late, of_front, split_flat}
+use Rattle.comp_read.proofs.{PlanOrder.worlds_meant, ShownOrder.paths_once, Members.instance_shown, ShownScopes.scope_places, Views.first_of_place}
+use Rattle.comp_read.proofs.Cuts.{behind_front, early, late, of_front, split_flat}
 use Rattle.comp_read.proofs.{WorldOrder.joined_behind, TypeNumbers.same_part, TypeNumbers.shown_at, TypeNumbers.shown_number, TypeNumbers.told_parts}
-use Rattle.wit_model.proofs.Elements.{contains-flat}
 use Rattle.comp_bytes.specs.Levels.{Piece}
 use Rattle.plan_parts.specs.Kept.{AreMarked}
 use Rattle.plan_types.specs.Orders.{joined_all}
@@ -101,50 +100,25 @@ module _ (ms : List Member) (m : ℕ) (y : Member) (y_at : slice_get ms m ≡ So
 
   module _ (counts : Counts) (k j : ℕ) (v : Text × Scope) (o : IsWorldOf ms k v) where
     not_less : k ≡ worlds_before ms m → o.number < m → ⊥
-    not_less same low =
-        let more = fewer ms (suc o.number) m (omega (arith, low)) in
-        let one = counted ms o.number o.member v.1 o.at o.is in
-        let count = o.count in
-        omega (arith, more, one, count, same)
+    not_less same low = omega (arith, fewer ms (suc o.number) m (omega (arith, low)), counted ms o.number o.member v.1 o.at o.is, o.count, same)
 
     pub before_there : (k < worlds_before ms m) ⊎ ((k ≡ worlds_before ms m) × (j < imports)) → StandsBefore m many o.number j
-    before_there (inl less) = elim (cases_lt o.number m) [
-      | inl low ↦ inl low
-      | inr past ↦ (let more = fewer ms m o.number past in let count = o.count in absurd (omega (arith, less, more, count)))
-    ]
+    before_there (inl less) = elim (cases_lt o.number m) [ inl low ↦ inl low | inr past ↦ (let more = fewer ms m o.number past in let count = o.count in absurd (omega (arith, less, more, count))) ]
     before_there (inr (same, low)) = elim (cases_lt o.number m) [
       | inl less ↦ absurd (not_less same less)
       | inr past ↦ elim (cases_lt m o.number) [
         | inl beyond ↦
             let is = counts.none (omega (arith, low)) in
-            let more = fewer ms (suc m) o.number (omega (arith, beyond)) in
-            let one = counted ms m y is.0 y_at is.1 in
-            let count = o.count in
-            absurd (omega (arith, more, one, count, same))
+            absurd (omega (arith, fewer ms (suc m) o.number (omega (arith, beyond)), counted ms m y is.0 y_at is.1, o.count, same))
         | inr le ↦
-            let here : o.number ≡ m = omega (arith, past, le) in
             let is = counts.none (omega (arith, low)) in
-            let all = counts.world is.0 is.1 in
-            inr (here, omega (arith, low, all))
+            inr (omega (arith, past, le), omega (arith, low, counts.world is.0 is.1))
       ]
     ]
 
     pub behind_there : (worlds_before ms m < k) ⊎ ((k ≡ worlds_before ms m) × (imports ≤ j)) → StandsBehind m many o.number j
-    behind_there (inl more) = elim (cases_lt m o.number) [
-      | inl past ↦ inl past
-      | inr le ↦ (let few = fewer ms o.number m le in let count = o.count in absurd (omega (arith, few, count, more)))
-    ]
-    behind_there (inr (same, far)) = elim (cases_lt o.number m) [
-      | inl less ↦ absurd (not_less same less)
-      | inr past ↦ elim (cases_lt m o.number) [
-        | inl beyond ↦ inl beyond
-        | inr le ↦
-            let here : o.number ≡ m = omega (arith, past, le) in
-            let one : o.member ≡ y = same-some o.member y (sym o.at ∙ (ap (slice_get ms) here ∙ y_at)) in
-            let all = counts.world v.1 (ap (λ (z : Member). z.part) (sym one) ∙ o.is) in
-            inr (here, omega (arith, far, all))
-      ]
-    ]
+    behind_there (inl more) = elim (cases_lt m o.number) [ inl past ↦ inl past | inr le ↦ (let few = fewer ms o.number m le in let count = o.count in absurd (omega (arith, few, count, more))) ]
+    behind_there (inr (same, far)) = search (std_rules, cases_lt, not_less, same-some)
 
 -- ---- the type of an import
 
@@ -166,12 +140,11 @@ module _ (t : Tables) (kept : List ℕ) (places : List ℕ) (n : ℕ) (v : Text 
       by u.0 u.1 u.2
     where
       by : (s : Seen) → slice_get v.1.imports.now j ≡ Some s → PlansItem t kept places plans.find s e → IsImported t kept v.1.home (numbered_scope v.1).imports j a
-      by s s_at (an_instance key view shows made) =
-          let wrong : plan.interface made.number _ ≡ plan.declares a = sym (ap (λ (x : PlannedKey × PlannedItem). x.1) made.is) ∙ is in absurd cc
+      by s s_at (an_instance key view shows made) = search std_rules
       by s s_at (a_function k shows under made) = let wrong : plan.function made.function ≡ plan.declares a = sym made.is ∙ is in absurd cc
       by s s_at (a_type part d k shows made keeps) =
           let same : k ≡ a = same-some k a (ap plan.item_type (sym (ap (λ (x : PlannedKey × PlannedItem). x.1) made) ∙ is)) in
-          let name = named s.shown shows (all_at_too (DeclaresName t v.1.home) v.1.imports.now names j s s_at) in
+          let name = (subst (λ (z : Shown). DeclaresName t v.1.home (record s { shown = z })) shows (all_at_too (DeclaresName t v.1.home) v.1.imports.now names j s s_at)) in
           record {
             seen = numbered_seen s;
             at = mapped_get numbered_seen v.1.imports.now j s s_at;
@@ -181,10 +154,6 @@ module _ (t : Tables) (kept : List ℕ) (places : List ℕ) (n : ℕ) (v : Text 
             row = name.2;
             kept_ = subst (λ (q : ℕ). IsPart kept q (14 + a)) name.1 (subst (λ (q : ℕ). IsPart kept part (14 + q)) same keeps);
           }
-        where
-          named : (x : Shown) → x ≡ shown.Declares part d → DeclaresName t v.1.home (record s { shown = x })
-              → (number : ℕ) × (part ≡ 14 + number) × (slice_get t.shapes number ≡ Some (named_shape v.1.home s.key.now))
-          named x same given = subst (λ (z : Shown). DeclaresName t v.1.home (record s { shown = z })) same given
 
 -- ---- What had been shown at a cut, in numbers and by the parts and declarations that were read.
 
@@ -197,28 +166,6 @@ zip_take R m [] (y ∷ ys) all = absurd all
 zip_take R m (x ∷ xs) [] all = absurd all
 zip_take R zero (x ∷ xs) (y ∷ ys) all = tt
 zip_take R (suc m) (x ∷ xs) (y ∷ ys) all = (all.0, zip_take R m xs ys all.1)
-
-pub mapped_zip : {A B C : Type 0} (g : ℕ → C) (f : A → List ℕ) (h : B → List C) (xs : List A) (ys : List B) → AllZip (λ x y. map g (f x) ≡ h y) xs ys → map g (flat_map f xs) ≡ flat_map h ys
-mapped_zip g f h [] [] all = refl
-mapped_zip g f h [] (y ∷ ys) all = absurd all
-mapped_zip g f h (x ∷ xs) [] all = absurd all
-mapped_zip g f h (x ∷ xs) (y ∷ ys) all = append_of_map g (f x) (flat_map f xs) ∙ (λ i. all.0 i ++ mapped_zip g f h xs ys all.1 i)
-
--- two lists that lie beside a third lie beside each other
-pub chained : {A B C D : Type 0} (R : A → B → Type 0) (Q : D → C → Type 0) (g : B → D) (xs : List A) (ys : List B) (zs : List C) → AllZip R xs ys → AllZip Q (map g ys) zs
-    → AllZip (λ x z. Unit {0}) xs zs
-chained R Q g [] [] [] a b = tt
-chained R Q g [] [] (z ∷ zs) a b = absurd b
-chained R Q g [] (y ∷ ys) zs a b = absurd a
-chained R Q g (x ∷ xs) [] zs a b = absurd a
-chained R Q g (x ∷ xs) (y ∷ ys) [] a b = absurd b
-chained R Q g (x ∷ xs) (y ∷ ys) (z ∷ zs) a b = (tt, chained R Q g xs ys zs a.1 b.1)
-
-pub zip_of_map : {A B C : Type 0} (P : C → B → Type 0) (g : A → C) (xs : List A) (ys : List B) → AllZip (λ x y. P (g x) y) xs ys → AllZip P (map g xs) ys
-zip_of_map P g [] [] all = tt
-zip_of_map P g [] (y ∷ ys) all = absurd all
-zip_of_map P g (x ∷ xs) [] all = absurd all
-zip_of_map P g (x ∷ xs) (y ∷ ys) all = (all.0, zip_of_map P g xs ys all.1)
 
 -- ---- places
 
@@ -244,6 +191,12 @@ pub counts_of : (t : Tables) (h : Homes) (ms : List Member) (m : ℕ) (k : Membe
     → (many : ℕ) → length scope.imports ≡ many → Counts ms m k at many (imports_in y.part scope)
 counts_of t h ms m k at y is scope many same = search std_rules
 
+-- a type of the plan whose part is so
+pub record IsSo (P : ℕ → Type 0) (kept : List ℕ) (c : ℕ) : Type 0 where
+  pub part : ℕ
+  pub is : IsPart kept part (14 + c)
+  pub so : P part
+
 -- ---- the types of interfaces that had been shown at a cut have smaller numbers than it, and those of others don't
 
 module _ (pieces : List Piece) (x : Followed) (h : Homes) (ms : List Member) (members : List reads.Member) (input : IsReadInput pieces x h ms members) (known : ℕ
@@ -260,17 +213,13 @@ module _ (pieces : List Piece) (x : Followed) (h : Homes) (ms : List Member) (me
 
   -- an instance of the place of this one, of a scope where it stands
   there_in : (n j : ℕ) (u : NumberedScope) (q : ℕ) → slice_get ws n ≡ Some u → slice_get (scope_places u) j ≡ Some q → (o : NumberedInstance) × IsInstanceAt ws n j o × (o.place ≡ q)
-  there_in n j u q u_at q_at =
-      let o = get_back (λ (i : NumberedInstance). i.place) u.instances j q q_at in
-      (o.0, record { scope = u; at = u_at; instance_at = o.1 }, o.2)
+  there_in n j u q u_at q_at = search (std_rules, get_back)
 
   -- a type of one of them is a type of the other
   told : (n j : ℕ) (i : NumberedInstance) → IsInstanceAt ws n j i → (k l : ℕ) (o : NumberedInstance) → IsInstanceAt ws k l o → i.place ≡ o.place → (y : NumberedType) → Contains i.view.types y
       → (z : NumberedType) × Contains o.view.types z × (part_of z.slot ≡ part_of y.slot)
-  told n j i at k l o o_at same y c =
-      map_from (λ (z : NumberedType). part_of z.slot) o.view.types (part_of y.slot)
-      (subst (λ (ps : List ℕ). Contains ps (part_of y.slot)) (told_parts pieces x h ms members input known obey n j i at k l o o_at same)
-      (contains-map (λ (z : NumberedType). part_of z.slot) i.view.types y c))
+  told n j i at k l o o_at same y c = map_from _ _ _ (subst (λ (ps : List ℕ). Contains ps (part_of y.slot)) (told_parts pieces x h ms members input known obey n j i at k l o o_at same)
+      (contains-map _ _ y c))
 
   shown_low : (n j : ℕ) (i : NumberedInstance) → IsInstanceAt ws n j i → Contains shown_front i.place → (y : NumberedType) → Contains i.view.types y → part_of y.slot < 14 + many
   shown_low n j i at c y y_in =
@@ -281,41 +230,17 @@ module _ (pieces : List Piece) (x : Followed) (h : Homes) (ms : List Member) (me
 
   shown_high : (n j : ℕ) (i : NumberedInstance) → IsInstanceAt ws n j i → (Contains shown_front i.place → ⊥) → (y : NumberedType) → Contains i.view.types y → 14 + many ≤ part_of y.slot
   shown_high n j i at none y y_in =
-      let among : Contains (scope_places at.scope) i.place = contains-map (λ (o : NumberedInstance). o.place) at.scope.instances i (get-contains at.scope.instances j i at.instance_at) in
-      let f = first_of scope_places ws i.place (contains-flat scope_places ws at.scope i.place (get-contains ws n at.scope at.at) among) in
-      let o = there_in f.number f.inner f.one i.place f.at f.there in
-      let first : IsFirstSeen ws f.number f.inner o.0.place = record {
-        scopes = λ k l u low there same.
-            f.items k there.scope low there.at (subst (Contains (scope_places there.scope)) (same ∙ o.2)
-            (contains-map (λ (z : NumberedInstance). z.place) there.scope.instances u (get-contains there.scope.instances l u there.instance_at)));
-        instances = λ l u low there same.
-            let here = one_item ws f.number there.scope f.one there.at f.at in
-            f.numbers l low (place_at f.one l u (subst (λ (z : NumberedScope). slice_get z.instances l ≡ Some u) here there.instance_at) ∙ ap Some (same ∙ o.2));
-      } in
-      let z = told n j i at f.number f.inner o.0 o.1 (sym o.2) y y_in in
-      let behind = behind_front scope_places ws m w w_at instances i.place none f.number f.inner f.one f.at f.there in
-      subst (λ (p : ℕ). 14 + many ≤ p) z.2 (cut.views_behind f.number f.inner o.0 o.1 first behind z.0 z.1)
-    where
-      place_at : (u : NumberedScope) (l : ℕ) (o : NumberedInstance) → slice_get u.instances l ≡ Some o → slice_get (scope_places u) l ≡ Some o.place
-      place_at u l o e = mapped_get (λ (z : NumberedInstance). z.place) u.instances l o e
+      let f = first_of_place ws n j i at in
+      let z = told n j i at f.scope_number f.number f.one f.at (sym f.place) y y_in in
+      let there = mapped_get (λ (o : NumberedInstance). o.place) f.at.scope.instances f.number f.one f.at.instance_at ∙ ap Some f.place in
+      subst (λ (p : ℕ). 14 + many ≤ p) z.2 (cut.views_behind f.scope_number f.number f.one f.at (subst (IsFirstSeen ws f.scope_number f.number) (sym f.place) f.first)
+      (behind_front scope_places ws m w w_at instances i.place none f.scope_number f.number f.at.scope f.at.at there) z.0 z.1)
 
   -- ---- the plan
 
-  -- a type of the plan is one of those that were there at the cut, or isn't
-  pub record IsLow (kept : List ℕ) (c : ℕ) : Type 0 where
-    pub part : ℕ
-    pub is : IsPart kept part (14 + c)
-    pub low : part < 14 + many
-
-  pub record IsHigh (kept : List ℕ) (c : ℕ) : Type 0 where
-    pub part : ℕ
-    pub is : IsPart kept part (14 + c)
-    pub high : 14 + many ≤ part
-
   module _ (marks : List Bool) (kept : List ℕ) (marked : AreMarked marks kept) (n : ℕ) (homes : ℕ → Option Home) (seen : List NumberedSight)
-      (within : (s : NumberedSight) → Contains seen s → Contains (views_of_members (numbered_members ms)) s)
-      (ps : List ℕ) (met : ps ≡ joined_all [] (flat_map scope_places ws)) (is : List PlannedInterface) (planned : AllZip (PlansPlace t kept n homes seen) ps is)
-      (firsts : (k q : ℕ) → slice_get ps k ≡ Some q → (s : NumberedSight) × (first_at q seen ≡ Some s)) where
+      (within : (s : NumberedSight) → Contains seen s → Contains (views_of_members (numbered_members ms)) s) (ps : List ℕ) (met : ps ≡ joined_all [] (flat_map scope_places ws))
+      (is : List PlannedInterface) (planned : AllZip (PlansPlace t kept n homes seen) ps is) (firsts : (k q : ℕ) → slice_get ps k ≡ Some q → (s : NumberedSight) × (first_at q seen ≡ Some s)) where
     all_split : (rest : List ℕ) × (flat_map scope_places ws ≡ shown_front ++ rest)
     all_split = split_flat scope_places ws m w w_at instances
 
@@ -354,22 +279,22 @@ module _ (pieces : List Piece) (x : Followed) (h : Homes) (ms : List Member) (me
           kept_ = subst (λ (p : ℕ). IsPart kept p (14 + c)) (same_part y.0.slot) y.2;
         }
 
-    pub interface_low : (k : ℕ) (i : PlannedInterface) → slice_get is k ≡ Some i → k < length (once shown_front) → (c : ℕ) → Contains (numbers_of i.types) c → IsLow kept c
+    pub interface_low : (k : ℕ) (i : PlannedInterface) → slice_get is k ≡ Some i → k < length (once shown_front) → (c : ℕ) → Contains (numbers_of i.types) c → IsSo (λ q. q < 14 + many) kept c
     interface_low k i i_at less c c_in =
         let v = of_view k i i_at c c_in in
         let front = early shown_front all_split.0 k v.place (place_among k v.place v.at) less in
         record {
           part = part_of v.type_.slot;
           is = v.kept_;
-          low = shown_low v.scope v.number (instance_shown v.sight) v.there (subst (Contains shown_front) (sym v.same) front) v.type_ v.among;
+          so = shown_low v.scope v.number (instance_shown v.sight) v.there (subst (Contains shown_front) (sym v.same) front) v.type_ v.among;
         }
 
-    pub interface_high : (k : ℕ) (i : PlannedInterface) → slice_get is k ≡ Some i → length (once shown_front) ≤ k → (c : ℕ) → Contains (numbers_of i.types) c → IsHigh kept c
+    pub interface_high : (k : ℕ) (i : PlannedInterface) → slice_get is k ≡ Some i → length (once shown_front) ≤ k → (c : ℕ) → Contains (numbers_of i.types) c → IsSo (λ q. 14 + many ≤ q) kept c
     interface_high k i i_at past c c_in =
         let v = of_view k i i_at c c_in in
         record {
           part = part_of v.type_.slot;
           is = v.kept_;
-          high = shown_high v.scope v.number (instance_shown v.sight) v.there
+          so = shown_high v.scope v.number (instance_shown v.sight) v.there
               (λ d. late shown_front all_split.0 k v.place (place_among k v.place v.at) past (subst (Contains shown_front) v.same d)) v.type_ v.among;
         }

@@ -1,10 +1,10 @@
 -- The places of a beginning among all places, each where it stands first.
-use Rattle.std.proofs.Common.{rules as std_rules, ◌≡◌, refl, sym, ap, subst, ◌∙◌, ℕ, ◌+◌, ◌<◌, ◌≤◌, inl, inr, arith, true, List, [], ◌∷◌, ◌++◌, length, length-append, map, Option, Some, None, slice_get, take, unwrap_or, zero, suc, ◌==◌, append_assoc, drop}
-use Rattle.std.proofs.lemmas.{Bool.cases_lt, Bool.eqb-true, Option.slice_get_within as found_below, Option.same_Some as same-some, List.take-append-drop}
+use Rattle.std.proofs.Common.{rules as std_rules, ◌≡◌, refl, sym, ap, subst, ◌∙◌, ℕ, ◌+◌, ◌<◌, ◌≤◌, inl, inr, arith, true, List, [], ◌∷◌, ◌++◌, length, length-append, map, Option, Some, None, slice_get, take, zero, suc, append_assoc, drop}
+use Rattle.std.proofs.lemmas.{Bool.cases_lt, Option.slice_get_within as found_below, Option.same_Some as same-some, List.take-append-drop}
 use Rattle.std.proofs.Math.{ListN.length-map, Seq.take-append_seam}
 use Rattle.std.proofs.lemmas.List.Elements.{Contains-append_cases, Contains-append_left, Contains-append_right}
 use Rattle.std.specs.{Borrow.Bor, List.Contains, List.flat_map}
-use Rattle.wit_model.specs.{Text.Text, Tree.Place, Uses.has, Uses.once}
+use Rattle.wit_model.specs.{Text.Text, Tree.Place, Uses.once}
 use Rattle.wit_model.proofs.{Elements.contains-get, Elements.contains-flat, Elements.contains-has, Elements.has-contains, Chains.has_once}
 use Rattle.comp_bytes.specs.Levels.{Entry, PartType, Piece}
 use Rattle.comp_meaning.specs.{Rules.distinct, ByLevels.entry_step, Follow.new_scope, Reads.steps}
@@ -12,8 +12,8 @@ use Rattle.comp_meaning.proofs.RulesLemmas.{not_twice}
 use Rattle.plan_meaning.specs.NumberedViews.{NumberedType, Tables, path_at}
 use Rattle.plan_meaning.specs.{NumberedWorlds.NumberedInstance, NumberedWorlds.NumberedScope, NumberedWorlds.NumberedSeen, Shapes.Shape, Shapes.named_shape}
 use Rattle.read_follow.specs.declared.{scopes.Instance.Instance, scopes.Seen.Seen, scopes.Shown.Shown, slots.Slot.Slot, views.ShownType.ShownType}
-use Rattle.read_follow.specs.{Following.IsShownIn, Following.IsSlotIn, Following.IsTypeSlot, Functions.FunctionShape, Placed.IsTypeNamed}
-use Rattle.read_follow.specs.Scopes.{IsImportNamed, IsInstanceIn, IsShownAs, IsShownBy, IsStage, World, by_import, by_instance, world_of, instance_in, meant_at, seen_in, world_signatures, world_trees}
+use Rattle.read_follow.specs.{Following.IsSlotIn, Following.IsTypeSlot, Functions.FunctionShape, Placed.IsTypeNamed}
+use Rattle.read_follow.specs.Scopes.{IsImportNamed, IsShownAs, IsShownBy, IsStage, World, by_import, by_instance, world_of, meant_at, seen_in, world_signatures, world_trees}
 use Rattle.read_follow.proofs.{DefiningLaws.all_at, DefiningLaws.longer, ComponentLaws.place_in, ComponentLaws.places_are, ComponentLaws.places_before}
 use Rattle.read_follow.proofs.PlacedLaws.{stands_on, stood}
 use Rattle.read_parts.specs.declared.{following.Followed.Followed, members.Member.Member}
@@ -23,10 +23,10 @@ use Rattle.read_numbers.specs.NumberedParts.{instance_view, numbered_instance, n
 use Rattle.read_numbers.specs.PlacedNumbers.{part_of, ArePlacedScopes, IsFirstSeen, IsInstanceAt, scopes_in}
 use Rattle.read_numbers.proofs.{PlacedViews.slot_number, ScopeNumbers.path_back}
 use Rattle.comp_read.specs.Cuts.{IsCut, StandsBefore, StandsBehind}
-use Rattle.base_lemmas.proofs.{Elements.map_from, Elements.get-contains, Numbers.same-number}
+use Rattle.base_lemmas.proofs.{Elements.map_from, Elements.get-contains}
 use Rattle.base_lemmas.proofs.Lists.{get_back, heads_equal, mapped_get, one_item, tails_equal, append_of_map, map_of_map, front_at, none_there, slice_front, slice_take}
 use Rattle.plan_laws.proofs.{FirstPlaces.joined_more, Inside.flat_cases, PlaceNumbers.IsOnce, PlaceNumbers.all_once, PlaceNumbers.none_twice}
-use Rattle.comp_read.proofs.{Lists.first_passing, WorldOrder.joined_behind}
+use Rattle.comp_read.proofs.{WorldOrder.joined_behind}
 use Rattle.plan_meaning.specs.NumberedWorlds as worlds
 use Rattle.read_follow.specs.declared.scopes.Shown.TheVariants as shown
 use Rattle.comp_meaning.specs.Follow as follow
@@ -38,8 +38,7 @@ one_front : {A : Type 0} (xs ys us vs : List A) → xs ++ ys ≡ us ++ vs → le
 one_front [] ys [] vs e long = refl
 one_front [] ys (u ∷ us) vs e long = absurd (omega (arith, long))
 one_front (x ∷ xs) ys [] vs e long = absurd (omega (arith, long))
-one_front (x ∷ xs) ys (u ∷ us) vs e long =
-    search (std_rules, heads_equal, tails_equal, one_front xs ys us vs (tails_equal x u (xs ++ ys) (us ++ vs) e) (omega (arith, long)))
+one_front (x ∷ xs) ys (u ∷ us) vs e long = search (std_rules, heads_equal, tails_equal, one_front xs ys us vs (tails_equal x u (xs ++ ys) (us ++ vs) e) (omega (arith, long)))
 
 -- the type of a slot is one of so many
 slot_below : (shapes : List Shape) (fs : List FunctionShape) (s : Slot) → IsSlotIn shapes fs s → IsTypeSlot s → part_of (numbered_slot s) < 14 + length shapes
@@ -85,12 +84,9 @@ module _ (pieces : List Piece) (x : Followed) (followed : IsFollowed pieces x) (
   not_home : (n j : ℕ) (i : NumberedInstance) → IsInstanceAt ws n j i → (k : ℕ) (y : Member) → slice_get ms k ≡ Some y → i.place ≡ (scope_of y.part).home → ⊥
   not_home n j i inst k y there same = by (path_at t i.place) refl
     where
-      home : path_at t (scope_of y.part).home ≡ None
-      home = (placed.each k (scope_in y) (mapped_get scope_in ms k y there)).home
-
       by : (o : Option Text) → path_at t i.place ≡ o → ⊥
       by None e = placed.not_home n k j i (scope_in y) inst (mapped_get scope_in ms k y there) e same
-      by (Some path) e = let wrong : Some path ≡ None = sym e ∙ (ap (path_at t) same ∙ home) in absurd cc
+      by (Some path) e = let wrong : Some path ≡ None = sym e ∙ (ap (path_at t) same ∙ (placed.each k (scope_in y) (mapped_get scope_in ms k y there)).home) in absurd cc
 
   -- ---- a cut
 
@@ -123,9 +119,8 @@ module _ (pieces : List Piece) (x : Followed) (followed : IsFollowed pieces x) (
     -- a name among those types was shown before
     data WasShown (q : ℕ) (name : Text) : Type 0 where
       by_view : (n j : ℕ) (i : NumberedInstance) → IsInstanceAt ws n j i → i.place ≡ q → StandsBefore m (length then.instances) n j → WasShown q name
-      by_name : (n j : ℕ) (y : Member) (s : Seen) (label : Bor (List ℕ)) (part : ℕ) (d : Option ℕ) → slice_get ms n ≡ Some y
-          → slice_get (scope_of y.part).imports.items j ≡ Some s → s.shown ≡ shown.Type label part d → label.now ≡ name
-          → q ≡ (scope_of y.part).home → StandsBefore m (length then.imports) n j → WasShown q name
+      by_name : (n j : ℕ) (y : Member) (s : Seen) (label : Bor (List ℕ)) (part : ℕ) (d : Option ℕ) → slice_get ms n ≡ Some y → slice_get (scope_of y.part).imports.items j ≡ Some s
+          → s.shown ≡ shown.Type label part d → label.now ≡ name → q ≡ (scope_of y.part).home → StandsBefore m (length then.imports) n j → WasShown q name
 
     was_shown : (number q : ℕ) (name : Text) → number < many → slice_get x.table number ≡ Some (named_shape q name) → WasShown q name
     was_shown number q name low e = elim (stage.placed.names number q name low row) [
@@ -143,11 +138,9 @@ module _ (pieces : List Piece) (x : Followed) (followed : IsFollowed pieces x) (
         from_earlier k y less y_at (by_import j s label d s_at is named own) = by_name k j y s label _ d y_at s_at is named own (inl less)
 
         from_here : {part : ℕ} → IsShownBy then q name part → WasShown q name
-        from_here (by_instance j o o_at place among) =
-            by_view m j (numbered_instance o) (instance_there m j member o there (stands_on then.instances (world_in member).instances stage.instances_grow j o o_at)) place
-            (inr (refl, found_below then.instances j o o_at))
-        from_here (by_import j s label d s_at is named own) =
-            by_name m j member s label _ d there (stands_on then.imports (world_in member).imports stage.imports_grow j s s_at) is named (own
+        from_here (by_instance j o o_at place among) = by_view m j (numbered_instance o)
+            (instance_there m j member o there (stands_on then.instances (world_in member).instances stage.instances_grow j o o_at)) place (inr (refl, found_below then.instances j o o_at))
+        from_here (by_import j s label d s_at is named own) = by_name m j member s label _ d there (stands_on then.imports (world_in member).imports stage.imports_grow j s s_at) is named (own
             ∙ sym stage.home) (inr (refl, found_below then.imports j s s_at))
 
     -- ---- what came before
@@ -160,17 +153,11 @@ module _ (pieces : List Piece) (x : Followed) (followed : IsFollowed pieces x) (
         subst (λ (k : NumberedType). part_of k.slot < 14 + many) z.2 (by o z.0 z_at.0 z_at.1 before)
       where
         by : (o : IsOf n j i) (z : ShownType) (k : ℕ) → slice_get o.one.view.types.items k ≡ Some z → StandsBefore m (length then.instances) n j → part_of (numbered_slot z.slot) < 14 + many
-        by o z k z_at (inl less) =
-            let low = staged.types_below n o.member o.there less j o.one o.at k z z_at in
-            let same = slot_number z.slot in
-            let base = base_within in
-            omega (arith, low, same, base)
+        by o z k z_at (inl less) = omega (arith, staged.types_below n o.member o.there less j o.one o.at k z z_at, slot_number z.slot, base_within)
         by o z k z_at (inr (same, low)) =
-            let one = one_member n o.member o.there same in
-            let here : slice_get (scope_of member.part).instances.items j ≡ Some o.one = subst (λ (w : Member). slice_get (scope_of w.part).instances.items j ≡ Some o.one) (sym one) o.at in
-            let was = stood then.instances (world_in member).instances stage.instances_grow j o.one low here in
-            let shown_in = all_at (IsShownIn then.shapes then.signatures) o.one.view.types.items k z
-            (all_at (IsInstanceIn then.shapes then.signatures then.paths) then.instances j o.one stage.world.instances was).types z_at in
+            let shown_in = all_at _ _ k z
+            (all_at _ _ j o.one stage.world.instances (stood then.instances (world_in member).instances stage.instances_grow j o.one low
+            (subst (λ (w : Member). slice_get (scope_of w.part).instances.items j ≡ Some o.one) (sym (one_member n o.member o.there same)) o.at))).types z_at in
             slot_below then.shapes then.signatures z.slot shown_in.slot shown_in.kind
 
     types_before : (n j : ℕ) (w : NumberedScope) (s : NumberedSeen) (d : Option ℕ) → slice_get ws n ≡ Some w → slice_get w.imports j ≡ Some s → s.shown ≡ worlds.declares d
@@ -187,33 +174,26 @@ module _ (pieces : List Piece) (x : Followed) (followed : IsFollowed pieces x) (
             → numbered_shown (map instance_view (scope_of y.part).instances.items) u.shown ≡ worlds.declares d
             → slice_get x.table number ≡ Some (named_shape (scope_of y.part).home (numbered_seen x.places (map instance_view (scope_of y.part).instances.items) u).key)
             → StandsBefore m (length then.imports) n j → number < many
-        by y y_at u u_at (shown.Instance key k) e wrong here side =
-            let other : worlds.instance _ _ ≡ worlds.declares d = ap (numbered_shown (map instance_view (scope_of y.part).instances.items)) (sym e) ∙ wrong in absurd cc
-        by y y_at u u_at (shown.Function name k) e wrong here side =
-            let other : worlds.function k ≡ worlds.declares d = ap (numbered_shown (map instance_view (scope_of y.part).instances.items)) (sym e) ∙ wrong in absurd cc
+        by y y_at u u_at (shown.Instance key k) e wrong here side = search std_rules
+        by y y_at u u_at (shown.Function name k) e wrong here side = search std_rules
         by y y_at u u_at (shown.Type name part o) e same here side =
-            let named = all_at (λ (v : Seen). IsImportNamed x.table (scope_of y.part).home v.shown) (scope_of y.part).imports.items j u (followed.followed.placed n y y_at).placed.named u_at in
-            let part_is = subst (λ (v : Shown). IsImportNamed x.table (scope_of y.part).home v) e named in
-            let own : slice_get x.table number ≡ Some (named_shape (scope_of y.part).home name.now) =
-            subst (λ (v : Shown). slice_get x.table number ≡ Some (named_shape (scope_of y.part).home (numbered_seen x.places (map instance_view (scope_of y.part).instances.items)
-            (record { shown = v; external_id = u.external_id })).key)) e here in
-            let one = followed.followed.tables.table.apart part_is.number number (named_shape (scope_of y.part).home name.now) part_is.at own in
-            let is_part = part_is.is in
-            let low = part_low y y_at u u_at name part o e side in
-            omega (arith, one, is_part, low)
+            let part_is = subst (λ (v : Shown). IsImportNamed x.table (scope_of y.part).home v) e
+            (all_at (λ (v : Seen). IsImportNamed x.table (scope_of y.part).home v.shown) (scope_of y.part).imports.items j u (followed.followed.placed n y y_at).placed.named u_at) in
+            omega (
+              arith,
+              followed.followed.tables.table.apart part_is.number number (named_shape (scope_of y.part).home name.now) part_is.at
+                  (subst (λ (v : Shown). slice_get x.table number ≡ Some (named_shape (scope_of y.part).home
+                  (numbered_seen x.places (map instance_view (scope_of y.part).instances.items) (record { shown = v; external_id = u.external_id })).key)) e here),
+              part_is.is,
+              part_low y y_at u u_at name part o e side,
+            )
           where
             part_low : (y : Member) → slice_get ms n ≡ Some y → (u : Seen) → slice_get (scope_of y.part).imports.items j ≡ Some u → (name : Bor (List ℕ)) (part : ℕ) (o : Option ℕ)
                 → u.shown ≡ shown.Type name part o → StandsBefore m (length then.imports) n j → part < 14 + many
-            part_low y y_at u u_at name part o e (inl less) =
-                let low = staged.imports_below n y y_at less j u u_at name part o e in
-                let base = base_within in
-                omega (arith, low, base)
-            part_low y y_at u u_at name part o e (inr (same, low)) =
-                let one = one_member n y y_at same in
-                let here : slice_get (scope_of member.part).imports.items j ≡ Some u = subst (λ (w : Member). slice_get (scope_of w.part).imports.items j ≡ Some u) (sym one) u_at in
-                let was = stood then.imports (world_in member).imports stage.imports_grow j u low here in
-                let there = all_at (λ (v : Seen). IsShownAs then.shapes then.signatures then.paths (length then.instances) v.shown) then.imports j u stage.world.imports was in
-                (subst (λ (v : Shown). IsShownAs then.shapes then.signatures then.paths (length then.instances) v) e there).0
+            part_low y y_at u u_at name part o e (inl less) = omega (arith, staged.imports_below n y y_at less j u u_at name part o e, base_within)
+            part_low y y_at u u_at name part o e (inr (same, low)) = (subst (λ (v : Shown). IsShownAs then.shapes then.signatures then.paths (length then.instances) v) e
+                (all_at _ _ j u stage.world.imports (stood then.imports (world_in member).imports stage.imports_grow j u low
+                (subst (λ (w : Member). slice_get (scope_of w.part).imports.items j ≡ Some u) (sym (one_member n y y_at same)) u_at)))).0
 
     -- ---- what came behind
 
@@ -222,8 +202,7 @@ module _ (pieces : List Piece) (x : Followed) (followed : IsFollowed pieces x) (
     not_first n j i first (inl more) k l o o_at same (inl less) = first.scopes k l o (omega (arith, more, less)) o_at same
     not_first n j i first (inl more) k l o o_at same (inr (one, low)) = first.scopes k l o (omega (arith, more, one)) o_at same
     not_first n j i first (inr (one, le)) k l o o_at same (inl less) = first.scopes k l o (omega (arith, one, less)) o_at same
-    not_first n j i first (inr (one, le)) k l o o_at same (inr (two, low)) =
-        first.instances l o (omega (arith, le, low)) (subst (λ (z : ℕ). IsInstanceAt ws z l o) (two ∙ sym one) o_at) same
+    not_first n j i first (inr (one, le)) k l o o_at same (inr (two, low)) = first.instances l o (omega (arith, le, low)) (subst (λ (z : ℕ). IsInstanceAt ws z l o) (two ∙ sym one) o_at) same
 
     views_behind : (n j : ℕ) (i : NumberedInstance) → IsInstanceAt ws n j i → IsFirstSeen ws n j i.place → StandsBehind m (length then.instances) n j
         → (y : NumberedType) → Contains i.view.types y → 14 + many ≤ part_of y.slot
@@ -232,13 +211,10 @@ module _ (pieces : List Piece) (x : Followed) (followed : IsFollowed pieces x) (
         let z = map_from numbered_type o.one.view.types.items y (subst (λ (k : NumberedInstance). Contains k.view.types y) (sym o.is) c) in
         let z_at = contains-get o.one.view.types.items z.0 z.1 in
         let name = all_at (IsTypeNamed x.table o.one.place) o.one.view.types.items z_at.0 z.0 ((followed.followed.placed n o.member o.there).placed.instances j o.one o.at).named z_at.1 in
-        let number = slot_number z.0.slot ∙ name.is in
-        let place : o.one.place ≡ i.place = ap (λ (k : NumberedInstance). k.place) o.is in
-        let far : 14 + many ≤ part_of (numbered_slot z.0.slot) = elim (cases_lt name.number many) [
-          | inl low ↦ absurd (by place (was_shown name.number o.one.place z.0.name.now low name.at))
-          | inr past ↦ omega (arith, number, past)
-        ] in
-        subst (λ (k : NumberedType). 14 + many ≤ part_of k.slot) z.2 far
+        subst (λ (k : NumberedType). 14 + many ≤ part_of k.slot) z.2 (elim (cases_lt name.number many) [
+          | inl low ↦ absurd (by (ap (λ (k : NumberedInstance). k.place) o.is) (was_shown name.number o.one.place z.0.name.now low name.at))
+          | inr past ↦ omega (arith, (slot_number z.0.slot ∙ name.is), past)
+        ])
       where
         by : {q : ℕ} {name : Text} → q ≡ i.place → WasShown q name → ⊥
         by place (by_view k l o o_at same before) = not_first n j i first behind k l o o_at (same ∙ place) before
@@ -247,29 +223,10 @@ module _ (pieces : List Piece) (x : Followed) (followed : IsFollowed pieces x) (
     types_behind : (n j : ℕ) (w : NumberedScope) (s : NumberedSeen) (d : Option ℕ) → slice_get ws n ≡ Some w → slice_get w.imports j ≡ Some s → s.shown ≡ worlds.declares d
         → distinct (map (λ (k : NumberedSeen). k.key) w.imports) ≡ true → StandsBehind m (length then.imports) n j
         → (number : ℕ) → slice_get t.shapes number ≡ Some (named_shape w.home s.key) → many ≤ number
-    types_behind n j w s d w_at s_at is apart behind number row = elim (cases_lt number many) [
-      | inl low ↦ absurd (by (was_shown number w.home s.key low row))
-      | inr past ↦ past
-    ]
+    types_behind n j w s d w_at s_at is apart behind number row = elim (cases_lt number many) [ inl low ↦ absurd (by (was_shown number w.home s.key low row)) | inr past ↦ past ]
       where
-        own_home : (y : Member) → scope_in y ≡ w → (scope_of y.part).home ≡ w.home
-        own_home y same = ap (λ (k : NumberedScope). k.home) same
-
         keys : List Text
         keys = map (λ (k : NumberedSeen). k.key) w.imports
-
-        twice : (l : ℕ) → slice_get keys l ≡ Some s.key → l < j → ⊥
-        twice l l_at less = not_twice keys apart l j s.key less l_at (mapped_get (λ (k : NumberedSeen). k.key) w.imports j s s_at)
-
-        seen_at : (y : Member) → scope_in y ≡ w → (l : ℕ) (u : Seen) → slice_get (scope_of y.part).imports.items l ≡ Some u → (label : Bor (List ℕ)) (part : ℕ) (o : Option ℕ)
-            → u.shown ≡ shown.Type label part o
-            → label.now ≡ s.key → slice_get keys l ≡ Some s.key
-        seen_at y same l u u_at label part o shows named =
-            let vs = map instance_view (scope_of y.part).instances.items in
-            let there : slice_get (scope_in y).imports l ≡ Some (numbered_seen x.places vs u) = mapped_get (numbered_seen x.places vs) (scope_of y.part).imports.items l u u_at in
-            let here = subst (λ (k : NumberedScope). slice_get k.imports l ≡ Some (numbered_seen x.places vs u)) same there in
-            mapped_get (λ (k : NumberedSeen). k.key) w.imports l (numbered_seen x.places vs u) here
-            ∙ ap Some (ap (λ (v : Shown). (numbered_seen x.places vs (record { shown = v; external_id = u.external_id })).key) shows ∙ named)
 
         earlier : (k l : ℕ) → k ≡ n → StandsBefore m (length then.imports) k l → StandsBehind m (length then.imports) n j → l < j
         earlier k l same (inl less) (inl more) = absurd (omega (arith, less, more, same))
@@ -278,13 +235,17 @@ module _ (pieces : List Piece) (x : Followed) (followed : IsFollowed pieces x) (
         earlier k l same (inr (two, low)) (inr (one, le)) = omega (arith, low, le)
 
         by : WasShown w.home s.key → ⊥
-        by (by_view k l o o_at place before) = let y = member_of n w w_at in not_home k l o o_at n y.0 y.1 (place ∙ sym (own_home y.0 y.2))
+        by (by_view k l o o_at place before) = let y = member_of n w w_at in not_home k l o o_at n y.0 y.1 (place ∙ sym (ap (λ (k : NumberedScope). k.home) y.2))
         by (by_name k l y u label part o y_at u_at shows named own before) =
             let mine = member_of n w w_at in
             let one : k ≡ n = placed.homes k n (scope_in y) w (mapped_get scope_in ms k y y_at) w_at (sym own) in
             let same : mine.0 ≡ y = one_item ms n mine.0 y mine.1 (subst (λ (z : ℕ). slice_get ms z ≡ Some y) one y_at) in
             let is_w : scope_in y ≡ w = subst (λ (z : Member). scope_in z ≡ w) same mine.2 in
-            twice l (seen_at y is_w l u u_at label part o shows named) (earlier k l one before behind)
+            (not_twice keys apart l j s.key (earlier k l one before behind) (let vs = map instance_view (scope_of y.part).instances.items in
+            mapped_get (λ (k : NumberedSeen). k.key) w.imports l (numbered_seen x.places vs u)
+            (subst (λ (k : NumberedScope). slice_get k.imports l ≡ Some (numbered_seen x.places vs u)) is_w (mapped_get (numbered_seen x.places vs) (scope_of y.part).imports.items l u u_at))
+            ∙ ap Some (ap (λ (v : Shown). (numbered_seen x.places vs (record { shown = v; external_id = u.external_id })).key) shows ∙ named))
+            (mapped_get (λ (k : NumberedSeen). k.key) w.imports j s s_at))
 
     pub is_cut : IsCut t ws m (length then.instances) (length then.imports) many
     is_cut = record { views_before = views_before; views_behind = views_behind; types_before = types_before; types_behind = types_behind }
@@ -324,17 +285,10 @@ module _ (pieces : List Piece) (x : Followed) (followed : IsFollowed pieces x) (
 
   -- the places of its instances
   taken_places : take (length was.instances) (places_of_scope (numbered_scope x.places (scope_of member.part))) ≡ map (λ (i : Instance). i.place) was.instances
-  taken_places =
-      let grows = (stage pieces x followed placed m raw at member there front back split).instances_grow in
-      let f : Instance → ℕ = λ i. i.place in
-      ap (take (length was.instances)) (map_of_map (λ (i : NumberedInstance). i.place) numbered_instance items ∙ (ap (map f) grows.is ∙ append_of_map f was.instances grows.more))
-      ∙ (ap (λ (n : ℕ). take n (map f was.instances ++ map f grows.more)) (sym (length-map was.instances f)) ∙ take-append_seam (map f was.instances) (map f grows.more))
+  taken_places = search (std_rules, stage, map_of_map, append_of_map, length-map, take-append_seam)
 
   paths_meant : map (λ (i : follow.Instance). i.interface) (meant_at place was).instances ≡ map (path_at (tables_of x)) (map (λ (i : Instance). i.place) was.instances)
-  paths_meant =
-      map_of_map (λ (i : follow.Instance). i.interface) (instance_in place (world_trees place was) (world_signatures place was)) was.instances
-      ∙ ((λ j. map (λ (i : Instance). path_back (unwrap_or (slice_get x.places i.place) None) j) was.instances)
-      ∙ sym (map_of_map (path_at (tables_of x)) (λ (i : Instance). i.place) was.instances))
+  paths_meant = search (std_rules, map_of_map, path_back)
 
   pub cut_of : (scope : follow.Scope) → steps entry_step new_scope front ≡ Some scope → IsCutOf (tables_of x) (scopes_in x) m (numbered_scope x.places (scope_of member.part)) scope
   cut_of scope read =
@@ -344,18 +298,11 @@ module _ (pieces : List Piece) (x : Followed) (followed : IsFollowed pieces x) (
         imports = length was.imports;
         many = length was.shapes;
         cut = is_cut pieces x followed placed m raw at member there front back split;
-        imports_are =
-            ap (λ (s : follow.Scope). length s.imports) (sym same)
-            ∙ length-map was.imports (seen_in place (world_trees place was) (world_signatures place was) was.instances);
-        paths_are =
-            ap (λ (s : follow.Scope). map (λ (i : follow.Instance). i.interface) s.instances) (sym same)
-            ∙ (paths_meant ∙ ap (map (path_at (tables_of x))) (sym taken_places));
+        imports_are = ap (λ (s : follow.Scope). length s.imports) (sym same) ∙ length-map was.imports (seen_in place (world_trees place was) (world_signatures place was) was.instances);
+        paths_are = ap (λ (s : follow.Scope). map (λ (i : follow.Instance). i.interface) s.instances) (sym same) ∙ (paths_meant ∙ ap (map (path_at (tables_of x))) (sym taken_places));
       }
 
 -- ---- each number once
-
-once_different : (xs : List ℕ) → IsOnce (once xs)
-once_different xs = subst IsOnce (joined_behind [] xs) (all_once [] xs none_twice)
 
 module _ (ps qs : List ℕ) where
   behind : (more : List ℕ) × (once (ps ++ qs) ≡ once ps ++ more)
@@ -368,10 +315,13 @@ module _ (ps qs : List ℕ) where
   pub late : (k q : ℕ) → slice_get (once (ps ++ qs)) k ≡ Some q → length (once ps) ≤ k → Contains ps q → ⊥
   late k q e past c =
       let at = contains-get (once ps) q (has-contains (once ps) q (has_once q ps ∙ contains-has ps q c)) in
-      let low = found_below (once ps) at.0 q at.1 in
-      let there : slice_get (once (ps ++ qs)) at.0 ≡ Some q = ap (λ (zs : List ℕ). slice_get zs at.0) behind.1 ∙ front_at (once ps) behind.0 at.0 q at.1 in
-      let same = once_different (ps ++ qs) at.0 k q there e in
-      omega (arith, low, past, same)
+      omega (
+        arith,
+        found_below (once ps) at.0 q at.1,
+        past,
+        ((subst IsOnce (joined_behind [] (ps ++ qs)) (all_once [] (ps ++ qs) none_twice)) at.0 k q
+            (ap (λ (zs : List ℕ). slice_get zs at.0) behind.1 ∙ front_at (once ps) behind.0 at.0 q at.1) e),
+      )
 
 -- ---- beginnings
 
@@ -415,40 +365,10 @@ module _ {A : Type 0} (f : A → List ℕ) where
 
     pub in_front : (m : ℕ) (w : A) → slice_get ws m ≡ Some w → (i n j : ℕ) (u : A) (q : ℕ) → slice_get ws n ≡ Some u → slice_get (f u) j ≡ Some q → StandsBefore m i n j
         → Contains (flat_map f (take m ws) ++ take i (f w)) q
-    in_front m w e i n j u q at there (inl low) =
-        Contains-append_left (flat_map f (take m ws)) (take i (f w)) q
-        (contains-flat f (take m ws) u q (get-contains (take m ws) n u (slice_take ws m n low ∙ at)) (get-contains (f u) j q there))
+    in_front m w e i n j u q at there (inl low) = Contains-append_left _ _ q (contains-flat f (take m ws) u q (get-contains _ n u (slice_take ws m n low ∙ at)) (get-contains _ j q there))
     in_front m w e i n j u q at there (inr (same, low)) =
         let one : u ≡ w = one_item ws m u w (subst (λ (k : ℕ). slice_get ws k ≡ Some u) same at) e in
-        Contains-append_right (flat_map f (take m ws)) (take i (f w)) q
-        (get-contains (take i (f w)) j q (slice_take (f w) i j low ∙ subst (λ (v : A). slice_get (f v) j ≡ Some q) one there))
-
-    -- where a number stands first
-    pub record IsFirstAt (q : ℕ) : Type 0 where
-      pub number : ℕ
-      pub inner : ℕ
-      pub one : A
-      pub at : slice_get ws number ≡ Some one
-      pub there : slice_get (f one) inner ≡ Some q
-      pub items : (k : ℕ) (v : A) → k < number → slice_get ws k ≡ Some v → Contains (f v) q → ⊥
-      pub numbers : (l : ℕ) → l < inner → slice_get (f one) l ≡ Some q → ⊥
-
-    pub first_of : (q : ℕ) → Contains (flat_map f ws) q → IsFirstAt q
-    first_of q c =
-        let u = flat_cases f ws q c in
-        let u_at = contains-get ws u.0 u.1 in
-        let item = first_passing (λ (v : A). has (f v) q) ws u_at.0 u.0 u_at.1 (contains-has (f u.0) q u.2) in
-        let q_at = contains-get (f item.one) q (has-contains (f item.one) q item.passes) in
-        let inner = first_passing (λ (p : ℕ). p == q) (f item.one) q_at.0 q q_at.1 (same-number q) in
-        record {
-          number = item.number;
-          inner = inner.number;
-          one = item.one;
-          at = item.at;
-          there = inner.at ∙ ap Some (eqb-true inner.one q inner.passes);
-          items = λ k v low v_at d. item.before k v low v_at (contains-has (f v) q d);
-          numbers = λ l low l_at. inner.before l q low l_at (same-number q);
-        }
+        Contains-append_right (flat_map f (take m ws)) (take i (f w)) q (get-contains (take i (f w)) j q (slice_take (f w) i j low ∙ subst (λ (v : A). slice_get (f v) j ≡ Some q) one there))
 
     -- what isn't before stands behind
     pub behind_front : (m : ℕ) (w : A) → slice_get ws m ≡ Some w → (i q : ℕ) → (Contains (flat_map f (take m ws) ++ take i (f w)) q → ⊥) → (n j : ℕ) (u : A) → slice_get ws n ≡ Some u
@@ -459,9 +379,6 @@ module _ {A : Type 0} (f : A → List ℕ) where
         | inl more ↦ inl more
         | inr le ↦
             let same : n ≡ m = omega (arith, past, le) in
-            elim (cases_lt j i) [
-              | inl low ↦ absurd (none (in_front m w e i n j u q at there (inr (same, low))))
-              | inr far ↦ inr (same, far)
-            ]
+            elim (cases_lt j i) [ inl low ↦ absurd (none (in_front m w e i n j u q at there (inr (same, low)))) | inr far ↦ inr (same, far) ]
       ]
     ]

@@ -9,9 +9,8 @@ use Rattle.read_follow.specs.declared.refusal.Refusal.{Refusal}
 use Rattle.read_follow.specs.Found.{Refuses}
 use Rattle.read_members.specs.ReadMembers.{Because}
 use Rattle.comp_read.specs.declared.wanted.Wanted.{Wanted}
-use Rattle.comp_read.specs.Decoded.{error_from, HoldsFound, IsDecoded, MeansNothing, RefusesBytes}
+use Rattle.comp_read.specs.{Decoded.error_from, Decoded.HoldsFound, Decoded.IsDecoded, Decoded.MeansNothing, Decoded.RefusesBytes, WantedFound.MeansNone}
 use Rattle.comp_read.specs.DecodedWorlds.{HoldsWorldFound, IsDecodedWorld, MeansNoWorld, RefusesWorldBytes}
-use Rattle.comp_read.specs.WantedFound.{MeansNone}
 use Rattle.read_follow.specs.declared.refusal.Refusal.TheVariants as refusals
 use Rattle.comp_read.specs.declared.wanted.Wanted.TheVariants as wanted
 

@@ -1,18 +1,15 @@
 -- Instances of worlds stand under their keys, imports are counted, and what interfaces import is bare.
 use Rattle.std.proofs.Common.{rules as std_rules, ◌≡◌, ap, ◌∙◌, ℕ, ◌≤◌, arith, List, length, Some, None, refl, sym, subst, [], ◌∷◌, map, slice_get}
-use Rattle.std.proofs.lemmas.Option.{slice_get_within, same_Some as same-some}
+use Rattle.std.proofs.lemmas.Option.{slice_get_within}
 use Rattle.wit_model.specs.{Names.read_path, Text.Text}
-use Rattle.comp_bytes.specs.{Levels.Piece, Levels.levels_of, Levels.PartType, Levels.shows, Levels.wraps, Reading.◌>>=◌}
+use Rattle.comp_bytes.specs.{Levels.Piece, Levels.levels_of, Levels.shows}
 use Rattle.read_follow.specs.declared.{refusal.Refusal.Refusal, scopes.Seen.Seen as FollowedSeen, scopes.Shown.Shown as FollowedShown}
 use Rattle.read_follow.specs.Found.{Refuses}
 use Rattle.read_parts.specs.declared.{following.Followed.Followed, members.FollowedPart.FollowedPart, members.Member.Member as FollowedMember}
-use Rattle.comp_meaning.specs.{ByLevels.entry_scope}
-use Rattle.read_parts.specs.Followed.{scopes_of, PartScope, labelled_scope, part_scope, world_path}
-use Rattle.read_parts.specs.{Input.IsFollowed, Members.scope_of}
+use Rattle.read_parts.specs.{Followed.scopes_of, Followed.labelled_scope, Input.IsFollowed, Members.scope_of}
 use Rattle.read_parts.proofs.CountLaws.{parts_fit}
-use Rattle.read_numbers.specs.NumberedInput.{tables_of, MemberShown, PartShown}
+use Rattle.read_numbers.specs.{NumberedInput.tables_of, NumberedInput.MemberShown, PlacedNumbers.IsCountedItem, PlacedNumbers.IsPlacedScope}
 use Rattle.read_numbers.specs.NumberedParts.{instance_view, numbered_scope as followed_scope, numbered_seen as followed_seen, numbered_shown as followed_shown, name_in}
-use Rattle.read_numbers.specs.PlacedNumbers.{IsCountedItem, IsPlacedScope}
 use Rattle.read_members.specs.{ReadMembers.Because, ReadMembers.members_meant, PartMembers.IsMemberOf, PartMembers.IsPartOf}
 use Rattle.read_members.proofs.{DecidedLaws.by_members as package_by_members, DecidedWorldLaws.by_members as world_by_members}
 use Rattle.read_homes.specs.Homes.{ArePaths}
@@ -22,7 +19,6 @@ use Rattle.comp_read.specs.{WantedFound.MeansNone, FollowedWorlds.ReadImportsAre
 use Rattle.base_lemmas.proofs.{Options.there, Elements.contains-map, Elements.get-contains, Elements.zip_at as zip_there, Elements.zip_at_right as zip_at}
 use Rattle.base_lemmas.proofs.{Lists.within_there as slice_there}
 use Rattle.std.specs.List.{AllByRecursion, AllZip, Contains, flat_map}
-use Rattle.comp_bytes.proofs.Readers.{bind_some}
 use Rattle.plan_meaning.specs.NumberedMembers.{Homes, NumberedMember, imported_view}
 use Rattle.plan_meaning.specs.NumberedViews.{NumberedView, Tables}
 use Rattle.plan_meaning.specs.NumberedWorlds.{NumberedScope, NumberedSeen, NumberedShown, Shows, seen_of, shown_of}
@@ -36,7 +32,7 @@ use Rattle.plan_type_laws.proofs.Walks.{all_flat}
 use Rattle.plan_laws.proofs.{Planned.view_met, Showings.all_given}
 use Rattle.plan_laws.specs.WholeCondition.{PartIsBare}
 use Rattle.plan_laws.specs.WholeWorlds.{ImportsAreCounted, IsCounted, IsUnderKey, WorldIsFollowed}
-use Rattle.comp_read.proofs.{ByScopes.scopes_found, Inputs.keys_differ, Lists.all_beside, Places.world_at}
+use Rattle.comp_read.proofs.{ByScopes.scopes_found, Inputs.keys_differ, Lists.all_beside, Places.world_at, ShownScopes.labelled_holds, ShownScopes.meant_scope}
 use Rattle.comp_read.proofs.{InterfaceViews.each_beside, InterfaceViews.shown_as, KeyLabels.HasLabel, KeyLabels.HaveLabels, KeyLabels.entry_labels}
 use Rattle.comp_read.proofs.Members.{IsBoth, IsWorldRead, both_at, both_there, part_viewed, placed, scope_in, world_read, world_scope}
 use Rattle.comp_read.specs.declared.wanted.Wanted.TheVariants as wanted
@@ -44,7 +40,6 @@ use Rattle.comp_meaning.specs.Follow as follow
 use Rattle.comp_meaning.specs.Reads as reads
 use Rattle.plan_meaning.specs.NumberedWorlds as worlds
 use Rattle.read_parts.specs.declared.members.FollowedPart.TheVariants as followed
-use Rattle.read_parts.specs.Followed as scopes
 use Rattle.read_exports.specs.declared.members.Part.TheVariants as parts
 
 -- ---- What was followed of the sections of an input.
@@ -79,27 +74,6 @@ module _ (t : Tables) where
   all_under vs [] all = tt
   all_under vs (s ∷ ss) all = (under_key vs s.shown all.0, all_under vs ss all.1)
 
--- ---- scopes as they are meant
-
-abbrev meant_in : PartScope → follow.Scope
-meant_in (scopes.world text scope) = scope
-meant_in (scopes.interface scope) = scope
-
-part_labels : (p : PartType) (s : PartScope) → part_scope p ≡ Some s → HaveLabels (meant_in s)
-part_labels (wraps es name) s e =
-    let path = bind_some (world_path name) (λ path. entry_scope es >>= λ scope. Some (scopes.world path scope)) s e in
-    let scope = bind_some (entry_scope es) (λ scope. Some (scopes.world path.0 scope)) s path.2 in
-    subst (λ z. HaveLabels (meant_in z)) (same-some (scopes.world path.0 scope.0) s scope.2) (entry_labels es scope.0 scope.1)
-part_labels (shows es) s e = search (std_rules, bind_some, HaveLabels, same-some, entry_labels)
-
-labelled_labels : (y : Text × PartType) (s : Text × PartScope) → labelled_scope y ≡ Some s → HaveLabels (meant_in s.1)
-labelled_labels y s e =
-    let found = bind_some (part_scope y.1) (λ p. let z : Text × PartScope = (y.0, p) in Some z) s e in
-    subst (λ (z : Text × PartScope). HaveLabels (meant_in z.1)) (same-some (y.0, found.0) s found.2) (part_labels y.1 found.0 found.1)
-
-part_shows : (t : Tables) (a : FollowedPart) (s : PartScope) → PartShown t a s → Shows t (followed_scope t.paths (scope_of a)) (meant_in s)
-part_shows t x y is = search std_rules
-
 module _ (pieces : List Piece) (x : Followed) (h : Homes) (ms : List Member) (members : List reads.Member) (input : IsReadInput pieces x h ms members) where
   abbrev t : Tables
   t = tables_of x
@@ -117,7 +91,7 @@ module _ (pieces : List Piece) (x : Followed) (h : Homes) (ms : List Member) (me
       let parts_all = input.followed.parts in
       let y = zip_at (λ y z. labelled_scope y ≡ Some z) parts_all numbers.scopes
       (each_beside labelled_scope parts_all numbers.scopes (scopes_found pieces parts_all input.followed.exported numbers.scopes numbers.found)) m s.0 s.1 in
-      record { scope = meant_in s.0.1; shows = part_shows t one.part s.0.1 s.2.1; labels = labelled_labels y.0 s.0 y.2 }
+      record { scope = meant_scope s.0.1; shows = search std_rules; labels = labelled_holds HaveLabels entry_labels y.0 s.0 y.2 }
 
   -- ---- one world
 
@@ -147,9 +121,7 @@ module _ (pieces : List Piece) (x : Followed) (h : Homes) (ms : List Member) (me
       counts = good.counts;
       many = good.many;
       rising = λ i j b c e f less.
-          let within = slice_get_within good.counts j c f in
-          let many = good.many in
-          let s = slice_there W.imports j (omega (arith, within, many)) in
+          let s = slice_there W.imports j (omega (arith, slice_get_within good.counts j c f, good.many)) in
           (good.counted j c s.0 s.1 f).rising i b e less;
       counted = counted_at;
     }
@@ -173,8 +145,7 @@ module _ (pieces : List Piece) (x : Followed) (h : Homes) (ms : List Member) (me
   part_followed m member b (parts.Interface p v imports) e = tt
 
   pub worlds_followed : AllByRecursion (λ (w : Text × Scope). WorldIsFollowed t (numbered_scope w.1)) (flat_map (λ (m : Member). world_in_part m.label.now m.part) ms)
-  worlds_followed =
-      all_flat (λ (w : Text × Scope). WorldIsFollowed t (numbered_scope w.1)) (λ (m : Member). world_in_part m.label.now m.part) ms
+  worlds_followed = all_flat (λ (w : Text × Scope). WorldIsFollowed t (numbered_scope w.1)) (λ (m : Member). world_in_part m.label.now m.part) ms
       (all_given (λ (m : Member). AllByRecursion (λ (w : Text × Scope). WorldIsFollowed t (numbered_scope w.1)) (world_in_part m.label.now m.part)) ms
       (λ m member e. part_followed m member (both_at pieces x h ms members input m member e) member.part refl))
 
@@ -183,14 +154,11 @@ read_worlds_are_followed pieces x h ms members input = worlds_followed pieces x 
 
 -- ---- interfaces
 
-import_bare : (s : NumberedSeen) (i : Placed) → imported_view s ≡ Some i → i.1.functions ≡ []
-import_bare s i e = search std_rules
-
 imports_bare : (ss : List NumberedSeen) (is : List Placed) → AllZip (λ s i. imported_view s ≡ Some i) ss is → AllByRecursion (λ (i : Placed). i.1.functions ≡ []) is
 imports_bare [] [] all = tt
 imports_bare [] (i ∷ is) all = absurd all
 imports_bare (s ∷ ss) [] all = absurd all
-imports_bare (s ∷ ss) (i ∷ is) all = (import_bare s i all.0, imports_bare ss is all.1)
+imports_bare (s ∷ ss) (i ∷ is) all = ((search std_rules), imports_bare ss is all.1)
 
 module _ (t : Tables) where
   part_bare : (a : FollowedPart) (b : Part) → IsPartOf t a b → PartIsBare (numbered_part b)

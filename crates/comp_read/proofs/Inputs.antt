@@ -1,8 +1,8 @@
 -- What was followed is the input of the laws of whole plans.
-use Rattle.std.proofs.Common.{◌≡◌, refl, sym, ap, subst, ◌∙◌, ℕ, arith, true, false, List, [], ◌∷◌, ◌++◌, map, Option, Some, slice_get}
+use Rattle.std.proofs.Common.{rules as std_rules, ◌≡◌, refl, sym, ap, subst, ◌∙◌, ℕ, arith, true, false, List, [], ◌∷◌, ◌++◌, map, Option, Some, slice_get}
 use Rattle.std.proofs.{lemmas.List.Elements.Contains-append_left, lemmas.List.Elements.Contains-append_right, ByRecursion.All-weaker as recursion_weaker}
 use Rattle.std.proofs.lemmas.Option.{slice_get_within}
-use Rattle.std.specs.{Borrow.Bor, List.AllByRecursion, List.Contains, List.list_all}
+use Rattle.std.specs.{Borrow.Bor, List.AllByRecursion, List.Contains}
 use Rattle.wit_model.proofs.Elements.{contains-get}
 use Rattle.comp_bytes.specs.Levels.{Piece}
 use Rattle.comp_meaning.specs.Rules.{distinct}
@@ -31,7 +31,6 @@ use Rattle.base_lemmas.proofs.{Bools.third_of, Lists.map_of_map, Lists.within_th
 use Rattle.base_lemmas.proofs.Elements.{all_at, contains-map, contains-one, get-contains, map_from as from_map}
 use Rattle.comp_meaning.specs.Follow as follow
 use Rattle.comp_meaning.specs.Reads as reads
-use Rattle.comp_meaning.specs.Rules as rules
 use Rattle.read_shown.specs.Scopes as scopes
 use Rattle.plan_meaning.specs.NumberedWorlds as worlds
 use Rattle.read_exports.specs.declared.members.Part.TheVariants as parts
@@ -57,17 +56,11 @@ module _ (pieces : List Piece) (x : Followed) (h : Homes) (ms : List Member) (me
 
     -- no two imports have one key
     pub keys_differ : distinct (map (λ (s : NumberedSeen). s.key) W.imports) ≡ true
-    keys_differ =
-        ap distinct (sym (map_of_map (λ (s : follow.Seen). s.key) (seen_of t) W.imports))
-        ∙ (ap (λ (ss : List follow.Seen). distinct (map (λ (s : follow.Seen). s.key) ss)) (sym read.shows.imports)
-        ∙ third_of (rules.are_imports [] read.scope.imports) (list_all (λ (s : follow.Seen). rules.is_item [] s.key s.shown) read.scope.exports)
-        (distinct (map (λ (s : follow.Seen). s.key) read.scope.imports)) (distinct (map (λ (s : follow.Seen). s.key) read.scope.exports))
-        (rules.stand_earlier [] (read.scope.imports ++ read.scope.exports)) read.stands.obeys)
+    keys_differ = search (std_rules, map_of_map, third_of)
 
     -- no type is exported
     no_types : AllByRecursion HasNoType W.exports
-    no_types =
-        all_unmapped (λ (s : follow.Seen). scopes.is_type s.shown ≡ false) (seen_of t) W.exports
+    no_types = all_unmapped (λ (s : follow.Seen). scopes.is_type s.shown ≡ false) (seen_of t) W.exports
         (subst (AllByRecursion (λ (s : follow.Seen). scopes.is_type s.shown ≡ false)) read.shows.exports
         (all_given (λ (s : follow.Seen). scopes.is_type s.shown ≡ false) read.scope.exports (λ n s e. read.stands.stands.no_types n s e)))
 
@@ -88,9 +81,8 @@ module _ (pieces : List Piece) (x : Followed) (h : Homes) (ms : List Member) (me
       by : (a : Part) → member.part ≡ a → PartDeclaresNames t a
       by (parts.World w) e =
           let scope = world_scope pieces x h ms members input m member b w e in
-          let home : (scope_in pieces x h ms members input b.one).home ≡ w.home = ap (λ (z : NumberedScope). z.home) (sym scope.shows) in
           recursion_weaker (IsSeenNamed t w.home) (DeclaresName t w.home) (names_are w.home) w.imports.now
-          (subst (λ q. AllByRecursion (IsSeenNamed t q) w.imports.now) home
+          (subst (λ q. AllByRecursion (IsSeenNamed t q) w.imports.now) (ap (λ (z : NumberedScope). z.home) (sym scope.shows))
           (imports_are_named pieces x input.followed m b.one b.there (map instance_view (scope_of b.one.part).instances.items) w.imports.now (ap (λ (z : NumberedScope). z.imports) scope.shows)
           scope.imports))
       by (parts.Interface p v imports) e = tt
@@ -108,8 +100,7 @@ module _ (pieces : List Piece) (x : Followed) (h : Homes) (ms : List Member) (me
       viewed_in i c = let there = contains-get w.instances i c in instance_in pieces x h ms members input known obey m there.0 i (record { scope = w; at = at; instance_at = there.1 })
 
       import_in : (j : ℕ) (s : NumberedSeen) → slice_get w.imports j ≡ Some s → IsSeenIn t w.home s
-      import_in j s e = by s.shown refl (all_at (λ (y : NumberedSeen). IsPlacedItem t w.home y.shown) w.imports good.imports s among)
-          (all_at (λ (y : NumberedSeen). IsOneOf t w.instances y.shown) w.imports good.imported s among)
+      import_in j s e = by s.shown refl (all_at _ _ good.imports s among) (all_at _ _ good.imported s among)
         where
           among : Contains w.imports s
           among = get-contains w.imports j s e
@@ -118,15 +109,12 @@ module _ (pieces : List Piece) (x : Followed) (h : Homes) (ms : List Member) (me
           by (worlds.instance key v) same item one = (item.0, viewed_in (record { place = place_of_key key; view = v }) one)
           by (worlds.function n) same item one = function_in t (tables pieces x h ms members input) w.home n item
           by (worlds.declares d) same item one =
-              let within = slice_get_within w.imports j s e in
-              let many = good.many in
-              let count = slice_there good.counts j (omega (arith, within, many)) in
+              let count = slice_there good.counts j (omega (arith, slice_get_within w.imports j s e, good.many)) in
               let last = imports_come_last t w good keys j count.0 s d e count.1 same in
               (last.number, record { named = last.shape; behind = last.declared; met = all_met t (tables pieces x h ms members input) w.home d item })
 
       export_in : (s : NumberedSeen) → Contains w.exports s → IsSeenIn t w.home s
-      export_in s c = by s.shown (all_at (λ (y : NumberedSeen). IsPlacedItem t w.home y.shown) w.exports good.exports s c)
-          (all_at (λ (y : NumberedSeen). IsOneOf t w.instances y.shown) w.exports good.exported s c) (all_at HasNoType w.exports none s c)
+      export_in s c = by s.shown (all_at _ _ good.exports s c) (all_at _ _ good.exported s c) (all_at _ _ none s c)
         where
           by : (y : NumberedShown) → IsPlacedItem t w.home y → IsOneOf t w.instances y → scopes.is_type (shown_of t y) ≡ false
               → IsSeenIn t w.home (record { key = s.key; shown = y; external_id = s.external_id })
@@ -135,14 +123,7 @@ module _ (pieces : List Piece) (x : Followed) (h : Homes) (ms : List Member) (me
           by (worlds.declares d) item one free = let wrong : true ≡ false = free in absurd cc
 
       scope_is_in : IsScopeIn t w
-      scope_is_in = record {
-        home = good.home;
-        imports = all_given (IsSeenIn t w.home) w.imports import_in;
-        exports = all_of (IsSeenIn t w.home) w.exports export_in;
-        instances = all_of (λ (i : NumberedInstance). IsViewIn t i.place i.view) w.instances viewed_in;
-        imported = good.imported;
-        exported = good.exported;
-      }
+      scope_is_in = search (std_rules, all_given, import_in, all_of, export_in, viewed_in)
 
     module _ (m : ℕ) (member : Member) (b : IsBoth pieces x h ms members input m member) where
       pub world_in : (w : Scope) → member.part ≡ parts.World w → IsScopeIn t (numbered_scope w)
@@ -159,7 +140,7 @@ module _ (pieces : List Piece) (x : Followed) (h : Homes) (ms : List Member) (me
 
       interface_in : (p : ℕ) (v : View) (imports : Bor (List ImportedView)) → member.part ≡ parts.Interface p v imports → IsPartIn t (numbered_part (parts.Interface p v imports))
       interface_in p v imports e = (
-        view own own_there,
+        view own (Contains-append_right (map types_alone (map numbered_import imports.now)) (own ∷ []) own (contains-one own)),
         all_of (λ (i : ℕ × NumberedView). HasPath t i.0 × IsViewIn t i.0 i.1) (map numbered_import imports.now)
             (λ i c. view (types_alone i) (Contains-append_left (map types_alone (map numbered_import imports.now)) (own ∷ []) (types_alone i)
             (contains-map types_alone (map numbered_import imports.now) i c))),
@@ -167,9 +148,6 @@ module _ (pieces : List Piece) (x : Followed) (h : Homes) (ms : List Member) (me
         where
           own : NumberedSight
           own = record { place = p; view = numbered_view v; whole = true }
-
-          own_there : Contains (map types_alone (map numbered_import imports.now) ++ own ∷ []) own
-          own_there = Contains-append_right (map types_alone (map numbered_import imports.now)) (own ∷ []) own (contains-one own)
 
           view : (s : NumberedSight) → Contains (map types_alone (map numbered_import imports.now) ++ own ∷ []) s → HasPath t s.place × IsViewIn t s.place s.view
           view s c =
@@ -190,14 +168,7 @@ module _ (pieces : List Piece) (x : Followed) (h : Homes) (ms : List Member) (me
         subst (λ (m : NumberedMember). IsPartIn t m.part) from.2 (part_in there.0 from.0 (both_at pieces x h ms members input there.0 from.0 there.1)))
 
     pub is_input : IsInput t h ms members
-    is_input = record {
-      tables = tables pieces x h ms members input;
-      homes = input.homes;
-      shown = input.shown;
-      stand = members_stand_together members (members_stand pieces x h ms members input);
-      numbers = members_in;
-      declared = members_named;
-    }
+    is_input = search (std_rules, tables, members_stand_together, members_stand, members_in, members_named)
 
 pub read_members_stand : ReadMembersStand
 read_members_stand pieces x h ms members input = members_stand pieces x h ms members input

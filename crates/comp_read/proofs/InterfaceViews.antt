@@ -1,5 +1,5 @@
 -- The views that the component type of an interface gives are those of its instances.
-use Rattle.std.proofs.Common.{rules as std_rules, ◌≡◌, refl, sym, subst, ◌⊎◌, inl, inr, Bool, true, false, List, [], ◌∷◌, ◌++◌, map, Option, Some, None}
+use Rattle.std.proofs.Common.{rules as std_rules, ◌≡◌, refl, subst, ◌⊎◌, inl, inr, Bool, true, false, List, [], ◌∷◌, ◌++◌, map, Option, Some, None}
 use Rattle.std.proofs.lemmas.List.Elements.{Contains-append_cases, Contains-append_left, Contains-append_right}
 use Rattle.std.proofs.lemmas.Option.{same_Some as same-some}
 use Rattle.std.specs.List.{AllByRecursion, AllZip, Contains}
@@ -14,6 +14,7 @@ use Rattle.plan_package.specs.Views.{types_alone}
 use Rattle.read_numbers.specs.PlacedNumbers.{IsPlacedItem}
 use Rattle.comp_read.proofs.Scopes.{IsSeen, IsSeenAs}
 use Rattle.base_lemmas.proofs.Elements.{all_at, contains-map, contains-one, get-contains, last_of as one-contained, map_from as from_map, zip_at as zip_there, zip_at_right as zip_at}
+use Rattle.base_lemmas.proofs.Elements.{zip-kept}
 
 no_some : {A B : Type 0} (x : A) → None ≡ Some x → B
 no_some x e = let wrong : ⊥ = cc in absurd wrong
@@ -35,15 +36,6 @@ each_beside {A = A} {B = B} f (x ∷ xs) ys e = by (f x) refl (each f xs) (each_
 -- the import or the export is the view
 abbrev pub IsPlacedAs : NumberedSeen → Placed → Type 0
 IsPlacedAs s i = s.shown ≡ instance (path i.0) i.1
-
-import_is : (s : NumberedSeen) (i : Placed) → imported_view s ≡ Some i → IsPlacedAs s i
-import_is s i e = search std_rules
-
-imports_are : (ss : List NumberedSeen) (is : List Placed) → AllZip (λ s i. imported_view s ≡ Some i) ss is → AllZip IsPlacedAs ss is
-imports_are [] [] all = tt
-imports_are [] (i ∷ is) all = absurd all
-imports_are (s ∷ ss) [] all = absurd all
-imports_are (s ∷ ss) (i ∷ is) all = (import_is s i all.0, imports_are ss is all.1)
 
 export_is : (ss : List NumberedSeen) (e : Placed) → exported_view ss ≡ Some e → (s : NumberedSeen) × (ss ≡ s ∷ []) × IsPlacedAs s e
 export_is y e h = search std_rules
@@ -71,7 +63,13 @@ pub of_views : (t : Tables) (w : NumberedScope) (e : Placed) (is : List Placed) 
 of_views t w e is h =
     let all = shown_as t w e is h in
     let one = export_is w.exports e all.export_found in
-    record { imports = imports_are w.imports is (each_beside imported_view w.imports is all.imports_found); one = one.0; alone = one.1; exported = one.2 }
+    record {
+      imports = zip-kept (λ s i. imported_view s ≡ Some i) IsPlacedAs (λ s i e. search std_rules) w.imports is (each_beside imported_view w.imports is all.imports_found);
+      one = one.0;
+      alone =
+          one.1;
+      exported = one.2;
+    }
 
 -- ---- instances and views
 
@@ -97,22 +95,14 @@ module _ (t : Tables) (w : NumberedScope) (e : Placed) (is : List Placed) (of : 
     where
       by : Contains w.imports seen.seen ⊎ Contains w.exports seen.seen → IsViewed views i
       by (inl among) =
-          let at = contains-get w.imports seen.seen among in
-          let y = zip_there IsPlacedAs w.imports is of.imports at.0 seen.seen at.1 in
+          let at = contains-get _ _ among in
+          let y = zip_there _ _ _ of.imports at.0 seen.seen at.1 in
           let same = seen_place i seen.seen seen.is y.0 y.2 in
           record {
             whole = false;
-            there = Contains-append_left (map types_alone is) (own ∷ []) (record { place = i.place; view = i.view; whole = false })
-                (subst (Contains (map types_alone is)) (λ j. record { place = same.0 j; view = same.1 j; whole = false }) (contains-map types_alone is y.0 (get-contains is at.0 y.0 y.1)));
+            there = Contains-append_left _ _ _ (subst (Contains (map types_alone is)) (λ j. record { place = same.0 j; view = same.1 j; whole = false }) (contains-map _ _ _ (get-contains _ _ _ y.1)));
           }
-      by (inr among) =
-          let one : of.one ≡ seen.seen = one-contained of.one seen.seen (subst (λ ss. Contains ss seen.seen) of.alone among) in
-          let same = seen_place i seen.seen seen.is e (subst (λ s. IsPlacedAs s e) one of.exported) in
-          record {
-            whole = true;
-            there = Contains-append_right (map types_alone is) (own ∷ []) (record { place = i.place; view = i.view; whole = true })
-                (subst (Contains (own ∷ [])) (λ j. record { place = same.0 j; view = same.1 j; whole = true }) (contains-one own));
-          }
+      by (inr among) = search (std_rules, seen_place, one-contained, Contains-append_right, contains-one)
 
   -- ---- back
 
@@ -122,29 +112,21 @@ module _ (t : Tables) (w : NumberedScope) (e : Placed) (is : List Placed) (of : 
     pub there : Contains w.instances (record { place = s.place; view = s.view })
 
   module _ (imports_placed : AllByRecursion (λ (s : NumberedSeen). IsPlacedItem t w.home s.shown) w.imports)
-      (exports_placed : AllByRecursion (λ (s : NumberedSeen). IsPlacedItem t w.home s.shown) w.exports)
-      (imports_one : AllByRecursion (λ (s : NumberedSeen). IsOneOf t w.instances s.shown) w.imports)
+      (exports_placed : AllByRecursion (λ (s : NumberedSeen). IsPlacedItem t w.home s.shown) w.exports) (imports_one : AllByRecursion (λ (s : NumberedSeen). IsOneOf t w.instances s.shown) w.imports)
       (exports_one : AllByRecursion (λ (s : NumberedSeen). IsOneOf t w.instances s.shown) w.exports) where
     placed_view : (y : Placed) (x : NumberedShown) → x ≡ instance (path y.0) y.1 → IsPlacedItem t w.home x → IsOneOf t w.instances x → HasPath t y.0
         × Contains w.instances (record { place = y.0; view = y.1 })
-    placed_view y x f item one = by (subst (IsPlacedItem t w.home) f item) (subst (IsOneOf t w.instances) f one)
-      where
-        by : IsPlacedItem t w.home (instance (path y.0) y.1) → IsOneOf t w.instances (instance (path y.0) y.1) → HasPath t y.0 × Contains w.instances (record { place = y.0; view = y.1 })
-        by a b = (a.0, b)
+    placed_view y x f item one = ((subst (IsPlacedItem t w.home) f item).0, subst (IsOneOf t w.instances) f one)
 
     import_view : (y : Placed) → Contains is y → HasPath t y.0 × Contains w.instances (record { place = y.0; view = y.1 })
     import_view y c =
-        let at = contains-get is y c in
+        let at = contains-get _ y c in
         let s = zip_at IsPlacedAs w.imports is of.imports at.0 y at.1 in
-        let among = get-contains w.imports at.0 s.0 s.1 in
-        placed_view y s.0.shown s.2 (all_at (λ (z : NumberedSeen). IsPlacedItem t w.home z.shown) w.imports imports_placed s.0 among)
-        (all_at (λ (z : NumberedSeen). IsOneOf t w.instances z.shown) w.imports imports_one s.0 among)
+        let among = get-contains _ _ _ s.1 in
+        placed_view y s.0.shown s.2 (all_at _ _ imports_placed s.0 among) (all_at _ _ imports_one s.0 among)
 
     export_view : HasPath t e.0 × Contains w.instances (record { place = e.0; view = e.1 })
-    export_view =
-        let among : Contains w.exports of.one = subst (λ ss. Contains ss of.one) (sym of.alone) (contains-one of.one) in
-        placed_view e of.one.shown of.exported (all_at (λ (z : NumberedSeen). IsPlacedItem t w.home z.shown) w.exports exports_placed of.one among)
-        (all_at (λ (z : NumberedSeen). IsOneOf t w.instances z.shown) w.exports exports_one of.one among)
+    export_view = search (std_rules, contains-one, placed_view, all_at)
 
     pub instance_viewed : (s : NumberedSight) → Contains views s → IsInstanceView s
     instance_viewed s c = by (Contains-append_cases (map types_alone is) (own ∷ []) s c)

@@ -6,7 +6,7 @@ use Rattle.wit_model.specs.{Names.is_label, Text.Text, Tree.Place, Tree.Declarat
 use Rattle.comp_bytes.specs.declared.forms.ComponentTypeRef.{ComponentTypeRef}
 use Rattle.comp_bytes.specs.{Levels.Entry, Raw.Alias, Raw.ExternName, Reading.◌>>=◌}
 use Rattle.comp_bytes.proofs.Readers.{bind_some, chosen, when_some}
-use Rattle.comp_meaning.specs.{ByLevels.all_used, ByLevels.entry_scope, ByLevels.entry_step, Reads.steps}
+use Rattle.comp_meaning.specs.{ByLevels.entry_scope, ByLevels.entry_step}
 use Rattle.comp_meaning.specs.Follow.{Slot, View, Instance, Seen, Shown, Key, Scope, Direction, import_, export_, complete_path, component_step, in_scope, interface_of, is_simple, key_of, key_text, named_type, new_scope, place_of, plain_key, provided, see, see_described, see_function, see_instance, see_type, used_view, when}
 use Rattle.comp_meaning.proofs.EntryLaws.{steps_keep}
 use Rattle.base_lemmas.proofs.{Bools.left_of as first_true, Elements.all_end}
@@ -102,6 +102,5 @@ entry_seen scope next x e h = grind (arith, step_seen, same-some, in_slot)
 
 pub entry_labels : (es : List Entry) (scope : Scope) → entry_scope es ≡ Some scope → HaveLabels scope
 entry_labels es scope e =
-    let b = bind_some (steps entry_step new_scope es) (λ s. provided (all_used s.used 0 s.slots) s) scope e in
-    let w = when_some (all_used b.0.used 0 b.0.slots) (Some b.0) scope b.2 in
-    subst HaveLabels (same-some b.0 scope w.1) (steps_keep HaveLabels entry_step entry_seen es new_scope b.0 b.1 (record { imports = tt; exports = tt }))
+    let b = bind_some _ _ _ e in
+    subst HaveLabels (same-some _ _ (when_some _ _ _ b.2).1) (steps_keep HaveLabels entry_step entry_seen es new_scope b.0 b.1 (record { imports = tt; exports = tt }))

@@ -1,5 +1,5 @@
 -- What is exported at the top has labels, none twice.
-use Rattle.std.proofs.Common.{rules as std_rules, ◌≡◌, refl, sym, ap, subst, ◌∙◌, ℕ, Bool, true, ◌&&◌, ◌==◌, List, [], ◌∷◌, ◌++◌, length, map, Option, Some, slice_get}
+use Rattle.std.proofs.Common.{rules as std_rules, ◌≡◌, sym, ap, subst, ◌∙◌, ℕ, Bool, true, ◌&&◌, ◌==◌, List, [], ◌∷◌, ◌++◌, length, map, Option, Some, slice_get}
 use Rattle.std.proofs.lemmas.Option.{same_Some as same-some}
 use Rattle.std.specs.List.{AllByRecursion, AllZip}
 use Rattle.wit_model.specs.{Names.is_label, Text.Text}
@@ -8,16 +8,13 @@ use Rattle.comp_bytes.proofs.Readers.{bind_some, when_some}
 use Rattle.comp_meaning.specs.{ByLevels.Top, ByLevels.exported_parts, ByLevels.top_export, ByLevels.top_part, ByLevels.top_piece, Reads.steps}
 use Rattle.comp_meaning.specs.{Follow.each, Follow.when, Rules.distinct}
 use Rattle.comp_meaning.proofs.EntryLaws.{steps_keep}
-use Rattle.plan_meaning.specs.NumberedViews.{Tables}
-use Rattle.read_parts.specs.declared.members.Member.{Member as FollowedMember}
 use Rattle.read_parts.specs.Followed.{PartScope, labelled_scope}
-use Rattle.read_members.specs.PartMembers.{IsMemberOf}
-use Rattle.read_numbers.specs.NumberedInput.{tables_of, MemberShown}
 use Rattle.read_numbers.proofs.InputNumbers.{input_in_numbers}
 use Rattle.read_exports.specs.declared.members.Member.{Member}
 use Rattle.comp_read.specs.InputLaws.{ReadLabelsStand}
 use Rattle.comp_read.proofs.{ByScopes.scopes_found, InterfaceViews.each_beside}
-use Rattle.base_lemmas.proofs.{Bools.left_of as first_true, Bools.right_of as second_true, Elements.all_end as one_more}
+use Rattle.base_lemmas.proofs.{Bools.left_of as first_true, Bools.right_of as second_true, Elements.all_end as one_more, Elements.zip_map}
+use Rattle.plan_type_laws.proofs.Walks.{all_unmapped}
 use Rattle.comp_bytes.specs.Levels as levels
 
 -- ---- the exports at the top
@@ -48,10 +45,7 @@ part_of top y = slice_get top.types y.1 >>= λ p. Some (y.0, p)
 
 same_labels : (top : Top) (ys : List (Text × ℕ)) (parts : List (Text × PartType)) → AllZip (λ y p. part_of top y ≡ Some p) ys parts
     → map (λ (y : Text × ℕ). y.0) ys ≡ map (λ (p : Text × PartType). p.0) parts
-same_labels top [] [] all = refl
-same_labels top [] (p ∷ parts) all = absurd all
-same_labels top (y ∷ ys) [] all = absurd all
-same_labels top (y ∷ ys) (p ∷ parts) all = search (std_rules, bind_some, same-some, same_labels top ys parts all.1)
+same_labels top ys parts all = sym (zip_map (λ y p. part_of top y ≡ Some p) (λ (y : Text × ℕ). y.0) (λ (p : Text × PartType). p.0) (λ y z e. search (std_rules, bind_some, same-some)) ys parts all)
 
 labels_of : (ys : List (Text × ℕ)) → AllByRecursion (λ (y : Text × ℕ). is_label y.0 ≡ true) ys → AllByRecursion (λ (label : Text). is_label label ≡ true) (map (λ (y : Text × ℕ). y.0) ys)
 labels_of [] all = tt
@@ -71,9 +65,8 @@ parts_named pieces parts e = by (bind_some (steps top_piece start pieces) (λ to
         let top = found.0 in
         let w = when_some (test top) (each (part_of top) top.exported) parts found.2 in
         let same = same_labels top top.exported parts (each_beside (part_of top) top.exported parts w.1) in
-        let labelled : AreLabelled top = steps_keep AreLabelled top_piece piece_keeps pieces start top found.1 tt in
         record {
-          labels = subst (AllByRecursion (λ (label : Text). is_label label ≡ true)) same (labels_of top.exported labelled);
+          labels = subst (AllByRecursion (λ (label : Text). is_label label ≡ true)) same (labels_of top.exported (steps_keep AreLabelled top_piece piece_keeps pieces start top found.1 tt));
           apart = ap distinct (sym same) ∙ second_true (length top.exported == length top.types) (distinct (map (λ x. x.0) top.exported)) w.0;
         }
 
@@ -81,38 +74,16 @@ parts_named pieces parts e = by (bind_some (steps top_piece start pieces) (λ to
 
 scope_labels : (parts : List (Text × PartType)) (scopes : List (Text × PartScope)) → AllZip (λ y s. labelled_scope y ≡ Some s) parts scopes
     → map (λ (p : Text × PartType). p.0) parts ≡ map (λ (s : Text × PartScope). s.0) scopes
-scope_labels [] [] all = refl
-scope_labels [] (s ∷ scopes) all = absurd all
-scope_labels (y ∷ parts) [] all = absurd all
-scope_labels (y ∷ parts) (s ∷ scopes) all = search (std_rules, bind_some, same-some, scope_labels parts scopes all.1)
-
-module _ (t : Tables) where
-  shown_labels : (fs : List FollowedMember) (scopes : List (Text × PartScope)) → AllZip (MemberShown t) fs scopes
-      → map (λ (s : Text × PartScope). s.0) scopes ≡ map (λ (y : FollowedMember). y.label.now) fs
-  shown_labels [] [] all = refl
-  shown_labels [] (s ∷ scopes) all = absurd all
-  shown_labels (y ∷ fs) [] all = absurd all
-  shown_labels (y ∷ fs) (s ∷ scopes) all = λ i. all.0.0 i ∷ shown_labels fs scopes all.1 i
-
-  member_labels : (fs : List FollowedMember) (ms : List Member) → AllZip (IsMemberOf t) fs ms → map (λ (y : FollowedMember). y.label.now) fs ≡ map (λ (m : Member). m.label.now) ms
-  member_labels [] [] all = refl
-  member_labels [] (m ∷ ms) all = absurd all
-  member_labels (y ∷ fs) [] all = absurd all
-  member_labels (y ∷ fs) (m ∷ ms) all = λ i. sym all.0.0 i ∷ member_labels fs ms all.1 i
-
-labels_there : (ms : List Member) → AllByRecursion (λ (label : Text). is_label label ≡ true) (map (λ (m : Member). m.label.now) ms) → AllByRecursion (λ (m : Member). is_label m.label.now ≡ true) ms
-labels_there [] all = tt
-labels_there (m ∷ ms) all = (all.0, labels_there ms all.1)
+scope_labels parts scopes all = sym (zip_map _ _ _ (λ y z e. search (std_rules, bind_some, same-some)) parts scopes all)
 
 pub read_labels_stand : ReadLabelsStand
 read_labels_stand pieces x h ms members input =
     let shown = input_in_numbers pieces x input.followed in
     let parts = input.followed.parts in
     let named = parts_named pieces parts input.followed.exported in
-    let same : map (λ (p : Text × PartType). p.0) parts ≡ map (λ (m : Member). m.label.now) ms =
-    scope_labels parts shown.scopes (each_beside labelled_scope parts shown.scopes (scopes_found pieces parts input.followed.exported shown.scopes shown.found))
-    ∙ (shown_labels (tables_of x) x.members.items shown.scopes shown.shown ∙ member_labels (tables_of x) x.members.items ms input.are) in
+    let same = scope_labels parts shown.scopes (each_beside labelled_scope parts shown.scopes (scopes_found pieces parts input.followed.exported shown.scopes shown.found))
+    ∙ (zip_map _ _ _ (λ y s is. is.0) x.members.items shown.scopes shown.shown ∙ sym (zip_map _ _ _ (λ y m is. is.0) x.members.items ms input.are)) in
     record {
-      labels = labels_there ms (subst (AllByRecursion (λ (label : Text). is_label label ≡ true)) same named.labels);
+      labels = all_unmapped (λ (label : Text). is_label label ≡ true) (λ (m : Member). m.label.now) ms (subst (AllByRecursion (λ (label : Text). is_label label ≡ true)) same named.labels);
       apart = ap distinct (sym same) ∙ named.apart;
     }

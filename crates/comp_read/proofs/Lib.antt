@@ -6,27 +6,27 @@ pub mod OwnViews
 pub mod WorldOrder
 -- What is built of the plan of a package. Serves packages::package_of_members.
 pub mod BuildLaws
--- What the rules of reading make of the parts at the top is what they make of the scopes that were followed. Serves Followed, Labels, Members, NamedOrder and 4 more.
+-- What the rules of reading make of the parts at the top is what they make of the scopes that were followed. Serves Followed, Labels, Members, ReadOrder and 2 more.
 pub mod ByScopes
 -- Numbers each of which stands behind all smaller ones: each once, they count up. Serves NumberedOrder, PackageOrder, TypeNumbers.
 pub mod CountedUp
--- Lists that are looked through, and numbers that stand once. Serves Cuts, Followed, Places, ReadOrder and 2 more.
-pub mod Lists
 -- The places of a beginning among all places, each where it stands first. Serves CutOrder, NamedOrder.
 pub mod Cuts
 -- The instances of a scope are its imports and its exports that are instances. Serves InterfaceViews, Members, Places.
 pub mod Scopes
--- The views that the component type of an interface gives are those of its instances. Serves Followed, Labels, Members, NamedOrder and 4 more.
+-- The views that the component type of an interface gives are those of its instances. Serves Followed, Labels, Members, ReadPackages and 2 more.
 pub mod InterfaceViews
 -- The members of an input, beside what was followed and what the rules of reading make of it. Serves CutOrder, Followed, Inputs, NamedOrder and 8 more.
 pub mod Members
--- The instances of what was followed stand under the paths that the parts show, in their order. Serves CutOrder, NamedOrder, PackageOrder, ReadOrder and 1 more.
+-- The instances of what was followed stand under the paths that the parts show, in their order. Serves CutOrder, Followed, NamedOrder, PackageOrder and 2 more.
 pub mod ShownScopes
 -- Packages are numbered in the order in which what was followed shows them. Serves PlanOrder, ReadOrder.
 pub mod PackageOrder
 -- The order in which views are shown, in numbers and in paths. Serves CutOrder, PlanOrder, TypeNumbers.
 pub mod ShownOrder
--- The names of each view stand in the table in the view's order, each behind what it is declared as, where views of one place agree. Serves Inputs, Ordered, TypeNumbers.
+-- Lists that are looked through, and numbers that stand once. Serves Followed, Places, ReadOrder, Views and 1 more.
+pub mod Lists
+-- The names of each view stand in the table in the view's order, each behind what it is declared as, where views of one place agree. Serves CutOrder, Inputs, Ordered, TypeNumbers.
 pub mod Views
 -- What was followed is the input of the laws of whole plans. Serves laws::read_is_input, laws::read_members_are_in, laws::read_members_are_named, laws::read_members_stand.
 pub mod Inputs

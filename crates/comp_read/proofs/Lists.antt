@@ -7,7 +7,7 @@ use Rattle.wit_model.specs.Uses.{has}
 use Rattle.wit_model.proofs.Elements.{contains-get, has-contains, none-in}
 use Rattle.plan_meaning.specs.NumberedWorlds.{are_once}
 use Rattle.plan_laws.proofs.OwnPlaces.{AreDifferent, all_taken}
-use Rattle.base_lemmas.proofs.{Elements.contains-later, Elements.get-contains, Lists.split_at as append_at}
+use Rattle.base_lemmas.proofs.{Elements.contains-later, Elements.get-contains, Lists.one_item, Lists.split_at as append_at}
 
 -- ---- the first that passes
 
@@ -107,14 +107,28 @@ beside {A = A} front back x y c = by (Contains-append_cases front (x ∷ back) y
 -- one more, that isn't among the others
 put_between : {A : Type 0} (front back : List A) (x : A) → AreDifferent (front ++ back) → (Contains (front ++ back) x → ⊥) → AreDifferent (front ++ x ∷ back)
 put_between [] back x apart new = (new, apart)
-put_between {A = A} (y ∷ front) back x apart new = (not_first, put_between front back x apart.1 (λ c. new (contains-later y (front ++ back) x c)))
+put_between {A = A} (y ∷ front) back x apart new = ((λ c. by (beside front back x y c)), put_between front back x apart.1 (λ c. new (contains-later y (front ++ back) x c)))
   where
     by : (y ≡ x) ⊎ Contains (front ++ back) y → ⊥
     by (inl same) = new (0, omega arith, same)
     by (inr there) = apart.0 there
 
-    not_first : Contains (front ++ x ∷ back) y → ⊥
-    not_first c = by (beside front back x y c)
+-- Lists that stand one behind the other have no number twice, where each of them has none twice and no two have one.
+pub once_owned : {A : Type 0} (f : A → List ℕ) (xs : List A) → ((m : ℕ) (y : A) → slice_get xs m ≡ Some y → AreDifferent (f y))
+    → ((m n : ℕ) (y z : A) → slice_get xs m ≡ Some y → slice_get xs n ≡ Some z → (q : ℕ) → Contains (f y) q → Contains (f z) q → m ≡ n) → are_once (flat_map f xs) ≡ true
+once_owned {A = A} f xs differ owner = once_given (flat_map f xs) (λ i j q e g. by i j q (of_one f xs i q e) (of_one f xs j q g))
+  where
+    by : (i j q : ℕ) → IsOfOne f xs i q → IsOfOne f xs j q → i ≡ j
+    by i j q a b =
+        let one : a.number ≡ b.number = owner a.number b.number a.one b.one a.at b.at q (get-contains (f a.one) a.inner q a.there) (get-contains (f b.one) b.inner q b.there) in
+        omega (
+          arith,
+          ap (before_of f xs) one,
+          (once_different (f b.one) (differ b.number b.one b.at) a.inner b.inner q (subst (λ (z : A). slice_get (f z) a.inner ≡ Some q)
+              (one_item xs b.number a.one b.one (subst (λ k. slice_get xs k ≡ Some a.one) one a.at) b.at) a.there) b.there),
+          a.is,
+          b.is,
+        )
 
 -- As many numbers as some that differ, and among which these are, differ.
 pub all_different : {A : Type 0} (cs xs : List A) → AreDifferent cs → ((c : A) → Contains cs c → Contains xs c) → length xs ≡ length cs → AreDifferent xs
@@ -130,15 +144,10 @@ all_different {A = A} (c ∷ cs) xs apart among many = by (λ rest each as_many.
     others p y d = still p y d (beside p.front p.back c y (subst (λ zs. Contains zs y) p.is (among y (contains-later c cs y d))))
 
     fewer : (p : Parted xs c) → length (p.front ++ p.back) ≡ length cs
-    fewer p =
-        let a : length xs ≡ length (p.front ++ c ∷ p.back) = ap length p.is in
-        let b : length (p.front ++ c ∷ p.back) ≡ length p.front + suc (length p.back) = length-append p.front (c ∷ p.back) in
-        let d : length (p.front ++ p.back) ≡ length p.front + length p.back = length-append p.front p.back in
-        omega (arith, a, b, d, many)
+    fewer p = omega (arith, ap length p.is, (length-append p.front (c ∷ p.back)), length-append p.front p.back, many)
 
     by : ((rest : List A) → ((y : A) → Contains cs y → Contains rest y) → length rest ≡ length cs → AreDifferent rest) → (p : Parted xs c) → AreDifferent xs
-    by deeper p =
-        subst AreDifferent (sym p.is)
+    by deeper p = subst AreDifferent (sym p.is)
         (put_between p.front p.back c (deeper (p.front ++ p.back) (others p) (fewer p)) (λ d. apart.0 (all_taken cs (p.front ++ p.back) apart.1 (others p) (fewer p) c d)))
 
 -- ---- what a test lets through

@@ -53,9 +53,7 @@ module _ (pieces : List Piece) (x : Followed) (h : Homes) (ms : List Member) (me
   -- ---- what is well-formed
 
   pub members_stand : AllByRecursion MemberStands members
-  members_stand =
-      let parts_found = input.followed.exported in
-      members_by_levels_stand input.followed.parts members (members_by_scopes pieces input.followed.parts parts_found members input.reads)
+  members_stand = members_by_levels_stand input.followed.parts members (members_by_scopes pieces input.followed.parts input.followed.exported members input.reads)
 
   -- a world that is exported, and what it stands for
   pub record IsWorldRead (w : Scope) : Type 0 where
@@ -66,8 +64,7 @@ module _ (pieces : List Piece) (x : Followed) (h : Homes) (ms : List Member) (me
   pub world_read : (m : Member) → Contains ms m → (w : Scope) → m.part ≡ parts.World w → IsWorldRead w
   world_read m c w is =
       let there = beside (IsMember t h) numbered_member ms members input.shown m c in
-      let stand : MemberStands there.0 = all_at MemberStands members members_stand there.0 there.1 in
-      by there.0.part (numbered_member m) (subst (λ a. ShowsPart t h (numbered_member m) (numbered_part a) there.0.part) is there.2.part) stand.part
+      by there.0.part (numbered_member m) (subst (λ a. ShowsPart t h (numbered_member m) (numbered_part a) there.0.part) is there.2.part) (all_at _ _ members_stand there.0 there.1).part
     where
       by : (b : reads.Part) (n : NumberedMember) → ShowsPart t h n (world (numbered_scope w)) b → PartStands b → IsWorldRead w
       by (reads.Part.world scope) n shows stands = record { scope = scope; shows = shows; stands = stands }
@@ -118,8 +115,7 @@ module _ (pieces : List Piece) (x : Followed) (h : Homes) (ms : List Member) (me
           whole = true;
           there = contains-map whole_view (numbered_scope w).instances i (get-contains (numbered_scope w).instances j i (ap (λ (z : NumberedScope). slice_get z.instances j) is.shows ∙ there));
         }
-        by (followed.Interface s) (parts.Interface p v imports) is there seen =
-            seen_viewed t (followed_scope x.places s) (p, numbered_view v) (map numbered_import imports.now)
+        by (followed.Interface s) (parts.Interface p v imports) is there seen = seen_viewed t (followed_scope x.places s) (p, numbered_view v) (map numbered_import imports.now)
             (of_views t (followed_scope x.places s) (p, numbered_view v) (map numbered_import imports.now) is) i seen
         by (followed.World path s) (parts.Interface p v imports) is there seen = absurd is
         by (followed.Interface s) (parts.World w) is there seen = absurd is
@@ -130,18 +126,13 @@ module _ (pieces : List Piece) (x : Followed) (h : Homes) (ms : List Member) (me
       pub at : slice_get (scope_in b.one).instances number ≡ Some (instance_shown s)
 
     pub part_view : (s : NumberedSight) → Contains (views_of_part (numbered_part member.part)) s → IsOfInstance s
-    part_view s c = found (by b.one.part member.part b.part scope_placed c)
+    part_view s c = let at = contains-get (scope_in b.one).instances (instance_shown s) (by b.one.part member.part b.part scope_placed c) in record { number = at.0; at = at.1 }
       where
-        found : Contains (scope_in b.one).instances (instance_shown s) → IsOfInstance s
-        found d = let at = contains-get (scope_in b.one).instances (instance_shown s) d in record { number = at.0; at = at.1 }
-
         by : (a : FollowedPart) (p : Part) → IsPartOf t a p → IsPlacedScope t (part_in a) → Contains (views_of_part (numbered_part p)) s → Contains (part_in a).instances (instance_shown s)
         by (followed.World path f) (parts.World w) is good among =
             let from = from_map whole_view (numbered_scope w).instances s among in
-            subst (λ (z : NumberedScope). Contains z.instances (instance_shown s)) is.shows
-            (subst (Contains (numbered_scope w).instances) (ap instance_shown from.2) from.1)
-        by (followed.Interface f) (parts.Interface p v imports) is good among =
-            (instance_viewed t (followed_scope x.places f) (p, numbered_view v) (map numbered_import imports.now)
+            subst (λ (z : NumberedScope). Contains z.instances (instance_shown s)) is.shows (subst (Contains (numbered_scope w).instances) (ap instance_shown from.2) from.1)
+        by (followed.Interface f) (parts.Interface p v imports) is good among = (instance_viewed t (followed_scope x.places f) (p, numbered_view v) (map numbered_import imports.now)
             (of_views t (followed_scope x.places f) (p, numbered_view v) (map numbered_import imports.now) is)
             good.imports good.exports good.imported good.exported s among).there
         by (followed.World path f) (parts.Interface p v imports) is good among = absurd is
@@ -154,8 +145,7 @@ module _ (pieces : List Piece) (x : Followed) (h : Homes) (ms : List Member) (me
       where
         by : (a : FollowedPart) (q : Part) → IsPartOf t a q → IsPlacedScope t (part_in a) → numbered_part q ≡ interface p v imports → Contains (views_of_part (numbered_part q)) s → HasPath t s.place
         by (followed.World path f) (parts.World w) is good e among = let wrong : ⊥ = cc in absurd wrong
-        by (followed.Interface f) (parts.Interface r u others) is good e among =
-            (instance_viewed t (followed_scope x.places f) (r, numbered_view u) (map numbered_import others.now)
+        by (followed.Interface f) (parts.Interface r u others) is good e among = (instance_viewed t (followed_scope x.places f) (r, numbered_view u) (map numbered_import others.now)
             (of_views t (followed_scope x.places f) (r, numbered_view u) (map numbered_import others.now) is)
             good.imports good.exports good.imported good.exported s among).path_there
         by (followed.World path f) (parts.Interface r u others) is good e among = absurd is
@@ -174,8 +164,7 @@ module _ (pieces : List Piece) (x : Followed) (h : Homes) (ms : List Member) (me
   -- the view is in the list of all
   pub view_among : (m : ℕ) (member : Member) → slice_get ms m ≡ Some member → (s : NumberedSight) → Contains (views_of_part (numbered_part member.part)) s
       → Contains (views_of_members (numbered_members ms)) s
-  view_among m member at s c =
-      contains-flat (λ (y : NumberedMember). views_of_part y.part) (numbered_members ms) (numbered_member member) s (contains-map numbered_member ms member (get-contains ms m member at)) c
+  view_among m member at s c = contains-flat (λ (y : NumberedMember). views_of_part y.part) (numbered_members ms) (numbered_member member) s (contains-map _ _ _ (get-contains _ m _ at)) c
 
   -- the member of this number, in numbers
   pub record IsNumberedAt (m : ℕ) (y : NumberedMember) : Type 0 where

@@ -5,11 +5,10 @@ use Rattle.indexmap.specs.IndexMap.{values}
 use Rattle.wit_model.specs.declared.model.{Resolve.Resolve, TypeId.TypeId, World.World}
 use Rattle.wit_model.specs.{Lookup.world_at as model_world, Text.Text, Uses.once}
 use Rattle.comp_bytes.specs.Levels.{Entry, PartType, Piece}
-use Rattle.comp_bytes.proofs.Readers.{bind_some}
-use Rattle.comp_meaning.specs.{ByLevels.entry_step, Follow.each, Follow.new_scope, Reads.steps, Rules.distinct}
-use Rattle.plan_meaning.specs.{Built.IsBuilt, Built.planned_interface, Built.planned_item, Built.planned_key, Built.planned_world, NumberedRules.Fact, NumberedViews.NumberedSight, NumberedViews.Tables, NumberedViews.first_at, NumberedViews.path_at, Plan.Plan}
+use Rattle.comp_meaning.specs.{ByLevels.entry_step, Follow.new_scope, Reads.steps, Rules.distinct}
+use Rattle.plan_meaning.specs.{Built.IsBuilt, Built.planned_item, Built.planned_key, Built.planned_world, NumberedRules.Fact, NumberedViews.NumberedSight, NumberedViews.Tables, NumberedViews.first_at, NumberedViews.path_at, Plan.Plan}
 use Rattle.plan_meaning.specs.NumberedMembers.{Homes, IsMember, NumberedMember}
-use Rattle.plan_meaning.specs.NumberedWorlds.{NumberedScope, NumberedSeen, are_once}
+use Rattle.plan_meaning.specs.{NumberedWorlds.NumberedScope, NumberedWorlds.NumberedSeen, NumberedWorlds.are_once, Built.planned_interface}
 use Rattle.plan_meaning.proofs.TypeOrder.{type_numbers_are}
 use Rattle.plan_parts.specs.Kept.{AreMarked}
 use Rattle.plan_types.specs.Orders.{joined_all}
@@ -19,19 +18,17 @@ use Rattle.plan_laws.specs.ShownNames.{PartDeclaresNames}
 use Rattle.read_exports.specs.Members.{numbered_member, numbered_members}
 use Rattle.read_exports.specs.declared.members.{Member.Member, Part.Part}
 use Rattle.read_members.specs.PartMembers.{IsMemberOf}
-use Rattle.read_numbers.specs.{NumberedInput.MemberShown, NumberedInput.tables_of, NumberedParts.numbered_scope as followed_scope, PlacedNumbers.scopes_in}
-use Rattle.read_numbers.proofs.InputNumbers.{input_in_numbers}
+use Rattle.read_numbers.specs.{NumberedInput.tables_of, NumberedParts.numbered_scope as followed_scope, PlacedNumbers.scopes_in}
 use Rattle.read_parts.specs.declared.{following.Followed.Followed, members.Member.Member as FollowedMember}
-use Rattle.read_parts.specs.{Followed.labelled_scope, Followed.member_of_scope, Followed.scopes_of, Members.entries_of, Members.scope_of}
+use Rattle.read_parts.specs.{Members.entries_of, Members.scope_of}
 use Rattle.read_rules.specs.Scopes.{numbered_scope}
 use Rattle.read_rules.specs.declared.scopes.Scope.{Scope}
 use Rattle.comp_read.specs.Order.{HowMuch, IsNamedBefore, IsNamedBehind, once_by_path, shown_under, shown_until}
 use Rattle.comp_read.specs.ReadInput.{IsReadInput, ViewsObey}
-use Rattle.comp_read.proofs.{ByScopes.scopes_found, Cuts.IsCutOf, Cuts.cut_of, Members.both_at, Members.placed, Members.tables, Members.world_read, CutOrder.IsHigh, CutOrder.IsLow, CutOrder.interface_high, CutOrder.interface_low, PlanOrder.built_at, PlanOrder.world_built_at, Cuts.split_flat, Inputs.keys_differ, InterfaceViews.each_beside, Places.world_at, TypeNumbers.kept_less}
-use Rattle.comp_read.proofs.CutOrder.{chained, counts_of, many_places, many_worlds, mapped_zip, zip_of_map, zip_take, Counts, IsImported, IsWorldOf, before_there, behind_there, imported, world_of, worlds_before}
-use Rattle.comp_read.proofs.ShownScopes.{one_paths, one_stands, part_named, scope_in, scope_places}
-use Rattle.base_lemmas.proofs.{Elements.all_at_too, Elements.get-contains, Elements.zip_at, Elements.zip_at_right, Elements.zip_each, Options.some_is}
-use Rattle.base_lemmas.proofs.Lists.{append_of_map, get_back, mapped_get, one_item}
+use Rattle.comp_read.proofs.{Cuts.IsCutOf, Cuts.cut_of, Members.both_at, Members.placed, Members.tables, Members.world_read, CutOrder.IsSo, CutOrder.interface_high, CutOrder.interface_low, PlanOrder.built_at, PlanOrder.world_built_at, Cuts.split_flat, Inputs.keys_differ, Places.world_at, TypeNumbers.kept_less}
+use Rattle.comp_read.proofs.CutOrder.{counts_of, many_places, many_worlds, zip_take, Counts, IsImported, IsWorldOf, before_there, behind_there, imported, world_of, worlds_before}
+use Rattle.comp_read.proofs.ShownScopes.{mapped_zip, scopes_under, scope_places}
+use Rattle.base_lemmas.proofs.{Elements.all_at_too, Elements.get-contains, Elements.zip_at_right, Lists.append_of_map, Lists.get_back, Lists.mapped_get}
 use Rattle.wit_model.specs.declared.model.WorldItem.TheVariants as item
 use Rattle.comp_meaning.specs.Follow as follow
 use Rattle.comp_meaning.specs.Reads as reads
@@ -46,20 +43,6 @@ module _ (pieces : List Piece) (x : Followed) (h : Homes) (ms : List Member) (me
 
   abbrev ws : List NumberedScope
   ws = scopes_in x
-
-  -- each scope stands under the paths of its part
-  scope_under : (n : ℕ) (f : FollowedMember) (y : reads.Member) → slice_get x.members.items n ≡ Some f → slice_get members n ≡ Some y → map (path_at t) (scope_places (scope_in t f)) ≡ shown_under y
-  scope_under n f y f_at y_at =
-      let found = input.followed.exported in
-      let scopes = bind_some (scopes_of pieces) (each member_of_scope) members input.reads in
-      let numbers = input_in_numbers pieces x input.followed in
-      let same : numbers.scopes ≡ scopes.0 = some_is numbers.scopes scopes.0 (sym numbers.found ∙ scopes.1) in
-      let s = zip_at (MemberShown t) x.members.items numbers.scopes numbers.shown n f f_at in
-      let s_at = ap (λ ys. slice_get ys n) (sym same) ∙ s.1 in
-      let z = zip_at (λ s m. member_of_scope s ≡ Some m) scopes.0 members (each_beside member_of_scope scopes.0 members scopes.2) n s.0 s_at in
-      let parts_beside = each_beside labelled_scope input.followed.parts scopes.0 (scopes_found pieces input.followed.parts found scopes.0 scopes.1) in
-      let p = zip_at_right (λ u v. labelled_scope u ≡ Some v) input.followed.parts scopes.0 parts_beside n s.0 s_at in
-      part_named t f.part s.0.1 s.2.1 ∙ (one_paths s.0 z.0 (one_stands p.0 s.0 p.2) z.2 ∙ ap shown_under (one_item members n z.0 y z.1 y_at))
 
   -- the member, as it was followed and as it is kept
   pub record IsRead (m : ℕ) (y : reads.Member) : Type 0 where
@@ -98,22 +81,10 @@ module _ (pieces : List Piece) (x : Followed) (h : Homes) (ms : List Member) (me
     interfaces_are =
         let rest = split_flat scope_places ws m w w_at cut.instances in
         let whole = subst (λ (ps : List ℕ). are_once (filter (has_no_path t) ps) ≡ true) rest.1 alone in
-        many_places t (tables pieces x h ms members input) front_places rest.0 whole ∙ ap (λ (os : List (Option Text)). length (once_by_path os)) paths
-      where
-        beside : AllZip (λ (v : NumberedScope) (z : reads.Member). map (path_at t) (scope_places v) ≡ shown_under z) ws members
-        beside =
-            zip_of_map (λ (v : NumberedScope) (z : reads.Member). map (path_at t) (scope_places v) ≡ shown_under z) (scope_in t) x.members.items members
-            (zip_each (λ (f : FollowedMember) (z : reads.Member). Unit {0}) (λ (f : FollowedMember) (z : reads.Member). map (path_at t)
-            (scope_places (scope_in t f)) ≡ shown_under z) x.members.items members
-            (chained (IsMemberOf t) (IsMember t h) numbered_member x.members.items ms members input.are input.shown) scope_under)
-
-        earlier : map (path_at t) (flat_map scope_places (take m ws)) ≡ flat_map shown_under (take m members)
-        earlier =
-            mapped_zip (path_at t) scope_places shown_under (take m ws) (take m members)
-            (zip_take (λ (v : NumberedScope) (z : reads.Member). map (path_at t) (scope_places v) ≡ shown_under z) m ws members beside)
-
-        paths : map (path_at t) front_places ≡ flat_map shown_under (take m members) ++ map (λ i. i.interface) scope.instances
-        paths = append_of_map (path_at t) (flat_map scope_places (take m ws)) (take cut.instances (scope_places w)) ∙ (λ i. earlier i ++ sym cut.paths_are i)
+        many_places t (tables pieces x h ms members input) front_places rest.0 whole
+        ∙ ap (λ (os : List (Option Text)). length (once_by_path os)) (append_of_map (path_at t) (flat_map scope_places (take m ws)) (take cut.instances (scope_places w))
+        ∙ (λ i. (mapped_zip (path_at t) scope_places shown_under (take m ws) (take m members)
+        (zip_take (λ (v : NumberedScope) (z : reads.Member). map (path_at t) (scope_places v) ≡ shown_under z) m ws members (scopes_under pieces x h ms members input))) i ++ sym cut.paths_are i))
 
     worlds_are : worlds_before ms m ≡ (shown_until members m y.part scope).worlds
     worlds_are = many_worlds t h ms members input.shown m
@@ -121,14 +92,9 @@ module _ (pieces : List Piece) (x : Followed) (h : Homes) (ms : List Member) (me
     -- ---- the plan
 
     module _ (marks : List Bool) (kept : List ℕ) (marked : AreMarked marks kept) (n : ℕ) (homes : ℕ → Option Home) (seen : List NumberedSight)
-        (within : (s : NumberedSight) → Contains seen s → Contains (views_of_members (numbered_members ms)) s)
-        (ps : List ℕ) (met : ps ≡ joined_all [] (flat_map scope_places ws)) (p : Plan) (planned : AllZip (PlansPlace t kept n homes seen) ps p.interfaces)
-        (firsts : (k q : ℕ) → slice_get ps k ≡ Some q → (s : NumberedSight) × (first_at q seen ≡ Some s)) (places : List ℕ)
+        (within : (s : NumberedSight) → Contains seen s → Contains (views_of_members (numbered_members ms)) s) (ps : List ℕ) (met : ps ≡ joined_all [] (flat_map scope_places ws)) (p : Plan)
+        (planned : AllZip (PlansPlace t kept n homes seen) ps p.interfaces) (firsts : (k q : ℕ) → slice_get ps k ≡ Some q → (s : NumberedSight) × (first_at q seen ≡ Some s)) (places : List ℕ)
         (worlds : AllZip (PlansWorld t kept places n) (worlds_in ms) p.worlds) (r : Resolve) (built : IsBuilt p r) where
-      less : (a b : ℕ) → IsLow pieces x h ms members input known obey m w w_at cut.instances cut.imports cut.many cut.cut kept a
-          → IsHigh pieces x h ms members input known obey m w w_at cut.instances cut.imports cut.many cut.cut kept b → a < b
-      less a b low high = let under = low.low in let over = high.high in kept_less marks kept marked low.part high.part a b low.is high.is (omega (arith, under, over))
-
       -- an import of a world that is built
       record IsOfWorld (k j a : ℕ) : Type 0 where
         v : Text × Scope
@@ -143,15 +109,14 @@ module _ (pieces : List Piece) (x : Followed) (h : Homes) (ms : List Member) (me
           let u = zip_at_right (PlansWorld t kept places n) (worlds_in ms) p.worlds worlds k (planned_world v) (world_built_at p r built k v v_at) in
           let o = world_of ms k u.0 u.1 in
           let e = get_back (λ e. e.1) v.imports.entries j (item.Type_ id) import_at in
-          let names = subst (λ (a : Part). PartDeclaresNames t a) o.is (all_at_too (λ (z : Member). PartDeclaresNames t z.part) ms declared o.number o.member o.at) in
-          let b = both_at pieces x h ms members input o.number o.member o.at in
           record {
             v = u.0;
             at = u.1;
             owner = o;
-            import_ = imported t kept places n u.0 (planned_world v) u.2 names j a (planned_key e.0.0, planned_item e.0.1)
+            import_ = imported t kept places n u.0 (planned_world v) u.2 (subst (λ (a : Part). PartDeclaresNames t a) o.is
+                (all_at_too (λ (z : Member). PartDeclaresNames t z.part) ms declared o.number o.member o.at)) j a (planned_key e.0.0, planned_item e.0.1)
                 (mapped_get (λ e. (planned_key e.0, planned_item e.1)) v.imports.entries j e.0 e.1) (ap planned_item e.2 ∙ ap plan.declares same);
-            scope_at = world_at pieces x h ms members input o.number o.member b u.0.1 o.is;
+            scope_at = world_at pieces x h ms members input o.number o.member (both_at pieces x h ms members input o.number o.member o.at) u.0.1 o.is;
             differ = keys_differ pieces x h ms members input u.0.1 (world_read pieces x h ms members input o.member (get-contains ms o.number o.member o.at) u.0.1 o.is);
           }
 
@@ -164,30 +129,36 @@ module _ (pieces : List Piece) (x : Followed) (h : Homes) (ms : List Member) (me
       counts : Counts ms m kept_member.kept kept_member.kept_at cut.imports much.imports
       counts = counts_of t h ms m kept_member.kept kept_member.kept_at y kept_member.is scope cut.imports cut.imports_are
 
-      low_of : (a : ℕ) → IsNamedBefore r much a → IsLow pieces x h ms members input known obey m w w_at cut.instances cut.imports cut.many cut.cut kept a
-      low_of a (named.IsNamedBefore.in_interface k i i_at under c) =
-          interface_low pieces x h ms members input known obey m w w_at cut.instances cut.imports cut.many cut.cut marks kept marked n homes seen within ps met p.interfaces planned firsts k
-          (planned_interface i)
-          (built_at p r built k i i_at) (subst (λ (c : ℕ). k < c) (sym interfaces_are) under) a (subst (λ (ns : List ℕ). Contains ns a) (sym (type_numbers_are i)) c)
+      low_of : (a : ℕ) → IsNamedBefore r much a → IsSo (λ q. q < 14 + cut.many) kept a
+      low_of a (named.IsNamedBefore.in_interface k i i_at under c) = interface_low pieces x h ms members input known obey m w w_at cut.instances cut.imports cut.many cut.cut marks kept marked n homes
+          seen within ps met p.interfaces planned firsts k (planned_interface i) (built_at p r built k i i_at) (subst (λ (c : ℕ). k < c) (sym interfaces_are) under) a
+          (subst (λ (ns : List ℕ). Contains ns a) (sym (type_numbers_are i)) c)
       low_of a (named.IsNamedBefore.in_world k j v id v_at import_at same side) =
           let o = of_world k j v id v_at import_at a same in
           let before = before_there ms m kept_member.kept kept_member.kept_at cut.imports much.imports counts k j o.v o.owner
           (subst (λ (c : ℕ). (k < c) ⊎ ((k ≡ c) × (j < much.imports))) (sym worlds_are) side) in
           let number = cut.cut.types_before o.owner.number j (numbered_scope o.v.1) o.import_.seen o.import_.declared o.scope_at o.import_.at o.import_.is before o.import_.number o.import_.row in
-          record { part = 14 + o.import_.number; is = o.import_.kept_; low = omega (arith, number) }
+          record { part = 14 + o.import_.number; is = o.import_.kept_; so = omega (arith, number) }
 
-      high_of : (b : ℕ) → IsNamedBehind r much b → IsHigh pieces x h ms members input known obey m w w_at cut.instances cut.imports cut.many cut.cut kept b
-      high_of b (named.IsNamedBehind.in_interface k i i_at over c) =
-          interface_high pieces x h ms members input known obey m w w_at cut.instances cut.imports cut.many cut.cut marks kept marked n homes seen within ps met p.interfaces planned firsts k
-          (planned_interface i)
-          (built_at p r built k i i_at) (subst (λ (c : ℕ). c ≤ k) (sym interfaces_are) over) b (subst (λ (ns : List ℕ). Contains ns b) (sym (type_numbers_are i)) c)
+      high_of : (b : ℕ) → IsNamedBehind r much b → IsSo (λ q. 14 + cut.many ≤ q) kept b
+      high_of b (named.IsNamedBehind.in_interface k i i_at over c) = interface_high pieces x h ms members input known obey m w w_at cut.instances cut.imports cut.many cut.cut marks kept marked n homes
+          seen within ps met p.interfaces planned firsts k (planned_interface i) (built_at p r built k i i_at) (subst (λ (c : ℕ). c ≤ k) (sym interfaces_are) over) b
+          (subst (λ (ns : List ℕ). Contains ns b) (sym (type_numbers_are i)) c)
       high_of b (named.IsNamedBehind.in_world k j v id v_at import_at same side) =
           let o = of_world k j v id v_at import_at b same in
-          let behind = behind_there ms m kept_member.kept kept_member.kept_at cut.imports much.imports counts k j o.v o.owner
-          (subst (λ (c : ℕ). (c < k) ⊎ ((k ≡ c) × (much.imports ≤ j))) (sym worlds_are) side) in
-          let number = cut.cut.types_behind o.owner.number j
-          (numbered_scope o.v.1) o.import_.seen o.import_.declared o.scope_at o.import_.at o.import_.is o.differ behind o.import_.number o.import_.row in
-          record { part = 14 + o.import_.number; is = o.import_.kept_; high = omega (arith, number) }
+          record {
+            part = 14 + o.import_.number;
+            is = o.import_.kept_;
+            so = omega (
+              arith,
+              cut.cut.types_behind o.owner.number j (numbered_scope o.v.1) o.import_.seen o.import_.declared o.scope_at o.import_.at o.import_.is o.differ
+                  (behind_there ms m kept_member.kept kept_member.kept_at cut.imports much.imports counts k j o.v o.owner
+                  (subst (λ (c : ℕ). (c < k) ⊎ ((k ≡ c) × (much.imports ≤ j))) (sym worlds_are) side)) o.import_.number o.import_.row,
+            );
+          }
 
       pub named_less : (a b : ℕ) → IsNamedBefore r much a → IsNamedBehind r much b → a < b
-      named_less a b before behind = less a b (low_of a before) (high_of b behind)
+      named_less a b before behind =
+          let low = low_of a before in
+          let high = high_of b behind in
+          kept_less marks kept marked low.part high.part a b low.is high.is (omega (arith, low.so, high.so))

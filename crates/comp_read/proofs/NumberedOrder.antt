@@ -26,8 +26,7 @@ use Rattle.read_follow.proofs.NumberingLaws.{count_below}
 use Rattle.read_numbers.specs.PlacedNumbers.{IsMetPart}
 use Rattle.read_parts.specs.Members.{DeclaringScope}
 use Rattle.comp_read.specs.TypeOrder.{are_pathed, is_pathed, numbers_below, HasNumber, NumbersFollow}
-use Rattle.comp_read.proofs.CountedUp.{IsOfSmaller, StandBehind, behind_mapped, below, counted_up}
-use Rattle.comp_read.proofs.PlanOrder.{is_plan}
+use Rattle.comp_read.proofs.{CountedUp.IsOfSmaller, CountedUp.StandBehind, CountedUp.behind_mapped, CountedUp.below, CountedUp.counted_up, PlanOrder.is_plan}
 
 -- ---- The named types that a type of the plan meets are names in the part that is kept for it.
 
@@ -61,18 +60,12 @@ module _ (t : Tables) (tables : AreTables t) (kept : List ℕ) (p : Plan) (are :
         among = get-contains olds i old old_at
 
         by : IsPart kept old new → IsNameInside (14 + n) m
-        by (a_primitive small same) =
-            let none : part_number new ≡ None = ap (λ b. cond b None (Some (new - 14))) (lt-ltb new 14 (omega (arith, small, same))) in
-            let wrong : None ≡ Some k = sym none ∙ new_is in
-            absurd cc
+        by (a_primitive small same) = search (std_rules, lt-ltb)
         by (a_shape o l from old_kept to) =
-            let low = all_at (λ (q : ℕ). q < 14 + n) olds (parts_before t tables kept p are n form olds at) old among in
-            let one : l ≡ k = same-some l k (sym (ap part_number to ∙ behind l) ∙ new_is) in
-            let less : l < j = are.rise l j o n old_kept kept_at (omega (arith, low, from)) in
-            let range = becomes.range in
-            let there = within_there p.types l (omega (arith, range, to)) in
-            let met : met_by before k ≡ met_by (met_in p) l = ap (met_by before) (sym one) ∙ ap (λ ns. unwrap_or ns []) (slice_take (met_in p) j l less) in
-            let name = smaller l o less there.0 there.1 old_kept m (subst (λ (ms : List ℕ). Contains ms m) met c) in
+            let less : l < j = are.rise l j o n old_kept kept_at (omega (arith, (all_at (λ (q : ℕ). q < 14 + n) olds (parts_before t tables kept p are n form olds at) old among), from)) in
+            let there = within_there p.types l (omega (arith, becomes.range, to)) in
+            let name = smaller l o less there.0 there.1 old_kept m (subst (λ (ms : List ℕ). Contains ms m)
+            (ap (met_by before) (sym (same-some l k (sym (ap part_number to ∙ behind l) ∙ new_is))) ∙ ap (λ ns. unwrap_or ns []) (slice_take (met_in p) j l less)) c) in
             record {
               number = name.number;
               place = name.place;
@@ -96,15 +89,12 @@ module _ (t : Tables) (tables : AreTables t) (kept : List ℕ) (p : Plan) (are :
     met_here : Contains (met_by (met_in p) j) m → Contains (met_at before (j, x)) m
     unfolding met_in
     met_here c =
-        let zero_more : 0 + j ≡ j = omega arith in
-        subst (λ (o : Option (List ℕ)). Contains (unwrap_or o []) m)
-        (grow_at met_at (numbered_from 0 p.types) j (j, x) (numbered_at 0 p.types j x there ∙ ap (λ i. Some (i, x)) zero_more)) c
+        subst (λ (o : Option (List ℕ)). Contains (unwrap_or o []) m) (grow_at met_at (numbered_from 0 p.types) j (j, x) (numbered_at 0 p.types j x there ∙ ap (λ i. Some (i, x)) (omega arith))) c
 
     pub one_met : Contains (met_by (met_in p) j) m → IsNameInside (14 + n) m
     one_met c =
         let from = are.each j x there in
-        let same : from.0 ≡ n = same-some from.0 n (sym from.1 ∙ kept_at) in
-        by_kind (subst (λ (k : ℕ). IsKeptType t kept p k x) same from.2) (met_here c)
+        by_kind (subst (λ (k : ℕ). IsKeptType t kept p k x) (same-some from.0 n (sym from.1 ∙ kept_at)) from.2) (met_here c)
 
   up_to : (many j n : ℕ) → j < many → NamesAreInside j n
   up_to zero j n low x there kept_at m c = absurd (omega (arith, low))
@@ -132,18 +122,13 @@ counted_behind from (p ∷ ps) to u front all = ((λ c less low. all c low (befo
     wider (inl (low, same)) c behind less = Contains-append_left front (p ∷ []) c (all c behind (omega (arith, less, same)))
     wider (inr (part, more)) c behind less = elim (cases_lt c (14 + from)) [
       | inl small ↦ Contains-append_left front (p ∷ []) c (all c behind small)
-      | inr past ↦
-          let one : p ≡ c = omega (arith, past, less, part, more) in
-          subst (Contains (front ++ p ∷ [])) one (Contains-append_right front (p ∷ []) p (contains-one p))
+      | inr past ↦ subst (Contains (front ++ p ∷ [])) (omega (arith, past, less, part, more)) (Contains-append_right front (p ∷ []) p (contains-one p))
     ]
 
 -- and all that come into the table are there
 counted_has : (from : ℕ) (ps : List ℕ) (to : ℕ) → CountUp from ps to → (c : ℕ) → 14 + from ≤ c → c < 14 + to → Contains ps c
 counted_has from [] to same c low high = absurd (omega (arith, same, low, high))
-counted_has from (p ∷ ps) to u c low high = elim (cases_lt c (14 + u.0)) [
-  | inl less ↦ here u.1 less
-  | inr past ↦ contains-later p ps c (counted_has u.0 ps to u.2 c past high)
-]
+counted_has from (p ∷ ps) to u c low high = elim (cases_lt c (14 + u.0)) [ inl less ↦ here u.1 less | inr past ↦ contains-later p ps c (counted_has u.0 ps to u.2 c past high) ]
   where
     here : IsNext p from u.0 → c < 14 + u.0 → Contains (p ∷ ps) c
     here (inl (known, same)) less = absurd (omega (arith, same, low, less))
@@ -175,13 +160,11 @@ module _ (t : Tables) (tables : AreTables t) where
   tree_there n s e = search (std_rules, part_behind, unwrap_or, tree_at_number)
 
   pathed_outside : (k : ℕ) → is_pathed (tree_at t k) ≡ true → IsOutside t k
-  pathed_outside k pathed p (itself _ n _ name is at) =
-      path_there (path_at t p) name
+  pathed_outside k pathed p (itself _ n _ name is at) = path_there (path_at t p) name
       (sym (ap is_pathed (ap (tree_at t) is ∙ (tree_there n (named_shape p name) at ∙ name_tree (place_at t) (shape_trees (place_at t) t.shapes) p name))) ∙ pathed)
   pathed_outside k pathed p (inside _ n m _ form parts is at among deeper) =
       let trees = shape_trees (place_at t) t.shapes in
-      let whole : tree_at t k ≡ Tree.node form (children (map (part_tree trees) parts)) =
-      ap (tree_at t) is ∙ (tree_there n (node_shape form parts) at ∙ node_tree (place_at t) trees form parts) in
+      let whole : tree_at t k ≡ Tree.node form (children (map (part_tree trees) parts)) = ap (tree_at t) is ∙ (tree_there n (node_shape form parts) at ∙ node_tree (place_at t) trees form parts) in
       pathed_outside m (pathed_child (map (part_tree trees) parts) (tree_at t m) (sym (ap is_pathed whole) ∙ pathed) (contains-map (part_tree trees) parts m among)) p deeper
 
   same_place : (o u : Option Text) (x y : Text) → o ≡ Some x → u ≡ Some y → place_of o ≡ place_of u → o ≡ u
@@ -204,15 +187,13 @@ module _ (t : Tables) (tables : AreTables t) where
     number_there_is : (m j : ℕ) → slice_get kept j ≡ Some m → number_for (14 + m) ≡ Some j
     number_there_is m j e =
         let given = number_given kept m (get-contains kept j m e) in
-        let there = number_there kept m given.0 given.1 in
-        let part : part_number (14 + m) ≡ Some m = ap (λ b. cond b None (Some (14 + m - 14))) (le-ltb (14 + m) 14 (omega arith)) ∙ ap Some (omega arith) in
-        ap (option_and_then (number_in kept)) part ∙ (given.1 ∙ ap Some (are.once given.0 j m there e))
+        ap (option_and_then (number_in kept)) (ap (λ b. cond b None (Some (14 + m - 14))) (le-ltb (14 + m) 14 (omega arith)) ∙ ap Some (omega arith))
+        ∙ (given.1 ∙ ap Some (are.once given.0 j m (number_there kept m given.0 given.1) e))
 
     number_back : (part d : ℕ) → number_for part ≡ Some d → (m : ℕ) × (part ≡ 14 + m) × (slice_get kept d ≡ Some m)
     number_back part d e = elim (split_part part) [
       | inl small ↦
-          let none : part_number part ≡ None = ap (λ b. cond b None (Some (part - 14))) (lt-ltb part 14 small) in
-          let wrong : None ≡ Some d = sym (ap (option_and_then (number_in kept)) none) ∙ e in absurd cc
+          let wrong : None ≡ Some d = sym (ap (option_and_then (number_in kept)) (ap (λ b. cond b None (Some (part - 14))) (lt-ltb part 14 small))) ∙ e in absurd cc
       | inr m ↦
           let is : part_number part ≡ Some m.0 =
           ap (λ b. cond b None (Some (part - 14))) (le-ltb part 14 (let same = m.1 in omega (arith, same))) ∙ ap Some (let same = m.1 in omega (arith, same)) in
@@ -221,11 +202,9 @@ module _ (t : Tables) (tables : AreTables t) where
 
     kept_low : (j m : ℕ) → slice_get kept j ≡ Some m → m < length t.shapes
     kept_low j m e =
-        let low = found_below kept j m e in
-        let x = within_there p.types j (omega (arith, low, long)) in
+        let x = within_there p.types j (omega (arith, found_below kept j m e, long)) in
         let from = are.each j x.0 x.1 in
-        let same : from.0 ≡ m = same-some from.0 m (sym from.1 ∙ e) in
-        subst (λ (n : ℕ). n < length t.shapes) same (by from.0 x.0 from.2)
+        subst (λ (n : ℕ). n < length t.shapes) (same-some from.0 m (sym from.1 ∙ e)) (by from.0 x.0 from.2)
       where
         by : (n : ℕ) (x : PlannedType) → IsKeptType t kept p n x → n < length t.shapes
         by n x (unnamed place form olds news at zip none own made part few) = found_below t.shapes n (node_shape form olds) at
@@ -244,22 +223,19 @@ module _ (t : Tables) (tables : AreTables t) where
     smaller : (part d : ℕ) → Contains (numbers_of part) d → (c : ℕ) → c < d → IsOfSmaller IsBehind numbers_of part c
     smaller part d d_in c less =
         let m = number_back part d (of_option (number_for part) d d_in) in
-        let low = found_below kept d m.0 m.2 in
-        let n = within_there kept c (omega (arith, low, less)) in
+        let n = within_there kept c (omega (arith, found_below kept d m.0 m.2, less)) in
         let below : n.0 < m.0 = elim (cases_lt n.0 m.0) [
           | inl is ↦ is
           | inr past ↦ elim (cases_lt m.0 n.0) [
             | inl more ↦ (let wrong = are.rise d c m.0 n.0 m.2 n.1 more in absurd (omega (arith, wrong, less)))
             | inr le ↦
                 let same : n.0 ≡ m.0 = omega (arith, past, le) in
-                let one = are.once c d m.0 (n.1 ∙ ap Some same) m.2 in
-                absurd (omega (arith, one, less))
+                absurd (omega (arith, (are.once c d m.0 (n.1 ∙ ap Some same) m.2), less))
           ]
         ] in
-        let is = m.1 in
         record {
           one = 14 + n.0;
-          less = omega (arith, is, below);
+          less = omega (arith, m.1, below);
           kind = omega arith;
           there = to_option (number_for (14 + n.0)) c (number_there_is n.0 c n.1);
         }
@@ -277,44 +253,30 @@ module _ (t : Tables) (tables : AreTables t) where
       tree_is : (m j : ℕ) → slice_get kept j ≡ Some m → number_tree r j ≡ tree_at t (14 + m)
       tree_is m j e =
           let pass = kept_types_pass t tables kept p are in
-          let low = found_below kept j m e in
-          sym (part_behind (trees_of r) j)
-          ∙ (ap (λ ts. part_tree ts (14 + j)) (sym (trees_are r p.main))
+          sym (part_behind (trees_of r) j) ∙ (ap (λ ts. part_tree ts (14 + j)) (sym (trees_are r p.main))
           ∙ (ap (λ (q : Plan). part_tree (trees_in q) (14 + j)) (sym (is_plan p r built))
-          ∙ trees_are_kept (place_at t) t.shapes kept p tables.shapes pass.0.types pass.0.fall (14 + m) (14 + j) (a_shape m j refl e refl) (omega (arith, low, long))))
+          ∙ trees_are_kept (place_at t) t.shapes kept p tables.shapes pass.0.types pass.0.fall (14 + m) (14 + j) (a_shape m j refl e refl) (omega (arith, found_below kept j m e, long))))
 
       has_number : (part : ℕ) → HasNumber r (tree_at t part) (number_for part)
       has_number part = by (number_for part) refl
         where
           by : (o : Option ℕ) → number_for part ≡ o → HasNumber r (tree_at t part) o
           by None e = tt
-          by (Some d) e =
-              let m = number_back part d e in
-              let low = found_below kept d m.0 m.2 in
-              let many = many_types in
-              (omega (arith, low, many), tree_is m.0 d m.2 ∙ ap (tree_at t) (sym m.1))
+          by (Some d) e = search (std_rules, number_back, found_below, many_types, tree_is)
 
       abbrev found : List (Option ℕ)
       found = map number_for parts
 
       counts_up : once (flat_map option_to_list found) ≡ numbers_below (length r.types.items)
-      counts_up =
-          ap once (sym (flat_mapped option_to_list number_for parts))
-          ∙ (counted_up (length kept) (flat_map numbers_of parts)
-          (behind_mapped IsBehind numbers_of smaller [] parts (counted_behind 0 parts (length t.shapes) counted [] (λ c low less. absurd (omega (arith, low, less)))))
-          (λ d d_in.
+      counts_up = ap once (sym (flat_mapped option_to_list number_for parts))
+          ∙ (counted_up (length kept) (flat_map numbers_of parts) (behind_mapped IsBehind numbers_of smaller [] parts
+          (counted_behind 0 parts (length t.shapes) counted [] (λ c low less. absurd (omega (arith, low, less))))) (λ d d_in.
           let from = flat_cases numbers_of parts d d_in in
           let m = number_back from.0 d (of_option (number_for from.0) d from.2) in
-          found_below kept d m.0 m.2)
-          (λ c less.
+          found_below kept d m.0 m.2) (λ c less.
           let n = within_there kept c less in
-          let inside = kept_low c n.0 n.1 in
-          contains-flat numbers_of parts (14 + n.0) c (counted_has 0 parts (length t.shapes) counted (14 + n.0) (omega arith) (omega (arith, inside)))
-          (to_option (number_for (14 + n.0)) c (number_there_is n.0 c n.1)))
-          ∙ (ap below many_types ∙ same_below (length r.types.items)))
-
-      part_low : (i a : ℕ) → slice_get parts i ≡ Some a → a < 14 + length t.shapes
-      part_low i a e = all_at (λ (q : ℕ). q < 14 + length t.shapes) parts (count_below 0 parts (length t.shapes) counted) a (get-contains parts i a e)
+          contains-flat numbers_of parts (14 + n.0) c (counted_has 0 parts (length t.shapes) counted (14 + n.0) (omega arith) (omega (arith, kept_low c n.0 n.1)))
+          (to_option (number_for (14 + n.0)) c (number_there_is n.0 c n.1))) ∙ (ap below many_types ∙ same_below (length r.types.items)))
 
       -- the part that is declared there
       part_there : (i : ℕ) (c : DeclaringScope) (u : Tree) → slice_get declares i ≡ Some (c, u)
@@ -322,8 +284,13 @@ module _ (t : Tables) (tables : AreTables t) where
       part_there i c u at =
           let x = get_back (λ (s : DeclaringScope × ℕ). (s.0, tree_at t s.1)) scoped i (c, u) (ap (λ ds. slice_get ds i) trees ∙ at) in
           let here = mapped_get (λ (s : DeclaringScope × ℕ). s.1) scoped i x.0 x.1 in
-          let one : x.0 ≡ (c, x.0.1) = λ k. ((x.2 k).0, x.0.1) in
-          (x.0.1, get-contains scoped i (c, x.0.1) (x.1 ∙ ap Some one), here, part_low i x.0.1 here, (λ k. (x.2 k).1))
+          let one : x.0 ≡ (c, x.0.1) = λ k. ((x.2 k).0, x.0.1) in (
+            x.0.1,
+            get-contains scoped i (c, x.0.1) (x.1 ∙ ap Some one),
+            here,
+            (all_at (λ (q : ℕ). q < 14 + length t.shapes) parts (count_below 0 parts (length t.shapes) counted) x.0.1 (get-contains parts i x.0.1 here)),
+            (λ k. (x.2 k).1),
+          )
 
       one_part : (c d : DeclaringScope) (u : Tree) (a b : ℕ) → (c ≡ d) ⊎ (is_pathed u ≡ true) → Contains scoped (c, a) → Contains scoped (d, b) → a < 14 + length t.shapes
           → b < 14 + length t.shapes → tree_at t a ≡ u → tree_at t b ≡ u → a ≡ b
@@ -336,20 +303,17 @@ module _ (t : Tables) (tables : AreTables t) where
       same_number i j c d u a b tied i_at j_at a_at b_at =
           let x = part_there i c u i_at in
           let y = part_there j d u j_at in
-          let one : x.0 ≡ y.0 = one_part c d u x.0 y.0 tied x.1 y.1 x.3 y.3 x.4 y.4 in
-          let left = same-some a (number_for x.0) (sym a_at ∙ mapped_get number_for parts i x.0 x.2) in
-          let right = same-some b (number_for y.0) (sym b_at ∙ mapped_get number_for parts j y.0 y.2) in
-          left ∙ (ap number_for one ∙ sym right)
+          (same-some a (number_for x.0) (sym a_at ∙ mapped_get number_for parts i x.0 x.2))
+          ∙ (ap number_for (one_part c d u x.0 y.0 tied x.1 y.1 x.3 y.3 x.4 y.4) ∙ sym (same-some b (number_for y.0) (sym b_at ∙ mapped_get number_for parts j y.0 y.2)))
 
       -- the name that is met at a number, as it stands in the part of the declaration
       met_in_part : (k a m : ℕ) → number_for k ≡ Some a → Contains (met_by (met_of r) a) m → IsNameInside t tables kept p are k m
       met_in_part k a m is c =
           let from = number_back k a is in
-          let low = found_below kept a from.0 from.2 in
-          let x = within_there p.types a (omega (arith, low, long)) in
-          let same : met_of r ≡ met_in p = sym (met_are r p.main) ∙ ap met_in (sym (is_plan p r built)) in
+          let x = within_there p.types a (omega (arith, found_below kept a from.0 from.2, long)) in
           subst (λ (q : ℕ). IsNameInside t tables kept p are q m) (sym from.1)
-          (names_are_inside t tables kept p are a from.0 x.0 x.1 from.2 m (subst (λ (table : List (List ℕ)). Contains (met_by table a) m) same c))
+          (names_are_inside t tables kept p are a from.0 x.0 x.1 from.2 m (subst (λ (table : List (List ℕ)). Contains (met_by table a) m)
+          (sym (met_are r p.main) ∙ ap met_in (sym (is_plan p r built))) c))
 
       one_name : (c : DeclaringScope) (a b m n : ℕ) → Contains scoped (c, a) → Contains scoped (c, b) → IsNameInside t tables kept p are a m → IsNameInside t tables kept p are b n
           → number_tree r m ≡ number_tree r n → m ≡ n
@@ -358,9 +322,8 @@ module _ (t : Tables) (tables : AreTables t) where
           let left = tree_is x.number m x.kept_there ∙ (tree_there x.number (named_shape x.place x.name) x.at ∙ name_tree (place_at t) trees x.place x.name) in
           let right = tree_is y.number n y.kept_there ∙ (tree_there y.number (named_shape y.place y.name) y.at ∙ name_tree (place_at t) trees y.place y.name) in
           let names : Tree.named (place_at t x.place) x.name ≡ Tree.named (place_at t y.place) y.name = sym left ∙ (e ∙ right) in
-          let places : place_at t x.place ≡ place_at t y.place = cc in
           let labels : x.name ≡ y.name = cc in
-          let place : x.place ≡ y.place = near c a b a_in b_in x.place y.place x.has y.has places in
+          let place : x.place ≡ y.place = near c a b a_in b_in x.place y.place x.has y.has cc in
           let shape : named_shape y.place y.name ≡ named_shape x.place x.name = λ k. named_shape (sym place k) (sym labels k) in
           let number : x.number ≡ y.number = tables.shapes.apart x.number y.number (named_shape x.place x.name) x.at (y.at ∙ ap Some shape) in
           are.once m n y.number (x.kept_there ∙ ap Some number) y.kept_there
@@ -370,22 +333,11 @@ module _ (t : Tables) (tables : AreTables t) where
       same_names i j c u v a b m n i_at j_at a_at b_at m_in n_in e =
           let x = part_there i c u i_at in
           let y = part_there j c v j_at in
-          let left = same-some (number_for x.0) (Some a) (sym (mapped_get number_for parts i x.0 x.2) ∙ a_at) in
-          let right = same-some (number_for y.0) (Some b) (sym (mapped_get number_for parts j y.0 y.2) ∙ b_at) in
-          one_name c x.0 y.0 m n x.1 y.1 (met_in_part x.0 a m left m_in) (met_in_part y.0 b n right n_in) e
+          one_name c x.0 y.0 m n x.1 y.1 (met_in_part x.0 a m (same-some (number_for x.0) (Some a) (sym (mapped_get number_for parts i x.0 x.2) ∙ a_at)) m_in)
+          (met_in_part y.0 b n (same-some (number_for y.0) (Some b) (sym (mapped_get number_for parts j y.0 y.2) ∙ b_at)) n_in) e
 
       abbrev HasItsNumber : DeclaringScope × Tree → Option ℕ → Type 0
       HasItsNumber d o = HasNumber r d.1 o
 
       pub numbers_follow : NumbersFollow declares r
-      numbers_follow = record {
-        numbers = found;
-        are =
-            subst (λ (ds : List (DeclaringScope × Tree)). AllZip HasItsNumber ds found) trees
-            (subst (λ (ns : List (Option ℕ)). AllZip HasItsNumber (scoped_trees (shape_trees (place_at t) t.shapes) scoped) ns)
-            (sym (map_of_map number_for (λ (s : DeclaringScope × ℕ). s.1) scoped))
-            (zip_maps HasItsNumber (λ (s : DeclaringScope × ℕ). (s.0, tree_at t s.1)) (λ (s : DeclaringScope × ℕ). number_for s.1) (λ (s : DeclaringScope × ℕ). has_number s.1) scoped));
-        order = counts_up;
-        same = same_number;
-        names = same_names;
-      }
+      numbers_follow = search (std_rules, map_of_map, zip_maps, has_number, counts_up, same_number, same_names)

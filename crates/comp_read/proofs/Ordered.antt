@@ -1,11 +1,10 @@
 -- The views of what was followed are known, obey the rules, and stand in the order of the table.
-use Rattle.std.proofs.Common.{◌≡◌, refl, sym, ap, subst, ℕ, List, [], ◌∷◌, map}
-use Rattle.std.specs.{Borrow.Bor, List.AllByRecursion, List.AllZip, List.Contains}
+use Rattle.std.proofs.Common.{rules as std_rules, ◌≡◌, refl, sym, ap, subst, ℕ, List, map}
+use Rattle.std.specs.{Borrow.Bor, List.AllByRecursion, List.Contains}
 use Rattle.wit_model.proofs.Elements.{contains-get}
 use Rattle.comp_bytes.specs.Levels.{Piece}
 use Rattle.plan_meaning.specs.NumberedMembers.{Homes, IsKnownSight, NumberedMember, sights_of_members, sights_of_part}
-use Rattle.plan_meaning.specs.{NumberedRules.Fact, NumberedViews.NumberedSight, NumberedViews.NumberedType, NumberedViews.Tables, NumberedWorlds.NumberedScope}
-use Rattle.plan_meaning.specs.ReadInterfaces.{IsNumberOf}
+use Rattle.plan_meaning.specs.{NumberedRules.Fact, NumberedViews.NumberedSight, NumberedViews.Tables, NumberedWorlds.NumberedScope, ReadInterfaces.IsNumberOf}
 use Rattle.read_parts.specs.declared.following.Followed.{Followed}
 use Rattle.read_numbers.specs.FactLaws.{known_by}
 use Rattle.read_numbers.specs.{KnownScopes.AreKnown, NumberedInput.tables_of, PlacedNumbers.IsNumbered, PlacedNumbers.scopes_in as numbered_scopes}
@@ -21,14 +20,9 @@ use Rattle.plan_laws.proofs.{FirstViews.first_is, Inside.flat_cases, ShownRules.
 use Rattle.comp_read.specs.{InputLaws.ReadFirstsRise, ReadInput.IsReadInput, ReadInput.ViewsObey}
 use Rattle.comp_read.proofs.Members.{IsBoth, IsInstance, IsNumberedAt, instance_of_view, instance_shown, interface_path, numbered_at}
 use Rattle.comp_read.proofs.{Places.world_at, Views.instance_placed, Views.instance_rises}
+use Rattle.base_lemmas.proofs.Elements.{zip-kept}
 use Rattle.comp_meaning.specs.Reads as reads
 use Rattle.read_exports.specs.declared.members.Part.TheVariants as parts
-
-numbers_of : (t : Tables) (p : ℕ) (xs : List NumberedType) (ns : List ℕ) → AllZip (IsNumbered t p) xs ns → AllZip (IsNumberOf t p) xs ns
-numbers_of t p [] [] all = tt
-numbers_of t p [] (n ∷ ns) all = absurd all
-numbers_of t p (x ∷ xs) [] all = absurd all
-numbers_of t p (x ∷ xs) (n ∷ ns) all = (all.0.1, numbers_of t p xs ns all.1)
 
 module _ (pieces : List Piece) (x : Followed) (h : Homes) (ms : List Member) (members : List reads.Member) (input : IsReadInput pieces x h ms members) where
   abbrev t : Tables
@@ -68,8 +62,7 @@ module _ (pieces : List Piece) (x : Followed) (h : Homes) (ms : List Member) (me
             let there : Contains (views_of_part (numbered_part member.part)) s = subst (λ (a : Part). Contains (views_of_part (numbered_part a)) s) (sym e) c in
             let i = instance_of_view pieces x h ms members input m member b s there in
             views_are_known pieces x input.followed facts are_known s.place (interface_path pieces x h ms members input m member b p (numbered_view v) (map numbered_import imports.now)
-            (ap numbered_part e) s there) s.view
-            (instance_placed pieces x h ms members input m i.number (instance_shown s) i.at) s.whole
+            (ap numbered_part e) s there) s.view (instance_placed pieces x h ms members input m i.number (instance_shown s) i.at) s.whole
 
         by : (a : Part) → member.part ≡ a → AllByRecursion (IsKnownSight t known) (sights_of_part t (numbered_part a)) × PartIsKnown t known (numbered_part a)
         by (parts.World w) e = let found = scopes_are_known pieces x input.followed facts are_known m (numbered_scope w) (world_at pieces x h ms members input m member b w e) in (found.1, found.0)
@@ -80,8 +73,7 @@ module _ (pieces : List Piece) (x : Followed) (h : Homes) (ms : List Member) (me
         (part_known at.0 at.1.member at.1.both)
 
     pub sights_known : AllByRecursion (IsKnownSight t known) (sights_of_members t nms)
-    sights_known = all_flat (IsKnownSight t known) (λ (y : NumberedMember). sights_of_part t y.part) nms
-        (all_of (λ (y : NumberedMember). AllByRecursion (IsKnownSight t known) (sights_of_part t y.part)) nms (λ y c. (member_known y c).0))
+    sights_known = search (std_rules, all_flat, all_of, member_known)
 
     pub parts_known : AllByRecursion (λ (y : NumberedMember). PartIsKnown t known y.part) nms
     parts_known = all_of (λ (y : NumberedMember). PartIsKnown t known y.part) nms (λ y c. (member_known y c).1)
@@ -93,7 +85,7 @@ module _ (pieces : List Piece) (x : Followed) (h : Homes) (ms : List Member) (me
     view_rises s c =
         let i = instance_of_any s c in
         let rising = instance_rises pieces x h ms members input told obey i.0 i.1.number (instance_shown s) i.1.at in
-        record { numbers = rising.numbers; shapes = numbers_of t s.place s.view.types rising.numbers rising.named; rise = rising.rise }
+        record { numbers = rising.numbers; shapes = zip-kept (IsNumbered t s.place) (IsNumberOf t s.place) (λ y n is. is.1) s.view.types rising.numbers rising.named; rise = rising.rise }
 
     pub firsts_rise : FirstsRise t ms
     firsts_rise q s e = let first = first_is q views s e in subst (λ p. IsRisingView t p s.view) first.1 (view_rises s first.0)

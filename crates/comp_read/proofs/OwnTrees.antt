@@ -8,8 +8,8 @@ use Rattle.comp_meaning.specs.Follow.{Instance, place_of}
 use Rattle.read_shown.specs.{Kinds.MemberHasKinds, Kinds.NamesHaveKinds, Kinds.ViewHasKinds, Views.IsMetInView, Views.ViewStands, Views.inside, Views.outside}
 use Rattle.read_shown.specs.{Parts.MemberStands, Parts.PartStands, Parts.instances_of, Parts.named_instance, Scopes.IsShownBefore, Trees.AllAt}
 use Rattle.read_shown.proofs.{Lists.front_more, ScopeWider.shown_wider, Views.view_wider}
-use Rattle.plan_meaning.specs.NumberedMembers.{Homes, HomesStand, IsMember, NumberedMember, NumberedPart, ShowsPart, interface, world}
-use Rattle.plan_meaning.specs.NumberedViews.{AreTables, NumberedView, Tables, path_at, path_text, view_of}
+use Rattle.plan_meaning.specs.NumberedMembers.{Homes, HomesStand, IsMember, NumberedMember, NumberedPart, interface, world}
+use Rattle.plan_meaning.specs.NumberedViews.{AreTables, NumberedView, Tables, path_text, view_of}
 use Rattle.plan_meaning.specs.NumberedWorlds.{NumberedScope, Shows, instance_of}
 use Rattle.plan_type_laws.specs.MembersStand.{MembersStand, all_instances}
 use Rattle.plan_laws.specs.OneWorld.{AreOwnInterfaces}
@@ -36,16 +36,12 @@ module _ (t : Tables) (tables : AreTables t) (h : Homes) (stand : HomesStand t h
   abbrev trees : List reads.Member
   trees = map (own_tree t identity) ms
 
-  own_shows : (k : NumberedMember) → Contains ms k → ShowsPart t h k k.part (tree_of_part t k.part)
-  own_shows k c = search (std_rules, own_at t h n w ms are k c)
-
   pub own_members : AllZip (IsMember t h) ms trees
-  own_members =
-      zip_mapped (IsMember t h) (own_tree t identity) ms (λ k c. record {
-        label = refl;
-        package_ = ap (slice_get h.packages) (own_at t h n w ms are k c).package_ ∙ there;
-        part = own_shows k c;
-      })
+  own_members = zip_mapped (IsMember t h) (own_tree t identity) ms (λ k c. record {
+    label = refl;
+    package_ = ap (slice_get h.packages) (own_at t h n w ms are k c).package_ ∙ there;
+    part = search (std_rules, own_at t h n w ms are k c);
+  })
 
   -- ---- what they show
 
@@ -61,11 +57,10 @@ module _ (t : Tables) (tables : AreTables t) (h : Homes) (stand : HomesStand t h
     own_named k c =
         let is = own_at t h n w ms are k c in
         let spelled = spelled_as t tables h stand n is.place k.label is.path is.home in
-        let who : spelled.identity ≡ identity = same-some spelled.identity identity (sym spelled.there ∙ there) in
-        let path : path_at t is.place ≡ Some (path_in identity k.label) = spelled.path ∙ ap (λ (i : PackageIdentity). Some (path_in i k.label)) who in
-        subst (Contains scope.instances) (λ i. record { interface = path i; view = view_of t is.view })
-        (subst (λ (xs : List Instance). Contains xs (instance_of t (record { place = is.place; view = is.view }))) (sym shows.instances)
-        (contains-map (instance_of t) w.instances (record { place = is.place; view = is.view }) is.among))
+        subst (Contains scope.instances) (λ i. record {
+          interface = (spelled.path ∙ ap (λ (i : PackageIdentity). Some (path_in i k.label)) (same-some _ _ (sym spelled.there ∙ there))) i;
+          view = view_of t is.view;
+        }) (subst (λ (xs : List Instance). Contains xs (instance_of t (record { place = is.place; view = is.view }))) (sym shows.instances) (contains-map _ _ _ is.among))
 
     abbrev alone : NumberedMember → NumberedView → reads.Member
     alone k v = record { label = k.label; package_ = identity; part = reads.Part.interface (view_of t v) [] }
@@ -78,9 +73,8 @@ module _ (t : Tables) (tables : AreTables t) (h : Homes) (stand : HomesStand t h
     own_instance x c =
         let from = flat_cases instances_of trees x c in
         let m = from_map (own_tree t identity) ms from.0 from.1 in
-        let is = own_at t h n w ms are m.0 m.1 in
-        let same : named m.0 is.view ≡ x = one-contained (named m.0 is.view) x (subst (λ (y : reads.Member). Contains (instances_of y) x) (sym m.2 ∙ own_tree_is m.0 m.1) from.2) in
-        subst (Contains scope.instances) same (own_named m.0 m.1)
+        subst (Contains scope.instances) (one-contained (named m.0 (own_at t h n w ms are m.0 m.1).view) x
+        (subst (λ (y : reads.Member). Contains (instances_of y) x) (sym m.2 ∙ own_tree_is m.0 m.1) from.2)) (own_named m.0 m.1)
 
     -- ---- they are well-formed behind the world
 
@@ -92,8 +86,7 @@ module _ (t : Tables) (tables : AreTables t) (h : Homes) (stand : HomesStand t h
       ordered j k = omega arith
 
       view_stands : (j k : ℕ) → j ≤ k → (x : Instance) → ViewStands (IsShownBefore scope.instances j) (place_of x.interface) x.view → ViewStands (IsShownBefore all k) (place_of x.interface) x.view
-      view_stands j k le x is = view_wider (IsShownBefore scope.instances j) (IsShownBefore all k) (shown_wider scope.instances all (front_more scope.instances (all_instances trees)) j k le)
-          (place_of x.interface) x.view is
+      view_stands j k le x is = search (std_rules, view_wider, shown_wider, front_more)
 
       views_stand : AllAt (λ k (x : Instance). ViewStands (IsShownBefore all k) (place_of x.interface) x.view) all
       views_stand k x e = by (split_at scope.instances (all_instances trees) k x e)
@@ -103,9 +96,7 @@ module _ (t : Tables) (tables : AreTables t) (h : Homes) (stand : HomesStand t h
           by (inl here) = view_stands k k (omega arith) x (stands.views k x here)
           by (inr later) =
               let at = contains-get scope.instances x (own_instance x (get-contains (all_instances trees) later.0 x later.2)) in
-              let low = slice_get_within scope.instances at.0 x at.1 in
-              let is = later.1 in
-              view_stands at.0 k (omega (arith, low, is)) x (stands.views at.0 x at.1)
+              view_stands at.0 k (omega (arith, slice_get_within scope.instances at.0 x at.1, later.1)) x (stands.views at.0 x at.1)
 
       pub world_members_stand : MembersStand (one ∷ trees)
       world_members_stand = record {
@@ -126,13 +117,7 @@ module _ (t : Tables) (tables : AreTables t) (h : Homes) (stand : HomesStand t h
 
       -- fewer names are met in it alone
       kinds_alone : (k : NumberedMember) (v : NumberedView) (j : ℕ) → ViewHasKinds kinds scope.instances j (named k v) → ViewHasKinds kinds (named k v ∷ []) 0 (named k v)
-      kinds_alone k v j is = record {
-        own = is.own;
-        shown = is.shown;
-        met = λ i place name b met. is.met i place name b (wider i place name b met);
-        types = is.types;
-        functions = is.functions;
-      }
+      kinds_alone k v j is = record { own = is.own; shown = is.shown; met = λ i place name b met. is.met i place name b (wider i place name b met); types = is.types; functions = is.functions }
         where
           wider : (i : ℕ) (place : Place) (name : Text) (b : Bool) → IsMetInView (IsShownBefore (named k v ∷ []) 0) (place_of (named k v).interface) (named k v).view i place name b
               → IsMetInView (IsShownBefore scope.instances j) (place_of (named k v).interface) (named k v).view i place name b

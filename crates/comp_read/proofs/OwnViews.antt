@@ -1,8 +1,8 @@
 -- The interfaces of a world's package that it shows: each is seen by a view of the world.
 use Rattle.std.proofs.Common.{rules as std_rules, ◌≡◌, refl, sym, ap, subst, ◌∙◌, ℕ, zero, suc, ◌+◌, ◌<◌, ◌≤◌, ◌⊎◌, inl, inr, arith, Bool, true, false, not, ◌||◌, ◌==◌, cond, List, [], ◌∷◌, ◌++◌, map, take, drop, length, get_or, if◌then◌else◌, Option, Some, Result, Ok, Err, OnOk, None}
-use Rattle.std.proofs.lemmas.{Bool.eq-eqb, Bool.eqb-true, Bool.and_from as both, Map.Keys.any_passes_from_place as get_any}
+use Rattle.std.proofs.{lemmas.Bool.eq-eqb, lemmas.Bool.eqb-true, lemmas.Bool.and_from as both, lemmas.Map.Keys.any_passes_from_place as get_any}
 use Rattle.std.proofs.lemmas.List.Elements.{Contains-append_cases, Contains-append_left, Contains-append_right}
-use Rattle.std.proofs.ByRecursion.{All-weaker as recursion_weaker}
+use Rattle.std.proofs.{ByRecursion.All-weaker as recursion_weaker, lemmas.List.take_all, Math.Seq.take-suc}
 use Rattle.std.specs.{Borrow.Bor, List.AllByRecursion, List.Contains, List.find, List.flat_map, List.list_any, Option.option_map_or}
 use Rattle.wit_model.specs.{Names.PackageIdentity, Text.Text, Uses.has}
 use Rattle.wit_model.proofs.Elements.{contains-get, contains-has, has-contains, none-in}
@@ -31,17 +31,6 @@ split_more f [] i d low = absurd (omega (arith, low))
 split_more f (x ∷ xs) zero d low = refl
 split_more f (x ∷ xs) (suc i) d low = ap (λ ys. f x ∷ ys) (split_more f xs i d (omega (arith, low)))
 
-pub taken_more : {A B : Type 0} (f : A → B) (xs : List A) (i : ℕ) (d : A) → i < length xs → map f (take (suc i) xs) ≡ map f (take i xs) ++ f (get_or xs i d) ∷ []
-taken_more f [] i d low = absurd (omega (arith, low))
-taken_more f (x ∷ xs) zero d low = refl
-taken_more f (x ∷ xs) (suc i) d low = ap (λ ys. f x ∷ ys) (taken_more f xs i d (omega (arith, low)))
-
-pub taken_all : {A : Type 0} (xs : List A) (i : ℕ) → length xs ≤ i → take i xs ≡ xs
-taken_all [] zero past = refl
-taken_all [] (suc i) past = refl
-taken_all (x ∷ xs) zero past = absurd (omega (arith, past))
-taken_all (x ∷ xs) (suc i) past = ap (λ ys. x ∷ ys) (taken_all xs i (omega (arith, past)))
-
 flat_more : {A B : Type 0} (f : A → List B) (xs : List A) (x : A) (y : B) → f x ≡ y ∷ [] → flat_map f (xs ++ x ∷ []) ≡ flat_map f xs ++ y ∷ []
 flat_more f [] x y e = ap (λ ys. ys ++ []) e
 flat_more f (z ∷ xs) x y e = ap (λ ys. f z ++ ys) (flat_more f xs x y e) ∙ behind (f z)
@@ -57,9 +46,8 @@ has_behind (r ∷ ps) p q = search (std_rules, has_behind ps p q)
 
 once_behind : (ps : List ℕ) (p : ℕ) → are_once ps ≡ true → has ps p ≡ false → are_once (ps ++ p ∷ []) ≡ true
 once_behind [] p once none = refl
-once_behind (r ∷ ps) p once none =
-    both (not (has (ps ++ p ∷ []) r)) (are_once (ps ++ p ∷ [])) (ap not (has_behind ps p r) ∙ fewer (has ps r) (p == r) (first_true (not (has ps r)) (are_once ps) once) (differ (p == r) refl))
-    (once_behind ps p (second_true (not (has ps r)) (are_once ps) once) (rest (r == p) none))
+once_behind (r ∷ ps) p once none = both _ _ (ap not (has_behind ps p r) ∙ fewer (has ps r) (p == r) (first_true _ _ once) (differ (p == r) refl))
+    (once_behind ps p (second_true _ _ once) (rest (r == p) none))
   where
     fewer : (a b : Bool) → not a ≡ true → b ≡ false → not (a || b) ≡ true
     fewer true b h e = h
@@ -116,8 +104,7 @@ module _ (n : ℕ) (label : Text) (s : NumberedSight) (places later : List ℕ) 
       on false h = no_true (sym h)
 
 pub adds_own : {R E : Type 0} (r : Result R E) (h : Homes) (n : ℕ) (s : NumberedSight) (places : List ℕ) (ms : List NumberedMember) (label : Text) → home_at h s.place ≡ Some (n, label)
-    → (later : List ℕ) (more : List NumberedMember)
-    → OnOk r (AddsInterface n label s places ms later more) → OnOk r (AddsView h n s places ms later more)
+    → (later : List ℕ) (more : List NumberedMember) → OnOk r (AddsInterface n label s places ms later more) → OnOk r (AddsView h n s places ms later more)
 adds_own (Ok x) h n s places ms label home later more adds = own label later more home adds
 adds_own (Err e) h n s places ms label home later more adds = tt
 
@@ -150,10 +137,7 @@ module _ (h : Homes) (n : ℕ) (done rest : List NumberedSight) (s : NumberedSig
   foreign_step places ms g foreign = record {
     each = g.each;
     of = g.of;
-    all = λ u c is. elim (next_view u c) [
-      | inl among ↦ g.all u among is
-      | inr same ↦ no_true (sym foreign ∙ (ap (λ (v : NumberedSight). is_of_package h n v.place) same ∙ is))
-    ];
+    all = λ u c is. elim (next_view u c) [ inl among ↦ g.all u among is | inr same ↦ no_true (sym foreign ∙ (ap (λ (v : NumberedSight). is_of_package h n v.place) same ∙ is)) ];
     once = g.once;
     order = g.order ∙ sym (filter_other (is_of_package h n) (λ (u : NumberedSight). u.place) done s foreign);
   }
@@ -162,35 +146,18 @@ module _ (h : Homes) (n : ℕ) (done rest : List NumberedSight) (s : NumberedSig
   known_step places ms g is there = record {
     each = g.each;
     of = g.of;
-    all = λ u c is. elim (next_view u c) [
-      | inl among ↦ g.all u among is
-      | inr same ↦ subst (λ (v : NumberedSight). has places v.place ≡ true) same there
-    ];
+    all = λ u c is. elim (next_view u c) [ inl among ↦ g.all u among is | inr same ↦ subst (λ (v : NumberedSight). has places v.place ≡ true) same there ];
     once = g.once;
     order = g.order ∙ sym (filter_known (is_of_package h n) (λ (u : NumberedSight). u.place) done s is (subst (λ (ps : List ℕ). has ps s.place ≡ true) g.order there));
   }
 
   module _ (places : List ℕ) (ms : List NumberedMember) (g : IsGathered h n seen done places ms) (label : Text) (home : home_at h s.place ≡ Some (n, label)) (m : NumberedMember) (none : has places s.place ≡ false) (is : IsOfView n label s m) where
     not_before : (u : NumberedSight) → Contains done u → u.place ≡ s.place → ⊥
-    not_before u c same =
-        let of : is_of_package h n u.place ≡ true = ap (is_of_package h n) same ∙ home_is_of h n s.place label home in
-        no_true (sym none ∙ (ap (has places) (sym same) ∙ g.all u c of))
-
-    own_among : IsOwnAmong h n seen m
-    own_among = record {
-      place = s.place;
-      view = s.view;
-      part = is.part;
-      package_ = is.package_;
-      home = home ∙ ap (λ l. Some (n, l)) (sym is.label_is);
-      first = s;
-      shown = first_behind s.place done s rest not_before refl;
-      is = refl;
-    }
+    not_before u c same = no_true (sym none ∙ (ap (has places) (sym same) ∙ g.all u c (ap (is_of_package h n) same ∙ home_is_of h n s.place label home)))
 
     new_step : Next (places ++ s.place ∷ []) (ms ++ m ∷ [])
     new_step = record {
-      each = all_both (IsOwnAmong h n seen) ms (m ∷ []) g.each (own_among, tt);
+      each = all_both (IsOwnAmong h n seen) ms (m ∷ []) g.each ((search (std_rules, first_behind, rest, not_before)), tt);
       of = flat_more (λ (k : NumberedMember). place_of_part k.part) ms m s.place (ap place_of_part is.part) ∙ ap (λ ps. ps ++ s.place ∷ []) g.of;
       all = λ u c of. elim (next_view u c) [
         | inl among ↦ contains-has (places ++ s.place ∷ []) u.place (Contains-append_left places (s.place ∷ []) u.place (has-contains places u.place (g.all u among of)))
@@ -215,14 +182,11 @@ module _ (h : Homes) (n : ℕ) (done rest : List NumberedSight) (s : NumberedSig
 -- ---- all views
 
 module _ (h : Homes) (n : ℕ) (seen : List NumberedSight) (places : List ℕ) (ms : List NumberedMember) (g : IsGathered h n seen seen places ms) where
-  part_is : (q : ℕ) (a : NumberedPart) → Contains (place_of_part a) q → is_interface_of q a ≡ true
-  part_is q x c = search std_rules
-
   any_of_place : (q : ℕ) → has places q ≡ true → list_any (λ (m : NumberedMember). is_interface_of q m.part) ms ≡ true
   any_of_place q e =
       let from = flat_cases (λ (m : NumberedMember). place_of_part m.part) ms q (subst (λ ps. Contains ps q) (sym g.of) (has-contains places q e)) in
       let at = contains-get ms from.0 from.1 in
-      get_any (λ (m : NumberedMember). is_interface_of q m.part) ms at.0 from.0 at.1 (part_is q from.0.part from.2)
+      get_any (λ (m : NumberedMember). is_interface_of q m.part) ms at.0 from.0 at.1 (search std_rules)
 
   pub all_gathered : AreOwnAmong h n seen ms
   all_gathered = record { each = g.each; all = λ s c is. any_of_place s.place (g.all s c is); once = ap are_once g.of ∙ g.once; order = g.of ∙ g.order }
@@ -241,12 +205,12 @@ module _ {A : Type 0} (f : A → NumberedSight) (xs : List A) (h : Homes) (n i :
       let rest = map f (drop (suc i) xs) in
       let split = split_more f xs i d low in
       let next = one_gathered h n done rest s places ms (subst (λ (seen : List NumberedSight). IsGathered h n seen done places ms) split g) later more adds in
-      let so_far : map f (take (i + 1) xs) ≡ done ++ s ∷ [] = ap (λ (k : ℕ). map f (take k xs)) (one_more i) ∙ taken_more f xs i d low in
+      let so_far : map f (take (i + 1) xs) ≡ done ++ s ∷ [] = ap (λ (k : ℕ). map f (take k xs)) (one_more i) ∙ (ap (map f) (take-suc xs i d low) ∙ append_of_map f (take i xs) (get_or xs i d ∷ [])) in
       subst (λ (seen : List NumberedSight). IsGathered h n seen (map f (take (i + 1) xs)) later more) (sym split)
       (subst (λ (those : List NumberedSight). IsGathered h n (done ++ s ∷ rest) those later more) (sym so_far) next)
 
   pub own_gathered : length xs ≤ i → (places : List ℕ) (ms : List NumberedMember) → IsGathered h n (map f xs) (map f (take i xs)) places ms → AreOwnAmong h n (map f xs) ms
-  own_gathered past places ms g = all_gathered h n (map f xs) places ms (subst (λ (ys : List A). IsGathered h n (map f xs) (map f ys) places ms) (taken_all xs i past) g)
+  own_gathered past places ms g = all_gathered h n (map f xs) places ms (subst (λ (ys : List A). IsGathered h n (map f xs) (map f ys) places ms) (take_all i xs past) g)
 
 -- ---- the interfaces of a world's package
 
@@ -257,9 +221,7 @@ module _ (t : Tables) (packages : List PackageIdentity) (homes : List (Option (�
 
   pub own_are : (views : List NumberedSight) → views ≡ sights_of_scope t w → (ms : List NumberedMember) → AreOwnAmong (homes_alone homes) n views ms
       → AreOwnInterfaces t (homes_in packages homes) n w ms
-  own_are views same ms are =
-      let here = subst (λ (ss : List NumberedSight). AreOwnAmong (homes_alone homes) n ss ms) same are in
-      record { each = recursion_weaker (IsOwnAmong (homes_alone homes) n (sights_of_scope t w)) (IsOwnInterface t (homes_in packages homes) n w) own_is ms here.each; all = here.all; once = here.once }
+  own_are views same ms are = search (std_rules, recursion_weaker, own_is)
 
   pub own_stand : (views : List NumberedSight) → views ≡ sights_of_scope t w → (ms : List NumberedMember) → AreOwnAmong (homes_alone homes) n views ms → StandAsShown t (homes_in packages homes) n w ms
   own_stand views same ms are = (subst (λ (ss : List NumberedSight). AreOwnAmong (homes_alone homes) n ss ms) same are).order
@@ -319,23 +281,19 @@ module _ (t : Tables) (h : Homes) (n : ℕ) (w : NumberedScope) (ms : List Numbe
   abbrev pub view_of_own : (k : NumberedMember) → IsOwn k → NumberedSight
   view_of_own k is = record { place = is.place; view = is.view; whole = true }
 
-  pub one_sight : (k : NumberedMember) (c : Contains ms k) (s : NumberedSight) → Contains (sights_of_part t k.part) s → view_of_own k (own_at k c) ≡ s
-  one_sight k c s d = let is = own_at k c in one-contained (view_of_own k is) s (subst (λ (a : NumberedPart). Contains (sights_of_part t a) s) is.part d)
-
   -- each view that they give is one of the world's
   pub own_sight : (s : NumberedSight) → Contains (sights_of_members t ms) s → Contains (sights_of_scope t w) s
   own_sight s c =
       let from = flat_cases (λ (k : NumberedMember). sights_of_part t k.part) ms s c in
-      subst (Contains (sights_of_scope t w)) (one_sight from.0 from.1 s from.2) (own_at from.0 from.1).seen
-
-  one_view : (k : NumberedMember) (c : Contains ms k) (s : NumberedSight) → Contains (views_of_part k.part) s → view_of_own k (own_at k c) ≡ s
-  one_view k c s d = let is = own_at k c in one-contained (view_of_own k is) s (subst (λ (a : NumberedPart). Contains (views_of_part a) s) is.part d)
+      subst (Contains (sights_of_scope t w)) (let is = own_at from.0 from.1 in one-contained (view_of_own from.0 is) s (subst (λ (a : NumberedPart). Contains (sights_of_part t a) s) is.part from.2))
+      (own_at from.0 from.1).seen
 
   pub own_view : (s : NumberedSight) → Contains (views_of_members ms) s → Contains (map whole_view w.instances) s
   own_view s c =
       let from = flat_cases (λ (k : NumberedMember). views_of_part k.part) ms s c in
       let is = own_at from.0 from.1 in
-      subst (Contains (map whole_view w.instances)) (one_view from.0 from.1 s from.2) (contains-map whole_view w.instances (record { place = is.place; view = is.view }) is.among)
+      subst (Contains (map whole_view w.instances)) (let is = own_at from.0 from.1 in
+      one-contained (view_of_own from.0 is) s (subst (λ (a : NumberedPart). Contains (views_of_part a) s) is.part from.2)) (contains-map _ _ _ is.among)
 
   -- beside the world itself
   pub sight_among : (label : Text) (s : NumberedSight) → Contains (sights_of_members t (record { label = label; package_ = n; part = world w } ∷ ms)) s → Contains (sights_of_scope t w) s

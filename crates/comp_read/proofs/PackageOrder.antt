@@ -11,8 +11,7 @@ use Rattle.comp_meaning.specs.Same.{same_identity}
 use Rattle.comp_meaning.proofs.SameLaws.{identities_decide}
 use Rattle.plan_meaning.specs.{Built.IsBuilt, Built.planned_package, NumberedWorlds.HasPath, NumberedWorlds.NumberedInstance, NumberedWorlds.NumberedScope, NumberedViews.Tables, NumberedViews.path_at, Plan.Plan, Plan.PlannedPackage}
 use Rattle.plan_meaning.specs.NumberedMembers.{Homes, IsMember, NumberedMember, home_at}
-use Rattle.plan_package.specs.PlanWhole.{PlansWhole}
-use Rattle.plan_package.specs.{WholeInterfaces.Home}
+use Rattle.plan_package.specs.{PlanWhole.PlansWhole, WholeInterfaces.Home}
 use Rattle.plan_laws.specs.WholePlan.{IsOfMember}
 use Rattle.plan_laws.proofs.Inside.{flat_cases}
 use Rattle.read_homes.specs.Homes.{ComeInOrder, HasPlace, HasPlaceBefore}
@@ -38,10 +37,7 @@ same_items : {A : Type 0} (xs ys : List A) → length xs ≡ length ys → ((n :
 same_items [] [] long same = refl
 same_items [] (y ∷ ys) long same = absurd (omega (arith, long))
 same_items (x ∷ xs) [] long same = absurd (omega (arith, long))
-same_items (x ∷ xs) (y ∷ ys) long same =
-    let first : y ≡ x = some_is y x (same zero x refl) in
-    let rest = same_items xs ys (omega (arith, long)) (λ n z at. same (suc n) z at) in
-    λ i. sym first i ∷ rest i
+same_items (x ∷ xs) (y ∷ ys) long same = λ i. sym (some_is y x (same zero x refl)) i ∷ (same_items xs ys (omega (arith, long)) (λ n z at. same (suc n) z at)) i
 
 -- ---- packages by number
 
@@ -64,7 +60,8 @@ module _ (packages : List PackageIdentity) (apart : (m n : ℕ) (identity : Pack
 
   others : (n : ℕ) → n < many → (ms : List ℕ) → ((m : ℕ) → Contains ms m → m < many) → filter (λ q. not (same_identity (named n) q)) (map named ms) ≡ map named (filter (λ m. not (m == n)) ms)
   others n below [] all = refl
-  others n below (m ∷ ms) all = by (same_identity (named n) (named m)) (m == n) (one_number m n (all m (first-contained m ms)) below) (others n below ms (λ k c. all k (contains-later m ms k c)))
+  others n below (m ∷ ms) all =
+      ap (λ b. cond (not b) (named m ∷ left) left) (one_number m n (all m (first-contained m ms)) below) ∙ by (m == n) (others n below ms (λ k c. all k (contains-later m ms k c)))
     where
       left : List PackageIdentity
       left = filter (λ q. not (same_identity (named n) q)) (map named ms)
@@ -72,21 +69,16 @@ module _ (packages : List PackageIdentity) (apart : (m n : ℕ) (identity : Pack
       right : List ℕ
       right = filter (λ k. not (k == n)) ms
 
-      by : (a b : Bool) → a ≡ b → left ≡ map named right → cond (not a) (named m ∷ left) left ≡ map named (cond (not b) (m ∷ right) right)
-      by true true e rest = rest
-      by false false e rest = ap (λ qs. named m ∷ qs) rest
-      by true false e rest = absurd cc
-      by false true e rest = absurd cc
-
-  once_inside : (ns : List ℕ) → ((n : ℕ) → Contains ns n → n < many) → (n : ℕ) → Contains (once ns) n → n < many
-  once_inside ns all n c = all n (has-contains ns n (sym (has_once n ns) ∙ contains-has (once ns) n c))
+      by : (b : Bool) → left ≡ map named right → cond (not b) (named m ∷ left) left ≡ map named (cond (not b) (m ∷ right) right)
+      by true rest = rest
+      by false rest = ap (λ qs. named m ∷ qs) rest
 
   once_named : (ns : List ℕ) → ((n : ℕ) → Contains ns n → n < many) → once_by_identity (map named ns) ≡ map named (once ns)
   once_named [] all = refl
   once_named (n ∷ ns) all =
       let inside = λ (m : ℕ) (c : Contains ns m). all m (contains-later n ns m c) in
       ap (λ qs. named n ∷ filter (λ q. not (same_identity (named n) q)) qs) (once_named ns inside)
-      ∙ ap (λ qs. named n ∷ qs) (others n (all n (first-contained n ns)) (once ns) (once_inside ns inside))
+      ∙ ap (λ qs. named n ∷ qs) (others n (all n (first-contained n ns)) (once ns) (λ n c. inside n (has-contains ns n (sym (has_once n ns) ∙ contains-has (once ns) n c))))
 
   all_named : map named (below many) ≡ packages
   all_named = search (std_rules, same_items, below, length_of_map, below_long, get_back, below_at, there)
@@ -115,8 +107,7 @@ module _ (pieces : List Piece) (x : Followed) (h : Homes) (ms : List Member) (me
   places_behind = behind_flat (HasPath t) scope_places [] ws given
     where
       before : (m j c : ℕ) → IsMetBefore ws m j c → Contains [] c ⊎ IsBeforeIn scope_places ws m j c
-      before m j c (placed_numbers.in_earlier k l i low at place) =
-          inr (counted.in_earlier k at.scope low at.at (subst (Contains (scope_places at.scope)) place
+      before m j c (placed_numbers.in_earlier k l i low at place) = inr (counted.in_earlier k at.scope low at.at (subst (Contains (scope_places at.scope)) place
           (contains-map (λ (y : NumberedInstance). y.place) at.scope.instances i (get-contains at.scope.instances l i at.instance_at))))
       before m j c (placed_numbers.in_same l i low at place) = inr (counted.in_same l at.scope low at.at
           (mapped_get (λ (y : NumberedInstance). y.place) at.scope.instances l i at.instance_at ∙ ap Some place))
@@ -142,9 +133,6 @@ module _ (pieces : List Piece) (x : Followed) (h : Homes) (ms : List Member) (me
       by (Some path) f = (path, f)
       by None f = let wrong : ◌≡◌ {A = Option Home} None (Some y) = sym (homeless homes.0 t.paths h.homes homes.1 q f) ∙ e in absurd cc
 
-  home_there : (o : Option (Option Home)) (y : Home) → unwrap_or o None ≡ Some y → o ≡ Some (Some y)
-  home_there x y e = search std_rules
-
   number_of_home : (o : Option Home) (d : ℕ) → Contains (package_number o) d → (y : Home) × (o ≡ Some y) × (y.0 ≡ d)
   number_of_home x d c = search std_rules
 
@@ -154,8 +142,7 @@ module _ (pieces : List Piece) (x : Followed) (h : Homes) (ms : List Member) (me
   smaller : (q d : ℕ) → Contains (package_at q) d → (c : ℕ) → c < d → IsOfSmaller (HasPath t) package_at q c
   smaller q d there c less =
       let y = number_of_home (home_at h q) d there in
-      let same = y.2 in
-      by (order q y.0.0 y.0.1 (home_there (slice_get h.homes q) y.0 y.1) c (omega (arith, less, same)))
+      by (order q y.0.0 y.0.1 (search std_rules) c (omega (arith, less, y.2)))
     where
       by : (c < 0) ⊎ HasPlaceBefore h.homes q c → IsOfSmaller (HasPath t) package_at q c
       by (inl none) = absurd (omega (arith, none))
@@ -175,9 +162,8 @@ module _ (pieces : List Piece) (x : Followed) (h : Homes) (ms : List Member) (me
       let home : home_at h p.place ≡ Some (c, p.name) = ap (λ o. unwrap_or o None) p.home in
       let met = scopes_placed.met p.place (path_of_home p.place (c, p.name) home) in
       let at = met.at in
-      let among = subst (Contains (scope_places at.scope)) met.place (contains-map (λ (y : NumberedInstance). y.place) at.scope.instances met.one
-      (get-contains at.scope.instances met.number met.one at.instance_at)) in
-      contains-flat package_at places p.place c (contains-flat scope_places ws at.scope p.place (get-contains ws met.scope at.scope at.at) among) (at_home p.place (c, p.name) home)
+      contains-flat package_at places p.place c (contains-flat scope_places ws at.scope p.place (get-contains _ _ _ at.at)
+      (subst (Contains (scope_places at.scope)) met.place (contains-map _ _ _ (get-contains _ _ _ at.instance_at)))) (at_home p.place (c, p.name) home)
 
   -- a number among those of the members is that of one of them
   member_there : (c : ℕ) → Contains of_members c → (c ≡ n) × (c < length h.packages)
@@ -186,15 +172,13 @@ module _ (pieces : List Piece) (x : Followed) (h : Homes) (ms : List Member) (me
       let y = map_from numbered_member ms m.0 m.1 in
       let at = contains-get nms m.0 m.1 in
       let is = zip_at (IsMember t h) nms members input.shown at.0 m.0 at.1 in
-      let low = found_below h.packages m.0.package_ is.0.package_ is.2.package_ in
-      (sym m.2 ∙ (ap (λ (z : NumberedMember). z.package_) (sym y.2) ∙ one y.0 y.1), subst (λ (k : ℕ). k < length h.packages) m.2 low)
+      (sym m.2 ∙ (ap (λ (z : NumberedMember). z.package_) (sym y.2) ∙ one y.0 y.1), subst (λ (k : ℕ). k < length h.packages) m.2 (found_below h.packages m.0.package_ is.0.package_ is.2.package_))
 
   behind_places : (m : ℕ) → Contains of_members m → (c : ℕ) → c < m → Contains of_places c
   behind_places m d c less =
       let is = member_there m d in
-      let low = is.1 in
       let same = is.0 in
-      by (sources c (omega (arith, less, low)))
+      by (sources c (omega (arith, less, is.1)))
     where
       by : IsOfMember ms c ⊎ HasPlace h.homes c → Contains of_places c
       by (inl s) = let number = one s.member s.among in let own = s.is in let same = (member_there m d).0 in absurd (omega (arith, less, number, own, same))
@@ -209,18 +193,15 @@ module _ (pieces : List Piece) (x : Followed) (h : Homes) (ms : List Member) (me
       let y = number_of_home (home_at h q.0) c q.2 in
       let path = path_of_home q.0 y.0 y.1 in
       let home = input.homes.homes q.0 path.0 path.1 in
-      let same : home.package_ ≡ y.0.0 = ap (λ (z : Home). z.0) (some_is (home.package_, home.name) y.0 (sym home.home ∙ y.1)) in
-      subst (λ (k : ℕ). k < length h.packages) (same ∙ y.2) (found_below h.packages home.package_ home.identity home.stands)
+      subst (λ (k : ℕ). k < length h.packages) ((ap (λ (z : Home). z.0) (some_is _ _ (sym home.home ∙ y.1))) ∙ y.2) (found_below h.packages home.package_ home.identity home.stands)
 
   inside : (c : ℕ) → Contains (of_places ++ of_members) c → c < length h.packages
   inside c d = elim (Contains-append_cases of_places of_members c d) [ inl e ↦ place_inside c e | inr e ↦ (member_there c e).1 ]
 
   all_there : (c : ℕ) → c < length h.packages → Contains (of_places ++ of_members) c
   all_there c low = elim (sources c low) [
-    | inl s ↦
-        let m = numbered_member s.member in
-        Contains-append_right of_places of_members c (subst (Contains of_members) s.is (contains-map (λ (y : NumberedMember). y.package_) nms m (contains-map numbered_member ms s.member s.among)))
-    | inr p ↦ Contains-append_left of_places of_members c (place_shown c p)
+    | inl s ↦ Contains-append_right _ _ c (subst (Contains of_members) s.is (contains-map _ _ _ (contains-map _ _ _ s.among)))
+    | inr p ↦ Contains-append_left _ _ c (place_shown c p)
   ]
 
   -- ---- by their names
@@ -246,23 +227,15 @@ module _ (pieces : List Piece) (x : Followed) (h : Homes) (ms : List Member) (me
   members_named = search (std_rules, zip_map, unwrap_or, nobody, map_of_map)
 
   shown_named : flat_map package_of_path (flat_map shown_under members) ++ map (λ (y : reads.Member). y.package_) members ≡ map name (of_places ++ of_members)
-  shown_named =
-      (λ i. (ap (flat_map package_of_path) (sym (places_shown_under pieces x h ms members input)) ∙ paths_named places) i ++ members_named i) ∙ sym (append_of_map name of_places of_members)
+  shown_named = (λ i. (ap (flat_map package_of_path) (sym (places_shown_under pieces x h ms members input)) ∙ paths_named places) i ++ members_named i) ∙ sym (append_of_map name of_places of_members)
 
   pub packages_are : h.packages ≡ packages_shown members
-  packages_are =
-      sym (ap once_by_identity shown_named
-      ∙ (once_named h.packages input.homes.apart (of_places ++ of_members) inside
+  packages_are = sym (ap once_by_identity shown_named ∙ (once_named h.packages input.homes.apart (of_places ++ of_members) inside
       ∙ (ap (map name) (counted_up (length h.packages) (of_places ++ of_members) all_behind inside all_there) ∙ all_named h.packages input.homes.apart)))
 
 -- ---- what is planned and built
 
-planned_identities : (t : Tables) (packages : List PackageIdentity) (homes : ℕ → Option Home) (n : ℕ) (ms : List Member) (p : Plan) → PlansWhole t packages homes n ms p
-    → map (λ (k : PlannedPackage). k.identity) p.packages ≡ packages
-planned_identities t packages homes n ms p planned = search (std_rules, same_items, length_of_map, get_back, there)
-
 pub built_identities : (t : Tables) (packages : List PackageIdentity) (homes : ℕ → Option Home) (n : ℕ) (ms : List Member) (p : Plan) → PlansWhole t packages homes n ms p → (r : Resolve) → IsBuilt p r
     → map (λ k. identity_of k.name) r.packages.items ≡ packages
-built_identities t packages homes n ms p planned r built =
-    sym (map_of_map (λ (k : PlannedPackage). k.identity) planned_package r.packages.items)
-    ∙ (ap (map (λ (k : PlannedPackage). k.identity)) built.packages ∙ planned_identities t packages homes n ms p planned)
+built_identities t packages homes n ms p planned r built = sym (map_of_map (λ (k : PlannedPackage). k.identity) planned_package r.packages.items)
+    ∙ (ap (map (λ (k : PlannedPackage). k.identity)) built.packages ∙ (search (std_rules, same_items, length_of_map, get_back, there)))

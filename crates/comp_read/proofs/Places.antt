@@ -2,15 +2,14 @@
 use Rattle.std.proofs.Common.{rules as std_rules, ◌≡◌, refl, sym, ap, subst, ◌∙◌, ℕ, zero, suc, ◌+◌, ◌⊎◌, inl, inr, arith, Bool, true, false, filter, if◌then◌else◌, List, [], ◌∷◌, ◌++◌, length, length-append, map, Option, Some, None, is_none, slice_get}
 use Rattle.std.proofs.lemmas.List.Elements.{Contains-append_cases, Contains-append_left, Contains-append_right, filter-append}
 use Rattle.std.proofs.ByRecursion.{All-weaker as recursion_weaker}
-use Rattle.std.specs.List.{AllByRecursion, Contains, flat_map}
+use Rattle.std.specs.List.{AllByRecursion, Contains}
 use Rattle.wit_model.specs.Text.{Text}
 use Rattle.wit_model.proofs.Elements.{contains-flat, contains-get, none-in}
 use Rattle.comp_bytes.specs.Levels.{Piece}
-use Rattle.comp_meaning.specs.Follow.{Direction, Instance, export_, import_}
-use Rattle.read_shown.specs.Instances.{going, instances_in}
+use Rattle.read_shown.specs.Instances.{instances_in}
 use Rattle.plan_meaning.specs.{FollowedNumbers.IsOneOf, FollowedNumbers.IsScopeIn, NumberedMembers.Homes, NumberedMembers.NumberedMember, NumberedMembers.world}
 use Rattle.plan_meaning.specs.{NumberedRules.Fact, NumberedViews.Tables, NumberedViews.path_at}
-use Rattle.plan_meaning.specs.NumberedWorlds.{NumberedInstance, NumberedScope, NumberedSeen, NumberedShown, are_once, instance_of, place_of_key}
+use Rattle.plan_meaning.specs.NumberedWorlds.{NumberedInstance, NumberedScope, NumberedSeen, NumberedShown, are_once, place_of_key}
 use Rattle.read_parts.specs.declared.following.Followed.{Followed}
 use Rattle.read_numbers.specs.{NumberedInput.tables_of, PlacedNumbers.IsInstanceAt, PlacedNumbers.scopes_in as numbered_scopes}
 use Rattle.plan_type_laws.specs.ShownMarks.{ArePlaced, NamesSeen, PartNames, has_no_path, own_places, places_of_part, places_of_seen, places_of_shown}
@@ -22,11 +21,10 @@ use Rattle.plan_laws.specs.ShownNames.{DeclaresName, PartDeclaresNames}
 use Rattle.plan_laws.proofs.Inside.{flat_cases}
 use Rattle.plan_laws.proofs.OwnPlaces.{AreDifferent, both_ways, inline_places, inlines, kept_nones, no_path, nones, seen_nones}
 use Rattle.comp_read.specs.{InputLaws.ReadPlacesAreApart, ReadInput.IsReadInput, ReadInput.ViewsObey}
-use Rattle.comp_read.proofs.{Inputs.members_named, Inputs.world_in, Scopes.IsSeen}
-use Rattle.comp_read.proofs.Lists.{IsOfOne, all_different, before_of, filter_flat, of_one, once_different, once_given}
+use Rattle.comp_read.proofs.{Inputs.members_named, Inputs.world_in, Scopes.IsSeen, Lists.all_different, Lists.filter_flat, Lists.once_owned}
 use Rattle.comp_read.proofs.Members.{IsBoth, IsWorldRead, numbered_at, placed, scope_at, scope_in, seen_at, world_read, world_scope}
 use Rattle.base_lemmas.proofs.Elements.{all_at, contains-one, filter_keeps as in_filter, filter_kept as filter_from, get-contains, last_of as one-contained, map_from as from_map}
-use Rattle.base_lemmas.proofs.Lists.{length_of_map, one_item}
+use Rattle.base_lemmas.proofs.Lists.{length_of_map}
 use Rattle.comp_meaning.specs.Reads as reads
 use Rattle.plan_meaning.specs.NumberedWorlds as worlds
 use Rattle.read_exports.specs.declared.members.Part.TheVariants as parts
@@ -45,8 +43,7 @@ module _ (t : Tables) where
       new e c =
           let from = from_map (λ (z : NumberedInstance). z.place) (filter (no_path t) is) i.place c in
           let there = contains-get is from.0 (filter_from (no_path t) is from.0 from.1).0 in
-          let wrong = apart 0 (suc there.0) i from.0 refl there.1 (no_place (path_at t i.place) e) (sym from.2) in
-          omega (arith, wrong)
+          omega (arith, apart 0 (suc there.0) i from.0 refl there.1 (no_place (path_at t i.place) e) (sym from.2))
 
       by : (b : Bool) → no_path t i ≡ b → AreDifferent (map (λ (z : NumberedInstance). z.place) (filter (no_path t) is))
           → AreDifferent (map (λ (z : NumberedInstance). z.place) (if b then i ∷ filter (no_path t) is else filter (no_path t) is))
@@ -74,11 +71,11 @@ module _ (pieces : List Piece) (x : Followed) (h : Homes) (ms : List Member) (me
   -- ---- places
 
   -- an instance of the scope of this number has the place
-  record HasInstance (m q : ℕ) : Type 0 where
-    number : ℕ
-    one : NumberedInstance
-    at : IsInstanceAt ws m number one
-    place : one.place ≡ q
+  pub record HasInstance (m q : ℕ) : Type 0 where
+    pub number : ℕ
+    pub one : NumberedInstance
+    pub at : IsInstanceAt ws m number one
+    pub place : one.place ≡ q
 
   -- what has the place: the world of this number, or an instance of it
   data Owns (m q : ℕ) : Type 0 where
@@ -119,12 +116,6 @@ module _ (pieces : List Piece) (x : Followed) (h : Homes) (ms : List Member) (me
       good : IsScopeIn t W
       good = world_in pieces x h ms members input known obey m member b w is
 
-      imported : AllByRecursion (λ (s : NumberedSeen). IsOneOf t W.instances s.shown) W.imports
-      imported = good.imported
-
-      exported : AllByRecursion (λ (s : NumberedSeen). IsOneOf t W.instances s.shown) W.exports
-      exported = good.exported
-
       -- the place of an import or an export is that of an instance
       seen_owns : (ss : List NumberedSeen) → AllByRecursion (λ (s : NumberedSeen). IsOneOf t W.instances s.shown) ss → (q : ℕ) → Contains (places_of_seen ss) q → HasInstance m q
       seen_owns ss one q c =
@@ -142,8 +133,8 @@ module _ (pieces : List Piece) (x : Followed) (h : Homes) (ms : List Member) (me
       places_own q c = by (Contains-append_cases (places_of_seen W.imports) (places_of_seen W.exports) q c)
         where
           by : Contains (places_of_seen W.imports) q ⊎ Contains (places_of_seen W.exports) q → HasInstance m q
-          by (inl among) = seen_owns W.imports imported q among
-          by (inr among) = seen_owns W.exports exported q among
+          by (inl among) = seen_owns W.imports good.imported q among
+          by (inr among) = seen_owns W.exports good.exported q among
 
       -- each instance without a path is imported or exported
       all_seen : (q : ℕ) → Contains (map (λ (i : NumberedInstance). i.place) (filter (no_path t) W.instances)) q → Contains without q
@@ -156,8 +147,7 @@ module _ (pieces : List Piece) (x : Followed) (h : Homes) (ms : List Member) (me
         where
           place_there : (i : NumberedInstance) (ss : List NumberedSeen) (s : NumberedSeen) → Contains ss s → (key : worlds.NumberedKey) → s.shown ≡ worlds.instance key i.view
               → place_of_key key ≡ i.place → Contains (places_of_seen ss) i.place
-          place_there i ss s among key e place =
-              contains-flat (λ (y : NumberedSeen). places_of_shown y.shown) ss s i.place among
+          place_there i ss s among key e place = contains-flat (λ (y : NumberedSeen). places_of_shown y.shown) ss s i.place among
               (subst (λ (y : NumberedShown). Contains (places_of_shown y) i.place) (sym e) (subst (λ z. Contains (z ∷ []) i.place) (sym place) (contains-one i.place)))
 
           of_seen : (i : NumberedInstance) → IsSeen W i → Contains P i.place
@@ -172,37 +162,32 @@ module _ (pieces : List Piece) (x : Followed) (h : Homes) (ms : List Member) (me
           (record { scope = W; at = here; instance_at = f }) none equal).1
 
       as_many : length without ≡ length (map (λ (i : NumberedInstance). i.place) (filter (no_path t) W.instances))
-      as_many =
-          let places = length_of_map (λ (i : NumberedInstance). i.place) (filter (no_path t) W.instances) in
-          let a = kept_nones t W.instances in
-          let c : nones t read.scope.instances ≡ nones t (map (instance_of t) W.instances) = ap (nones t) read.shows.instances in
-          let d : nones t (map (λ (y : Direction × Instance). y.1) read.stands.seen.seen) ≡ nones t read.scope.instances = ap (nones t) read.stands.seen.all in
-          let e = both_ways t read.stands.seen.seen in
-          let f : nones t (going import_ read.stands.seen.seen) ≡ nones t (instances_in read.scope.imports) = ap (nones t) read.stands.seen.imported in
-          let g : nones t (going export_ read.stands.seen.seen) ≡ nones t (instances_in read.scope.exports) = ap (nones t) read.stands.seen.exported in
-          let i : nones t (instances_in read.scope.imports) ≡ length (inlines t W.imports) = ap (λ ss. nones t (instances_in ss)) read.shows.imports ∙ seen_nones t W.imports in
-          let k : nones t (instances_in read.scope.exports) ≡ length (inlines t W.exports) = ap (λ ss. nones t (instances_in ss)) read.shows.exports ∙ seen_nones t W.exports in
-          let l : length (filter (has_no_path t) (places_of_seen W.imports)) ≡ length (inlines t W.imports) =
-          ap length (sym (inline_places t W good W.imports good.imports)) ∙ length_of_map (λ (z : NumberedInstance). z.place) (inlines t W.imports) in
-          let n : length (filter (has_no_path t) (places_of_seen W.exports)) ≡ length (inlines t W.exports) =
-          ap length (sym (inline_places t W good W.exports good.exports)) ∙ length_of_map (λ (z : NumberedInstance). z.place) (inlines t W.exports) in
-          let o : length without ≡ length (filter (has_no_path t) (places_of_seen W.imports)) + length (filter (has_no_path t) (places_of_seen W.exports)) =
-          ap length (filter-append (has_no_path t) (places_of_seen W.imports) (places_of_seen W.exports)) ∙ length-append (filter (has_no_path t) (places_of_seen W.imports))
-          (filter (has_no_path t) (places_of_seen W.exports)) in
-          omega (arith, places, a, c, d, e, f, g, i, k, l, n, o)
+      as_many = omega (
+        arith,
+        length_of_map (λ (i : NumberedInstance). i.place) (filter (no_path t) W.instances),
+        kept_nones t W.instances,
+        ap (nones t) read.shows.instances,
+        ap (nones t) read.stands.seen.all,
+        both_ways t read.stands.seen.seen,
+        ap (nones t) read.stands.seen.imported,
+        ap (nones t) read.stands.seen.exported,
+        (ap (λ ss. nones t (instances_in ss)) read.shows.imports ∙ seen_nones t W.imports),
+        (ap (λ ss. nones t (instances_in ss)) read.shows.exports ∙ seen_nones t W.exports),
+        (ap length (sym (inline_places t W good W.imports good.imports)) ∙ length_of_map (λ (z : NumberedInstance). z.place) (inlines t W.imports)),
+        (ap length (sym (inline_places t W good W.exports good.exports)) ∙ length_of_map (λ (z : NumberedInstance). z.place) (inlines t W.exports)),
+        (ap length (filter-append (has_no_path t) (places_of_seen W.imports) (places_of_seen W.exports))
+            ∙ length-append (filter (has_no_path t) (places_of_seen W.imports)) (filter (has_no_path t) (places_of_seen W.exports))),
+      )
 
       without_differ : AreDifferent without
       without_differ = all_different (map (λ (i : NumberedInstance). i.place) (filter (no_path t) W.instances)) without (places_differ t W.instances instances_apart) all_seen as_many
-
-      not_home : Contains without W.home → ⊥
-      not_home c = home_instance m m W W.home good.home here refl (places_own W.home (filter_from (has_no_path t) P W.home c).0)
 
       -- the places without a path of the world
       world_differ : AreDifferent (filter (has_no_path t) (places_of_part (world W)))
       world_differ = by (has_no_path t W.home)
         where
           by : (o : Bool) → AreDifferent (if o then W.home ∷ without else without)
-          by true = (not_home, without_differ)
+          by true = ((λ c. home_instance m m W W.home good.home here refl (places_own W.home (filter_from (has_no_path t) P W.home c).0)), without_differ)
           by false = without_differ
 
       world_owns : (q : ℕ) → Contains (filter (has_no_path t) (places_of_part (world W))) q → Owns m q
@@ -235,27 +220,11 @@ module _ (pieces : List Piece) (x : Followed) (h : Homes) (ms : List Member) (me
         subst (λ (z : NumberedMember). AreDifferent (own z)) from.is (part_differ m from.member from.both from.member.part refl)
 
     places_once : are_once (own_places t (numbered_members ms)) ≡ true
-    places_once = ap are_once (filter_flat (has_no_path t) (λ (y : NumberedMember). places_of_part y.part) (numbered_members ms)) ∙ once_given (flat_map own (numbered_members ms))
-        (λ i j q e f. one_of i j q (of_one own (numbered_members ms) i q e) (of_one own (numbered_members ms) j q f))
-      where
-        one_of : (i j q : ℕ) → IsOfOne own (numbered_members ms) i q → IsOfOne own (numbered_members ms) j q → i ≡ j
-        one_of i j q a b =
-            let among = get-contains (own a.one) a.inner q a.there in
-            let none = no_place (path_at t q) (filter_from (has_no_path t) (places_of_part a.one.part) q among).1 in
-            let one : a.number ≡ b.number = one_owner a.number b.number q none (owner_at a.number a.one a.at q among) (owner_at b.number b.one b.at q (get-contains (own b.one) b.inner q b.there)) in
-            let same : a.one ≡ b.one = one_item (numbered_members ms) b.number a.one b.one (subst (λ k. slice_get (numbered_members ms) k ≡ Some a.one) one a.at) b.at in
-            let inner : a.inner ≡ b.inner = once_different (own b.one) (differ_at b.number b.one b.at) a.inner b.inner q
-            (subst (λ (z : NumberedMember). slice_get (own z) a.inner ≡ Some q) same a.there) b.there in
-            let front : before_of own (numbered_members ms) a.number ≡ before_of own (numbered_members ms) b.number = ap (before_of own (numbered_members ms)) one in
-            let ai = a.is in
-            let bi = b.is in
-            omega (arith, front, inner, ai, bi)
+    places_once = ap are_once (filter_flat (has_no_path t) (λ (y : NumberedMember). places_of_part y.part) (numbered_members ms)) ∙ once_owned own (numbered_members ms) differ_at
+        (λ m n y z y_at z_at q c d. one_owner m n q (no_place (path_at t q) (filter_from (has_no_path t) (places_of_part y.part) q c).1) (owner_at m y y_at q c) (owner_at n z z_at q d))
 
     pub are_placed : ArePlaced t ms
-    are_placed = record {
-      names = recursion_weaker (λ (m : Member). PartDeclaresNames t m.part) (λ (m : Member). PartNames t m.part) (λ m is. part_names t m.part is) ms (members_named pieces x h ms members input);
-      apart = places_once;
-    }
+    are_placed = search (std_rules, recursion_weaker, part_names, members_named, places_once)
 
 pub read_places_are_apart : ReadPlacesAreApart
 read_places_are_apart pieces x h ms members input known obey = are_placed pieces x h ms members input known obey

@@ -11,8 +11,7 @@ use Rattle.plan_meaning.specs.NumberedMembers.{Homes, IsMember, NumberedMember, 
 use Rattle.plan_meaning.specs.NumberedViews.{AreTables, NumberedFunction, NumberedSight, NumberedView, Tables, path_at, shown_function, sight_of}
 use Rattle.plan_meaning.specs.NumberedWorlds.{HasPath, NumberedInstance, are_once, instance_of, sights_of_scope}
 use Rattle.plan_meaning.specs.{Built.IsBuilt, Built.planned_function, Built.planned_interface, Built.planned_world, PlanRules.are_rising, PlanRules.IsPlan}
-use Rattle.plan_meaning.specs.NumberedRules.{Fact}
-use Rattle.plan_meaning.specs.Plan.{Plan, PlannedInterface, PlannedWorld, numbers_of, path_of_planned, world_types}
+use Rattle.plan_meaning.specs.{NumberedRules.Fact, Plan.Plan, Plan.PlannedInterface, Plan.PlannedWorld, Plan.numbers_of, Plan.path_of_planned, Plan.world_types}
 use Rattle.plan_types.specs.Orders.{places_of_part}
 use Rattle.plan_type_laws.specs.ShownMarks.{has_no_path}
 use Rattle.plan_package.specs.{Views.types_alone, Views.views_of_members, Views.views_of_part, Views.whole_view, PlanWhole.PlansWhole, PlanWhole.places_in}
@@ -34,7 +33,8 @@ use Rattle.read_exports.specs.Members.{numbered_members, numbered_part}
 use Rattle.read_exports.specs.declared.members.{Member.Member, Part.Part}
 use Rattle.read_rules.specs.Scopes.{numbered_scope}
 use Rattle.read_rules.specs.declared.scopes.Scope.{Scope}
-use Rattle.plan_laws.specs.{OneWorld.AreOwnInterfaces, Whole.IsPackageInput, WholeTypes.IsRuledInput}
+use Rattle.plan_laws.specs.{OneWorld.AreOwnInterfaces, Whole.IsPackageInput}
+use Rattle.std.proofs.ByRecursion.{All-weaker as recursion_weaker}
 use Rattle.comp_meaning.specs.Reads as reads
 use Rattle.read_exports.specs.declared.members.Part.TheVariants as parts
 
@@ -81,21 +81,14 @@ module _ (t : Tables) (tables : AreTables t) where
 
       by : (o : Option Text) → path_at t n ≡ o → are_once (rest_of (is_none o)) ≡ true → (are_once (filter (has_no_path t) ns) ≡ true → flat_map g (once ns) ≡ flat_map g ns)
           → g n ++ flat_map g (filter (λ m. not (m == n)) (once ns)) ≡ g n ++ flat_map g ns
-      by None e alone more =
-          let new : has (filter (has_no_path t) ns) n ≡ false = not-true (has (filter (has_no_path t) ns) n)
-          (first_true (not (has (filter (has_no_path t) ns) n)) (are_once (filter (has_no_path t) ns)) alone) in
-          let left = none_left t tables n (once ns) (has_once n ns ∙ (pathless t tables n e ns ∙ new)) in
-          ap (λ xs. g n ++ xs) (ap (flat_map g) left ∙ more (second_true (not (has (filter (has_no_path t) ns) n)) (are_once (filter (has_no_path t) ns)) alone))
+      by None e alone more = search (std_rules, none_left, has_once, pathless, not-true, first_true, second_true)
       by (Some path) e alone more = ap (λ xs. g n ++ xs) (left_out g n (nothing n (path, e)) (once ns) ∙ more alone)
 
   -- a view of a place without a path is the one of it
   module _ (rest : List NumberedSight) (s : NumberedSight) (none : path_at t s.place ≡ None) (whole : s.whole ≡ true) where
     one_view : (seen : List NumberedSight) → are_once (filter (has_no_path t) (places seen)) ≡ true → Contains seen s → functions_seen s.place (seen ++ rest) ≡ s.view.functions
     one_view [] alone c = none-in s c
-    one_view (v ∷ vs) alone (zero, low, same) =
-        ap (λ b. cond b v.view.functions (functions_seen s.place (vs ++ rest)))
-        (ap (λ (y : NumberedSight). y.place == s.place && y.whole) same ∙ both (s.place == s.place) s.whole (same-number s.place) whole)
-        ∙ ap (λ (y : NumberedSight). y.view.functions) same
+    one_view (v ∷ vs) alone (zero, low, same) = search (std_rules, both, same-number)
     one_view (v ∷ vs) alone (suc j, low, same) = later (has_no_path t v.place) refl alone (λ rest_alone. one_view vs rest_alone (j, omega (arith, low), same))
       where
         among : Contains vs s
@@ -120,17 +113,14 @@ module _ (t : Tables) (tables : AreTables t) where
 
         later : (b : Bool) → has_no_path t v.place ≡ b → are_once (cond b (v.place ∷ left) left) ≡ true → (are_once left ≡ true → functions_seen s.place (vs ++ rest) ≡ s.view.functions)
             → functions_seen s.place ((v ∷ vs) ++ rest) ≡ s.view.functions
-        later true e all more =
-            go (apart (v.place == s.place) refl (not-true (has left v.place) (first_true (not (has left v.place)) (are_once left) all)))
-            (more (second_true (not (has left v.place)) (are_once left) all))
+        later true e all more = go (apart (v.place == s.place) refl (not-true (has left v.place) (first_true _ _ all))) (more (second_true _ _ all))
         later false e all more = go (differs (v.place == s.place) refl e) (more all)
 
   -- so the functions of places are those of the views
   pub views_inline : (seen rest : List NumberedSight) → are_once (filter (has_no_path t) (places seen)) ≡ true
       → ((s : NumberedSight) → Contains seen s → path_at t s.place ≡ None → s.whole ≡ true) → flat_map (inline_at t (seen ++ rest)) (once (places seen)) ≡ flat_map (inline_of t) seen
-  views_inline seen rest alone wholes =
-      flat_once (inline_at t (seen ++ rest)) (λ q path. nothing_under t q path (map (λ (f : Text × NumberedFunction). f.0) (functions_seen q (seen ++ rest)))) (places seen) alone
-      ∙ (sym (flat_mapped (inline_at t (seen ++ rest)) (λ (s : NumberedSight). s.place) seen)
+  views_inline seen rest alone wholes = flat_once (inline_at t (seen ++ rest)) (λ q path. nothing_under t q path (map (λ (f : Text × NumberedFunction). f.0) (functions_seen q (seen ++ rest))))
+      (places seen) alone ∙ (sym (flat_mapped (inline_at t (seen ++ rest)) (λ (s : NumberedSight). s.place) seen)
       ∙ flat_in (λ (s : NumberedSight). inline_at t (seen ++ rest) s.place) (inline_of t) seen (λ s c. by s c (path_at t s.place) refl))
     where
       by : (s : NumberedSight) → Contains seen s → (o : Option Text) → path_at t s.place ≡ o
@@ -161,8 +151,7 @@ module _ (t : Tables) where
 
   part_inline : (h : Homes) (m : NumberedMember) (x : reads.Member) (a : NumberedPart) (b : reads.Part) → ShowsPart t h m a b → IsPartIn t a
       → flat_map (inline_of t) (views_of_part a) ≡ inline_shown (record { label = x.label; package_ = x.package_; part = b })
-  part_inline h m x (world w) (reads.Part.world scope) shows is =
-      sym (flat_mapped (inline_of t) whole_view w.instances)
+  part_inline h m x (world w) (reads.Part.world scope) shows is = sym (flat_mapped (inline_of t) whole_view w.instances)
       ∙ (flat_each (λ i. inline_of t (whole_view i)) (λ i. if_inline (instance_of t i).interface (map (λ f. f.0) (instance_of t i).view.functions)) instance_inline w.instances
       ∙ (flat_mapped (λ (i : Instance). if_inline i.interface (map (λ f. f.0) i.view.functions)) (instance_of t) w.instances
       ∙ ap (flat_map (λ (i : Instance). if_inline i.interface (map (λ f. f.0) i.view.functions))) (sym shows.instances)))
@@ -175,8 +164,7 @@ module _ (t : Tables) where
   members_inline h [] [] zip all = refl
   members_inline h [] (x ∷ xs) zip all = absurd zip
   members_inline h (k ∷ ks) [] zip all = absurd zip
-  members_inline h (k ∷ ks) (x ∷ xs) zip all =
-      flat_map-append (inline_of t) (views_of_part k.part) (views_of_members ks)
+  members_inline h (k ∷ ks) (x ∷ xs) zip all = flat_map-append (inline_of t) (views_of_part k.part) (views_of_members ks)
       ∙ (λ i. part_inline h k x k.part x.part zip.0.part all.0 i ++ members_inline h ks xs zip.1 all.1 i)
 
   -- a view without a path is whole
@@ -217,18 +205,12 @@ module _ (t : Tables) (h : Homes) (known : ℕ → Fact) (n : ℕ) (ms : List Me
   abbrev sights : List NumberedSight
   sights = sights_of_members t (numbered_members ms)
 
-  known_paths : (seen : List NumberedSight) → AllByRecursion (IsKnownSight t known) seen → AllByRecursion (λ (s : NumberedSight). HasPath t s.place) seen
-  known_paths [] all = tt
-  known_paths (s ∷ seen) all = ((all.0.0.path, all.0.0.home), known_paths seen all.1)
-
   -- the views of a package are so
   pub package_shown : StandAlone t ms → AreShown t ms sights (flat_map reads.sights members) (flat_map shown_under members)
   package_shown alone = record {
     are = all_sights t given.input.tables h given.input.homes (numbered_members ms) members given.input.shown;
-    paths = known_paths sights given.sights;
-    order =
-        ap (map (path_at t)) (joined_behind [] (places_shown ms))
-        ∙ (paths_once t given.input.tables (places_shown ms) alone
+    paths = recursion_weaker (IsKnownSight t known) (λ (s : NumberedSight). HasPath t s.place) (λ s is. (is.0.path, is.0.home)) sights given.sights;
+    order = ap (map (path_at t)) (joined_behind [] (places_shown ms)) ∙ (paths_once t given.input.tables (places_shown ms) alone
         ∙ ap once_by_path (members_paths t given.input.tables h given.input.homes (numbered_members ms) members given.input.shown given.input.numbers));
     functions = λ q c path. refl;
   }
@@ -240,63 +222,43 @@ module _ (t : Tables) (h : Homes) (known : ℕ → Fact) (n : ℕ) (ms : List Me
       ap (flat_map (inline_at t views)) (joined_behind [] (places_shown ms) ∙ ap once (sym (views_placed (numbered_members ms))))
       ∙ (ap (λ (seen : List NumberedSight). flat_map (inline_at t seen) (once (map (λ (s : NumberedSight). s.place) views))) (sym (append-nil views))
       ∙ (views_inline t given.input.tables views [] (ap (λ ps. are_once (filter (has_no_path t) ps)) (views_placed (numbered_members ms)) ∙ alone)
-      (inline_whole t (numbered_members ms) given.input.numbers)
-      ∙ members_inline t h (numbered_members ms) members given.input.shown given.input.numbers))
+      (inline_whole t (numbered_members ms) given.input.numbers) ∙ members_inline t h (numbered_members ms) members given.input.shown given.input.numbers))
 
   module _ (p : Plan) (planned : PlansWhole t h.packages (home_at h) n ms p) (seen : List NumberedSight) (shown : List reads.Sight) (under : List (Option Text)) (are : AreShown t ms seen shown under) where
-    ruled : IsRuledInput t h ms members
-    ruled = packages_are_ruled t h known n ms members given
+    abbrev IsMadeFor : ℕ → PlannedInterface → Type 0
+    IsMadeFor q i = (path_of_planned p i ≡ path_at t q) × (map (λ f. f.0) i.functions ≡ map (λ f. f.0) (functions_seen q (views_of_members (numbered_members ms))))
 
-    path_there : (k q : ℕ) (i : PlannedInterface) → slice_get (places_in ms) k ≡ Some q → slice_get p.interfaces k ≡ Some i → path_of_planned p i ≡ path_at t q
-    path_there k q i at there =
+    made_there : (k q : ℕ) (i : PlannedInterface) → slice_get (places_in ms) k ≡ Some q → slice_get p.interfaces k ≡ Some i → IsMadeFor q i
+    made_there k q i at there =
         let found = interface_there t h ms members given.input n p planned k q at in
         let first = first_there t h ms members given.input n p planned k q at in
         let made = found.2 first.0 first.1 in
-        let same : found.0 ≡ i = same-some found.0 i (sym found.1 ∙ there) in
-        ap (path_of_planned p) (sym same) ∙ path_planned t h ms members ruled n p planned found.0 q (home_at h q) made.name made.package_ refl (path_at t q) refl
+        subst (IsMadeFor q) (same-some found.0 i (sym found.1 ∙ there)) (
+          path_planned t h ms members (packages_are_ruled t h known n ms members given) n p planned found.0 q (home_at h q) made.name made.package_ refl (path_at t q) refl,
+          zip_names (IsPlannedFunction t planned.kept made.find) (λ f. f.0) (λ e. e.0) (λ f e is. is.under) (functions_seen q (views_of_members (numbered_members ms))) found.0.functions
+              made.functions,
+        )
 
     pub paths_planned : map (path_of_planned p) p.interfaces ≡ once_by_path under
-    paths_planned =
-        zip_names (λ q i. path_of_planned p i ≡ path_at t q) (path_at t) (path_of_planned p) (λ q i e. e) (places_in ms) p.interfaces
+    paths_planned = zip_names (λ q i. path_of_planned p i ≡ path_at t q) (path_at t) (path_of_planned p) (λ q i e. e) (places_in ms) p.interfaces
         (zip_each (PlansPlace t planned.kept n (home_at h) (views_of_members (numbered_members ms))) (λ q i. path_of_planned p i ≡ path_at t q) (places_in ms) p.interfaces planned.interfaces
-        (λ k q i at there. path_there k q i at there))
-        ∙ are.order
+        (λ k q i at there. (made_there k q i at there).0)) ∙ are.order
 
     pub functions_planned : (k : ℕ) (i : PlannedInterface) (path : Text) → slice_get p.interfaces k ≡ Some i → path_of_planned p i ≡ Some path
         → map (λ f. f.0) i.functions ≡ map (λ f. f.0) (reads.functions_of path shown)
     functions_planned k i path there at_path =
         let back = zip_at_right (PlansPlace t planned.kept n (home_at h) (views_of_members (numbered_members ms))) (places_in ms) p.interfaces planned.interfaces k i there in
-        let q = back.0 in
-        let has : HasPath t q = (path, sym (path_there k q i back.1 there) ∙ at_path) in
-        let found = interface_there t h ms members given.input n p planned k q back.1 in
-        let first = first_there t h ms members given.input n p planned k q back.1 in
-        let made = found.2 first.0 first.1 in
-        let same : found.0 ≡ i = same-some found.0 i (sym found.1 ∙ there) in
-        ap (λ (j : PlannedInterface). map (λ f. f.0) j.functions) (sym same)
-        ∙ (zip_names (IsPlannedFunction t planned.kept made.find) (λ f. f.0) (λ e. e.0) (λ f e is. is.under) (functions_seen q (views_of_members (numbered_members ms))) found.0.functions
-        made.functions
-        ∙ (ap (map (λ f. f.0)) (seen_same t q has (numbered_members ms) ∙ are.functions q (get-contains (places_in ms) k q back.1) has)
-        ∙ (sym (names_alike t given.input.tables q has seen are.paths)
-        ∙ (λ j. map (λ f. f.0) (reads.functions_of (path_is t q has j) (sym are.are j))))))
-
-    inline_there : (k q : ℕ) (i : PlannedInterface) → slice_get (places_in ms) k ≡ Some q → slice_get p.interfaces k ≡ Some i
-        → if_inline (path_of_planned p i) (map (λ f. f.0) i.functions) ≡ inline_at t (views_of_members (numbered_members ms)) q
-    inline_there k q i at there =
-        let found = interface_there t h ms members given.input n p planned k q at in
-        let first = first_there t h ms members given.input n p planned k q at in
-        let made = found.2 first.0 first.1 in
-        let same : found.0 ≡ i = same-some found.0 i (sym found.1 ∙ there) in
-        let names = zip_names (IsPlannedFunction t planned.kept made.find) (λ f. f.0) (λ e. e.0) (λ f e is. is.under) (functions_seen q (views_of_members (numbered_members ms))) found.0.functions
-        made.functions in
-        (λ j. if_inline (path_there k q i at there j) (map (λ f. f.0) (sym same j).functions)) ∙ ap (if_inline (path_at t q)) names
+        let made = made_there k back.0 i back.1 there in
+        let has : HasPath t back.0 = (path, sym made.0 ∙ at_path) in
+        made.1 ∙ (ap (map (λ f. f.0)) (seen_same t back.0 has (numbered_members ms) ∙ are.functions back.0 (get-contains (places_in ms) k back.0 back.1) has)
+        ∙ (sym (names_alike t given.input.tables back.0 has seen are.paths) ∙ (λ j. map (λ f. f.0) (reads.functions_of (path_is t back.0 has j) (sym are.are j)))))
 
     pub inline_planned : flat_map (λ (i : PlannedInterface). if_inline (path_of_planned p i) (map (λ f. f.0) i.functions)) p.interfaces
         ≡ flat_map (inline_at t (views_of_members (numbered_members ms))) (places_in ms)
-    inline_planned =
-        sym (zip_flat (inline_at t (views_of_members (numbered_members ms))) (λ (i : PlannedInterface). if_inline (path_of_planned p i) (map (λ f. f.0) i.functions)) (places_in ms) p.interfaces
-        (zip_each (PlansPlace t planned.kept n (home_at h) (views_of_members (numbered_members ms)))
+    inline_planned = sym (zip_flat (inline_at t (views_of_members (numbered_members ms))) (λ (i : PlannedInterface). if_inline (path_of_planned p i) (map (λ f. f.0) i.functions)) (places_in ms)
+        p.interfaces (zip_each (PlansPlace t planned.kept n (home_at h) (views_of_members (numbered_members ms)))
         (λ q i. inline_at t (views_of_members (numbered_members ms)) q ≡ if_inline (path_of_planned p i) (map (λ f. f.0) i.functions)) (places_in ms) p.interfaces planned.interfaces
-        (λ k q i at there. sym (inline_there k q i at there))))
+        (λ k q i at there. let made = made_there k q i at there in λ j. if_inline (sym made.0 j) (sym made.1 j))))
 
     pub worlds_planned : map (λ w. w.name) p.worlds ≡ map (λ w. w.0) (worlds_in ms)
     worlds_planned = zip_names (PlansWorld t planned.kept (places_in ms) n) (λ w. w.0) (λ w. w.name) (λ w x is. is.name) (worlds_in ms) p.worlds planned.worlds
@@ -304,8 +266,7 @@ module _ (t : Tables) (h : Homes) (known : ℕ → Fact) (n : ℕ) (ms : List Me
 -- ---- worlds
 
 part_worlds : (t : Tables) (h : Homes) (m : NumberedMember) (x : reads.Member) → x.label ≡ m.label → (label : Text) → label ≡ m.label → (a : Part) (b : reads.Part)
-    → ShowsPart t h m (numbered_part a) b
-    → map (λ w. w.0) (world_in_part label a) ≡ map (λ w. w.0) (reads.worlds_of (record { label = x.label; package_ = x.package_; part = b }))
+    → ShowsPart t h m (numbered_part a) b → map (λ w. w.0) (world_in_part label a) ≡ map (λ w. w.0) (reads.worlds_of (record { label = x.label; package_ = x.package_; part = b }))
 part_worlds t h m x under label same y z is = search std_rules
 
 pub worlds_meant : (t : Tables) (h : Homes) (ms : List Member) (members : List reads.Member) → AllZip (IsMember t h) (numbered_members ms) members
@@ -345,11 +306,9 @@ module _ (p : Plan) (r : Resolve) (built : IsBuilt p r) where
   names_built i = sym (map_of_map (λ f. f.0) (λ e. (text_of e.0, planned_function e.1)) i.functions.entries)
 
   pub inline_built : inline_function_names r ≡ flat_map (λ (i : PlannedInterface). if_inline (path_of_planned p i) (map (λ f. f.0) i.functions)) p.interfaces
-  inline_built =
-      flat_each (λ (i : Interface). if_inline (path_of_interface r i) (function_names i))
-      (λ (i : Interface). if_inline (path_of_planned p (planned_interface i)) (map (λ f. f.0) (planned_interface i).functions))
-      (λ i j. if_inline (sym (path_built i) j) (names_built i j)) r.interfaces.items
-      ∙ (flat_mapped (λ (i : PlannedInterface). if_inline (path_of_planned p i) (map (λ f. f.0) i.functions)) planned_interface r.interfaces.items
+  inline_built = flat_each (λ (i : Interface). if_inline (path_of_interface r i) (function_names i))
+      (λ (i : Interface). if_inline (path_of_planned p (planned_interface i)) (map (λ f. f.0) (planned_interface i).functions)) (λ i j. if_inline (sym (path_built i) j) (names_built i j))
+      r.interfaces.items ∙ (flat_mapped (λ (i : PlannedInterface). if_inline (path_of_planned p i) (map (λ f. f.0) i.functions)) planned_interface r.interfaces.items
       ∙ ap (flat_map (λ (i : PlannedInterface). if_inline (path_of_planned p i) (map (λ f. f.0) i.functions))) built.interfaces)
 
   pub worlds_built : map (λ w. text_of w.name) r.worlds.items ≡ map (λ w. w.name) p.worlds
@@ -361,21 +320,18 @@ module _ (p : Plan) (r : Resolve) (built : IsBuilt p r) where
   -- the types of a plan that was read
   module _ (is : IsPlan p) (rises : are_rising (flat_map (λ (i : PlannedInterface). numbers_of i.types) p.interfaces) ≡ true) where
     numbers_built : flat_map interface_type_numbers r.interfaces.items ≡ flat_map (λ (i : PlannedInterface). numbers_of i.types) p.interfaces
-    numbers_built =
-        (λ j. flat_map (λ (i : Interface). sym (type_numbers_are i) j) r.interfaces.items)
+    numbers_built = (λ j. flat_map (λ (i : Interface). sym (type_numbers_are i) j) r.interfaces.items)
         ∙ (flat_mapped (λ (i : PlannedInterface). numbers_of i.types) planned_interface r.interfaces.items ∙ ap (flat_map (λ (i : PlannedInterface). numbers_of i.types)) built.interfaces)
 
     pub types_built : TypesRise r
     types_built = record {
       interfaces = same_rise (flat_map interface_type_numbers r.interfaces.items) ∙ (ap are_rising numbers_built ∙ rises);
-      worlds = λ k w at.
-          same_rise (world_type_numbers w)
-          ∙ (ap are_rising (sym (world_types_are w)) ∙ all_get (λ x. are_rising (world_types x)) p.worlds k (planned_world w) is.world_types_rise (world_built_at k w at));
+      worlds = λ k w at. same_rise (world_type_numbers w) ∙ (ap are_rising (sym (world_types_are w))
+          ∙ all_get (λ x. are_rising (world_types x)) p.worlds k (planned_world w) is.world_types_rise (world_built_at k w at));
     }
 
 pub package_follows : (t : Tables) (h : Homes) (known : ℕ → Fact) (n : ℕ) (ms : List Member) (members : List reads.Member) → IsPackageInput t h known n ms members → StandAlone t ms
-    → h.packages ≡ packages_shown members
-    → (p : Plan) → PlansWhole t h.packages (home_at h) n ms p → (r : Resolve) → IsBuilt p r → TypesRise r → FollowsParts members r
+    → h.packages ≡ packages_shown members → (p : Plan) → PlansWhole t h.packages (home_at h) n ms p → (r : Resolve) → IsBuilt p r → TypesRise r → FollowsParts members r
 package_follows t h known n ms members given alone packages p planned r built types =
     let are = package_shown t h known n ms members given alone in
     let seen = sights_of_members t (numbered_members ms) in
@@ -401,20 +357,16 @@ module _ (t : Tables) (h : Homes) (known : ℕ → Fact) (n : ℕ) (m : Member) 
   abbrev world_views : List reads.Sight
   world_views = flat_map reads.sights ones
 
-  one_sights : sights_of_members t (numbered_members (m ∷ [])) ≡ world_seen
-  one_sights = ap (λ a. sights_of_part t (numbered_part a) ++ []) is ∙ append-nil world_seen
-
   one_places : places_shown (m ∷ []) ≡ map (λ (i : NumberedInstance). i.place) (numbered_scope w).instances
   one_places = ap (λ a. places_of_part (numbered_part a) ++ []) is ∙ append-nil (map (λ (i : NumberedInstance). i.place) (numbered_scope w).instances)
 
   -- the views of the world are so
   world_shown : AreShown t (m ∷ own) world_seen world_views (flat_map shown_under ones)
   world_shown = record {
-    are = all_sights t given.input.tables h given.input.homes (numbered_members (m ∷ [])) ones zip ∙ ap (map (sight_of t)) one_sights;
+    are = all_sights t given.input.tables h given.input.homes (numbered_members (m ∷ [])) ones zip
+        ∙ ap (map (sight_of t)) (ap (λ a. sights_of_part t (numbered_part a) ++ []) is ∙ append-nil world_seen);
     paths = scope_paths t (numbered_scope w).instances;
-    order =
-        ap (map (path_at t)) (met ∙ ap once (sym one_places))
-        ∙ (paths_once t given.input.tables (places_shown (m ∷ [])) alone
+    order = ap (map (path_at t)) (met ∙ ap once (sym one_places)) ∙ (paths_once t given.input.tables (places_shown (m ∷ [])) alone
         ∙ ap once_by_path (members_paths t given.input.tables h given.input.homes (numbered_members (m ∷ [])) ones zip (given.input.numbers.0, tt)));
     functions = λ q c path.
         let s = place_shown t h n m own w is own_are q c path in
@@ -430,19 +382,15 @@ module _ (t : Tables) (h : Homes) (known : ℕ → Fact) (n : ℕ) (m : Member) 
       ap (flat_map (inline_at t (views_of_members (numbered_members (m ∷ own))))) (met ∙ ap once (sym one_places ∙ sym (views_placed (numbered_members (m ∷ [])))))
       ∙ (ap (λ (seen : List NumberedSight). flat_map (inline_at t (seen ++ others)) (once (map (λ (s : NumberedSight). s.place) views))) (sym (append-nil (views_of_part (numbered_part m.part))))
       ∙ (views_inline t given.input.tables views others (ap (λ ps. are_once (filter (has_no_path t) ps)) (views_placed (numbered_members (m ∷ []))) ∙ alone)
-      (inline_whole t (numbered_members (m ∷ [])) (numbers, tt))
-      ∙ members_inline t h (numbered_members (m ∷ [])) ones zip (numbers, tt)))
-
-  one_label : map (λ (v : Text × Scope). v.0) (worlds_in (m ∷ own)) ≡ worlds_shown ones
-  one_label = search (std_rules, one_world t h n m own w is own_are, worlds_meant t h (m ∷ []) ones zip)
+      (inline_whole t (numbered_members (m ∷ [])) (numbers, tt)) ∙ members_inline t h (numbered_members (m ∷ [])) ones zip (numbers, tt)))
 
   pub world_follows : h.packages ≡ packages_shown ones → (p : Plan) → PlansWhole t h.packages (home_at h) n (m ∷ own) p → (r : Resolve) → IsBuilt p r → TypesRise r → FollowsParts ones r
   world_follows packages p planned r built types = record {
     packages = built_identities t h.packages (home_at h) n (m ∷ own) p planned r built ∙ packages;
     interfaces = paths_built p r built ∙ paths_planned t h known n (m ∷ own) members given p planned world_seen world_views (flat_map shown_under ones) world_shown;
     functions = functions_built p r built world_views (functions_planned t h known n (m ∷ own) members given p planned world_seen world_views (flat_map shown_under ones) world_shown);
-    inline = inline_built p r built
-        ∙ (inline_planned t h known n (m ∷ own) members given p planned world_seen world_views (flat_map shown_under ones) world_shown ∙ world_inline);
-    worlds = worlds_built p r built ∙ (worlds_planned t h known n (m ∷ own) members given p planned world_seen world_views (flat_map shown_under ones) world_shown ∙ one_label);
+    inline = inline_built p r built ∙ (inline_planned t h known n (m ∷ own) members given p planned world_seen world_views (flat_map shown_under ones) world_shown ∙ world_inline);
+    worlds = worlds_built p r built ∙ (worlds_planned t h known n (m ∷ own) members given p planned world_seen world_views (flat_map shown_under ones) world_shown
+        ∙ (search (std_rules, one_world t h n m own w is own_are, worlds_meant t h (m ∷ []) ones zip)));
     types = types;
   }

@@ -38,17 +38,7 @@ of_first t h known (x ∷ ms) m e = let same : m ≡ x = cc in ap (λ (y : Membe
 module _ (x : Followed) (t : Tables) (facts : List KeptFact) (h : Homes) (ms : List Member) (read : AreReadOf x t facts h (map lent_member ms)) (pieces : List Piece) (followed : IsFollowed pieces x) where
   module _ (n : ℕ) (obeys : are_package t h (known_by facts) n (numbered_members ms) ≡ true) where
     is_package : IsReadPackage pieces x t facts h n ms
-    is_package = record {
-      tables = read.tables;
-      followed = followed;
-      known = read.known;
-      stand = read.stand;
-      homes = read.homes;
-      packages = read.packages;
-      sources = read_packages_have_sources read.first h.packages h.homes ms read.reasons read.members;
-      read = read.read;
-      obeys = obeys;
-    }
+    is_package = search (std_rules, read_packages_have_sources)
 
     pub may_be_whole : MayBeWhole t ms
     may_be_whole = read_may_be_planned pieces x t facts h n ms is_package
@@ -73,17 +63,15 @@ module _ (x : Followed) (t : Tables) (facts : List KeptFact) (h : Homes) (ms : L
   no_package none =
       let decided = packages_are_decided pieces x followed facts read.known h (over_followed (λ (u : Tables). HomesStand u h) read.stand) (map lent_member ms)
       (over_followed (λ (u : Tables). AreRead u (known_by facts) h x.members.items (map lent_member ms)) read.read) in
-      none_decided (tables_of x) (numbered_members ms) (subst (ArePackageDecided pieces (tables_of x) h (known_by facts))
-      (map_of_map (λ (m : NumberedMember × List (Option ℕ)). m.0) lent_member ms) decided)
-      (over_followed (λ (u : Tables). are_one_package u h (known_by facts) (numbered_members ms) ≡ false) none)
+      none_decided (tables_of x) (numbered_members ms) (subst (ArePackageDecided pieces (tables_of x) h (known_by facts)) (map_of_map (λ (m : NumberedMember × List (Option ℕ)). m.0) lent_member ms)
+      decided) (over_followed (λ (u : Tables). are_one_package u h (known_by facts) (numbered_members ms) ≡ false) none)
 
 -- ---- members as they are read
 
 module _ (x : Followed) (t : Tables) (tables : t ≡ tables_of x) (facts : List KeptFact) (known : AreKnown x facts) (old first packages : List PackageIdentity) (empty : old ≡ []) (homes : Given)
     (are_homes : AllZip (IsHomeOf first) t.paths (map given_home homes)) (reasons : HaveReasons old first (map given_home homes)) (order : ComeInOrder old (map given_home homes))
-    (stand : HomesStand (tables_of x) (homes_in packages homes)) (are : ArePackages packages)
-    (rs : List ReadMember) (sources : AreForMembers first packages (map read_member rs)) (lent : Given) (lent_is : lent ≡ homes) (members : List FollowedMember) (all : members ≡ x.members.items)
-    (read : AreRead t (known_by facts) (homes_in packages lent) members (map read_member rs)) where
+    (stand : HomesStand (tables_of x) (homes_in packages homes)) (are : ArePackages packages) (rs : List ReadMember) (sources : AreForMembers first packages (map read_member rs)) (lent : Given)
+    (lent_is : lent ≡ homes) (members : List FollowedMember) (all : members ≡ x.members.items) (read : AreRead t (known_by facts) (homes_in packages lent) members (map read_member rs)) where
   read_here : AreReadOf x t facts (homes_in packages homes) (map read_member rs)
   read_here = record {
     tables = tables;
@@ -95,8 +83,7 @@ module _ (x : Followed) (t : Tables) (tables : t ≡ tables_of x) (facts : List 
     reasons = subst (λ (ps : List PackageIdentity). HaveReasons ps first (map given_home homes)) empty reasons;
     order = subst (λ (ps : List PackageIdentity). ComeInOrder ps (map given_home homes)) empty order;
     members = sources;
-    read =
-        subst (λ (hs : Given). AreRead t (known_by facts) (homes_in packages hs) x.members.items (map read_member rs)) lent_is
+    read = subst (λ (hs : Given). AreRead t (known_by facts) (homes_in packages hs) x.members.items (map read_member rs)) lent_is
         (subst (λ (ms : List FollowedMember). AreRead t (known_by facts) (homes_in packages lent) ms (map read_member rs)) all read);
   }
 

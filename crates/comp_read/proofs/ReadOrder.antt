@@ -1,6 +1,6 @@
 -- What is decoded stands in the order in which the bytes show it.
-use Rattle.std.proofs.Common.{rules as std_rules, ◌≡◌, refl, sym, ap, subst, ◌∙◌, ℕ, arith, true, cond, List, [], ◌∷◌, ◌++◌, map, Option, Some, None, is_none, slice_get, ◌+◌, ◌<◌, append-nil, length, IfOk, Result}
-use Rattle.std.proofs.lemmas.List.Elements.{filter-append}
+use Rattle.std.proofs.Common.{rules as std_rules, ◌≡◌, refl, sym, ap, subst, ◌∙◌, ℕ, true, cond, List, [], ◌∷◌, ◌++◌, map, Option, Some, None, is_none, slice_get, ◌+◌, ◌<◌, append-nil, length, IfOk, Result}
+use Rattle.std.proofs.{lemmas.List.Elements.filter-append, ByRecursion.All-weaker as recursion_weaker}
 use Rattle.std.specs.List.{AllByRecursion, Contains, filter, flat_map, AllZip}
 use Rattle.wit_model.specs.{Text.Text, Meaning.PackageMeaning, Meaning.WorldPackage}
 use Rattle.wit_model.proofs.Elements.{contains-get, none-in}
@@ -19,17 +19,16 @@ use Rattle.read_exports.specs.declared.members.{Member.Member, Part.Part}
 use Rattle.read_rules.specs.Scopes.{numbered_scope}
 use Rattle.read_parts.specs.declared.{following.Followed.Followed, members.Member.Member as FollowedMember}
 use Rattle.read_numbers.specs.{NumberedInput.tables_of, FactLaws.known_by}
-use Rattle.read_numbers.specs.PlacedNumbers.{IsInstanceAt, scopes_in as numbered_scopes, scopes_in, IsMetFrom}
+use Rattle.read_numbers.specs.PlacedNumbers.{scopes_in as numbered_scopes, scopes_in, IsMetFrom}
 use Rattle.comp_read.specs.{ReadInput.IsReadInput, ReadInput.AreHomesOf, ReadInput.ViewsObey, Planned.IsBuiltOf, Planned.PlansMean, Planned.WorldPlansMean}
 use Rattle.comp_read.specs.{MembersRead.AreReadOf, OwnMembers.StandAsShown, TypeOrder.NumbersFollow}
 use Rattle.comp_read.specs.{Order.FollowsBytes, Order.FollowsLevels, Order.NamesFollow, ReadWorlds.AreBeside, ReadWorlds.IsReadWorld, WorldsRead.IsWorldReadOf}
-use Rattle.comp_read.proofs.Lists.{IsOfOne, before_of, filter_flat, of_one, once_different, once_given}
+use Rattle.comp_read.proofs.{Lists.filter_flat, Lists.once_owned, NamedOrder.named_less, Whole.package_views_obey, Whole.read_is_package_input}
 use Rattle.comp_read.proofs.{Members.IsBoth, Members.numbered_at, Members.placed, Members.tables, WorldReadLaws.is_world, WorldReadLaws.read_world_is_whole}
-use Rattle.comp_read.proofs.{Places.no_place, Places.places_differ, Places.world_at, NumberedOrder.met_apart, NumberedOrder.numbers_follow}
+use Rattle.comp_read.proofs.{Places.no_place, Places.places_differ, Places.world_at, NumberedOrder.met_apart, NumberedOrder.numbers_follow, Places.HasInstance}
 use Rattle.comp_read.proofs.{PlanOrder.StandAlone, PlanOrder.package_follows, PlanOrder.types_built, PlanOrder.world_follows, PackageOrder.packages_are}
 use Rattle.comp_read.proofs.{ByScopes.members_by_scopes, TypeNumbers.all_rise, TypeNumbers.places_alike, TypeNumbers.world_places, TypeNumbers.world_views}
 use Rattle.comp_read.proofs.{WorldOrder.places_are, ShownScopes.scope_places, ReadPackages.read_members_are_input, ReadPackages.read_packages_have_sources}
-use Rattle.comp_read.proofs.{NamedOrder.named_less, Whole.package_views_obey, Whole.read_is_package_input}
 use Rattle.base_lemmas.proofs.Elements.{all_at, filter_kept as filter_from, get-contains, map_from as from_map, contains-map, last_of, zip_long}
 use Rattle.base_lemmas.proofs.Lists.{one_item}
 use Rattle.wit_model.specs.declared.model.Resolve.{Resolve}
@@ -72,8 +71,7 @@ module _ (t : Tables) where
 
   -- so it is where each type that is shown is a name of its place
   pub all_have : (ms : List NumberedMember) → AllByRecursion (λ (m : NumberedMember). IsPartIn t m.part) ms → AllByRecursion (λ (m : NumberedMember). HavePaths t m.part) ms
-  all_have [] all = tt
-  all_have (m ∷ ms) all = (part_has m.part all.0, all_have ms all.1)
+  all_have ms = recursion_weaker (λ (m : NumberedMember). IsPartIn t m.part) (λ (m : NumberedMember). HavePaths t m.part) (λ m is. part_has m.part is) ms
 
   scope_left : (is : List NumberedInstance) → filter (has_no_path t) (map (λ (i : NumberedInstance). i.place) is) ≡ map (λ (i : NumberedInstance). i.place) (filter (no_path t) is)
   scope_left [] = refl
@@ -90,14 +88,7 @@ module _ (pieces : List Piece) (x : Followed) (h : Homes) (ms : List Member) (me
   abbrev left : NumberedMember → List ℕ
   left y = filter (has_no_path t) (places_of_part y.part)
 
-  -- an instance of the scope of this number has the place
-  record HasInstance (m q : ℕ) : Type 0 where
-    number : ℕ
-    one : NumberedInstance
-    at : IsInstanceAt ws m number one
-    place : one.place ≡ q
-
-  one_owner : (m n q : ℕ) → path_at t q ≡ None → HasInstance m q → HasInstance n q → m ≡ n
+  one_owner : (m n q : ℕ) → path_at t q ≡ None → HasInstance pieces x h ms members input m q → HasInstance pieces x h ms members input n q → m ≡ n
   one_owner m n q none i l = ((placed pieces x h ms members input).inline m n i.number l.number i.one l.one i.at l.at (ap (path_at t) i.place ∙ none) (i.place ∙ sym l.place)).0
 
   differ : (m : ℕ) (member : Member) → IsBoth pieces x h ms members input m member → (a : Part) → member.part ≡ a → HavePaths t (numbered_part a)
@@ -111,19 +102,18 @@ module _ (pieces : List Piece) (x : Followed) (h : Homes) (ms : List Member) (me
   differ m member b (parts.Interface p v imports) e paths = subst (λ (qs : List ℕ). AreDifferent qs) (sym paths) tt
 
   owns : (m : ℕ) (member : Member) → IsBoth pieces x h ms members input m member → (a : Part) → member.part ≡ a → HavePaths t (numbered_part a)
-      → (q : ℕ) → Contains (filter (has_no_path t) (places_of_part (numbered_part a))) q → HasInstance m q
+      → (q : ℕ) → Contains (filter (has_no_path t) (places_of_part (numbered_part a))) q → HasInstance pieces x h ms members input m q
   owns m member b (parts.World w) e paths q c =
-      let here = world_at pieces x h ms members input m member b w e in
       let from = from_map (λ (i : NumberedInstance). i.place) (numbered_scope w).instances q
       (filter_from (has_no_path t) (map (λ (i : NumberedInstance). i.place) (numbered_scope w).instances) q c).0 in
       let at = contains-get (numbered_scope w).instances from.0 from.1 in
-      record { number = at.0; one = from.0; at = record { scope = numbered_scope w; at = here; instance_at = at.1 }; place = from.2 }
+      record { number = at.0; one = from.0; at = record { scope = numbered_scope w; at = world_at pieces x h ms members input m member b w e; instance_at = at.1 }; place = from.2 }
   owns m member b (parts.Interface p v imports) e paths q c = none-in q (subst (λ (qs : List ℕ). Contains qs q) paths c)
 
   paths_at : (m : ℕ) (y : NumberedMember) → slice_get (numbered_members ms) m ≡ Some y → HavePaths t y.part
   paths_at m y e = all_at (λ (z : NumberedMember). HavePaths t z.part) (numbered_members ms) have y (get-contains (numbered_members ms) m y e)
 
-  owner_at : (m : ℕ) (y : NumberedMember) → slice_get (numbered_members ms) m ≡ Some y → (q : ℕ) → Contains (left y) q → HasInstance m q
+  owner_at : (m : ℕ) (y : NumberedMember) → slice_get (numbered_members ms) m ≡ Some y → (q : ℕ) → Contains (left y) q → HasInstance pieces x h ms members input m q
   owner_at m y e q c =
       let from = numbered_at pieces x h ms members input m y e in
       owns m from.member from.both from.member.part refl (subst (λ (z : NumberedMember). HavePaths t z.part) (sym from.is) (paths_at m y e)) q
@@ -136,22 +126,8 @@ module _ (pieces : List Piece) (x : Followed) (h : Homes) (ms : List Member) (me
       (subst (λ (z : NumberedMember). HavePaths t z.part) (sym from.is) (paths_at m y e)))
 
   pub stand_alone : StandAlone t ms
-  stand_alone =
-      ap are_once (filter_flat (has_no_path t) (λ (y : NumberedMember). places_of_part y.part) (numbered_members ms))
-      ∙ once_given (flat_map left (numbered_members ms)) (λ i j q e f. one_of i j q (of_one left (numbered_members ms) i q e) (of_one left (numbered_members ms) j q f))
-    where
-      one_of : (i j q : ℕ) → IsOfOne left (numbered_members ms) i q → IsOfOne left (numbered_members ms) j q → i ≡ j
-      one_of i j q a b =
-          let among = get-contains (left a.one) a.inner q a.there in
-          let none = no_place (path_at t q) (filter_from (has_no_path t) (places_of_part a.one.part) q among).1 in
-          let one : a.number ≡ b.number = one_owner a.number b.number q none (owner_at a.number a.one a.at q among) (owner_at b.number b.one b.at q (get-contains (left b.one) b.inner q b.there)) in
-          let same : a.one ≡ b.one = one_item (numbered_members ms) b.number a.one b.one (subst (λ k. slice_get (numbered_members ms) k ≡ Some a.one) one a.at) b.at in
-          let inner : a.inner ≡ b.inner = once_different (left b.one) (differ_at b.number b.one b.at) a.inner b.inner q
-          (subst (λ (z : NumberedMember). slice_get (left z) a.inner ≡ Some q) same a.there) b.there in
-          let front : before_of left (numbered_members ms) a.number ≡ before_of left (numbered_members ms) b.number = ap (before_of left (numbered_members ms)) one in
-          let ai = a.is in
-          let bi = b.is in
-          omega (arith, front, inner, ai, bi)
+  stand_alone = ap are_once (filter_flat (has_no_path t) (λ (y : NumberedMember). places_of_part y.part) (numbered_members ms)) ∙ once_owned left (numbered_members ms) differ_at
+      (λ m n y z y_at z_at q c d. one_owner m n q (no_place (path_at t q) (filter_from (has_no_path t) (places_of_part y.part) q c).1) (owner_at m y y_at q c) (owner_at n z z_at q d))
 
 -- ---- what is decoded stands in the order in which the bytes show it
 
@@ -171,8 +147,7 @@ module _ (x : Followed) (table : IsTable x.table) where
   world_over scope = world_of x.table x.functions x.places scope
 
   both_in : (scope : FollowedScope) (c : Option ℕ) (a b : ℕ) → IsScopedIn (world_over scope) c a → IsScopedIn (world_over scope) c b → AreBothOver a b
-  both_in scope None a b over_a over_b =
-      (scope.home, met_from x.table x.functions x.places table scope.home a over_a, met_from x.table x.functions x.places table scope.home b over_b)
+  both_in scope None a b over_a over_b = (scope.home, met_from x.table x.functions x.places table scope.home a over_a, met_from x.table x.functions x.places table scope.home b over_b)
   both_in scope (Some j) a b over_a over_b =
       let one = one_item scope.instances.items j over_b.0 over_a.0 over_b.1 over_a.1 in
       let here = over_a.0.place in (
@@ -187,27 +162,23 @@ module _ (x : Followed) (table : IsTable x.table) where
 -- ---- the numbers of types
 
 module _ (pieces : List Piece) (x : Followed) (h : Homes) (ms : List Member) (members : List reads.Member) (input : IsReadInput pieces x h ms members) where
-  all_numbered : (kept : List ℕ) (p : Plan) → TypesAreKept (tables_of x) kept p → length kept ≡ length p.types → (r : Resolve) → IsBuilt p r
-      → NumbersFollow (declared_trees input.followed.parts) r
+  all_numbered : (kept : List ℕ) (p : Plan) → TypesAreKept (tables_of x) kept p → length kept ≡ length p.types → (r : Resolve) → IsBuilt p r → NumbersFollow (declared_trees input.followed.parts) r
   all_numbered kept p are long r built =
       let n = input.followed.followed.numbers in
       let t = tables_of x in
       let good = tables pieces x h ms members input in
-      let low = count_below 0 (bare_parts n.parts) (length t.shapes) n.counted in
       let inside : (c : DeclaringScope) (a : ℕ) → Contains n.parts (c, a) → a < 14 + length t.shapes =
-      λ c a a_in. all_at (λ (q : ℕ). q < 14 + length t.shapes) (bare_parts n.parts) low a (contains-map (λ (s : DeclaringScope × ℕ). s.1) n.parts (c, a) a_in) in
-      let over = all_at (IsScopedBy x.table x.functions x.places x.members.items) n.parts n.scoped in
+      λ c a a_in. all_at _ _ (count_below 0 (bare_parts n.parts) (length t.shapes) n.counted) a (contains-map _ _ _ a_in) in
+      let over = all_at _ _ n.scoped in
       numbers_follow t good kept p are long r built n.parts n.counted (declared_trees input.followed.parts)
-      (sym (append-nil (scoped_trees (shape_trees (place_at t) t.shapes) n.parts)) ∙ n.trees (place_at t) (places_stand x.places))
-      (λ c a b a_in b_in.
+      (sym (append-nil (scoped_trees (shape_trees (place_at t) t.shapes) n.parts)) ∙ n.trees (place_at t) (places_stand x.places)) (λ c a b a_in b_in.
       let both = both_over x good.shapes x.members.items c a b (over (c, a) a_in) (over (c, b) b_in) in
       met_apart t good both.0 a b (inside c a a_in, both.1) (inside c b b_in, both.2))
 
 -- ---- a package
 
 module _ (x : Followed) (facts : List KeptFact) (h : Homes) (n : ℕ) (ms : List Member) (read : AreReadOf x (tables_of x) facts h (map lent_member ms)) (pieces : List Piece)
-    (followed : IsFollowed pieces x)
-    (obeys : are_package (tables_of x) h (known_by facts) n (numbered_members ms) ≡ true) where
+    (followed : IsFollowed pieces x) (obeys : are_package (tables_of x) h (known_by facts) n (numbered_members ms) ≡ true) where
   package_read : (members : List reads.Member) × IsReadInput pieces x h ms members
   package_read = read_members_are_input pieces x followed facts read.known h read.stand ms read.read
 
@@ -218,8 +189,7 @@ module _ (x : Followed) (facts : List KeptFact) (h : Homes) (n : ℕ) (ms : List
   types_rise p planned is =
       let obey = package_views_obey (tables_of x) h (known_by facts) n ms obeys in
       all_rise pieces x h ms package_read.0 package_read.1 (known_by facts) obey planned.kept_for.marks planned.kept planned.kept_for.marked n (home_at h) (views_of_members (numbered_members ms))
-      (λ s c. c) (places_in ms)
-      (ap (joined_all []) (sym (places_alike pieces x h ms package_read.0 package_read.1 (known_by facts) obey))) p.interfaces planned.interfaces
+      (λ s c. c) (places_in ms) (ap (joined_all []) (sym (places_alike pieces x h ms package_read.0 package_read.1 (known_by facts) obey))) p.interfaces planned.interfaces
       (first_there (tables_of x) h ms package_read.0 packaged.input n p planned) is.types_rise
 
   names_follow : (p : Plan) → PlansWhole (tables_of x) h.packages (home_at h) n ms p → (r : Resolve) → IsBuilt p r → NamesFollow package_read.1.followed.parts package_read.0 r
@@ -235,20 +205,17 @@ module _ (x : Followed) (facts : List KeptFact) (h : Homes) (n : ℕ) (ms : List
 
   numbers_are : (p : Plan) → PlansWhole (tables_of x) h.packages (home_at h) n ms p → (r : Resolve) → IsBuilt p r → NumbersFollow (declared_trees package_read.1.followed.parts) r
   numbers_are p planned r built =
-      let ruled = packages_are_ruled (tables_of x) h (known_by facts) n ms package_read.0 packaged in
-      let whole = planned_types_are_whole (tables_of x) h ms package_read.0 ruled n p planned in
+      let whole = planned_types_are_whole (tables_of x) h ms package_read.0 (packages_are_ruled (tables_of x) h (known_by facts) n ms package_read.0 packaged) n p planned in
       all_numbered pieces x h ms package_read.0 package_read.1 planned.kept p whole.types (zip_long _ planned.kept p.types planned.types) r built
 
   follows_package : (p : Plan) → PlansWhole (tables_of x) h.packages (home_at h) n ms p → IsPlan p → (r : Resolve) → IsBuilt p r → FollowsLevels (Some pieces) r
   follows_package p planned is r built = record {
     members = package_read.0;
     exported = exported pieces x h ms package_read.0 package_read.1;
-    follows =
-        package_follows (tables_of x) h (known_by facts) n ms package_read.0
-        packaged (stand_alone pieces x h ms package_read.0 package_read.1 (all_have (tables_of x) (numbered_members ms) packaged.input.numbers))
+    follows = package_follows (tables_of x) h (known_by facts) n ms package_read.0 packaged
+        (stand_alone pieces x h ms package_read.0 package_read.1 (all_have (tables_of x) (numbered_members ms) packaged.input.numbers))
         (packages_are pieces x h ms package_read.0 package_read.1 read.homes read.order (read_packages_have_sources read.first h.packages h.homes ms read.reasons read.members) n
-        (one_package (tables_of x) h (known_by facts) n ms package_read.0 packaged)) p planned r built
-        (types_built p r built is (types_rise p planned is));
+        (one_package (tables_of x) h (known_by facts) n ms package_read.0 packaged)) p planned r built (types_built p r built is (types_rise p planned is));
     parts = package_read.1.followed.parts;
     read = package_read.1.followed.exported;
     named = names_follow p planned r built;
@@ -277,8 +244,7 @@ module _ (x : Followed) (t : Tables) (facts : List KeptFact) (h : Homes) (m : Me
   over_tables P is = subst P (sym given.read.tables) is
 
   world_read : (members : List reads.Member) × IsReadInput pieces x h (m ∷ []) members
-  world_read =
-      read_members_are_input pieces x followed facts given.read.known h (subst (λ (u : Tables). HomesStand u h) given.read.tables given.read.stand) (m ∷ [])
+  world_read = read_members_are_input pieces x followed facts given.read.known h (subst (λ (u : Tables). HomesStand u h) given.read.tables given.read.stand) (m ∷ [])
       (subst (λ (u : Tables). AreRead u (known_by facts) h x.members.items (map lent_member (m ∷ []))) given.read.tables given.read.read)
 
   -- the views of the world obey the rules
@@ -307,23 +273,19 @@ module _ (x : Followed) (t : Tables) (facts : List KeptFact) (h : Homes) (m : Me
       let same = places_alike pieces x h (m ∷ []) world_read.0 world_read.1 (known_by facts) obey in
       let met = world_places m w given.is (places_in (m ∷ own)) (flat_map scope_places (scopes_in x)) (places_are t h given.read.homes m.package_number m w given.is own are order) same in
       let alone = stand_alone pieces x h (m ∷ []) world_read.0 world_read.1 (subst (λ (a : Part). HavePaths (tables_of x) (numbered_part a)) (sym given.is) tt, tt) in
-      let one = one_world t h m.package_number m own w given.is are in
-      let alike : worlds_in (m ∷ own) ≡ worlds_in (m ∷ []) = one ∙ sym (ap (λ (a : Part). world_in_part m.label.now a ++ []) given.is) in
-      named_less pieces x h (m ∷ []) world_read.0 world_read.1 (known_by facts) obey
-      (subst (λ (ps : List ℕ). are_once (filter (has_no_path (tables_of x)) ps) ≡ true) (sym same) alone)
+      let alike : worlds_in (m ∷ own) ≡ worlds_in (m ∷ []) = one_world t h m.package_number m own w given.is are ∙ sym (ap (λ (a : Part). world_in_part m.label.now a ++ []) given.is) in
+      named_less pieces x h (m ∷ []) world_read.0 world_read.1 (known_by facts) obey (subst (λ (ps : List ℕ). are_once (filter (has_no_path (tables_of x)) ps) ≡ true) (sym same) alone)
       (subst (λ (u : Tables). PartDeclaresNames u m.part) given.read.tables whole.input.input.declared.0, tt) k y y_at member member_at front back split scope read
       here.kept_for.marks here.kept here.kept_for.marked m.package_number (home_at h) (views_of_members (numbered_members (m ∷ own))) (world_views (tables_of x) h m w given.is own
       (subst (λ (u : Tables). AreOwnInterfaces u h m.package_number (numbered_scope w) (numbered_members own)) given.read.tables are)) (places_in (m ∷ own)) met p
-      here.interfaces
-      (subst (λ (u : Tables). (k q : ℕ) → slice_get (places_in (m ∷ own)) k ≡ Some q → (s : NumberedSight) × (first_at q (views_of_members (numbered_members (m ∷ own))) ≡ Some s)) given.read.tables
-      (first_there t h (m ∷ own) whole.members whole.input.input m.package_number p planned)) (places_in (m ∷ own))
+      here.interfaces (subst (λ (u : Tables). (k q : ℕ) → slice_get (places_in (m ∷ own)) k ≡ Some q → (s : NumberedSight) × (first_at q (views_of_members (numbered_members (m ∷ own))) ≡ Some s))
+      given.read.tables (first_there t h (m ∷ own) whole.members whole.input.input m.package_number p planned)) (places_in (m ∷ own))
       (subst (λ (ws : List (Text × Scope)). AllZip (PlansWorld (tables_of x) here.kept (places_in (m ∷ own)) m.package_number) ws p.worlds) alike here.worlds) r built a b
 
   world_numbers : (p : Plan) → PlansWhole t h.packages (home_at h) m.package_number (m ∷ own) p → (r : Resolve) → IsBuilt p r → NumbersFollow (declared_trees world_read.1.followed.parts) r
   world_numbers p planned r built =
       let whole = read_world_is_whole pieces x t facts h m w world_is_read own are in
-      let ruled = packages_are_ruled t h (known_by facts) m.package_number (m ∷ own) whole.members whole.input in
-      let types = planned_types_are_whole t h (m ∷ own) whole.members ruled m.package_number p planned in
+      let types = planned_types_are_whole t h (m ∷ own) whole.members (packages_are_ruled t h (known_by facts) m.package_number (m ∷ own) whole.members whole.input) m.package_number p planned in
       all_numbered pieces x h (m ∷ []) world_read.0 world_read.1 planned.kept p (subst (λ (u : Tables). TypesAreKept u planned.kept p) given.read.tables types.types)
       (zip_long _ planned.kept p.types planned.types) r built
 
@@ -333,19 +295,16 @@ module _ (x : Followed) (t : Tables) (facts : List KeptFact) (h : Homes) (m : Me
       let plan = (mean is.plan is.planned is.fits).plan.plan in
       let built = is.built (plans_are_buildable is.plan plan) in
       let whole = read_world_is_whole pieces x t facts h m w world_is_read own are in
-      let zip = over_tables (λ (u : Tables). AllZip (IsMember u h) (numbered_members (m ∷ [])) world_read.0) world_read.1.shown in
-      let alone = stand_alone pieces x h (m ∷ []) world_read.0 world_read.1 (subst (λ (a : Part). HavePaths (tables_of x) (numbered_part a)) (sym given.is) tt, tt) in
-      let homes = subst (λ (u : Tables). AreHomesOf u h) given.read.tables given.read.homes in
-      let sources = read_packages_have_sources given.read.first h.packages h.homes (m ∷ []) given.read.reasons given.read.members in
-      let packages = packages_are pieces x h (m ∷ []) world_read.0 world_read.1 homes given.read.order sources m.package_number (λ k c. ap (λ (z : Member). z.package_number) (sym (last_of m k c))) in
-      let met = places_are t h given.read.homes m.package_number m w given.is own are order in
       record {
         members = world_read.0;
         exported = exported pieces x h (m ∷ []) world_read.0 world_read.1;
-        follows =
-            world_follows t h (known_by facts) m.package_number m own whole.members whole.input w given.is are met world_read.0 zip (over_tables (λ (u : Tables). StandAlone u (m ∷ [])) alone) packages
-            is.plan is.planned r
-            built (types_built is.plan r built plan (world_types_rise is.plan is.planned plan));
+        follows = world_follows t h (known_by facts) m.package_number m own whole.members whole.input w given.is are (places_are t h given.read.homes m.package_number m w given.is own are order)
+            world_read.0 (over_tables (λ (u : Tables). AllZip (IsMember u h) (numbered_members (m ∷ [])) world_read.0) world_read.1.shown)
+            (over_tables (λ (u : Tables). StandAlone u (m ∷ [])) (stand_alone pieces x h (m ∷ []) world_read.0 world_read.1
+            (subst (λ (a : Part). HavePaths (tables_of x) (numbered_part a)) (sym given.is) tt, tt)))
+            (packages_are pieces x h (m ∷ []) world_read.0 world_read.1 (subst (λ (u : Tables). AreHomesOf u h) given.read.tables given.read.homes) given.read.order
+            (read_packages_have_sources given.read.first h.packages h.homes (m ∷ []) given.read.reasons given.read.members) m.package_number
+            (λ k c. ap (λ (z : Member). z.package_number) (sym (last_of m k c)))) is.plan is.planned r built (types_built is.plan r built plan (world_types_rise is.plan is.planned plan));
         parts = world_read.1.followed.parts;
         read = world_read.1.followed.exported;
         named = world_names_follow is.plan is.planned r built;
@@ -361,16 +320,11 @@ bound x = search std_rules
 pub follows_bytes : (bytes : List ℕ) (r : Resolve) → FollowsLevels (levels_of bytes) r → FollowsBytes bytes r
 follows_bytes bytes r is =
     let last : List reads.Member → Option (List reads.Member) = λ members. Some members in
-    let along : (levels_of bytes >>= λ ps. exported_parts ps >>= λ parts. each member_by_levels parts >>= last) ≡ Some is.members = by (levels_of bytes) is.exported in
-    let ss = bind_some (component_of bytes) (λ ss. exported_types ss >>= λ types. each reads.member types >>= last) is.members (sym (levelled last bytes) ∙ along) in
+    let ss = bind_some (component_of bytes) (λ ss. exported_types ss >>= λ types. each reads.member types >>= last) is.members (sym (levelled last bytes) ∙ by (levels_of bytes) is.exported) in
     let types = bind_some (exported_types ss.0) (λ types. each reads.member types >>= last) is.members ss.2 in
     record {
       members = is.members;
-      exported = record {
-        sections = ss.0;
-        spelled = component_takes bytes ss.0 ss.1;
-        are = ap (λ o. o >>= each reads.member) types.1 ∙ (sym (bound (each reads.member types.0)) ∙ types.2);
-      };
+      exported = record { sections = ss.0; spelled = component_takes bytes ss.0 ss.1; are = ap (λ o. o >>= each reads.member) types.1 ∙ (sym (bound (each reads.member types.0)) ∙ types.2) };
       follows = is.follows;
       parts = is.parts;
       read = is.read;

@@ -27,8 +27,7 @@ use Rattle.comp_meaning.specs.Reads as reads
 -- ---- members that were read
 
 module _ (pieces : List Piece) (x : Followed) (followed : IsFollowed pieces x) (facts : List KeptFact) (are_known : AreKnown x facts) (h : Homes) (stand : HomesStand (tables_of x) h)
-    (ms : List Member)
-    (read : AreRead (tables_of x) (known_by facts) h x.members.items (map lent_member ms)) where
+    (ms : List Member) (read : AreRead (tables_of x) (known_by facts) h x.members.items (map lent_member ms)) where
   meant : AreMeant pieces (tables_of x) h (map (λ (m : NumberedMember × List (Option ℕ)). m.0) (map lent_member ms))
   meant = read_members_are_meant pieces x followed facts are_known h stand (map lent_member ms) read
 
@@ -47,10 +46,6 @@ filled_first (x ∷ xs) e = (x, refl)
 
 first_package : (members : List reads.Member) (first : reads.Member) → slice_get members 0 ≡ Some first → package_of_members members ≡ package_with first.package_ members
 first_package x first e = search std_rules
-
-same_package : (t : Tables) (h : Homes) (m : Member) (n : NumberedMember) (meaning : reads.Member) → numbered_member m ≡ n → IsMember t h n meaning
-    → slice_get h.packages m.package_number ≡ Some meaning.package_
-same_package t h m n meaning same is = ap (λ (y : NumberedMember). slice_get h.packages y.package_) same ∙ is.package_
 
 -- the first member, and what it stands for
 record IsFirst (h : Homes) (ms : List Member) (members : List reads.Member) : Type 0 where
@@ -75,7 +70,7 @@ first_of pieces x h ms members input =
       among = get-contains ms 0 member.0 member.1;
       meaning = meaning.0;
       there = meaning.1;
-      stands = same_package (tables_of x) h member.0 numbered.0 meaning.0 member.2 numbered.2;
+      stands = ap (λ (y : NumberedMember). slice_get h.packages y.package_) member.2 ∙ numbered.2.package_;
     }
 
 -- ---- where packages are from

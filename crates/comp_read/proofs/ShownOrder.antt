@@ -7,7 +7,7 @@ use Rattle.wit_model.proofs.{Chains.has_once, NameLaws.read_path_is_spelled}
 use Rattle.plan_meaning.specs.{FollowedNumbers.AreMembersIn, FollowedNumbers.IsPartIn, FollowedNumbers.IsViewIn, GatheredPlan.functions_seen}
 use Rattle.plan_meaning.specs.NumberedMembers.{Homes, HomesStand, IsMember, NumberedMember, ShowsPart, home_at, NumberedPart, interface, world}
 use Rattle.plan_meaning.specs.NumberedViews.{AreTables, NumberedFunction, NumberedSight, NumberedView, Tables, path_at, path_text, shown_function, sight_of, view_of}
-use Rattle.plan_meaning.specs.NumberedWorlds.{HasPath, NumberedInstance, are_once, instance_of, sights_of_instance}
+use Rattle.plan_meaning.specs.NumberedWorlds.{HasPath, NumberedInstance, are_once, sights_of_instance}
 use Rattle.plan_meaning.proofs.NumberedWorlds.{path_is, path_number}
 use Rattle.plan_types.specs.Orders.{places_of_part}
 use Rattle.plan_type_laws.specs.ShownMarks.{has_no_path}
@@ -34,19 +34,17 @@ module _ (t : Tables) where
 
     others : (q : ℕ) (path : Text) → path_at t q ≡ Some path → (ns : List ℕ) → map (path_at t) (filter (λ m. not (m == q)) ns) ≡ filter (λ o. not (is_under path o)) (map (path_at t) ns)
     others q path e [] = refl
-    others q path e (n ∷ ns) = by (n == q) (is_under path (path_at t n)) (same_path q path e n (path_at t n) refl) (others q path e ns)
+    others q path e (n ∷ ns) = by (n == q) (others q path e ns) ∙ sym (ap (λ b. cond (not b) (path_at t n ∷ right) right) (same_path q path e n (path_at t n) refl))
       where
-        left : List ℕ
-        left = filter (λ m. not (m == q)) ns
-
         right : List (Option Text)
         right = filter (λ o. not (is_under path o)) (map (path_at t) ns)
 
-        by : (b c : Bool) → c ≡ b → map (path_at t) left ≡ right → map (path_at t) (cond (not b) (n ∷ left) left) ≡ cond (not c) (path_at t n ∷ right) right
-        by true true f rest = rest
-        by false false f rest = ap (λ os. path_at t n ∷ os) rest
-        by true false f rest = absurd cc
-        by false true f rest = absurd cc
+        left : List ℕ
+        left = filter (λ m. not (m == q)) ns
+
+        by : (b : Bool) → map (path_at t) left ≡ right → map (path_at t) (cond (not b) (n ∷ left) left) ≡ cond (not b) (path_at t n ∷ right) right
+        by true rest = rest
+        by false rest = ap (λ os. path_at t n ∷ os) rest
 
     -- a place without a path stands once
     pub pathless : (q : ℕ) → path_at t q ≡ None → (ns : List ℕ) → has ns q ≡ has (filter (has_no_path t) ns) q
@@ -78,40 +76,32 @@ module _ (t : Tables) where
 
         by : (o : Option Text) → path_at t n ≡ o → are_once (rest_of (is_none o)) ≡ true → (are_once (filter (has_no_path t) ns) ≡ true → map (path_at t) (once ns) ≡ once_by_path (map (path_at t) ns))
             → path_at t n ∷ map (path_at t) (filter (λ m. not (m == n)) (once ns)) ≡ once_by_path (o ∷ map (path_at t) ns)
-        by None e alone more =
-            let new : has (filter (has_no_path t) ns) n ≡ false = not-true (has (filter (has_no_path t) ns) n)
-            (first_true (not (has (filter (has_no_path t) ns) n)) (are_once (filter (has_no_path t) ns)) alone) in
-            let left = none_left n (once ns) (has_once n ns ∙ (pathless n e ns ∙ new)) in
-            λ i. e i ∷ (ap (map (path_at t)) left ∙ more (second_true (not (has (filter (has_no_path t) ns) n)) (are_once (filter (has_no_path t) ns)) alone)) i
+        by None e alone more = search (std_rules, none_left, has_once, pathless, not-true, first_true, second_true)
         by (Some path) e alone more = λ i. e i ∷ (others n path e (once ns) ∙ ap (filter (λ o. not (is_under path o))) (more alone)) i
 
     -- the functions of a path
     pub names_alike : (q : ℕ) → HasPath t q → (seen : List NumberedSight) → AllByRecursion (λ (s : NumberedSight). HasPath t s.place) seen
         → map (λ f. f.0) (reads.functions_of (path_text t q) (map (sight_of t) seen)) ≡ map (λ (f : Text × NumberedFunction). f.0) (functions_seen q seen)
     names_alike q path [] all = refl
-    names_alike q path (s ∷ seen) all = by (text_eq (path_text t q) (path_text t s.place) && s.whole) (s.place == q && s.whole) (ap (λ b. b && s.whole) (path_number t tables q s.place path all.0))
-        (names_alike q path seen all.1)
+    names_alike q path (s ∷ seen) all = ap (λ b. map (λ f. f.0) (cond (b && s.whole) (map (shown_function t) s.view.functions) (reads.functions_of (path_text t q) (map (sight_of t) seen))))
+        (path_number t tables q s.place path all.0) ∙ by (s.place == q && s.whole) (names_alike q path seen all.1)
       where
-        by : (a b : Bool) → a ≡ b → map (λ f. f.0) (reads.functions_of (path_text t q) (map (sight_of t) seen)) ≡ map (λ (f : Text × NumberedFunction). f.0) (functions_seen q seen)
-            → map (λ f. f.0) (cond a (map (shown_function t) s.view.functions) (reads.functions_of (path_text t q) (map (sight_of t) seen))) ≡ map (λ (f : Text × NumberedFunction). f.0)
+        by : (b : Bool) → map (λ f. f.0) (reads.functions_of (path_text t q) (map (sight_of t) seen)) ≡ map (λ (f : Text × NumberedFunction). f.0) (functions_seen q seen)
+            → map (λ f. f.0) (cond b (map (shown_function t) s.view.functions) (reads.functions_of (path_text t q) (map (sight_of t) seen))) ≡ map (λ (f : Text × NumberedFunction). f.0)
             (cond b s.view.functions (functions_seen q seen))
-        by true true e more = map_of_map (λ f. f.0) (shown_function t) s.view.functions
-        by false false e more = more
-        by true false e more = absurd cc
-        by false true e more = absurd cc
+        by true more = map_of_map (λ f. f.0) (shown_function t) s.view.functions
+        by false more = more
 
     -- ---- members
 
     -- the path of an interface that is exported
     exported_path : (h : Homes) → HomesStand t h → (m : NumberedMember) (x : reads.Member) → slice_get h.packages m.package_ ≡ Some x.package_ → x.label ≡ m.label → (p : ℕ) → HasPath t p
-        → home_at h p ≡ Some (m.package_, m.label)
-        → Some (path_in x.package_ x.label) ≡ path_at t p
+        → home_at h p ≡ Some (m.package_, m.label) → Some (path_in x.package_ x.label) ≡ path_at t p
     exported_path h stand m x package_ under p path at_home =
         let home = stand.homes p path.0 path.1 in
-        let pair : ◌≡◌ {A = ℕ × Text} (home.package_, home.name) (m.package_, m.label) = same-some (home.package_, home.name) (m.package_, m.label) (sym home.home ∙ at_home) in
-        let identity : home.identity ≡ x.package_ = same-some home.identity x.package_ (sym home.stands ∙ (ap (λ (y : ℕ × Text). slice_get h.packages y.0) pair ∙ package_)) in
-        let name : home.name ≡ x.label = ap (λ (y : ℕ × Text). y.1) pair ∙ sym under in
-        sym (path.1 ∙ ap Some ((read_path_is_spelled path.0 home.identity home.name home.reads).spelled ∙ (λ i. path_in (identity i) (name i))))
+        let pair : ◌≡◌ {A = ℕ × Text} (home.package_, home.name) (m.package_, m.label) = same-some _ _ (sym home.home ∙ at_home) in
+        sym (path.1 ∙ ap Some ((read_path_is_spelled path.0 home.identity home.name home.reads).spelled
+        ∙ (λ i. path_in ((same-some _ _ (sym home.stands ∙ (ap (λ (y : ℕ × Text). slice_get h.packages y.0) pair ∙ package_))) i) ((ap (λ (y : ℕ × Text). y.1) pair ∙ sym under) i))))
 
     imported_paths : (imports : List (ℕ × NumberedView)) → AllByRecursion (λ (i : ℕ × NumberedView). HasPath t i.0 × IsViewIn t i.0 i.1) imports
         → map (λ (i : ℕ × NumberedView). Some (path_text t i.0)) imports ≡ map (λ (i : ℕ × NumberedView). path_at t i.0) imports
@@ -119,17 +109,12 @@ module _ (t : Tables) where
     imported_paths (i ∷ imports) all = λ j. (ap Some (path_is t i.0 all.0.0) ∙ sym all.0.0.1) j ∷ imported_paths imports all.1 j
 
     pub part_paths : (h : Homes) → HomesStand t h → (m : NumberedMember) (x : reads.Member) → slice_get h.packages m.package_ ≡ Some x.package_ → x.label ≡ m.label
-        → (a : NumberedPart) (b : reads.Part) → ShowsPart t h m a b → IsPartIn t a
-        → map (path_at t) (places_of_part a) ≡ shown_under (record { label = x.label; package_ = x.package_; part = b })
-    part_paths h stand m x package_ under (world w) (reads.Part.world scope) shows is =
-        map_of_map (path_at t) (λ (i : NumberedInstance). i.place) w.instances
-        ∙ (sym (map_of_map (λ i. i.interface) (instance_of t) w.instances) ∙ sym (ap (map (λ i. i.interface)) shows.instances))
+        → (a : NumberedPart) (b : reads.Part) → ShowsPart t h m a b → IsPartIn t a → map (path_at t) (places_of_part a) ≡ shown_under (record { label = x.label; package_ = x.package_; part = b })
+    part_paths h stand m x package_ under (world w) (reads.Part.world scope) shows is = search (std_rules, map_of_map)
     part_paths h stand m x package_ under (interface p v imports) (reads.Part.interface view views) shows is =
-        let front : map (path_at t) (map (λ (i : ℕ × NumberedView). i.0) imports) ≡ map (λ i. Some i.0) views =
-        map_of_map (path_at t) (λ (i : ℕ × NumberedView). i.0) imports
-        ∙ (sym (imported_paths imports is.1) ∙ (sym (map_of_map (λ i. Some i.0) (λ (i : ℕ × NumberedView). (path_text t i.0, view_of t i.1)) imports) ∙ sym
-        (ap (map (λ i. Some i.0)) shows.imported))) in
-        append_of_map (path_at t) (map (λ (i : ℕ × NumberedView). i.0) imports) (p ∷ []) ∙ (λ i. front i ++ sym (exported_path h stand m x package_ under p shows.path shows.home) i ∷ [])
+        append_of_map _ _ _ ∙ (λ i. (map_of_map (path_at t) (λ (i : ℕ × NumberedView). i.0) imports
+        ∙ (sym (imported_paths imports is.1) ∙ (sym (map_of_map (λ i. Some i.0) (λ (i : ℕ × NumberedView). (path_text t i.0, view_of t i.1)) imports) ∙ sym (ap (map (λ i. Some i.0)) shows.imported))))
+        i ++ sym (exported_path h stand m x package_ under p shows.path shows.home) i ∷ [])
     part_paths h stand m x package_ under (world w) (reads.Part.interface view views) shows is = absurd shows
     part_paths h stand m x package_ under (interface p v imports) (reads.Part.world scope) shows is = absurd shows
 
@@ -139,6 +124,5 @@ module _ (t : Tables) where
     members_paths h stand [] [] zip all = refl
     members_paths h stand [] (x ∷ xs) zip all = absurd zip
     members_paths h stand (m ∷ ms) [] zip all = absurd zip
-    members_paths h stand (m ∷ ms) (x ∷ xs) zip all =
-        append_of_map (path_at t) (places_of_part m.part) (flat_map (λ (k : NumberedMember). places_of_part k.part) ms)
+    members_paths h stand (m ∷ ms) (x ∷ xs) zip all = append_of_map (path_at t) (places_of_part m.part) (flat_map (λ (k : NumberedMember). places_of_part k.part) ms)
         ∙ (λ i. part_paths h stand m x zip.0.package_ zip.0.label m.part x.part zip.0.part all.0 i ++ members_paths h stand ms xs zip.1 all.1 i)

@@ -1,31 +1,31 @@
 -- The instances of what was followed stand under the paths that the parts show, in their order.
-use Rattle.std.proofs.Common.{rules as std_rules, ◌≡◌, refl, sym, ap, subst, ◌∙◌, ℕ, ◌&&◌, List, [], ◌∷◌, ◌++◌, map, Option, Some}
+use Rattle.std.proofs.Common.{rules as std_rules, slice_get, ◌≡◌, refl, sym, ap, subst, ◌∙◌, ℕ, List, [], ◌∷◌, ◌++◌, map, Option, Some}
 use Rattle.std.specs.List.{AllZip, flat_map}
 use Rattle.wit_model.specs.{Text.Text, Names.PackageIdentity, Names.path_in}
-use Rattle.comp_bytes.specs.{Levels.PartType, Levels.Piece, Levels.shows, Levels.wraps, Reading.◌>>=◌}
+use Rattle.comp_bytes.specs.{Levels.Entry, Levels.PartType, Levels.Piece, Levels.shows, Levels.wraps}
 use Rattle.comp_bytes.proofs.Readers.{bind_some, when_some}
-use Rattle.comp_meaning.specs.{ByLevels.entry_scope, Follow.Instance, Follow.Scope, Follow.View, Follow.each, Follow.provided, Rules.distinct}
-use Rattle.comp_meaning.specs.Reads.{Member, Part, are_reached, exported_view, imported_view, labelled_path}
+use Rattle.comp_meaning.specs.{ByLevels.entry_scope, Follow.Instance, Follow.Scope, Follow.View, Follow.each}
+use Rattle.comp_meaning.specs.Reads.{Member, Part}
 use Rattle.read_shown.specs.{Instances.InstancesAreSeen, Parts.named_instance, Scopes.ScopeStands}
 use Rattle.read_shown.proofs.{ByLevels.entry_scope_stands, Parts.interface_shows}
 use Rattle.plan_meaning.specs.{NumberedMembers.Homes, NumberedViews.Tables, NumberedViews.path_at}
 use Rattle.plan_meaning.specs.NumberedWorlds.{NumberedInstance, NumberedScope, Shows}
 use Rattle.read_exports.specs.declared.members.Member.{Member as KeptMember}
 use Rattle.read_parts.specs.declared.{following.Followed.Followed, members.FollowedPart.FollowedPart, members.Member.Member as FollowedMember}
-use Rattle.read_parts.specs.Followed.{PartScope, interface, labelled_scope, member_of_scope, part_of_scope, part_scope, scopes_of, world, world_path}
+use Rattle.read_parts.specs.Followed.{PartScope, interface, labelled_scope, member_of_scope, part_of_scope, part_scope, scopes_of, world}
 use Rattle.read_parts.specs.Members.{scope_of}
 use Rattle.read_numbers.specs.{NumberedInput.MemberShown, NumberedInput.PartShown, NumberedInput.tables_of, NumberedParts.numbered_scope}
 use Rattle.read_numbers.specs.PlacedNumbers.{scopes_in}
 use Rattle.read_numbers.proofs.InputNumbers.{input_in_numbers}
 use Rattle.comp_read.specs.{Order.shown_under, ReadInput.IsReadInput}
 use Rattle.comp_read.proofs.{ByScopes.scopes_found, InterfaceViews.each_beside}
-use Rattle.base_lemmas.proofs.{Bools.left_of as first_true, Bools.right_of as second_true, Lists.append_of_map, Lists.flat_mapped, Lists.map_of_map}
-use Rattle.base_lemmas.proofs.Options.{some_is}
+use Rattle.base_lemmas.proofs.{Bools.left_of as first_true, Bools.right_of as second_true, Lists.append_of_map, Lists.map_of_map}
+use Rattle.base_lemmas.proofs.{Elements.zip_at, Elements.zip_at_right, Elements.zip_each, Lists.one_item, Options.some_is}
 use Rattle.read_parts.specs.declared.members.FollowedPart.TheVariants as followed
 
 -- ---- one part
 
-abbrev meant_scope : PartScope → Scope
+abbrev pub meant_scope : PartScope → Scope
 meant_scope (world path scope) = scope
 meant_scope (interface scope) = scope
 
@@ -36,19 +36,14 @@ paths_in scope = map (λ i. i.interface) scope.instances
 abbrev Stands : Scope → Type 0
 Stands scope = ScopeStands scope × InstancesAreSeen scope
 
-part_stands : (a : PartType) (p : PartScope) → part_scope a ≡ Some p → Stands (meant_scope p)
-part_stands (wraps es name) p e =
-    let path = bind_some (world_path name) (λ path. entry_scope es >>= λ scope. Some (world path scope)) p e in
-    let scope = bind_some (entry_scope es) (λ scope. Some (world path.0 scope)) p path.2 in
-    subst (λ (q : PartScope). Stands (meant_scope q)) (some_is (world path.0 scope.0) p scope.2) (entry_scope_stands es scope.0 scope.1)
-part_stands (shows es) p e =
-    let scope = bind_some (entry_scope es) (λ scope. Some (interface scope)) p e in
-    subst (λ (q : PartScope). Stands (meant_scope q)) (some_is (interface scope.0) p scope.2) (entry_scope_stands es scope.0 scope.1)
+-- What holds of each scope of entries holds of the scope of a part.
+module _ (P : Scope → Type 0) (each_holds : (es : List Entry) (scope : Scope) → entry_scope es ≡ Some scope → P scope) where
+  part_holds : (a : PartType) (p : PartScope) → part_scope a ≡ Some p → P (meant_scope p)
+  part_holds (wraps es name) p e = search (std_rules, bind_some, some_is)
+  part_holds (shows es) p e = search (std_rules, bind_some, some_is)
 
-pub one_stands : (x : Text × PartType) (y : Text × PartScope) → labelled_scope x ≡ Some y → Stands (meant_scope y.1)
-one_stands x y e =
-    let p = bind_some (part_scope x.1) (λ p. let z : Text × PartScope = (x.0, p) in Some z) y e in
-    subst (λ (z : Text × PartScope). Stands (meant_scope z.1)) (some_is (x.0, p.0) y p.2) (part_stands x.1 p.0 p.1)
+  pub labelled_holds : (x : Text × PartType) (y : Text × PartScope) → labelled_scope x ≡ Some y → P (meant_scope y.1)
+  labelled_holds x y e = search (std_rules, bind_some, some_is, part_holds)
 
 abbrev member_of : Text → PackageIdentity × Part → Member
 member_of label p = record { label = label; package_ = p.0; part = p.1 }
@@ -60,36 +55,19 @@ named_paths is imports last all = search (std_rules, append_of_map, map_of_map)
 
 interface_paths : (label : Text) (scope : Scope) → Stands scope → (p : PackageIdentity × Part) → part_of_scope label (interface scope) ≡ Some p → paths_in scope ≡ shown_under (member_of label p)
 interface_paths label scope st p e =
-    let exported = bind_some (exported_view scope.exports) (λ exported. each imported_view scope.imports >>= λ imports. labelled_path label exported.0 >>= λ package_.
-    provided (distinct (exported.0 ∷ map (λ i. i.0) imports) && are_reached imports exported.1) (package_, Part.interface exported.1 imports)) p e in
-    let imports = bind_some (each imported_view scope.imports) (λ imports. labelled_path label exported.0.0 >>= λ package_.
-    provided (distinct (exported.0.0 ∷ map (λ i. i.0) imports) && are_reached imports exported.0.1) (package_, Part.interface exported.0.1 imports)) p exported.2 in
-    let package_ = bind_some (labelled_path label exported.0.0) (λ package_.
-    provided (distinct (exported.0.0 ∷ map (λ i. i.0) imports.0) && are_reached imports.0 exported.0.1) (package_, Part.interface exported.0.1 imports.0)) p imports.2 in
-    let w = when_some (distinct (exported.0.0 ∷ map (λ i. i.0) imports.0) && are_reached imports.0 exported.0.1) (Some (package_.0, Part.interface exported.0.1 imports.0)) p package_.2 in
-    let apart = first_true (distinct (exported.0.0 ∷ map (λ i. i.0) imports.0)) (are_reached imports.0 exported.0.1) w.0 in
-    let reached = second_true (distinct (exported.0.0 ∷ map (λ i. i.0) imports.0)) (are_reached imports.0 exported.0.1) w.0 in
-    let all : scope.instances ≡ map named_instance imports.0 ++ named_instance (path_in package_.0 label, exported.0.1) ∷ [] =
-    interface_shows label scope st.0 st.1 exported.0 exported.1 imports.0 imports.1 package_.0 package_.1 apart reached in
-    subst (λ (q : PackageIdentity × Part). paths_in scope ≡ shown_under (member_of label q)) (some_is (package_.0, Part.interface exported.0.1 imports.0) p w.1)
-    (named_paths scope.instances imports.0 (path_in package_.0 label, exported.0.1) all)
+    let exported = bind_some _ _ p e in
+    let imports = bind_some _ _ p exported.2 in
+    let package_ = bind_some _ _ p imports.2 in
+    let w = when_some _ _ p package_.2 in
+    subst (λ (q : PackageIdentity × Part). paths_in scope ≡ shown_under (member_of label q)) (some_is _ p w.1)
+    (named_paths scope.instances imports.0 (path_in package_.0 label, exported.0.1)
+    (interface_shows label scope st.0 st.1 exported.0 exported.1 imports.0 imports.1 package_.0 package_.1 (first_true _ _ w.0) (second_true _ _ w.0)))
 
 world_paths : (label path : Text) (scope : Scope) (p : PackageIdentity × Part) → part_of_scope label (world path scope) ≡ Some p → paths_in scope ≡ shown_under (member_of label p)
 world_paths label path scope p e = search std_rules
 
 pub one_paths : (y : Text × PartScope) (m : Member) → Stands (meant_scope y.1) → member_of_scope y ≡ Some m → paths_in (meant_scope y.1) ≡ shown_under m
 one_paths y m st e = search (std_rules, bind_some, some_is, world_paths, interface_paths)
-
--- ---- all parts
-
-all_paths : (xs : List (Text × PartType)) (ys : List (Text × PartScope)) (ms : List Member) → AllZip (λ x y. labelled_scope x ≡ Some y) xs ys → AllZip (λ y m. member_of_scope y ≡ Some m) ys ms
-    → flat_map (λ (y : Text × PartScope). paths_in (meant_scope y.1)) ys ≡ flat_map shown_under ms
-all_paths [] [] [] a b = refl
-all_paths (x ∷ xs) (y ∷ ys) (m ∷ ms) a b = λ i. one_paths y m (one_stands x y a.0) b.0 i ++ all_paths xs ys ms a.1 b.1 i
-all_paths [] [] (m ∷ ms) a b = absurd b
-all_paths [] (y ∷ ys) ms a b = absurd a
-all_paths (x ∷ xs) [] ms a b = absurd a
-all_paths (x ∷ xs) (y ∷ ys) [] a b = absurd b
 
 -- the places of the instances of a scope, in order
 abbrev pub scope_places : NumberedScope → List ℕ
@@ -108,23 +86,46 @@ module _ (t : Tables) where
   part_named (followed.World path s) (interface meant) is = absurd is
   part_named (followed.Interface s) (world text meant) is = absurd is
 
-  members_named : (ms : List FollowedMember) (ys : List (Text × PartScope)) → AllZip (MemberShown t) ms ys
-      → map (path_at t) (flat_map (λ (m : FollowedMember). scope_places (scope_in m)) ms) ≡ flat_map (λ (y : Text × PartScope). paths_in (meant_scope y.1)) ys
-  members_named [] [] all = refl
-  members_named [] (y ∷ ys) all = absurd all
-  members_named (m ∷ ms) [] all = absurd all
-  members_named (m ∷ ms) (y ∷ ys) all = search (std_rules, append_of_map, part_named, members_named ms ys all.1)
+-- ---- all parts
 
--- the places of all instances of an input, in order, are those of the paths that its parts show
-pub places_shown_under : (pieces : List Piece) (x : Followed) (h : Homes) (ms : List KeptMember) (members : List Member) → IsReadInput pieces x h ms members
-    → map (path_at (tables_of x)) (flat_map scope_places (scopes_in x)) ≡ flat_map shown_under members
-places_shown_under pieces x h ms members input =
-    let t = tables_of x in
-    let parts = input.followed.parts in
-    let found = input.followed.exported in
-    let scopes = bind_some (scopes_of pieces) (each member_of_scope) members input.reads in
-    let numbers = input_in_numbers pieces x input.followed in
-    let same : numbers.scopes ≡ scopes.0 = some_is numbers.scopes scopes.0 (sym numbers.found ∙ scopes.1) in
-    ap (map (path_at t)) (sym (flat_mapped scope_places (scope_in t) x.members.items))
-    ∙ (members_named t x.members.items scopes.0 (subst (λ (ys : List (Text × PartScope)). AllZip (MemberShown t) x.members.items ys) same numbers.shown)
-    ∙ all_paths parts scopes.0 members (each_beside labelled_scope parts scopes.0 (scopes_found pieces parts found scopes.0 scopes.1)) (each_beside member_of_scope scopes.0 members scopes.2))
+pub mapped_zip : {A B C : Type 0} (g : ℕ → C) (f : A → List ℕ) (h : B → List C) (xs : List A) (ys : List B) → AllZip (λ x y. map g (f x) ≡ h y) xs ys → map g (flat_map f xs) ≡ flat_map h ys
+mapped_zip g f h [] [] all = refl
+mapped_zip g f h [] (y ∷ ys) all = absurd all
+mapped_zip g f h (x ∷ xs) [] all = absurd all
+mapped_zip g f h (x ∷ xs) (y ∷ ys) all = append_of_map g (f x) (flat_map f xs) ∙ (λ i. all.0 i ++ mapped_zip g f h xs ys all.1 i)
+
+-- two lists that lie beside a third lie beside each other
+chained : {A B C D : Type 0} (R : A → B → Type 0) (Q : D → C → Type 0) (g : B → D) (xs : List A) (ys : List B) (zs : List C) → AllZip R xs ys → AllZip Q (map g ys) zs → AllZip (λ x z. Unit {0}) xs zs
+chained R Q g [] [] [] a b = tt
+chained R Q g [] [] (z ∷ zs) a b = absurd b
+chained R Q g [] (y ∷ ys) zs a b = absurd a
+chained R Q g (x ∷ xs) [] zs a b = absurd a
+chained R Q g (x ∷ xs) (y ∷ ys) [] a b = absurd b
+chained R Q g (x ∷ xs) (y ∷ ys) (z ∷ zs) a b = (tt, chained R Q g xs ys zs a.1 b.1)
+
+zip_of_map : {A B C : Type 0} (P : C → B → Type 0) (g : A → C) (xs : List A) (ys : List B) → AllZip (λ x y. P (g x) y) xs ys → AllZip P (map g xs) ys
+zip_of_map P g [] [] all = tt
+zip_of_map P g [] (y ∷ ys) all = absurd all
+zip_of_map P g (x ∷ xs) [] all = absurd all
+zip_of_map P g (x ∷ xs) (y ∷ ys) all = (all.0, zip_of_map P g xs ys all.1)
+
+module _ (pieces : List Piece) (x : Followed) (h : Homes) (ms : List KeptMember) (members : List Member) (input : IsReadInput pieces x h ms members) where
+  -- each scope stands under the paths of its part
+  pub scope_under : (n : ℕ) (f : FollowedMember) (y : Member) → slice_get x.members.items n ≡ Some f → slice_get members n ≡ Some y
+      → map (path_at (tables_of x)) (scope_places (scope_in (tables_of x) f)) ≡ shown_under y
+  scope_under n f y f_at y_at =
+      let scopes = bind_some (scopes_of pieces) (each member_of_scope) members input.reads in
+      let numbers = input_in_numbers pieces x input.followed in
+      let s = zip_at (MemberShown (tables_of x)) x.members.items numbers.scopes numbers.shown n f f_at in
+      let s_at = ap (λ ys. slice_get ys n) (sym (some_is numbers.scopes scopes.0 (sym numbers.found ∙ scopes.1))) ∙ s.1 in
+      let z = zip_at (λ s m. member_of_scope s ≡ Some m) scopes.0 members (each_beside member_of_scope scopes.0 members scopes.2) n s.0 s_at in
+      let p = zip_at_right (λ u v. labelled_scope u ≡ Some v) input.followed.parts scopes.0
+      (each_beside labelled_scope input.followed.parts scopes.0 (scopes_found pieces input.followed.parts input.followed.exported scopes.0 scopes.1)) n s.0 s_at in
+      part_named (tables_of x) f.part s.0.1 s.2.1 ∙ (one_paths s.0 z.0 (labelled_holds Stands entry_scope_stands p.0 s.0 p.2) z.2 ∙ ap shown_under (one_item members n z.0 y z.1 y_at))
+
+  pub scopes_under : AllZip (λ (w : NumberedScope) (z : Member). map (path_at (tables_of x)) (scope_places w) ≡ shown_under z) (scopes_in x) members
+  scopes_under = search (std_rules, zip_of_map, zip_each, chained, scope_under)
+
+  -- the places of all instances of an input, in order, are those of the paths that its parts show
+  pub places_shown_under : map (path_at (tables_of x)) (flat_map scope_places (scopes_in x)) ≡ flat_map shown_under members
+  places_shown_under = mapped_zip (path_at (tables_of x)) scope_places shown_under (scopes_in x) members scopes_under

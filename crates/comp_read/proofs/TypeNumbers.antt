@@ -7,23 +7,19 @@ use Rattle.wit_model.specs.{Uses.has, Uses.once, Text.Text}
 use Rattle.wit_model.proofs.Elements.{contains-has, has-contains, contains-get, none-in}
 use Rattle.plan_types.specs.Orders.{joined_all, places_of_part}
 use Rattle.comp_read.proofs.{CountedUp.IsBefore, CountedUp.IsBeforeIn, CountedUp.in_earlier, CountedUp.in_same, Inputs.read_members_are_in, OwnViews.view_among}
-use Rattle.comp_read.proofs.{ByScopes.scopes_found, Ordered.instance_of_any, ShownOrder.part_paths, InterfaceViews.each_beside, WorldOrder.joined_behind}
+use Rattle.comp_read.proofs.{Ordered.instance_of_any, ShownOrder.part_paths, WorldOrder.joined_behind}
 use Rattle.comp_read.proofs.{Views.instance_placed, Views.same_numbers, Views.told_same, Members.instance_shown, Members.placed, Members.tables}
-use Rattle.comp_read.proofs.ShownScopes.{one_paths, one_stands, part_named, scope_in, scope_places}
+use Rattle.comp_read.proofs.ShownScopes.{scope_under, scope_in, scope_places}
 use Rattle.base_lemmas.proofs.Elements.{contains-one, get-contains, last_of, all-contained, all_at, all_both, all_pass, contains-later, contains-map, first-contained, map_from, zip_at, zip_at_right, zip_each}
-use Rattle.base_lemmas.proofs.{Lists.last_or, Lists.flat_mapped, Lists.get_back, Lists.mapped_get, Lists.one_item, Options.some_is}
+use Rattle.base_lemmas.proofs.{Lists.last_or, Lists.flat_mapped, Lists.get_back, Lists.mapped_get, Lists.one_item, Elements.zip_map}
 use Rattle.base_lemmas.proofs.Bools.{left_of as first_true, right_of as second_true}
 use Rattle.comp_bytes.specs.Levels.{Piece}
-use Rattle.comp_bytes.proofs.Readers.{bind_some}
-use Rattle.comp_meaning.specs.Follow.{each}
-use Rattle.plan_meaning.specs.{FollowedNumbers.AreMembersIn, FollowedNumbers.IsPartIn, FollowedNumbers.IsViewIn, NumberedRules.Fact, PlanRules.are_rising}
+use Rattle.plan_meaning.specs.{FollowedNumbers.IsPartIn, FollowedNumbers.IsViewIn, NumberedRules.Fact, PlanRules.are_rising, Renumbering.IsPart}
 use Rattle.plan_meaning.specs.NumberedMembers.{Homes, IsMember, NumberedMember}
 use Rattle.plan_meaning.specs.NumberedViews.{NumberedSight, NumberedSlot, NumberedType, NumberedView, Tables, first_at, path_at}
 use Rattle.plan_meaning.specs.{NumberedWorlds.HasPath, NumberedWorlds.NumberedInstance, NumberedWorlds.NumberedScope, Plan.PlannedInterface, Plan.numbers_of}
-use Rattle.plan_meaning.specs.Renumbering.{IsPart}
 use Rattle.plan_parts.specs.{Interfaces.slot_part, Kept.AreMarked}
-use Rattle.plan_package.specs.Views.{views_of_members, views_of_part, whole_view}
-use Rattle.plan_package.specs.WholeInterfaces.{Home, ListsNumber, PlansPlace}
+use Rattle.plan_package.specs.{Views.views_of_members, Views.views_of_part, WholeInterfaces.Home, WholeInterfaces.ListsNumber, WholeInterfaces.PlansPlace}
 use Rattle.plan_laws.specs.OneWorld.{AreOwnInterfaces}
 use Rattle.plan_laws.proofs.{FirstViews.first_is, Inside.flat_cases}
 use Rattle.read_exports.specs.Members.{numbered_member, numbered_members, numbered_part}
@@ -32,11 +28,10 @@ use Rattle.read_rules.specs.{Scopes.numbered_scope}
 use Rattle.read_rules.specs.declared.scopes.Scope.{Scope}
 use Rattle.read_members.specs.PartMembers.{IsMemberOf, IsPartOf}
 use Rattle.read_parts.specs.declared.{following.Followed.Followed, members.FollowedPart.FollowedPart, members.Member.Member as FollowedMember}
-use Rattle.read_parts.specs.{Followed.labelled_scope, Followed.member_of_scope, Followed.scopes_of, Members.scope_of}
-use Rattle.read_numbers.specs.{NumberedInput.MemberShown, NumberedInput.tables_of, NumberedParts.numbered_scope as followed_scope}
+use Rattle.read_parts.specs.{Members.scope_of}
+use Rattle.read_numbers.specs.{NumberedInput.tables_of, NumberedParts.numbered_scope as followed_scope}
 use Rattle.read_numbers.specs.PlacedNumbers.{part_of, IsFirstSeen, IsInstanceAt, IsNumbered, scopes_in}
-use Rattle.read_numbers.proofs.InputNumbers.{input_in_numbers}
-use Rattle.comp_read.specs.{Order.shown_under, ReadInput.IsReadInput, ReadInput.ViewsObey}
+use Rattle.comp_read.specs.{ReadInput.IsReadInput, ReadInput.ViewsObey}
 use Rattle.comp_meaning.specs.Reads as reads
 use Rattle.read_exports.specs.declared.members.Part.TheVariants as parts
 use Rattle.read_parts.specs.declared.members.FollowedPart.TheVariants as followed
@@ -82,8 +77,7 @@ module _ (R : ℕ → ℕ → Type 0) where
 
   pub new_flat : {A : Type 0} (f : A → List ℕ) (front : List ℕ) (xs : List A)
       → ((m : ℕ) (x : A) → slice_get xs m ≡ Some x → (j n : ℕ) → slice_get (f x) j ≡ Some n → (Contains front n → ⊥) → IsNewIn f xs m n → IsNew (f x) j n → (a : ℕ) → Contains front a
-      ⊎ IsBeforeIn f xs m j a → R a n)
-      → StandNew front (flat_map f xs)
+      ⊎ IsBeforeIn f xs m j a → R a n) → StandNew front (flat_map f xs)
   new_flat f front [] given = tt
   new_flat {A = A} f front (x ∷ xs) given = new_both front (f x) (flat_map f xs) (new_numbered front (f x) here) (new_flat f (front ++ f x) xs later)
     where
@@ -127,10 +121,7 @@ module _ (R : ℕ → ℕ → Type 0) where
   joined_pairs met front (z ∷ zs) is pairs new = by (joined_pairs met (front ++ z ∷ []) zs) (joined_pairs (met ++ z ∷ []) (front ++ z ∷ []) zs) (has met z) refl
     where
       known : has met z ≡ true → IsMet met (front ++ z ∷ [])
-      known e = (
-        (λ c d. Contains-append_left front (z ∷ []) c (is.0 c d)),
-        (λ c d. elim (Contains-append_cases front (z ∷ []) c d) [ inl f ↦ is.1 c f | inr f ↦ subst (Contains met) (last_of z c f) (has-contains met z e) ]),
-      )
+      known e = ((λ c d. Contains-append_left _ _ c (is.0 c d)), (λ c d. elim (Contains-append_cases _ _ c d) [ inl f ↦ is.1 c f | inr f ↦ subst (Contains met) (last_of z c f) (has-contains _ z e) ]))
 
       wider : (us vs : List ℕ) → ((c : ℕ) → Contains us c → Contains vs c) → (c : ℕ) → Contains (us ++ z ∷ []) c → Contains (vs ++ z ∷ []) c
       wider us vs all c d = elim (Contains-append_cases us (z ∷ []) c d) [ inl f ↦ Contains-append_left vs (z ∷ []) c (all c f) | inr f ↦ Contains-append_right vs (z ∷ []) c f ]
@@ -146,9 +137,7 @@ module _ (R : ℕ → ℕ → Type 0) where
 
 rising_both : (us vs : List ℕ) → are_rising us ≡ true → are_rising vs ≡ true → ((c d : ℕ) → Contains us c → Contains vs d → c < d) → are_rising (us ++ vs) ≡ true
 rising_both [] vs a b less = b
-rising_both (n ∷ us) vs a b less =
-    both (list_all (nat_lt n) (us ++ vs)) (are_rising (us ++ vs)) (all_pass (nat_lt n) (us ++ vs) front)
-    (rising_both us vs (second_true (list_all (nat_lt n) us) (are_rising us) a) b (λ c d at. less c d (contains-later n us c at)))
+rising_both (n ∷ us) vs a b less = both _ _ (all_pass (nat_lt n) (us ++ vs) front) (rising_both us vs (second_true _ _ a) b (λ c d at. less c d (contains-later n us c at)))
   where
     front : (e : ℕ) → Contains (us ++ vs) e → nat_lt n e ≡ true
     front e c = elim (Contains-append_cases us vs e c) [
@@ -159,20 +148,16 @@ rising_both (n ∷ us) vs a b less =
 rises_flat : {A : Type 0} (f : A → List ℕ) (xs : List A) → list_all (λ x. are_rising (f x)) xs ≡ true
     → ((k l : ℕ) (x y : A) → slice_get xs k ≡ Some x → slice_get xs l ≡ Some y → k < l → (c d : ℕ) → Contains (f x) c → Contains (f y) d → c < d) → are_rising (flat_map f xs) ≡ true
 rises_flat f [] own between = refl
-rises_flat f (x ∷ xs) own between =
-    rising_both (f x) (flat_map f xs) (first_true (are_rising (f x)) (list_all (λ y. are_rising (f y)) xs) own)
-    (rises_flat f xs (second_true (are_rising (f x)) (list_all (λ y. are_rising (f y)) xs) own) (λ k l y z at_y at_z less. between (suc k) (suc l) y z at_y at_z (omega (arith, less))))
-    (λ c d c_in d_in.
+rises_flat f (x ∷ xs) own between = rising_both (f x) (flat_map f xs) (first_true _ _ own)
+    (rises_flat f xs (second_true _ _ own) (λ k l y z at_y at_z less. between (suc k) (suc l) y z at_y at_z (omega (arith, less)))) (λ c d c_in d_in.
     let from = flat_cases f xs d d_in in
-    let at = contains-get xs from.0 from.1 in
+    let at = contains-get _ _ from.1 in
     between zero (suc at.0) x from.0 refl at.1 (omega arith) c d c_in from.2)
 
 -- lists that are made of items that are alike
 pub zip_flat : {A B C : Type 0} (f : A → List C) (g : B → List C) (xs : List A) (ys : List B) → AllZip (λ x y. f x ≡ g y) xs ys → flat_map f xs ≡ flat_map g ys
-zip_flat f g [] [] zip = refl
-zip_flat f g [] (y ∷ ys) zip = absurd zip
-zip_flat f g (x ∷ xs) [] zip = absurd zip
-zip_flat f g (x ∷ xs) (y ∷ ys) zip = λ i. zip.0 i ++ zip_flat f g xs ys zip.1 i
+zip_flat {C = C} f g xs ys zip = let id : List C → List C = λ l. l in
+    flat_mapped id f xs ∙ (ap (flat_map id) (sym (zip_map (λ x y. f x ≡ g y) f g (λ x y e. sym e) xs ys zip)) ∙ sym (flat_mapped id g ys))
 
 -- ---- parts
 
@@ -181,10 +166,7 @@ abbrev pub part_numbers : NumberedView → List ℕ
 part_numbers v = map (λ (y : NumberedType). part_of y.slot) v.types
 
 numbered_parts : (t : Tables) (p : ℕ) (xs : List NumberedType) (ns : List ℕ) → AllZip (IsNumbered t p) xs ns → map (λ (y : NumberedType). part_of y.slot) xs ≡ map (λ n. 14 + n) ns
-numbered_parts t p [] [] z = refl
-numbered_parts t p [] (n ∷ ns) z = absurd z
-numbered_parts t p (x ∷ xs) [] z = absurd z
-numbered_parts t p (x ∷ xs) (n ∷ ns) z = λ i. z.0.0 i ∷ numbered_parts t p xs ns z.1 i
+numbered_parts t p xs ns z = sym (zip_map (IsNumbered t p) (λ (y : NumberedType). part_of y.slot) (λ n. 14 + n) (λ y n is. sym is.0) xs ns z)
 
 pub same_part : (s : NumberedSlot) → slot_part s ≡ part_of s
 same_part x = search std_rules
@@ -224,8 +206,7 @@ module _ (pieces : List Piece) (x : Followed) (h : Homes) (ms : List Member) (me
 
   -- all types of the one place stand in front of all of the other
   abbrev Before : ℕ → ℕ → Type 0
-  Before a b =
-      (m j : ℕ) (i : NumberedInstance) → IsInstanceAt ws m j i → i.place ≡ a → (n k : ℕ) (l : NumberedInstance) → IsInstanceAt ws n k l → l.place ≡ b
+  Before a b = (m j : ℕ) (i : NumberedInstance) → IsInstanceAt ws m j i → i.place ≡ a → (n k : ℕ) (l : NumberedInstance) → IsInstanceAt ws n k l → l.place ≡ b
       → (c d : ℕ) → Contains (part_numbers i.view) c → Contains (part_numbers l.view) d → c < d
 
   before_first : (m j : ℕ) (u : NumberedInstance) → IsInstanceAt ws m j u → IsFirstSeen ws m j u.place → (n k : ℕ) (o : NumberedInstance) → IsInstanceAt ws n k o → (n < m) ⊎ ((n ≡ m) × (k < j))
@@ -264,18 +245,13 @@ module _ (pieces : List Piece) (x : Followed) (h : Homes) (ms : List Member) (me
       given m w at j q e none earlier first a from =
           let u = get_back (λ (z : NumberedInstance). z.place) w.instances j q e in
           let seen : IsFirstSeen ws m j u.0.place = record {
-            scopes = λ k l o low there same.
-                earlier k there.scope low there.at (subst (Contains (scope_places there.scope)) (same ∙ u.2)
-                (contains-map (λ (z : NumberedInstance). z.place) there.scope.instances o (get-contains there.scope.instances l o there.instance_at)));
+            scopes = λ k l o low there same. earlier k there.scope low there.at (subst (Contains (scope_places there.scope)) (same ∙ u.2) (contains-map _ _ o (get-contains _ l o there.instance_at)));
             instances = λ l o low there same.
                 let one = one_item ws m there.scope w there.at at in
                 first l low (mapped_get (λ (z : NumberedInstance). z.place) w.instances l o (subst (λ (z : NumberedScope). slice_get z.instances l ≡ Some o) one there.instance_at) ∙ ap Some
                 (same ∙ u.2));
           } in
           subst (λ (p : ℕ). Before a p) u.2 (from_before m j a u.0 (there_in m w at j u.0 u.1) seen from)
-
-  places_paired : Pairs Before (joined_all [] places)
-  places_paired = joined_pairs Before [] [] places ((λ c d. d), (λ c d. d)) (λ k l a b at there less. absurd cc) places_new
 
   -- ---- the places of what is read
 
@@ -305,30 +281,17 @@ module _ (pieces : List Piece) (x : Followed) (h : Homes) (ms : List Member) (me
 
   alike : (n : ℕ) (f : FollowedMember) (k : Member) → slice_get x.members.items n ≡ Some f → slice_get ms n ≡ Some k → scope_places (scope_in t f) ≡ places_of_part (numbered_part k.part)
   alike n f k f_at k_at =
-      let found = input.followed.exported in
-      let scopes = bind_some (scopes_of pieces) (each member_of_scope) members input.reads in
-      let numbers = input_in_numbers pieces x input.followed in
-      let same : numbers.scopes ≡ scopes.0 = some_is numbers.scopes scopes.0 (sym numbers.found ∙ scopes.1) in
-      let y = zip_at (MemberShown t) x.members.items numbers.scopes numbers.shown n f f_at in
-      let y_at = ap (λ ys. slice_get ys n) (sym same) ∙ y.1 in
-      let z = zip_at (λ y m. member_of_scope y ≡ Some m) scopes.0 members (each_beside member_of_scope scopes.0 members scopes.2) n y.0 y_at in
-      let parts_beside = each_beside labelled_scope input.followed.parts scopes.0 (scopes_found pieces input.followed.parts found scopes.0 scopes.1) in
-      let p = zip_at_right (λ u v. labelled_scope u ≡ Some v) input.followed.parts scopes.0 parts_beside n y.0 y_at in
       let kept_at = mapped_get numbered_member ms n k k_at in
       let i = zip_at (IsMember t h) (numbered_members ms) members input.shown n (numbered_member k) kept_at in
-      let one : i.0 ≡ z.0 = one_item members n i.0 z.0 i.1 z.1 in
-      let numbers_in : AreMembersIn t (numbered_members ms) = read_members_are_in pieces x h ms members input known obey in
-      let own = all_at (λ (y : NumberedMember). IsPartIn t y.part) (numbered_members ms) numbers_in (numbered_member k) (get-contains (numbered_members ms) n (numbered_member k) kept_at) in
+      let own = all_at (λ (y : NumberedMember). IsPartIn t y.part) (numbered_members ms) (read_members_are_in pieces x h ms members input known obey) (numbered_member k)
+      (get-contains (numbered_members ms) n (numbered_member k) kept_at) in
       let both_read = zip_at (IsMemberOf t) x.members.items ms input.are n f f_at in
-      let is : IsPartOf t f.part k.part = subst (λ (m : Member). IsPartOf t f.part m.part) (one_item ms n both_read.0 k both_read.1 k_at) both_read.2.1 in
-      let shown : map (path_at t) (scope_places (scope_in t f)) ≡ shown_under z.0 = part_named t f.part y.0.1 y.2.1 ∙ one_paths y.0 z.0 (one_stands p.0 y.0 p.2) z.2 in
-      let kept : map (path_at t) (places_of_part (numbered_part k.part)) ≡ shown_under i.0 =
-      part_paths t (tables pieces x h ms members input) h input.homes (numbered_member k) i.0 i.2.package_ i.2.label (numbered_part k.part) i.0.part i.2.part own in
-      part_alike f.part k.part is own (shown ∙ (ap shown_under (sym one) ∙ sym kept))
+      part_alike f.part k.part (subst (λ (m : Member). IsPartOf t f.part m.part) (one_item ms n both_read.0 k both_read.1 k_at) both_read.2.1) own
+      (scope_under pieces x h ms members input n f i.0 f_at i.1
+      ∙ sym (part_paths t (tables pieces x h ms members input) h input.homes (numbered_member k) i.0 i.2.package_ i.2.label (numbered_part k.part) i.0.part i.2.part own))
 
   pub places_alike : places ≡ flat_map (λ (k : NumberedMember). places_of_part k.part) (numbered_members ms)
-  places_alike =
-      sym (flat_mapped scope_places (scope_in t) x.members.items)
+  places_alike = sym (flat_mapped scope_places (scope_in t) x.members.items)
       ∙ (zip_flat (λ (f : FollowedMember). scope_places (scope_in t f)) (λ (k : Member). places_of_part (numbered_part k.part)) x.members.items ms
       (zip_each (IsMemberOf t) (λ f k. scope_places (scope_in t f) ≡ places_of_part (numbered_part k.part)) x.members.items ms input.are alike)
       ∙ flat_mapped (λ (k : NumberedMember). places_of_part k.part) numbered_member ms)
@@ -336,9 +299,8 @@ module _ (pieces : List Piece) (x : Followed) (h : Homes) (ms : List Member) (me
   -- ---- the plan
 
   module _ (marks : List Bool) (kept : List ℕ) (marked : AreMarked marks kept) (n : ℕ) (homes : ℕ → Option Home) (seen : List NumberedSight)
-      (within : (s : NumberedSight) → Contains seen s → Contains (views_of_members (numbered_members ms)) s)
-      (ps : List ℕ) (met : ps ≡ joined_all [] places) (is : List PlannedInterface) (planned : AllZip (PlansPlace t kept n homes seen) ps is)
-      (firsts : (k q : ℕ) → slice_get ps k ≡ Some q → (s : NumberedSight) × (first_at q seen ≡ Some s)) where
+      (within : (s : NumberedSight) → Contains seen s → Contains (views_of_members (numbered_members ms)) s) (ps : List ℕ) (met : ps ≡ joined_all [] places) (is : List PlannedInterface)
+      (planned : AllZip (PlansPlace t kept n homes seen) ps is) (firsts : (k q : ℕ) → slice_get ps k ≡ Some q → (s : NumberedSight) × (first_at q seen ≡ Some s)) where
     -- the instance of the first view of a place
     pub record IsShownAt (q : ℕ) (s : NumberedSight) : Type 0 where
       pub scope : ℕ
@@ -362,12 +324,11 @@ module _ (pieces : List Piece) (x : Followed) (h : Homes) (ms : List Member) (me
         let z = shown_number kept v.0.view j.types (b.2 v.0 v.1).types d d_in in
         let first = shown_at a.0 u.0 u.1 in
         let second = shown_at b.0 v.0 v.1 in
-        let pair : Before a.0 b.0 = subst (λ (qs : List ℕ). Pairs Before qs) (sym met) places_paired k l a.0 b.0 a.1 b.1 less in
-        let parts_less =
-        pair first.scope first.number (instance_shown u.0) first.at first.place second.scope second.number (instance_shown v.0) second.at second.place (part_of y.0.slot) (part_of z.0.slot)
-        (contains-map (λ (w : NumberedType). part_of w.slot) u.0.view.types y.0 y.1) (contains-map (λ (w : NumberedType). part_of w.slot) v.0.view.types z.0 z.1) in
         kept_less marks kept marked (part_of y.0.slot) (part_of z.0.slot) c d (subst (λ (p : ℕ). IsPart kept p (14 + c)) (same_part y.0.slot) y.2)
-        (subst (λ (p : ℕ). IsPart kept p (14 + d)) (same_part z.0.slot) z.2) parts_less
+        (subst (λ (p : ℕ). IsPart kept p (14 + d)) (same_part z.0.slot) z.2)
+        ((subst (λ (qs : List ℕ). Pairs Before qs) (sym met) (joined_pairs Before [] [] places ((λ c d. d), (λ c d. d)) (λ k l a b at there less. absurd cc) places_new) k l a.0 b.0 a.1 b.1 less)
+        first.scope first.number (instance_shown u.0) first.at first.place second.scope second.number (instance_shown v.0) second.at second.place (part_of y.0.slot) (part_of z.0.slot)
+        (contains-map (λ (w : NumberedType). part_of w.slot) u.0.view.types y.0 y.1) (contains-map (λ (w : NumberedType). part_of w.slot) v.0.view.types z.0 z.1))
 
     pub all_rise : list_all (λ (i : PlannedInterface). are_rising (numbers_of i.types)) is ≡ true → are_rising (flat_map (λ (i : PlannedInterface). numbers_of i.types) is) ≡ true
     all_rise own = rises_flat (λ (i : PlannedInterface). numbers_of i.types) is own between
@@ -377,16 +338,12 @@ module _ (pieces : List Piece) (x : Followed) (h : Homes) (ms : List Member) (me
 -- the views beside a world are views of it
 pub world_views : (t : Tables) (h : Homes) (m : Member) (w : Scope) → m.part ≡ parts.World w → (own : List Member) → AreOwnInterfaces t h m.package_number (numbered_scope w) (numbered_members own)
     → (s : NumberedSight) → Contains (views_of_members (numbered_members (m ∷ own))) s → Contains (views_of_members (numbered_members (m ∷ []))) s
-world_views t h m w is own are s c =
-    subst (λ (a : Part). Contains (views_of_part (numbered_part a) ++ []) s) (sym is)
-    (Contains-append_left (map whole_view (numbered_scope w).instances) [] s
-    (view_among t h m.package_number (numbered_scope w) (numbered_members own) are m.label.now s
+world_views t h m w is own are s c = subst (λ (a : Part). Contains (views_of_part (numbered_part a) ++ []) s) (sym is)
+    (Contains-append_left _ _ s (view_among t h m.package_number (numbered_scope w) (numbered_members own) are m.label.now s
     (subst (λ (a : Part). Contains (views_of_part (numbered_part a) ++ views_of_members (numbered_members own)) s) is c)))
 
 -- and its places are those of what was followed
 pub world_places : (m : Member) (w : Scope) → m.part ≡ parts.World w → (ps qs : List ℕ) → ps ≡ once (map (λ (i : NumberedInstance). i.place) (numbered_scope w).instances)
     → qs ≡ flat_map (λ (k : NumberedMember). places_of_part k.part) (numbered_members (m ∷ [])) → ps ≡ joined_all [] qs
-world_places m w is ps qs met same =
-    met
-    ∙ (sym (joined_behind [] (map (λ (i : NumberedInstance). i.place) (numbered_scope w).instances))
+world_places m w is ps qs met same = met ∙ (sym (joined_behind [] (map (λ (i : NumberedInstance). i.place) (numbered_scope w).instances))
     ∙ ap (joined_all []) (sym (same ∙ (ap (λ (a : Part). places_of_part (numbered_part a) ++ []) is ∙ append-nil (map (λ (i : NumberedInstance). i.place) (numbered_scope w).instances)))))

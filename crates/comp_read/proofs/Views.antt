@@ -6,8 +6,7 @@ use Rattle.wit_model.specs.{Text.Text, Tree.Place}
 use Rattle.comp_bytes.specs.Levels.{Piece}
 use Rattle.comp_meaning.specs.Rules.{distinct}
 use Rattle.plan_meaning.specs.FollowedNumbers.{IsCalledIn, IsMetFrom, IsShownIn, IsSlotOf, IsViewIn}
-use Rattle.plan_meaning.specs.{NumberedMembers.Homes, NumberedMembers.sights_of_members, Shapes.named_shape}
-use Rattle.plan_meaning.specs.NumberedRules.{Fact, is_interface}
+use Rattle.plan_meaning.specs.{NumberedMembers.Homes, NumberedMembers.sights_of_members, Shapes.named_shape, NumberedRules.Fact, NumberedRules.is_interface}
 use Rattle.plan_meaning.specs.NumberedViews.{AllOf, AreTables, NumberedSight, NumberedSlot, NumberedType, NumberedView, PartsOf, Tables, TypePasses, function_at, path_at, view_of}
 use Rattle.plan_meaning.specs.NumberedWorlds.{HasPath, NumberedInstance, NumberedScope, instance_of}
 use Rattle.plan_meaning.proofs.Lists.{any_get}
@@ -17,7 +16,7 @@ use Rattle.read_numbers.specs.PlacedNumbers.{part_of, IsFirstSeen, IsInstanceAt,
 use Rattle.plan_type_laws.proofs.PartPlaces.{parts_weaker}
 use Rattle.read_exports.specs.Members.{numbered_members, numbered_part}
 use Rattle.read_exports.specs.declared.members.{Member.Member, Part.Part}
-use Rattle.read_rules.specs.{Reached.numbered_import, Scopes.numbered_scope, Views.numbered_view}
+use Rattle.read_rules.specs.{Reached.numbered_import, Views.numbered_view}
 use Rattle.plan_package.specs.Views.{views_of_part}
 use Rattle.plan_laws.specs.FirstViews.{told}
 use Rattle.plan_laws.proofs.{FirstViews.one_told, FirstViews.sight_there, ShownRules.instances_obey}
@@ -112,15 +111,15 @@ abbrev shows_place : ℕ → NumberedScope → Bool
 shows_place q w = list_any (is_of q) w.instances
 
 -- one of the place, before which none is
-record IsFirstOf (ws : List NumberedScope) (q : ℕ) : Type 0 where
-  scope_number : ℕ
-  number : ℕ
-  one : NumberedInstance
-  at : IsInstanceAt ws scope_number number one
-  place : one.place ≡ q
-  first : IsFirstSeen ws scope_number number q
+pub record IsFirstOf (ws : List NumberedScope) (q : ℕ) : Type 0 where
+  pub scope_number : ℕ
+  pub number : ℕ
+  pub one : NumberedInstance
+  pub at : IsInstanceAt ws scope_number number one
+  pub place : one.place ≡ q
+  pub first : IsFirstSeen ws scope_number number q
 
-first_of_place : (ws : List NumberedScope) (m j : ℕ) (i : NumberedInstance) → IsInstanceAt ws m j i → IsFirstOf ws i.place
+pub first_of_place : (ws : List NumberedScope) (m j : ℕ) (i : NumberedInstance) → IsInstanceAt ws m j i → IsFirstOf ws i.place
 first_of_place ws m j i h = with_scope (first_passing (shows_place i.place) ws m h.scope h.at (get_any (is_of i.place) h.scope.instances j i h.instance_at (same-number i.place)))
   where
     with_instance : (w : IsFirstPassing (shows_place i.place) ws) → IsFirstPassing (is_of i.place) w.one.instances → IsFirstOf ws i.place
@@ -133,8 +132,7 @@ first_of_place ws m j i h = with_scope (first_passing (shows_place i.place) ws m
       first = record {
         scopes = λ k l u low there same. w.before k there.scope low there.at (get_any (is_of i.place) there.scope.instances l u there.instance_at (eq-eqb u.place i.place same));
         instances = λ l u low there same.
-            let one = one_item ws w.number there.scope w.one there.at w.at in
-            f.before l u low (subst (λ (z : NumberedScope). slice_get z.instances l ≡ Some u) one there.instance_at) (eq-eqb u.place i.place same);
+            f.before l u low (subst (λ (z : NumberedScope). slice_get z.instances l ≡ Some u) (one_item ws w.number there.scope w.one there.at w.at) there.instance_at) (eq-eqb u.place i.place same);
       };
     }
 
@@ -193,10 +191,9 @@ module _ (pieces : List Piece) (x : Followed) (h : Homes) (ms : List Member) (me
           one_told sights obey.agree (sight i a.0) (sight l b.0) a.1 b.1 same
       by None e =
           let one = (placed pieces x h ms members input).inline m n j k i l at there e same in
-          let scope : at.scope ≡ there.scope = one_item ws n at.scope there.scope (subst (λ a. slice_get ws a ≡ Some at.scope) one.0 at.at) there.at in
-          let here : slice_get there.scope.instances k ≡ Some i = subst (λ (z : NumberedScope). slice_get z.instances k ≡ Some i) scope
-          (subst (λ a. slice_get at.scope.instances a ≡ Some i) one.1 at.instance_at) in
-          ap (λ (z : NumberedInstance). map told z.view.types) (one_item there.scope.instances k i l here there.instance_at)
+          ap (λ (z : NumberedInstance). map told z.view.types) (one_item there.scope.instances k i l
+          (subst (λ (z : NumberedScope). slice_get z.instances k ≡ Some i) (one_item ws n at.scope there.scope (subst (λ a. slice_get ws a ≡ Some at.scope) one.0 at.at) there.at)
+          (subst (λ a. slice_get at.scope.instances a ≡ Some i) one.1 at.instance_at)) there.instance_at)
 
   -- the names of its types differ
   names_apart : (m j : ℕ) (i : NumberedInstance) → IsInstanceAt ws m j i → distinct (names_of i.view.types) ≡ true
@@ -205,25 +202,17 @@ module _ (pieces : List Piece) (x : Followed) (h : Homes) (ms : List Member) (me
       b : (member : Member) × (b : IsBoth pieces x h ms members input m member) × (scope_in pieces x h ms members input b.one ≡ there.scope)
       b = both_there pieces x h ms members input m there.scope there.at
 
-      with_path : HasPath t i.place → distinct (names_of i.view.types) ≡ true
-      with_path path =
-          let s = instance_sight m j i there path in
-          number_names t known i.place i.view (all-contained (λ (y : NumberedSight). is_interface t known y.place y.view) sights (sight i s.0) obey.interfaces s.1)
-
       of_part : (a : Part) → b.0.part ≡ a → distinct (names_of i.view.types) ≡ true
       of_part (parts.World w) e =
-          let read = world_read pieces x h ms members input b.0 (get-contains ms m b.0 b.1.at) w e in
-          let scope = world_scope pieces x h ms members input m b.0 b.1 w e in
-          let here : slice_get (numbered_scope w).instances j ≡ Some i = ap (λ (z : NumberedScope). slice_get z.instances j) (scope.shows ∙ b.2) ∙ there.instance_at in
-          let among : Contains read.scope.instances (instance_of t i) = subst (λ is. Contains is (instance_of t i)) (sym read.shows.instances)
-          (contains-map (instance_of t) (numbered_scope w).instances i (get-contains (numbered_scope w).instances j i here)) in
-          tree_names t (follow.place_of (path_at t i.place)) i.view (instances_obey read.scope read.stands (instance_of t i) among)
+          let read = world_read pieces x h ms members input b.0 (get-contains _ m _ b.1.at) w e in
+          tree_names t (follow.place_of (path_at t i.place)) i.view (instances_obey read.scope read.stands (instance_of t i)
+          (subst (λ is. Contains is (instance_of t i)) (sym read.shows.instances)
+          (contains-map _ _ i (get-contains _ j i (ap (λ (z : NumberedScope). slice_get z.instances j) ((world_scope pieces x h ms members input m b.0 b.1 w e).shows ∙ b.2) ∙ there.instance_at)))))
       of_part (parts.Interface p v imports) e =
           let of = of_member m j i there in
-          let same : of.member ≡ b.0 = one_item ms m of.member b.0 of.there b.1.at in
-          with_path
-          (interface_path pieces x h ms members input m b.0 b.1 p (numbered_view v) (map numbered_import imports.now) (ap numbered_part e) (sight i of.viewed.whole)
-          (subst (λ (y : Member). Contains (views_of_part (numbered_part y.part)) (sight i of.viewed.whole)) same of.viewed.there))
+          (let s = instance_sight m j i there (interface_path pieces x h ms members input m b.0 b.1 p (numbered_view v) (map numbered_import imports.now) (ap numbered_part e) (sight i of.viewed.whole)
+          (subst (λ (y : Member). Contains (views_of_part (numbered_part y.part)) (sight i of.viewed.whole)) (one_item ms m of.member b.0 of.there b.1.at) of.viewed.there)) in
+          number_names t known i.place i.view (all-contained (λ (y : NumberedSight). is_interface t known y.place y.view) sights (sight i s.0) obey.interfaces s.1))
 
   -- ---- all names rise
 
@@ -233,8 +222,7 @@ module _ (pieces : List Piece) (x : Followed) (h : Homes) (ms : List Member) (me
       let rising = (placed pieces x h ms members input).firsts first.scope_number first.number first.one first.at (subst (IsFirstSeen ws first.scope_number first.number) (sym first.place) first.first)
       (names_apart first.scope_number first.number first.one first.at) in
       rises_too t (tables pieces x h ms members input) i.place i.view first.one.view (told_same m j i there first.scope_number first.number first.one first.at (sym first.place))
-      (instance_placed pieces x h ms members input m j i there)
-      (subst (λ q. IsRisingView t q first.one.view) first.place rising)
+      (instance_placed pieces x h ms members input m j i there) (subst (λ q. IsRisingView t q first.one.view) first.place rising)
 
   pub instance_in : (m j : ℕ) (i : NumberedInstance) → IsInstanceAt ws m j i → IsViewIn t i.place i.view
   instance_in m j i there = view_is_in t (tables pieces x h ms members input) i.place i.view (instance_placed pieces x h ms members input m j i there) (instance_rises m j i there)

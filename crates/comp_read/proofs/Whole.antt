@@ -63,8 +63,7 @@ module _ (t : Tables) (h : Homes) (known : ℕ → Fact) (n : ℕ) (ms : List Me
   one_package = first_true (list_all (λ (m : NumberedMember). n == m.package_) nms) (list_all (stands_at_top h n nms) seen && (agree_in_numbers seen && are_interfaces t known seen)) obeys
 
 module _ (pieces : List Piece) (x : Followed) (h : Homes) (ms : List Member) (members : List reads.Member) (input : IsReadInput pieces x h ms members) (facts : List KeptFact)
-    (are_known : AreKnown x facts)
-    (n : ℕ) (obeys : are_package (tables_of x) h (known_by facts) n (numbered_members ms) ≡ true) where
+    (are_known : AreKnown x facts) (n : ℕ) (obeys : are_package (tables_of x) h (known_by facts) n (numbered_members ms) ≡ true) where
   abbrev t : Tables
   t = tables_of x
 
@@ -83,13 +82,9 @@ module _ (pieces : List Piece) (x : Followed) (h : Homes) (ms : List Member) (me
       by [] [] all stand one all_known is = record { kinds = λ path name. false; each = tt }
       by [] (y ∷ ys) all stand one all_known is = absurd all
       by (m ∷ ns) [] all stand one all_known is = absurd all
-      by (m ∷ ns) (y ∷ ys) all stand one all_known is =
-          let first : n ≡ m.package_ = eqb-true n m.package_ (first_true (n == m.package_) (list_all (λ (z : NumberedMember). n == z.package_) ns) one) in
-          let there : slice_get h.packages n ≡ Some y.package_ = ap (slice_get h.packages) first ∙ all.0.package_ in
-          let means : reads.package_with y.package_ (y ∷ ys) ≡ Some (package_shown y.package_ (y ∷ ys)) =
-          packages_in_numbers t (tables pieces x h ms members input) h input.homes known n y.package_ there (m ∷ ns) (y ∷ ys) all all_known ∙ ap
-          (λ b. provided b (package_shown y.package_ (y ∷ ys))) is in
-          packages_have_kinds (y ∷ ys) (package_shown y.package_ (y ∷ ys)) stand means
+      by (m ∷ ns) (y ∷ ys) all stand one all_known is = packages_have_kinds (y ∷ ys) (package_shown y.package_ (y ∷ ys)) stand
+          (packages_in_numbers t (tables pieces x h ms members input) h input.homes known n y.package_ (ap (slice_get h.packages) (eqb-true n _ (first_true _ _ one)) ∙ all.0.package_) (m ∷ ns)
+          (y ∷ ys) all all_known ∙ ap (λ b. provided b (package_shown y.package_ (y ∷ ys))) is)
 
   pub package_input : AreHomesOf t h → IsPackageInput t h known n ms members
   package_input homes = record {
@@ -119,9 +114,8 @@ module _ (t : Tables) where
   part_reached (followed.Interface s) (parts.Interface p v imports) is = search std_rules
 
 pub read_parts_are_reached : ReadPartsAreReached
-read_parts_are_reached pieces x h ms members input =
-    all_beside (IsMemberOf (tables_of x)) (λ (m : NumberedMember). PartIsReached (tables_of x) m.part) numbered_member (λ y m is. part_reached (tables_of x) y.part m.part is.1) x.members.items
-    ms input.are
+read_parts_are_reached pieces x h ms members input = all_beside (IsMemberOf (tables_of x)) (λ (m : NumberedMember). PartIsReached (tables_of x) m.part) numbered_member
+    (λ y m is. part_reached (tables_of x) y.part m.part is.1) x.members.items ms input.are
 
 pub read_is_package_input : ReadIsPackageInput
 read_is_package_input pieces x h ms members input facts are_known homes n obeys = package_input pieces x h ms members input facts are_known n obeys homes

@@ -1,16 +1,16 @@
 -- A world by itself that was followed and read is, with the interfaces of its package that it shows, the input of the laws of packages.
 use Rattle.std.proofs.Common.{rules as std_rules, ◌≡◌, refl, sym, ap, subst, ◌∙◌, ℕ, suc, arith, List, [], ◌∷◌, ◌++◌, filter, map, Some, slice_get}
 use Rattle.std.proofs.lemmas.{List.append-nil, List.Elements.Contains-append_left}
-use Rattle.std.specs.{Borrow.Bor, List.AllByRecursion, List.AllZip, List.Contains, List.flat_map}
+use Rattle.std.specs.{Borrow.Bor, List.AllByRecursion, List.Contains, List.flat_map}
 use Rattle.wit_model.specs.{Meaning.WorldPackage, Names.PackageIdentity, Text.Text}
 use Rattle.comp_bytes.specs.{Levels.Piece, Reading.◌>>=◌}
 use Rattle.comp_meaning.specs.{ByLevels.world_of_pieces, Follow.each, Follow.provided, Reads.world_of_members, Reads.world_with}
 use Rattle.read_shown.specs.{Kinds.NamesHaveKinds, Parts.MemberStands}
 use Rattle.read_shown.proofs.MeaningKinds.{worlds_have_kinds}
-use Rattle.plan_meaning.specs.{FollowedNumbers.IsPartIn, FollowedNumbers.IsViewIn, NumberedRules.Fact}
-use Rattle.plan_meaning.specs.NumberedMembers.{Homes, IsKnownSight, IsMember, NumberedMember, NumberedPart, interface, sights_of_members, world, world_shown, are_interfaces}
-use Rattle.plan_meaning.specs.NumberedViews.{NumberedSight, NumberedView, Tables, agree_in_numbers}
-use Rattle.plan_meaning.specs.NumberedWorlds.{NumberedInstance, NumberedScope, Shows, are_once, sights_of_scope}
+use Rattle.plan_meaning.specs.{FollowedNumbers.IsPartIn, NumberedRules.Fact}
+use Rattle.plan_meaning.specs.NumberedMembers.{Homes, IsKnownSight, NumberedMember, NumberedPart, interface, world, world_shown, sights_of_members}
+use Rattle.plan_meaning.specs.NumberedViews.{NumberedView, Tables}
+use Rattle.plan_meaning.specs.NumberedWorlds.{NumberedScope, Shows, are_once}
 use Rattle.read_parts.specs.declared.following.Followed.{Followed}
 use Rattle.read_numbers.specs.{FactLaws.known_by, NumberedInput.tables_of}
 use Rattle.plan_type_laws.specs.ShownMarks.{ArePlaced, PartNames, has_no_path, places_of_part}
@@ -35,9 +35,6 @@ use Rattle.read_exports.specs.declared.members.Part.TheVariants as parts
 pub declares_none : (t : Tables) (a : Part) (p : ℕ) (v : NumberedView) → numbered_part a ≡ interface p v [] → PartDeclaresNames t a
 declares_none t x p v e = search std_rules
 
-pub names_none : (t : Tables) (a : Part) (p : ℕ) (v : NumberedView) → numbered_part a ≡ interface p v [] → PartNames t a
-names_none t x p v e = search std_rules
-
 abbrev pub one_world : Bor (List ℕ) → ℕ → Scope → Member
 one_world label n w = record { label = label; package_number = n; part = parts.World w }
 
@@ -50,10 +47,6 @@ pub record IsOneTree (t : Tables) (h : Homes) (label : Text) (n : ℕ) (w : Numb
   pub is : members ≡ record { label = label; package_ = identity; part = reads.Part.world scope } ∷ []
   pub there : slice_get h.packages n ≡ Some identity
   pub shows : Shows t w scope
-
-one_tree : (t : Tables) (h : Homes) (label : Text) (n : ℕ) (w : NumberedScope) (members : List reads.Member)
-    → AllZip (IsMember t h) (record { label = label; package_ = n; part = world w } ∷ []) members → IsOneTree t h label n w members
-one_tree t h label n w x zip = search std_rules
 
 module _ (pieces : List Piece) (x : Followed) (facts : List KeptFact) (h : Homes) (label : Bor (List ℕ)) (n : ℕ) (w : Scope) (given : IsReadWorld pieces x (tables_of x) facts h (one_world label n w) w) where
   abbrev t : Tables
@@ -78,7 +71,7 @@ module _ (pieces : List Piece) (x : Followed) (facts : List KeptFact) (h : Homes
   input = read.1
 
   pub tree : IsOneTree t h label.now n W read_members
-  tree = one_tree t h label.now n W read_members input.shown
+  tree = search std_rules
 
   -- ---- what the sections mean
 
@@ -102,9 +95,6 @@ module _ (pieces : List Piece) (x : Followed) (facts : List KeptFact) (h : Homes
   abbrev one : reads.Member
   one = record { label = label.now; package_ = tree.identity; part = reads.Part.world tree.scope }
 
-  one_stands : MemberStands one
-  one_stands = (subst (AllByRecursion MemberStands) tree.is (members_stand pieces x h (m ∷ []) read_members input)).0
-
   one_has_kinds : NamesHaveKinds (one ∷ [])
   one_has_kinds = subst NamesHaveKinds tree.is (worlds_have_kinds read_members (world_shown decided.identity label.now decided.scope) (members_stand pieces x h (m ∷ []) read_members input) meaning)
 
@@ -115,10 +105,7 @@ module _ (pieces : List Piece) (x : Followed) (facts : List KeptFact) (h : Homes
     nms = numbered_members own
 
     pub views_obey : ViewsObey t known (m ∷ [])
-    views_obey = record {
-      agree = ap agree_in_numbers (append-nil (sights_of_scope t W)) ∙ agree t h known n label.now W given.obeys nms are;
-      interfaces = ap (are_interfaces t known) (append-nil (sights_of_scope t W)) ∙ interfaces t h known n label.now W given.obeys nms are;
-    }
+    views_obey = search (std_rules, agree, append-nil, interfaces)
 
     base : IsInput t h (m ∷ []) read_members
     base = is_input pieces x h (m ∷ []) read_members input known views_obey
@@ -134,9 +121,7 @@ module _ (pieces : List Piece) (x : Followed) (facts : List KeptFact) (h : Homes
     numbers : AllByRecursion (λ (k : NumberedMember). IsPartIn t k.part) nms
     numbers = all_of (λ (k : NumberedMember). IsPartIn t k.part) nms (λ k c.
         let is = own_at t h n W nms are k c in
-        let view : IsViewIn t is.place is.view = all_at (λ (i : NumberedInstance). IsViewIn t i.place i.view) W.instances base.numbers.0.instances
-        (record { place = is.place; view = is.view }) is.among in
-        subst (IsPartIn t) (sym is.part) ((is.path, view), tt))
+        subst (IsPartIn t) (sym is.part) ((is.path, all_at _ _ base.numbers.0.instances (record { place = is.place; view = is.view }) is.among), tt))
 
     -- a property of each part that is an interface of which nothing is imported
     each_own : (P : Part → Type 0) → ((a : Part) (p : ℕ) (v : NumberedView) → numbered_part a ≡ interface p v [] → P a) → AllByRecursion (λ (k : Member). P k.part) own
@@ -147,7 +132,8 @@ module _ (pieces : List Piece) (x : Followed) (facts : List KeptFact) (h : Homes
       tables = base.tables;
       homes = given.stand;
       shown = (record { label = refl; package_ = tree.there; part = tree.shows }, own_members t base.tables h given.stand n tree.identity tree.there W nms are);
-      stand = world_members_stand t base.tables h given.stand n tree.identity tree.there W nms are label.now tree.scope tree.shows one_stands;
+      stand = world_members_stand t base.tables h given.stand n tree.identity tree.there W nms are label.now tree.scope tree.shows
+          (subst (AllByRecursion MemberStands) tree.is (members_stand pieces x h (m ∷ []) read_members input)).0;
       numbers = (base.numbers.0, numbers);
       declared = (base.declared.0, each_own (PartDeclaresNames t) (declares_none t));
     }
@@ -156,24 +142,18 @@ module _ (pieces : List Piece) (x : Followed) (facts : List KeptFact) (h : Homes
 
     no_places : (ks : List NumberedMember) → ((k : NumberedMember) → Contains ks k → Contains nms k) → flat_map (λ (k : NumberedMember). places_of_part k.part) ks ≡ []
     no_places [] within = refl
-    no_places (k ∷ ks) within =
-        let is = own_at t h n W nms are k (within k (0, omega arith, refl)) in
-        ap (λ (a : NumberedPart). places_of_part a ++ flat_map (λ (y : NumberedMember). places_of_part y.part) ks) is.part ∙ no_places ks
-        (λ y at. within y (suc at.0, (let low = at.1 in omega (arith, low)), at.2))
+    no_places (k ∷ ks) within = ap (λ (a : NumberedPart). places_of_part a ++ flat_map (λ (y : NumberedMember). places_of_part y.part) ks)
+        (own_at t h n W nms are k (within k (0, omega arith, refl))).part ∙ no_places ks (λ y at. within y (suc at.0, (let low = at.1 in omega (arith, low)), at.2))
 
     placed : ArePlaced t (m ∷ own)
     placed =
         let base_placed = are_placed pieces x h (m ∷ []) read_members input known views_obey in
         record {
-          names = (base_placed.names.0, each_own (PartNames t) (names_none t));
+          names = (base_placed.names.0, each_own (PartNames t) (λ x p v e. search std_rules));
           apart = ap (λ (ps : List ℕ). are_once (filter (has_no_path t) (places_of_part (world W) ++ ps))) (no_places nms (λ k c. c)) ∙ base_placed.apart;
         }
 
     -- ---- what is known
-
-    known_sight : (s : NumberedSight) → Contains (sights_of_scope t W) s → IsKnownSight t known s
-    known_sight s c = all_at (IsKnownSight t known) (sights_of_scope t W ++ []) (sights_known pieces x h (m ∷ []) read_members input facts given.known) s
-        (Contains-append_left (sights_of_scope t W) [] s c)
 
     pub packaged : IsPackageInput t h known n (m ∷ own) all_trees
     packaged = record {
@@ -182,7 +162,8 @@ module _ (pieces : List Piece) (x : Followed) (facts : List KeptFact) (h : Homes
       kinds = world_names_have_kinds t base.tables h given.stand n tree.identity tree.there W nms are label.now tree.scope tree.shows one_has_kinds;
       placed = placed;
       lengths = lengths_fit pieces x h (m ∷ []) read_members input;
-      sights = all_of (IsKnownSight t known) (sights_of_members t (numbered_members (m ∷ own))) (λ s c. known_sight s (sight_among t h n W nms are label.now s c));
+      sights = all_of (IsKnownSight t known) (sights_of_members t (numbered_members (m ∷ own)))
+          (λ s c. (all_at _ _ (sights_known pieces x h (m ∷ []) read_members input facts given.known) s (Contains-append_left _ _ s (sight_among t h n W nms are label.now s c))));
       scopes = ((parts_known pieces x h (m ∷ []) read_members input facts given.known).0, own_part (PartIsKnown t known) (λ k c p v e. tt));
       obeys = obeys_package t h known n label.now W given.obeys nms are;
     }

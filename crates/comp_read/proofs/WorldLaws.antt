@@ -2,8 +2,7 @@
 use Rattle.std.proofs.Common.{◌≡◌, ap, subst, ◌∙◌, ℕ, ◌≤◌, List, length, Option, Some, slice_get}
 use Rattle.wit_model.specs.declared.model.{Resolve.Resolve, World.World}
 use Rattle.wit_model.specs.{Lookup.world_at, Meaning.WorldPackage, Meant.MeantWorld, Names.PackageIdentity, Valid.IsValid}
-use Rattle.plan_meaning.specs.{Built.IsBuilt, Built.planned_world, NumberedViews.Tables, Plan.Plan, Plan.PlannedWorld, PlanMeaning.plan_world_meaning}
-use Rattle.plan_meaning.specs.PlanRules.{IsPlan}
+use Rattle.plan_meaning.specs.{Built.IsBuilt, Built.planned_world, NumberedViews.Tables, Plan.Plan, Plan.PlannedWorld, PlanRules.IsPlan}
 use Rattle.plan_meaning.proofs.NothingElse.{world_holds_alone}
 use Rattle.plan_build.specs.{Buildable.IsBuildable, MeansPlan.MeansPlan}
 use Rattle.plan_build.proofs.BuildableLaws.{plans_are_buildable}
@@ -14,10 +13,6 @@ use Rattle.comp_read.specs.{DecodedWorlds.HoldsWorldFound, Planned.IsBuiltOf, Pl
 use Rattle.comp_read.proofs.{BuildLaws.few_built, WorldOrder.built_rise}
 use Rattle.base_lemmas.proofs.Lists.{get_back}
 use Rattle.wit_model.proofs.RulesLemmas.{is_id_some as id_is}
-
-both : (r : Resolve) (m : WorldPackage) (a b : Option WorldPackage) → a ≡ b → (MeantWorld r 0 m → a ≡ Some m) × ((a ≡ Some m) → MeantWorld r 0 m) → (MeantWorld r 0 m → b ≡ Some m)
-    × ((b ≡ Some m) → MeantWorld r 0 m)
-both r m a b same is = subst (λ (o : Option WorldPackage). (MeantWorld r 0 m → o ≡ Some m) × ((o ≡ Some m) → MeantWorld r 0 m)) same is
 
 module _ (p : Plan) (r : Resolve) (found : Option WorldPackage) (is : MeansWorldFound found p) (built : IsBuildable p → IsBuilt p r) (valid : IsPlan p → IsValid r) (meant : MeansPlan p r) (rises : PackagesRise p) where
   are_built : IsBuilt p r
@@ -38,7 +33,7 @@ module _ (p : Plan) (r : Resolve) (found : Option WorldPackage) (is : MeansWorld
     listed = built_rise p r are_built rises;
     meaning = is.meaning;
     is = is.is;
-    meant = λ m. both r m (plan_world_meaning p) found is.means (meant.world is.plan m);
+    meant = λ m. (subst (λ (o : Option WorldPackage). (MeantWorld r 0 m → o ≡ Some m) × ((o ≡ Some m) → MeantWorld r 0 m)) is.means (meant.world is.plan m));
   }
 
 -- ---- what is built of members that are one

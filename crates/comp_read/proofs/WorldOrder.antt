@@ -6,8 +6,8 @@ use Rattle.std.specs.List.{AllZip, filter, list_all, AllByRecursion, flat_map, C
 use Rattle.std.specs.Option.{option_map_or, option_or}
 use Rattle.wit_model.specs.{Names.PackageIdentity, Names.is_label, Names.path_in, Text.Text, Text.text_of, Text.text_eq, Lookup.package_at, Uses.has, Uses.once}
 use Rattle.plan_meaning.specs.{Plan.PlannedPackage, Plan.Plan, Built.IsBuilt, Built.planned_package, NumberedRules.Fact, NumberedRules.is_interface}
-use Rattle.plan_meaning.specs.NumberedViews.{NumberedSight, Tables, path_at, agree_in_numbers, agree_with_first_in_numbers, agrees_with_first, first_at, first_whole_at, same_types, same_whole, AreTables}
-use Rattle.plan_meaning.specs.NumberedMembers.{Homes, NumberedMember, NumberedPart, home_at, is_of_package, are_interfaces, are_package, is_interface_of, is_named_in, is_one_world, sights_of_members, stands_at_top, world, HomesStand}
+use Rattle.plan_meaning.specs.NumberedViews.{NumberedSight, Tables, path_at, agree_in_numbers, agrees_with_first, same_types, same_whole, AreTables}
+use Rattle.plan_meaning.specs.NumberedMembers.{Homes, NumberedMember, home_at, is_of_package, are_interfaces, are_package, is_interface_of, is_named_in, is_one_world, sights_of_members, stands_at_top, world, HomesStand}
 use Rattle.plan_meaning.specs.NumberedWorlds.{NumberedInstance, sights_of_instance, NumberedScope, sights_of_scope, HasPath, are_once}
 use Rattle.plan_package.specs.{WholeInterfaces.Home, PlanWhole.places_in, PlanWhole.PlansWhole}
 use Rattle.plan_package.specs.WholePackages.{ListsPlace, PlansPackage, another, entries_from, entry_of, the_main, interfaces_in}
@@ -204,26 +204,20 @@ module _ (t : Tables) (h : Homes) (are_homes : AreHomesOf t h) (n : ℕ) where
     -- each is one of no imports
     places_alone : (ks : List NumberedMember) → AllByRecursion (IsOwnInterface t h n (numbered_scope w)) ks → flat_map (λ (k : NumberedMember). places_of_part k.part) ks ≡ places_of ks
     places_alone [] all = refl
-    places_alone (k ∷ ks) all =
-        ap (λ (a : NumberedPart). places_of_part a ++ flat_map (λ (x : NumberedMember). places_of_part x.part) ks) all.0.part
-        ∙ (ap (λ ps. all.0.place ∷ ps) (places_alone ks all.1) ∙ sym (ap (λ (a : NumberedPart). place_of_part a ++ places_of ks) all.0.part))
+    places_alone (k ∷ ks) all = search (std_rules, places_alone ks all.1)
 
     within : list_all (has met) (places_of (numbered_members own)) ≡ true
     within = ap (list_all (has met)) own_are ∙ passing_within (is_of_package h n) met met (λ z there. there)
 
     pub places_are : places_in (m ∷ own) ≡ met
-    places_are =
-        ap (λ (a : Part). joined_all [] (places_of_part (numbered_part a) ++ flat_map (λ (k : NumberedMember). places_of_part k.part) (numbered_members own))) is
+    places_are = ap (λ (a : Part). joined_all [] (places_of_part (numbered_part a) ++ flat_map (λ (k : NumberedMember). places_of_part k.part) (numbered_members own))) is
         ∙ (ap (λ ps. joined_all [] (map (λ (i : NumberedInstance). i.place) (numbered_scope w).instances ++ ps)) (places_alone (numbered_members own) are.each)
         ∙ (joined_both [] (map (λ (i : NumberedInstance). i.place) (numbered_scope w).instances) (places_of (numbered_members own))
         ∙ (ap (λ ps. joined_all ps (places_of (numbered_members own))) (joined_behind [] (map (λ (i : NumberedInstance). i.place) (numbered_scope w).instances))
         ∙ nothing_new met (places_of (numbered_members own)) within)))
 
     own_numbers : numbers (interfaces_in (m ∷ own)) ≡ filter (is_of_package h n) (places_in (m ∷ own))
-    own_numbers =
-        numbers_of_places (m ∷ own)
-        ∙ (ap (λ (a : Part). place_of_part (numbered_part a) ++ places_of (numbered_members own)) is
-        ∙ (own_are ∙ sym (ap (filter (is_of_package h n)) places_are)))
+    own_numbers = search (std_rules, numbers_of_places, own_are, places_are)
 
     pub world_packages_rise : (packages : List PackageIdentity) (p : Plan) → PlansWhole t packages (home_at h) n (m ∷ own) p → PackagesRise p
     world_packages_rise packages p planned k q at = by (planned.packages.each k q at)
@@ -289,27 +283,19 @@ module _ (t : Tables) (h : Homes) (known : ℕ → Fact) (n : ℕ) (label : Text
   -- ---- all views
 
   all_interfaces : are_interfaces t known all_seen ≡ true
-  all_interfaces = all_pass (λ (s : NumberedSight). is_interface t known s.place s.view) all_seen
-      (λ s c. all-contained (λ (x : NumberedSight). is_interface t known x.place x.view) seen s interfaces (sight_among t h n w ms are label s c))
-
-  each_first : list_all (agrees_with_first seen) seen ≡ true
-  each_first = search (std_rules, all_alike, first_true, agree_by_first, both, agree, interfaces)
+  all_interfaces = all_pass (λ (s : NumberedSight). is_interface t known s.place s.view) all_seen (λ s c. all-contained _ _ s interfaces (sight_among t h n w ms are label s c))
 
   agrees : (s : NumberedSight) → Contains seen s → agrees_with_first all_seen s ≡ true
   agrees s c =
-      let whole : s.whole ≡ true = ap (λ (x : NumberedSight). x.whole) (sym (scope_sight t w s c).is) in
       let more = sights_of_members t ms in
-      let first : first_at s.place all_seen ≡ first_at s.place seen = found_first (λ (x : NumberedSight). s.place == x.place) seen more s c (same-number s.place) in
-      let first_whole : first_whole_at s.place all_seen ≡ first_whole_at s.place seen =
-      found_first (λ (x : NumberedSight). s.place == x.place && x.whole) seen more s c (both (s.place == s.place) s.whole (same-number s.place) whole) in
-      (λ i. option_map_or (λ f. same_types f s) (first i) true && (not s.whole || option_map_or (λ f. same_whole f s) (first_whole i) true)) ∙ all-contained (agrees_with_first seen) seen s
-      each_first c
+      (λ i. option_map_or (λ f. same_types f s) ((found_first (λ (x : NumberedSight). s.place == x.place) seen more s c (same-number s.place)) i) true
+      && (not s.whole || option_map_or (λ f. same_whole f s) ((found_first (λ (x : NumberedSight). s.place == x.place && x.whole) seen more s c
+      (both (s.place == s.place) s.whole (same-number s.place) (ap (λ (x : NumberedSight). x.whole) (sym (scope_sight t w s c).is)))) i) true)) ∙ all-contained (agrees_with_first seen) seen s
+      (search (std_rules, all_alike, first_true, agree_by_first, both, agree, interfaces)) c
 
   all_agree : agree_in_numbers all_seen ≡ true
-  all_agree =
-      let each : list_all (agrees_with_first all_seen) all_seen ≡ true = all_pass (agrees_with_first all_seen) all_seen (λ s c. agrees s (sight_among t h n w ms are label s c)) in
-      first_true (agree_in_numbers all_seen) (are_interfaces t known all_seen)
-      (agree_by_first t known all_seen ∙ both (agree_with_first_in_numbers [] all_seen) (are_interfaces t known all_seen) (all_alike [] all_seen ∙ each) all_interfaces)
+  all_agree = first_true _ _ (agree_by_first t known all_seen ∙ both _ _
+      (all_alike [] all_seen ∙ all_pass (agrees_with_first all_seen) all_seen (λ s c. agrees s (sight_among t h n w ms are label s c))) all_interfaces)
 
   -- ---- the package
 
@@ -324,9 +310,7 @@ module _ (t : Tables) (h : Homes) (known : ℕ → Fact) (n : ℕ) (label : Text
       by s c false e = ap (λ (o : Bool). not o || list_any (λ (k : NumberedMember). is_interface_of s.place k.part) ms) e
 
   packages : list_all (λ (k : NumberedMember). n == k.package_) (m ∷ ms) ≡ true
-  packages =
-      both (n == n) (list_all (λ (k : NumberedMember). n == k.package_) ms) (same-number n)
-      (all_pass (λ (k : NumberedMember). n == k.package_) ms (λ k c. ap (λ (x : ℕ). n == x) (own_at t h n w ms are k c).package_ ∙ same-number n))
+  packages = both _ _ (same-number n) (all_pass (λ (k : NumberedMember). n == k.package_) ms (λ k c. ap (λ (x : ℕ). n == x) (own_at t h n w ms are k c).package_ ∙ same-number n))
 
   pub obeys_package : are_package t h known n (m ∷ ms) ≡ true
   obeys_package = search (std_rules, both, packages, stand, all_agree, all_interfaces)
@@ -377,29 +361,23 @@ module _ (t : Tables) (tables : AreTables t) (h : Homes) (stand : HomesStand t h
     own_differ (k ∷ ms) within once =
         let is = own_at t h n w all are k (within k (0, omega arith, refl)) in
         let split : are_once (is.place ∷ places ms) ≡ true = ap (λ (ps : List ℕ). are_once (ps ++ places ms)) (sym (ap place_of_part is.part)) ∙ once in
-        both (not (list_any (text_eq k.label) (labels ms))) (distinct (labels ms))
-        (not_among k.label (labels ms) (λ l c same.
+        both _ _ (not_among k.label (labels ms) (λ l c same.
         let from = from_map (λ (x : NumberedMember). x.label) ms l c in
         let other = own_at t h n w all are from.0 (within from.0 (contains-later k ms from.0 from.1)) in
-        let one : is.place ≡ other.place = one_place is.place other.place k.label from.0.label is.path other.path is.home other.home (same ∙ sym from.2) in
-        let place : Contains (place_of_part from.0.part) is.place = subst (λ (ps : List ℕ). Contains ps is.place) (sym (ap place_of_part other.part))
-        (subst (λ (p : ℕ). Contains (other.place ∷ []) p) (sym one) (contains-one other.place)) in
-        let there : has (places ms) is.place ≡ true = contains-has (places ms) is.place (contains-flat (λ (x : NumberedMember). place_of_part x.part) ms from.0 is.place from.1 place) in
-        no_true (sym (ap not there) ∙ first_true (not (has (places ms) is.place)) (are_once (places ms)) split)))
-        (own_differ ms (λ x c. within x (contains-later k ms x c)) (second_true (not (has (places ms) is.place)) (are_once (places ms)) split))
+        no_true (sym (ap not (contains-has _ _ (contains-flat (λ (x : NumberedMember). place_of_part x.part) ms from.0 is.place from.1
+        (subst (λ (ps : List ℕ). Contains ps is.place) (sym (ap place_of_part other.part))
+        (subst (λ (p : ℕ). Contains (other.place ∷ []) p) (sym (one_place is.place other.place k.label from.0.label is.path other.path is.home other.home (same ∙ sym from.2)))
+        (contains-one other.place)))))) ∙ first_true _ _ split))) (own_differ ms (λ x c. within x (contains-later k ms x c)) (second_true _ _ split))
 
     -- the label of the world is none of theirs
     world_differs : (known : ℕ → Fact) (label : Text) → is_one_world t h known n label w ≡ true → not (list_any (text_eq label) (labels all)) ≡ true
-    world_differs known label obeys =
-        not_among label (labels all) (λ l c same.
+    world_differs known label obeys = not_among label (labels all) (λ l c same.
         let from = from_map (λ (x : NumberedMember). x.label) all l c in
         let is = own_at t h n w all are from.0 from.1 in
-        let named : is_named_in h n label is.place ≡ true =
-        ap (λ o. option_map_or (λ (x : ℕ × Text). x.0 == n && text_eq x.1 label) o false) is.home ∙ both (n == n) (text_eq from.0.label label) (same-number n)
-        (ap (λ (a : Text). text_eq a label) (from.2 ∙ sym same) ∙ same_text label) in
         let at = contains-get (sights_of_scope t w) (record { place = is.place; view = is.view; whole = true }) is.seen in
-        let taken = get_any (λ (s : NumberedSight). is_named_in h n label s.place) (sights_of_scope t w) at.0 (record { place = is.place; view = is.view; whole = true }) at.1 named in
-        no_true (sym (ap not taken) ∙ not_taken t h known n label w obeys all are))
+        no_true (sym (ap not (get_any (λ (s : NumberedSight). is_named_in h n label s.place) (sights_of_scope t w) at.0 (record { place = is.place; view = is.view; whole = true }) at.1
+        (ap (λ o. option_map_or (λ (x : ℕ × Text). x.0 == n && text_eq x.1 label) o false) is.home
+        ∙ both (n == n) (text_eq from.0.label label) (same-number n) (ap (λ (a : Text). text_eq a label) (from.2 ∙ sym same) ∙ same_text label)))) ∙ not_taken t h known n label w obeys all are))
 
     pub labels_differ : (known : ℕ → Fact) (label : Text) → is_one_world t h known n label w ≡ true → distinct (label ∷ labels all) ≡ true
     labels_differ known label obeys = both (not (list_any (text_eq label) (labels all))) (distinct (labels all)) (world_differs known label obeys) (own_differ all (λ k c. c) are.once)

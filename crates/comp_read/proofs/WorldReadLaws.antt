@@ -7,7 +7,7 @@ use Rattle.wit_model.proofs.Elements.{none-in}
 use Rattle.comp_bytes.specs.Levels.{Piece}
 use Rattle.comp_meaning.specs.{Rules.distinct, ByLevels.world_of_pieces}
 use Rattle.plan_meaning.specs.NumberedMembers.{Homes, NumberedMember, NumberedPart, interface, world, HomesStand, home_at}
-use Rattle.plan_meaning.specs.{NumberedRules.Fact, NumberedViews.AreTables, NumberedViews.NumberedSight, NumberedViews.NumberedView, NumberedViews.Tables}
+use Rattle.plan_meaning.specs.{NumberedRules.Fact, NumberedViews.AreTables, NumberedViews.NumberedView, NumberedViews.Tables}
 use Rattle.plan_meaning.specs.NumberedWorlds.{HasPath, NumberedScope}
 use Rattle.read_parts.specs.declared.following.Followed.{Followed}
 use Rattle.read_numbers.specs.{FactLaws.known_by, NumberedInput.tables_of}
@@ -19,9 +19,9 @@ use Rattle.read_rules.specs.declared.{scopes.Scope.Scope, tables.Fact.Fact as Ke
 use Rattle.plan_types.specs.Orders.{places_of_part}
 use Rattle.plan_package.specs.{PlanWhole.places_in, PlanWhole.MayBeWhole, WholeWorlds.world_in_part, WholeWorlds.worlds_in}
 use Rattle.plan_package.specs.Views.{views_of_members, whole_view}
-use Rattle.plan_laws.specs.{Apart.FirstsRise, OneWorld.IsWorldInput, ShownWhole.AreReached}
+use Rattle.plan_laws.specs.{Apart.FirstsRise, ShownWhole.AreReached}
 use Rattle.plan_laws.specs.{FirstViews.IsRisingView, WholePlaces.LabelsStand, WholePlan.IsOfMember, WholePlan.IsWholeInput, WholeReasonsForeign.PartIsReached}
-use Rattle.plan_laws.specs.{WholeCondition.ImportsAreBare, WholeCondition.PartIsBare, WholeWorlds.WorldIsFollowed, WholeWorlds.WorldsAreFollowed}
+use Rattle.plan_laws.specs.{WholeCondition.PartIsBare, WholeWorlds.WorldIsFollowed, WholeWorlds.WorldsAreFollowed}
 use Rattle.plan_laws.proofs.{FirstViews.first_is, ShownRules.all_of}
 use Rattle.plan_laws.proofs.{PlaceNumbers.all_joined, PlaceNumbers.from_joined, WholeCondition.whole_may_be_planned, WorldMeaning.world_plan_is_whole}
 use Rattle.comp_read.proofs.{Followed.read_places_are_met, Followed.worlds_followed, WorldOrder.labels_differ, WorldOrder.own_label, Labels.read_labels_stand}
@@ -45,8 +45,7 @@ no_worlds : (label : Text) (a : Part) (p : ℕ) (v : NumberedView) → numbered_
 no_worlds label x p v e = search std_rules
 
 module _ (pieces : List Piece) (x : Followed) (facts : List KeptFact) (h : Homes) (label : Bor (List ℕ)) (n : ℕ) (w : Scope)
-    (given : IsReadWorld pieces x (tables_of x) facts h (one_world label n w) w)
-    (own : List Member) (are : AreBeside (tables_of x) h (one_world label n w) w own) where
+    (given : IsReadWorld pieces x (tables_of x) facts h (one_world label n w) w) (own : List Member) (are : AreBeside (tables_of x) h (one_world label n w) w own) where
   abbrev t : Tables
   t = tables_of x
 
@@ -72,9 +71,6 @@ module _ (pieces : List Piece) (x : Followed) (facts : List KeptFact) (h : Homes
 
   -- ---- labels
 
-  labels_of : (ks : List Member) → map (λ (k : NumberedMember). k.label) (numbered_members ks) ≡ map (λ (k : Member). k.label.now) ks
-  labels_of ks = map_of_map (λ (k : NumberedMember). k.label) numbered_member ks
-
   tables : AreTables t
   tables = (packaged pieces x facts h label n w given own are).input.tables
 
@@ -84,19 +80,17 @@ module _ (pieces : List Piece) (x : Followed) (facts : List KeptFact) (h : Homes
       (read_labels_stand pieces x h (m ∷ []) (read_members pieces x facts h label n w given) (input pieces x facts h label n w given)).labels.0,
       all_of (λ (k : Member). is_label k.label.now ≡ true) own (λ k c. own_label t tables h given.stand n W nms are (numbered_member k) (contains-map numbered_member own k c)),
     );
-    apart = ap (λ (ls : List Text). distinct (label.now ∷ ls)) (sym (labels_of own)) ∙ labels_differ t tables h given.stand n W nms are known label.now given.obeys;
+    apart = ap (λ (ls : List Text). distinct (label.now ∷ ls)) (sym (map_of_map (λ (k : NumberedMember). k.label) numbered_member own))
+        ∙ labels_differ t tables h given.stand n W nms are known label.now given.obeys;
   }
 
   -- ---- the order
-
-  view_one : (s : NumberedSight) → Contains (views_of_members (numbered_members (m ∷ own))) s → Contains (views_of_members (numbered_members (m ∷ []))) s
-  view_one s c = Contains-append_left (map whole_view W.instances) [] s (view_among t h n W nms are label.now s c)
 
   rise : FirstsRise t (m ∷ own)
   rise q s e =
       let first = first_is q (views_of_members (numbered_members (m ∷ own))) s e in
       subst (λ (p : ℕ). IsRisingView t p s.view) first.1 (view_rises pieces x h (m ∷ []) (read_members pieces x facts h label n w given) (input pieces x facts h label n w given) known
-      (views_obey pieces x facts h label n w given own are) s (view_one s first.0))
+      (views_obey pieces x facts h label n w given own are) s (Contains-append_left (map whole_view W.instances) [] s (view_among t h n W nms are label.now s first.0)))
 
   -- ---- worlds and places
 
@@ -112,10 +106,9 @@ module _ (pieces : List Piece) (x : Followed) (facts : List KeptFact) (h : Homes
       (one.0, subst (AllByRecursion (λ (y : Text × Scope). WorldIsFollowed t (numbered_scope y.1))) (sym (none_of own (λ k c. c))) tt)
 
   met : (q : ℕ) → HasPath t q → Contains (places_in (m ∷ own)) q
-  met q path =
-      let there = read_places_are_met pieces x h (m ∷ []) (read_members pieces x facts h label n w given) (input pieces x facts h label n w given) q path in
-      all_joined [] (flat_map (λ (k : NumberedMember). places_of_part k.part) (numbered_members (m ∷ own))) q
-      (inr (by (from_joined [] (flat_map (λ (k : NumberedMember). places_of_part k.part) (numbered_members (m ∷ []))) q there)))
+  met q path = all_joined [] (flat_map (λ (k : NumberedMember). places_of_part k.part) (numbered_members (m ∷ own))) q
+      (inr (by (from_joined [] (flat_map (λ (k : NumberedMember). places_of_part k.part) (numbered_members (m ∷ []))) q
+      (read_places_are_met pieces x h (m ∷ []) (read_members pieces x facts h label n w given) (input pieces x facts h label n w given) q path))))
     where
       world_places : List ℕ
       world_places = places_of_part (world W)
@@ -130,16 +123,10 @@ module _ (pieces : List Piece) (x : Followed) (facts : List KeptFact) (h : Homes
   reached : AreReached t (m ∷ own)
   reached = (tt, each_own (PartIsReached t) (λ p v. (refl, refl)))
 
-  bare : ImportsAreBare (m ∷ own)
-  bare = (tt, each_own PartIsBare (λ p v. tt))
-
   -- ---- all of it
 
   whole : IsWholeInput t h n (m ∷ own)
   whole = search (std_rules, tree pieces x facts h label n w given, sources, labels, rise, followed, met, reached)
-
-  world_input : IsWorldInput t h known n m own (tree pieces x facts h label n w given).scope
-  world_input = record { world = w; is = refl; own_ = are; obeys = given.obeys; shows = (tree pieces x facts h label n w given).shows }
 
   pub is_whole : IsWholeWorld pieces t facts h m own
   unfolding whole
@@ -147,9 +134,9 @@ module _ (pieces : List Piece) (x : Followed) (facts : List KeptFact) (h : Homes
     members = all_trees pieces x facts h label n w given own are;
     input = packaged pieces x facts h label n w given own are;
     whole = whole;
-    planned = whole_may_be_planned t h known n (m ∷ own) (all_trees pieces x facts h label n w given own are) (packaged pieces x facts h label n w given own are) bare;
+    planned = whole_may_be_planned t h known n (m ∷ own) (all_trees pieces x facts h label n w given own are) (packaged pieces x facts h label n w given own are) (tt, each_own PartIsBare (λ p v. tt));
     scope = (tree pieces x facts h label n w given).scope;
-    world = world_input;
+    world = record { world = w; is = refl; own_ = are; obeys = given.obeys; shows = (tree pieces x facts h label n w given).shows };
     means = world_means pieces x facts h label n w given;
     meaning = (world_found pieces x facts h label n w given).0;
     found = (world_found pieces x facts h label n w given).1;
@@ -159,9 +146,8 @@ module _ (pieces : List Piece) (x : Followed) (facts : List KeptFact) (h : Homes
 
 -- over what was followed, where the part is the world
 by_part : (pieces : List Piece) (x : Followed) (facts : List KeptFact) (h : Homes) (label : Bor (List ℕ)) (n : ℕ) (a : Part) (w : Scope) → a ≡ parts.World w
-    → IsReadWorld pieces x (tables_of x) facts h (record { label = label; package_number = n; part = a }) w
-    → (own : List Member) → AreBeside (tables_of x) h (record { label = label; package_number = n; part = a }) w own
-    → IsWholeWorld pieces (tables_of x) facts h (record { label = label; package_number = n; part = a }) own
+    → IsReadWorld pieces x (tables_of x) facts h (record { label = label; package_number = n; part = a }) w → (own : List Member)
+    → AreBeside (tables_of x) h (record { label = label; package_number = n; part = a }) w own → IsWholeWorld pieces (tables_of x) facts h (record { label = label; package_number = n; part = a }) own
 by_part pieces x facts h label n a w e given own are = search (std_rules, is_whole)
 
 pub read_world_is_whole : ReadWorldIsWhole
@@ -225,9 +211,8 @@ module _ (x : Followed) (t : Tables) (facts : List KeptFact) (h : Homes) (ms : L
   no_world none =
       let decided = worlds_are_decided pieces x followed facts read.known h (subst (λ (u : Tables). HomesStand u h) read.tables read.stand) (map lent_member ms)
       (subst (λ (u : Tables). AreRead u (known_by facts) h x.members.items (map lent_member ms)) read.tables read.read) in
-      none_decided (tables_of x) (numbered_members ms) (subst (AreWorldDecided pieces (tables_of x) h (known_by facts))
-      (map_of_map (λ (m : NumberedMember × List (Option ℕ)). m.0) lent_member ms) decided)
-      (subst (λ (u : Tables). are_one_world u h (known_by facts) (numbered_members ms) ≡ false) read.tables none)
+      none_decided (tables_of x) (numbered_members ms) (subst (AreWorldDecided pieces (tables_of x) h (known_by facts)) (map_of_map (λ (m : NumberedMember × List (Option ℕ)). m.0) lent_member ms)
+      decided) (subst (λ (u : Tables). are_one_world u h (known_by facts) (numbered_members ms) ≡ false) read.tables none)
 
   -- the world that they are was read so
   pub world_read : (m : Member) (w : Scope) → IsAlone t h (known_by facts) ms m w → IsWorldReadOf x t facts h m w

@@ -39,17 +39,10 @@ cases-listed : (trees : List Tree) (cs : List Case)
 cases-listed trees [] = refl
 cases-listed trees (c ∷ cs) = given-one (tree_of trees) c.ty _ _ (cases-listed trees cs)
 
-one-listed : (trees : List Tree) (o : Option ValueType) → child_list (given (option_map (tree_of trees) o ∷ [])) ≡ map (tree_of trees) (option_to_list o) ++ []
-one-listed trees x = search std_rules
-
-two-listed : (trees : List Tree) (o e : Option ValueType)
-    → child_list (given (option_map (tree_of trees) o ∷ option_map (tree_of trees) e ∷ [])) ≡ map (tree_of trees) (option_to_list o ++ option_to_list e) ++ []
-two-listed trees x y = search std_rules
-
 -- The children are the trees of the members, and that of what a handle is of.
 pub children-are : (trees : List Tree) (k : TypeDefKind) → is_alias k ≡ false
     → child_trees (declared_by trees k) ≡ map (tree_of trees) (member_types k) ++ map (tree_at trees) (option_to_list (handled k))
-children-are trees y e = search (std_rules, listed, map-map, append-nil, cases-listed, two-listed, one-listed)
+children-are trees y e = search (std_rules, listed, map-map, append-nil, cases-listed)
 
 pub labels-are : (trees : List Tree) (k : TypeDefKind) → is_alias k ≡ false → declared_labels (declared_by trees k) ≡ kind_labels k
 labels-are trees y e = search (std_rules, map-map)

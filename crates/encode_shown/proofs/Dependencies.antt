@@ -2,14 +2,14 @@
 use Rattle.std.proofs.Common.{rules as std_rules, ◌≡◌, refl, sym, subst, ap, ◌∙◌, ℕ, zero, suc, true, false, not, ◌&&◌, ◌==◌, List, [], ◌∷◌, ◌++◌, map, Option, Some, None, String, arith}
 use Rattle.std.proofs.lemmas.List.Elements.{Contains-append_left, Contains-append_right, Contains-append_cases}
 use Rattle.std.proofs.{lemmas.Cmp.nat_list_eq_equiv, Math.Logic.⊎_elim}
-use Rattle.std.proofs.lemmas.{Map.Views.list_any-from_Contains, Bool.and_from as both, Bool.both_ways, Bool.false_from_ne_true, Option.same_Some as same-some}
+use Rattle.std.proofs.lemmas.{Map.Views.list_any-from_Contains, Bool.and_from as both, Bool.both_ways, Bool.false_from_ne_true}
 use Rattle.std.specs.declared.alloc.Global.{Global}
 use Rattle.std.specs.{Prelude.option_and_then, Prelude.flat_map, List.AllZip, List.AllByRecursion, List.Contains, List.IsDistinct, List.list_any}
 use Rattle.std.specs.Option.{option_map_or}
 use Rattle.indexmap.specs.IndexMap.{values}
 use Rattle.wit_model.specs.{Text.Text, Text.text_of, Text.text_eq, Names.PackageIdentity, Names.is_label, Names.path_in, Types.declared_by, Types.trees_of}
 use Rattle.wit_model.specs.{Tree.type_, Tree.named, Meant.type_meaning_at, Rules.passes, Valid.IsValid}
-use Rattle.wit_model.specs.Lookup.{package_at, world_at, type_at, interface_at, interface_path, place_of, place_of_path, identity_of}
+use Rattle.wit_model.specs.Lookup.{package_at, world_at, type_at, interface_at, interface_path, place_of, identity_of}
 use Rattle.wit_model.specs.Uses.{once, alias_target, owner_interface, used_interface, interface_used_by, interfaces_used_by, direct_deps}
 use Rattle.wit_model.specs.declared.model.{Resolve.Resolve, Interface.Interface, InterfaceId.InterfaceId, TypeDefKind.TypeDefKind, TypeOwner.TypeOwner}
 use Rattle.wit_model.specs.declared.model.{Package.Package, World.World, WorldId.WorldId, TypeDef.TypeDef, TypeId.TypeId}
@@ -26,7 +26,6 @@ use Rattle.encode_shown.proofs.{Owning.identity, Owning.own-interface, Owning.ow
 use Rattle.base_lemmas.proofs.{Bools.left_of as first_true, Numbers.apart_back}
 use Rattle.base_lemmas.proofs.Elements.{all_at, any-contains, contains-map, contains-one, filter_kept as filter-contains, last_of as one-contained, map_from as contains-mapped}
 use Rattle.wit_model.specs.declared.model.TypeDefKind.TheVariants as kind
-use Rattle.wit_model.specs.declared.model.TypeOwner.TheVariants as owner
 use Rattle.wit_model.specs.declared.model.«Type».TheVariants as ty
 
 -- ---- numbers that differ
@@ -54,10 +53,7 @@ module _ (r : Resolve) (v : IsValid r) where
   used-path t k path used has_path = let def = given-by (used_interface r) (type_at r t) k used in of-kind def.0 def.1 def.0.kind refl def.2
     where
       of-owner : (a : TypeOwner) (name : Text) → owner_interface a ≡ Some k → Contains (used_by (type_ (named (place_of r a) name))) path
-      of-owner (owner.Interface j) name e =
-          let here : interface_path r j.0 ≡ Some path = ap (interface_path r) (same-some j.0 k e) ∙ has_path in
-          subst (λ o. Contains (used_by (type_ (named (place_of_path o) name))) path) (sym here) (contains-one path)
-      of-owner _ name e = absurd cc
+      of-owner x name e = search std_rules
 
       of-kind : (def : TypeDef) → type_at r t ≡ Some def → (c : TypeDefKind) → def.kind ≡ c
           → option_and_then (λ m. option_and_then (λ (target : TypeDef). owner_interface target.owner) (type_at r m)) (alias_target c) ≡ Some k

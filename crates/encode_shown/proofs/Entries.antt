@@ -34,12 +34,6 @@ given-list p x h = search std_rules
 interface-item : (k : ℕ) (i : WorldItem) → is_id k (item_interface i) ≡ true → item_type i ≡ None
 interface-item k x h = search std_rules
 
-import-keyed : (r : Resolve) (n : ℕ) (k : WorldKey) (i : WorldItem) → import_stands r n k i ≡ true → key_stands r k i ≡ true
-import-keyed r n x i h = search std_rules
-
-import-typed : (r : Resolve) (n : ℕ) (k : WorldKey) (i : WorldItem) → import_stands r n k i ≡ true → passes (is_own_type r n k) (item_type i) ≡ true
-import-typed r n x i h = search std_rules
-
 -- what may be exported may be imported
 export-import : (r : Resolve) (n : ℕ) (k : WorldKey) (i : WorldItem) → export_stands r k i ≡ true → import_stands r n k i ≡ true
 export-import r n x i h = search std_rules
@@ -70,8 +64,8 @@ module _ (r : Resolve) (v : IsValid r) (n : ℕ) (w : World) (there : world_at r
             (world-passes function_names r v.rules.function_names n w there) d;
         stays = of-function (function_stays r (as_world n)) (world-passes owners r v.rules.owners n w there) e.1 i;
         flat = of-function (λ f. list_all (is_shallow r) (function_types f)) (world-passes depths r v.rules.depths n w there) e.1 i;
-        keyed = import-keyed r n e.0 e.1 stands;
-        typed = import-typed r n e.0 e.1 stands;
+        keyed = search std_rules;
+        typed = search std_rules;
       }
 
   ranges : (entries_in_range r w.imports.entries && entries_in_range r w.exports.entries) ≡ true

@@ -1,9 +1,9 @@
 -- A function of an owner obeys the rules in the owner's place.
-use Rattle.std.proofs.Common.{rules as std_rules, ◌≡◌, refl, sym, ap, ◌∙◌, ℕ, Bool, true, false, not, ◌&&◌, ◌||◌, ◌==◌, cond, nat_eq, List, [], ◌∷◌, map, length, drop, slice_get, Option, Some, None, String, option_map, option_to_list}
+use Rattle.std.proofs.Common.{rules as std_rules, ◌≡◌, refl, sym, ap, ◌∙◌, ℕ, Bool, true, false, not, ◌&&◌, ◌||◌, ◌==◌, cond, List, [], ◌∷◌, map, slice_get, Option, Some, None, String, option_map, option_to_list}
 use Rattle.std.proofs.lemmas.{List.Folds.list_all-append, List.Folds.list_all-map, Bool.and_from as both, Bool.or_left as or-first, Bool.or_right as or-second}
 use Rattle.std.proofs.lemmas.{Simd.map-map, Option.same_Some as same-some}
 use Rattle.std.specs.declared.alloc.Global.{Global}
-use Rattle.std.specs.{Prelude.is_some, Prelude.is_none, Prelude.filter_map, Prelude.codes, List.Contains, List.list_all, List.list_any, List.starts_with}
+use Rattle.std.specs.{Prelude.is_some, Prelude.is_none, Prelude.filter_map, Prelude.codes, List.Contains, List.list_all, List.list_any}
 use Rattle.std.specs.Option.{option_map_or}
 use Rattle.wit_model.specs.{Text.Text, Text.text_of, Text.text_eq, Text.optional_text, Lookup.type_at, Lookup.place_of, Lookup.resource_of, Lookup.is_async}
 use Rattle.wit_model.specs.{Names.is_label, Names.constructor_name, Names.method_name, Names.static_name, Parts.same_owner, Parts.function_types, Valid.IsValid}
@@ -33,8 +33,7 @@ label-behind (p ∷ ps) (b ∷ bs) h = go (label-behind ps bs) (p == b) refl h
   where
     go : (option_map_or is_label (after_prefix ps bs) false ≡ true → is_label_behind ps bs ≡ true) → (v : Bool) → (p == b) ≡ v
         → option_map_or is_label (cond v (after_prefix ps bs) None) false ≡ true → is_label_behind (p ∷ ps) (b ∷ bs) ≡ true
-    go more true e h = ap (λ v. (v && starts_with nat_eq bs ps) && is_label (drop (length ps) bs)) e ∙ more h
-    go more false e h = absurd cc
+    go more x e h = search std_rules
 
 -- ---- signatures
 

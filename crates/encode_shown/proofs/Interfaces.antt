@@ -7,10 +7,10 @@ use Rattle.std.specs.{Prelude.IsPermutation, List.Contains, List.IsDistinct, Lis
 use Rattle.indexmap.specs.IndexMap.{keys}
 use Rattle.wit_model.specs.{Text.Text, Text.text_of, Text.text_eq, Parts.same_owner, Parts.function_types, Meaning.FunctionMeaning}
 use Rattle.wit_model.specs.{Names.is_label, Meant.type_meaning_at, Meant.function_meaning, Meant.signature_of, Meant.interface_meaning_at, Meant.no_interface}
-use Rattle.wit_model.specs.{Types.declaration_of, Types.declared_by, Types.trees_of, Lookup.interface_at, Lookup.place_of, Lookup.type_at}
+use Rattle.wit_model.specs.{Types.declaration_of, Lookup.interface_at, Lookup.place_of, Lookup.type_at}
 use Rattle.wit_model.specs.Rules.{passes, in_list, function_in_range, function_labels, function_stays, is_shallow, is_member, is_resource_itself, is_stability, package_number}
 use Rattle.wit_model.specs.Valid.{IsValid, as_interface, is_place, functions_of_interface, labels, owners, depths, function_names, numbers_in_range}
-use Rattle.wit_model.specs.declared.model.{Resolve.Resolve, Interface.Interface, Function.Function, TypeDefKind.TypeDefKind, TypeOwner.TypeOwner}
+use Rattle.wit_model.specs.declared.model.{Resolve.Resolve, Interface.Interface, Function.Function, TypeOwner.TypeOwner}
 use Rattle.wit_model.specs.declared.model.TypeDef.{TypeDef}
 use Rattle.wit_model.proofs.{AnyOrder.distinct-texts, AnyOrder.same-map, OnePath.interface-passes, TextLemmas.text_same as text-same}
 use Rattle.comp_meaning.specs.{Follow.View, Follow.ShownType, Reads.interface_meaning}
@@ -34,12 +34,9 @@ resource-listed [] t c h = absurd (let l = c.1 in omega (arith, l))
 resource-listed (x ∷ ts) t (Prim.Native.Nat.zero, l, e) h = search std_rules
 resource-listed (x ∷ ts) t (Prim.Native.Nat.suc k, l, e) h = search (std_rules, one-more-resource, resource-listed ts t (k, omega (arith, l), e) h)
 
-itself-declared : (r : Resolve) (k : TypeDefKind) → is_resource_itself k ≡ true → is_resource (declared_by (trees_of r) k) ≡ true
-itself-declared r x h = search std_rules
-
 -- a resource itself is declared as one
 pub resource-declared : (r : Resolve) (n : ℕ) (def : TypeDef) → type_at r n ≡ Some def → is_resource_itself def.kind ≡ true → is_resource (type_meaning_at r n).declaration ≡ true
-resource-declared r n def at h = ap (λ m. is_resource m.declaration) (meaning-there r n def at) ∙ itself-declared r def.kind h
+resource-declared r n def at h = ap (λ m. is_resource m.declaration) (meaning-there r n def at) ∙ (search std_rules)
 
 -- a named type of an owner obeys the rules in the owner's place
 pub named-type-obeys : (r : Resolve) → IsValid r → (o : TypeOwner) → same_owner o owner.None ≡ false → (n : ℕ) (name : Text) → IsNamedType r o n name

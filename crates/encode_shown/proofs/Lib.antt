@@ -2,7 +2,7 @@
 pub mod Apart
 -- What a rule that is kept says of an entry, and owners. Serves Dependencies, Functions, Items, Members and 7 more; crates above.
 pub mod Basics
--- What stands in a declared form: its labels, and the trees of the parts of the kind. Serves Parts, Used.
+-- What stands in a declared form: its labels, and the trees of the parts of the kind. Serves Parts.
 pub mod Children
 -- What validity says of an import and of an export of a world. Serves Items, Keys, WorldMeans, Worlds; crates above.
 pub mod Entries

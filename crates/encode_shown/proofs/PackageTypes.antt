@@ -12,8 +12,8 @@ use Rattle.wit_model.proofs.AnyOrder.{distinct-texts}
 use Rattle.wit_model.specs.declared.model.{Resolve.Resolve, Package.Package, PackageId.PackageId, InterfaceId.InterfaceId, World.World}
 use Rattle.comp_bytes.specs.{Raw.Declarations, Raw.Section, Spelling.IsComponent, Reading.◌>>=◌}
 use Rattle.comp_bytes.proofs.Readers.{bind_some}
-use Rattle.comp_meaning.specs.{Follow.Scope, Follow.each, Follow.is_filled, Follow.component_scope, Rules.distinct}
-use Rattle.comp_meaning.specs.Reads.{Member, Part, part_of, member, interface_part, exported_types, package_of_members, world_of_members, Reads, ReadsWorld}
+use Rattle.comp_meaning.specs.{Follow.each, Follow.is_filled, Rules.distinct}
+use Rattle.comp_meaning.specs.Reads.{Member, Part, member, interface_part, exported_types, package_of_members, world_of_members, Reads, ReadsWorld}
 use Rattle.comp_meaning.proofs.MeaningLaws.{one_meaning, one_world}
 use Rattle.encode_shown.specs.Views.{ShowsInterfaceMember, ShowsWorldMember}
 use Rattle.encode_shown.specs.PackageTypes.{IsInterfaceType, IsWorldType, IsListedWorldType, ArePackageTypes}
@@ -31,10 +31,6 @@ each-append f (x ∷ xs) ys us vs e h =
     let ws = bind_some (each f xs) _ us y.2 in
     ap (λ (o : Option _). o >>= λ z. each f (xs ++ ys) >>= λ zs. Some (z ∷ zs)) y.1 ∙ ap (λ (o : Option (List _)). o >>= λ zs. Some (y.0 ∷ zs)) (each-append f xs ys ws.0 vs ws.1 h)
     ∙ ap (λ zs. Some (zs ++ vs)) (same-some (y.0 ∷ ws.0) us ws.2)
-
--- a component type that is followed is no wrapper
-part-of-interface : (label : Text) (ds : Declarations) (scope : Scope) → component_scope ds ≡ Some scope → part_of label ds ≡ interface_part label ds
-part-of-interface label x scope e = search std_rules
 
 abbrev as_member : Text → Option (PackageIdentity × Part) → Option Member
 as_member label o = o >>= λ p. Some (record { label = label; package_ = p.0; part = p.1 })
@@ -65,16 +61,13 @@ module _ (r : Resolve) (v : IsValid r) (n : ℕ) (p : Package) (at : package_at 
   interface-read : (e : String Global × InterfaceId) (x : Text × Declarations) → Contains p.interfaces.entries e → (is : IsInterfaceType r p e x)
       → member x ≡ Some (record { label = text_of e.0; package_ = named; part = Part.interface is.exported is.imports })
   interface-read e x c is =
-      ap (as_member x.0) (part-of-interface x.0 x.1 is.scope is.follows) ∙ ap (λ t. as_member t (interface_part t x.1)) is.label
+      ap (as_member x.0) (search std_rules) ∙ ap (λ t. as_member t (interface_part t x.1)) is.label
       ∙ ap (as_member (text_of e.0)) (interface-part-read r v n p at e c x.1 is.scope is.imports is.exported is.follows is.shows)
 
   -- the wrapper of a world is read as a member
   pub wrapper-read : (m : ℕ) (label : Text) (x : Text × Declarations) (is : IsWorldType r p m label x) → text_of is.world.name ≡ label
       → member x ≡ Some (record { label = label; package_ = named; part = Part.world is.scope })
   wrapper-read m label x is name = ap member is.is ∙ ap (as_member label) (world-read r v n p at m is.world is.there label name is.inner is.scope is.follows is.shows)
-
-  filled-read : (xs : List (Text × Declarations)) (ms : List Member) → each member xs ≡ Some ms → is_filled xs ≡ true → is_filled ms ≡ true
-  filled-read z ms e h = search std_rules
 
   pub sections-mean : (xs : List (Text × Declarations)) (sections : List Section) → ArePackageTypes r p xs → is_filled xs ≡ true → exported_types sections ≡ Some xs
       → reads.package_meaning sections ≡ Some (meant.package_meaning r n p)
@@ -89,7 +82,7 @@ module _ (r : Resolve) (v : IsValid r) (n : ℕ) (p : Package) (at : package_at 
       ∙ ap (λ (o : Option (List Member)). o >>= λ ms. package_of_members ms) all
       ∙ members-mean r v n p at (interfaces.members ++ worlds.members)
       (record { interface_members = interfaces.members; world_members = worlds.members; interfaces = interfaces.shown; worlds = worlds.shown; are = refl })
-      (filled-read xs (interfaces.members ++ worlds.members) all some)
+      (search std_rules)
 
 -- ---- labels
 

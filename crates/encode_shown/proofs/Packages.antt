@@ -144,9 +144,6 @@ module _ (r : Resolve) (v : IsValid r) (n : ℕ) (p : Package) (at : package_at 
   abbrev foreign_map : List (Text × InterfaceMeaning) → TextMap InterfaceMeaning
   foreign_map es = from_entries es
 
-  foreign-same : foreign_map seen_entries ≡ foreign_map foreign_entries
-  foreign-same = same-entries seen_entries foreign_entries forth back one-meaning
-
   -- ---- the package
 
   pub package-means : package_with named members ≡ Some (meant.package_meaning r n p)
@@ -159,7 +156,7 @@ module _ (r : Resolve) (v : IsValid r) (n : ℕ) (p : Package) (at : package_at 
       }))
       (both _ _ one-package (both _ _ (all-from (stands_at_top named members) seen sight-at-top)
       (both _ _ (all-sights-agree r v numbered.0 seen numbered.1) (all-sights-obey r v numbered.0 seen numbered.1))))
-      ∙ (λ j. Some (record { identity = named; interfaces = interfaces-meant j; worlds = worlds-meant j; foreign = foreign-same j }))
+      ∙ (λ j. Some (record { identity = named; interfaces = interfaces-meant j; worlds = worlds-meant j; foreign = (same-entries seen_entries foreign_entries forth back one-meaning) j }))
 
 -- so do they as the members of a component that has one
 pub members-mean : (r : Resolve) → IsValid r → (n : ℕ) (p : Package) → package_at r n ≡ Some p → (members : List Member) → ShowsPackage r p members → is_filled members ≡ true

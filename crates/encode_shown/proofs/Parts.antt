@@ -5,7 +5,7 @@ use Rattle.std.proofs.lemmas.List.{Folds.list_all-append, Folds.list_all-map, El
 use Rattle.std.specs.declared.alloc.Global.{Global}
 use Rattle.std.specs.{Prelude.is_some, Prelude.filter_map, Prelude.flat_map, List.Contains, List.list_all, Option.option_map_or}
 use Rattle.wit_model.specs.{Text.Text, Text.text_of, Lookup.type_at, Lookup.place_of, Uses.alias_target}
-use Rattle.wit_model.specs.Tree.{Tree, Place, Primitive, Declaration, type_, primitive, named, levels}
+use Rattle.wit_model.specs.Tree.{Tree, Place, Primitive, type_, primitive, named, levels}
 use Rattle.wit_model.specs.Types.{declared_by, tree_of, tree_at, tree_of_declaration, type_tree, number_tree, trees_of, no_tree, number_of, declaration_of}
 use Rattle.wit_model.specs.Parts.{member_types, handled, kind_numbers, met_by, met_of, used_by_type, same_owner, has_owner, is_resource, is_resource_kind, is_resource_type}
 use Rattle.wit_model.specs.Rules.{is_named_kind, is_named_number, passes, in_list, is_use, kind_labels, are_member_labels}
@@ -29,16 +29,6 @@ pub place-alike : (a : Place) → same_place a a ≡ true
 place-alike a = (places_decide a a).1 refl
 
 -- ---- unnamed kinds
-
-form-part : (place : Place) (d : Declaration) → is_unnamed_form d ≡ true → list_all (is_part place) (child_trees d) ≡ true → is_part place (tree_of_declaration d) ≡ true
-form-part place x n h = search (std_rules, both, parts-from)
-
-unnamed-alias : (k : TypeDefKind) → is_named_kind k ≡ false → is_alias k ≡ false
-unnamed-alias x e = search std_rules
-
--- a resource, or an alias of one, has a name
-resource-named : (f : ℕ → Bool) (k : TypeDefKind) → (is_named_kind k || not (is_resource_kind f k)) ≡ true
-resource-named f x = search std_rules
 
 -- labels that keep the rule
 pub labels-from : (ts : List Text) → are_member_labels ts ≡ true → are_labels ts ≡ true
@@ -110,11 +100,11 @@ module _ (r : Resolve) (v : IsValid r) where
         at-def more def at None is =
             let plain = unnamed-kind n def at is in
             let all : list_all all_met (kind_numbers def.kind) ≡ true = unnamed_met r (valid-references r v) n def at o (ap is_some is) ∙ met in
-            let parts = children-pass (is_part (place_of r o)) (λ q. refl) def.kind (unnamed-alias def.kind plain) (λ m c.
+            let parts = children-pass (is_part (place_of r o)) (λ q. refl) def.kind (search std_rules) (λ m c.
             let below = smaller n def at m c in
             more m (omega (arith, l, below)) (omega (arith, inside, below)) (all-contained all_met (kind_numbers def.kind) m all c)) in
             let form = sym (ap (λ b. b || is_unnamed_form (declared_by (trees_of r) def.kind)) plain) ∙ form-unnamed (trees_of r) def.kind in
-            ap (is_part (place_of r o)) (unnamed-tree n def at is) ∙ form-part (place_of r o) (declared_by (trees_of r) def.kind) form parts
+            ap (is_part (place_of r o)) (unnamed-tree n def at is) ∙ (search (std_rules, both, parts-from))
 
     pub number-part : (n : ℕ) → n < length r.types.items → all_met n ≡ true → is_part (place_of r o) (number_tree r n) ≡ true
     number-part n inside met = let l : n < suc n = omega arith in part-at (suc n) n l inside met
@@ -134,21 +124,17 @@ module _ (r : Resolve) (v : IsValid r) where
   unfolding handles
   handled-level n def at m c =
       let passed = second_true (list_all (λ t. not (is_resource_type r t)) (member_types def.kind)) _ (type-passes handles r v.rules.handles n def at) in
-      let is_one : is_resource r m ≡ true = go (handled def.kind) c passed in
+      let is_one : is_resource r m ≡ true = (search std_rules) in
       let below = smaller n def at m (Contains-append_right (filter_map number_of (member_types def.kind)) _ m
       (Contains-append_left (option_to_list (handled def.kind)) (option_to_list (alias_target def.kind)) m c)) in
       let inside : n < length r.types.items = slice_get_within r.types.items n def at in
       let less : m < length r.types.items = omega (arith, below, inside) in
       let found = found-in r.types.items m (lt-ltb m (length r.types.items) less) in
       let resource_kind = sym (resource_step r (valid-references r v) m found.0 found.1) ∙ is_one in
-      let kind_of = or-cases (is_named_kind found.0.kind) _ (resource-named (is_resource r) found.0.kind) (λ h. h)
+      let kind_of = or-cases (is_named_kind found.0.kind) _ (search std_rules) (λ h. h)
       (λ h. absurd (not-false (is_resource_kind (is_resource r) found.0.kind) h resource_kind)) in
       let name = some-of found.0.name (named-kind m found.0 found.1 kind_of) in
       ap (λ t. nat_le (levels t) 100) (named-tree m found.0 name.0 found.1 name.1)
-    where
-      go : (o : Option ℕ) → Contains (option_to_list o) m → passes (is_resource r) o ≡ true → is_resource r m ≡ true
-      go None c h = absurd (let l = c.1 in omega (arith, l))
-      go (Some k) c h = subst (λ (j : ℕ). is_resource r j ≡ true) (Rattle.base_lemmas.proofs.Elements.last_of k m c) h
 
   shallow-children : (n : ℕ) (def : TypeDef) → type_at r n ≡ Some def → is_alias def.kind ≡ false → list_all (λ t. nat_le (levels t) 100) (child_trees (declared_by (trees_of r) def.kind)) ≡ true
   unfolding depths
@@ -189,17 +175,14 @@ module _ (r : Resolve) (v : IsValid r) where
       (λ e. absurd (both_ways _ owned e))
       (λ e. or-cases (list_all (has_owner r def.owner) (used_by_type r def)) (is_some def.name && is_use r def) e (λ h. h) (λ h. absurd (both_ways _ plain (second_true (is_some def.name) _ h))))
 
-  no-use : (def : TypeDef) (k : TypeDefKind) → def.kind ≡ k → is_alias k ≡ false → is_use r def ≡ false
-  no-use def x e f = search std_rules
-
   -- a name of an owner is declared as what it may be, in the owner's place
   pub number-declared : (n : ℕ) (def : TypeDef) → type_at r n ≡ Some def → same_owner def.owner owner.None ≡ false → is_declared (place_of r def.owner) (declaration_of r def) ≡ true
   unfolding labels
-  number-declared n def at owned = go def.kind refl
+  number-declared n def at owned = grind (arith, alias-declared, form, is_alias)
     where
       form : is_alias def.kind ≡ false → is_declared (place_of r def.owner) (declaration_of r def) ≡ true
       form e =
-          let used = stays n def at owned (no-use def def.kind refl e) in
+          let used = stays n def at owned (search std_rules) in
           let all : list_all (all_met def.owner) (kind_numbers def.kind) ≡ true = sym (all_flat (has_owner r def.owner) (met_by (met_of r)) (kind_numbers def.kind)) ∙ used in
           let inside : n < length r.types.items = slice_get_within r.types.items n def at in
           let names = second_true (passes (λ name. Rattle.wit_model.specs.Names.is_label (text_of name)) def.name) _ (type-passes labels r v.rules.labels n def at) in
@@ -208,7 +191,3 @@ module _ (r : Resolve) (v : IsValid r) where
           (children-pass (is_part (place_of r def.owner)) (λ q. refl) def.kind e (λ m c.
           number-part def.owner m (let below = smaller n def at m c in omega (arith, below, inside)) (all-contained (all_met def.owner) (kind_numbers def.kind) m all c)))
           (shallow-children n def at e)
-
-      go : (k : TypeDefKind) → def.kind ≡ k → is_declared (place_of r def.owner) (declaration_of r def) ≡ true
-      go (kind.Type_ t) e = alias-declared (place_of r def.owner) n def at t e
-      go _ e = form (ap is_alias e)

@@ -1,19 +1,19 @@
 -- The paths that a declaration uses are those of the interfaces that it uses.
 use Rattle.std.proofs.Common.{rules as std_rules, ◌≡◌, ◌⊎◌, inl, inr, refl, sym, subst, ap, ◌∙◌, ℕ, suc, zero, Bool, true, false, ◌&&◌, ◌||◌, ◌==◌, cond, List, [], ◌∷◌, Option, Some, None, String, arith}
-use Rattle.std.proofs.{lemmas.Bool.both_ways, lemmas.Cmp.nat_list_eq_equiv, Math.Logic.⊎_elim}
+use Rattle.std.proofs.{Math.Logic.⊎_elim}
 use Rattle.std.specs.declared.alloc.Global.{Global}
 use Rattle.std.specs.{Prelude.option_and_then, Prelude.option_to_list, Prelude.flat_map, List.Contains, List.list_all, Option.option_map_or}
 use Rattle.indexmap.specs.IndexMap.{values}
 use Rattle.wit_model.specs.{Text.Text, Text.text_of, Text.text_eq, Tree.Tree, Tree.type_, Tree.named}
-use Rattle.wit_model.specs.{Types.declared_by, Types.trees_of, Types.type_tree, Types.declaration_of, Meant.type_meaning_at, Meant.no_type, Meant.type_meaning}
+use Rattle.wit_model.specs.{Types.type_tree, Types.declaration_of, Meant.type_meaning_at, Meant.no_type, Meant.type_meaning}
 use Rattle.wit_model.specs.{Lookup.type_at, Lookup.interface_at, Lookup.interface_path, Lookup.place_of, Valid.IsValid}
 use Rattle.wit_model.specs.Uses.{has, alias_target, owner_interface, used_interface, interface_used_by, direct_deps}
-use Rattle.wit_model.specs.declared.model.{Resolve.Resolve, Interface.Interface, TypeDefKind.TypeDefKind, TypeOwner.TypeOwner, «Type».«Type» as ValueType}
+use Rattle.wit_model.specs.declared.model.{Resolve.Resolve, Interface.Interface, TypeOwner.TypeOwner, «Type».«Type» as ValueType}
 use Rattle.wit_model.specs.declared.model.{TypeDef.TypeDef, TypeId.TypeId}
 use Rattle.wit_model.proofs.{Shown.deps_pass, Elements.none-in, Elements.has-contains, Elements.contains-has}
 use Rattle.comp_meaning.specs.{Follow.View, Follow.ShownType, Rules.used_by, Rules.used_by_view, Rules.others_than}
 use Rattle.encode_shown.specs.Views.{shown_type, home_of, types_of}
-use Rattle.encode_shown.proofs.{Children.is_alias, Basics.bool-cases, Basics.option-cases, Parts.alias-target, Members.meaning-there}
+use Rattle.encode_shown.proofs.{Basics.bool-cases, Basics.option-cases, Parts.alias-target, Members.meaning-there}
 use Rattle.base_lemmas.proofs.{Bools.left_of as first_true, Numbers.equal}
 use Rattle.base_lemmas.proofs.Elements.{all-contained, all_pass as all-from, contains-later, contains-map, map_from as contains-mapped}
 use Rattle.wit_model.specs.declared.model.TypeDefKind.TheVariants as kind
@@ -25,9 +25,6 @@ pub record UsesPath (r : Resolve) (used : Option ℕ) (path : Text) : Type 0 whe
   pub number : ℕ
   pub is : used ≡ Some number
   pub has_path : interface_path r number ≡ Some path
-
-nothing-used : (trees : List Tree) (k : TypeDefKind) → is_alias k ≡ false → used_by (declared_by trees k) ≡ []
-nothing-used trees x e = search std_rules
 
 pub contains-flat-from : {A B : Type 0} (f : A → List B) (xs : List A) (y : B) → Contains (flat_map f xs) y → (x : A) × Contains xs x × Contains (f x) y
 contains-flat-from f [] y c = none-in y c
@@ -42,7 +39,7 @@ module _ (r : Resolve) (v : IsValid r) where
   named-used _ name path c = none-in path c
 
   path-used : (n : ℕ) (def : TypeDef) (path : Text) → type_at r n ≡ Some def → Contains (used_by (declaration_of r def)) path → UsesPath r (used_interface r def) path
-  path-used n def path at c = go def.kind refl c
+  path-used n def path at c = grind (arith, target, none-in)
     where
       target : (t : ValueType) → def.kind ≡ kind.Type_ t → Contains (used_by (type_ (type_tree r t))) path → UsesPath r (used_interface r def) path
       target (ty.Id id) e c =
@@ -53,10 +50,6 @@ module _ (r : Resolve) (v : IsValid r) where
           ∙ ap (option_and_then (λ (d : TypeDef). owner_interface d.owner)) to.there in
           record { number = uses.number; is = interface ∙ uses.is; has_path = uses.has_path }
       target _ e c = none-in path c
-
-      go : (k : TypeDefKind) → def.kind ≡ k → Contains (used_by (declared_by (trees_of r) k)) path → UsesPath r (used_interface r def) path
-      go (kind.Type_ t) e c = target t e c
-      go k e c = none-in path (subst (λ (ps : List Text). Contains ps path) (nothing-used (trees_of r) k refl) c)
 
   -- the same by the number of the type
   pub number-used : (n : ℕ) (path : Text) → Contains (used_by (type_meaning_at r n).declaration) path → UsesPath r (interface_used_by r n) path
@@ -103,8 +96,5 @@ others-used (Some own) (q ∷ ps) p c = go (others-used (Some own) ps p) (text_e
     go : (Contains (others_than (Some own) ps) p → Contains ps p × ((Some own ≡ Some p) → ⊥)) → (b : Bool) → text_eq own q ≡ b
         → Contains (cond b (others_than (Some own) ps) (q ∷ others_than (Some own) ps)) p → Contains (q ∷ ps) p × ((Some own ≡ Some p) → ⊥)
     go more true e c = let rest = more c in (contains-later q ps p rest.0, rest.1)
-    go more false e (zero, l, h) = (
-      (0, omega arith, h),
-      λ s. both_ways (text_eq own q) e (ap (λ o. text_eq (Rattle.std.proofs.Common.unwrap_or o own) q) s ∙ ap (text_eq p) h ∙ nat_list_eq_equiv.refl p),
-    )
+    go more false e (zero, l, h) = search std_rules
     go more false e (suc k, l, h) = let rest = more (k, omega (arith, l), h) in (contains-later q ps p rest.0, rest.1)

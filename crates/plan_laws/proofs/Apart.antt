@@ -1,13 +1,12 @@
 -- Each place without a path is that of one view, or of one world.
-use Rattle.std.proofs.Common.{rules as std_rules, ◌≡◌, refl, sym, ap, subst, ◌∙◌, ℕ, zero, suc, ◌+◌, ◌≤◌, ◌⊎◌, inl, inr, arith, Bool, true, false, ◌==◌, cond, filter, List, [], ◌∷◌, ◌++◌, length, length-append, map, Some, None, is_none, slice_get}
-use Rattle.std.proofs.lemmas.{Bool.eq-eqb, Bool.eqb-true, Option.slice_get_within, Option.same_Some as same-some}
+use Rattle.std.proofs.Common.{rules as std_rules, ◌≡◌, refl, sym, ap, subst, ◌∙◌, ℕ, zero, suc, ◌+◌, ◌≤◌, ◌⊎◌, inl, inr, arith, Bool, true, false, cond, filter, List, [], ◌∷◌, ◌++◌, length, length-append, map, Some, None, is_none, slice_get}
+use Rattle.std.proofs.lemmas.{Bool.cases_eq, Option.slice_get_within, Option.same_Some as same-some}
 use Rattle.std.proofs.lemmas.List.Elements.{Contains-append_cases, Contains-append_left, Contains-append_right, filter-append}
 use Rattle.std.specs.List.{Contains, flat_map}
 use Rattle.wit_model.specs.{Text.Text, Uses.has}
 use Rattle.wit_model.proofs.{Elements.contains-get, Elements.contains-has, Elements.has-contains, Elements.none-in, UsesLemmas.filter_has}
 use Rattle.plan_meaning.specs.{FollowedNumbers.IsPartIn, FollowedNumbers.IsViewIn, NumberedMembers.Homes, NumberedMembers.NumberedMember, NumberedRules.Fact, NumberedViews.NumberedSight, NumberedViews.NumberedView, NumberedViews.Tables, NumberedViews.path_at}
 use Rattle.plan_meaning.specs.NumberedWorlds.{HasPath, NumberedInstance, are_once}
-use Rattle.plan_meaning.proofs.Lists.{no_true}
 use Rattle.read_exports.specs.Members.{numbered_member, numbered_members, numbered_part}
 use Rattle.read_exports.specs.declared.members.{Member.Member, Part.Part}
 use Rattle.read_rules.specs.declared.scopes.Scope.{Scope}
@@ -18,7 +17,7 @@ use Rattle.plan_type_laws.specs.ShownMarks.{has_no_path, own_places, places_of_p
 use Rattle.plan_laws.specs.{Apart.WholeStandsApart, Owners.homes_in, ShownRules.ViewObeys, Whole.IsPackageInput, WorldItems.WorldsAreApart}
 use Rattle.plan_laws.proofs.Sources.{view_among, among_mapped, mapped_cases, part_at, IsWorldIn, world_in}
 use Rattle.plan_laws.proofs.PlaceNumbers.{IsOnce, from_joined}
-use Rattle.plan_laws.proofs.{Planned.home_alone, WholeReasons.as_many, WholeReasons.one_of, WorldKeys.homes_of_worlds, WorldKeys.world_member, OwnPlaces.different, OwnPlaces.no_longer, OwnPlaces.filtered_there, OwnPlaces.unfiltered_once, WholeTypes.packages_are_ruled}
+use Rattle.plan_laws.proofs.{Planned.home_alone, WholeReasons.as_many, WholeReasons.one_of, WorldKeys.homes_of_worlds, WorldKeys.world_member, OwnPlaces.different, OwnPlaces.no_longer, OwnPlaces.removed, OwnPlaces.removed_many, OwnPlaces.removed_other, OwnPlaces.filtered_there, OwnPlaces.unfiltered_once, WholeTypes.packages_are_ruled}
 use Rattle.base_lemmas.proofs.Elements.{all_at, contains-later, contains-map, get-contains, last_of as one-contained, map_from as from_map}
 use Rattle.base_lemmas.proofs.Lists.{append_of_map, front_at as at_front, map_of_map, mapped_get, identity}
 use Rattle.plan_package.proofs.PlacedLaws.{part_placed as places_of_views}
@@ -28,50 +27,25 @@ use Rattle.plan_types.specs.Orders as orders
 
 -- ---- as many numbers as others, of which none stands twice
 
-abbrev removed : List ℕ → ℕ → List ℕ
-removed [] j = []
-removed (x ∷ xs) zero = xs
-removed (x ∷ xs) (suc j) = x ∷ removed xs j
-
-removed_many : (xs : List ℕ) (j q : ℕ) → slice_get xs j ≡ Some q → length xs ≡ suc (length (removed xs j))
-removed_many [] j q e = let wrong : None ≡ Some q = e in absurd cc
-removed_many (x ∷ xs) zero q e = refl
-removed_many (x ∷ xs) (suc j) q e = ap suc (removed_many xs j q e)
-
-removed_other : (xs : List ℕ) (j k q : ℕ) → slice_get xs k ≡ Some q → (k ≡ j → ⊥) → Contains (removed xs j) q
-removed_other [] j k q e other = let wrong : None ≡ Some q = e in absurd cc
-removed_other (x ∷ xs) zero zero q e other = absurd (other refl)
-removed_other (x ∷ xs) zero (suc k) q e other = get-contains xs k q e
-removed_other (x ∷ xs) (suc j) zero q e other = (0, omega arith, same-some x q e)
-removed_other (x ∷ xs) (suc j) (suc k) q e other = contains-later x (removed xs j) q (removed_other xs j k q e (λ same. other (ap suc same)))
-
 as_many_once : (xs ys : List ℕ) → are_once xs ≡ true → ((x : ℕ) → has xs x ≡ true → Contains ys x) → length ys ≤ length xs → IsOnce ys
-as_many_once xs ys once there many i j q at_i at_j = by (i == j) refl
+as_many_once xs ys once there many i j q at_i at_j = elim (cases_eq i j) [
+  | inl same ↦ same
+  | inr apart ↦ absurd (omega (
+    arith,
+    no_longer xs (removed ys j) (different (λ x. x) xs (subst (λ zs. are_once zs ≡ true) (sym (identity xs)) once))
+        (λ x c. kept apart x (contains-get ys x (there x (contains-has xs x c)))),
+    removed_many ys j q at_j,
+    many,
+  ))
+]
   where
-    kept : (i == j) ≡ false → (x : ℕ) → Contains ys x → Contains (removed ys j) x
-    kept apart x c = let k = contains-get ys x c in which k.0 k.1 (k.0 == j) refl
-      where
-        differ : i ≡ j → ⊥
-        differ e = no_true (sym apart ∙ eq-eqb i j e)
-
-        which : (k : ℕ) → slice_get ys k ≡ Some x → (b : Bool) → (k == j) ≡ b → Contains (removed ys j) x
-        which k at true e =
-            let same : q ≡ x = same-some q x (sym at_j ∙ (ap (slice_get ys) (sym (eqb-true k j e)) ∙ at)) in
-            subst (Contains (removed ys j)) same (removed_other ys j i q at_i differ)
-        which k at false e = removed_other ys j k x at (λ same. no_true (sym e ∙ eq-eqb k j same))
-
-    by : (b : Bool) → (i == j) ≡ b → i ≡ j
-    by true e = eqb-true i j e
-    by false e =
-        let apart = different (λ x. x) xs (subst (λ zs. are_once zs ≡ true) (sym (identity xs)) once) in
-        let low = no_longer xs (removed ys j) apart (λ x c. kept e x (there x (contains-has xs x c))) in
-        let less = removed_many ys j q at_j in
-        absurd (omega (arith, low, less, many))
+    kept : (i ≡ j → ⊥) → (x : ℕ) → (k : ℕ) × (slice_get ys k ≡ Some x) → Contains (removed ys j) x
+    kept apart x k = elim (cases_eq k.0 j) [
+      | inl same ↦ subst (Contains (removed ys j)) (same-some q x (sym at_j ∙ (ap (slice_get ys) (sym same) ∙ k.1))) (removed_other ys j i q at_i apart)
+      | inr other ↦ removed_other ys j k.0 x k.1 other
+    ]
 
 -- ---- parts of a list
-
-first_once : (xs ys : List ℕ) → IsOnce (xs ++ ys) → IsOnce xs
-first_once xs ys once i j q at_i at_j = once i j q (at_front xs ys i q at_i) (at_front xs ys j q at_j)
 
 later_get : (xs ys : List ℕ) (n q : ℕ) → slice_get ys n ≡ Some q → (k : ℕ) × (slice_get (xs ++ ys) k ≡ Some q) × (k ≡ length xs + n)
 later_get [] ys n q e = (n, e, omega arith)
@@ -86,10 +60,7 @@ both_apart xs ys once q c d =
     let i = contains-get xs q c in
     let j = contains-get ys q d in
     let k = later_get xs ys j.0 q j.1 in
-    let same = once i.0 k.0 q (at_front xs ys i.0 q i.1) k.1 in
-    let low = slice_get_within xs i.0 q i.1 in
-    let high = k.2 in
-    omega (arith, same, low, high)
+    omega (arith, once i.0 k.0 q (at_front xs ys i.0 q i.1) k.1, slice_get_within xs i.0 q i.1, k.2)
 
 module _ (test : ℕ → Bool) where
   none_pass : (ps : List ℕ) → ((p : ℕ) → Contains ps p → test p ≡ false) → filter test ps ≡ []
@@ -128,18 +99,18 @@ module _ (t : Tables) (h : Homes) (known : ℕ → Fact) (n : ℕ) (ms : List Me
           → length (own (map (λ (s : NumberedSight). s.place) (map whole_view (numbered_scope w).instances))) + length (own (w.home ∷ [])) ≡ length
           (own (w.home ∷ (places_of_seen (numbered_scope w).imports ++ places_of_seen (numbered_scope w).exports)))
       by shown e many =
-          let viewed_many : length (own (map (λ (s : NumberedSight). s.place) (map whole_view (numbered_scope w).instances))) ≡ length (own shown) =
-          ap (λ ps. length (own ps)) (map_of_map (λ (s : NumberedSight). s.place) whole_view (numbered_scope w).instances) ∙ many in
-          let one : length (own (w.home ∷ [])) ≡ 1 = ap (λ b. length (cond b (w.home ∷ []) [])) home in
-          let all : length (own (w.home ∷ (places_of_seen (numbered_scope w).imports ++ places_of_seen (numbered_scope w).exports))) ≡ suc (length (own shown)) =
-          ap (λ ps. length (own (w.home ∷ ps))) e ∙ ap (λ b. length (cond b (w.home ∷ own shown) (own shown))) home in
-          omega (arith, viewed_many, one, all)
+          omega (
+            arith,
+            (ap (λ ps. length (own ps)) (map_of_map (λ (s : NumberedSight). s.place) whole_view (numbered_scope w).instances) ∙ many),
+            (ap (λ b. length (cond b (w.home ∷ []) [])) home),
+            (ap (λ ps. length (own (w.home ∷ ps))) e ∙ ap (λ b. length (cond b (w.home ∷ own shown) (own shown))) home),
+          )
   part_many m c (parts.Interface q v imports) is =
-      let none : own (map (λ (s : NumberedSight). s.place) (views_of_part (numbered_part (parts.Interface q v imports)))) ≡ [] =
-      none_pass (has_no_path t) (map (λ (s : NumberedSight). s.place) (views_of_part (numbered_part (parts.Interface q v imports))))
-      (λ p there. outside p (subst (λ ps. Contains ps p) (places_of_views (numbered_part (parts.Interface q v imports))) there)) in
-      let many = ap length none in
-      omega (arith, many)
+      omega (
+        arith,
+        ap length (none_pass (has_no_path t) (map (λ (s : NumberedSight). s.place) (views_of_part (numbered_part (parts.Interface q v imports))))
+            (λ p there. outside p (subst (λ ps. Contains ps p) (places_of_views (numbered_part (parts.Interface q v imports))) there))),
+      )
     where
       good : IsPartIn t (numbered_part (parts.Interface q v imports))
       good = subst (λ a. IsPartIn t (numbered_part a)) is (part_at t ms given.input.numbers m c)
@@ -148,29 +119,26 @@ module _ (t : Tables) (h : Homes) (known : ℕ → Fact) (n : ℕ) (ms : List Me
       with_path p path = ap is_none path.1
 
       outside : (p : ℕ) → Contains (orders.places_of_part (numbered_part (parts.Interface q v imports))) p → has_no_path t p ≡ false
-      outside p there = by (Contains-append_cases (map (λ (i : ℕ × NumberedView). i.0) (map numbered_import imports.now)) (q ∷ []) p there)
-        where
-          by : Contains (map (λ (i : ℕ × NumberedView). i.0) (map numbered_import imports.now)) p ⊎ Contains (q ∷ []) p → has_no_path t p ≡ false
-          by (inl among) =
-              let from = from_map (λ (i : ℕ × NumberedView). i.0) (map numbered_import imports.now) p among in
-              ap (has_no_path t) (sym from.2) ∙ with_path from.0.0 (all_at (λ (i : ℕ × NumberedView). HasPath t i.0 × IsViewIn t i.0 i.1) (map numbered_import imports.now) good.1 from.0 from.1).0
-          by (inr last) = ap (has_no_path t) (sym (one-contained q p last)) ∙ with_path q good.0.0
+      outside p there = elim (Contains-append_cases (map (λ (i : ℕ × NumberedView). i.0) (map numbered_import imports.now)) (q ∷ []) p there) [
+        | inl among ↦ (let from = from_map (λ (i : ℕ × NumberedView). i.0) (map numbered_import imports.now) p among in
+            ap (has_no_path t) (sym from.2) ∙ with_path from.0.0 (all_at (λ (i : ℕ × NumberedView). HasPath t i.0 × IsViewIn t i.0 i.1) (map numbered_import imports.now) good.1 from.0 from.1).0)
+        | inr last ↦ ap (has_no_path t) (sym (one-contained q p last)) ∙ with_path q good.0.0
+      ]
 
   split_many : (xs ys : List ℕ) → length (own (xs ++ ys)) ≡ length (own xs) + length (own ys)
   split_many xs ys = ap length (filter-append (has_no_path t) xs ys) ∙ length-append (own xs) (own ys)
 
   all_many : (xs : List Member) → ((m : Member) → Contains xs m → Contains ms m) → length (own (viewed xs)) + length (own (homes xs)) ≡ length (own_places t (numbered_members xs))
   all_many [] among = omega arith
-  all_many (m ∷ xs) among =
-      let part = part_many m (among m (0, omega arith, refl)) m.part refl in
-      let rest = all_many xs (λ y c. among y (contains-later m xs y c)) in
-      let a : length (own (viewed (m ∷ xs))) ≡ length (own (map (λ (s : NumberedSight). s.place) (views_of_part (numbered_part m.part)))) + length (own (viewed xs)) =
-      ap (λ ps. length (own ps)) (append_of_map (λ (s : NumberedSight). s.place) (views_of_part (numbered_part m.part)) (views_of_members (numbered_members xs))) ∙ split_many
-      (map (λ (s : NumberedSight). s.place) (views_of_part (numbered_part m.part))) (viewed xs) in
-      let b : length (own (homes (m ∷ xs))) ≡ length (own (home_of_part (numbered_part m.part))) + length (own (homes xs)) = split_many (home_of_part (numbered_part m.part)) (homes xs) in
-      let c : length (own_places t (numbered_members (m ∷ xs))) ≡ length (own (places_of_part (numbered_part m.part))) + length (own_places t (numbered_members xs)) =
-      split_many (places_of_part (numbered_part m.part)) (flat_map (λ (y : NumberedMember). places_of_part y.part) (numbered_members xs)) in
-      omega (arith, part, rest, a, b, c)
+  all_many (m ∷ xs) among = omega (
+    arith,
+    part_many m (among m (0, omega arith, refl)) m.part refl,
+    all_many xs (λ y c. among y (contains-later m xs y c)),
+    (ap (λ ps. length (own ps)) (append_of_map _ _ _)
+        ∙ split_many (map (λ (s : NumberedSight). s.place) (views_of_part (numbered_part m.part))) (viewed xs)),
+    split_many (home_of_part (numbered_part m.part)) (homes xs),
+    split_many (places_of_part (numbered_part m.part)) (flat_map (λ (y : NumberedMember). places_of_part y.part) (numbered_members xs)),
+  )
 
   -- each place of its own is that of a view, or of a world
   place_there : (x : ℕ) → Contains (flat_map (λ (m : NumberedMember). places_of_part m.part) (numbered_members ms)) x → Contains (viewed ms) x ⊎ Contains (homes ms) x
@@ -184,13 +152,11 @@ module _ (t : Tables) (h : Homes) (known : ℕ → Fact) (n : ℕ) (ms : List Me
           let followed = world_is m m_in w is in
           let there = one_of t (numbered_scope w) followed.scope followed.good followed.shows followed.stands.seen x (i, omega (arith, low), same) in
           let one = from_map (λ (y : NumberedInstance). y.place) (numbered_scope w).instances x there in
-          let sight = subst (λ a. Contains (views_of_part (numbered_part a)) (whole_view one.0)) (sym is) (contains-map whole_view (numbered_scope w).instances one.0 one.1) in
-          inl (subst (Contains (viewed ms)) one.2 (contains-map (λ (s : NumberedSight). s.place) (views_of_members (numbered_members ms)) (whole_view one.0)
-          (view_among ms m m_in (whole_view one.0) sight)))
+          let sight = subst (λ a. Contains (views_of_part (numbered_part a)) (whole_view one.0)) (sym is) (contains-map _ _ _ one.1) in
+          inl (subst (Contains (viewed ms)) one.2 (contains-map _ _ _ (view_among ms m m_in (whole_view one.0) sight)))
 
   all_once : IsOnce (own (viewed ms) ++ own (homes ms))
-  all_once =
-      as_many_once (own_places t (numbered_members ms)) (own (viewed ms) ++ own (homes ms)) given.placed.apart there
+  all_once = as_many_once (own_places t (numbered_members ms)) (own (viewed ms) ++ own (homes ms)) given.placed.apart there
       (let many = all_many ms (λ m c. c) in let split = length-append (own (viewed ms)) (own (homes ms)) in omega (arith, many, split))
     where
       there : (x : ℕ) → has (own_places t (numbered_members ms)) x ≡ true → Contains (own (viewed ms) ++ own (homes ms)) x
@@ -206,32 +172,28 @@ module _ (t : Tables) (h : Homes) (known : ℕ → Fact) (n : ℕ) (ms : List Me
 
   viewed_once : (i j : ℕ) (s u : NumberedSight) → slice_get (views_of_members (numbered_members ms)) i ≡ Some s → slice_get (views_of_members (numbered_members ms)) j ≡ Some u
       → path_at t s.place ≡ None → s.place ≡ u.place → i ≡ j
-  viewed_once i j s u at_i at_j none same =
-      unfiltered_once (has_no_path t) (viewed ms) (first_once (own (viewed ms)) (own (homes ms)) all_once) i j s.place
+  viewed_once i j s u at_i at_j none same = unfiltered_once (has_no_path t) (viewed ms)
+      (λ i j q at_i at_j. all_once i j q (at_front (own (viewed ms)) (own (homes ms)) i q at_i) (at_front (own (viewed ms)) (own (homes ms)) j q at_j)) i j s.place
       (mapped_get (λ (x : NumberedSight). x.place) (views_of_members (numbered_members ms)) i s at_i)
       (mapped_get (λ (x : NumberedSight). x.place) (views_of_members (numbered_members ms)) j u at_j ∙ ap Some (sym same)) (ap is_none none)
 
   views_apart : (s : NumberedSight) → Contains (views_of_members (numbered_members ms)) s → Contains (homes_in ms) s.place → ⊥
-  views_apart s c home = by (from_joined [] (homes ms) s.place home)
+  views_apart s c home = elim (from_joined [] (homes ms) s.place home) [
+    | inl no_home ↦ none-in s.place no_home
+    | inr among ↦ both_apart (own (viewed ms)) (own (homes ms)) all_once s.place (filtered_there (has_no_path t) (viewed ms) s.place (contains-map _ _ s c) none)
+        (filtered_there (has_no_path t) (homes ms) s.place among none)
+  ]
     where
       none : has_no_path t s.place ≡ true
       none = ap is_none (home_alone t h ms members given.input s.place home)
 
-      by : Contains [] s.place ⊎ Contains (homes ms) s.place → ⊥
-      by (inl no_home) = none-in s.place no_home
-      by (inr among) =
-          both_apart (own (viewed ms)) (own (homes ms)) all_once s.place (filtered_there (has_no_path t) (viewed ms) s.place
-          (contains-map (λ (x : NumberedSight). x.place) (views_of_members (numbered_members ms)) s c) none)
-          (filtered_there (has_no_path t) (homes ms) s.place among none)
-
   worlds_apart : WorldsAreApart ms
   worlds_apart i j w v at_i at_j same =
       let home = λ (x : Text × Scope). x.1.home in
-      let m = world_member ms w (get-contains (worlds_in ms) i w at_i) in
-      unfiltered_once (has_no_path t) (homes ms) (second_once (own (viewed ms)) (own (homes ms)) all_once) i j w.1.home
-      (ap (λ hs. slice_get hs i) (homes_of_worlds ms) ∙ mapped_get home (worlds_in ms) i w at_i)
-      (ap (λ hs. slice_get hs j) (homes_of_worlds ms) ∙ (mapped_get home (worlds_in ms) j v at_j ∙ ap Some (sym same)))
-      (ap is_none (world_is m.0 m.1 w.1 m.2).good.home)
+      let m = world_member ms w (get-contains _ i w at_i) in
+      unfiltered_once (has_no_path t) (homes ms) (second_once (own (viewed ms)) (own (homes ms)) all_once)
+      i j w.1.home (ap (λ hs. slice_get hs i) (homes_of_worlds ms) ∙ mapped_get home (worlds_in ms) i w at_i)
+      (ap (λ hs. slice_get hs j) (homes_of_worlds ms) ∙ (mapped_get home (worlds_in ms) j v at_j ∙ ap Some (sym same))) (ap is_none (world_is m.0 m.1 w.1 m.2).good.home)
 
 pub whole_stands_apart : WholeStandsApart
 whole_stands_apart t h known n ms members given rise = (

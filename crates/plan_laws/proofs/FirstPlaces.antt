@@ -8,7 +8,6 @@ use Rattle.wit_model.specs.{Text.Text, Uses.has}
 use Rattle.comp_meaning.specs.Rules.{distinct}
 use Rattle.plan_meaning.specs.{FollowedNumbers.IsShownIn, NumberedMembers.Homes, NumberedMembers.sights_of_members, NumberedWorlds.are_once, Shapes.named_shape}
 use Rattle.plan_meaning.specs.NumberedViews.{NumberedSight, NumberedType, Tables, agree_in_numbers, first_at}
-use Rattle.plan_parts.specs.Interfaces.{slot_part}
 use Rattle.read_exports.specs.Members.{numbered_members}
 use Rattle.read_exports.specs.declared.members.Member.{Member}
 use Rattle.plan_types.specs.{Showings.NumberedShowing, Showings.showings_of_members, Orders.joined, Orders.joined_all, PlannedTypes.number_in}
@@ -39,19 +38,14 @@ module _ (t : Tables) (h : Homes) (ms : List Member) (members : List reads.Membe
       by : IsFrom t h ms members input apart y → y.declared ≡ x.declared
       by (of_view other in_it good z in_other shows) =
           let stands = all_at (IsShownIn t other.place) other.view.types good.types z in_other in
-          let own = slot_number t z.slot stands.number stands.slot in
-          let part_is : slot_part z.slot ≡ y.part = ap (λ (v : NumberedShowing). v.part) shows in
-          let one : stands.number ≡ n = omega (arith, own, part_is, part) in
-          let same = same_name other.place z.name stands.number stands.name.named one in
-          let tells = views_tell t h ms members input apart agrees other s in_it in_views same.0 in
-          let from = from_map told s.view.types (told z) (subst (λ (es : List (Text × Option ℕ)). Contains es (told z)) tells (contains-map told other.view.types z in_other)) in
-          let is = one_under (λ (v : NumberedType). v.name) s.view.types names from.0 x from.1 in_types (ap (λ (e : Text × Option ℕ). e.0) from.2 ∙ same.1) in
-          sym (ap (λ (v : NumberedShowing). v.declared) shows) ∙ (sym (ap (λ (e : Text × Option ℕ). e.1) from.2) ∙ ap (λ (v : NumberedType). v.declared) is)
+          let same = same_name other.place z.name stands.number stands.name.named (omega (arith, slot_number t z.slot stands.number stands.slot, ap (λ (v : NumberedShowing). v.part) shows, part)) in
+          let from = from_map told s.view.types (told z) (subst (λ (es : List (Text × Option ℕ)). Contains es (told z)) (views_tell t h ms members input apart agrees other s in_it in_views same.0)
+          (contains-map told other.view.types z in_other)) in
+          sym (ap (λ (v : NumberedShowing). v.declared) shows) ∙ (sym (ap (λ (e : Text × Option ℕ). e.1) from.2)
+          ∙ ap (λ (v : NumberedType). v.declared) (one_under (λ (v : NumberedType). v.name) s.view.types names from.0 x from.1 in_types (ap (λ (e : Text × Option ℕ). e.0) from.2 ∙ same.1)))
       by (of_import m c w is_world seen among e) =
           let named = import_named t input.tables h ms members input m c w is_world seen among y.part y.declared e in
-          let one : named.0 ≡ n = (let a = named.1 in omega (arith, a, part)) in
-          let same = same_name w.home seen.key.now named.0 named.2.named one in
-          absurd (view_apart t h ms members input apart s in_views m c w is_world (sym same.0))
+          absurd (view_apart t h ms members input apart s in_views m c w is_world (sym (same_name w.home seen.key.now named.0 named.2.named (let a = named.1 in omega (arith, a, part))).0))
 
 -- ---- lists that are split
 
@@ -77,8 +71,7 @@ first_split q (x ∷ xs) s e = by (q == x.place) refl e (first_split q xs s)
         record {
           split = record { front = []; back = xs; is = ap (λ y. y ∷ xs) same };
           place = sym (eqb-true q s.place (ap (λ (y : NumberedSight). q == y.place) (sym same) ∙ here));
-          none =
-              λ u c p. none-in u c;
+          none = λ u c p. none-in u c;
         }
     by false other e later =
         let found = later e in
@@ -128,9 +121,9 @@ module _ (front back : List ℕ) (q : ℕ) (new : Contains front q → ⊥) wher
       let once = all_once [] (front ++ q ∷ back) none_twice in
       let is = all_is in
       let there = contains-get before r (all_joined [] front r (inr c)) in
-      let r_here : slice_get all there.0 ≡ Some r = ap (λ xs. slice_get xs there.0) is.1 ∙ at_front before (q ∷ is.0) there.0 r there.1 in
-      let q_here : slice_get all (length before) ≡ Some q = ap (λ xs. slice_get xs (length before)) is.1 ∙ middle_get before q is.0 in
-      let one : u ≡ there.0 = once u there.0 r (number_there all r u r_at) r_here in
-      let two : w ≡ length before = once w (length before) q (number_there all q w q_at) q_here in
-      let low = slice_get_within before there.0 r there.1 in
-      omega (arith, one, two, low)
+      omega (
+        arith,
+        once u there.0 r (number_there all r u r_at) (ap (λ xs. slice_get xs there.0) is.1 ∙ at_front before (q ∷ is.0) there.0 r there.1),
+        once w (length before) q (number_there all q w q_at) (ap (λ xs. slice_get xs (length before)) is.1 ∙ middle_get before q is.0),
+        slice_get_within before there.0 r there.1,
+      )

@@ -31,14 +31,12 @@ module _ (t : Tables) (h : Homes) (ms : List Member) (members : List reads.Membe
   views_told s u c d same = by (path_at t s.place) refl
     where
       by : (o : Option Text) → path_at t s.place ≡ o → map told s.view.types ≡ map told u.view.types
-      by (Some path) e =
-          one_told (sights_of_members t (numbered_members ms)) agreed s u (sight_there t (numbered_members ms) s c (path, e))
+      by (Some path) e = one_told (sights_of_members t (numbered_members ms)) agreed s u (sight_there t (numbered_members ms) s c (path, e))
           (sight_there t (numbered_members ms) u d (path, ap (path_at t) (sym same) ∙ e)) same
       by None e =
           let here = contains-get views s c in
           let there = contains-get views u d in
-          let one : here.0 ≡ there.0 = ordered.inline here.0 there.0 s u here.1 there.1 e same in
-          ap (λ (x : NumberedSight). map told x.view.types) (same-some s u (sym here.1 ∙ (ap (slice_get views) one ∙ there.1)))
+          ap (λ (x : NumberedSight). map told x.view.types) (same-some s u (sym here.1 ∙ (ap (slice_get views) (ordered.inline here.0 there.0 s u here.1 there.1 e same) ∙ there.1)))
 
   -- a type of the view under the number
   number_is : (s : NumberedSight) → Contains views s → (x : NumberedType) → Contains s.view.types x → IsShownIn t s.place x
@@ -53,21 +51,19 @@ module _ (t : Tables) (h : Homes) (ms : List Member) (members : List reads.Membe
         → slot_part z.slot ≡ 14 + is.number → told z ≡ told x
     told_by_view x among is s c z there part =
         let other = number_is s c z there in
-        let one : other.number ≡ is.number = (let a = slot_number t z.slot other.number other.slot in omega (arith, a, part)) in
-        let here = name_same t.shapes s.place first.place z.name x.name other.number is.number other.name.named is.name.named one in
-        let same = views_told s first c first_among here.0 in
-        let found = from_map told first.view.types (told z) (subst (λ zs. Contains zs (told z)) same (contains-map told s.view.types z there)) in
-        let text = ap (λ (y : Text × (Option ℕ × Option Text)). y.0) found.2 ∙ here.1 in
-        sym found.2 ∙ ap told (one_under (λ (y : NumberedType). y.name) first.view.types (view_names t first (ordered.obey first first_among)) found.0 x found.1 among text)
+        let here = name_same t.shapes s.place first.place z.name x.name other.number is.number other.name.named is.name.named
+        (let a = slot_number t z.slot other.number other.slot in omega (arith, a, part)) in
+        let found = from_map told first.view.types (told z) (subst (λ zs. Contains zs (told z)) (views_told s first c first_among here.0) (contains-map told s.view.types z there)) in
+        sym found.2 ∙ ap told (one_under (λ (y : NumberedType). y.name) first.view.types (view_names t first (ordered.obey first first_among)) found.0 x found.1 among
+        (ap (λ (y : Text × (Option ℕ × Option Text)). y.0) found.2 ∙ here.1))
 
     -- no world imports it
     not_imported : (x : NumberedType) (is : IsShownIn t first.place x) → (m : Member) → Contains ms m → (w : Scope) → m.part ≡ parts.World w → (c : Seen) → Contains w.imports.now c
         → (part : ℕ) (d : Option ℕ) → c.shown ≡ shown.Declares part d → part ≡ 14 + is.number → ⊥
     not_imported x is m among w world c there part d declares same =
         let named = import_named t input.tables h ms members input m among w world c there part d declares in
-        let one : named.0 ≡ is.number = (let a = named.1 in omega (arith, a, same)) in
-        let here = name_same t.shapes w.home first.place c.key.now x.name named.0 is.number named.2.named is.name.named one in
-        ordered.apart first first_among (subst (Contains (homes_in ms)) here.0 (home_met ms m among w world))
+        ordered.apart first first_among (subst (Contains (homes_in ms)) (name_same t.shapes w.home first.place c.key.now x.name named.0 is.number named.2.named is.name.named
+        (let a = named.1 in omega (arith, a, same))).0 (home_met ms m among w world))
 
     -- a type of the first view is shown first as it shows it
     pub first_told : (x : NumberedType) → Contains first.view.types x → (is : IsShownIn t first.place x) → (y : NumberedShowing) → shown_first ms is.number ≡ Some y → (y.declared ≡ x.declared)

@@ -10,7 +10,7 @@ use Rattle.std.specs.{List.Contains, List.flat_map, List.list_all, Option.option
 use Rattle.wit_model.proofs.{Elements.contains-flat, Elements.none-in}
 use Rattle.plan_meaning.specs.NumberedMembers.{NumberedMember, NumberedPart, interface, sights_of_members, sights_of_part, world}
 use Rattle.plan_meaning.specs.NumberedViews.{NumberedSight, NumberedType, Tables, agree, agree_in_numbers, first_at, same_shown, place_at, shown_type, view_of}
-use Rattle.plan_meaning.specs.NumberedWorlds.{HasPath, NumberedInstance, sights_of_instance}
+use Rattle.plan_meaning.specs.NumberedWorlds.{HasPath, sights_of_instance}
 use Rattle.plan_package.specs.Views.{views_of_part, whole_view}
 use Rattle.plan_laws.proofs.Inside.{flat_cases}
 use Rattle.read_shown.proofs.Agreement as agreement
@@ -26,21 +26,16 @@ same_of_option eq itself x = search std_rules
 shown_told : (x y : NumberedType) → same_shown x y ≡ true → told x ≡ told y
 shown_told x y h = search std_rules
 
-told_shown : (x y : NumberedType) → told x ≡ told y → same_shown x y ≡ true
-told_shown x y e = search std_rules
-
 pub types_told : (xs ys : List NumberedType) → pointwise same_shown xs ys ≡ true → map told xs ≡ map told ys
 types_told [] [] h = refl
-types_told (x ∷ xs) (y ∷ ys) h =
-    search (std_rules, shown_told, first_true, second_true, types_told xs ys (second_true (same_shown x y) (pointwise same_shown xs ys) h))
+types_told (x ∷ xs) (y ∷ ys) h = search (std_rules, shown_told, first_true, second_true, types_told xs ys (second_true (same_shown x y) (pointwise same_shown xs ys) h))
 types_told _ _ h = let wrong : false ≡ true = h in absurd cc
 
 pub told_types : (xs ys : List NumberedType) → map told xs ≡ map told ys → pointwise same_shown xs ys ≡ true
 told_types [] [] e = refl
 told_types (x ∷ xs) (y ∷ ys) e =
     let one : told x ≡ told y = cc in
-    let rest : map told xs ≡ map told ys = cc in
-    both (same_shown x y) (pointwise same_shown xs ys) (told_shown x y one) (told_types xs ys rest)
+    both (same_shown x y) (pointwise same_shown xs ys) (search std_rules) (told_types xs ys cc)
 told_types _ _ e = let wrong : ⊥ = cc in absurd wrong
 
 -- ---- views that agree
@@ -51,23 +46,19 @@ alike s u h e = search (std_rules, eq-eqb, types_told, first_true)
 pub one_told : (all : List NumberedSight) → agree_in_numbers all ≡ true → (s u : NumberedSight) → Contains all s → Contains all u → s.place ≡ u.place → map told s.view.types ≡ map told u.view.types
 one_told [] h s u c d p = none-in s c
 one_told (x ∷ xs) h s u (zero, l, e) (zero, k, f) p = ap (λ (y : NumberedSight). map told y.view.types) (sym e ∙ f)
-one_told (x ∷ xs) h s u (zero, l, e) (suc j, k, f) p =
-    alike s u (ap (λ y. agree y u) (sym e) ∙ all-contained (agree x) xs u (first_true (list_all (agree x) xs) (agree_in_numbers xs) h) (j, omega (arith, k), f)) p
-one_told (x ∷ xs) h s u (suc i, l, e) (zero, k, f) p =
-    sym (alike u s (ap (λ y. agree y s) (sym f) ∙ all-contained (agree x) xs s (first_true (list_all (agree x) xs) (agree_in_numbers xs) h) (i, omega (arith, l), e)) (sym p))
+one_told (x ∷ xs) h s u (zero, l, e) (suc j, k, f) p = alike s u (ap (λ y. agree y u) (sym e) ∙ all-contained _ _ u (first_true _ _ h) (j, omega (arith, k), f)) p
+one_told (x ∷ xs) h s u (suc i, l, e) (zero, k, f) p = sym (alike u s (ap (λ y. agree y s) (sym f) ∙ all-contained _ _ s (first_true _ _ h) (i, omega (arith, l), e)) (sym p))
 one_told (x ∷ xs) h s u (suc i, l, e) (suc j, k, f) p = one_told xs (second_true (list_all (agree x) xs) (agree_in_numbers xs) h) s u (i, omega (arith, l), e) (j, omega (arith, k), f) p
 
 -- ---- views with a path
 
 module _ (t : Tables) where
-  instance_sight : (i : NumberedInstance) → HasPath t i.place → Contains (sights_of_instance t i) (whole_view i)
-  instance_sight i path = subst (λ o. Contains (option_map_or (λ p. whole_view i ∷ []) o []) (whole_view i)) (sym path.1) (contains-one (whole_view i))
-
   pub part_sight : (a : NumberedPart) (s : NumberedSight) → Contains (views_of_part a) s → HasPath t s.place → Contains (sights_of_part t a) s
   part_sight (world w) s c path =
       let from = from_map whole_view w.instances s c in
       let given : HasPath t from.0.place = subst (λ (x : NumberedSight). HasPath t x.place) (sym from.2) path in
-      contains-flat (sights_of_instance t) w.instances from.0 s from.1 (subst (Contains (sights_of_instance t from.0)) from.2 (instance_sight from.0 given))
+      contains-flat (sights_of_instance t) w.instances from.0 s from.1 (subst (Contains (sights_of_instance t from.0)) from.2
+      (subst (λ o. Contains (option_map_or (λ p. whole_view from.0 ∷ []) o []) (whole_view from.0)) (sym given.1) (contains-one (whole_view from.0))))
   part_sight (interface p v imports) s c path = c
 
   pub sight_there : (ms : List NumberedMember) (s : NumberedSight) → Contains (flat_map (λ (m : NumberedMember). views_of_part m.part) ms) s → HasPath t s.place → Contains (sights_of_members t ms) s

@@ -1,7 +1,7 @@
 -- What a world imports, behind the resources that it imports before, and items as they are read.
 use Rattle.std.proofs.Common.{rules as std_rules, ◌≡◌, refl, sym, ap, subst, ◌∙◌, ℕ, zero, suc, ◌+◌, ◌<◌, arith, Bool, true, false, not, ◌||◌, nat_lt, if◌then◌else◌, List, [], ◌∷◌, ◌++◌, length, length-append, map, Option, Some, None, append_assoc, slice_get}
 use Rattle.std.proofs.lemmas.{Bool.lt-ltb, Bool.and_from as both, Option.slice_get_within, Option.same_Some as same-some, Slice.Eq.bytes_eq-Decides}
-use Rattle.std.specs.List.{AllByRecursion, AllZip, list_all, list_any}
+use Rattle.std.specs.List.{AllByRecursion, AllZip, list_any}
 use Rattle.wit_model.specs.Text.{Text, text_eq}
 use Rattle.plan_meaning.specs.GatheredPlan.{BecomesIfGiven, FunctionBecomes, ParamBecomes}
 use Rattle.plan_meaning.specs.{NumberedRules.Fact, NumberedViews.AllOf, NumberedViews.FunctionShape, NumberedViews.PartsOf, NumberedViews.Tables}
@@ -30,11 +30,9 @@ declares_it x h = search std_rules
 
 pub seen_resource : (ss : List NumberedSeen) (r : Text) → list_any (text_eq r) (resources_seen ss) ≡ true → IsSeenResource ss r
 seen_resource [] r any = no_true any
-seen_resource (s ∷ ss) r any = by (is_resource_seen s.shown) refl any (λ more. later (seen_resource ss r more))
+seen_resource (s ∷ ss) r any = by (is_resource_seen s.shown) refl any (λ more. let is = seen_resource ss r more in
+    record { number = suc is.number; seen = is.seen; at = is.at; key = is.key; declared = is.declared; shown = is.shown })
   where
-    later : IsSeenResource ss r → IsSeenResource (s ∷ ss) r
-    later is = record { number = suc is.number; seen = is.seen; at = is.at; key = is.key; declared = is.declared; shown = is.shown }
-
     which : (b : Bool) → text_eq r s.key ≡ b → is_resource_seen s.shown ≡ true → (b || list_any (text_eq r) (resources_seen ss)) ≡ true
         → (list_any (text_eq r) (resources_seen ss) ≡ true → IsSeenResource (s ∷ ss) r) → IsSeenResource (s ∷ ss) r
     which true e is h more = let shown = declares_it s.shown is in record { number = zero; seen = s; at = refl; key = sym ((bytes_eq-Decides r s.key).0 e); declared = shown.0; shown = shown.1 }
@@ -57,14 +55,11 @@ module _ (t : Tables) (known : ℕ → Fact) (home : ℕ) where
   items_behind all earlier [] same ok j s e = let wrong : None ≡ Some s = e in absurd cc
   items_behind all earlier (y ∷ ss) same ok zero s e = record {
     before = earlier;
-    is = subst (λ (x : NumberedSeen). is_item t known home (resources_seen earlier) x.key x.shown ≡ true) (same-some y s e)
-        (first_true (is_item t known home (resources_seen earlier) y.key y.shown) (are_imports t known home (earlier ++ y ∷ []) ss) ok);
-    there = λ i x at. ((let low = slice_get_within earlier i x at in omega (arith, low)), ap (λ zs. slice_get zs i) same ∙ at_front earlier (y ∷ ss) i x at);
+    is = subst (λ (x : NumberedSeen). is_item t known home (resources_seen earlier) x.key x.shown ≡ true) (same-some y s e) (first_true _ _ ok);
+    there = λ i x at. ((let low = slice_get_within _ i x at in omega (arith, low)), ap (λ zs. slice_get zs i) same ∙ at_front earlier (y ∷ ss) i x at);
   }
   items_behind all earlier (y ∷ ss) same ok (suc j) s e =
-      let many : length (earlier ++ y ∷ []) + j ≡ length earlier + suc j = (let l = length-append earlier (y ∷ []) in omega (arith, l)) in
-      subst (λ n. IsItemBehind all n s) many
-      (items_behind all (earlier ++ y ∷ []) ss (same ∙ sym (append_assoc earlier (y ∷ []) ss))
+      subst (λ n. IsItemBehind all n s) (let l = length-append earlier (y ∷ []) in omega (arith, l)) (items_behind all (earlier ++ y ∷ []) ss (same ∙ sym (append_assoc earlier (y ∷ []) ss))
       (second_true (is_item t known home (resources_seen earlier) y.key y.shown) (are_imports t known home (earlier ++ y ∷ []) ss) ok) j s e)
 
 -- ---- items
@@ -99,9 +94,7 @@ items_at _ _ _ j x at = let wrong : None ≡ Some x = at in absurd cc
 pub types_behind : (xs : List ReadItem) → ((i j : ℕ) (x y : ReadItem) → slice_get xs i ≡ Some x → slice_get xs j ≡ Some y → i < j → is_type_seen y.seen.shown ≡ true → x.count < y.count)
     → types_follow xs ≡ true
 types_behind [] more = refl
-types_behind (x ∷ xs) more =
-    both (list_all (λ (y : ReadItem). not (is_type_seen y.seen.shown) || nat_lt x.count y.count) xs) (types_follow xs)
-    (all_by_number (λ (y : ReadItem). not (is_type_seen y.seen.shown) || nat_lt x.count y.count) xs (λ j y at. by j y at (is_type_seen y.seen.shown) refl))
+types_behind (x ∷ xs) more = both _ _ (all_by_number _ _ (λ j y at. by j y at (is_type_seen y.seen.shown) refl))
     (types_behind xs (λ i j a y at_a at_y low. more (suc i) (suc j) a y at_a at_y (omega (arith, low))))
   where
     by : (j : ℕ) (y : ReadItem) → slice_get xs j ≡ Some y → (b : Bool) → is_type_seen y.seen.shown ≡ b → (not b || nat_lt x.count y.count) ≡ true

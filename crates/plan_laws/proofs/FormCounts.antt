@@ -48,8 +48,7 @@ module _ (t : Tables) (h : Homes) (ms : List Member) (members : List reads.Membe
   -- a resource is no primitive
   high_parts : (parts : List ℕ) → list_all marks.marks parts ≡ true → AllByRecursion (λ k. 14 ≤ k) parts
   high_parts [] h = tt
-  high_parts (k ∷ parts) h =
-      search (std_rules, second_true, ltb-false, no_true, ltb-true, first_true, high_parts parts (second_true (marks.marks k) (list_all marks.marks parts) h))
+  high_parts (k ∷ parts) h = search (std_rules, second_true, ltb-false, no_true, ltb-true, first_true, high_parts parts (second_true (marks.marks k) (list_all marks.marks parts) h))
 
   pub form_over : (kept : List ℕ) (n : ℕ) (s : Shape) → slice_get t.shapes n ≡ Some s → name_in s ≡ None → EachForm t HasCount (14 + n) → EachForm t (FormIsMarked marks.marks) (14 + n)
       → AllByRecursion (IsKeptPart kept) s.parts → IsFormOver kept s

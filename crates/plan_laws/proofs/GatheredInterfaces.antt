@@ -20,8 +20,7 @@ use Rattle.plan_package.specs.{WholeInterfaces.PlansPlace, WholePackages.ListsPl
 use Rattle.plan_laws.specs.{FirstViews.ViewsAreOrdered, FirstViews.told, ViewedInterfaces.views_read, Whole.IsPackageInput, WholeTypes.IsRuledInput}
 use Rattle.plan_laws.specs.Owners.{owners_of}
 use Rattle.plan_laws.proofs.{FirstTypes.views_told, FirstViews.first_is, Sources.view_among, Sources.own_sight, Sources.own_there, Sources.part_at}
-use Rattle.plan_laws.proofs.Inside.{flat_cases}
-use Rattle.plan_laws.proofs.{ShownWhole.sight_viewed, WholeTypes.sight_of_place, WholeTypes.packages_are_ruled, WholeTypes.path_planned}
+use Rattle.plan_laws.proofs.{Inside.flat_cases, ShownWhole.sight_viewed, WholeTypes.sight_of_place, WholeTypes.packages_are_ruled, WholeTypes.path_planned}
 use Rattle.plan_laws.proofs.{ListedFunctions.functions_listed, ListedFunctions.seen_same, Planned.first_there, Planned.interface_there, Planned.view_met}
 use Rattle.plan_laws.proofs.{PlaceNumbers.one_owner, PlaceNumbers.owner_numbered, PlaceNumbers.place_number, Viewed.planned_interfaces_are_viewed}
 use Rattle.plan_package.proofs.ReadPackageLaws.{number_at as number_there}
@@ -94,13 +93,11 @@ told_listed t kept p [] [] es e zip = zip
 told_listed t kept p (x ∷ xs) (y ∷ ys) [] e zip = absurd zip
 told_listed t kept p (x ∷ xs) (y ∷ ys) (z ∷ zs) e zip =
     let one : told x ≡ told y = cc in
-    let rest : map told xs ≡ map told ys = cc in
-    (subst (λ (a : Text × (Option ℕ × Option Text)). (z.0 ≡ a.0) × TypeBecomes t kept p a.1.0 a.1.1 z.1) one zip.0, told_listed t kept p xs ys zs rest zip.1)
+    (subst (λ (a : Text × (Option ℕ × Option Text)). (z.0 ≡ a.0) × TypeBecomes t kept p a.1.0 a.1.1 z.1) one zip.0, told_listed t kept p xs ys zs (cc) zip.1)
 told_listed t kept p _ _ es e zip = let wrong : ⊥ = cc in absurd wrong
 
 module _ (t : Tables) (h : Homes) (known : ℕ → Fact) (n : ℕ) (ms : List Member) (members : List reads.Member) (given : IsPackageInput t h known n ms members) (ordered : ViewsAreOrdered t ms)
-    (p : Plan) (planned : PlansWhole t h.packages (home_at h) n ms p)
-    (b : Beside) (owned : b.owners ≡ owners_of ms) where
+    (p : Plan) (planned : PlansWhole t h.packages (home_at h) n ms p) (b : Beside) (owned : b.owners ≡ owners_of ms) where
   abbrev places : List ℕ
   places = places_in ms
 
@@ -119,10 +116,9 @@ module _ (t : Tables) (h : Homes) (known : ℕ → Fact) (n : ℕ) (ms : List Me
       → AllZip (TypeListed t planned.kept p) first.view.types i.types
   types_listed k q at i there first is_first =
       let viewed = planned_interfaces_are_viewed t h ms members given.input given.alone ruled.agree ordered n p planned b owned k i there in
-      let place : viewed.read.place ≡ q = one_owner ms b owned viewed.read.place q (as_interface k) viewed.read.owned (ap (λ f. f q) owned ∙ owner_numbered ms q k (place_number ms k q at)) in
-      let view : views_read ms q ≡ viewed.read.view = ap (views_read ms) (sym place) ∙ viewed.viewed in
-      let types : viewed.read.view.types ≡ first.view.types = ap (λ (v : NumberedView). v.types) (sym view) ∙ ap (λ o. option_map_or (λ (s : NumberedSight). s.view.types) o []) is_first in
-      subst (λ xs. AllZip (TypeListed t planned.kept p) xs i.types) types viewed.types
+      subst (λ xs. AllZip (TypeListed t planned.kept p) xs i.types) (ap (λ (v : NumberedView). v.types)
+      (sym (ap (views_read ms) (sym (one_owner ms b owned viewed.read.place q (as_interface k) viewed.read.owned (ap (λ f. f q) owned ∙ owner_numbered ms q k (place_number ms k q at))))
+      ∙ viewed.viewed)) ∙ ap (λ o. option_map_or (λ (s : NumberedSight). s.view.types) o []) is_first) viewed.types
 
   interface_by : (u : NumberedSight) → Contains views u → (k : ℕ) → number_in places u.place ≡ Some k → (i : PlannedInterface) → interface_in p k ≡ Some i
       → InterfaceBecomes t planned.kept p u.view (functions_seen u.place views) i
@@ -186,15 +182,11 @@ module _ (t : Tables) (h : Homes) (known : ℕ → Fact) (n : ℕ) (ms : List Me
     pub functions : (s : NumberedSight) → Contains seen s → functions_seen s.place sights ≡ functions_seen s.place seen
 
   module _ (wanted : ℕ → Bool) (leaves : PlannedInterface → Bool) (told : (k q : ℕ) → slice_get places k ≡ Some q → HasPath t q → (i : PlannedInterface) → interface_in p k ≡ Some i
-      → leaves i ≡ not (wanted q))
-      (seen : List NumberedSight) (show : ShowPlaces wanted seen) where
+      → leaves i ≡ not (wanted q)) (seen : List NumberedSight) (show : ShowPlaces wanted seen) where
     abbrev pick : PlannedInterface → Option (Text × PlannedInterface)
     pick i = cond (leaves i) None (under_path p i)
 
-    abbrev IsOne : ℕ → PlannedInterface → Type 0
-    IsOne = IsGatheredOne t planned.kept p seen wanted pick
-
-    one_gathered : (k q : ℕ) → slice_get places k ≡ Some q → (i : PlannedInterface) → interface_in p k ≡ Some i → IsOne q i
+    one_gathered : (k q : ℕ) → slice_get places k ≡ Some q → (i : PlannedInterface) → interface_in p k ≡ Some i → (IsGatheredOne t planned.kept p seen wanted pick) q i
     one_gathered k q at i there = by (path_at t q) refl
       where
         number : number_in places q ≡ Some k
@@ -207,18 +199,19 @@ module _ (t : Tables) (h : Homes) (known : ℕ → Fact) (n : ℕ) (ms : List Me
         no_path none true = refl
         no_path none false = ap (option_map (λ (path : Text). (path, i))) (planned_path ∙ none)
 
-        with_path : (path : Text) → path_at t q ≡ Some path → (c : Bool) → wanted q ≡ c → IsOne q i
+        with_path : (path : Text) → path_at t q ≡ Some path → (c : Bool) → wanted q ≡ c → (IsGatheredOne t planned.kept p seen wanted pick) q i
         with_path path e false other = left_out (ap (λ c. cond c None (under_path p i)) (told k q at (path, e) i there ∙ ap not other)) (λ passes given_path. no_true (sym other ∙ passes))
         with_path path e true passes =
-            let found : pick i ≡ Some (path, i) = ap (λ c. cond c None (under_path p i)) (told k q at (path, e) i there ∙ ap not passes) ∙ ap (option_map (λ (y : Text). (y, i))) (planned_path ∙ e) in
             let view = show.met q (get-contains places k q at) passes (path, e) in
             let s = view.0 in
-            let becomes = interface_by s (sight_viewed t (numbered_members ms) s (show.among s view.1)) k (ap (number_in places) view.2 ∙ number) i there in
-            let text : path_text t s.place ≡ path = ap (path_text t) view.2 ∙ path_is t q (path, e) in
-            let functions : functions_seen s.place views ≡ functions_seen s.place seen = seen_same t s.place (path, ap (path_at t) view.2 ∙ e) (numbered_members ms) ∙ show.functions s view.1 in
-            gathered s (path, i) view.1 view.2 (ap wanted view.2 ∙ passes) found (text, subst (λ fs. InterfaceBecomes t planned.kept p s.view fs i) functions becomes)
+            gathered s (path, i) view.1 view.2 (ap wanted view.2 ∙ passes) (ap (λ c. cond c None (under_path p i)) (told k q at (path, e) i there ∙ ap not passes)
+            ∙ ap (option_map (λ (y : Text). (y, i))) (planned_path ∙ e)) (
+              (ap (path_text t) view.2 ∙ path_is t q (path, e)),
+              subst (λ fs. InterfaceBecomes t planned.kept p s.view fs i) (seen_same t s.place (path, ap (path_at t) view.2 ∙ e) (numbered_members ms) ∙ show.functions s view.1)
+                  (interface_by s (sight_viewed t (numbered_members ms) s (show.among s view.1)) k (ap (number_in places) view.2 ∙ number) i there),
+            )
 
-        by : (o : Option Text) → path_at t q ≡ o → IsOne q i
+        by : (o : Option Text) → path_at t q ≡ o → (IsGatheredOne t planned.kept p seen wanted pick) q i
         by None e = left_out (no_path e (leaves i)) (λ passes path. let wrong : None ≡ Some path.0 = sym e ∙ path.1 in absurd cc)
         by (Some path) e = with_path path e (wanted q) refl
 
@@ -230,9 +223,9 @@ module _ (t : Tables) (h : Homes) (known : ℕ → Fact) (n : ℕ) (ms : List Me
         (view_met ms from.0 from.1 s from.2, (is.path, is.home))
 
     pub all_gathered : IsGatheredFrom t planned.kept p seen wanted pick p.interfaces
-    all_gathered =
-        gathered_from t planned.kept p seen wanted pick places p.interfaces
-        (zip_each (PlansPlace t planned.kept n (home_at h) views) IsOne places p.interfaces planned.interfaces (λ k q i at there. one_gathered k q at i there)) seen_met
+    all_gathered = gathered_from t planned.kept p seen wanted pick places p.interfaces
+        (zip_each (PlansPlace t planned.kept n (home_at h) views) (IsGatheredOne t planned.kept p seen wanted pick) places p.interfaces planned.interfaces
+        (λ k q i at there. one_gathered k q at i there)) seen_met
 
   -- ---- those of other packages
 
@@ -245,18 +238,14 @@ module _ (t : Tables) (h : Homes) (known : ℕ → Fact) (n : ℕ) (ms : List Me
       let home = given.input.homes.homes q path.0 path.1 in
       let found = interface_there t h ms members given.input n p planned k q at in
       let first = first_there t h ms members given.input n p planned k q at in
-      let package_is : i.package_ ≡ Some home.package_ =
-      ap (λ (x : PlannedInterface). x.package_) (same-some i found.0 (sym there ∙ found.1))
-      ∙ ((found.2 first.0 first.1).package_ ∙ ap (λ o. Some (option_map_or (λ (x : ℕ × Text). x.0) o n)) home.home) in
-      let main : is_id p.main i.package_ ≡ (home.package_ == n) = ap (is_id p.main) package_is ∙ ap (λ m. home.package_ == m) planned.main in
-      let own : is_of_package h n q ≡ (home.package_ == n) = ap (λ o. option_map_or (λ (x : ℕ × Text). x.0 == n) o false) home.home in
-      main ∙ (twice (home.package_ == n) ∙ ap (λ c. not (cond c false true)) (sym own))
+      (ap (is_id p.main) (ap (λ (x : PlannedInterface). x.package_) (same-some i found.0 (sym there ∙ found.1))
+      ∙ ((found.2 first.0 first.1).package_ ∙ ap (λ o. Some (option_map_or (λ (x : ℕ × Text). x.0) o n)) home.home)) ∙ ap (λ m. home.package_ == m) planned.main)
+      ∙ (twice (home.package_ == n) ∙ ap (λ c. not (cond c false true)) (sym (ap (λ o. option_map_or (λ (x : ℕ × Text). x.0 == n) o false) home.home)))
     where
       twice : (c : Bool) → c ≡ not (cond c false true)
       twice true = refl
       twice false = refl
 
   pub foreign_gathered : IsGatheredFrom t planned.kept p sights is_other (foreign_interface p) p.interfaces
-  foreign_gathered =
-      all_gathered is_other (λ (i : PlannedInterface). is_id p.main i.package_) other_told sights
+  foreign_gathered = all_gathered is_other (λ (i : PlannedInterface). is_id p.main i.package_) other_told sights
       (record { among = λ s c. c; met = λ q c passes path. sight_of_place t ms q c path; functions = λ s c. refl })

@@ -1,5 +1,5 @@
 -- The worlds of a plan become what worlds at the top show.
-use Rattle.std.proofs.Common.{rules as std_rules, ◌≡◌, refl, sym, ap, subst, ◌∙◌, ℕ, suc, ◌+◌, inl, inr, arith, true, false, List, [], ◌∷◌, map, Option, Some, None, slice_get, unwrap_or}
+use Rattle.std.proofs.Common.{rules as std_rules, ◌≡◌, refl, sym, ap, subst, ◌∙◌, ℕ, suc, ◌+◌, inl, inr, arith, true, List, [], ◌∷◌, map, Option, Some, None, slice_get, unwrap_or}
 use Rattle.std.specs.List.{AllZip, Contains, flat_map}
 use Rattle.wit_model.specs.Text.{Text}
 use Rattle.wit_model.specs.declared.model.TypeId.{TypeId}
@@ -34,13 +34,9 @@ zip_mapped P Q f (x ∷ xs) each (y ∷ ys) zip = (each x (0, omega arith, refl)
 zip_mapped _ _ f _ each _ zip = absurd zip
 
 module _ (t : Tables) (h : Homes) (known : ℕ → Fact) (n : ℕ) (ms : List Member) (members : List reads.Member) (given : IsPackageInput t h known n ms members) (ordered : ViewsAreOrdered t ms)
-    (apart : WorldsAreApart ms) (under : WorldsAreFollowed t ms) (p : Plan) (planned : PlansWhole t h.packages (home_at h) n ms p)
-    (whole : TypesAreWhole t planned.kept ms p) where
+    (apart : WorldsAreApart ms) (under : WorldsAreFollowed t ms) (p : Plan) (planned : PlansWhole t h.packages (home_at h) n ms p) (whole : TypesAreWhole t planned.kept ms p) where
   abbrev b : Beside
   b = beside_tables known whole.marks.marks ms
-
-  abbrev views : List NumberedSight
-  views = views_of_members (numbered_members ms)
 
   ruled : IsRuledInput t h ms members
   ruled = packages_are_ruled t h known n ms members given
@@ -60,17 +56,17 @@ module _ (t : Tables) (h : Homes) (known : ℕ → Fact) (n : ℕ) (ms : List Me
     view_at q v = record { place = q; view = numbered_view v; whole = true }
 
     -- an inline interface has the functions of its one view
-    inline_functions : (q : ℕ) (v : View) → Contains views (view_at q v) → path_at t q ≡ None → functions_seen q views ≡ (numbered_view v).functions
+    inline_functions : (q : ℕ) (v : View) → Contains (views_of_members (numbered_members ms)) (view_at q v) → path_at t q ≡ None
+        → functions_seen q (views_of_members (numbered_members ms)) ≡ (numbered_view v).functions
     inline_functions q v viewed none =
-        let first = first_whole q views (view_at q v) viewed refl refl in
+        let first = first_whole q (views_of_members (numbered_members ms)) (view_at q v) viewed refl refl in
         let first_frame = subst (λ r. Contains (frames (numbered_members ms)) (r, a_view first.sight.view)) first.place
         (view_frame t h ms members given.input given.placed.apart first.sight first.among (ap (path_at t) first.place ∙ none)) in
         let own_frame = view_frame t h ms members given.input given.placed.apart (view_at q v) viewed none in
         let one = one_owned t (numbered_members ms) given.placed.apart q none (a_view first.sight.view) (a_view (numbered_view v)) first_frame own_frame in
         first.functions ∙ ap (λ x. (view_owned (numbered_view v) x).functions) one
 
-    instance_becomes : (s : Seen) → Side w s → (key : InstanceKey) (v : View) → s.shown ≡ shown.Instance key v → (number : ℕ)
-        → number_in (places_in ms) (place_of_key (numbered_key key)) ≡ Some number
+    instance_becomes : (s : Seen) → Side w s → (key : InstanceKey) (v : View) → s.shown ≡ shown.Instance key v → (number : ℕ) → number_in (places_in ms) (place_of_key (numbered_key key)) ≡ Some number
         → SeenBecomes t planned.kept p (numbered_seen s) (planned_key (numbered_key key) number, plan.interface number (given_text s.external_id))
     instance_becomes s side key v shows number found =
         subst (λ (x : Shown). SeenBecomes t planned.kept p (record { key = s.key.now; shown = numbered_shown x; external_id = given_text s.external_id })
@@ -83,8 +79,7 @@ module _ (t : Tables) (h : Homes) (known : ℕ → Fact) (n : ℕ) (ms : List Me
         path_there q at path = path_same t h known n ms members given ordered p planned b refl q number at ∙ (path.1 ∙ ap Some (sym (path_is t q path)))
 
         by : (k : InstanceKey) → number_in (places_in ms) (place_of_key (numbered_key k)) ≡ Some number → KeyStands t (numbered_key k)
-            → IsUnderKey t s.key.now (worlds.instance (numbered_key k) (numbered_view v))
-            → Contains views (sight_of k v)
+            → IsUnderKey t s.key.now (worlds.instance (numbered_key k) (numbered_view v)) → Contains (views_of_members (numbered_members ms)) (sight_of k v)
             → SeenBecomes t planned.kept p (record { key = s.key.now; shown = worlds.instance (numbered_key k) (numbered_view v); external_id = given_text s.external_id })
             (planned_key (numbered_key k) number, plan.interface number (given_text s.external_id))
         by (keys.Path q) at stands text viewed = (ap (λ o. unwrap_or o []) (path_there q at stands) ∙ sym text, (refl, path_there q at stands))
@@ -97,22 +92,18 @@ module _ (t : Tables) (h : Homes) (known : ℕ → Fact) (n : ℕ) (ms : List Me
     -- ---- items
 
     module _ (have : AreResources planned.kept (flat_map types_seen w.imports.now) find) (types : TypesAreRead t ms planned.kept p b w) where
-      item_becomes : (s : Seen) → Side w s → (e : PlannedKey × PlannedItem) → PlansItem t planned.kept (places_in ms) find s e
-          → SeenBecomes t planned.kept p (numbered_seen s) e
+      item_becomes : (s : Seen) → Side w s → (e : PlannedKey × PlannedItem) → PlansItem t planned.kept (places_in ms) find s e → SeenBecomes t planned.kept p (numbered_seen s) e
       item_becomes s side e (an_instance key v shows made) = subst (SeenBecomes t planned.kept p (numbered_seen s)) (sym made.is) (instance_becomes s side key v shows made.number made.found)
-      item_becomes s side e (a_function f shows key made) =
-          let becomes = seen_becomes t h ms members ruled n p planned whole known m c w is b refl find have s side f shows made.function made.planned in
-          let same : e ≡ (plan.label s.key.now, plan.function made.function) = λ i. (key i, made.is i) in
-          subst (SeenBecomes t planned.kept p (numbered_seen s)) (sym same)
+      item_becomes s side e (a_function f shows key made) = subst (SeenBecomes t planned.kept p (numbered_seen s)) (sym (λ i. (key i, made.is i)))
           (subst (λ (x : Shown). SeenBecomes t planned.kept p (record { key = s.key.now; shown = numbered_shown x; external_id = given_text s.external_id })
-          (plan.label s.key.now, plan.function made.function)) (sym shows) (refl, becomes))
-      item_becomes s (inl among) e (a_type part d k shows entry is_part) =
-          let read = types s among part d shows k is_part in
-          subst (SeenBecomes t planned.kept p (numbered_seen s)) (sym entry)
+          (plan.label s.key.now, plan.function made.function)) (sym shows) (
+            refl,
+            seen_becomes t h ms members ruled n p planned whole known m c w is b refl find have s side f shows made.function made.planned,
+          ))
+      item_becomes s (inl among) e (a_type part d k shows entry is_part) = subst (SeenBecomes t planned.kept p (numbered_seen s)) (sym entry)
           (subst (λ (x : Shown). SeenBecomes t planned.kept p (record { key = s.key.now; shown = numbered_shown x; external_id = given_text s.external_id }) (plan.label s.key.now, plan.declares k))
-          (sym shows) (refl, read.3))
-      item_becomes s (inr among) e (a_type part d k shows entry is_part) =
-          no_true (sym (all_at (λ (z : Seen). is_type_seen (numbered_shown z.shown) ≡ false) w.exports.now of.none s among) ∙ ap (λ z. is_type_seen (numbered_shown z)) shows)
+          (sym shows) (refl, (types s among part d shows k is_part).3))
+      item_becomes s (inr among) e (a_type part d k shows entry is_part) = no_true (sym (all_at _ _ of.none s among) ∙ ap (λ z. is_type_seen (numbered_shown z)) shows)
 
       pub world_becomes : (x : PlannedWorld) → AllZip (PlansItem t planned.kept (places_in ms) find) w.imports.now x.imports
           → AllZip (PlansItem t planned.kept (places_in ms) find) w.exports.now x.exports → WorldBecomes t planned.kept p (numbered_scope w) x

@@ -22,16 +22,13 @@ deeper shapes k m n s (itself a b is) at c = inside k m (14 + n) n s is at c (it
 deeper shapes k m n s (inside a i j b r is here there more) at c = inside k i j n r is here there (deeper shapes j m n s more at c)
 
 module _ (shapes : List Shape) (table : IsTable shapes) where
-  no_parts : (n : ℕ) (s : Shape) (j q : ℕ) (name : Text) → s ≡ named_shape q name → Contains s.parts j → ⊥
-  no_parts n s j q name e c = none-in j (subst (λ (x : Shape). Contains x.parts j) e c)
-
   -- a name that stands inside
   pub name_in : (k n q : ℕ) (name : Text) → IsIn shapes k n → slice_get shapes n ≡ Some (named_shape q name) → HasNameIn shapes k q
   name_in k n q name (itself a b is) at = views.itself k n q name is at
   name_in k n q name (inside a m j b s is here there more) at = by (table.each m s here) (name_in j n q name more at)
     where
       by : IsShape m s → HasNameIn shapes j q → HasNameIn shapes k q
-      by (a_name r other e) found = absurd (no_parts m s j r other e there)
+      by (a_name r other e) found = absurd (none-in j (subst (λ (x : Shape). Contains x.parts j) e there))
       by (a_node form parts e low) found = views.inside k m j q form parts is (here ∙ ap Some e) (subst (λ (x : Shape). Contains x.parts j) e there) found
 
   -- nothing but itself stands inside a name

@@ -5,20 +5,19 @@ use Rattle.plan_laws.proofs.Inside.{flat_cases}
 use Rattle.std.proofs.Common.{rules as std_rules, ◌≡◌, refl, sym, ap, subst, ◌∙◌, ℕ, ◌⊎◌, inl, inr, true, false, List, map, Option, Some, None, filter}
 use Rattle.std.proofs.lemmas.List.Elements.{Contains-append_cases, Contains-append_left, Contains-append_right}
 use Rattle.std.proofs.lemmas.Option.{same_Some as same-some}
-use Rattle.std.specs.List.{AllByRecursion, Contains, flat_map}
+use Rattle.std.specs.List.{AllByRecursion, Contains}
 use Rattle.wit_model.specs.Text.{Text}
 use Rattle.wit_model.proofs.Elements.{contains-flat, none-in}
-use Rattle.comp_meaning.specs.Follow.{Instance, export_, import_, interface_of}
-use Rattle.read_shown.specs.Instances.{going, instances_in}
+use Rattle.read_shown.specs.Instances.{instances_in}
 use Rattle.plan_meaning.specs.{FollowedNumbers.IsSeenIn, NumberedMembers.Homes, NumberedMembers.NumberedMember, NumberedMembers.world, ReadWholes.place_shown}
 use Rattle.plan_meaning.specs.NumberedViews.{AreTables, NumberedFunction, NumberedSight, NumberedType, Tables, path_at}
-use Rattle.plan_meaning.specs.NumberedWorlds.{HasPath, KeyStands, NumberedInstance, NumberedKey, NumberedSeen, NumberedShown, are_once, instance_of, key_of, place_of_key, seen_of, shown_of}
+use Rattle.plan_meaning.specs.NumberedWorlds.{HasPath, NumberedInstance, NumberedSeen, NumberedShown, are_once, instance_of, seen_of, shown_of}
 use Rattle.read_exports.specs.Members.{numbered_member, numbered_members, numbered_part}
 use Rattle.read_exports.specs.declared.members.{Member.Member, Part.Part}
-use Rattle.read_rules.specs.declared.{reached.ImportedView.ImportedView, scopes.Scope.Scope, scopes.Seen.Seen, scopes.Shown.Shown}
-use Rattle.read_rules.specs.{Reached.numbered_import, Tables.given_text, Views.numbered_view}
-use Rattle.read_rules.specs.Scopes.{numbered_instance, numbered_key, numbered_scope, numbered_seen, numbered_shown}
-use Rattle.plan_types.specs.Showings.{NumberedShowing, showing_of, showings_of_import, showings_of_members, showings_of_part, showings_of_seen, showings_of_shown, showings_of_view, signatures_of_members, signatures_of_part, signatures_of_seen, signatures_of_shown}
+use Rattle.read_rules.specs.declared.{scopes.Scope.Scope, scopes.Seen.Seen, scopes.Shown.Shown}
+use Rattle.read_rules.specs.{Reached.numbered_import, Tables.given_text}
+use Rattle.read_rules.specs.Scopes.{numbered_instance, numbered_scope, numbered_seen, numbered_shown}
+use Rattle.plan_types.specs.Showings.{NumberedShowing, showing_of, showings_of_import, showings_of_members, showings_of_part, showings_of_seen, showings_of_shown, signatures_of_members, signatures_of_part, signatures_of_seen, signatures_of_shown}
 use Rattle.plan_package.specs.Views.{types_alone, views_of_members, views_of_part, whole_view}
 use Rattle.plan_type_laws.specs.ShownMarks.{own_places, has_no_path, places_of_part}
 use Rattle.plan_laws.specs.ShownNames.{IsInput}
@@ -33,9 +32,6 @@ use Rattle.read_rules.specs.declared.scopes.Shown.TheVariants as shown
 -- one of these goes one of the two ways
 
 module _ (t : Tables) (tables : AreTables t) where
-  key_place : (key : NumberedKey) → KeyStands t key → (q : ℕ) (path : Text) → path_at t q ≡ Some path → interface_of (key_of t key) ≡ Some path → place_of_key key ≡ q
-  key_place x stands q path at e = search std_rules
-
   -- an import or an export that is an instance of the place
   shown_place : (home : ℕ) (ss : List NumberedSeen) → AllByRecursion (IsSeenIn t home) ss → (i : NumberedInstance) → HasPath t i.place → Contains (instances_in (map (seen_of t) ss)) (instance_of t i)
       → (s : NumberedSeen) × Contains ss s × (place_shown s.shown ≡ Some i.place)
@@ -46,9 +42,7 @@ module _ (t : Tables) (tables : AreTables t) where
     where
       by : (key : Text) (id : Option Text) (x : NumberedShown) → IsSeenIn t home (record { key = key; shown = x; external_id = id }) → Contains (tree.instance_of (shown_of t x)) (instance_of t i)
           → place_shown x ≡ Some i.place
-      by key id (worlds.instance k v) is there =
-          ap Some (key_place k is.0 i.place path.0 path.1 (ap (λ (y : Instance). y.interface)
-          (one-contained (record { interface = interface_of (key_of t k); view = _ }) (instance_of t i) there) ∙ path.1))
+      by key id (worlds.instance k v) is there = ap Some (search std_rules)
       by key id _ is there = none-in (instance_of t i) there
 
 module _ (t : Tables) (h : Homes) (ms : List Member) (members : List reads.Member) (input : IsInput t h ms members) (w : Scope) (is : IsWorldIn t h ms members input w)
@@ -66,34 +60,25 @@ module _ (t : Tables) (h : Homes) (ms : List Member) (members : List reads.Membe
     pub among : Contains w.imports.now seen ⊎ Contains w.exports.now seen
     pub place : place_shown (numbered_shown seen.shown) ≡ Some i.place
 
-  imported : (i : NumberedInstance) → (s : NumberedSeen) × Contains (map numbered_seen w.imports.now) s × (place_shown s.shown ≡ Some i.place) → IsSeen i
-  imported i s = let from = from_map numbered_seen w.imports.now s.0 s.1 in record { seen = from.0; among = inl from.1; place = ap (λ (x : NumberedSeen). place_shown x.shown) from.2 ∙ s.2 }
-
-  exported : (i : NumberedInstance) → (s : NumberedSeen) × Contains (map numbered_seen w.exports.now) s × (place_shown s.shown ≡ Some i.place) → IsSeen i
-  exported i s = let from = from_map numbered_seen w.exports.now s.0 s.1 in record { seen = from.0; among = inr from.1; place = ap (λ (x : NumberedSeen). place_shown x.shown) from.2 ∙ s.2 }
+  seen_from : (i : NumberedInstance) (cs : List Seen) → ((s : Seen) → Contains cs s → Side w s) → (s : NumberedSeen) × Contains (map numbered_seen cs) s
+      × (place_shown s.shown ≡ Some i.place) → IsSeen i
+  seen_from i cs side s = let from = from_map numbered_seen cs s.0 s.1 in
+      record { seen = from.0; among = side from.0 from.1; place = ap (λ (x : NumberedSeen). place_shown x.shown) from.2 ∙ s.2 }
 
   pub instance_seen : (i : NumberedInstance) → Contains (numbered_scope w).instances i → IsSeen i
   instance_seen i c = by (path_at t i.place) refl
     where
-      with_path : HasPath t i.place → Contains (going import_ is.stands.seen.seen) (instance_of t i) ⊎ Contains (going export_ is.stands.seen.seen) (instance_of t i) → IsSeen i
-      with_path path (inl there) =
-          imported i (shown_place t input.tables w.home (map numbered_seen w.imports.now) is.good.imports i path
-          (subst (λ xs. Contains xs (instance_of t i)) (is.stands.seen.imported ∙ ap instances_in is.shows.imports) there))
-      with_path path (inr there) =
-          exported i (shown_place t input.tables w.home (map numbered_seen w.exports.now) is.good.exports i path
-          (subst (λ xs. Contains xs (instance_of t i)) (is.stands.seen.exported ∙ ap instances_in is.shows.exports) there))
-
-      without : Contains (inlines t (map numbered_seen w.imports.now)) i ⊎ Contains (inlines t (map numbered_seen w.exports.now)) i → IsSeen i
-      without (inl there) = imported i (inline_place (map numbered_seen w.imports.now) i there)
-      without (inr there) = exported i (inline_place (map numbered_seen w.exports.now) i there)
-
       by : (o : Option Text) → path_at t i.place ≡ o → IsSeen i
-      by (Some path) e =
-          with_path (path, e) (either_way is.stands.seen.seen (instance_of t i)
-          (subst (λ xs. Contains xs (instance_of t i)) (sym (is.stands.seen.all ∙ is.shows.instances)) (contains-map (instance_of t) (numbered_scope w).instances i c)))
-      by None e =
-          without (Contains-append_cases (inlines t (map numbered_seen w.imports.now)) (inlines t (map numbered_seen w.exports.now)) i
-          (inline_seen t (numbered_scope w) is.good is.scope is.shows is.stands.seen once i c e))
+      by (Some path) e = elim (either_way _ _ (subst (λ xs. Contains xs (instance_of t i)) (sym (is.stands.seen.all ∙ is.shows.instances)) (contains-map _ _ i c))) [
+        | inl there ↦ seen_from i w.imports.now (λ s c. inl c) (shown_place t input.tables w.home (map numbered_seen w.imports.now) is.good.imports i (path, e)
+            (subst (λ xs. Contains xs (instance_of t i)) (is.stands.seen.imported ∙ ap instances_in is.shows.imports) there))
+        | inr there ↦ seen_from i w.exports.now (λ s c. inr c) (shown_place t input.tables w.home (map numbered_seen w.exports.now) is.good.exports i (path, e)
+            (subst (λ xs. Contains xs (instance_of t i)) (is.stands.seen.exported ∙ ap instances_in is.shows.exports) there))
+      ]
+      by None e = elim (Contains-append_cases _ _ i (inline_seen t (numbered_scope w) is.good is.scope is.shows is.stands.seen once i c e)) [
+        | inl there ↦ seen_from i w.imports.now (λ s c. inl c) (inline_place (map numbered_seen w.imports.now) i there)
+        | inr there ↦ seen_from i w.exports.now (λ s c. inr c) (inline_place (map numbered_seen w.exports.now) i there)
+      ]
 
 -- ---- what is shown of a place
 
@@ -127,12 +112,10 @@ module _ (t : Tables) (h : Homes) (ms : List Member) (members : List reads.Membe
         by s side (shown.Instance key v) e at = record {
           other = sight_of key v;
           among = seen_sight t ms m c w is of.good s side key v e;
-          place = same-some (place_of_key (numbered_key key)) i.place at;
+          place = same-some _ _ at;
           whole = λ f. refl;
-          types = λ x there. seen_showing s side (showing_of x) (subst (λ k. Contains (showings_of_shown k (given_text s.external_id)) (showing_of x)) (sym e)
-              (contains-map showing_of (numbered_view v).types x there));
-          functions = λ f g there. seen_signature s side g.1.signature (subst (λ k. Contains (signatures_of_shown k) g.1.signature) (sym e)
-              (contains-map (λ (y : Text × NumberedFunction). y.1.signature) (numbered_view v).functions g there));
+          types = λ x there. seen_showing s side (showing_of x) (subst (λ k. Contains (showings_of_shown k (given_text s.external_id)) (showing_of x)) (sym e) (contains-map _ _ x there));
+          functions = λ f g there. seen_signature s side g.1.signature (subst (λ k. Contains (signatures_of_shown k) g.1.signature) (sym e) (contains-map _ _ g there));
         }
         by s side _ e at = let wrong : None ≡ Some i.place = at in absurd cc
 
@@ -143,29 +126,28 @@ module _ (t : Tables) (h : Homes) (ms : List Member) (members : List reads.Membe
       by m m_in (parts.World w) is there =
           let i = from_map whole_view (map numbered_instance w.instances.now) s there in
           subst IsShownSo i.2 (instance_shown m m_in w is i.0 i.1)
-      by m m_in (parts.Interface q v imports) is there = side (interface_views q v imports s there)
+      by m m_in (parts.Interface q v imports) is there = elim (interface_views q v imports s there) [
+        | inl i ↦ subst IsShownSo i.2 (record {
+          other = types_alone (numbered_import i.0);
+          among = subst (Contains (views_of_members (numbered_members ms))) (sym i.2) c;
+          place = refl;
+          whole = λ f. f;
+          types = λ x x_in. in_part (showing_of x) (Contains-append_left _ _ _ (contains-flat showings_of_import imports.now i.0 (showing_of x) i.1 (contains-map _ _ x x_in)));
+          functions =
+              λ f. let wrong : false ≡ true = f in absurd cc;
+        })
+        | inr own ↦ subst IsShownSo own (record {
+          other = own_sight q v imports;
+          among = subst (Contains (views_of_members (numbered_members ms))) (sym own) c;
+          place = refl;
+          whole = λ f. f;
+          types =
+              λ x x_in. in_part (showing_of x) (Contains-append_right _ _ _ (contains-map _ _ x x_in));
+          functions =
+              λ f g g_in. contains-flat (λ (x : Member). signatures_of_part x.part) ms m g.1.signature
+              m_in (subst (λ a. Contains (signatures_of_part a) g.1.signature) (sym is) (contains-map _ _ g g_in));
+        })
+      ]
         where
           in_part : (y : NumberedShowing) → Contains (showings_of_part (parts.Interface q v imports)) y → Contains (showings_of_members ms) y
           in_part y among = contains-flat (λ (x : Member). showings_of_part x.part) ms m y m_in (subst (λ a. Contains (showings_of_part a) y) (sym is) among)
-
-          side : ((i : ImportedView) × Contains imports.now i × (types_alone (numbered_import i) ≡ s)) ⊎ (own_sight q v imports ≡ s) → IsShownSo s
-          side (inl i) = subst IsShownSo i.2 (record {
-            other = types_alone (numbered_import i.0);
-            among = subst (Contains (views_of_members (numbered_members ms))) (sym i.2) c;
-            place = refl;
-            whole = λ f. f;
-            types = λ x x_in. in_part (showing_of x)
-                (Contains-append_left (flat_map showings_of_import imports.now) (showings_of_view (numbered_view v)) (showing_of x)
-                (contains-flat showings_of_import imports.now i.0 (showing_of x) i.1 (contains-map showing_of (numbered_view i.0.view).types x x_in)));
-            functions = λ f. let wrong : false ≡ true = f in absurd cc;
-          })
-          side (inr own) = subst IsShownSo own (record {
-            other = own_sight q v imports;
-            among = subst (Contains (views_of_members (numbered_members ms))) (sym own) c;
-            place = refl;
-            whole = λ f. f;
-            types = λ x x_in. in_part (showing_of x) (Contains-append_right (flat_map showings_of_import imports.now) (showings_of_view (numbered_view v)) (showing_of x)
-                (contains-map showing_of (numbered_view v).types x x_in));
-            functions = λ f g g_in. contains-flat (λ (x : Member). signatures_of_part x.part) ms m g.1.signature m_in (subst (λ a. Contains (signatures_of_part a) g.1.signature) (sym is)
-                (contains-map (λ (y : Text × NumberedFunction). y.1.signature) (numbered_view v).functions g g_in));
-          })

@@ -59,17 +59,15 @@ module _ (t : Tables) (h : Homes) (ms : List Member) (members : List reads.Membe
       → list_any (text_eq r) (rules.resources_of (view_of t s.view).types) ≡ true → (id : TypeId) × (find r ≡ Some id)
   resource_found s s_in same r any =
       let listed = resource_listed t s.view.types r any in
-      let tells = views_tell t h ms members ruled.input ruled.placed.apart ruled.agree s first s_in first_in same in
-      let from = from_map told first.view.types (told listed.0) (subst (λ (es : List (Text × Option ℕ)). Contains es (told listed.0)) tells (contains-map told s.view.types listed.0 listed.1)) in
+      let from = from_map told first.view.types (told listed.0) (subst (λ (es : List (Text × Option ℕ)). Contains es (told listed.0))
+      (views_tell t h ms members ruled.input ruled.placed.apart ruled.agree s first s_in first_in same) (contains-map told s.view.types listed.0 listed.1)) in
       let at = contains-get first.view.types from.0 from.1 in
-      let none : is_no_part from.0.declared ≡ true = ap is_no_part (ap (λ (z : Text × Option ℕ). z.1) from.2 ∙ listed.2) in
-      let found = have.found at.0 from.0 at.1 none in
+      let found = have.found at.0 from.0 at.1 (ap is_no_part (ap (λ (z : Text × Option ℕ). z.1) from.2 ∙ listed.2)) in
       (found.0, ap find (listed.3 ∙ sym (ap (λ (z : Text × Option ℕ). z.0) from.2)) ∙ found.1)
 
   -- a function of another view of the place
   module _ (b : Beside) (s : NumberedSight) (s_in : Contains (views_of_members (numbered_members ms)) s) (same : s.place ≡ first.place) (s_good : IsViewIn t s.place s.view) (obeys : ViewObeys t s)
-      (owned : b.owners first.place ≡ owners_of ms first.place)
-      (f : Text × NumberedFunction) (f_in : Contains s.view.functions f) where
+      (owned : b.owners first.place ≡ owners_of ms first.place) (f : Text × NumberedFunction) (f_in : Contains s.view.functions f) where
     met : PartsOf (IsMetFrom t first.place) (function_at t f.1.signature)
     met = (subst (λ q. IsCalledIn t q f.1.signature) same (all_at (λ (g : Text × NumberedFunction). IsCalledIn t s.place g.1.signature) s.view.functions s_good.functions f f_in)).parts
 

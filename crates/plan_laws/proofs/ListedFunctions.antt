@@ -33,20 +33,13 @@ function_of_view q [] f c = none-in f c
 function_of_view q (s ∷ seen) f c = by (s.place == q && s.whole) refl c (function_of_view q seen f)
   where
     by : (b : Bool) → (s.place == q && s.whole) ≡ b → Contains (cond b s.view.functions (functions_seen q seen)) f → (Contains (functions_seen q seen) f → IsOfView q seen f) → IsOfView q (s ∷ seen) f
-    by true e here later = record {
-      sight = s;
-      among = (0, omega arith, refl);
-      place = eqb-true s.place q (first_true (s.place == q) s.whole e);
-      whole = second_true (s.place == q) s.whole e;
-      there = here;
-    }
+    by true e here later = record { sight = s; among = (0, omega arith, refl); place = eqb-true _ q (first_true _ _ e); whole = second_true _ _ e; there = here }
     by false e here later = let found = later here in record {
       sight = found.sight;
       among = contains-later s seen found.sight found.among;
       place = found.place;
       whole = found.whole;
-      there =
-          found.there;
+      there = found.there;
     }
 
 -- ---- places with a path
@@ -81,8 +74,7 @@ module _ (t : Tables) (q : ℕ) (path : HasPath t q) where
   seen_same (m ∷ ms) = part_same m.part (views_of_members ms) (sights_of_members t ms) (seen_same ms)
 
 module _ (t : Tables) (h : Homes) (known : ℕ → Fact) (n : ℕ) (ms : List Member) (members : List reads.Member) (given : IsPackageInput t h known n ms members) (p : Plan)
-    (planned : PlansWhole t h.packages (home_at h) n ms p)
-    (b : Beside) (owned : b.owners ≡ owners_of ms) where
+    (planned : PlansWhole t h.packages (home_at h) n ms p) (b : Beside) (owned : b.owners ≡ owners_of ms) where
   abbrev views : List NumberedSight
   views = views_of_members (numbered_members ms)
 
@@ -94,14 +86,12 @@ module _ (t : Tables) (h : Homes) (known : ℕ → Fact) (n : ℕ) (ms : List Me
   functions_listed m q at i there =
       let found = interface_there t h ms members given.input n p planned m q at in
       let first = first_there t h ms members given.input n p planned m q at in
-      let plans = subst (λ x. PlansInterface t planned.kept n (home_at h q) first.0.view (functions_seen q views) x) (same-some found.0 i (sym found.1 ∙ there)) (found.2 first.0 first.1) in
-      by first.0 first.1 plans
+      by first.0 first.1 (subst (λ x. PlansInterface t planned.kept n (home_at h q) first.0.view (functions_seen q views) x) (same-some found.0 i (sym found.1 ∙ there)) (found.2 first.0 first.1))
     where
       by : (first : NumberedSight) → first_at q views ≡ Some first → PlansInterface t planned.kept n (home_at h q) first.view (functions_seen q views) i
           → AllZip (FunctionListed t planned.kept p) (functions_seen q views) i.functions
-      by first is_first plans =
-          zip_within (IsPlannedFunction t planned.kept plans.find) (FunctionListed t planned.kept p) (functions_seen q views) (λ f c e made. (made.under, becomes f c e made)) i.functions
-          plans.functions
+      by first is_first plans = zip_within (IsPlannedFunction t planned.kept plans.find) (FunctionListed t planned.kept p) (functions_seen q views) (λ f c e made. (made.under, becomes f c e made))
+          i.functions plans.functions
         where
           first_in : Contains views first
           first_in = (first_is q views first is_first).0
@@ -112,6 +102,5 @@ module _ (t : Tables) (h : Homes) (known : ℕ → Fact) (n : ℕ) (ms : List Me
               let of = function_of_view q views f c in
               view_becomes t h ms members ruled n p planned first first_in (member_view_in t ms given.input.numbers first first_in)
               (view_names t first (all_at (ViewObeys t) views ruled.rules.views first first_in)) plans.find
-              plans.resources b of.sight of.among
-              (of.place ∙ sym (first_is q views first is_first).1) (member_view_in t ms given.input.numbers of.sight of.among) (all_at (ViewObeys t) views ruled.rules.views of.sight of.among)
-              (ap (λ (o : ℕ → TypeOwner). o first.place) owned) f of.there e made
+              plans.resources b of.sight of.among (of.place ∙ sym (first_is q views first is_first).1) (member_view_in t ms given.input.numbers of.sight of.among)
+              (all_at (ViewObeys t) views ruled.rules.views of.sight of.among) (ap (λ (o : ℕ → TypeOwner). o first.place) owned) f of.there e made

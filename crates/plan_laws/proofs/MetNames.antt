@@ -1,11 +1,11 @@
 -- A name that stands inside a part is one of those that are met in its tree.
-use Rattle.std.proofs.Common.{rules as std_rules, ◌≡◌, sym, subst, ℕ, zero, suc, ◌+◌, ◌<◌, ◌⊎◌, inl, inr, arith, Bool, false, List, [], ◌∷◌, map, Option, Some, IfSome, option_map, option_to_list, slice_get}
+use Rattle.std.proofs.Common.{rules as std_rules, ◌≡◌, sym, subst, ℕ, zero, suc, ◌+◌, ◌<◌, inl, inr, arith, Bool, false, List, [], ◌∷◌, map, Some, option_to_list, slice_get}
 use Rattle.std.proofs.lemmas.{List.Elements.Contains-append_cases}
 use Rattle.std.specs.List.{AllByRecursion, Contains}
 use Rattle.wit_model.specs.{Text.Text, Tree.Form, Tree.Place, Tree.Tree, Tree.Trees, Tree.children}
 use Rattle.wit_model.proofs.Elements.{none-in}
 use Rattle.read_shown.specs.Trees.{DeclarationStands, HandleStands, PartsStand, SignatureStands, TreeStands, is_handle}
-use Rattle.plan_meaning.specs.NumberedViews.{AllOf, AreTables, FunctionShape, IsPart, PartsOf, Tables, declaration_of, place_at, signature_over, tree_at}
+use Rattle.plan_meaning.specs.NumberedViews.{AreTables, FunctionShape, IsPart, PartsOf, Tables, declaration_of, place_at, signature_over, tree_at}
 use Rattle.plan_meaning.specs.Shapes.{Shape, named_shape, node_shape}
 use Rattle.plan_meaning.proofs.{ShapeLaws.PartView, ShapeLaws.is_name, ShapeLaws.is_node, ShapeLaws.is_primitive, ShapeLaws.viewed}
 use Rattle.plan_types.specs.Used.{signature_parts}
@@ -32,13 +32,10 @@ module _ (t : Tables) (tables : AreTables t) (Met : Place → Text → Bool → 
   handle_view : (k : ℕ) → View k → HandleStands Met (Trees.child (tree_at t k) Trees.no_children) → IsIn t.shapes k n → IsMet
   handle_view k y stands found = search std_rules
 
-  two_stand : (a b : Tree) (ts : Trees) → HandleStands Met (Trees.child a (Trees.child b ts)) → ⊥
-  two_stand x b ts stands = search std_rules
-
   in_handle : (ks : List ℕ) → AllByRecursion (λ k. IsPart t k) ks → HandleStands Met (children (map (tree_at t) ks)) → (j : ℕ) → Contains ks j → IsIn t.shapes j n → IsMet
   in_handle [] ranges stands j c found = none-in j c
   in_handle (k ∷ []) ranges stands j c found = handle_view k (view k ranges.0) stands (subst (λ y. IsIn t.shapes y n) (sym (one-contained k j c)) found)
-  in_handle (k ∷ l ∷ ks) ranges stands j c found = absurd (two_stand (tree_at t k) (tree_at t l) (children (map (tree_at t) ks)) stands)
+  in_handle (k ∷ l ∷ ks) ranges stands j c found = absurd (search std_rules)
 
   -- a part among others
   in_parts : (ks : List ℕ) → AllByRecursion (λ k. IsPart t k) ks → PartsStand Met false (children (map (tree_at t) ks)) → (j : ℕ) → Contains ks j
@@ -89,12 +86,8 @@ module _ (t : Tables) (tables : AreTables t) (Met : Place → Text → Bool → 
   in_params (p ∷ ps) ranges stands k (zero, low, e) found = in_part p.1 (subst (λ y. IsIn t.shapes y n) (sym e) found) ranges.0 stands.0
   in_params (p ∷ ps) ranges stands k (suc i, low, e) found = in_params ps ranges.1 stands.1 k (i, omega (arith, low), e) found
 
-  in_result : (r : Option ℕ) → AllOf (IsPart t) r → IfSome (option_map (tree_at t) r) (TreeStands Met) → (k : ℕ) → Contains (option_to_list r) k → IsIn t.shapes k n → IsMet
-  in_result x range stands k c found = search (std_rules, none-in, in_part, IsIn, one-contained)
-
   pub in_signature : (f : FunctionShape) → PartsOf (IsPart t) f → SignatureStands Met (signature_over (tree_at t) f) → (k : ℕ) → Contains (signature_parts f) k → IsIn t.shapes k n → IsMet
-  in_signature f ranges stands k c found = by (Contains-append_cases (map (λ (x : Text × ℕ). x.1) f.params) (option_to_list f.result) k c)
-    where
-      by : Contains (map (λ (x : Text × ℕ). x.1) f.params) k ⊎ Contains (option_to_list f.result) k → IsMet
-      by (inl among) = in_params f.params ranges.0 stands.0 k among found
-      by (inr given) = in_result f.result ranges.1 stands.1 k given found
+  in_signature f ranges stands k c found = elim (Contains-append_cases (map (λ (x : Text × ℕ). x.1) f.params) (option_to_list f.result) k c) [
+    | inl among ↦ in_params f.params ranges.0 stands.0 k among found
+    | inr given ↦ search (std_rules, none-in, in_part, IsIn, one-contained)
+  ]

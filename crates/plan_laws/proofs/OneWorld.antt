@@ -53,9 +53,7 @@ module _ (t : Tables) (h : Homes) (n : ℕ) (m : Member) (own : List Member) (w 
   shown_among s c = subst (λ ss. Contains ss s) (sym views_first) (Contains-append_left shown others s c)
 
   pub functions_shown : (s : NumberedSight) → Contains shown s → functions_seen s.place (sights_of_members t (numbered_members ms)) ≡ functions_seen s.place shown
-  functions_shown s c =
-      let from = instance_of_view t (numbered_scope w) s c in
-      ap (functions_seen s.place) views_first ∙ functions_in_front shown others s (ap (λ (x : NumberedSight). x.whole) (sym from.2)) c
+  functions_shown s c = ap (functions_seen s.place) views_first ∙ functions_in_front shown others s (ap (λ (x : NumberedSight). x.whole) (sym (instance_of_view t (numbered_scope w) s c).2)) c
 
   -- the place of one of those interfaces is one that the world shows
   own_shown : (s : NumberedSight) → Contains others s → (r : NumberedSight) × Contains shown r × (r.place ≡ s.place)

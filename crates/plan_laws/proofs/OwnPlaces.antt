@@ -1,7 +1,7 @@
 -- Each place without a path is of one world, or of one inline interface with one view.
 use Rattle.plan_meaning.proofs.Lists.{no_true}
-use Rattle.std.proofs.lemmas.{Option.same_Some as same-some, Bool.not-true, Bool.and_from as both, Bool.false_from_ne_true}
-use Rattle.std.proofs.Common.{rules as std_rules, ◌≡◌, refl, sym, ap, subst, ◌∙◌, ℕ, zero, suc, ◌+◌, ◌⊎◌, inl, inr, arith, Bool, true, false, not, filter, if◌then◌else◌, List, [], ◌∷◌, ◌++◌, length, length-append, map, Option, None, is_none, ◌≤◌, Some, slice_get, cond}
+use Rattle.std.proofs.lemmas.{Option.same_Some as same-some, Bool.cases_eq, Bool.not-true, Bool.and_from as both, Bool.false_from_ne_true}
+use Rattle.std.proofs.Common.{rules as std_rules, ◌≡◌, refl, sym, ap, subst, ◌∙◌, ℕ, zero, suc, ◌+◌, inl, inr, arith, Bool, true, false, not, filter, if◌then◌else◌, List, [], ◌∷◌, ◌++◌, length, length-append, map, Option, None, is_none, ◌≤◌, Some, slice_get, cond}
 use Rattle.std.proofs.lemmas.List.Elements.{Contains-append_cases, Contains-append_left, filter-append}
 use Rattle.wit_model.proofs.{UsesLemmas.has_filter, Elements.contains-has, Elements.has-contains, Elements.none-in, Elements.contains-get}
 use Rattle.plan_laws.proofs.{PlaceNumbers.IsOnce, Inside.flat_cases}
@@ -46,18 +46,15 @@ module _ (test : ℕ → Bool) where
       twice : IsOnce (p ∷ filter test ps) → p ≡ q → (k : ℕ) → slice_get ps k ≡ Some q → ⊥
       twice one same k at =
           let there = contains-get (filter test ps) q (filtered_there ps q (get-contains ps k q at) passes) in
-          let wrong : 0 ≡ suc there.0 = one 0 (suc there.0) q (ap Some same) there.1 in
-          omega (arith, wrong)
-
-      behind : IsOnce (p ∷ filter test ps) → IsOnce (filter test ps)
-      behind one k l r at_k at_l = let same = one (suc k) (suc l) r at_k at_l in omega (arith, same)
+          omega (arith, one 0 (suc there.0) q (ap Some same) there.1)
 
       by : (b : Bool) → test p ≡ b → IsOnce (cond b (p ∷ filter test ps) (filter test ps)) → (i j : ℕ) → slice_get (p ∷ ps) i ≡ Some q → slice_get (p ∷ ps) j ≡ Some q
           → (IsOnce (filter test ps) → (k l : ℕ) → slice_get ps k ≡ Some q → slice_get ps l ≡ Some q → k ≡ l) → i ≡ j
       by b e one zero zero at_i at_j later = refl
       by true e one zero (suc j) at_i at_j later = absurd (twice one (same-some p q at_i) j at_j)
       by true e one (suc i) zero at_i at_j later = absurd (twice one (same-some p q at_j) i at_i)
-      by true e one (suc i) (suc j) at_i at_j later = ap suc (later (behind one) i j at_i at_j)
+      by true e one (suc i) (suc j) at_i at_j later = ap suc (later (λ k l r at_k at_l.
+          let same = one (suc k) (suc l) r at_k at_l in omega (arith, same)) i j at_i at_j)
       by false e one zero (suc j) at_i at_j later = no_true (sym e ∙ (ap test (same-some p q at_i) ∙ passes))
       by false e one (suc i) zero at_i at_j later = no_true (sym e ∙ (ap test (same-some p q at_j) ∙ passes))
       by false e one (suc i) (suc j) at_i at_j later = ap suc (later one i j at_i at_j)
@@ -77,49 +74,46 @@ abbrev pub AreDifferent : {A : Type 0} → List A → Type 0
 AreDifferent [] = Unit {0}
 AreDifferent (x ∷ xs) = (Contains xs x → ⊥) × AreDifferent xs
 
-record Without {A : Type 0} (xs : List A) (x : A) : Type 0 where
-  rest : List A
-  many : length xs ≡ suc (length rest)
-  cases : (y : A) → Contains xs y → (y ≡ x) ⊎ Contains rest y
+-- all but the one at this number
+abbrev pub removed : {A : Type 0} → List A → ℕ → List A
+removed [] j = []
+removed (x ∷ xs) zero = xs
+removed (x ∷ xs) (suc j) = x ∷ removed xs j
 
-without : {A : Type 0} (xs : List A) (x : A) → Contains xs x → Without xs x
-without [] x c = none-in x c
-without {A = A} (z ∷ xs) x (zero, low, e) = search std_rules
-without {A = A} (z ∷ xs) x (suc i, low, e) =
-    let less = without xs x (i, omega (arith, low), e) in
-    record { rest = z ∷ less.rest; many = ap suc less.many; cases = by less }
-  where
-    later : (less : Without xs x) (y : A) → (y ≡ x) ⊎ Contains less.rest y → (y ≡ x) ⊎ Contains (z ∷ less.rest) y
-    later less y (inl is) = inl is
-    later less y (inr among) = inr (contains-later z less.rest y among)
+pub removed_many : {A : Type 0} (xs : List A) (j : ℕ) (x : A) → slice_get xs j ≡ Some x → length xs ≡ suc (length (removed xs j))
+removed_many [] j x e = let wrong : None ≡ Some x = e in absurd cc
+removed_many (y ∷ xs) zero x e = refl
+removed_many (y ∷ xs) (suc j) x e = ap suc (removed_many xs j x e)
 
-    by : (less : Without xs x) (y : A) → Contains (z ∷ xs) y → (y ≡ x) ⊎ Contains (z ∷ less.rest) y
-    by less y (zero, y_low, same) = inr (zero, omega arith, same)
-    by less y (suc j, y_low, same) = later less y (less.cases y (j, omega (arith, y_low), same))
+pub removed_other : {A : Type 0} (xs : List A) (j k : ℕ) (x : A) → slice_get xs k ≡ Some x → (k ≡ j → ⊥) → Contains (removed xs j) x
+removed_other [] j k x e other = let wrong : None ≡ Some x = e in absurd cc
+removed_other (y ∷ xs) zero zero x e other = absurd (other refl)
+removed_other (y ∷ xs) zero (suc k) x e other = get-contains xs k x e
+removed_other (y ∷ xs) (suc j) zero x e other = (0, omega arith, same-some y x e)
+removed_other (y ∷ xs) (suc j) (suc k) x e other = contains-later y (removed xs j) x (removed_other xs j k x e (λ same. other (ap suc same)))
 
-still : {A : Type 0} (c : A) (cs is : List A) → (Contains cs c → ⊥) → ((y : A) → Contains (c ∷ cs) y → Contains is y) → (less : Without is c) (y : A) → Contains cs y → Contains less.rest y
-still {A = A} c cs is apart among less y d = elim (less.cases y (among y (contains-later c cs y d))) [ inl same ↦ absurd (apart (subst (Contains cs) same d)) | inr rest ↦ rest ]
+still : {A : Type 0} (c : A) (cs is : List A) → (Contains cs c → ⊥) → ((y : A) → Contains (c ∷ cs) y → Contains is y) → (j : ℕ) → slice_get is j ≡ Some c → (y : A) → Contains cs y
+    → Contains (removed is j) y
+still c cs is apart among j at y d = let k = contains-get is y (among y (contains-later c cs y d)) in
+    removed_other is j k.0 y k.1 (λ same. apart (subst (Contains cs) (same-some y c (sym k.1 ∙ (ap (slice_get is) same ∙ at))) d))
 
 -- others among which they all are aren't fewer
 pub no_longer : {A : Type 0} (cs is : List A) → AreDifferent cs → ((c : A) → Contains cs c → Contains is c) → length cs ≤ length is
 no_longer [] is apart among = omega arith
 no_longer (c ∷ cs) is apart among =
-    let less = without is c (among c (zero, omega arith, refl)) in
-    let fewer = no_longer cs less.rest apart.1 (still c cs is apart.0 among less) in
-    let many = less.many in
-    omega (arith, fewer, many)
+    let j = contains-get is c (among c (zero, omega arith, refl)) in
+    omega (arith, no_longer cs (removed is j.0) apart.1 (still c cs is apart.0 among j.0 j.1), removed_many is j.0 c j.1)
 
 pub all_taken : {A : Type 0} (cs is : List A) → AreDifferent cs → ((c : A) → Contains cs c → Contains is c) → length is ≡ length cs → (x : A) → Contains is x → Contains cs x
 all_taken [] is apart among many x (i, low, e) = absurd (omega (arith, low, many))
-all_taken {A = A} (c ∷ cs) is apart among many x there = by (λ rest each as_many there. all_taken cs rest apart.1 each as_many x there) (without is c (among c (zero, omega arith, refl)))
-  where
-    which : ((rest : List A) → ((y : A) → Contains cs y → Contains rest y) → length rest ≡ length cs → Contains rest x → Contains cs x) → (less : Without is c) → (x ≡ c) ⊎ Contains less.rest x
-        → Contains (c ∷ cs) x
-    which more less (inl same) = (zero, omega arith, sym same)
-    which more less (inr rest) = contains-later c cs x (more less.rest (still c cs is apart.0 among less) (let a = less.many in omega (arith, a, many)) rest)
-
-    by : ((rest : List A) → ((y : A) → Contains cs y → Contains rest y) → length rest ≡ length cs → Contains rest x → Contains cs x) → Without is c → Contains (c ∷ cs) x
-    by more less = which more less (less.cases x there)
+all_taken (c ∷ cs) is apart among many x there =
+    let j = contains-get is c (among c (zero, omega arith, refl)) in
+    let k = contains-get is x there in
+    let less : length (removed is j.0) ≡ length cs = (let one = removed_many is j.0 c j.1 in omega (arith, one, many)) in
+    elim (cases_eq k.0 j.0) [
+      | inl same ↦ (zero, omega arith, same-some c x (sym j.1 ∙ (ap (slice_get is) (sym same) ∙ k.1)))
+      | inr other ↦ contains-later c cs x (all_taken cs (removed is j.0) apart.1 (still c cs is apart.0 among j.0 j.1) less x (removed_other is j.0 k.0 x k.1 other))
+    ]
 
 -- ---- what is there in all worlds
 
@@ -221,8 +215,7 @@ once_last (x ∷ xs) ys once = once_last xs ys (once_behind x (xs ++ ys) once)
 
 pub once_first : (xs ys : List ℕ) → are_once (xs ++ ys) ≡ true → are_once xs ≡ true
 once_first [] ys once = refl
-once_first (x ∷ xs) ys once =
-    search (std_rules, both, false_from_ne_true, has-contains, not_among, Contains-append_left, once_behind, once_first xs ys (once_behind x (xs ++ ys) once))
+once_first (x ∷ xs) ys once = search (std_rules, both, false_from_ne_true, has-contains, not_among, Contains-append_left, once_behind, once_first xs ys (once_behind x (xs ++ ys) once))
 
 pub once_inside : {A : Type 0} (test : ℕ → Bool) (f : A → List ℕ) (xs : List A) → are_once (filter test (flat_map f xs)) ≡ true → (x : A) → Contains xs x → are_once (filter test (f x)) ≡ true
 once_inside test f [] once x c = none-in x c
@@ -281,15 +274,16 @@ module _ (t : Tables) (w : NumberedScope) (good : IsScopeIn t w) where
 
   module _ (scope : follow.Scope) (shows : Shows t w scope) (seen : InstancesAreSeen scope) where
     pub inline_many : length (filter (no_path t) w.instances) ≡ length all_inline
-    inline_many =
-        let a : nones t (map (instance_of t) w.instances) ≡ length (filter (no_path t) w.instances) = kept_nones t w.instances in
-        let b : nones t scope.instances ≡ nones t (map (instance_of t) w.instances) = ap (nones t) shows.instances in
-        let c : nones t (map (λ (y : Direction × Instance). y.1) seen.seen) ≡ nones t scope.instances = ap (nones t) seen.all in
-        let d = both_ways t seen.seen in
-        let e : nones t (going import_ seen.seen) ≡ length (inlines t w.imports) = ap (nones t) (seen.imported ∙ ap instances_in shows.imports) ∙ seen_nones t w.imports in
-        let f : nones t (going export_ seen.seen) ≡ length (inlines t w.exports) = ap (nones t) (seen.exported ∙ ap instances_in shows.exports) ∙ seen_nones t w.exports in
-        let g : length all_inline ≡ length (inlines t w.imports) + length (inlines t w.exports) = length-append (inlines t w.imports) (inlines t w.exports) in
-        omega (arith, a, b, c, d, e, f, g)
+    inline_many = omega (
+      arith,
+      kept_nones t w.instances,
+      ap (nones t) shows.instances,
+      ap (nones t) seen.all,
+      both_ways t seen.seen,
+      (ap (nones t) (seen.imported ∙ ap instances_in shows.imports) ∙ seen_nones t w.imports),
+      (ap (nones t) (seen.exported ∙ ap instances_in shows.exports) ∙ seen_nones t w.exports),
+      length-append (inlines t w.imports) (inlines t w.exports),
+    )
 
     -- an instance without a path is an inline interface that is imported or exported
     pub inline_seen : are_once (filter (has_no_path t) (places_of_part (world w))) ≡ true → (i : NumberedInstance) → Contains w.instances i → path_at t i.place ≡ None → Contains all_inline i
@@ -301,8 +295,7 @@ module _ (t : Tables) (w : NumberedScope) (good : IsScopeIn t w) where
             (ap are_once (sym (filter-append (has_no_path t) (w.home ∷ []) (places_of_seen w.imports ++ places_of_seen w.exports))) ∙ apart)
 
         kept : (x : NumberedInstance) → Contains all_inline x → Contains (filter (no_path t) w.instances) x
-        kept x there = by (Contains-append_cases (inlines t w.imports) (inlines t w.exports) x there)
-          where
-            by : Contains (inlines t w.imports) x ⊎ Contains (inlines t w.exports) x → Contains (filter (no_path t) w.instances) x
-            by (inl among) = inline_kept w.imports good.imports good.imported x among
-            by (inr among) = inline_kept w.exports good.exports good.exported x among
+        kept x there = elim (Contains-append_cases (inlines t w.imports) (inlines t w.exports) x there) [
+          | inl among ↦ inline_kept w.imports good.imports good.imported x among
+          | inr among ↦ inline_kept w.exports good.exports good.exported x among
+        ]

@@ -4,7 +4,7 @@ use Rattle.read_rules.specs.Tables.{given_text}
 use Rattle.read_exports.specs.declared.members.{Part.Part, Member.Member}
 use Rattle.std.proofs.Common.{rules as std_rules, ◌≡◌, refl, sym, ap, subst, ◌∙◌, ℕ, zero, suc, ◌+◌, ◌⊎◌, inl, inr, arith, Bool, List, [], ◌∷◌, ◌++◌, length, map, Option, Some, slice_get}
 use Rattle.std.specs.List.{AllByRecursion, AllZip, Contains}
-use Rattle.wit_model.specs.{Text.Text, Names.path_in, Tree.Declaration, Tree.Place}
+use Rattle.wit_model.specs.{Text.Text, Tree.Declaration, Tree.Place}
 use Rattle.wit_model.proofs.Elements.{contains-get}
 use Rattle.comp_meaning.specs.{Follow.Instance, Follow.place_of, Reads.Part as MeantPart}
 use Rattle.read_shown.specs.{Parts.instances_of, Parts.named_instance, Trees.SignatureStands, Views.ViewStands}
@@ -46,10 +46,8 @@ module _ (t : Tables) (tables : AreTables t) (h : Homes) (stand : HomesStand t h
       → IsPartIn t (numbered_part a) → instances_of (record { label = x.label; package_ = x.package_; part = b }) ≡ map (instance_tree t tables) (views_of_part (numbered_part a))
   trees_of_part m x member (parts.World w) (MeantPart.world scope) is good = is.instances ∙ sym (map_of_map (instance_tree t tables) whole_view (map numbered_instance w.instances.now))
   trees_of_part m x member (parts.Interface p v imports) (MeantPart.interface view views) is good =
-      let front = ap (map named_instance) is.imported ∙ imports_same (map numbered_import imports.now) good.1 in
-      let place = exported_place t h stand m x.package_ member.package_ x.label member.label p is.path is.home in
-      let path : Some (path_in x.package_ x.label) ≡ path_at t p = ap text_of_place place ∙ path_back (path_at t p) in
-      (λ i. front i ++ record { interface = path i; view = is.shown i } ∷ [])
+      (λ i. (ap (map named_instance) is.imported ∙ imports_same (map numbered_import imports.now) good.1) i
+      ++ record { interface = (ap text_of_place (exported_place t h stand m x.package_ member.package_ x.label member.label p is.path is.home) ∙ path_back (path_at t p)) i; view = is.shown i } ∷ [])
       ∙ sym (append_of_map (instance_tree t tables) (import_sights p v imports) (own_sight p v imports ∷ []))
   trees_of_part m x member _ _ is good = absurd is
 
@@ -57,17 +55,13 @@ module _ (t : Tables) (tables : AreTables t) (h : Homes) (stand : HomesStand t h
   pub trees_of_all : (ms : List Member) (members : List reads.Member) → AllZip (IsMember t h) (numbered_members ms) members → AreMembersIn t (numbered_members ms)
       → all_instances members ≡ map (instance_tree t tables) (views_of_members (numbered_members ms))
   trees_of_all [] [] zip good = refl
-  trees_of_all (m ∷ ms) (x ∷ members) zip good =
-      let first = trees_of_part m x zip.0 m.part x.part zip.0.part good.0 in
-      let rest = trees_of_all ms members zip.1 good.1 in
-      (λ i. first i ++ rest i) ∙ sym (append_of_map (instance_tree t tables) (views_of_part (numbered_part m.part)) (views_of_members (numbered_members ms)))
+  trees_of_all (m ∷ ms) (x ∷ members) zip good = (λ i. (trees_of_part m x zip.0 m.part x.part zip.0.part good.0) i ++ (trees_of_all ms members zip.1 good.1) i) ∙ sym (append_of_map _ _ _)
   trees_of_all _ _ zip good = absurd zip
 
   -- ---- some views
 
   module _ (n q : ℕ) (name : Text) (at : slice_get t.shapes n ≡ Some (named_shape q name)) (views : List NumberedSight) (instances : List Instance)
-      (trees : instances ≡ map (instance_tree t tables) views)
-      (all_good : (s : NumberedSight) → Contains views s → IsViewIn t s.place s.view)
+      (trees : instances ≡ map (instance_tree t tables) views) (all_good : (s : NumberedSight) → Contains views s → IsViewIn t s.place s.view)
       (stands : (k : ℕ) (s : NumberedSight) → slice_get views k ≡ Some s → ViewStands (IsShownBefore instances k) (place_at t s.place) (view_of t s.view)) where
     -- what a view shows
     pub view_showing : (s : NumberedSight) → Contains views s → (x : NumberedType) → Contains s.view.types x → (k : ℕ) → Contains (showing_parts t (showing_of x)) k → IsIn t.shapes k n
@@ -76,8 +70,7 @@ module _ (t : Tables) (tables : AreTables t) (h : Homes) (stand : HomesStand t h
         part_shows t tables views all_good n q name at instances trees s there.0 there.1 (stands there.0 s there.1) x among k used found
 
     pub view_signature : (s : NumberedSight) → Contains views s → (g : Text × NumberedFunction) → Contains s.view.functions g → (k : ℕ) → Contains (function_parts t g.1.signature) k
-        → IsIn t.shapes k n
-        → ShowsNumber t views q n
+        → IsIn t.shapes k n → ShowsNumber t views q n
     view_signature s c g among k used found =
         let there = contains-get views s c in
         function_shows t tables views all_good n q name at instances trees s there.0 there.1 (stands there.0 s there.1) g among k used found
@@ -85,20 +78,13 @@ module _ (t : Tables) (tables : AreTables t) (h : Homes) (stand : HomesStand t h
     -- ---- a world
 
     module _ (w : Scope) (within : (s : NumberedSight) → Contains (views_of_part (numbered_part (parts.World w))) s → Contains views s) (scope : follow.Scope)
-        (shows : Shows t (numbered_scope w) scope)
-        (good : IsScopeIn t (numbered_scope w)) (declares : AllByRecursion (DeclaresName t w.home) w.imports.now) (scope_stands : ScopeStands scope) where
+        (shows : Shows t (numbered_scope w) scope) (good : IsScopeIn t (numbered_scope w)) (declares : AllByRecursion (DeclaresName t w.home) w.imports.now) (scope_stands : ScopeStands scope) where
       -- a view shows the type, or the world imports it
       abbrev Goal : Type 0
       Goal = ShowsNumber t views q n ⊎ ((q ≡ w.home) × ImportsNumber t w n)
 
-      abbrev own_views : List NumberedSight
-      own_views = map whole_view (map numbered_instance w.instances.now)
-
-      own_trees : scope.instances ≡ map (instance_tree t tables) own_views
-      own_trees = shows.instances ∙ sym (map_of_map (instance_tree t tables) whole_view (map numbered_instance w.instances.now))
-
       -- what a view of the world shows
-      within_all : ShowsNumber t own_views q n → ShowsNumber t views q n
+      within_all : ShowsNumber t (map whole_view (map numbered_instance w.instances.now)) q n → ShowsNumber t views q n
       within_all s = record { sight = s.sight; among = within s.sight s.among; place = s.place; type_ = s.type_; there = s.there; named = s.named; slot = s.slot }
 
       -- an import, as it was followed
@@ -111,16 +97,13 @@ module _ (t : Tables) (tables : AreTables t) (h : Homes) (stand : HomesStand t h
                 (mapped_get (seen_of t) (map numbered_seen w.imports.now) there.0 (numbered_seen c) (mapped_get numbered_seen w.imports.now there.0 c there.1)),
           )
 
-      import_good : (c : Seen) → Contains w.imports.now c → IsSeenIn t w.home (numbered_seen c)
-      import_good c among = at_mapped (IsSeenIn t w.home) numbered_seen w.imports.now good.imports c among
-
       -- the type that is declared under this number
       import_declares : (c : Seen) → Contains w.imports.now c → (part : ℕ) (d : Option ℕ) → c.shown ≡ shown.Declares part d → (m : ℕ) × (part ≡ 14 + m) × IsNameOf t w.home c.key.now d m
       import_declares c among part d e =
           let named = subst (λ (x : Shown). DeclaresName t w.home (record { key = c.key; shown = x; external_id = c.external_id })) e (all_at (DeclaresName t w.home) w.imports.now declares c among) in
-          let is = subst (λ (x : Shown). IsSeenIn t w.home (record { key = c.key.now; shown = numbered_shown x; external_id = given_text c.external_id })) e (import_good c among) in
-          let one : is.0 ≡ named.0 = tables.shapes.apart is.0 named.0 (named_shape w.home c.key.now) is.1.named named.2 in
-          (named.0, named.1, subst (IsNameOf t w.home c.key.now d) one is.1)
+          let is = subst (λ (x : Shown). IsSeenIn t w.home (record { key = c.key.now; shown = numbered_shown x; external_id = given_text c.external_id })) e
+          (at_mapped (IsSeenIn t w.home) numbered_seen w.imports.now good.imports c among) in
+          (named.0, named.1, subst (IsNameOf t w.home c.key.now d) (tables.shapes.apart is.0 named.0 (named_shape w.home c.key.now) is.1.named named.2) is.1)
 
       number_here : (m : ℕ) (key : Text) (d : Option ℕ) (k : ℕ) → IsNameOf t w.home key d m → k ≡ 14 + m → IsIn t.shapes k n → (m ≡ n) × (q ≡ w.home)
       number_here m key d k is part found =
@@ -129,16 +112,7 @@ module _ (t : Tables) (tables : AreTables t) (h : Homes) (stand : HomesStand t h
 
       imports_it : (c : Seen) → Contains w.imports.now c → (d : Option ℕ) (m part : ℕ) → c.shown ≡ shown.Declares part d → part ≡ 14 + m → IsNameOf t w.home c.key.now d m → m ≡ n → q ≡ w.home → Goal
       imports_it c among d m part e is named one home =
-          inr (
-            home,
-            record {
-              seen = c;
-              among = among;
-              declared = d;
-              shown = e ∙ ap (λ k. shown.Declares k d) (is ∙ ap (λ k. 14 + k) one);
-              named = subst (IsNameOf t w.home c.key.now d) one named;
-            },
-          )
+          inr (home, record { seen = c; among = among; declared = d; shown = e ∙ ap (λ k. shown.Declares k d) (is ∙ ap (λ k. 14 + k) one); named = subst (IsNameOf t w.home c.key.now d) one named })
 
       -- ---- what is met
 
@@ -152,9 +126,6 @@ module _ (t : Tables) (tables : AreTables t) (h : Homes) (stand : HomesStand t h
       declares_only (shown.Declares part o) d e = (part, o, refl)
       declares_only _ d e = let wrong : ⊥ = cc in absurd wrong
 
-      named_here : (m : ℕ) (key : Text) → slice_get t.shapes m ≡ Some (named_shape w.home key) → key ≡ name → q ≡ w.home → slice_get t.shapes m ≡ Some (named_shape q name)
-      named_here m key there same home = there ∙ (ap (λ x. Some (named_shape w.home x)) same ∙ ap (λ x. Some (named_shape x name)) (sym home))
-
       import_shows : (m : ℕ) (d : Declaration) → IsImported scope.imports m name d → q ≡ w.home → Goal
       import_shows m d by home =
           let outer = unmapped_get (seen_of t) (map numbered_seen w.imports.now) by.number by.seen (subst (λ ss. slice_get ss by.number ≡ Some by.seen) shows.imports by.at) in
@@ -162,20 +133,19 @@ module _ (t : Tables) (tables : AreTables t) (h : Homes) (stand : HomesStand t h
           let c = from.0 in
           let same : seen_of t (numbered_seen c) ≡ by.seen = ap (seen_of t) from.2 ∙ outer.2 in
           let among = get-contains w.imports.now by.number c from.1 in
-          let key : c.key.now ≡ name = ap (λ (s : follow.Seen). s.key) same ∙ by.key in
           let declared = declares_only c.shown d (ap (λ (s : follow.Seen). s.shown) same ∙ by.shown) in
           let named = import_declares c among declared.0 declared.1 declared.2 in
-          let one : named.0 ≡ n = tables.shapes.apart named.0 n (named_shape q name) (named_here named.0 c.key.now named.2.named key home) at in
-          imports_it c among declared.1 named.0 declared.0 declared.2 named.1 named.2 one home
-
-      no_path : HasPath t q → place_at t q ≡ Place.here → ⊥
-      no_path path here = let wrong : Place.of_interface path.0 ≡ Place.here = sym (ap place_of path.1) ∙ here in cc
+          imports_it c among declared.1 named.0 declared.0 declared.2 named.1 named.2
+          (tables.shapes.apart named.0 n (named_shape q name) (named.2.named
+          ∙ (ap (λ x. Some (named_shape w.home x)) (ap (λ (s : follow.Seen). s.key) same ∙ by.key) ∙ ap (λ x. Some (named_shape x name)) (sym home))) at) home
 
       met_shows : (count : ℕ) (b : Bool) → (q ≡ w.home) ⊎ HasPath t q → IsMetInScope scope.instances scope.imports count (place_at t q) name b → Goal
-      met_shows count b own (scopes.by_instance before) = inl (within_all (outside_shows t tables own_views (view_in t (parts.World w) good) n q name at scope.instances own_trees
+      met_shows count b own (scopes.by_instance before) = inl (within_all (outside_shows t tables (map whole_view (map numbered_instance w.instances.now)) (view_in t (parts.World w) good) n q name at
+          scope.instances
+          (shows.instances ∙ sym (map_of_map (instance_tree t tables) whole_view (map numbered_instance w.instances.now)))
           (length scope.instances) b before))
       met_shows count b (inl home) (scopes.by_import here declared) = let found = imported declared in import_shows found.0 found.1 found.2 home
-      met_shows count b (inr path) (scopes.by_import here declared) = absurd (no_path path here)
+      met_shows count b (inr path) (scopes.by_import here declared) = absurd (let wrong : Place.of_interface path.0 ≡ Place.here = sym (ap place_of path.1) ∙ here in cc)
 
       -- ---- what is shown
 
@@ -186,24 +156,21 @@ module _ (t : Tables) (tables : AreTables t) (h : Homes) (stand : HomesStand t h
           let here = number_here named.0 c.key.now d k named.2 (sym same ∙ named.1) found in
           imports_it c among d named.0 part e named.1 named.2 here.0 here.1
       declared_shows c among part d e k (suc i, low, same) found =
-          let named = import_declares c among part d e in
           let inner = declared_inside t n d k (i, omega (arith, low), same) found in
-          let met : IsMetFrom t w.home inner.0 = subst (AllOf (IsMetFrom t w.home)) inner.1 named.2.met in
+          let met : IsMetFrom t w.home inner.0 = subst (AllOf (IsMetFrom t w.home)) inner.1 (import_declares c among part d e).2.met in
           let tree = import_tree c among in
-          let Met = IsMetInScope scope.instances scope.imports tree.0 in
           let shown_stands = subst (λ x. scopes.ShownStands scope.instances scope.imports tree.0 (shown_of t (numbered_shown x))) (e ∙ ap (shown.Declares part) inner.1)
           (scope_stands.imports tree.0 (seen_of t (numbered_seen c)) tree.2) in
-          let name_met = in_declared t tables Met n q name at inner.0 met.range inner.2 shown_stands.0 shown_stands.1 in
+          let name_met = in_declared t tables (IsMetInScope scope.instances scope.imports tree.0) n q name at inner.0 met.range inner.2 shown_stands.0 shown_stands.1 in
           met_shows tree.0 name_met.0 (met.names q (name_in t.shapes tables.shapes inner.0 n q name inner.2 at)) name_met.1
 
       -- a function, of which a part is used
       called_shows : (f : ℕ) → IsCalledIn t w.home f → (count : ℕ) → SignatureStands (IsMetInScope scope.instances scope.imports count) (signature_at t f) → (k : ℕ) → Contains (function_parts t f) k
           → IsIn t.shapes k n → Goal
       called_shows f called count signature k used found =
-          let met : IsMetFrom t w.home k = part_of_function (IsMetFrom t w.home) (function_at t f) called.parts k used in
-          let ranges = parts_weaker (IsMetFrom t w.home) (IsPart t) (λ i m. m.range) (function_at t f) called.parts in
-          let name_met = in_signature t tables (IsMetInScope scope.instances scope.imports count) n q name at (function_at t f) ranges signature k used found in
-          met_shows count name_met.0 (met.names q (name_in t.shapes tables.shapes k n q name found at)) name_met.1
+          let name_met = in_signature t tables (IsMetInScope scope.instances scope.imports count) n q name at (function_at t f)
+          (parts_weaker (IsMetFrom t w.home) (IsPart t) (λ i m. m.range) (function_at t f) called.parts) signature k used found in
+          met_shows count name_met.0 ((part_of_function (IsMetFrom t w.home) (function_at t f) called.parts k used).names q (name_in t.shapes tables.shapes k n q name found at)) name_met.1
 
       pub import_showing : (c : Seen) → Contains w.imports.now c → (part : ℕ) (d : Option ℕ) → c.shown ≡ shown.Declares part d → (y : NumberedShowing)
           → imported_showing part d (given_text c.external_id) ≡ y → (k : ℕ) → Contains (showing_parts t y) k → IsIn t.shapes k n → Goal
@@ -222,8 +189,6 @@ module _ (t : Tables) (tables : AreTables t) (h : Homes) (stand : HomesStand t h
               called_shows f called tree.0 stand k used found
           by (inr among) =
               let at_c = contains-get w.exports.now c among in
-              let tree = subst (λ ss. slice_get ss at_c.0 ≡ Some (seen_of t (numbered_seen c))) (sym shows.exports)
-              (mapped_get (seen_of t) (map numbered_seen w.exports.now) at_c.0 (numbered_seen c) (mapped_get numbered_seen w.exports.now at_c.0 c at_c.1)) in
-              let stand = subst (λ x. scopes.ShownStands scope.instances scope.imports (length scope.imports) (shown_of t (numbered_shown x))) e
-              (scope_stands.exports at_c.0 (seen_of t (numbered_seen c)) tree) in
-              called_shows f called (length scope.imports) stand k used found
+              called_shows f called (length scope.imports) (subst (λ x. scopes.ShownStands scope.instances scope.imports (length scope.imports) (shown_of t (numbered_shown x))) e
+              (scope_stands.exports at_c.0 (seen_of t (numbered_seen c)) (subst (λ ss. slice_get ss at_c.0 ≡ Some (seen_of t (numbered_seen c))) (sym shows.exports)
+              (mapped_get (seen_of t) (map numbered_seen w.exports.now) at_c.0 (numbered_seen c) (mapped_get numbered_seen w.exports.now at_c.0 c at_c.1))))) k used found

@@ -23,16 +23,13 @@ no_true : {A : Type 0} → false ≡ true → A
 no_true e = absurd cc
 
 module _ (ps : List ℕ) (q : ℕ) where
-  abbrev first : ℕ
-  first = position_or_len (λ x. q == x) ps
-
-  given_by : (b : Bool) → nat_lt first (length ps) ≡ b → Contains ps q → (m : ℕ) × (cond b (Some first) None ≡ Some m)
-  given_by true low c = (first, refl)
+  given_by : (b : Bool) → nat_lt (position_or_len (λ x. q == x) ps) (length ps) ≡ b → Contains ps q → (m : ℕ) × (cond b (Some (position_or_len (λ x. q == x) ps)) None ≡ Some m)
+  given_by true low c = (position_or_len (λ x. q == x) ps, refl)
   given_by false high (k, low, e) = search (std_rules, ltb-false, fails_before_first, no_true, same-number)
 
   -- each place has one
   pub number_given : Contains ps q → (m : ℕ) × (number_in ps q ≡ Some m)
-  number_given c = given_by (nat_lt first (length ps)) refl c
+  number_given c = given_by (nat_lt (position_or_len (λ x. q == x) ps) (length ps)) refl c
 
 -- ---- places that are met
 
@@ -57,11 +54,8 @@ module _ (met : List ℕ) (p : ℕ) where
   joined_from : (x : ℕ) → Contains (joined met p) x → Contains met x ⊎ (p ≡ x)
   joined_from x c = from_by (has met p) x c
 
-  once_by : (b : Bool) → has met p ≡ b → IsOnce met → IsOnce (cond b met (met ++ p ∷ []))
-  once_by x there once i j q at_i at_j = search (std_rules, at_end, no_true, contains-has, get-contains)
-
   joined_once : IsOnce met → IsOnce (joined met p)
-  joined_once once = once_by (has met p) refl once
+  joined_once once = λ i j q at_i at_j. search (std_rules, at_end, no_true, contains-has, get-contains)
 
 -- each that is met is among them
 pub all_joined : (met ps : List ℕ) (x : ℕ) → Contains met x ⊎ Contains ps x → Contains (joined_all met ps) x
@@ -74,7 +68,7 @@ all_joined met (p ∷ ps) x (inr (suc i, low, e)) = all_joined (joined met p) ps
 -- nothing else is
 pub from_joined : (met ps : List ℕ) (x : ℕ) → Contains (joined_all met ps) x → Contains met x ⊎ Contains ps x
 from_joined met [] x c = inl c
-from_joined met (p ∷ ps) x c = by (from_joined (joined met p) ps x c)
+from_joined met (p ∷ ps) x c = elim (from_joined (joined met p) ps x c) [ inl among ↦ here (joined_from met p x among) | inr after ↦ inr (later after) ]
   where
     here : Contains met x ⊎ (p ≡ x) → Contains met x ⊎ Contains (p ∷ ps) x
     here (inl among) = inl among
@@ -82,10 +76,6 @@ from_joined met (p ∷ ps) x c = by (from_joined (joined met p) ps x c)
 
     later : Contains ps x → Contains (p ∷ ps) x
     later (k, low, e) = (suc k, omega (arith, low), e)
-
-    by : Contains (joined met p) x ⊎ Contains ps x → Contains met x ⊎ Contains (p ∷ ps) x
-    by (inl among) = here (joined_from met p x among)
-    by (inr after) = inr (later after)
 
 pub all_once : (met ps : List ℕ) → IsOnce met → IsOnce (joined_all met ps)
 all_once met [] once = once
@@ -98,8 +88,7 @@ none_twice i j q at_i at_j = let wrong : None ≡ Some q = at_i in absurd cc
 pub place_number : (ms : List Member) (m q : ℕ) → slice_get (places_in ms) m ≡ Some q → number_in (places_in ms) q ≡ Some m
 place_number ms m q e =
     let given = number_given (places_in ms) q (get-contains (places_in ms) m q e) in
-    let once : IsOnce (places_in ms) = all_once [] (flat_map (λ (x : NumberedMember). places_of_part x.part) (numbered_members ms)) none_twice in
-    given.1 ∙ ap Some (once given.0 m q (number_there (places_in ms) q given.0 given.1) e)
+    given.1 ∙ ap Some ((all_once [] (flat_map (λ (x : NumberedMember). places_of_part x.part) (numbered_members ms)) none_twice) given.0 m q (number_there (places_in ms) q given.0 given.1) e)
 
 -- ---- owners
 

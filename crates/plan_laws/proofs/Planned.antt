@@ -44,9 +44,6 @@ module _ (ms : List Member) where
   abbrev numbered : List NumberedMember
   numbered = numbered_members ms
 
-  abbrev views : List NumberedSight
-  views = views_of_members numbered
-
   -- the place of a view is met
   pub view_met : (m : NumberedMember) → Contains numbered m → (s : NumberedSight) → Contains (views_of_part m.part) s → Contains (places_in ms) s.place
   view_met m c s among =
@@ -54,22 +51,19 @@ module _ (ms : List Member) where
       all_joined [] (flat_map (λ (x : NumberedMember). places_of_part x.part) numbered) s.place (inr (contains-flat (λ (x : NumberedMember). places_of_part x.part) numbered m s.place c there))
 
   -- a view of each place that is met
-  pub place_seen : (q : ℕ) → Contains (places_in ms) q → (s : NumberedSight) × Contains views s × (s.place ≡ q)
-  place_seen q c = by (from_joined [] (flat_map (λ (x : NumberedMember). places_of_part x.part) numbered) q c)
-    where
-      by : Contains [] q ⊎ Contains (flat_map (λ (x : NumberedMember). places_of_part x.part) numbered) q → (s : NumberedSight) × Contains views s × (s.place ≡ q)
-      by (inl none) = none-in q none
-      by (inr among) =
-          let from = flat_cases (λ (x : NumberedMember). places_of_part x.part) numbered q among in
-          let sight = from_map (λ (s : NumberedSight). s.place) (views_of_part from.0.part) q (subst (λ ps. Contains ps q) (sym (places_of_views from.0.part)) from.2) in
-          (sight.0, contains-flat (λ (x : NumberedMember). views_of_part x.part) numbered from.0 sight.0 from.1 sight.1, sight.2)
+  pub place_seen : (q : ℕ) → Contains (places_in ms) q → (s : NumberedSight) × Contains (views_of_members numbered) s × (s.place ≡ q)
+  place_seen q c = elim (from_joined [] (flat_map (λ (x : NumberedMember). places_of_part x.part) numbered) q c) [
+    | inl none ↦ none-in q none
+    | inr among ↦ (let from = flat_cases (λ (x : NumberedMember). places_of_part x.part) numbered q among in let sight =
+        from_map (λ (s : NumberedSight). s.place) (views_of_part from.0.part) q (subst (λ ps. Contains ps q) (sym (places_of_views from.0.part)) from.2) in
+        (sight.0, contains-flat (λ (x : NumberedMember). views_of_part x.part) numbered from.0 sight.0 from.1 sight.1, sight.2))
+  ]
 
   -- the place of a world is met
   pub home_met : (m : Member) → Contains ms m → (w : Scope) → m.part ≡ parts.World w → Contains (homes_in ms) w.home
-  home_met m c w is =
-      let there : Contains (home_of_part (numbered_part m.part)) w.home = subst (λ a. Contains (home_of_part (numbered_part a)) w.home) (sym is) (0, omega arith, refl) in
-      all_joined [] (flat_map (λ (x : NumberedMember). home_of_part x.part) numbered) w.home
-      (inr (contains-flat (λ (x : NumberedMember). home_of_part x.part) numbered (numbered_member m) w.home (contains-map numbered_member ms m c) there))
+  home_met m c w is = all_joined [] (flat_map (λ (x : NumberedMember). home_of_part x.part) numbered) w.home
+      (inr (contains-flat (λ (x : NumberedMember). home_of_part x.part) numbered (numbered_member m) w.home (contains-map numbered_member ms m c)
+      (subst (λ a. Contains (home_of_part (numbered_part a)) w.home) (sym is) (0, omega arith, refl))))
 
   -- the place of a name that is shown is met
   pub shown_met : (t : Tables) (m : Member) → Contains ms m → (q n : ℕ) → IsShownByPart t m.part q n → Contains (places_in ms) q ⊎ Contains (homes_in ms) q
@@ -78,17 +72,15 @@ module _ (ms : List Member) where
 
 -- the place of a world has no path
 pub home_alone : (t : Tables) (h : Homes) (ms : List Member) (members : List reads.Member) → IsInput t h ms members → (q : ℕ) → Contains (homes_in ms) q → path_at t q ≡ None
-home_alone t h ms members input q c = by (from_joined [] (flat_map (λ (x : NumberedMember). home_of_part x.part) (numbered_members ms)) q c)
+home_alone t h ms members input q c = elim (from_joined [] (flat_map (λ (x : NumberedMember). home_of_part x.part) (numbered_members ms)) q c) [
+  | inl none ↦ none-in q none
+  | inr among ↦ (let from = flat_cases (λ (x : NumberedMember). home_of_part x.part) (numbered_members ms) q among in
+      of_part from.0.part (all_at (λ (y : NumberedMember). IsPartIn t y.part) (numbered_members ms) input.numbers from.0 from.1) from.2)
+]
   where
     of_part : (a : NumberedPart) → IsPartIn t a → Contains (home_of_part a) q → path_at t q ≡ None
     of_part (world w) good among = ap (path_at t) (sym (one-contained w.home q among)) ∙ good.home
     of_part (interface p v imports) good among = none-in q among
-
-    by : Contains [] q ⊎ Contains (flat_map (λ (x : NumberedMember). home_of_part x.part) (numbered_members ms)) q → path_at t q ≡ None
-    by (inl none) = none-in q none
-    by (inr among) =
-        let from = flat_cases (λ (x : NumberedMember). home_of_part x.part) (numbered_members ms) q among in
-        of_part from.0.part (all_at (λ (y : NumberedMember). IsPartIn t y.part) (numbered_members ms) input.numbers from.0 from.1) from.2
 
 -- ---- the plan
 
@@ -116,6 +108,5 @@ module _ (t : Tables) (h : Homes) (ms : List Member) (members : List reads.Membe
   named_there m q e path =
       let found = interface_there m q e in
       let first = first_there m q e in
-      let home = input.homes.homes q path.0 path.1 in
-      let name : found.0.name ≡ Some home.name = (found.2 first.0 first.1).name ∙ ap (option_map (λ (x : ℕ × Text). x.1)) home.home in
-      ap (λ o. option_map_or (λ (i : PlannedInterface). is_some i.name) o false) found.1 ∙ ap is_some name
+      ap (λ o. option_map_or (λ (i : PlannedInterface). is_some i.name) o false) found.1
+      ∙ ap is_some ((found.2 first.0 first.1).name ∙ ap (option_map (λ (x : ℕ × Text). x.1)) (input.homes.homes q path.0 path.1).home)

@@ -3,7 +3,7 @@ use Rattle.plan_laws.proofs.{ListedFunctions.function_of_view, FirstViews.first_
 use Rattle.std.proofs.Common.{rules as std_rules, ◌≡◌, refl, sym, ap, subst, ◌∙◌, ℕ, true, false, List, Some}
 use Rattle.std.specs.List.{AllByRecursion, Contains}
 use Rattle.wit_model.specs.{Text.Text, Valid.as_interface, Valid.as_world}
-use Rattle.plan_meaning.specs.{GatheredPlan.functions_seen, NumberedMembers.Homes, NumberedMembers.NumberedMember, NumberedMembers.home_at, NumberedRules.Fact, PlanRules.functions_of, PlanRules.world_functions, ReadFunctions.Beside, ReadFunctions.IsReadFunction}
+use Rattle.plan_meaning.specs.{GatheredPlan.functions_seen, NumberedMembers.Homes, NumberedMembers.home_at, NumberedRules.Fact, PlanRules.functions_of, PlanRules.world_functions, ReadFunctions.Beside, ReadFunctions.IsReadFunction}
 use Rattle.plan_meaning.specs.NumberedViews.{NumberedFunction, NumberedSight, PartsOf, Tables, function_at}
 use Rattle.plan_meaning.specs.Plan.{Plan, PlannedFunction, PlannedInterface, PlannedWorld, interface_in, world_in}
 use Rattle.plan_parts.specs.Interfaces.{IsPlannedFunction}
@@ -16,13 +16,9 @@ use Rattle.base_lemmas.proofs.Elements.{all_at, get-contains, map_from as from_m
 use Rattle.comp_meaning.specs.Reads as reads
 
 module _ (t : Tables) (h : Homes) (ms : List Member) (members : List reads.Member) (ruled : IsRuledInput t h ms members) (alike : AreShownAlike ms) (ordered : ViewsAreOrdered t ms)
-    (worlds_apart : WorldsAreApart ms)
-    (main : ℕ) (p : Plan) (planned : PlansWhole t h.packages (home_at h) main ms p) (whole : TypesAreWhole t planned.kept ms p) (known : ℕ → Fact) where
-  abbrev numbered : List NumberedMember
-  numbered = numbered_members ms
-
+    (worlds_apart : WorldsAreApart ms) (main : ℕ) (p : Plan) (planned : PlansWhole t h.packages (home_at h) main ms p) (whole : TypesAreWhole t planned.kept ms p) (known : ℕ → Fact) where
   abbrev views : List NumberedSight
-  views = views_of_members numbered
+  views = views_of_members (numbered_members ms)
 
   abbrev beside : Beside
   beside = beside_tables known whole.marks.marks ms
@@ -41,19 +37,15 @@ module _ (t : Tables) (h : Homes) (ms : List Member) (members : List reads.Membe
 
   module _ (q n : ℕ) (owned : owners_of ms q ≡ as_interface n) (first : NumberedSight) (first_in : Contains views first) (place : first.place ≡ q) (i : PlannedInterface)
       (made : PlansInterface t planned.kept main (home_at h q) first.view (functions_seen q views) i) where
-    owner : owners_of ms first.place ≡ as_interface n
-    owner = ap (owners_of ms) place ∙ owned
-
     entry_read : (e : Text × PlannedFunction) → Contains i.functions e → IsReadFunction t planned.kept p beside (as_interface n) e.1
     entry_read e e_in =
         let f = partner_back (IsPlannedFunction t planned.kept made.find) (functions_seen q views) i.functions made.functions e e_in in
         let of = function_of_view q views f.0 f.1 in
-        subst (λ o. IsReadFunction t planned.kept p beside o e.1) owner
+        subst (λ o. IsReadFunction t planned.kept p beside o e.1) (ap (owners_of ms) place ∙ owned)
         (view_function t h ms members ruled main p planned first first_in (member_view_in t ms ruled.input.numbers first first_in)
         (view_names t first (all_at (ViewObeys t) views ruled.rules.views first first_in)) made.find
-        made.resources beside of.sight of.among (of.place ∙ sym place)
-        (member_view_in t ms ruled.input.numbers of.sight of.among) (all_at (ViewObeys t) views ruled.rules.views of.sight of.among) refl f.0 of.there
-        (values_of of.sight of.among of.whole f.0 of.there) e f.2)
+        made.resources beside of.sight of.among (of.place ∙ sym place) (member_view_in t ms ruled.input.numbers of.sight of.among) (all_at (ViewObeys t) views ruled.rules.views of.sight of.among) refl
+        f.0 of.there (values_of of.sight of.among of.whole f.0 of.there) e f.2)
 
     interface_read : AllByRecursion (IsReadFunction t planned.kept p beside (as_interface n)) (functions_of i)
     interface_read = all_of (IsReadFunction t planned.kept p beside (as_interface n)) (functions_of i) (λ g c.

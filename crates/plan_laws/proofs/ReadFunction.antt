@@ -9,7 +9,7 @@ use Rattle.plan_meaning.specs.{FollowedNumbers.IsMetFrom, Plan.Plan, Plan.Planne
 use Rattle.plan_meaning.specs.GatheredPlan.{DeclaresKind, FunctionBecomes, a_form, a_name, a_resource}
 use Rattle.plan_meaning.specs.KeptFunctions.{IsKindOf, IsResource, a_constructor, a_method, a_static, an_async_method, an_async_static, of_none}
 use Rattle.plan_meaning.specs.{NumberedMembers.Homes, NumberedMembers.home_at, Shapes.named_shape}
-use Rattle.plan_meaning.specs.NumberedRules.{Fact, IsKnown, IsSeenFrom, begins_with_self, constructs, most_counted, nowhere}
+use Rattle.plan_meaning.specs.NumberedRules.{Fact, IsKnown, IsSeenFrom, begins_with_self, most_counted, nowhere}
 use Rattle.plan_meaning.specs.NumberedViews.{FunctionShape, IsPart, NumberedFunction, PartsOf, Tables, function_at, place_at, signature_at, tree_at}
 use Rattle.plan_meaning.proofs.NumberedRules.{function_same}
 use Rattle.plan_parts.specs.Interfaces.{IsPlannedFunction}
@@ -57,12 +57,9 @@ module _ (t : Tables) (a b : ℕ → Fact) (kept : List ℕ) (p : Plan) (o : Typ
   same_begins : (r : Text) (ps : List (Text × ℕ)) → begins_with_self t a q r ps ≡ true → begins_with_self t b q r ps ≡ true
   same_begins r x h = search std_rules
 
-  same_constructs : (r : Text) (o : Option ℕ) → constructs t a q r o ≡ true → constructs t b q r o ≡ true
-  same_constructs r x h = search std_rules
-
   pub same_kind : (name : Text) (f : FunctionShape) (kind : FunctionKind) → IsKindOf t a kept p o q name f kind → IsKindOf t b kept p o q name f kind
   same_kind name f kind (of_none label none) = of_none label none
-  same_kind name f kind (a_constructor id r is res named gives) = a_constructor id r is (same_resource r id.0 res) named (same_constructs r f.result gives)
+  same_kind name f kind (a_constructor id r is res named gives) = a_constructor id r is (same_resource r id.0 res) named (search std_rules)
   same_kind name f kind (a_method id r is res named begins) = a_method id r is (same_resource r id.0 res) named (same_begins r f.params begins)
   same_kind name f kind (an_async_method id r is res named begins) = an_async_method id r is (same_resource r id.0 res) named (same_begins r f.params begins)
   same_kind name f kind (a_static id r is res named) = a_static id r is (same_resource r id.0 res) named
@@ -76,8 +73,7 @@ module _ (t : Tables) (h : Homes) (ms : List Member) (members : List reads.Membe
 
   -- a name that is kept and is first shown as a resource is one of the plan
   pub resource_at : (known : ℕ → Fact) (q j n : ℕ) (r : Text) → slice_get planned.kept j ≡ Some n → slice_get t.shapes n ≡ Some (named_shape q r)
-      → ((y : NumberedShowing) → shown_first ms n ≡ Some y → y.declared ≡ None)
-      → IsResource t known planned.kept p (owners_of ms q) q r j
+      → ((y : NumberedShowing) → shown_first ms n ≡ Some y → y.declared ≡ None) → IsResource t known planned.kept p (owners_of ms q) q r j
   resource_at known q j n r stands at none =
       let low : j < length p.types = (let within = slice_get_within planned.kept j n stands in let many = as_many in omega (arith, within, many)) in
       let found = slice_there p.types j low in
@@ -107,11 +103,9 @@ module _ (t : Tables) (h : Homes) (ms : List Member) (members : List reads.Membe
     shape = function_at t f.1.signature
 
     kind_is : IsKindOf t (told t q) planned.kept p (b.owners q) q f.0 shape e.1.kind × (is_async e.1.kind ≡ shape.is_async)
-    kind_is =
-        let known : PartsOf (IsKnown t (told t q) q) shape = parts_weaker (IsMetFrom t q) (IsKnown t (told t q) q) (λ k m. is_told t q k m.range (seen_from t h ms members input main p planned q k m))
-        shape met in
-        kinds_are_named t (told t q) planned.kept p (b.owners q) q find resources found are f.0 shape e.1.kind
-        (sym (function_same t input.tables.shapes (told t q) q resources f.0 shape known) ∙ obeys) made.kind
+    kind_is = kinds_are_named t (told t q) planned.kept p (b.owners q) q find resources found are f.0 shape e.1.kind
+        (sym (function_same t input.tables.shapes (told t q) q resources f.0 shape
+        (parts_weaker (IsMetFrom t q) (IsKnown t (told t q) q) (λ k m. is_told t q k m.range (seen_from t h ms members input main p planned q k m)) shape met)) ∙ obeys) made.kind
 
     pub function_becomes : FunctionBecomes t planned.kept p shape f.1.external_id e.1
     function_becomes = functions_become t planned.kept p as_many shape f.1.external_id e.1 made.parts kind_is.1 made.same_id

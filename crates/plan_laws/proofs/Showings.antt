@@ -33,10 +33,9 @@ module _ (t : Tables) (tables : AreTables t) where
         → (n : ℕ) × (part ≡ 14 + n) × IsNameOf t w.home s.key.now d n
     import_named m c w is s there part d e =
         let good = side_good w t (subst (λ a. IsPartIn t (numbered_part a)) is (part_at t ms input.numbers m c)) s (inl there) (shown.Declares part d) e in
-        let all = subst (PartDeclaresNames t) is (all_at (λ (x : Member). PartDeclaresNames t x.part) ms input.declared m c) in
-        let named = subst (λ (x : Shown). DeclaresName t w.home (record { key = s.key; shown = x; external_id = s.external_id })) e (all_at (DeclaresName t w.home) w.imports.now all s there) in
-        let one : good.0 ≡ named.0 = tables.shapes.apart good.0 named.0 (named_shape w.home s.key.now) good.1.named named.2 in
-        (named.0, named.1, subst (IsNameOf t w.home s.key.now d) one good.1)
+        let named = subst (λ (x : Shown). DeclaresName t w.home (record { key = s.key; shown = x; external_id = s.external_id })) e
+        (all_at (DeclaresName t w.home) w.imports.now (subst (PartDeclaresNames t) is (all_at (λ (x : Member). PartDeclaresNames t x.part) ms input.declared m c)) s there) in
+        (named.0, named.1, subst (IsNameOf t w.home s.key.now d) (tables.shapes.apart good.0 named.0 (named_shape w.home s.key.now) good.1.named named.2) good.1)
 
     pub showings_named : (y : NumberedShowing) → Contains (showings_of_members ms) y → IsNamed y
     showings_named y c = let from = origin t h ms members input y c in by from.0 from.1 from.2

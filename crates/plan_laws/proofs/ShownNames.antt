@@ -14,14 +14,13 @@ use Rattle.plan_types.specs.Showings.{NumberedShowing, showings_of_members, sign
 use Rattle.plan_types.specs.Used.{function_parts, showing_parts, used_parts}
 use Rattle.plan_package.specs.Views.{views_of_members, views_of_part}
 use Rattle.plan_laws.specs.ShownNames.{ImportsNumber, IsInput, IsShownByPart, ShowsNumber, UsedNamesAreShown, by_import, by_view}
-use Rattle.plan_laws.proofs.Inside.{IsIn, flat_cases, used_inside}
+use Rattle.plan_laws.proofs.{Inside.IsIn, Inside.flat_cases, Inside.used_inside, ViewRules.instance_tree}
 use Rattle.plan_laws.proofs.PartNames.{import_showing, trees_of_all, view_showing, view_signature, world_signature}
 use Rattle.plan_laws.proofs.Sources.{IsSignedIn, IsWorldIn, mapped_cases, member_view_in, origin, signed, view_among, world_in}
 use Rattle.comp_meaning.specs.Reads as reads
 use Rattle.read_exports.specs.declared.members.Part.TheVariants as parts
 use Rattle.plan_laws.proofs.Sources as sources
 pub use Rattle.plan_laws.proofs.Sources.{beside}
-use Rattle.plan_laws.proofs.ViewRules.{instance_tree}
 use Rattle.base_lemmas.proofs.Lists.{mapped_get}
 
 module _ (t : Tables) (h : Homes) (ms : List Member) (members : List reads.Member) (input : IsInput t h ms members) (n q : ℕ) (name : Text)
@@ -33,11 +32,8 @@ module _ (t : Tables) (h : Homes) (ms : List Member) (members : List reads.Membe
 
   -- ---- all views
 
-  abbrev numbered : List NumberedMember
-  numbered = numbered_members ms
-
   abbrev views : List NumberedSight
-  views = views_of_members numbered
+  views = views_of_members (numbered_members ms)
 
   abbrev instances : List Instance
   instances = all_instances members
@@ -49,8 +45,7 @@ module _ (t : Tables) (h : Homes) (ms : List Member) (members : List reads.Membe
   all_good = member_view_in t ms input.numbers
 
   stands : (k : ℕ) (s : NumberedSight) → slice_get views k ≡ Some s → ViewStands (IsShownBefore instances k) (place_at t s.place) (view_of t s.view)
-  stands k s there =
-      input.stand.views k (instance_tree t input.tables s) (subst (λ is. slice_get is k ≡ Some (instance_tree t input.tables s)) (sym trees)
+  stands k s there = input.stand.views k (instance_tree t input.tables s) (subst (λ is. slice_get is k ≡ Some (instance_tree t input.tables s)) (sym trees)
       (mapped_get (instance_tree t input.tables) views k s there))
 
   abbrev IsShown : Type 0
@@ -99,17 +94,12 @@ module _ (t : Tables) (h : Homes) (ms : List Member) (members : List reads.Membe
   -- ---- all members
 
   used_shows : (k : ℕ) → Contains (used_parts t (showings_of_members ms) (signatures_of_members ms)) k → IsIn t.shapes k n → IsShown
-  used_shows k c found = by (Contains-append_cases (flat_map (showing_parts t) (showings_of_members ms)) (flat_map (function_parts t) (signatures_of_members ms)) k c)
-    where
-      by : Contains (flat_map (showing_parts t) (showings_of_members ms)) k ⊎ Contains (flat_map (function_parts t) (signatures_of_members ms)) k → IsShown
-      by (inl among) =
-          let showing = flat_cases (showing_parts t) (showings_of_members ms) k among in
-          let from = origin t h ms members input showing.0 showing.1 in
-          member_shows from.0 from.1 k found (by_showing showing.0 from.2 showing.2)
-      by (inr among) =
-          let signature = flat_cases (function_parts t) (signatures_of_members ms) k among in
-          let from = signed t h ms members input signature.0 signature.1 in
-          member_shows from.0 from.1 k found (by_signature signature.0 from.2 signature.2)
+  used_shows k c found = elim (Contains-append_cases (flat_map (showing_parts t) (showings_of_members ms)) (flat_map (function_parts t) (signatures_of_members ms)) k c) [
+    | inl among ↦ (let showing = flat_cases (showing_parts t) (showings_of_members ms) k among in let from = origin t h ms members input showing.0 showing.1 in
+        member_shows from.0 from.1 k found (by_showing showing.0 from.2 showing.2))
+    | inr among ↦ (let signature = flat_cases (function_parts t) (signatures_of_members ms) k among in let from = signed t h ms members input signature.0 signature.1 in
+        member_shows from.0 from.1 k found (by_signature signature.0 from.2 signature.2))
+  ]
 
 pub names_are_shown : UsedNamesAreShown
 names_are_shown t h ms members input marks used n q name is at =

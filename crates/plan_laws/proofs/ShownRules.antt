@@ -4,14 +4,12 @@ use Rattle.std.proofs.Common.{rules as std_rules, ◌≡◌, refl, sym, ap, subs
 use Rattle.std.specs.List.{AllByRecursion, Contains, list_all, list_any}
 use Rattle.wit_model.specs.{Names.is_label, Meaning.FunctionMeaning, Meaning.Signature, Text.Text, Text.text_eq, Tree.Place, Tree.Declaration}
 use Rattle.wit_model.proofs.Elements.{none-in}
-use Rattle.comp_meaning.specs.Follow.{Direction, Instance, export_, import_, interface_of, place_of}
-use Rattle.comp_meaning.specs.Rules.{distinct}
+use Rattle.comp_meaning.specs.{Follow.Direction, Follow.Instance, Follow.export_, Follow.import_, Follow.interface_of, Follow.place_of, Rules.distinct}
 use Rattle.read_shown.specs.{Instances.going, Instances.instances_in, Parts.WorldStands}
-use Rattle.plan_meaning.specs.FollowedNumbers.{IsCalledIn, IsMetFrom, IsNameOf, IsShownIn, IsViewIn}
+use Rattle.plan_meaning.specs.FollowedNumbers.{IsMetFrom, IsNameOf, IsShownIn, IsViewIn}
 use Rattle.plan_meaning.specs.NumberedMembers.{Homes, IsKnownSight, NumberedMember, are_interfaces, sights_of_members, sights_of_part}
-use Rattle.plan_meaning.specs.NumberedRules.{Fact, is_interface}
+use Rattle.plan_meaning.specs.{NumberedRules.Fact, NumberedWorlds.NumberedSeen, NumberedWorlds.instance_of, NumberedWorlds.seen_of, NumberedWorlds.shown_of}
 use Rattle.plan_meaning.specs.NumberedViews.{AreTables, IsPart, NumberedFunction, NumberedSight, NumberedType, Tables, declaration_of, function_at, place_at, shown_function, shown_type, signature_at, view_of}
-use Rattle.plan_meaning.specs.NumberedWorlds.{NumberedSeen, instance_of, seen_of, shown_of}
 use Rattle.plan_meaning.proofs.NumberedRules.{interface_same}
 use Rattle.read_rules.specs.declared.scopes.{Scope.Scope, Seen.Seen, Shown.Shown}
 use Rattle.read_rules.specs.{Scopes.numbered_instance, Scopes.numbered_seen, Scopes.numbered_shown, Tables.given_text}
@@ -19,7 +17,7 @@ use Rattle.read_exports.specs.Members.{numbered_member, numbered_members, number
 use Rattle.read_exports.specs.declared.members.{Member.Member, Part.Part}
 use Rattle.plan_types.specs.Showings.{NumberedShowing, showing_of, showings_of_members, signatures_of_members}
 use Rattle.plan_package.specs.Views.{views_of_members, views_of_part, whole_view}
-use Rattle.plan_type_laws.proofs.Walks.{all_unmapped}
+use Rattle.plan_type_laws.proofs.{Walks.all_unmapped, PartPlaces.parts_weaker, PartPlaces.slot_number}
 use Rattle.plan_type_laws.specs.UsedParts.{SignatureObeys}
 use Rattle.plan_laws.specs.ShownNames.{IsInput}
 use Rattle.plan_laws.specs.ShownRules.{PartObeys, RulesAreObeyed, ShownObeysRules, TypeObeys, ViewObeys}
@@ -35,7 +33,6 @@ use Rattle.plan_laws.proofs.Sources as sources
 pub use Rattle.plan_laws.proofs.Sources.{all_of}
 use Rattle.base_lemmas.proofs.Bools.{left_of as first_true, right_of as second_true}
 use Rattle.base_lemmas.proofs.Elements.{all-contained, all_at, contains-later, contains-map, last_of as one-contained, map_from as from_map}
-use Rattle.plan_type_laws.proofs.PartPlaces.{parts_weaker, slot_number}
 
 -- ---- what a world imports and exports, as trees
 
@@ -49,11 +46,9 @@ pub record IsResourceIn (ss : List follow.Seen) (r : Text) : Type 0 where
 
 resource_in : (r : Text) (ss : List follow.Seen) → list_any (text_eq r) (rules.resources_seen ss) ≡ true → IsResourceIn ss r
 resource_in r [] any = let wrong : false ≡ true = any in absurd cc
-resource_in r (s ∷ ss) any = by s.shown refl any (λ more. later (resource_in r ss more))
+resource_in r (s ∷ ss) any = by s.shown refl any (λ more. let is = resource_in r ss more in
+    record { seen = is.seen; among = contains-later s ss is.seen is.among; shown = is.shown; named = is.named })
   where
-    later : IsResourceIn ss r → IsResourceIn (s ∷ ss) r
-    later is = record { seen = is.seen; among = contains-later s ss is.seen is.among; shown = is.shown; named = is.named }
-
     which : (b : Bool) → text_eq r s.key ≡ b → s.shown ≡ follow.Shown.declares Declaration.resource → (b || list_any (text_eq r) (rules.resources_seen ss)) ≡ true
         → (list_any (text_eq r) (rules.resources_seen ss) ≡ true → IsResourceIn (s ∷ ss) r) → IsResourceIn (s ∷ ss) r
     which true e is any more = record { seen = s; among = (zero, omega arith, refl); shown = is; named = (bytes_eq-Decides r s.key).0 e }
@@ -73,18 +68,18 @@ pub record IsItemAmong (ss : List follow.Seen) (key : Text) (x : follow.Shown) :
 abbrev pub SeenIsItem : List follow.Seen → follow.Seen → Type 0
 SeenIsItem all s = IsItemAmong all s.key s.shown
 
-wider : (xs ys : List follow.Seen) (r : Text) → ((s : follow.Seen) → Contains xs s → Contains ys s) → IsResourceIn xs r → IsResourceIn ys r
-wider xs ys r into is = record { seen = is.seen; among = into is.seen is.among; shown = is.shown; named = is.named }
-
 pub import_items : (all earlier ss : List follow.Seen) → rules.are_imports earlier ss ≡ true → ((s : follow.Seen) → Contains earlier s → Contains all s)
-    → ((s : follow.Seen) → Contains ss s → Contains all s)
-    → AllByRecursion (SeenIsItem all) ss
+    → ((s : follow.Seen) → Contains ss s → Contains all s) → AllByRecursion (SeenIsItem all) ss
 import_items all earlier [] ok before behind = tt
 import_items all earlier (s ∷ ss) ok before behind =
-    let first : rules.is_item (rules.resources_seen earlier) s.key s.shown ≡ true =
-    first_true (rules.is_item (rules.resources_seen earlier) s.key s.shown) (rules.are_imports (earlier ++ s ∷ []) ss) ok in
     let rest : rules.are_imports (earlier ++ s ∷ []) ss ≡ true = second_true (rules.is_item (rules.resources_seen earlier) s.key s.shown) (rules.are_imports (earlier ++ s ∷ []) ss) ok in (
-      record { resources = rules.resources_seen earlier; is = first; from = λ r any. wider earlier all r before (resource_in r earlier any) },
+      record {
+        resources = rules.resources_seen earlier;
+        is = (first_true (rules.is_item (rules.resources_seen earlier) s.key s.shown) (rules.are_imports (earlier ++ s ∷ []) ss) ok);
+        from =
+            λ r any.
+            let is = resource_in r earlier any in record { seen = is.seen; among = before is.seen is.among; shown = is.shown; named = is.named };
+      },
       import_items all (earlier ++ s ∷ []) ss rest (λ z c. either z (Contains-append_cases earlier (s ∷ []) z c)) (λ z c. behind z (contains-later s ss z c)),
     )
   where
@@ -96,11 +91,7 @@ pub all_imports_are : (ss : List follow.Seen) → rules.are_imports [] ss ≡ tr
 all_imports_are ss ok = import_items ss [] ss ok (λ x none. none-in x none) (λ x there. there)
 
 pub exports_are_items : (all ss : List follow.Seen) → list_all (λ (s : follow.Seen). rules.is_item [] s.key s.shown) ss ≡ true → AllByRecursion (SeenIsItem all) ss
-exports_are_items all ss h = all_of (SeenIsItem all) ss (λ s c. record {
-  resources = [];
-  is = all-contained (λ (x : follow.Seen). rules.is_item [] x.key x.shown) ss s h c;
-  from = λ r any. let wrong : false ≡ true = any in absurd cc;
-})
+exports_are_items all ss h = all_of (SeenIsItem all) ss (λ s c. record { resources = []; is = all-contained _ _ s h c; from = λ r any. let wrong : false ≡ true = any in absurd cc })
 
 -- the view of the instance is what an interface may have
 abbrev pub InstanceObeys : Instance → Type 0
@@ -134,11 +125,10 @@ pub world_obeys : (scope : follow.Scope) → rules.is_world scope ≡ true → W
 world_obeys scope h = search std_rules
 
 pub instances_obey : (scope : follow.Scope) → WorldStands scope → (x : Instance) → Contains scope.instances x → InstanceObeys x
-instances_obey scope stands x c = by (one_way stands.seen.seen x (subst (λ xs. Contains xs x) (sym stands.seen.all) c))
-  where
-    by : Contains (going import_ stands.seen.seen) x ⊎ Contains (going export_ stands.seen.seen) x → InstanceObeys x
-    by (inl among) = instance_obeys scope.imports scope.imports (all_imports_are scope.imports (world_obeys scope stands.obeys).imports) x (subst (λ xs. Contains xs x) stands.seen.imported among)
-    by (inr among) = instance_obeys [] scope.exports (exports_are_items [] scope.exports (world_obeys scope stands.obeys).exports) x (subst (λ xs. Contains xs x) stands.seen.exported among)
+instances_obey scope stands x c = elim (one_way stands.seen.seen x (subst (λ xs. Contains xs x) (sym stands.seen.all) c)) [
+  | inl among ↦ instance_obeys scope.imports scope.imports (all_imports_are scope.imports (world_obeys scope stands.obeys).imports) x (subst (λ xs. Contains xs x) stands.seen.imported among)
+  | inr among ↦ instance_obeys [] scope.exports (exports_are_items [] scope.exports (world_obeys scope stands.obeys).exports) x (subst (λ xs. Contains xs x) stands.seen.exported among)
+]
 
 module _ (t : Tables) (tables : AreTables t) where
   -- ---- views
@@ -158,10 +148,7 @@ module _ (t : Tables) (tables : AreTables t) where
 
     -- each function that is shown is one of the interface's
     pub function_obeys : (f : Text × NumberedFunction) → Contains s.view.functions f → rules.is_function (place_at t s.place) (rules.resources_of place.types) f.0 (signature_at t f.1.signature) ≡ true
-    function_obeys f c =
-        all-contained (λ (g : Text × FunctionMeaning). rules.is_function (place_at t s.place) (rules.resources_of place.types) g.0 g.1.signature) (map (shown_function t) s.view.functions)
-        (shown_function t f)
-        (second_true types_obey functions_obey (first_true (types_obey && functions_obey) names_differ obeys)) (contains-map (shown_function t) s.view.functions f c)
+    function_obeys f c = all-contained _ _ (shown_function t f) (second_true _ _ (first_true _ _ obeys)) (contains-map _ _ f c)
 
     view_type : (x : NumberedType) → Contains s.view.types x → TypeObeys t (showing_of x)
     view_type x c =
@@ -179,20 +166,15 @@ module _ (t : Tables) (tables : AreTables t) where
         }
 
     view_signature : (f : Text × NumberedFunction) → Contains s.view.functions f → SignatureObeys t f.1.signature
-    view_signature f c =
-        let called = all_at (λ (g : Text × NumberedFunction). IsCalledIn t s.place g.1.signature) s.view.functions good.functions f c in
-        record {
-          place = place_at t s.place;
-          range = parts_weaker (IsMetFrom t s.place) (IsPart t) (λ i m. m.range) (function_at t f.1.signature) called.parts;
-          obeys = signature_of (place_at t s.place) (rules.resources_of place.types) f.0 (signature_at t f.1.signature) (function_obeys f c);
-        }
+    view_signature f c = record {
+      place = place_at t s.place;
+      range = parts_weaker (IsMetFrom t s.place) (IsPart t) (λ i m. m.range) (function_at t f.1.signature) (all_at _ _ good.functions f c).parts;
+      obeys = signature_of (place_at t s.place) (rules.resources_of place.types) f.0 (signature_at t f.1.signature) (function_obeys f c);
+    }
 
   -- ---- a world
 
   module _ (h : Homes) (ms : List Member) (members : List reads.Member) (input : IsInput t h ms members) (w : Scope) (of : IsWorldIn t h ms members input w) where
-    abbrev home_here : place_at t w.home ≡ Place.here
-    home_here = ap place_of of.good.home
-
     world_part_obeys : PartObeys t (parts.World w)
     world_part_obeys = (
       subst (λ ss. rules.are_imports [] ss ≡ true) of.shows.imports (world_obeys of.scope of.stands.obeys).imports,
@@ -216,8 +198,7 @@ module _ (t : Tables) (tables : AreTables t) where
     world_views : (s : NumberedSight) → Contains (views_of_part (numbered_part (parts.World w))) s → ViewObeys t s
     world_views s c =
         let from = from_map whole_view (map numbered_instance w.instances.now) s c in
-        subst (ViewObeys t) from.2 (instances_obey of.scope of.stands (instance_of t from.0)
-        (subst (λ is. Contains is (instance_of t from.0)) (sym of.shows.instances) (contains-map (instance_of t) (map numbered_instance w.instances.now) from.0 from.1)))
+        subst (ViewObeys t) from.2 (instances_obey of.scope of.stands (instance_of t from.0) (subst (λ is. Contains is (instance_of t from.0)) (sym of.shows.instances) (contains-map _ _ _ from.1)))
 
     -- ---- what is imported and exported
 
@@ -233,7 +214,7 @@ module _ (t : Tables) (tables : AreTables t) where
           part = named.1;
           is = named.2;
           label = first_true (is_label s.key.now) declared item.is;
-          obeys = ap (λ place. rules.is_declared place (declaration_of t d)) home_here ∙ second_true (is_label s.key.now) declared item.is;
+          obeys = ap (λ place. rules.is_declared place (declaration_of t d)) (ap place_of of.good.home) ∙ second_true (is_label s.key.now) declared item.is;
         }
 
     world_signature : (s : Seen) → Side w s → (f : ℕ) → s.shown ≡ shown.Function f → SignatureObeys t f
@@ -248,15 +229,12 @@ module _ (t : Tables) (tables : AreTables t) where
   -- ---- all that is exported
 
   module _ (h : Homes) (ms : List Member) (members : List reads.Member) (input : IsInput t h ms members) (known : ℕ → Fact)
-      (sights : AllByRecursion (IsKnownSight t known) (sights_of_members t (numbered_members ms)))
-      (fine : are_interfaces t known (sights_of_members t (numbered_members ms)) ≡ true) where
+      (sights : AllByRecursion (IsKnownSight t known) (sights_of_members t (numbered_members ms))) (fine : are_interfaces t known (sights_of_members t (numbered_members ms)) ≡ true) where
     abbrev seen : List NumberedSight
     seen = sights_of_members t (numbered_members ms)
 
     sight_obeys : (s : NumberedSight) → Contains seen s → ViewObeys t s
-    sight_obeys s c =
-        interface_same t tables.shapes known s.place s.view (all_at (IsKnownSight t known) seen sights s c).1
-        ∙ all-contained (λ (x : NumberedSight). is_interface t known x.place x.view) seen s fine c
+    sight_obeys s c = interface_same t tables.shapes known s.place s.view (all_at _ _ sights s c).1 ∙ all-contained _ _ s fine c
 
     -- what holds of one part
     record PartFollows (a : Part) : Type 0 where

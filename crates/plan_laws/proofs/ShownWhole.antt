@@ -16,10 +16,8 @@ use Rattle.read_rules.specs.declared.scopes.{Scope.Scope, Seen.Seen}
 use Rattle.read_rules.specs.Scopes.{numbered_scope, numbered_shown}
 use Rattle.plan_package.specs.{PlanWhole.PlansWhole, PlanWhole.places_in, WholeWorlds.PlansItem, WholeWorlds.PlansWorld, WholeWorlds.worlds_in}
 use Rattle.plan_package.specs.Views.{views_of_members, views_of_part, whole_view}
-use Rattle.plan_laws.specs.{FirstViews.ViewsAreOrdered, ShownWhole.WholeIsShown, ViewedInterfaces.views_read, Whole.IsPackageInput, WholeTypes.IsRuledInput}
-use Rattle.plan_laws.specs.Owners.{owners_of}
-use Rattle.base_lemmas.proofs.Elements.{all_at, contains-map, zip_at, map_from as from_map}
-use Rattle.base_lemmas.proofs.Numbers.{same-number}
+use Rattle.plan_laws.specs.{FirstViews.ViewsAreOrdered, ShownWhole.WholeIsShown, ViewedInterfaces.views_read, Whole.IsPackageInput, Owners.owners_of}
+use Rattle.base_lemmas.proofs.{Elements.all_at, Elements.contains-map, Elements.zip_at, Elements.map_from as from_map, Numbers.same-number}
 use Rattle.comp_meaning.specs.Reads as reads
 use Rattle.plan_meaning.specs.Plan as plan
 use Rattle.read_exports.specs.declared.members.Part.TheVariants as parts
@@ -43,24 +41,15 @@ sight_viewed t ms s c =
 module _ (t : Tables) (h : Homes) (known : ℕ → Fact) (n : ℕ) (ms : List Member) (members : List reads.Member) (given : IsPackageInput t h known n ms members)
     (ordered : ViewsAreOrdered t ms) (p : Plan)
     (planned : PlansWhole t h.packages (home_at h) n ms p) (b : Beside) (owned : b.owners ≡ owners_of ms) (read : IsReadPlan t h planned.kept p b (views_read ms)) where
-  abbrev sights : List NumberedSight
-  sights = sights_of_members t (numbered_members ms)
-
-  abbrev all_views : List NumberedSight
-  all_views = views_of_members (numbered_members ms)
-
-  ruled : IsRuledInput t h ms members
-  ruled = packages_are_ruled t h known n ms members given
-
   -- ---- views
 
-  pub views_agree : (s : NumberedSight) → Contains sights s → pointwise same_shown (views_read ms s.place).types s.view.types ≡ true
+  pub views_agree : (s : NumberedSight) → Contains (sights_of_members t (numbered_members ms)) s → pointwise same_shown (views_read ms s.place).types s.view.types ≡ true
   views_agree s c =
       let there = sight_viewed t (numbered_members ms) s c in
-      let first = found_there (λ (x : NumberedSight). s.place == x.place) all_views s there (same-number s.place) in
-      let is = first_is s.place all_views first.0 first.1 in
+      let first = found_there (λ (x : NumberedSight). s.place == x.place) (views_of_members (numbered_members ms)) s there (same-number s.place) in
+      let is = first_is s.place (views_of_members (numbered_members ms)) first.0 first.1 in
       ap (λ o. pointwise same_shown (option_map_or (λ (x : NumberedSight). x.view.types) o []) s.view.types) first.1
-      ∙ told_types first.0.view.types s.view.types (views_told t h ms members given.input ruled.agree ordered first.0 s is.0 there is.1)
+      ∙ told_types first.0.view.types s.view.types (views_told t h ms members given.input (packages_are_ruled t h known n ms members given).agree ordered first.0 s is.0 there is.1)
 
   -- ---- worlds
 
@@ -74,8 +63,7 @@ module _ (t : Tables) (h : Homes) (known : ℕ → Fact) (n : ℕ) (ms : List Me
     where
       one_place : (r m : ℕ) (key : PlannedKey) (id : Option Text) → b.owners r ≡ as_interface m → x.entry ≡ (key, plan.interface m id) → r ≡ q
       one_place r m key id other entry =
-          let number : m ≡ k = same-some m k (sym (ap (λ (e : PlannedKey × PlannedItem). item_interface e.1) entry) ∙ at) in
-          one_owner ms b owned r q (as_interface k) (other ∙ ap as_interface number) own
+          one_owner ms b owned r q (as_interface k) (other ∙ ap as_interface (same-some m k (sym (ap (λ (e : PlannedKey × PlannedItem). item_interface e.1) entry) ∙ at))) own
 
       by : IsReadItem t planned.kept p b (views_read ms) o home x → place_shown x.seen.shown ≡ Some q
       by (by_path r m v id path shows text entry of_place) = ap place_shown shows ∙ ap Some (one_place r m (plan.path_of m) id of_place.owned entry)
@@ -96,16 +84,13 @@ module _ (t : Tables) (h : Homes) (known : ℕ → Fact) (n : ℕ) (ms : List Me
 
   -- what a list of imports or exports is read as shows the place
   listed_shows : (find : Text → Option TypeId) (o : TypeOwner) (home : ℕ) (ss : List Seen) (es : List (PlannedKey × PlannedItem)) → AllZip (PlansItem t planned.kept (places_in ms) find) ss es
-      → (xs : List ReadItem) → map (λ (x : ReadItem). x.entry) xs ≡ es
-      → AllByRecursion (IsReadItem t planned.kept p b (views_read ms) o home) xs → (q : ℕ) (s : Seen) → Contains ss s → place_shown (numbered_shown s.shown) ≡ Some q → (x : ReadItem) × Contains xs x
-      × (place_shown x.seen.shown ≡ Some q)
+      → (xs : List ReadItem) → map (λ (x : ReadItem). x.entry) xs ≡ es → AllByRecursion (IsReadItem t planned.kept p b (views_read ms) o home) xs → (q : ℕ) (s : Seen) → Contains ss s
+      → place_shown (numbered_shown s.shown) ≡ Some q → (x : ReadItem) × Contains xs x × (place_shown x.seen.shown ≡ Some q)
   listed_shows find o home ss es zip xs listed all q s c at =
       let e = partner (PlansItem t planned.kept (places_in ms) find) ss es zip s c in
       let becomes = planned_as find s e.0 q e.2 at in
       let item = from_map (λ (x : ReadItem). x.entry) xs e.0 (subst (λ ys. Contains ys e.0) (sym listed) e.1) in
-      let shows = item_shows o home item.0 (all_at (IsReadItem t planned.kept p b (views_read ms) o home) xs all item.0 item.1) q becomes.number becomes.own
-      (ap (λ (x : PlannedKey × PlannedItem). item_interface x.1) item.2 ∙ becomes.is) in
-      (item.0, item.1, shows)
+      (item.0, item.1, (item_shows o home item.0 (all_at _ _ all item.0 item.1) q becomes.number becomes.own (ap (λ (x : PlannedKey × PlannedItem). item_interface x.1) item.2 ∙ becomes.is)))
 
   pub worlds_show : (m : Member) → Contains ms m → (w : Scope) → m.part ≡ parts.World w → (i : NumberedInstance) → Contains (numbered_scope w).instances i
       → IsShownByWorld t h planned.kept p b (views_read ms) read i.place

@@ -57,8 +57,7 @@ pub one_under : {A : Type 0} (key : A → Text) (xs : List A) → distinct (map 
 one_under key xs apart a b c d e =
     let i = contains-get xs a c in
     let j = contains-get xs b d in
-    let same = one_place (map key xs) apart i.0 j.0 (key b) (mapped_get key xs i.0 a i.1 ∙ ap Some e) (mapped_get key xs j.0 b j.1) in
-    same-some a b (sym i.1 ∙ (ap (slice_get xs) same ∙ j.1))
+    same-some a b (sym i.1 ∙ (ap (slice_get xs) (one_place (map key xs) apart i.0 j.0 (key b) (mapped_get key xs i.0 a i.1 ∙ ap Some e) (mapped_get key xs j.0 b j.1)) ∙ j.1))
 
 pub if_given : (P Q : ℕ → Type 0) → ((k : ℕ) → P k → Q k) → (d : Option ℕ) → AllOf P d → AllOf Q d
 if_given x y one z given = search std_rules
@@ -93,11 +92,10 @@ module _ (w : Scope) where
   side_shows f s y (inr c) there = Contains-append_right (flat_map f w.imports.now) (flat_map f w.exports.now) y (contains-flat f w.exports.now s y c there)
 
   pub side_of : {A : Type 0} (f : Seen → List A) (y : A) → Contains (flat_map f w.imports.now ++ flat_map f w.exports.now) y → (s : Seen) × Side w s × Contains (f s) y
-  side_of f y c = by (Contains-append_cases (flat_map f w.imports.now) (flat_map f w.exports.now) y c)
-    where
-      by : Contains (flat_map f w.imports.now) y ⊎ Contains (flat_map f w.exports.now) y → (s : Seen) × Side w s × Contains (f s) y
-      by (inl there) = let from = flat_cases f w.imports.now y there in (from.0, inl from.1, from.2)
-      by (inr there) = let from = flat_cases f w.exports.now y there in (from.0, inr from.1, from.2)
+  side_of f y c = elim (Contains-append_cases (flat_map f w.imports.now) (flat_map f w.exports.now) y c) [
+    | inl there ↦ (let from = flat_cases f w.imports.now y there in (from.0, inl from.1, from.2))
+    | inr there ↦ (let from = flat_cases f w.exports.now y there in (from.0, inr from.1, from.2))
+  ]
 
   -- what holds of all holds of one
   pub side_is : (P : NumberedSeen → Type 0) → AllByRecursion P (map numbered_seen w.imports.now) → AllByRecursion P (map numbered_seen w.exports.now) → (s : Seen) → Side w s → P (numbered_seen s)
@@ -129,19 +127,15 @@ module _ (p : ℕ) (v : View) (imports : Bor (List ImportedView)) where
   own_there = Contains-append_right import_sights (own_sight ∷ []) own_sight (contains-one own_sight)
 
   pub import_there : (i : ImportedView) → Contains imports.now i → Contains (views_of_part (numbered_part (parts.Interface p v imports))) (types_alone (numbered_import i))
-  import_there i c = Contains-append_left import_sights (own_sight ∷ []) (types_alone (numbered_import i))
-      (contains-map types_alone (map numbered_import imports.now) (numbered_import i) (contains-map numbered_import imports.now i c))
+  import_there i c = Contains-append_left _ _ _ (contains-map _ _ _ (contains-map _ _ i c))
 
   pub interface_views : (s : NumberedSight) → Contains (views_of_part (numbered_part (parts.Interface p v imports))) s
       → ((i : ImportedView) × Contains imports.now i × (types_alone (numbered_import i) ≡ s)) ⊎ (own_sight ≡ s)
-  interface_views s c = by (Contains-append_cases import_sights (own_sight ∷ []) s c)
-    where
-      by : Contains import_sights s ⊎ Contains (own_sight ∷ []) s → ((i : ImportedView) × Contains imports.now i × (types_alone (numbered_import i) ≡ s)) ⊎ (own_sight ≡ s)
-      by (inl there) =
-          let outer = from_map types_alone (map numbered_import imports.now) s there in
-          let i = from_map numbered_import imports.now outer.0 outer.1 in
-          inl (i.0, i.1, ap types_alone i.2 ∙ outer.2)
-      by (inr own) = inr (one-contained own_sight s own)
+  interface_views s c = elim (Contains-append_cases import_sights (own_sight ∷ []) s c) [
+    | inl there ↦ (let outer = from_map types_alone (map numbered_import imports.now) s there in let i = from_map numbered_import imports.now outer.0 outer.1 in
+        inl (i.0, i.1, ap types_alone i.2 ∙ outer.2))
+    | inr own ↦ inr (one-contained own_sight s own)
+  ]
 
 -- ---- views of a part, and of all
 
@@ -151,8 +145,7 @@ view_among ms m c s among = among_mapped (λ (x : NumberedMember). views_of_part
 
 -- the view of an instance is one of all
 pub seen_sight : (t : Tables) (ms : List Member) (m : Member) → Contains ms m → (w : Scope) → m.part ≡ parts.World w → IsScopeIn t (numbered_scope w) → (s : Seen) → Side w s
-    → (key : InstanceKey) (v : View)
-    → s.shown ≡ shown.Instance key v → Contains (views_of_members (numbered_members ms)) (sight_of key v)
+    → (key : InstanceKey) (v : View) → s.shown ≡ shown.Instance key v → Contains (views_of_members (numbered_members ms)) (sight_of key v)
 seen_sight t ms m c w is good s side key v e =
     view_among ms m c (sight_of key v) (subst (λ a. Contains (views_of_part (numbered_part a)) (sight_of key v)) (sym is) (side_view w t good s side key v e))
 
@@ -164,12 +157,10 @@ module _ (t : Tables) where
   view_in (parts.World w) good s c =
       let i = from_map whole_view (map numbered_instance w.instances.now) s c in
       subst (λ (x : NumberedSight). IsViewIn t x.place x.view) i.2 (all_at (λ (x : NumberedInstance). IsViewIn t x.place x.view) (map numbered_instance w.instances.now) good.instances i.0 i.1)
-  view_in (parts.Interface p v imports) good s c = by (interface_views p v imports s c)
-    where
-      by : ((i : ImportedView) × Contains imports.now i × (types_alone (numbered_import i) ≡ s)) ⊎ (own_sight p v imports ≡ s) → IsViewIn t s.place s.view
-      by (inl i) = subst (λ (x : NumberedSight). IsViewIn t x.place x.view) i.2
-          (at_mapped (λ (x : ℕ × NumberedView). HasPath t x.0 × IsViewIn t x.0 x.1) numbered_import imports.now good.1 i.0 i.1).1
-      by (inr own) = subst (λ (x : NumberedSight). IsViewIn t x.place x.view) own good.0.1
+  view_in (parts.Interface p v imports) good s c = elim (interface_views p v imports s c) [
+    | inl i ↦ subst (λ (x : NumberedSight). IsViewIn t x.place x.view) i.2 (at_mapped (λ (x : ℕ × NumberedView). HasPath t x.0 × IsViewIn t x.0 x.1) numbered_import imports.now good.1 i.0 i.1).1
+    | inr own ↦ subst (λ (x : NumberedSight). IsViewIn t x.place x.view) own good.0.1
+  ]
 
   pub member_view_in : (ms : List Member) → AreMembersIn t (numbered_members ms) → (s : NumberedSight) → Contains (views_of_members (numbered_members ms)) s → IsViewIn t s.place s.view
   member_view_in ms good s c =
@@ -191,8 +182,7 @@ module _ (t : Tables) (h : Homes) where
       same_type _ _ = refl
 
       one : (n : ℕ) (s : Seen) → slice_get w.exports.now n ≡ Some s → is_type_seen (numbered_shown s.shown) ≡ false
-      one n s there =
-          same_type s.shown
+      one n s there = same_type s.shown
           (stands.stands.no_types n (seen_of t (numbered_seen s)) (subst (λ ss. slice_get ss n ≡ Some (seen_of t (numbered_seen s))) (sym shows.exports)
           (mapped_get (seen_of t) (map numbered_seen w.exports.now) n (numbered_seen s) (mapped_get numbered_seen w.exports.now n s there))))
   exports_no_type (parts.Interface p v imports) b m shows stands = tt
@@ -220,8 +210,7 @@ module _ (t : Tables) where
   view_origin a s c y among = let from = from_map showing_of s.view.types y among in in_view s c from.0 from.1 from.2
 
   view_signed : (a : Part) (s : NumberedSight) → Contains (views_of_part (numbered_part a)) s → s.whole ≡ true → (f : ℕ)
-      → Contains (map (λ (g : Text × NumberedFunction). g.1.signature) s.view.functions) f
-      → IsSignedIn a f
+      → Contains (map (λ (g : Text × NumberedFunction). g.1.signature) s.view.functions) f → IsSignedIn a f
   view_signed a s c whole f among = let from = from_map (λ (g : Text × NumberedFunction). g.1.signature) s.view.functions f among in by_whole s c whole from.0 from.1 from.2
 
   pub part_origin : (a : Part) → IsPartIn t (numbered_part a) → ExportsNoType a → (y : NumberedShowing) → Contains (showings_of_part a) y → IsShownIn a y
@@ -234,12 +223,10 @@ module _ (t : Tables) where
       by s (inr there) (shown.Declares part d) e among =
           let wrong : true ≡ false = ap (λ x. is_type_seen (numbered_shown x)) (sym e) ∙ all_at (λ (x : Seen). is_type_seen (numbered_shown x.shown) ≡ false) w.exports.now none s there in
           absurd cc
-  part_origin (parts.Interface p v imports) good none y c = by (Contains-append_cases (flat_map showings_of_import imports.now) (showings_of_view (numbered_view v)) y c)
-    where
-      by : Contains (flat_map showings_of_import imports.now) y ⊎ Contains (showings_of_view (numbered_view v)) y → IsShownIn (parts.Interface p v imports) y
-      by (inl among) = let i = flat_cases showings_of_import imports.now y among in
-          view_origin (parts.Interface p v imports) (types_alone (numbered_import i.0)) (import_there p v imports i.0 i.1) y i.2
-      by (inr among) = view_origin (parts.Interface p v imports) (own_sight p v imports) (own_there p v imports) y among
+  part_origin (parts.Interface p v imports) good none y c = elim (Contains-append_cases (flat_map showings_of_import imports.now) (showings_of_view (numbered_view v)) y c) [
+    | inl among ↦ (let i = flat_cases showings_of_import imports.now y among in view_origin (parts.Interface p v imports) (types_alone (numbered_import i.0)) (import_there p v imports i.0 i.1) y i.2)
+    | inr among ↦ view_origin (parts.Interface p v imports) (own_sight p v imports) (own_there p v imports) y among
+  ]
 
   pub part_signed : (a : Part) → IsPartIn t (numbered_part a) → (f : ℕ) → Contains (signatures_of_part a) f → IsSignedIn a f
   part_signed (parts.World w) good f c = let from = side_of w signatures_of_seen f c in by from.0 from.1 from.0.shown refl from.2

@@ -9,8 +9,7 @@ use Rattle.comp_meaning.specs.Rules.{distinct, is_declared, is_function, is_reso
 use Rattle.read_shown.specs.{Scopes.IsShownBefore, Trees.DeclarationStands}
 use Rattle.read_shown.specs.Views.{IsMetInView, ShowsName, ViewStands, inside as met_inside, outside as met_outside}
 use Rattle.plan_meaning.specs.FollowedNumbers.{IsCalledIn, IsMetFrom, IsNameOf, IsShownIn, IsSlotOf, IsViewIn}
-use Rattle.plan_meaning.specs.{Shapes.named_shape, GatheredPlan.functions_seen}
-use Rattle.plan_meaning.specs.NumberedWorlds.{HasPath}
+use Rattle.plan_meaning.specs.{Shapes.named_shape, GatheredPlan.functions_seen, NumberedWorlds.HasPath}
 use Rattle.plan_meaning.specs.NumberedViews.{AllOf, AreTables, FunctionShape, IsPart, NumberedFunction, NumberedSight, NumberedType, PartsOf, Tables, declaration_of, function_at, path_at, place_at, shown_function, shown_type, view_of}
 use Rattle.plan_parts.specs.Interfaces.{slot_part}
 use Rattle.plan_types.specs.Used.{declared_parts, signature_parts}
@@ -47,9 +46,6 @@ module _ (t : Tables) (tables : AreTables t) where
   abbrev pub instance_tree : NumberedSight → Instance
   instance_tree s = record { interface = path_at t s.place; view = view_of t s.view }
 
-  pub path_of_place : (q : ℕ) (path : Text) → place_at t q ≡ Place.of_interface path → path_at t q ≡ Some path
-  path_of_place q path e = sym (path_back (path_at t q)) ∙ ap text_of_place e
-
   -- two numbers of one place with a path
   pub same_place : (a q : ℕ) → HasPath t q → place_at t a ≡ place_at t q → a ≡ q
   same_place a q path e = tables.paths a q path.0 (sym (path_back (path_at t a)) ∙ (ap text_of_place e ∙ (path_back (path_at t q) ∙ path.1))) path.1
@@ -74,18 +70,16 @@ module _ (t : Tables) (tables : AreTables t) where
         let from = unmapped_get (shown_type t) s.view.types shows.number shows.shown shows.at in
         let there = get-contains s.view.types shows.number from.0 from.1 in
         let is = all_at (IsShownIn t s.place) s.view.types (good s c).types from.0 there in
-        let text : from.0.name ≡ name = ap (λ (y : ShownType). y.name) from.2 ∙ shows.named in
-        let one : is.number ≡ n = tables.shapes.apart is.number n (named_shape q name) (is.name.named ∙ (ap (λ p. Some (named_shape p from.0.name)) same ∙ ap (λ x. Some (named_shape q x)) text)) at in
-        type_shows s c from.0 there is one same
+        type_shows s c from.0 there is (tables.shapes.apart is.number n (named_shape q name)
+        (is.name.named ∙ (ap (λ p. Some (named_shape p from.0.name)) same ∙ ap (λ x. Some (named_shape q x)) (ap (λ (y : ShownType). y.name) from.2 ∙ shows.named))) at) same
 
     module _ (instances : List Instance) (trees : instances ≡ map instance_tree views) where
       pub outside_shows : (count : ℕ) (b : Bool) → IsShownBefore instances count (place_at t q) name b → ShowsNumber t views q n
       outside_shows count b before =
           let from = unmapped_get instance_tree views before.number before.shown (subst (λ is. slice_get is before.number ≡ Some before.shown) trees before.at) in
-          let path : path_at t from.0.place ≡ Some before.path = ap (λ (i : Instance). i.interface) from.2 ∙ before.of_path in
-          let same : from.0.place ≡ q = tables.paths from.0.place q before.path path (path_of_place q before.path before.stands) in
-          let shows = subst (λ (i : Instance). ShowsName (place_at t q) i.view (length i.view.types) name b) (sym from.2) before.shows in
-          view_shows from.0 (get-contains views before.number from.0 from.1) same (length (view_of t from.0.view).types) (place_at t q) b shows
+          view_shows from.0 (get-contains views before.number from.0 from.1) (tables.paths from.0.place q before.path (ap (λ (i : Instance). i.interface) from.2 ∙ before.of_path)
+          (sym (path_back (path_at t q)) ∙ ap text_of_place before.stands)) (length (view_of t from.0.view).types) (place_at t q) b
+          (subst (λ (i : Instance). ShowsName (place_at t q) i.view (length i.view.types) name b) (sym from.2) before.shows)
 
       module _ (s : NumberedSight) (k : ℕ) (there : slice_get views k ≡ Some s) (stands : ViewStands (IsShownBefore instances k) (place_at t s.place) (view_of t s.view)) where
         among : Contains views s
@@ -100,20 +94,17 @@ module _ (t : Tables) (tables : AreTables t) where
         -- what a type is declared as
         declared_shows : (i : ℕ) (x : NumberedType) → slice_get s.view.types i ≡ Some x → (k : ℕ) → x.declared ≡ Some k → IsIn t.shapes k n → ShowsNumber t views q n
         declared_shows i x e j some found =
-            let is = all_at (IsShownIn t s.place) s.view.types (good s among).types x (get-contains s.view.types i x e) in
-            let met : IsMetFrom t s.place j = subst (AllOf (IsMetFrom t s.place)) some is.name.met in
+            let met : IsMetFrom t s.place j = subst (AllOf (IsMetFrom t s.place)) some (all_at (IsShownIn t s.place) s.view.types (good s among).types x (get-contains s.view.types i x e)).name.met in
             let type_ = stands.types i (shown_type t x) (mapped_get (shown_type t) s.view.types i x e) in
-            let declared = subst (λ d. DeclarationStands (IsMetInView (IsShownBefore instances k) (place_at t s.place) (view_of t s.view) i) (declaration_of t d) type_.is_resource) some
-            type_.declared in
-            let name_met = in_declared t tables (IsMetInView (IsShownBefore instances k) (place_at t s.place) (view_of t s.view) i) n q name at j met.range found type_.is_resource declared in
+            let name_met = in_declared t tables (IsMetInView (IsShownBefore instances k) (place_at t s.place) (view_of t s.view) i) n q name at j met.range found type_.is_resource
+            (subst (λ d. DeclarationStands (IsMetInView (IsShownBefore instances k) (place_at t s.place) (view_of t s.view) i) (declaration_of t d) type_.is_resource) some type_.declared) in
             met_shows i name_met.0 (met.names q (name_in t.shapes tables.shapes j n q name found at)) name_met.1
 
         -- a part of a type that is shown
         pub part_shows : (x : NumberedType) → Contains s.view.types x → (j : ℕ) → Contains (slot_part x.slot ∷ declared_parts t x.declared) j → IsIn t.shapes j n → ShowsNumber t views q n
         part_shows x c j (zero, low, e) found =
             let is = all_at (IsShownIn t s.place) s.view.types (good s among).types x c in
-            let part : j ≡ 14 + is.number = sym e ∙ slot_number t x.slot is.number is.slot in
-            let one : n ≡ is.number = name_alone t.shapes tables.shapes j n is.number s.place x.name part is.name.named found in
+            let one : n ≡ is.number = name_alone t.shapes tables.shapes j n is.number s.place x.name (sym e ∙ slot_number t x.slot is.number is.slot) is.name.named found in
             type_shows s among x c is (sym one) (name_same t.shapes s.place q x.name name is.number n is.name.named at (sym one)).0
         part_shows x c j (suc i, low, e) found =
             let there = contains-get s.view.types x c in
@@ -126,12 +117,11 @@ module _ (t : Tables) (tables : AreTables t) where
         function_shows f c j part found =
             let there = contains-get s.view.functions f c in
             let called = all_at (λ (g : Text × NumberedFunction). IsCalledIn t s.place g.1.signature) s.view.functions (good s among).functions f c in
-            let met : IsMetFrom t s.place j = part_of_function (IsMetFrom t s.place) (function_at t f.1.signature) called.parts j part in
-            let Met = IsMetInView (IsShownBefore instances k) (place_at t s.place) (view_of t s.view) (length (view_of t s.view).types) in
-            let signature = stands.functions there.0 (shown_function t f) (mapped_get (shown_function t) s.view.functions there.0 f there.1) in
-            let ranges = parts_weaker (IsMetFrom t s.place) (IsPart t) (λ i m. m.range) (function_at t f.1.signature) called.parts in
-            let name_met = in_signature t tables Met n q name at (function_at t f.1.signature) ranges signature j part found in
-            met_shows (length (view_of t s.view).types) name_met.0 (met.names q (name_in t.shapes tables.shapes j n q name found at)) name_met.1
+            let name_met = in_signature t tables (IsMetInView (IsShownBefore instances k) (place_at t s.place) (view_of t s.view) (length (view_of t s.view).types)) n q name at
+            (function_at t f.1.signature) (parts_weaker (IsMetFrom t s.place) (IsPart t) (λ i m. m.range) (function_at t f.1.signature) called.parts)
+            (stands.functions there.0 (shown_function t f) (mapped_get (shown_function t) s.view.functions there.0 f there.1)) j part found in
+            met_shows (length (view_of t s.view).types) name_met.0 ((part_of_function (IsMetFrom t s.place) (function_at t f.1.signature) called.parts j part).names q
+            (name_in t.shapes tables.shapes j n q name found at)) name_met.1
 
 -- ---- the rules look at what is told alone
 
@@ -140,21 +130,15 @@ module _ (t : Tables) (place : Place) where
   same_resources [] [] e = refl
   same_resources (x ∷ xs) (y ∷ ys) e =
       let one : told x ≡ told y = cc in
-      let rest : map told xs ≡ map told ys = cc in
-      let later = same_resources xs ys rest in
-      let declared : x.declared ≡ y.declared = ap (λ (z : Text × (Option ℕ × Option Text)). z.1.0) one in
-      let name : x.name ≡ y.name = ap (λ (z : Text × (Option ℕ × Option Text)). z.0) one in
-      λ i. if is_resource (declaration_of t (declared i)) then name i ∷ later i else later i
+      let later = same_resources xs ys cc in
+      λ i. if is_resource (declaration_of t ((ap (λ (z : Text × (Option ℕ × Option Text)). z.1.0) one) i)) then (ap (λ (z : Text × (Option ℕ × Option Text)). z.0) one) i ∷ later i else later i
   same_resources _ _ e = let wrong : ⊥ = cc in absurd wrong
 
   same_names : (xs ys : List NumberedType) → map told xs ≡ map told ys → map (λ (x : ShownType). x.name) (map (shown_type t) xs) ≡ map (λ (x : ShownType). x.name) (map (shown_type t) ys)
   same_names [] [] e = refl
   same_names (x ∷ xs) (y ∷ ys) e =
       let one : told x ≡ told y = cc in
-      let rest : map told xs ≡ map told ys = cc in
-      let later = same_names xs ys rest in
-      let name : x.name ≡ y.name = ap (λ (z : Text × (Option ℕ × Option Text)). z.0) one in
-      λ i. name i ∷ later i
+      λ i. (ap (λ (z : Text × (Option ℕ × Option Text)). z.0) one) i ∷ (same_names xs ys cc) i
   same_names _ _ e = let wrong : ⊥ = cc in absurd wrong
 
   abbrev types_pass : List ShownType → Bool
@@ -183,16 +167,14 @@ module _ (t : Tables) (place : Place) where
   types_obey : (xs : List NumberedType) (gs : List (Text × NumberedFunction)) → obeys xs gs ≡ true → obeys xs [] ≡ true
   types_obey xs gs first =
       let ts = map (shown_type t) xs in
-      let one = third (types_pass ts) (functions_pass ts (map (shown_function t) gs)) (names_differ ts (map (shown_function t) gs)) first in
-      three (types_pass ts) true (names_differ ts []) one.0 refl
+      three (types_pass ts) true (names_differ ts []) (third (types_pass ts) (functions_pass ts (map (shown_function t) gs)) (names_differ ts (map (shown_function t) gs)) first).0 refl
       (ap distinct (append-nil (map (λ (x : ShownType). x.name) ts)) ∙ agreement.names_differ place (view_of t (record { types = xs; functions = gs })) first)
 
 -- ---- the functions that are seen
 
 module _ (t : Tables) (q : ℕ) (xs : List NumberedType) (gs : List (Text × NumberedFunction)) (first : obeys t (place_at t q) xs gs ≡ true) where
   pub seen_obeys : (seen : List NumberedSight) → ((s : NumberedSight) → Contains seen s → s.place ≡ q → map told xs ≡ map told s.view.types)
-      → ((s : NumberedSight) → Contains seen s → rules.is_interface (place_at t s.place) (view_of t s.view) ≡ true)
-      → obeys t (place_at t q) xs (functions_seen q seen) ≡ true
+      → ((s : NumberedSight) → Contains seen s → rules.is_interface (place_at t s.place) (view_of t s.view) ≡ true) → obeys t (place_at t q) xs (functions_seen q seen) ≡ true
   seen_obeys [] same obey = types_obey t (place_at t q) xs gs first
   seen_obeys (s ∷ rest) same obey = by (s.place == q && s.whole) refl (seen_obeys rest (λ u c e. same u (later u c) e) (λ u c. obey u (later u c)))
     where

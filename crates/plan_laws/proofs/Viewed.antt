@@ -57,10 +57,7 @@ module _ (t : Tables) (h : Homes) (ms : List Member) (members : List reads.Membe
   abbrev views : List NumberedSight
   views = views_of_members (numbered_members ms)
 
-  abbrev places : List ℕ
-  places = places_in ms
-
-  owner_at : (m q : ℕ) → slice_get places m ≡ Some q → b.owners q ≡ as_interface m
+  owner_at : (m q : ℕ) → slice_get (places_in ms) m ≡ Some q → b.owners q ≡ as_interface m
   owner_at m q e = ap (λ (o : ℕ → TypeOwner). o q) beside_owners ∙ owner_numbered ms q m (place_number ms m q e)
 
   places_of_all : (xs : List NumberedMember)
@@ -70,7 +67,8 @@ module _ (t : Tables) (h : Homes) (ms : List Member) (members : List reads.Membe
 
   -- ---- one interface
 
-  module _ (m q : ℕ) (at : slice_get places m ≡ Some q) (i : PlannedInterface) (there : interface_in p m ≡ Some i) (first : NumberedSight) (is_first : first_at q views ≡ Some first) (plans : PlansInterface t planned.kept n (home_at h q) first.view (functions_seen q views) i) where
+  module _ (m q : ℕ) (at : slice_get (places_in ms) m ≡ Some q) (i : PlannedInterface) (there : interface_in p m ≡ Some i) (first : NumberedSight) (is_first : first_at q views ≡ Some first)
+      (plans : PlansInterface t planned.kept n (home_at h q) first.view (functions_seen q views) i) where
     among : Contains views first
     among = (first_is q views first is_first).0
 
@@ -82,9 +80,7 @@ module _ (t : Tables) (h : Homes) (ms : List Member) (members : List reads.Membe
         × (e.1 < length p.types)
     type_listed x c e lists is =
         let kept_there = kept_number planned.kept (slot_part x.slot) is.number e.1 (slot_number t x.slot is.number is.slot) lists.1 in
-        let many = zip_length (PlansType t planned.kept (shown_first ms) (owners_in ms)) planned.kept p.types planned.types in
-        let low = slice_get_within planned.kept e.1 is.number kept_there in
-        (kept_there, omega (arith, many, low))
+        (kept_there, omega (arith, zip_length (PlansType t planned.kept (shown_first ms) (owners_in ms)) planned.kept p.types planned.types, slice_get_within planned.kept e.1 is.number kept_there))
 
     shown_is : (x : NumberedType) → Contains first.view.types x → IsShownIn t first.place x
     shown_is x c = all_at (IsShownIn t first.place) first.view.types (member_view_in t ms input.numbers first among).types x c
@@ -92,9 +88,8 @@ module _ (t : Tables) (h : Homes) (ms : List Member) (members : List reads.Membe
     kept_as : (x : NumberedType) → Contains first.view.types x → (k : ℕ) (e : Text × ℕ) → IsNumberOf t q x k → ListsNumber planned.kept x e → IsKeptAs planned.kept p k e
     kept_as x c k e number lists =
         let is = shown_is x c in
-        let one : is.number ≡ k = input.tables.shapes.apart is.number k (named_shape q x.name) (is.name.named ∙ ap (λ r. Some (named_shape r x.name)) place) number in
         let listed = type_listed x c e lists is in
-        (listed.0 ∙ ap Some one, listed.1)
+        (listed.0 ∙ ap Some (input.tables.shapes.apart is.number k (named_shape q x.name) (is.name.named ∙ ap (λ r. Some (named_shape r x.name)) place) number), listed.1)
 
     becomes : (x : NumberedType) → Contains first.view.types x → (e : Text × ℕ) → ListsNumber planned.kept x e → TypeListed t planned.kept p x e
     becomes x c e lists =
@@ -125,8 +120,7 @@ module _ (t : Tables) (h : Homes) (ms : List Member) (members : List reads.Membe
             ap (passes is_label) (plans.name ∙ ap (option_map (λ (x : ℕ × Text). x.1)) home.home) ∙ (read_path_is_spelled path home.identity home.name home.reads).label
 
     obeys : rules.is_interface (place_at t q) (view_of t (record { types = first.view.types; functions = functions_seen q views })) ≡ true
-    obeys =
-        seen_obeys t q first.view.types first.view.functions (subst (λ r. rules.is_interface (place_at t r) (view_of t first.view) ≡ true) place (ordered.obey first among)) views
+    obeys = seen_obeys t q first.view.types first.view.functions (subst (λ r. rules.is_interface (place_at t r) (view_of t first.view) ≡ true) place (ordered.obey first among)) views
         (λ s c e. views_told t h ms members input agreed ordered first s among c (place ∙ sym e)) ordered.obey
 
     read : IsReadInterface t planned.kept p b m i
@@ -164,20 +158,16 @@ module _ (t : Tables) (h : Homes) (ms : List Member) (members : List reads.Membe
       used_before : (front back : List NumberedSight) → views ≡ front ++ first ∷ back → ((u : NumberedSight) → Contains front u → u.place ≡ q → ⊥) → (u : NumberedSight) → Contains front u
           → u.place ≡ r → IsUsedPlace b.owners m q r
       used_before front back split new u c same =
-          let flat : flat_map (λ (x : NumberedMember). places_of_part x.part) (numbered_members ms) ≡ map (λ (s : NumberedSight). s.place) front ++ q ∷ map (λ (s : NumberedSight). s.place) back =
-          sym (places_of_all (numbered_members ms))
-          ∙ (ap (map (λ (s : NumberedSight). s.place)) split ∙ (append_of_map (λ (s : NumberedSight). s.place) front (first ∷ back) ∙ ap
-          (λ x. map (λ (s : NumberedSight). s.place) front ++ x ∷ map (λ (s : NumberedSight). s.place) back) place)) in
-          let r_there : Contains (map (λ (s : NumberedSight). s.place) front) r =
-          subst (Contains (map (λ (s : NumberedSight). s.place) front)) same (contains-map (λ (s : NumberedSight). s.place) front u c) in
-          let fresh : Contains (map (λ (s : NumberedSight). s.place) front) q → ⊥ = λ d. (let s = from_map (λ (x : NumberedSight). x.place) front q d in new s.0 s.1 s.2) in
-          let all : places ≡ joined_all [] (map (λ (s : NumberedSight). s.place) front ++ q ∷ map (λ (s : NumberedSight). s.place) back) = ap (joined_all []) flat in
-          let given = number_given places r (subst (λ ps. Contains ps r) (sym all)
-          (all_joined [] (map (λ (s : NumberedSight). s.place) front ++ q ∷ map (λ (s : NumberedSight). s.place) back) r
-          (inr (Contains-append_left (map (λ (s : NumberedSight). s.place) front) (q ∷ map (λ (s : NumberedSight). s.place) back) r r_there)))) in
-          let low = number_before (map (λ (s : NumberedSight). s.place) front) (map (λ (s : NumberedSight). s.place) back) q fresh r given.0 m r_there
-          (subst (λ ps. number_in ps r ≡ Some given.0) all given.1) (subst (λ ps. number_in ps q ≡ Some m) all (place_number ms m q at)) in
-          smaller given.0 (owner_at given.0 r (number_there places r given.0 given.1)) low
+          let r_there = subst (Contains (map (λ (s : NumberedSight). s.place) front)) same (contains-map _ _ u c) in
+          let all = ap (joined_all []) (sym (places_of_all (numbered_members ms))
+          ∙ (ap (map (λ (s : NumberedSight). s.place)) split ∙ (append_of_map _ _ _
+          ∙ ap (λ x. map (λ (s : NumberedSight). s.place) front ++ x ∷ map (λ (s : NumberedSight). s.place) back) place))) in
+          let given = number_given (places_in ms) r (subst (λ ps. Contains ps r) (sym all)
+          (all_joined [] (map (λ (s : NumberedSight). s.place) front ++ q ∷ map (λ (s : NumberedSight). s.place) back) r (inr (Contains-append_left _ _ r r_there)))) in
+          smaller given.0 (owner_at given.0 r (number_there (places_in ms) r given.0 given.1))
+          (number_before (map (λ (s : NumberedSight). s.place) front) (map (λ (s : NumberedSight). s.place) back) q
+          (λ d. (let s = from_map (λ (x : NumberedSight). x.place) front q d in new s.0 s.1 s.2)) r given.0 m r_there (subst (λ ps. number_in ps r ≡ Some given.0) all given.1)
+          (subst (λ ps. number_in ps q ≡ Some m) all (place_number ms m q at)))
 
       uses : IsUsedPlace b.owners m q r
       uses =
@@ -197,11 +187,9 @@ module _ (t : Tables) (h : Homes) (ms : List Member) (members : List reads.Membe
           by front back split new instances trees (inr earlier) =
               let from = unmapped_get (instance_tree t input.tables) views earlier.number earlier.shown (subst (λ xs. slice_get xs earlier.number ≡ Some earlier.shown) trees earlier.at) in
               let u = from.0 in
-              let path : path_at t u.place ≡ Some r_path.0 = ap (λ (x : Instance). x.interface) from.2 ∙ same_path earlier.shown.interface earlier.of_path in
-              let same : u.place ≡ r = input.tables.paths u.place r r_path.0 path r_path.1 in
-              let inside : slice_get front earlier.number ≡ Some u = sym (front_get front (first ∷ back) earlier.number earlier.below)
-              ∙ (ap (λ xs. slice_get xs earlier.number) (sym split) ∙ from.1) in
-              used_before front back split new u (get-contains front earlier.number u inside) same
+              used_before front back split new u (get-contains front earlier.number u
+              (sym (front_get front (first ∷ back) earlier.number earlier.below) ∙ (ap (λ xs. slice_get xs earlier.number) (sym split) ∙ from.1)))
+              (input.tables.paths u.place r r_path.0 (ap (λ (x : Instance). x.interface) from.2 ∙ same_path earlier.shown.interface earlier.of_path) r_path.1)
 
     pub viewed : IsViewedInterface t planned.kept p b (views_read ms) m i
     unfolding read
@@ -214,7 +202,7 @@ module _ (t : Tables) (h : Homes) (ms : List Member) (members : List reads.Membe
 
   pub interfaces_viewed : InterfacesAreViewed t planned.kept p b (views_read ms)
   interfaces_viewed m i there =
-      let found = zip_get (PlansPlace t planned.kept n (home_at h) views) places p.interfaces planned.interfaces m i there in
+      let found = zip_get (PlansPlace t planned.kept n (home_at h) views) (places_in ms) p.interfaces planned.interfaces m i there in
       let first = first_there t h ms members input n p planned m found.0 found.1 in
       viewed m found.0 found.1 i there first.0 first.1 (found.2 first.0 first.1)
 

@@ -40,6 +40,5 @@ module _ (t : Tables) (h : Homes) (ms : List Member) (members : List reads.Membe
           let one = one_told (sights_of_members t numbered) agrees a b (sight_there t numbered a c (path, ap (path_at t) same ∙ e)) (sight_there t numbered b d (path, e)) same in
           sym (map_of_map less told_all a.view.types) ∙ (ap (map less) one ∙ map_of_map less told_all b.view.types)
       by None e =
-          let at_a : Contains {X = Frame} (frames numbered) (b.place, a_view a.view) =
-          subst (λ q. Contains {X = Frame} (frames numbered) (q, a_view a.view)) same (view_frame t h ms members input apart a c (ap (path_at t) same ∙ e)) in
+          let at_a = subst (λ q. Contains {X = Frame} (frames numbered) (q, a_view a.view)) same (view_frame t h ms members input apart a c (ap (path_at t) same ∙ e)) in
           ap (λ (x : Owned). map told (owned_view b.view x).types) (one_owned t numbered apart b.place e (a_view a.view) (a_view b.view) at_a (view_frame t h ms members input apart b d e))

@@ -1,13 +1,13 @@
 -- A plan that was made of what was followed means what that means.
 use Rattle.plan_type_laws.proofs.{PartPlaces.slot_number, InnerForms.name_there, UsedWalk.unnamed_node, FirstFound.firsts_found}
 use Rattle.plan_type_laws.proofs.{ShownMarks.names_marked, ShownRules.form_unnamed, ShownRules.mark_there, ShownRules.numbered_shape, ShownRules.used_form}
-use Rattle.std.proofs.Common.{rules as std_rules, ◌≡◌, refl, sym, ap, subst, ◌∙◌, ℕ, ◌+◌, ◌-◌, ◌<◌, ◌≤◌, ◌⊎◌, inl, inr, arith, Bool, true, false, ◌==◌, nat_lt, cond, List, [], ◌∷◌, length, map, option_to_list, Option, Some, None, slice_get}
+use Rattle.std.proofs.Common.{rules as std_rules, ◌≡◌, refl, sym, ap, subst, ◌∙◌, ℕ, ◌+◌, ◌-◌, ◌<◌, ◌≤◌, inl, inr, arith, Bool, true, false, ◌==◌, nat_lt, cond, List, [], ◌∷◌, length, map, option_to_list, Option, Some, None, slice_get}
 use Rattle.std.proofs.{lemmas.Bool.eq-eqb, lemmas.Bool.ltb-false, lemmas.Bool.ltb-true, ByRecursion.All-weaker as recursion_weaker}
 use Rattle.std.proofs.lemmas.{List.Elements.Contains-append_left, List.Elements.Contains-append_right, Option.slice_get_within, Option.same_Some as same-some}
 use Rattle.std.specs.{Prelude.not, List.AllByRecursion, List.Contains, List.flat_map, List.AllZip, Option.option_map_or}
 use Rattle.wit_model.specs.{Text.Text, Names.PackageIdentity}
 use Rattle.wit_model.proofs.Elements.{contains-flat, contains-get, contains-has}
-use Rattle.plan_meaning.specs.{FollowedNumbers.IsMetFrom, FollowedNumbers.IsScopeIn, FollowedNumbers.IsShownIn, Plan.Plan, Plan.PlannedPackage, Plan.package_in}
+use Rattle.plan_meaning.specs.{FollowedNumbers.IsMetFrom, FollowedNumbers.IsShownIn, Plan.Plan, Plan.PlannedPackage, Plan.package_in}
 use Rattle.plan_meaning.specs.{Renumbering.a_primitive, Renumbering.a_shape, GatheredPlan.IsGathered, GatheredPlan.WorldsListed, GatheredPlan.worlds_listed}
 use Rattle.plan_meaning.specs.{KeptResources.FormIsMarked, NumberedWorlds.place_of_key, PlanMeaning.plan_meaning, ReadFunctions.Beside}
 use Rattle.plan_meaning.specs.{NumberedMembers.Homes, NumberedMembers.NumberedMember, NumberedMembers.home_at, Shapes.IsShape, Shapes.Shape, Shapes.named_shape}
@@ -18,26 +18,26 @@ use Rattle.plan_parts.specs.{Interfaces.IsFunctionOver, Interfaces.IsKeptSlot, I
 use Rattle.plan_parts.specs.{Kept.IsKeptPart, Kinds.MayBeDeclared, Kinds.a_part, Kinds.nothing, Kinds.over_parts}
 use Rattle.read_exports.specs.Members.{numbered_member, numbered_members, numbered_part}
 use Rattle.read_exports.specs.declared.members.{Member.Member, Part.Part}
-use Rattle.read_rules.specs.declared.{reached.ImportedView.ImportedView, scopes.Scope.Scope, scopes.Seen.Seen, scopes.Shown.Shown}
-use Rattle.read_rules.specs.{Reached.numbered_import, Scopes.numbered_instance, Scopes.numbered_key, Scopes.numbered_scope, Tables.given_text}
+use Rattle.read_rules.specs.declared.{scopes.Scope.Scope, scopes.Seen.Seen, scopes.Shown.Shown}
+use Rattle.read_rules.specs.{Reached.numbered_import, Scopes.numbered_instance, Scopes.numbered_key, Tables.given_text}
 use Rattle.plan_types.specs.PlannedTypes.{MayBePlanned, a_form, a_name}
 use Rattle.plan_types.specs.Showings.{NumberedShowing, showing_of, showings_of_members, showings_of_shown, signatures_of_members, signatures_of_shown}
 use Rattle.plan_types.specs.Used.{declared_parts, form_parts, function_parts, showing_parts, signature_parts, used_parts}
 use Rattle.plan_package.specs.PlanWhole.{AreKeptFor, IsKeptWhole, MayBeWhole, places_in, shown_first, PlansWhole}
-use Rattle.plan_package.specs.{Views.types_alone, Views.views_of_members, Views.views_of_part, Views.whole_view, WholeInterfaces.ViewIsKept}
+use Rattle.plan_package.specs.{Views.views_of_members, Views.views_of_part, Views.whole_view, WholeInterfaces.ViewIsKept}
 use Rattle.plan_package.specs.WholeWorlds.{SeenIsKept, SeenIsPlaced, ShownIsKept, ShownIsPlaced, WorldIsKept, WorldIsPlaced, worlds_in}
 use Rattle.plan_package.specs.WholePackages.{IsMainPackage, PlansPackage, another, entries_from, the_main}
-use Rattle.plan_type_laws.specs.{ShownForms.EachForm, ShownMarks.MarksStand, UsedParts.SignatureObeys}
+use Rattle.plan_type_laws.specs.{ShownForms.EachForm, ShownMarks.MarksStand}
 use Rattle.plan_laws.specs.{ShownNames.IsShownByPart, ShownNames.by_import, ShownNames.by_view, WholeTypes.IsRuledInput, WholeTypes.TypesAreWhole}
 use Rattle.plan_laws.specs.{ShownRules.TypeObeys, Whole.IsPackageInput}
 use Rattle.plan_laws.specs.{WholeCondition.ImportsAreBare, WholeCondition.PartIsBare, WholeCondition.WholeMayBePlanned, WholeFunctions.beside_tables}
 use Rattle.plan_laws.specs.{FirstViews.ViewsAreOrdered, ViewedInterfaces.views_read, WholePlan.IsWholeInput, WholePlan.PlanIsWhole, WorldItems.WorldsAreApart}
 use Rattle.plan_laws.proofs.{FormCounts.HasCount, FormCounts.form_over, FormCounts.forms_count, ShownAlike.functions_alike, WholeReasons.there_marked}
-use Rattle.plan_laws.proofs.{Planned.found_there, Planned.view_met, WholeTypes.packages_are_ruled, WholeTypes.planned_types_are_whole}
+use Rattle.plan_laws.proofs.{Planned.found_there, Planned.view_met, WholeTypes.package_there, WholeTypes.packages_are_ruled, WholeTypes.planned_types_are_whole}
 use Rattle.plan_laws.proofs.{WorldKeys.world_member, ViewRules.part_of_function as part_of, GatheredInterfaces.foreign_gathered, GatheredInterfaces.top_listed}
 use Rattle.plan_laws.proofs.{Inside.flat_cases, Inside.within, ShownNames.names_are_shown, Apart.whole_stands_apart, GatheredWorlds.worlds_are_listed}
 use Rattle.plan_laws.proofs.{InstanceSeen.seen_showing, InstanceSeen.seen_signature, InstanceSeen.shown_so, ViewsAgree.told, ViewsAgree.views_tell}
-use Rattle.plan_laws.proofs.Sources.{Side, at_mapped, interface_views, mapped_cases, own_sight, seen_sight, sight_of, view_among, world_in, member_view_in}
+use Rattle.plan_laws.proofs.Sources.{Side, at_mapped, interface_views, mapped_cases, seen_sight, sight_of, view_among, world_in, member_view_in}
 use Rattle.plan_laws.proofs.{ShownRules.all_of, WholePlan.plan_read}
 use Rattle.base_lemmas.proofs.Elements.{all_at, contains-map, contains-one, map_from as from_map}
 use Rattle.base_lemmas.proofs.Lists.{get_back as unmapped_get, mapped_get, within_there as slice_there}
@@ -52,13 +52,10 @@ use Rattle.read_rules.specs.declared.scopes.Shown.TheVariants as shown
 
 parts_each : (P : ℕ → Type 0) (f : FunctionShape) → ((k : ℕ) → Contains (signature_parts f) k → P k) → PartsOf P f
 parts_each P f each = (
-  params f.params (λ k c. each k (Contains-append_left (map (λ (x : Text × ℕ). x.1) f.params) (option_to_list f.result) k c)),
-  result f.result (λ k c. each k (Contains-append_right (map (λ (x : Text × ℕ). x.1) f.params) (option_to_list f.result) k c)),
+  all_of (λ (x : Text × ℕ). P x.1) f.params (λ x c. each x.1 (Contains-append_left _ _ x.1 (contains-map (λ (y : Text × ℕ). y.1) f.params x c))),
+  result f.result (λ k c. each k (Contains-append_right _ _ k c)),
 )
   where
-    params : (xs : List (Text × ℕ)) → ((k : ℕ) → Contains (map (λ (x : Text × ℕ). x.1) xs) k → P k) → AllByRecursion (λ (x : Text × ℕ). P x.1) xs
-    params xs one = all_of (λ (x : Text × ℕ). P x.1) xs (λ x c. one x.1 (contains-map (λ (y : Text × ℕ). y.1) xs x c))
-
     result : (r : Option ℕ) → ((k : ℕ) → Contains (option_to_list r) k → P k) → AllOf P r
     result None one = tt
     result (Some k) one = one k (contains-one k)
@@ -66,11 +63,8 @@ parts_each P f each = (
 -- a part of a function is one of these
 
 module _ (t : Tables) (h : Homes) (known : ℕ → Fact) (n : ℕ) (ms : List Member) (members : List reads.Member) (given : IsPackageInput t h known n ms members) (bare : ImportsAreBare ms) where
-  abbrev numbered : List NumberedMember
-  numbered = numbered_members ms
-
   abbrev views : List NumberedSight
-  views = views_of_members numbered
+  views = views_of_members (numbered_members ms)
 
   abbrev showings : List NumberedShowing
   showings = showings_of_members ms
@@ -86,39 +80,38 @@ module _ (t : Tables) (h : Homes) (known : ℕ → Fact) (n : ℕ) (ms : List Me
 
   -- ---- views by which a place is shown
 
-  world_good : (m : Member) → Contains ms m → (w : Scope) → m.part ≡ parts.World w → IsScopeIn t (numbered_scope w)
-  world_good m c w is = (world_in t h ms members given.input m c w is).good
-
   -- what shows types alone shows no functions
   alone : (s : NumberedSight) → Contains views s → s.whole ≡ false → s.view.functions ≡ []
   alone s c not_whole = let m = mapped_cases (λ (x : NumberedMember). views_of_part x.part) numbered_member ms s c in
       by m.0.part (at_mapped (λ (x : NumberedMember). PartIsBare x.part) numbered_member ms bare m.0 m.1) m.2
     where
       by : (a : Part) → PartIsBare (numbered_part a) → Contains (views_of_part (numbered_part a)) s → s.view.functions ≡ []
-      by (parts.World w) all there =
-          let i = from_map whole_view (map numbered_instance w.instances.now) s there in
-          no_true (sym not_whole ∙ ap (λ (x : NumberedSight). x.whole) (sym i.2))
-      by (parts.Interface q v imports) all there = side (interface_views q v imports s there)
-        where
-          side : ((i : ImportedView) × Contains imports.now i × (types_alone (numbered_import i) ≡ s)) ⊎ (own_sight q v imports ≡ s) → s.view.functions ≡ []
-          side (inl i) = ap (λ (x : NumberedSight). x.view.functions) (sym i.2) ∙ at_mapped (λ (x : ℕ × NumberedView). x.1.functions ≡ []) numbered_import imports.now all i.0 i.1
-          side (inr own) = no_true (sym not_whole ∙ ap (λ (x : NumberedSight). x.whole) (sym own))
+      by (parts.World w) all there = no_true (sym not_whole ∙ ap (λ (x : NumberedSight). x.whole) (sym (from_map whole_view (map numbered_instance w.instances.now) s there).2))
+      by (parts.Interface q v imports) all there = elim (interface_views q v imports s there) [
+        | inl i ↦ ap (λ (x : NumberedSight). x.view.functions) (sym i.2) ∙ at_mapped (λ (x : ℕ × NumberedView). x.1.functions ≡ []) numbered_import imports.now all i.0 i.1
+        | inr own ↦ no_true (sym not_whole ∙ ap (λ (x : NumberedSight). x.whole) (sym own))
+      ]
 
   -- a type of a view is shown
   type_shown : (s : NumberedSight) → Contains views s → (x : NumberedType) → Contains s.view.types x → (y : NumberedShowing) × Contains showings y × (y.part ≡ slot_part x.slot)
   type_shown s c x there =
       let so = shown_so t h ms members given.input given.placed.apart s c in
       let u = so.other in
-      let tells = views_tell t h ms members given.input given.placed.apart ruled.agree s u c so.among (sym so.place) in
-      let from = from_map told u.view.types (told x) (subst (λ (es : List (Text × Option ℕ)). Contains es (told x)) tells (contains-map told s.view.types x there)) in
+      let from = from_map told u.view.types (told x) (subst (λ (es : List (Text × Option ℕ)). Contains es (told x))
+      (views_tell t h ms members given.input given.placed.apart ruled.agree s u c so.among (sym so.place)) (contains-map told s.view.types x there)) in
       let z = from.0 in
       let a = all_at (IsShownIn t s.place) s.view.types (member_view_in t ms given.input.numbers s c).types x there in
-      let b = all_at (IsShownIn t u.place) u.view.types (member_view_in t ms given.input.numbers u so.among).types z from.1 in
-      let name : z.name ≡ x.name = ap (λ (e : Text × Option ℕ). e.0) from.2 in
-      let one : b.number ≡ a.number = given.input.tables.shapes.apart b.number a.number (named_shape s.place x.name) (b.name.named ∙ (λ i. Some (named_shape (so.place i) (name i)))) a.name.named in
-      let a_part = slot_number t x.slot a.number a.slot in
-      let b_part = slot_number t z.slot b.number b.slot in
-      (showing_of z, so.types z from.1, omega (arith, one, a_part, b_part))
+      let b = all_at (IsShownIn t u.place) u.view.types (member_view_in t ms given.input.numbers u so.among).types z from.1 in (
+        showing_of z,
+        so.types z from.1,
+        omega (
+          arith,
+          (given.input.tables.shapes.apart b.number a.number (named_shape s.place x.name)
+              (b.name.named ∙ (λ i. Some (named_shape (so.place i) ((ap (λ (e : Text × Option ℕ). e.0) from.2) i)))) a.name.named),
+          slot_number t x.slot a.number a.slot,
+          slot_number t z.slot b.number b.slot,
+        ),
+      )
 
   -- the parts of a type stand before it
   shape_parts : (m : ℕ) (s : Shape) → slice_get t.shapes m ≡ Some s → AllByRecursion (λ k. k < 14 + m) s.parts
@@ -127,9 +120,6 @@ module _ (t : Tables) (h : Homes) (known : ℕ → Fact) (n : ℕ) (ms : List Me
   -- ---- what is kept
 
   module _ (kept : List ℕ) (kept_for : AreKeptFor t ms kept) where
-    abbrev all_parts : List ℕ
-    all_parts = used_parts t showings signatures
-
     abbrev Used : ℕ → Type 0
     Used k = IsUsed (map (λ (s : Shape). s.parts) t.shapes) kept_for.used.roots k
 
@@ -142,20 +132,17 @@ module _ (t : Tables) (h : Homes) (known : ℕ → Fact) (n : ℕ) (ms : List Me
         by : (b : Bool) → nat_lt k 14 ≡ b → IsKeptPart kept k
         by true e = (k, a_primitive (ltb-true k 14 e) refl)
         by false e =
-            let high : 14 ≤ k = ltb-false k 14 e in
-            let number : k ≡ 14 + (k - 14) = omega (arith, high) in
+            let number : k ≡ 14 + (k - 14) = omega (arith, ltb-false k 14 e) in
             let stands = kept_for.marked.stand (k - 14) (there_marked kept_for.marks (k - 14) (used_mark (k - 14) (used (k - 14) number))) in
             (14 + stands.0, a_shape (k - 14) stands.0 number stands.1 refl)
 
-    root_used : (k : ℕ) → Contains all_parts k → IsPart t k → (m : ℕ) → k ≡ 14 + m → Used m
-    root_used k c range m e = marked m (kept_for.used.shown m (omega (arith, range, e)) ∙ contains-has all_parts (14 + m) (subst (Contains all_parts) e c))
-
-    root_kept : (k : ℕ) → Contains all_parts k → IsPart t k → IsKeptPart kept k
-    root_kept k c range = part_kept k (root_used k c range)
+    root_kept : (k : ℕ) → Contains (used_parts t showings signatures) k → IsPart t k → IsKeptPart kept k
+    root_kept k c range = part_kept k (λ m e. marked m (kept_for.used.shown m (omega (arith, range, e))
+        ∙ contains-has (used_parts t showings signatures) (14 + m) (subst (Contains (used_parts t showings signatures)) e c)))
 
     -- ---- of what is shown
 
-    showing_root : (y : NumberedShowing) → Contains showings y → (k : ℕ) → Contains (showing_parts t y) k → Contains all_parts k
+    showing_root : (y : NumberedShowing) → Contains showings y → (k : ℕ) → Contains (showing_parts t y) k → Contains (used_parts t showings signatures) k
     showing_root y c k there = Contains-append_left (flat_map (showing_parts t) showings) (flat_map (function_parts t) signatures) k (contains-flat (showing_parts t) showings y k c there)
 
     showing_is : (y : NumberedShowing) → Contains showings y → TypeObeys t y
@@ -164,22 +151,18 @@ module _ (t : Tables) (h : Homes) (known : ℕ → Fact) (n : ℕ) (ms : List Me
     showing_kept : (y : NumberedShowing) → Contains showings y → (14 ≤ y.part) × IsKeptPart kept y.part
     showing_kept y c =
         let is = showing_is y c in
-        let low = slice_get_within t.shapes is.number (named_shape is.place is.name) is.is.named in
         let at = is.part in
-        (omega (arith, at), root_kept y.part (showing_root y c y.part (0, omega arith, refl)) (omega (arith, low, at)))
+        (omega (arith, at), root_kept y.part (showing_root y c y.part (0, omega arith, refl)) (omega (arith, slice_get_within t.shapes is.number (named_shape is.place is.name) is.is.named, at)))
 
     signature_kept : (k : ℕ) → Contains signatures k → PartsOf (IsKeptPart kept) (function_at t k)
-    signature_kept k c =
-        parts_each (IsKeptPart kept) (function_at t k)
-        (λ j there. root_kept j (Contains-append_right (flat_map (showing_parts t) showings) (flat_map (function_parts t) signatures) j (contains-flat (function_parts t) signatures k j c there))
-        (part_of (IsPart t) (function_at t k) (all_at (SignatureObeys t) signatures ruled.rules.signatures k c).range j there))
+    signature_kept k c = parts_each (IsKeptPart kept) (function_at t k) (λ j there. root_kept j (Contains-append_right _ _ j (contains-flat (function_parts t) signatures k j c there))
+        (part_of (IsPart t) (function_at t k) (all_at _ _ ruled.rules.signatures k c).range j there))
 
     -- ---- forms
 
     -- the parts of a type that is used
     inner_kept : (m : ℕ) (s : Shape) → slice_get t.shapes m ≡ Some s → Used m → AllByRecursion (IsKeptPart kept) s.parts
-    inner_kept m s at used =
-        all_of (IsKeptPart kept) s.parts (λ k c. part_kept k (λ i e. part m i s.parts used (mapped_get (λ (x : Shape). x.parts) t.shapes m s at) (subst (Contains s.parts) e c)))
+    inner_kept m s at used = all_of (IsKeptPart kept) s.parts (λ k c. part_kept k (λ i e. part m i s.parts used (mapped_get (λ (x : Shape). x.parts) t.shapes m s at) (subst (Contains s.parts) e c)))
 
     are_names : AllByRecursion (λ (y : NumberedShowing). (x : ℕ × Text) × (name_at t y.part ≡ Some x)) showings
     are_names = recursion_weaker (TypeObeys t) (λ (y : NumberedShowing). (x : ℕ × Text) × (name_at t y.part ≡ Some x))
@@ -188,19 +171,16 @@ module _ (t : Tables) (h : Homes) (known : ℕ → Fact) (n : ℕ) (ms : List Me
     form_kept : (m : ℕ) (s : Shape) → slice_get t.shapes m ≡ Some s → name_in s ≡ None → Used m → MayBePlanned t kept (shown_first ms) m
     form_kept m s at none used =
         let mark = used_mark m used in
-        a_form s at none
-        (form_over t h ms members given.input marks kept m s at none
+        a_form s at none (form_over t h ms members given.input marks kept m s at none
         (used_form t given.input.tables HasCount showings are_names signatures (forms_count t h ms members given.input) kept_for.marks kept_for.used m s mark at none)
         (used_form t given.input.tables (FormIsMarked marks.marks) showings are_names signatures marks.inner kept_for.marks kept_for.used m s mark at none) (inner_kept m s at used))
 
     -- ---- names
 
     may_declare : (y : NumberedShowing) → Contains showings y → MayBeDeclared t kept y.declared
-    may_declare y c =
-        by y.declared refl (showing_is y c).is.met (all_at (λ (z : NumberedShowing). AllOf (EachForm t HasCount) z.declared) showings (forms_count t h ms members given.input).declared y c)
-        (all_at (λ (z : NumberedShowing). AllOf (EachForm t (FormIsMarked marks.marks)) z.declared) showings marks.inner.declared y c)
+    may_declare y c = by y.declared refl (showing_is y c).is.met (all_at _ _ (forms_count t h ms members given.input).declared y c) (all_at _ _ marks.inner.declared y c)
       where
-        in_parts : (k : ℕ) → Contains (declared_parts t y.declared) k → Contains all_parts k
+        in_parts : (k : ℕ) → Contains (declared_parts t y.declared) k → Contains (used_parts t showings signatures) k
         in_parts k there = showing_root y c k (Contains-append_right (y.part ∷ []) (declared_parts t y.declared) k there)
 
         of_form : (k : ℕ) → y.declared ≡ Some k → is_form t k ≡ true → EachForm t HasCount k → EachForm t (FormIsMarked marks.marks) k → (o : Option Shape) → shape_at t k ≡ o
@@ -208,15 +188,12 @@ module _ (t : Tables) (h : Homes) (known : ℕ → Fact) (n : ℕ) (ms : List Me
         of_form k e form counts held None at is = no_true is
         of_form k e form counts held (Some s) at is =
             let number = numbered_shape t k s at in
-            let low = slice_get_within t.shapes number.0 s number.2 in
             let inner : (j : ℕ) → Contains s.parts j → IsKeptPart kept j = λ j there.
             let below = all_at (λ i. i < 14 + number.0) s.parts (shape_parts number.0 s number.2) j there in
-            root_kept j
-            (in_parts j (subst (λ d. Contains (declared_parts t d) j) (sym e) (subst (λ b. Contains (cond b (form_parts t k) (k ∷ [])) j) (sym form)
-            (subst (λ o. Contains (option_map_or (λ (x : Shape). x.parts) o []) j) (sym at) there))))
-            (omega (arith, low, below)) in
-            over_parts k s refl form at
-            (form_over t h ms members given.input marks kept number.0 s number.2 (form_unnamed s is) (subst (EachForm t HasCount) number.1 counts)
+            root_kept j (in_parts j (subst (λ d. Contains (declared_parts t d) j) (sym e)
+            (subst (λ b. Contains (cond b (form_parts t k) (k ∷ [])) j) (sym form) (subst (λ o. Contains (option_map_or (λ (x : Shape). x.parts) o []) j) (sym at) there))))
+            (omega (arith, slice_get_within t.shapes number.0 s number.2, below)) in
+            over_parts k s refl form at (form_over t h ms members given.input marks kept number.0 s number.2 (form_unnamed s is) (subst (EachForm t HasCount) number.1 counts)
             (subst (EachForm t (FormIsMarked marks.marks)) number.1 held) (all_of (IsKeptPart kept) s.parts inner))
 
         by : (d : Option ℕ) → y.declared ≡ d → AllOf (IsMetFrom t (showing_is y c).place) d → AllOf (EachForm t HasCount) d → AllOf (EachForm t (FormIsMarked marks.marks)) d → MayBeDeclared t kept d
@@ -225,8 +202,7 @@ module _ (t : Tables) (h : Homes) (known : ℕ → Fact) (n : ℕ) (ms : List Me
           where
             which : (b : Bool) → is_form t k ≡ b → MayBeDeclared t kept (Some k)
             which true form = of_form k e form counts held (shape_at t k) refl form
-            which false fails =
-                a_part k refl fails
+            which false fails = a_part k refl fails
                 (root_kept k (in_parts k (subst (λ d. Contains (declared_parts t d) k) (sym e) (subst (λ b. Contains (cond b (form_parts t k) (k ∷ [])) k) (sym fails) (contains-one k)))) met.range)
 
     -- a name that is used is shown
@@ -243,16 +219,14 @@ module _ (t : Tables) (h : Homes) (known : ℕ → Fact) (n : ℕ) (ms : List Me
             let y : NumberedShowing = record { part = 14 + m; declared = imports.declared; external_id = given_text imports.seen.external_id } in (
               y,
               seen_showing t h ms members given.input given.placed.apart x c w is imports.seen (inl imports.among) y
-                  (subst (λ k. Contains (showings_of_shown k (given_text imports.seen.external_id)) y) (sym imports.shown)
-                  (contains-one y)),
+                  (subst (λ k. Contains (showings_of_shown k (given_text imports.seen.external_id)) y) (sym imports.shown) (contains-one y)),
               refl,
             )
 
     type_kept : (m : ℕ) → Contains kept m → MayBePlanned t kept (shown_first ms) m
     type_kept m c =
         let j = contains-get kept m c in
-        let mark = mark_there kept_for.marks m (kept_for.marked.among j.0 m j.1) in
-        let used : Used m = (kept_for.used.marked m).0 mark in
+        let used : Used m = (kept_for.used.marked m).0 (mark_there kept_for.marks m (kept_for.marked.among j.0 m j.1)) in
         let shape = slice_there t.shapes m (used_within m used) in
         by shape.0 shape.1 used (name_in shape.0) refl
       where
@@ -260,9 +234,7 @@ module _ (t : Tables) (h : Homes) (known : ℕ → Fact) (n : ℕ) (ms : List Me
         used_within k (marked i is) = (let root = within kept_for.used.roots i is in let many = kept_for.used.many in omega (arith, root, many))
         used_within k (part i j ks before at there) =
             let shape = unmapped_get (λ (s : Shape). s.parts) t.shapes i ks at in
-            let low = slice_get_within t.shapes i shape.0 shape.1 in
-            let below = all_at (λ x. x < 14 + i) ks (subst (AllByRecursion (λ x. x < 14 + i)) shape.2 (shape_parts i shape.0 shape.1)) (14 + j) there in
-            omega (arith, low, below)
+            omega (arith, slice_get_within t.shapes i shape.0 shape.1, (all_at (λ x. x < 14 + i) ks (subst (AllByRecursion (λ x. x < 14 + i)) shape.2 (shape_parts i shape.0 shape.1)) (14 + j) there))
 
         by : (s : Shape) → slice_get t.shapes m ≡ Some s → Used m → (o : Option (ℕ × Text)) → name_in s ≡ o → MayBePlanned t kept (shown_first ms) m
         by s at used None none = form_kept m s at none used
@@ -303,8 +275,7 @@ module _ (t : Tables) (h : Homes) (known : ℕ → Fact) (n : ℕ) (ms : List Me
       where
         by : (m : Member) → Contains ms m → m.part ≡ parts.World w.1 → (s : Seen) → Side w.1 s → (x : Shown) → s.shown ≡ x → ShownIsKept t kept s.shown
         by m m_in is s side (shown.Instance key v) e = subst (ShownIsKept t kept) (sym e) tt
-        by m m_in is s side (shown.Function f) e =
-            subst (ShownIsKept t kept) (sym e)
+        by m m_in is s side (shown.Function f) e = subst (ShownIsKept t kept) (sym e)
             (signature_kept f (seen_signature t h ms members given.input given.placed.apart m m_in w.1 is s side f (subst (λ k. Contains (signatures_of_shown k) f) (sym e) (contains-one f))))
         by m m_in is s side (shown.Declares q d) e =
             let y : NumberedShowing = record { part = q; declared = d; external_id = given_text s.external_id } in
@@ -328,10 +299,10 @@ module _ (t : Tables) (h : Homes) (known : ℕ → Fact) (n : ℕ) (ms : List Me
         exports = all_of (SeenIsPlaced (places_in ms)) w.1.exports.now (λ s among. by m.0 m.1 m.2 s (inr among) s.shown refl);
       }
     where
-      by : (m : Member) → Contains ms m → m.part ≡ parts.World w.1 → (s : Seen) → Side w.1 s → (x : Shown) → s.shown ≡ x
-          → ShownIsPlaced (places_in ms) s.shown
+      by : (m : Member) → Contains ms m → m.part ≡ parts.World w.1 → (s : Seen) → Side w.1 s → (x : Shown) → s.shown ≡ x → ShownIsPlaced (places_in ms) s.shown
       by m m_in is s side (shown.Instance key v) e =
-          let from = flat_cases (λ (x : NumberedMember). views_of_part x.part) numbered (sight_of key v) (seen_sight t ms m m_in w.1 is (world_good m m_in w.1 is) s side key v e) in
+          let from = flat_cases (λ (x : NumberedMember). views_of_part x.part) (numbered_members ms) (sight_of key v)
+          (seen_sight t ms m m_in w.1 is ((world_in t h ms members given.input m m_in w.1 is).good) s side key v e) in
           subst (ShownIsPlaced (places_in ms)) (sym e) (contains-has (places_in ms) (place_of_key (numbered_key key)) (view_met ms from.0 from.1 (sight_of key v) from.2))
       by m m_in is s side _ e = subst (ShownIsPlaced (places_in ms)) (sym e) tt
 
@@ -339,11 +310,7 @@ module _ (t : Tables) (h : Homes) (known : ℕ → Fact) (n : ℕ) (ms : List Me
   parts_fall m ks at = let shape = unmapped_get (λ (s : Shape). s.parts) t.shapes m ks at in subst (AllByRecursion (λ k. k < 14 + m)) shape.2 (shape_parts m shape.0 shape.1)
 
   pub may_be_whole : MayBeWhole t ms
-  may_be_whole = record {
-    fall = parts_fall;
-    kept = kept_whole;
-    placed = all_of (λ (w : Text × Scope). WorldIsPlaced (places_in ms) w.1) (worlds_in ms) world_placed;
-  }
+  may_be_whole = record { fall = parts_fall; kept = kept_whole; placed = all_of (λ (w : Text × Scope). WorldIsPlaced (places_in ms) w.1) (worlds_in ms) world_placed }
 
 pub whole_may_be_planned : WholeMayBePlanned
 whole_may_be_planned t h known n ms members given bare = may_be_whole t h known n ms members given bare
@@ -367,8 +334,7 @@ module _ (t : Tables) (h : Homes) (known : ℕ → Fact) (n : ℕ) (ms : List Me
 
   pub main : IsMain
   main =
-      let low : n < length p.packages = (let within = slice_get_within h.packages n input.identity input.stands in let many = planned.packages.many in omega (arith, within, many)) in
-      let found = slice_there p.packages n low in
+      let found = package_there t h ms members (packages_are_ruled t h known n ms members given) n p planned n input.identity input.stands in
       by found.0 found.1 (planned.packages.each n found.0 found.1)
     where
       by : (k : PlannedPackage) → package_in p n ≡ Some k → PlansPackage h.packages n (places_in ms) ms (entries_from (home_at h) n 0 (places_in ms)) n k → IsMain

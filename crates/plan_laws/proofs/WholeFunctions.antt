@@ -2,7 +2,7 @@
 use Rattle.plan_type_laws.proofs.{PartPlaces.slot_number, FirstFound.firsts_found}
 use Rattle.plan_laws.proofs.Sources.{Side, partner_back, side_good, side_shows, world_in, IsWorldIn}
 use Rattle.plan_laws.proofs.{ShownRules.IsItemAmong, ShownRules.IsResourceIn, ShownRules.item_obeys, WorldKeys.world_member as world_there, Inside.flat_cases, Inside.name_same, Planned.kept_number, ReadFunction.function_becomes, ReadFunction.read_function, ReadFunction.resource_at, ReadFunction.told, Showings.import_named, ShownFrom.IsFrom, ShownFrom.of_import, ShownFrom.of_view, ShownFrom.shown_from, WorldKeys.by_imports, WorldKeys.view_apart}
-use Rattle.std.proofs.Common.{rules as std_rules, ◌≡◌, refl, sym, ap, subst, ◌∙◌, ℕ, zero, ◌+◌, ◌⊎◌, inl, inr, arith, Bool, true, false, filter_map, List, [], ◌∷◌, map, Option, Some, None, slice_get}
+use Rattle.std.proofs.Common.{rules as std_rules, ◌≡◌, refl, sym, ap, subst, ◌∙◌, ℕ, zero, ◌+◌, ◌⊎◌, inl, inr, arith, Bool, true, false, filter_map, List, [], ◌∷◌, map, Option, Some, None}
 use Rattle.std.proofs.lemmas.{List.Elements.Contains-append_cases, Option.same_Some as same-some}
 use Rattle.std.specs.List.{AllByRecursion, AllZip, Contains, cons_option, flat_map}
 use Rattle.wit_model.specs.declared.model.{TypeId.TypeId, TypeOwner.TypeOwner}
@@ -16,10 +16,10 @@ use Rattle.plan_parts.specs.Interfaces.{AreResources, IsPlannedFunction, slot_pa
 use Rattle.read_exports.specs.declared.members.Member.{Member}
 use Rattle.read_rules.specs.declared.scopes.{Scope.Scope, Seen.Seen, Shown.Shown}
 use Rattle.read_rules.specs.{Scopes.numbered_seen, Scopes.numbered_shown, Tables.given_text}
-use Rattle.plan_types.specs.Showings.{NumberedShowing, showings_of_members, signatures_of_members, signatures_of_part, signatures_of_seen, signatures_of_shown}
+use Rattle.plan_types.specs.Showings.{NumberedShowing, showings_of_members, signatures_of_part, signatures_of_seen, signatures_of_shown}
 use Rattle.plan_package.specs.PlanWhole.{PlansWhole, places_in, shown_first}
 use Rattle.plan_package.specs.WholeWorlds.{PlansItem, a_function, a_type, an_instance, types_seen, types_shown}
-use Rattle.plan_laws.specs.{Owners.owners_of, ShownNames.IsInput, WholeFunctions.WorldFunctionsAreRead, WholeFunctions.beside_tables, WholeTypes.IsRuledInput, WholeTypes.TypesAreWhole}
+use Rattle.plan_laws.specs.{Owners.owners_of, WholeFunctions.WorldFunctionsAreRead, WholeFunctions.beside_tables, WholeTypes.IsRuledInput, WholeTypes.TypesAreWhole}
 use Rattle.base_lemmas.proofs.Elements.{all_at, contains-later, contains-one, get-contains, last_of as one-contained, map_from as from_map}
 use Rattle.comp_meaning.specs.Follow as follow
 use Rattle.comp_meaning.specs.Reads as reads
@@ -44,50 +44,34 @@ pub nothing_declared : (d : Option ℕ) → is_no_part d ≡ true → d ≡ None
 nothing_declared x h = search std_rules
 
 module _ (t : Tables) (h : Homes) (ms : List Member) (members : List reads.Member) (ruled : IsRuledInput t h ms members) (main : ℕ) (p : Plan) (planned : PlansWhole t h.packages (home_at h) main ms p) (whole : TypesAreWhole t planned.kept ms p) (known : ℕ → Fact) where
-  abbrev input : IsInput t h ms members
-  input = ruled.input
-
-  abbrev From : NumberedShowing → Type 0
-  From = IsFrom t h ms members input ruled.placed.apart
-
   -- what a type is shown as first is shown
-  first_from : (n : ℕ) (y : NumberedShowing) → shown_first ms n ≡ Some y → From y × (y.part ≡ 14 + n)
-  first_from n y first = let found = (firsts_found (showings_of_members ms)).0 n y first in (shown_from t h ms members input ruled.placed.apart y found.0, found.1)
+  first_from : (n : ℕ) (y : NumberedShowing) → shown_first ms n ≡ Some y → (IsFrom t h ms members ruled.input ruled.placed.apart) y × (y.part ≡ 14 + n)
+  first_from n y first = let found = (firsts_found (showings_of_members ms)).0 n y first in (shown_from t h ms members ruled.input ruled.placed.apart y found.0, found.1)
 
   -- ---- a world
 
   module _ (m : Member) (c : Contains ms m) (w : Scope) (is_world : m.part ≡ parts.World w) where
-    abbrev is : IsWorldIn t h ms members input w
-    is = world_in t h ms members input m c w is_world
-
-    abbrev all_seen : List follow.Seen
-    all_seen = map (seen_of t) (map numbered_seen w.imports.now)
+    abbrev is : IsWorldIn t h ms members ruled.input w
+    is = world_in t h ms members ruled.input m c w is_world
 
     -- the name of an import in the table
     import_number : (s : Seen) → Contains w.imports.now s → (part : ℕ) (d : Option ℕ) → s.shown ≡ shown.Declares part d → (n : ℕ) × (part ≡ 14 + n) × IsNameOf t w.home s.key.now d n
-    import_number = import_named t input.tables h ms members input m c w is_world
+    import_number = import_named t ruled.input.tables h ms members ruled.input m c w is_world
 
     -- a type that it imports is first shown so
     first_import : (s : Seen) → Contains w.imports.now s → (part : ℕ) (d : Option ℕ) → s.shown ≡ shown.Declares part d → (n : ℕ) → part ≡ 14 + n → (y : NumberedShowing) → shown_first ms n ≡ Some y
         → y.declared ≡ d
     first_import s among part d e n number y first = let from = first_from n y first in by from.0 from.1
       where
-        same_name : (q : ℕ) (name : Text) (k : ℕ) → slice_get t.shapes k ≡ Some (named_shape q name) → k ≡ n → (q ≡ w.home) × (name ≡ s.key.now)
-        same_name q name k at one =
-            let own = import_number s among part d e in
-            let same : k ≡ own.0 = (let a = own.1 in omega (arith, a, number, one)) in
-            name_same t.shapes q w.home name s.key.now k own.0 at own.2.named same
-
-        by : From y → y.part ≡ 14 + n → y.declared ≡ d
+        by : (IsFrom t h ms members ruled.input ruled.placed.apart) y → y.part ≡ 14 + n → y.declared ≡ d
         by (of_view sight in_views good x in_types shows) at =
             let stands = all_at (IsShownIn t sight.place) sight.view.types good.types x in_types in
-            let own = slot_number t x.slot stands.number stands.slot in
-            let part_is : slot_part x.slot ≡ y.part = ap (λ (z : NumberedShowing). z.part) shows in
-            let one : stands.number ≡ n = omega (arith, own, part_is, at) in
-            let same = same_name sight.place x.name stands.number stands.name.named one in
-            absurd (view_apart t h ms members input ruled.placed.apart sight in_views m c w is_world same.0)
-        by (of_import m2 c2 w2 is2 s2 among2 e2) at =
-            by_imports t h ms members input ruled.placed.apart m2 c2 w2 is2 s2 among2 y.part y.declared e2 m c w is_world s among part d e (at ∙ sym number)
+            let own = import_number s among part d e in
+            let same : stands.number ≡ own.0 = omega (arith, own.1, number, slot_number t x.slot stands.number stands.slot, ap (λ (z : NumberedShowing). z.part) shows, at) in
+            let here = name_same t.shapes sight.place w.home x.name s.key.now stands.number own.0 stands.name.named own.2.named same in
+            absurd (view_apart t h ms members ruled.input ruled.placed.apart sight in_views m c w is_world here.0)
+        by (of_import m2 c2 w2 is2 s2 among2 e2) at = by_imports t h ms members ruled.input ruled.placed.apart m2 c2 w2 is2 s2 among2 y.part y.declared e2 m c w is_world s among part d e
+            (at ∙ sym number)
 
     -- the resources that it imports are types of the plan
     module _ (b : Beside) (owned : b.owners ≡ owners_of ms) (find : Text → Option TypeId) (have : AreResources planned.kept (flat_map types_seen w.imports.now) find) where
@@ -108,14 +92,12 @@ module _ (t : Tables) (h : Homes) (ms : List Member) (members : List reads.Membe
           let from = flat_cases types_seen w.imports.now at.1 (get-contains (flat_map types_seen w.imports.now) at.0 at.1 at.2) in
           let seen = type_seen from.0 at.1 from.2 in
           let number = import_number from.0 from.1 seen.0 seen.1 seen.2 in
-          let stands = kept_number planned.kept (slot_part at.1.slot) number.0 id.0 (seen.3 ∙ number.1) at.5 in
-          let none : seen.1 ≡ None = sym seen.4 ∙ nothing_declared at.1.declared at.3 in
-          let name : from.0.key.now ≡ r = sym seen.5 ∙ at.4 in
-          resource_at t h ms members input main p planned (told t w.home) w.home id.0 number.0 r stands (number.2.named ∙ ap (λ (x : Text). Some (named_shape w.home x)) name)
-          (λ y first. first_import from.0 from.1 seen.0 seen.1 seen.2 number.0 number.1 y first ∙ none)
+          resource_at t h ms members ruled.input main p planned (told t w.home) w.home id.0 number.0 r (kept_number planned.kept (slot_part at.1.slot) number.0 id.0 (seen.3 ∙ number.1) at.5)
+          (number.2.named ∙ ap (λ (x : Text). Some (named_shape w.home x)) (sym seen.5 ∙ at.4))
+          (λ y first. first_import from.0 from.1 seen.0 seen.1 seen.2 number.0 number.1 y first ∙ (sym seen.4 ∙ nothing_declared at.1.declared at.3))
 
       -- each resource among the imports is found
-      resource_found : (r : Text) → IsResourceIn all_seen r → (id : TypeId) × (find r ≡ Some id)
+      resource_found : (r : Text) → IsResourceIn (map (seen_of t) (map numbered_seen w.imports.now)) r → (id : TypeId) × (find r ≡ Some id)
       resource_found r among =
           let outer = from_map (seen_of t) (map numbered_seen w.imports.now) among.seen among.among in
           let from = from_map numbered_seen w.imports.now outer.0 outer.1 in
@@ -135,7 +117,7 @@ module _ (t : Tables) (h : Homes) (ms : List Member) (members : List reads.Membe
       -- ---- a function
 
       module _ (s : Seen) (f : ℕ) (g : PlannedFunction) (called : IsCalledIn t w.home f)
-          (item : IsItemAmong all_seen s.key.now (follow.Shown.function (signature_at t f)))
+          (item : IsItemAmong (map (seen_of t) (map numbered_seen w.imports.now)) s.key.now (follow.Shown.function (signature_at t f)))
           (made : IsPlannedFunction t planned.kept find (s.key.now, record { signature = f; external_id = given_text s.external_id }) (s.key.now, g)) where
         resource_own : (r : Text) (id : TypeId) → find r ≡ Some id → IsResource t (told t w.home) planned.kept p (b.owners w.home) w.home r id.0
         resource_own r id found = subst (λ (os : ℕ → TypeOwner). IsResource t (told t w.home) planned.kept p (os w.home) w.home r id.0) (sym owned) (resource_is r id found)
@@ -144,19 +126,17 @@ module _ (t : Tables) (h : Homes) (ms : List Member) (members : List reads.Membe
         rule = ap (λ place. rules.is_function place item.resources s.key.now (signature_at t f)) (ap place_of is.good.home) ∙ item.is
 
         function_read : PartsOf (λ k. b.marks k ≡ false) (function_at t f) → IsReadFunction t planned.kept p b (b.owners w.home) g
-        function_read values =
-            read_function t h ms members input main p planned b w.home find item.resources (λ r any. resource_found r (item.from r any)) resource_own
+        function_read values = read_function t h ms members ruled.input main p planned b w.home find item.resources (λ r any. resource_found r (item.from r any)) resource_own
             (s.key.now, record { signature = f; external_id = given_text s.external_id }) (s.key.now, g) made called.parts rule values
 
         function_made : FunctionBecomes t planned.kept p (function_at t f) (given_text s.external_id) g
-        function_made =
-            function_becomes t h ms members input main p planned b w.home find item.resources (λ r any. resource_found r (item.from r any)) resource_own
+        function_made = function_becomes t h ms members ruled.input main p planned b w.home find item.resources (λ r any. resource_found r (item.from r any)) resource_own
             (s.key.now, record { signature = f; external_id = given_text s.external_id }) (s.key.now, g) made called.parts rule
 
       -- a function that it imports or exports may stand behind its resources
-      may_stand : (s : Seen) → Side w s → (f : ℕ) → s.shown ≡ shown.Function f → IsItemAmong all_seen s.key.now (follow.Shown.function (signature_at t f))
-      may_stand s side f e = subst (λ (x : Shown). IsItemAmong all_seen s.key.now (shown_of t (numbered_shown x))) e
-          (item_obeys t input.tables h ms members input w (world_in t h ms members input m c w is_world) s side)
+      may_stand : (s : Seen) → Side w s → (f : ℕ) → s.shown ≡ shown.Function f → IsItemAmong (map (seen_of t) (map numbered_seen w.imports.now)) s.key.now (follow.Shown.function (signature_at t f))
+      may_stand s side f e = subst (λ (x : Shown). IsItemAmong (map (seen_of t) (map numbered_seen w.imports.now)) s.key.now (shown_of t (numbered_shown x))) e
+          (item_obeys t ruled.input.tables h ms members ruled.input w (world_in t h ms members ruled.input m c w is_world) s side)
 
       -- what a function that it imports or exports becomes
       pub seen_becomes : (s : Seen) → Side w s → (f : ℕ) → s.shown ≡ shown.Function f → (g : PlannedFunction)
@@ -166,20 +146,16 @@ module _ (t : Tables) (h : Homes) (ms : List Member) (members : List reads.Membe
 
       module _ (marks_are : b.marks ≡ whole.marks.marks) where
         values_of : (f : ℕ) → Contains (signatures_of_part (parts.World w)) f → PartsOf (λ k. b.marks k ≡ false) (function_at t f)
-        values_of f among =
-            subst (λ (marks : ℕ → Bool). PartsOf (λ k. marks k ≡ false) (function_at t f)) (sym marks_are)
-            (all_at (λ n. PartsOf (λ k. whole.marks.marks k ≡ false) (function_at t n)) (signatures_of_members ms) whole.marks.values f
-            (contains-flat (λ (x : Member). signatures_of_part x.part) ms m f c (subst (λ a. Contains (signatures_of_part a) f) (sym is_world) among)))
+        values_of f among = subst (λ (marks : ℕ → Bool). PartsOf (λ k. marks k ≡ false) (function_at t f)) (sym marks_are)
+            (all_at _ _ whole.marks.values f (contains-flat (λ (x : Member). signatures_of_part x.part) ms m f c (subst (λ a. Contains (signatures_of_part a) f) (sym is_world) among)))
 
         abbrev ItemRead : PlannedKey × PlannedItem → Type 0
         ItemRead e = (g : PlannedFunction) → item_function e.1 ≡ Some g → IsReadFunction t planned.kept p b (b.owners w.home) g
 
         -- the item of an import or an export
         item_read : (s : Seen) → Side w s → (e : PlannedKey × PlannedItem) → PlansItem t planned.kept (places_in ms) find s e → ItemRead e
-        item_read s side e (an_instance key v shown_is made) g function = let wrong : None ≡ Some g =
-            sym (ap (λ (x : PlannedKey × PlannedItem). item_function x.1) made.is) ∙ function in absurd cc
-        item_read s side e (a_type part d n shown_is made kept) g function = let wrong : None ≡ Some g =
-            sym (ap (λ (x : PlannedKey × PlannedItem). item_function x.1) made) ∙ function in absurd cc
+        item_read s side e (an_instance key v shown_is made) g function = let wrong : None ≡ Some g = sym (ap (λ (x : PlannedKey × PlannedItem). item_function x.1) made.is) ∙ function in absurd cc
+        item_read s side e (a_type part d n shown_is made kept) g function = let wrong : None ≡ Some g = sym (ap (λ (x : PlannedKey × PlannedItem). item_function x.1) made) ∙ function in absurd cc
         item_read s side e (a_function n shown_is key_is made) g function =
             let same : made.function ≡ g = same-some made.function g (sym (ap item_function made.is) ∙ function) in
             let there : Contains (signatures_of_seen s) n = subst (λ (x : Shown). Contains (signatures_of_shown x) n) (sym shown_is) (contains-one n) in
@@ -187,10 +163,8 @@ module _ (t : Tables) (h : Homes) (ms : List Member) (members : List reads.Membe
             (may_stand s side n shown_is) made.planned (values_of n (side_shows w signatures_of_seen s n side there)))
 
         pub world_read : (x : PlannedWorld) → AllZip (PlansItem t planned.kept (places_in ms) find) w.imports.now x.imports
-            → AllZip (PlansItem t planned.kept (places_in ms) find) w.exports.now x.exports
-            → AllByRecursion (IsReadFunction t planned.kept p b (b.owners w.home)) (world_functions x)
-        world_read x imports exports = all_filtered (IsReadFunction t planned.kept p b (b.owners w.home)) item_function (items_of x)
-            (λ i among g e. by i g e (Contains-append_cases (map second x.imports) (map second x.exports) i among))
+            → AllZip (PlansItem t planned.kept (places_in ms) find) w.exports.now x.exports → AllByRecursion (IsReadFunction t planned.kept p b (b.owners w.home)) (world_functions x)
+        world_read x imports exports = all_filtered (IsReadFunction t planned.kept p b (b.owners w.home)) item_function (items_of x) (λ i among g e. by i g e (Contains-append_cases _ _ i among))
           where
             by : (i : PlannedItem) (g : PlannedFunction) → item_function i ≡ Some g → Contains (map second x.imports) i ⊎ Contains (map second x.exports) i
                 → IsReadFunction t planned.kept p b (b.owners w.home) g

@@ -31,8 +31,7 @@ not_some x xs ys (taken y a b more) e = search (std_rules, first_false, later_fa
 pub some_differ : (xs ys : List Text) → AreSome xs ys → distinct ys ≡ true → distinct xs ≡ true
 some_differ xs ys none e = e
 some_differ xs ys (left_out y a b more) e = some_differ a b more (second_true (not (list_any (text_eq y) b)) (distinct b) e)
-some_differ xs ys (taken y a b more) e =
-    search (std_rules, both, not_some, not_true, first_true, second_true, some_differ a b more (second_true (not (list_any (text_eq y) b)) (distinct b) e))
+some_differ xs ys (taken y a b more) e = search (std_rules, both, not_some, not_true, first_true, second_true, some_differ a b more (second_true (not (list_any (text_eq y) b)) (distinct b) e))
 
 -- ---- labels
 
@@ -73,13 +72,11 @@ interface_of ms x c =
 
 pub interface_among : (ms : List Member) (m : Member) → Contains ms m → (q : ℕ) (v : View) (imports : Bor (List ImportedView)) → m.part ≡ parts.Interface q v imports
     → Contains (interfaces_in ms) (m.label.now, q)
-interface_among ms m c q v imports is =
-    contains-flat (λ (x : Member). interface_in_part x.label.now x.part) ms m (m.label.now, q) c
+interface_among ms m c q v imports is = contains-flat (λ (x : Member). interface_in_part x.label.now x.part) ms m (m.label.now, q) c
     (subst (λ a. Contains (interface_in_part m.label.now a) (m.label.now, q)) (sym is) (contains-one (m.label.now, q)))
 
 pub world_among : (ms : List Member) (m : Member) → Contains ms m → (w : Scope) → m.part ≡ parts.World w → Contains (worlds_in ms) (m.label.now, w)
-world_among ms m c w is =
-    contains-flat (λ (x : Member). world_in_part x.label.now x.part) ms m (m.label.now, w) c
+world_among ms m c w is = contains-flat (λ (x : Member). world_in_part x.label.now x.part) ms m (m.label.now, w) c
     (subst (λ a. Contains (world_in_part m.label.now a) (m.label.now, w)) (sym is) (contains-one (m.label.now, w)))
 
 module _ (ms : List Member) (differ : distinct (labels_of ms) ≡ true) where

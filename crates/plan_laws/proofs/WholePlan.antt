@@ -1,6 +1,6 @@
 -- A plan that was made of what was followed is one that was read, whole.
-use Rattle.std.proofs.Common.{rules as std_rules, ◌≡◌, sym, ap, subst, ◌∙◌, ℕ, ◌+◌, List, [], map, Option, Some, slice_get, refl, arith, Bool, true, false, not, ◌||◌, ◌==◌, ◌∷◌, ◌++◌, filter, filter_map, None, option_map, ◌<◌, ◌⊎◌, inl, inr, length}
-use Rattle.std.proofs.lemmas.{Option.same_Some as same-some, Option.slice_get_within, Bool.eqb-true, Bool.and_from as both, Bool.not-true as not_true}
+use Rattle.std.proofs.Common.{rules as std_rules, ◌≡◌, sym, ap, subst, ◌∙◌, ℕ, ◌+◌, List, [], map, Option, Some, slice_get, refl, Bool, true, false, not, ◌||◌, ◌==◌, ◌∷◌, ◌++◌, filter, filter_map, None, option_map, ◌⊎◌, inl, inr}
+use Rattle.std.proofs.lemmas.{Option.same_Some as same-some, Bool.eqb-true, Bool.and_from as both, Bool.not-true as not_true}
 use Rattle.std.proofs.lemmas.Slice.Eq.{bytes_eq-Decides}
 use Rattle.std.specs.{List.Contains, List.AllByRecursion, List.list_any, List.AllZip, Option.option_map_or, Prelude.is_none, Prelude.is_some}
 use Rattle.wit_model.specs.declared.model.TypeOwner.{TypeOwner}
@@ -8,12 +8,11 @@ use Rattle.wit_model.specs.{Text.Text, Text.text_eq, Valid.as_interface, Valid.a
 use Rattle.wit_model.proofs.Elements.{contains-flat, contains-get}
 use Rattle.plan_meaning.specs.NumberedMembers.{Homes, NumberedMember, home_at, sights_of_members}
 use Rattle.plan_meaning.specs.{NumberedRules.Fact, NumberedWorlds.NumberedScope, NumberedWorlds.NumberedSeen, NumberedWorlds.HasPath, NumberedWorlds.are_once}
-use Rattle.plan_meaning.specs.Shapes.{named_shape}
+use Rattle.plan_meaning.specs.{Shapes.named_shape, ReadWorlds.IsReadItem, ReadWorlds.ReadItem, ReadWorlds.is_type_seen}
 use Rattle.plan_meaning.specs.NumberedViews.{NumberedSight, NumberedType, NumberedView, Tables, path_at}
 use Rattle.plan_meaning.specs.{ReadFunctions.Beside, ReadFunctions.FunctionsAreRead, ReadInterfaces.IsNumberOf, ReadPlans.FitsInput, ReadPlans.IsReadPlan}
 use Rattle.plan_meaning.specs.Plan.{Plan, PlannedInterface, PlannedType, PlannedWorld, interface_in, world_in, PlannedPackage, item_interface, items_of, package_in}
 use Rattle.plan_meaning.specs.{ReadOrder.InterfacesAreViewed, ReadOrder.IsShownThere, ReadOrder.in_interface, ReadOrder.in_world, ReadWholes.IsReadPackagePlan}
-use Rattle.plan_meaning.specs.ReadWorlds.{IsReadItem, ReadItem, is_type_seen}
 use Rattle.plan_meaning.specs.{PlanRules.has_name, PlanRules.names_of, PlanRules.is_foreign, GatheredPlan.FunctionListed, GatheredPlan.functions_seen}
 use Rattle.plan_meaning.specs.ReadPlaces.{IsPlacedInterface, IsPlacedWorld, IsReadPackage, PlacesAreRead, inline, under_path}
 use Rattle.read_exports.specs.Members.{numbered_member, numbered_members, numbered_part}
@@ -30,7 +29,7 @@ use Rattle.plan_laws.specs.{Whole.IsPackageInput, WholePlaces.LabelsStand, Whole
 use Rattle.plan_laws.specs.ShownNames.{ImportsNumber, IsShownByPart, ShowsNumber, by_import, by_view}
 use Rattle.plan_laws.proofs.{FirstTypes.views_told, FirstViews.first_is, WorldKeys.world_member}
 use Rattle.plan_laws.proofs.WholePlacesLabels.{world_among, interface_among, interface_of, interfaces_differ, no_world, worlds_differ}
-use Rattle.plan_laws.proofs.WholeTypes.{packages_are_ruled, IsOwnInstance, at_top, interface_home, main_identity, own_instance, one_package}
+use Rattle.plan_laws.proofs.WholeTypes.{package_there, packages_are_ruled, IsOwnInstance, at_top, interface_home, main_identity, own_instance, one_package}
 use Rattle.plan_laws.proofs.PlaceNumbers.{number_given, one_owner, owner_numbered, owners_apart, place_number}
 use Rattle.plan_laws.proofs.{WholeWorlds.planned_worlds_are_read, OwnPlaces.once_inside as once_within, WholeReasonsForeign.foreign_reasons}
 use Rattle.plan_laws.proofs.Planned.{first_there, interface_there, name_shown, view_met, named_there, path_given}
@@ -38,7 +37,7 @@ use Rattle.plan_laws.proofs.{Viewed.planned_interfaces_are_viewed, Sources.world
 use Rattle.plan_laws.proofs.{WholeReasons.own_shown, WholeReasons.kept_for_reasons, ListedFunctions.functions_listed, ListedFunctions.seen_same}
 use Rattle.plan_laws.proofs.{Apart.whole_stands_apart, Owned.planned_types_are_owned, ShownAlike.whole_is_shown_alike, ShownWhole.whole_is_shown}
 use Rattle.base_lemmas.proofs.Elements.{all_at, contains-map, get-contains, map_from as from_map, zip_at, zip_at_right as zip_get, all_pass}
-use Rattle.base_lemmas.proofs.Lists.{get_back as unmapped_get, within_there as there_at, within_there as slice_there}
+use Rattle.base_lemmas.proofs.Lists.{get_back as unmapped_get}
 use Rattle.base_lemmas.proofs.Bools.{left_of as first_true, right_of as second_true, first_false, second_false}
 use Rattle.plan_package.proofs.ReadPackageLaws.{number_at as number_there, packages_are_read}
 use Rattle.plan_package.proofs.ListedLaws.{homes_are_listed, worlds_are_listed}
@@ -57,46 +56,37 @@ use Rattle.plan_laws.proofs.WholeWorlds as items
 module _ (t : Tables) (h : Homes) (known : ℕ → Fact) (n : ℕ) (ms : List Member) (members : List reads.Member) (given : IsPackageInput t h known n ms members) (ordered : ViewsAreOrdered t ms)
     (p : Plan) (planned : PlansWhole t h.packages (home_at h) n ms p)
     (b : Beside) (beside_owners : b.owners ≡ owners_of ms) (interfaces : InterfacesAreViewed t planned.kept p b (views_read ms)) (read : WorldsAreReadAs t ms planned.kept p b (views_read ms)) where
-  abbrev kept : List ℕ
-  kept = planned.kept
-
-  abbrev views : List NumberedSight
-  views = views_of_members (numbered_members ms)
-
   ruled : IsRuledInput t h ms members
   ruled = packages_are_ruled t h known n ms members given
 
   abbrev IsThere : ℕ → ℕ → Type 0
-  IsThere = IsShownThere t kept p b (views_read ms) interfaces read.worlds
+  IsThere = IsShownThere t planned.kept p b (views_read ms) interfaces read.worlds
 
   -- ---- interfaces
 
   -- a name that a view of the place shows is one of the interface
-  of_interface : (q k : ℕ) (u : ℕ) (i : PlannedInterface) (e : interface_in p u ≡ Some i) → b.owners q ≡ as_interface u → (first sight : NumberedSight) → Contains views first → Contains views sight
+  of_interface : (q k : ℕ) (u : ℕ) (i : PlannedInterface) (e : interface_in p u ≡ Some i) → b.owners q ≡ as_interface u → (first sight : NumberedSight)
+      → Contains (views_of_members (numbered_members ms)) first → Contains (views_of_members (numbered_members ms)) sight
       → first.place ≡ q → sight.place ≡ q → (views_read ms q).types ≡ first.view.types
       → (x : NumberedType) → Contains sight.view.types x → slice_get t.shapes k ≡ Some (named_shape q x.name) → IsThere q k
   of_interface q k u i e owned first sight first_in sight_in first_place sight_place first_types x x_in named =
       let viewed = interfaces u i e in
       let is = viewed.read in
       let place : is.place ≡ q = one_owner ms b beside_owners is.place q (as_interface u) is.owned owned in
-      let same = views_told t h ms members given.input ruled.agree ordered first sight first_in sight_in (first_place ∙ sym sight_place) in
-      let other = from_map told first.view.types (told x) (subst (λ xs. Contains xs (told x)) (sym same) (contains-map told sight.view.types x x_in)) in
-      let types : first.view.types ≡ is.view.types = sym first_types ∙ (ap (λ r. (views_read ms r).types) (sym place) ∙ ap (λ (v : NumberedView). v.types) viewed.viewed) in
-      let at = contains-get is.view.types other.0 (subst (λ xs. Contains xs other.0) types other.1) in
+      let other = from_map told first.view.types (told x) (subst (λ xs. Contains xs (told x))
+      (sym (views_told t h ms members given.input ruled.agree ordered first sight first_in sight_in (first_place ∙ sym sight_place))) (contains-map _ _ x x_in)) in
+      let at = contains-get _ _ (subst (λ xs. Contains xs other.0) (sym first_types ∙ (ap (λ r. (views_read ms r).types) (sym place) ∙ ap (λ (v : NumberedView). v.types) viewed.viewed)) other.1) in
       let number = zip_at (IsNumberOf t is.place) is.view.types is.numbers is.shapes at.0 other.0 at.1 in
-      let name : other.0.name ≡ x.name = ap (λ (y : Text × (Option ℕ × Option Text)). y.0) other.2 in
-      let shape : slice_get t.shapes number.0 ≡ Some (named_shape q x.name) = number.2 ∙ (λ j. Some (named_shape (place j) (name j))) in
-      let one : number.0 ≡ k = given.input.tables.shapes.apart number.0 k (named_shape q x.name) shape named in
-      in_interface u i e owned (subst (Contains is.numbers) one (get-contains is.numbers at.0 number.0 number.1))
+      in_interface u i e owned (subst (Contains is.numbers) (given.input.tables.shapes.apart number.0 k (named_shape q x.name)
+      (number.2 ∙ (λ j. Some (named_shape (place j) ((ap (λ (y : Text × (Option ℕ × Option Text)). y.0) other.2) j)))) named) (get-contains _ _ _ number.1))
 
   in_view : (m : Member) → Contains ms m → (q k : ℕ) → ShowsNumber t (views_of_part (numbered_part m.part)) q k → IsThere q k
   in_view m c q k shows =
-      let met : Contains (places_in ms) q = subst (Contains (places_in ms)) shows.place (view_met ms (numbered_member m) (contains-map numbered_member ms m c) shows.sight shows.among) in
-      let number = number_given (places_in ms) q met in
+      let number = number_given (places_in ms) q (subst (Contains (places_in ms)) shows.place (view_met ms (numbered_member m) (contains-map numbered_member ms m c) shows.sight shows.among)) in
       let at = number_there (places_in ms) q number.0 number.1 in
       let i = interface_there t h ms members given.input n p planned number.0 q at in
       let first = first_there t h ms members given.input n p planned number.0 q at in
-      let is = first_is q views first.0 first.1 in
+      let is = first_is q (views_of_members (numbered_members ms)) first.0 first.1 in
       of_interface q k number.0 i.0 i.1 (ap (λ (f : ℕ → TypeOwner). f q) beside_owners ∙ owner_numbered ms q number.0 number.1) first.0 shows.sight is.0
       (contains-flat (λ (x : NumberedMember). views_of_part x.part) (numbered_members ms) (numbered_member m) shows.sight (contains-map numbered_member ms m c) shows.among) is.1 shows.place
       (ap (λ o. option_map_or (λ (s : NumberedSight). s.view.types) o []) first.1) shows.type_ shows.there shows.named.named
@@ -105,7 +95,7 @@ module _ (t : Tables) (h : Homes) (known : ℕ → Fact) (n : ℕ) (ms : List Me
 
   -- a type that the world imports is the last once it is followed
   counted : (m : ℕ) (home : ℕ) (y : ReadItem) (d : Option ℕ) (k : ℕ) → y.seen.shown ≡ worlds.declares d → slice_get t.shapes k ≡ Some (named_shape home y.seen.key)
-      → IsReadItem t kept p b (views_read ms) (as_world m) home y → y.count ≡ k + 1
+      → IsReadItem t planned.kept p b (views_read ms) (as_world m) home y → y.count ≡ k + 1
   counted m home y d k shows shape x = search std_rules
 
   of_world : (m : ℕ) (x : PlannedWorld) (e : world_in p m ≡ Some x) (w : Scope) → (read.worlds m x e).scope ≡ numbered_scope w → (q k : ℕ) → q ≡ w.home → ImportsNumber t w k → IsThere q k
@@ -113,26 +103,24 @@ module _ (t : Tables) (h : Homes) (known : ℕ → Fact) (n : ℕ) (ms : List Me
       let is = read.worlds m x e in
       let s = numbered_seen imports.seen in
       let at = contains-get (numbered_scope w).imports s (contains-map numbered_seen w.imports.now imports.seen imports.among) in
-      let listed : slice_get (map (λ (y : ReadItem). y.seen) is.imports) at.0 ≡ Some s = ap (λ ss. slice_get ss at.0) (is.imports_seen ∙ ap (λ (z : NumberedScope). z.imports) same) ∙ at.1 in
-      let y = unmapped_get (λ (z : ReadItem). z.seen) is.imports at.0 s listed in
+      let y = unmapped_get (λ (z : ReadItem). z.seen) is.imports at.0 s (ap (λ ss. slice_get ss at.0) (is.imports_seen ∙ ap (λ (z : NumberedScope). z.imports) same) ∙ at.1) in
       let among = get-contains is.imports at.0 y.0 y.1 in
       let shows : y.0.seen.shown ≡ worlds.declares imports.declared = ap (λ (z : NumberedSeen). z.shown) y.2 ∙ ap numbered_shown imports.shown in
       let here : is.scope.home ≡ w.home = ap (λ (z : NumberedScope). z.home) same in
-      let shape : slice_get t.shapes k ≡ Some (named_shape is.scope.home y.0.seen.key) = imports.named.named ∙ (λ j. Some (named_shape (sym here j) (ap (λ (z : NumberedSeen). z.key) (sym y.2) j))) in
       in_world m x e y.0 (ap b.owners (home ∙ sym here) ∙ is.owned) among (ap is_type_seen shows)
-      (counted m is.scope.home y.0 imports.declared k shows shape (all_at (IsReadItem t kept p b (views_read ms) (as_world m) is.scope.home) is.imports is.imports_read y.0 among))
+      (counted m is.scope.home y.0 imports.declared k shows (imports.named.named ∙ (λ j. Some (named_shape (sym here j) (ap (λ (z : NumberedSeen). z.key) (sym y.2) j))))
+      (all_at (IsReadItem t planned.kept p b (views_read ms) (as_world m) is.scope.home) is.imports is.imports_read y.0 among))
 
   in_import : (m : Member) → Contains ms m → (w : Scope) → m.part ≡ parts.World w → (q k : ℕ) → q ≡ w.home → ImportsNumber t w k → IsThere q k
   in_import m c w is q k home imports =
       let at = contains-get (worlds_in ms) (m.label.now, w) (world_among ms m c w is) in
-      let x = zip_at (PlansWorld t kept (places_in ms) n) (worlds_in ms) p.worlds planned.worlds at.0 (m.label.now, w) at.1 in
+      let x = zip_at (PlansWorld t planned.kept (places_in ms) n) (worlds_in ms) p.worlds planned.worlds at.0 (m.label.now, w) at.1 in
       let was = read.followed at.0 x.0 x.1 in
-      let one : was.world ≡ (m.label.now, w) = same-some was.world (m.label.now, w) (sym was.there ∙ at.1) in
-      of_world at.0 x.0 x.1 w (was.same ∙ ap (λ (z : Text × Scope). numbered_scope z.1) one) q k home imports
+      of_world at.0 x.0 x.1 w (was.same ∙ ap (λ (z : Text × Scope). numbered_scope z.1) (same-some was.world (m.label.now, w) (sym was.there ∙ at.1))) q k home imports
 
   -- ---- names
 
-  pub names_there : (j k q : ℕ) (x : PlannedType) (name : Text) → slice_get p.types j ≡ Some x → slice_get kept j ≡ Some k → slice_get t.shapes k ≡ Some (named_shape q name) → IsThere q k
+  pub names_there : (j k q : ℕ) (x : PlannedType) (name : Text) → slice_get p.types j ≡ Some x → slice_get planned.kept j ≡ Some k → slice_get t.shapes k ≡ Some (named_shape q name) → IsThere q k
   names_there j k q x name there stands at =
       let found = name_shown t h ms members given.input n p planned j k q name stands at in
       by found.0 found.1 found.2
@@ -143,8 +131,7 @@ module _ (t : Tables) (h : Homes) (known : ℕ → Fact) (n : ℕ) (ms : List Me
 
 pub planned_order_is_read : PlannedOrderIsRead
 planned_order_is_read t h known n ms members given ordered apart followed p planned b known_is owned functions =
-    let ruled = packages_are_ruled t h known n ms members given in
-    let interfaces = planned_interfaces_are_viewed t h ms members given.input given.alone ruled.agree ordered n p planned b owned in
+    let interfaces = planned_interfaces_are_viewed t h ms members given.input given.alone (packages_are_ruled t h known n ms members given).agree ordered n p planned b owned in
     let read = planned_worlds_are_read t h known n ms members given ordered apart followed p planned b known_is owned functions in
     record { order = record { interfaces = interfaces; worlds = read.worlds; names = names_there t h known n ms members given ordered p planned b owned interfaces read }; followed = read.followed }
 
@@ -158,10 +145,7 @@ shown_of w = places_of_seen (map numbered_seen w.imports.now) ++ places_of_seen 
 once_named : (home : ℕ → Option (ℕ × Text)) (n : ℕ) (xs : List (Text × ℕ)) → AllByRecursion (λ (x : Text × ℕ). home x.1 ≡ Some (n, x.0)) xs → distinct (names_of xs) ≡ true
     → are_once (map (λ (x : Text × ℕ). x.1) xs) ≡ true
 once_named home n [] homes differ = refl
-once_named home n (x ∷ xs) homes differ =
-    both (not (has (map (λ (y : Text × ℕ). y.1) xs) x.1)) (are_once (map (λ (y : Text × ℕ). y.1) xs)) (ap not
-    (absent xs homes.1 (not_true (list_any (text_eq x.0) (names_of xs)) (first_true (not (list_any (text_eq x.0) (names_of xs))) (distinct (names_of xs)) differ))))
-    (once_named home n xs homes.1 (second_true (not (list_any (text_eq x.0) (names_of xs))) (distinct (names_of xs)) differ))
+once_named home n (x ∷ xs) homes differ = both _ _ (ap not (absent xs homes.1 (not_true _ (first_true _ _ differ)))) (once_named home n xs homes.1 (second_true _ _ differ))
   where
     absent : (ys : List (Text × ℕ)) → AllByRecursion (λ (y : Text × ℕ). home y.1 ≡ Some (n, y.0)) ys → list_any (text_eq x.0) (names_of ys) ≡ false → has (map (λ (y : Text × ℕ). y.1) ys) x.1 ≡ false
     absent [] k none = refl
@@ -174,8 +158,7 @@ once_named home n (x ∷ xs) homes differ =
             never (text_eq x.0 y.0) ((bytes_eq-Decides x.0 y.0).1 name) (first_false (text_eq x.0 y.0) (list_any (text_eq x.0) (names_of ys)) none)
 
 module _ (t : Tables) (h : Homes) (known : ℕ → Fact) (n : ℕ) (ms : List Member) (members : List reads.Member) (given : IsPackageInput t h known n ms members) (stand : ArePackages h.packages)
-    (labels : LabelsStand ms) (p : Plan)
-    (planned : PlansWhole t h.packages (home_at h) n ms p) where
+    (labels : LabelsStand ms) (p : Plan) (planned : PlansWhole t h.packages (home_at h) n ms p) where
   abbrev places : List ℕ
   places = places_in ms
 
@@ -197,9 +180,6 @@ module _ (t : Tables) (h : Homes) (known : ℕ → Fact) (n : ℕ) (ms : List Me
   package_as m q i e at is = let first = first_there t h ms members given.input n p planned m q at in (is first.0 first.1).package_
 
   -- ---- packages
-
-  package_there : (c : ℕ) (identity : PackageIdentity) → slice_get h.packages c ≡ Some identity → (k : PlannedPackage) × (package_in p c ≡ Some k)
-  package_there c identity e = let low = slice_get_within h.packages c identity e in let many = planned.packages.many in there_at p.packages c (omega (arith, low, many))
 
   home_of : (x : Text × ℕ) → Contains (interfaces_in ms) x → home_at h x.1 ≡ Some (n, x.0)
   home_of x c =
@@ -225,9 +205,6 @@ module _ (t : Tables) (h : Homes) (known : ℕ → Fact) (n : ℕ) (ms : List Me
   listed_in : (c q m : ℕ) (name : Text) (k : PlannedPackage) → package_in p c ≡ Some k → slice_get places m ≡ Some q → HasPath t q → home_at h q ≡ Some (c, name) → Contains k.interfaces (name, m)
   listed_in c q m name k e at path home = by (planned.packages.each c k e)
     where
-      under : (x : Text × ℕ) → ListsPlace places (name, q) x → x ≡ (name, m)
-      under x is = let number : x.1 ≡ m = same-some x.1 m (sym is.1 ∙ place_number ms m q at) in λ i. (is.0 i, number i)
-
       in_main : (identity : PackageIdentity) → IsMainPackage identity places ms k → home_at h q ≡ Some (n, name) → Contains k.interfaces (name, m)
       in_main identity is own =
           let top = at_top t h known n ms members given q name (get-contains places m q at) path own in
@@ -236,7 +213,7 @@ module _ (t : Tables) (h : Homes) (known : ℕ → Fact) (n : ℕ) (ms : List Me
           let among : Contains (interfaces_in ms) (name, q) = subst (λ l. Contains (interfaces_in ms) (l, q)) label (interface_among ms top.member top.among q top.view top.imports top.is) in
           let j = contains-get (interfaces_in ms) (name, q) among in
           let there = zip_at (ListsPlace places) (interfaces_in ms) k.interfaces is.interfaces j.0 (name, q) j.1 in
-          get-contains k.interfaces j.0 (name, m) (there.1 ∙ ap Some (under there.0 there.2))
+          get-contains k.interfaces j.0 (name, m) (there.1 ∙ ap Some (let number : there.0.1 ≡ m = same-some there.0.1 m (sym there.2.1 ∙ place_number ms m q at) in λ i. (there.2.0 i, number i)))
 
       by : PlansPackage h.packages n places ms (entries_from (home_at h) c 0 places) c k → Contains k.interfaces (name, m)
       by (the_main identity same there is) = in_main identity is (home ∙ ap (λ x. Some (x, name)) same)
@@ -247,9 +224,8 @@ module _ (t : Tables) (h : Homes) (known : ℕ → Fact) (n : ℕ) (ms : List Me
   placed_under : (m q : ℕ) (i : PlannedInterface) → interface_in p m ≡ Some i → slice_get places m ≡ Some q → Place q i → HasPath t q → IsPlacedInterface t h p owners m i
   placed_under m q i e at is path =
       let home = given.input.homes.homes q path.0 path.1 in
-      let package_ = package_there home.package_ home.identity home.stands in
-      under_path q home.package_ home.name package_.0 path (owner_numbered ms q m (place_number ms m q at)) home.home
-      (named_as m q i e at is ∙ ap (option_map (λ (x : ℕ × Text). x.1)) home.home)
+      let package_ = package_there t h ms members (packages_are_ruled t h known n ms members given) n p planned home.package_ home.identity home.stands in
+      under_path q home.package_ home.name package_.0 path (owner_numbered ms q m (place_number ms m q at)) home.home (named_as m q i e at is ∙ ap (option_map (λ (x : ℕ × Text). x.1)) home.home)
       (package_as m q i e at is ∙ ap (λ o. Some (option_map_or (λ (x : ℕ × Text). x.0) o n)) home.home)
       package_.1 (listed_in home.package_ q m home.name package_.0 package_.1 at path home.home)
 
@@ -280,8 +256,7 @@ module _ (t : Tables) (h : Homes) (known : ℕ → Fact) (n : ℕ) (ms : List Me
             number = j;
             world = x;
             there = there;
-            item = subst (Contains (filter_map item_interface (items_of x))) number
-                (get-contains (filter_map item_interface (items_of x)) k.0 item.0 item.1);
+            item = subst (Contains (filter_map item_interface (items_of x))) number (get-contains (filter_map item_interface (items_of x)) k.0 item.0 item.1);
           }
 
   inline_item : (m q : ℕ) → slice_get places m ≡ Some q → path_at t q ≡ None → IsItem m
@@ -311,7 +286,7 @@ module _ (t : Tables) (h : Homes) (known : ℕ → Fact) (n : ℕ) (ms : List Me
       let from = zip_get (PlansWorld t planned.kept places n) (worlds_in ms) p.worlds planned.worlds m w e in
       let member = world_member ms from.0 (get-contains (worlds_in ms) m from.0 from.1) in
       let identity = main_identity t h known n ms members given member.0 member.1 in
-      let there = package_there n identity.0 identity.1 in
+      let there = package_there t h ms members (packages_are_ruled t h known n ms members given) n p planned n identity.0 identity.1 in
       record {
         number = n;
         package_ = there.0;
@@ -384,9 +359,6 @@ module _ (t : Tables) (h : Homes) (known : ℕ → Fact) (n : ℕ) (ms : List Me
     functions : FunctionsAreRead t planned.kept p b
     functions = planned_functions_are_read t h ms members (packages_are_ruled t h known n ms members given) (whole_is_shown_alike t h known n ms members given) apart.0 apart.1 n p planned whole known
 
-    abbrev sights : List NumberedSight
-    sights = sights_of_members t (numbered_members ms)
-
     read : IsReadPlan t h planned.kept p b (views_read ms)
     read = record {
       fits = fits;
@@ -398,7 +370,7 @@ module _ (t : Tables) (h : Homes) (known : ℕ → Fact) (n : ℕ) (ms : List Me
       order = (planned_order_is_read t h known n ms members given apart.0 apart.1 input.followed p planned b refl refl functions).order;
     }
 
-    reasons : HasForeignReasons t h planned.kept p b (views_read ms) read sights
+    reasons : HasForeignReasons t h planned.kept p b (views_read ms) read (sights_of_members t (numbered_members ms))
     reasons = foreign_reasons t h known n ms members given p planned b refl (views_read ms) read (whole_is_shown t h known n ms members given apart.0 input.reached p planned b refl read)
 
     -- an interface of another package is under a path
@@ -406,40 +378,32 @@ module _ (t : Tables) (h : Homes) (known : ℕ → Fact) (n : ℕ) (ms : List Me
         → PlansPlace t planned.kept n (home_at h) (views_of_members (numbered_members ms)) q i → is_foreign p i ≡ true → HasPath t q
     foreign_path k q i there at plans foreign =
         let first = first_there t h ms members given.input n p planned k q at in
-        let named : is_some i.name ≡ true = first_true (is_some i.name) (not (is_id p.main i.package_)) foreign in
-        by (home_at h q) refl (ap is_some (sym (plans first.0 first.1).name) ∙ named)
+        by (home_at h q) refl (ap is_some (sym (plans first.0 first.1).name) ∙ first_true (is_some i.name) (not (is_id p.main i.package_)) foreign)
       where
         by : (o : Option (ℕ × Text)) → home_at h q ≡ o → is_some (option_map (λ (x : ℕ × Text). x.1) o) ≡ true → HasPath t q
         by None home e = no_true e
         by (Some x) home e = path_given t h given.alone q x home
 
     foreign_functions : (k q : ℕ) (i : PlannedInterface) → interface_in p k ≡ Some i → b.owners q ≡ as_interface k → is_foreign p i ≡ true
-        → AllZip (FunctionListed t planned.kept p) (functions_seen q sights) i.functions
+        → AllZip (FunctionListed t planned.kept p) (functions_seen q (sights_of_members t (numbered_members ms))) i.functions
     foreign_functions k q i there own foreign =
         let from = zip_get (PlansPlace t planned.kept n (home_at h) (views_of_members (numbered_members ms))) (places_in ms) p.interfaces planned.interfaces k i there in
         let same : q ≡ from.0 = one_owner ms b refl q from.0 (as_interface k) own (owner_numbered ms from.0 k (place_number ms k from.0 from.1)) in
         let path : HasPath t from.0 = foreign_path k from.0 i there from.1 from.2 foreign in
-        subst (λ fs. AllZip (FunctionListed t planned.kept p) fs i.functions) (seen_same t from.0 path (numbered_members ms) ∙ ap (λ r. functions_seen r sights) (sym same))
+        subst (λ fs. AllZip (FunctionListed t planned.kept p) fs i.functions)
+        (seen_same t from.0 path (numbered_members ms) ∙ ap (λ r. functions_seen r (sights_of_members t (numbered_members ms))) (sym same))
         (functions_listed t h known n ms members given p planned b refl k from.0 from.1 i there)
 
-    main_there : (k : PlannedPackage) × (package_in p p.main ≡ Some k)
-    main_there =
-        let low : n < length p.packages = (let within = slice_get_within h.packages n input.identity input.stands in let many = planned.packages.many in omega (arith, within, many)) in
-        let found = slice_there p.packages n low in
-        (found.0, ap (slice_get p.packages) planned.main ∙ found.1)
-
     worlds_home : (m : ℕ) (w : PlannedWorld) → world_in p m ≡ Some w → w.package_ ≡ Some p.main
-    worlds_home m w there =
-        let from = zip_get (PlansWorld t planned.kept (places_in ms) n) (worlds_in ms) p.worlds planned.worlds m w there in
-        from.2.package_ ∙ ap Some (sym planned.main)
+    worlds_home m w there = (zip_get (PlansWorld t planned.kept (places_in ms) n) (worlds_in ms) p.worlds planned.worlds m w there).2.package_ ∙ ap Some (sym planned.main)
 
     pub plan_read : IsReadPackagePlan t h planned.kept p b (views_read ms)
-    plan_read = record {
+    plan_read = let main = package_there t h ms members (packages_are_ruled t h known n ms members given) n p planned n input.identity input.stands in record {
       read = read;
       kept_for = kept_for_reasons t h known n ms members given (whole_is_shown_alike t h known n ms members given) p planned b functions have_places refl;
-      main = main_there.0;
-      stands = main_there.1;
+      main = main.0;
+      stands = ap (slice_get p.packages) planned.main ∙ main.1;
       worlds = worlds_home;
-      seen = sights;
+      seen = sights_of_members t (numbered_members ms);
       foreign = record { reasons = reasons.reasons; functions = foreign_functions; whole = reasons.whole };
     }

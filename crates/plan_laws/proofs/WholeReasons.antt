@@ -5,7 +5,7 @@ use Rattle.std.proofs.lemmas.{List.Elements.Contains-append_cases, List.Elements
 use Rattle.std.proofs.lemmas.Slice.Zip.{AllZip-long as zip_length}
 use Rattle.std.specs.{Prelude.is_some, Prelude.unwrap_or, List.Contains, List.flat_map, List.AllByRecursion, Option.option_map_or}
 use Rattle.wit_model.specs.declared.model.TypeOwner.{TypeOwner}
-use Rattle.wit_model.specs.{Text.Text, Uses.has, Valid.as_interface, Valid.as_world}
+use Rattle.wit_model.specs.{Uses.has, Valid.as_interface, Valid.as_world}
 use Rattle.wit_model.proofs.Elements.{contains-flat, contains-has, has-contains, none-in}
 use Rattle.read_homes.specs.Homes.{HasPlace}
 use Rattle.plan_meaning.specs.GatheredPlan.{DeclaresKind, a_form, a_name, a_resource}
@@ -45,25 +45,19 @@ there_marked (b ∷ marks) (suc n) e = there_marked marks n e
 
 module _ (t : Tables) (h : Homes) (known : ℕ → Fact) (n : ℕ) (ms : List Member) (members : List reads.Member) (given : IsPackageInput t h known n ms members) (alike : AreShownAlike ms) (p : Plan)
     (planned : PlansWhole t h.packages (home_at h) n ms p) (b : Beside) (read : FunctionsAreRead t planned.kept p b) where
-  abbrev kept : List ℕ
-  kept = planned.kept
-
   abbrev Kept : ℕ → Type 0
-  Kept old = IsPartOfKept t h kept p b old
+  Kept old = IsPartOfKept t h planned.kept p b old
 
   abbrev Used : ℕ → Type 0
   Used k = IsUsed (map (λ (s : Shape). s.parts) t.shapes) planned.kept_for.used.roots k
 
   abbrev Type_ : ℕ → PlannedType → Type 0
-  Type_ = PlansType t kept (shown_first ms) (owners_in ms)
-
-  many : length p.types ≡ length kept
-  many = zip_length Type_ kept p.types planned.types
+  Type_ = PlansType t planned.kept (shown_first ms) (owners_in ms)
 
   -- the type of the plan for one that is used
   pub record HasType (k : ℕ) : Type 0 where
     pub number : ℕ
-    pub stands : slice_get kept number ≡ Some k
+    pub stands : slice_get planned.kept number ≡ Some k
     pub type_ : PlannedType
     pub there : slice_get p.types number ≡ Some type_
     pub planned_as : Type_ k type_
@@ -71,35 +65,28 @@ module _ (t : Tables) (h : Homes) (known : ℕ → Fact) (n : ℕ) (ms : List Me
   used_type : (k : ℕ) → Used k → HasType k
   used_type k used =
       let j = planned.kept_for.marked.stand k (there_marked planned.kept_for.marks k ((planned.kept_for.used.marked k).1 used)) in
-      let x = zip_at Type_ kept p.types planned.types j.0 k j.1 in
+      let x = zip_at Type_ planned.kept p.types planned.types j.0 k j.1 in
       record { number = j.0; stands = j.1; type_ = x.0; there = x.1; planned_as = x.2 }
 
   -- ---- parts of forms
-
-  no_parts : (s : Shape) (k : ℕ) (q : ℕ) (name : Text) → s ≡ named_shape q name → Contains s.parts k → Kept k
-  no_parts s k q name e c = none-in k (subst (λ (x : Shape). Contains x.parts k) e c)
 
   inside : (m k : ℕ) (s : Shape) → slice_get t.shapes m ≡ Some s → Contains s.parts k → HasType m → Kept k
   inside m k s at c has = by has.planned_as
     where
       by : Type_ m has.type_ → Kept k
-      by (unnamed r r_at none a d e formed) =
-          let same : r ≡ s = same-some r s (sym r_at ∙ at) in
-          of_type has.number has.type_ (shape_form r) r.parts formed.news has.there formed.is (parts_become t given.input.tables kept p many r.parts formed.news formed.parts)
-          (subst (λ (x : Shape). Contains x.parts k) (sym same) c)
+      by (unnamed r r_at none a d e formed) = of_type has.number has.type_ (shape_form r) r.parts formed.news has.there formed.is
+          (parts_become t given.input.tables planned.kept p (zip_length Type_ planned.kept p.types planned.types) r.parts formed.news formed.parts)
+          (subst (λ (x : Shape). Contains x.parts k) (sym (same-some r s (sym r_at ∙ at))) c)
       by (named r q name y r_at is first a d e kind) = of_shape (given.input.tables.shapes.each m s at)
         where
           of_shape : IsShape m s → Kept k
-          of_shape (shapes.a_name place other f) = no_parts s k place other f c
-          of_shape (shapes.a_node form parts f low) =
-              let same : r ≡ node_shape form parts = same-some r (node_shape form parts) (sym r_at ∙ (at ∙ ap Some f)) in
-              let none : name_in r ≡ None = ap name_in same ∙ ap (λ (x : Bool). cond x (Some ((node_shape form parts).number, shapes.first_label (node_shape form parts).labels)) None)
-              (no_name form) in
-              no_true (ap is_some (sym none ∙ is))
+          of_shape (shapes.a_name place other f) = none-in k (subst (λ (x : Shape). Contains x.parts k) f c)
+          of_shape (shapes.a_node form parts f low) = no_true (ap is_some (sym (ap name_in (same-some r _ (sym r_at ∙ (at ∙ ap Some f)))
+              ∙ ap (λ (x : Bool). cond x (Some ((node_shape form parts).number, shapes.first_label (node_shape form parts).labels)) None) (no_name form)) ∙ is))
 
   -- ---- parts of what names are declared as
 
-  in_form : (m k o : ℕ) (x : PlannedType) (j : ℕ) → slice_get p.types j ≡ Some x → DeclaresKind t kept p (Some o) x.kind → is_form t o ≡ true → Contains (form_parts t o) k → Kept k
+  in_form : (m k o : ℕ) (x : PlannedType) (j : ℕ) → slice_get p.types j ≡ Some x → DeclaresKind t planned.kept p (Some o) x.kind → is_form t o ≡ true → Contains (form_parts t o) k → Kept k
   in_form m k o x j there (a_resource none is) form c = no_true (ap is_some (sym none))
   in_form m k o x j there (a_name old new d fails becomes is) form c = no_true (sym (ap (is_form t) (same-some o old d) ∙ fails) ∙ form)
   in_form m k o x j there (a_form old i form olds news d is at zip kind) is_one c =
@@ -108,28 +95,19 @@ module _ (t : Tables) (h : Homes) (known : ℕ → Fact) (n : ℕ) (ms : List Me
 
   by_showing : (k : ℕ) (s : Shape) → slice_get t.shapes k ≡ Some s → name_in s ≡ None → (y : NumberedShowing) → Contains (showings_of_members ms) y → Contains (showing_parts t y) (14 + k)
       → Kept (14 + k)
-  by_showing k s at none y among c = by (Contains-append_cases (y.part ∷ []) (declared_parts t y.declared) (14 + k) c)
+  by_showing k s at none y among c = elim (Contains-append_cases (y.part ∷ []) (declared_parts t y.declared) (14 + k) c) [
+    | inl first ↦ (let one : is.number ≡ k = (let a = is.part in omega (arith, a, (one-contained y.part (14 + k) first))) in
+        no_true (ap is_some (sym none ∙ ap name_in (sym (same-some (named_shape is.place is.name) s (sym is.is.named ∙ (ap (slice_get t.shapes) one ∙ at)))))))
+    | inr later ↦ of_declared y.declared refl later
+  ]
     where
       is : IsNamed t given.input.tables y
       is = showings_named t given.input.tables h ms members given.input y among
 
-      itself : y.part ≡ 14 + k → Kept (14 + k)
-      itself e =
-          let one : is.number ≡ k = (let a = is.part in omega (arith, a, e)) in
-          let shape : named_shape is.place is.name ≡ s = same-some (named_shape is.place is.name) s (sym is.is.named ∙ (ap (slice_get t.shapes) one ∙ at)) in
-          no_true (ap is_some (sym none ∙ ap name_in (sym shape)))
-
       root : Used is.number
-      root =
-          let among_parts : Contains (used_parts t (showings_of_members ms) (signatures_of_members ms)) (14 + is.number) =
-          subst (Contains (used_parts t (showings_of_members ms) (signatures_of_members ms))) is.part
-          (front (flat_map (showing_parts t) (showings_of_members ms)) (flat_map (function_parts t) (signatures_of_members ms)) y.part
-          (contains-flat (showing_parts t) (showings_of_members ms) y y.part among (0, omega arith, refl))) in
-          marked is.number (planned.kept_for.used.shown is.number (slice_get_within t.shapes is.number (named_shape is.place is.name) is.is.named) ∙ contains-has
-          (used_parts t (showings_of_members ms) (signatures_of_members ms)) (14 + is.number) among_parts)
-        where
-          front : (xs ys : List ℕ) (x : ℕ) → Contains xs x → Contains (xs ++ ys) x
-          front = Contains-append_left
+      root = marked is.number (planned.kept_for.used.shown is.number (slice_get_within _ _ _ is.is.named)
+          ∙ contains-has _ _ (subst (Contains (used_parts t (showings_of_members ms) (signatures_of_members ms))) is.part
+          (Contains-append_left _ _ _ (contains-flat (showing_parts t) (showings_of_members ms) y y.part among (0, omega arith, refl)))))
 
       declared_as : (o : ℕ) → y.declared ≡ Some o → (f : Bool) → is_form t o ≡ f → Contains (cond f (form_parts t o) (o ∷ [])) (14 + k) → Kept (14 + k)
       declared_as o d false e there = no_true (sym e ∙ (ap (is_form t) (one-contained o (14 + k) there) ∙ has_form t given.input.tables k s at none (14 + k) refl))
@@ -138,37 +116,29 @@ module _ (t : Tables) (h : Homes) (known : ℕ → Fact) (n : ℕ) (ms : List Me
           let name = planned_name t h ms members given.input n p planned type_.number is.number type_.type_ is.place is.name type_.there type_.stands is.is.named in
           let found = (firsts_found (showings_of_members ms)).0 is.number name.showing name.first in
           let same : name.showing.declared ≡ Some o = alike.types name.showing y found.0 among (found.1 ∙ sym is.part) ∙ d in
-          in_form is.number (14 + k) o type_.type_ type_.number type_.there (subst (λ (x : Option ℕ). DeclaresKind t kept p x type_.type_.kind) same name.kind) e there
+          in_form is.number (14 + k) o type_.type_ type_.number type_.there (subst (λ (x : Option ℕ). DeclaresKind t planned.kept p x type_.type_.kind) same name.kind) e there
 
       of_declared : (d : Option ℕ) → y.declared ≡ d → Contains (declared_parts t d) (14 + k) → Kept (14 + k)
       of_declared None e there = none-in (14 + k) there
       of_declared (Some o) e there = declared_as o e (is_form t o) refl there
 
-      by : Contains (y.part ∷ []) (14 + k) ⊎ Contains (declared_parts t y.declared) (14 + k) → Kept (14 + k)
-      by (inl first) = itself (one-contained y.part (14 + k) first)
-      by (inr later) = of_declared y.declared refl later
-
   -- ---- all that is used
 
   by_root : (k : ℕ) (s : Shape) → slice_get t.shapes k ≡ Some s → name_in s ≡ None → Contains (used_parts t (showings_of_members ms) (signatures_of_members ms)) (14 + k) → Kept (14 + k)
-  by_root k s at none c = by (Contains-append_cases (flat_map (showing_parts t) (showings_of_members ms)) (flat_map (function_parts t) (signatures_of_members ms)) (14 + k) c)
-    where
-      by : Contains (flat_map (showing_parts t) (showings_of_members ms)) (14 + k) ⊎ Contains (flat_map (function_parts t) (signatures_of_members ms)) (14 + k) → Kept (14 + k)
-      by (inl among) = let y = flat_cases (showing_parts t) (showings_of_members ms) (14 + k) among in by_showing k s at none y.0 y.1 y.2
-      by (inr among) =
-          let f = flat_cases (function_parts t) (signatures_of_members ms) (14 + k) among in
-          by_function t h known n ms members given alike p planned b read (14 + k) f.0 f.1 f.2
+  by_root k s at none c = elim (Contains-append_cases (flat_map (showing_parts t) (showings_of_members ms)) (flat_map (function_parts t) (signatures_of_members ms)) (14 + k) c) [
+    | inl among ↦ (let y = flat_cases (showing_parts t) (showings_of_members ms) (14 + k) among in by_showing k s at none y.0 y.1 y.2)
+    | inr among ↦ (let f = flat_cases (function_parts t) (signatures_of_members ms) (14 + k) among in by_function t h known n ms members given alike p planned b read (14 + k) f.0 f.1 f.2)
+  ]
 
   by_used : (k : ℕ) (s : Shape) → slice_get t.shapes k ≡ Some s → name_in s ≡ None → Used k → Kept (14 + k)
-  by_used k s at none (marked i is) =
-      by_root k s at none (has-contains (used_parts t (showings_of_members ms) (signatures_of_members ms)) (14 + k) (sym (planned.kept_for.used.shown k (slice_get_within t.shapes k s at)) ∙ is))
+  by_used k s at none (marked i is) = by_root k s at none (has-contains _ _ (sym (planned.kept_for.used.shown k (slice_get_within _ k s at)) ∙ is))
   by_used k s at none (part m i ks before there c) =
       let shape = unmapped_get (λ (x : Shape). x.parts) t.shapes m ks there in
       inside m (14 + k) shape.0 shape.1 (subst (λ ps. Contains ps (14 + k)) (sym shape.2) c) (used_type m before)
 
-  types_kept : (j k : ℕ) (x : PlannedType) → slice_get p.types j ≡ Some x → slice_get kept j ≡ Some k → x.name ≡ None → Kept (14 + k)
+  types_kept : (j k : ℕ) (x : PlannedType) → slice_get p.types j ≡ Some x → slice_get planned.kept j ≡ Some k → x.name ≡ None → Kept (14 + k)
   types_kept j k x there stands none =
-      let from = zip_get Type_ kept p.types planned.types j x there in
+      let from = zip_get Type_ planned.kept p.types planned.types j x there in
       let used = (planned.kept_for.used.marked k).0 (mark_there planned.kept_for.marks k (planned.kept_for.marked.among j k stands)) in
       by used (subst (λ m. Type_ m x) (same-some from.0 k (sym from.1 ∙ stands)) from.2)
     where
@@ -176,13 +146,10 @@ module _ (t : Tables) (h : Homes) (known : ℕ → Fact) (n : ℕ) (ms : List Me
       by used (unnamed s at no_name a d e formed) = by_used k s at no_name used
       by used (named s q name y at is first a d e kind) = no_true (ap is_some (sym none ∙ a))
 
-  no_id : (j : ℕ) (x : PlannedType) → slice_get p.types j ≡ Some x → x.name ≡ None → x.external_id ≡ None
-  no_id j x there none = search (std_rules, zip_get, no_name, no_true)
-
   -- ---- packages
 
   module _ (have : HavePlaces t h n ms) (owned : b.owners ≡ owners_of ms) where
-    with_place : (c : ℕ) → HasPlace h.homes c → HasHomes t h kept p b c
+    with_place : (c : ℕ) → HasPlace h.homes c → HasHomes t h planned.kept p b c
     with_place c is =
         let home : home_at h is.place ≡ Some (c, is.name) = ap (λ o. unwrap_or o None) is.home in
         let path = path_given t h given.alone is.place (c, is.name) home in
@@ -200,15 +167,14 @@ module _ (t : Tables) (h : Homes) (known : ℕ → Fact) (n : ℕ) (ms : List Me
           there = there.1;
         }
 
-    packages_kept : (c : ℕ) (k : PlannedPackage) → package_in p c ≡ Some k → (c ≡ p.main) ⊎ HasHomes t h kept p b c
-    packages_kept c k there = by (have.packages c (let low = slice_get_within p.packages c k there in let as_many = planned.packages.many in omega (arith, low, as_many)))
-      where
-        by : (c ≡ n) ⊎ HasPlace h.homes c → (c ≡ p.main) ⊎ HasHomes t h kept p b c
-        by (inl own) = inl (own ∙ sym planned.main)
-        by (inr is) = inr (with_place c is)
+    packages_kept : (c : ℕ) (k : PlannedPackage) → package_in p c ≡ Some k → (c ≡ p.main) ⊎ HasHomes t h planned.kept p b c
+    packages_kept c k there = elim (have.packages c (let low = slice_get_within p.packages c k there in let as_many = planned.packages.many in omega (arith, low, as_many))) [
+      | inl own ↦ inl (own ∙ sym planned.main)
+      | inr is ↦ inr (with_place c is)
+    ]
 
-    pub kept_for_reasons : IsKeptForReasons t h kept p b
-    kept_for_reasons = record { types = types_kept; ids = no_id; packages = packages_kept }
+    pub kept_for_reasons : IsKeptForReasons t h planned.kept p b
+    kept_for_reasons = record { types = types_kept; ids = λ j x there none. search (std_rules, zip_get, no_name, no_true); packages = packages_kept }
 
 -- ---- each instance of a world whose place has no path is one that is imported or exported
 
@@ -225,30 +191,24 @@ module _ (t : Tables) where
       by from.0.shown (all_at (λ (s : NumberedSeen). IsOneOf t instances s.shown) ss all from.0 from.1) from.2
     where
       by : (x : NumberedShown) → IsOneOf t instances x → Contains (places_of_shown x) q → Contains (map (λ (i : NumberedInstance). i.place) instances) q
-      by (instance k v) is there =
-          subst (Contains (map (λ (i : NumberedInstance). i.place) instances)) (one-contained (place_of_key k) q there)
-          (contains-map (λ (i : NumberedInstance). i.place) instances (record { place = place_of_key k; view = v }) is)
+      by (instance k v) is there = subst (Contains (map (λ (i : NumberedInstance). i.place) instances)) (one-contained (place_of_key k) q there) (contains-map _ _ _ is)
       by _ is there = none-in q there
 
   module _ (w : NumberedScope) (scope : Scope) (is : IsScopeIn t w) (shows : Shows t w scope) (seen : InstancesAreSeen scope) where
     abbrev pub shown_places : List ℕ
     shown_places = places_of_seen w.imports ++ places_of_seen w.exports
 
-    abbrev instance_places : List ℕ
-    instance_places = map (λ (i : NumberedInstance). i.place) w.instances
+    pub as_many : length (filter (has_no_path t) (map (λ (i : NumberedInstance). i.place) w.instances)) ≡ length (filter (has_no_path t) shown_places)
+    as_many = instances_many w.instances ∙ (inline_many t w is scope shows seen ∙ (sym (length_of_map (λ (i : NumberedInstance). i.place) (all_inline t w is)) ∙ ap length (places_are t w is)))
 
-    pub as_many : length (filter (has_no_path t) instance_places) ≡ length (filter (has_no_path t) shown_places)
-    as_many = instances_many w.instances ∙ (inline_many t w is scope shows seen
-        ∙ (sym (length_of_map (λ (i : NumberedInstance). i.place) (all_inline t w is)) ∙ ap length (places_are t w is)))
+    pub one_of : (q : ℕ) → Contains shown_places q → Contains (map (λ (i : NumberedInstance). i.place) w.instances) q
+    one_of q c = elim (Contains-append_cases (places_of_seen w.imports) (places_of_seen w.exports) q c) [
+      | inl among ↦ seen_there w.instances w.imports is.imported q among
+      | inr among ↦ seen_there w.instances w.exports is.exported q among
+    ]
 
-    pub one_of : (q : ℕ) → Contains shown_places q → Contains instance_places q
-    one_of q c = by (Contains-append_cases (places_of_seen w.imports) (places_of_seen w.exports) q c)
-      where
-        by : Contains (places_of_seen w.imports) q ⊎ Contains (places_of_seen w.exports) q → Contains instance_places q
-        by (inl among) = seen_there w.instances w.imports is.imported q among
-        by (inr among) = seen_there w.instances w.exports is.exported q among
-
-    pub own_shown : are_once (filter (has_no_path t) (places_of_part (world w))) ≡ true → (q : ℕ) → path_at t q ≡ None → Contains instance_places q → Contains shown_places q
+    pub own_shown : are_once (filter (has_no_path t) (places_of_part (world w))) ≡ true → (q : ℕ) → path_at t q ≡ None → Contains (map (λ (i : NumberedInstance). i.place) w.instances) q
+        → Contains shown_places q
     own_shown once q none c =
         let i = from_map (λ (x : NumberedInstance). x.place) w.instances q c in
         let there = contains-map (λ (x : NumberedInstance). x.place) (all_inline t w is) i.0 (inline_seen t w is scope shows seen once i.0 i.1 (ap (path_at t) i.2 ∙ none)) in

@@ -30,9 +30,6 @@ use Rattle.read_exports.specs.declared.members.Part.TheVariants as parts
 module _ (t : Tables) (h : Homes) (known : ℕ → Fact) (n : ℕ) (ms : List Member) (members : List reads.Member) (given : IsPackageInput t h known n ms members) (p : Plan)
     (planned : PlansWhole t h.packages (home_at h) n ms p) (b : Beside) (owned : b.owners ≡ owners_of ms) (views : ℕ → NumberedView) (read : IsReadPlan t h planned.kept p b views)
     (is_shown : IsShownWhole t h planned.kept p b views read ms) where
-  abbrev sights : List NumberedSight
-  sights = sights_of_members t (numbered_members ms)
-
   abbrev Shown : ℕ → Type 0
   Shown q = IsShownByWorld t h planned.kept p b views read q
 
@@ -56,23 +53,20 @@ module _ (t : Tables) (h : Homes) (known : ℕ → Fact) (n : ℕ) (ms : List Me
       by None e none = none-in s none
       by (Some path) e one = a_world (subst Shown (ap (λ (x : NumberedSight). x.place) (one-contained (whole_view i) s one)) (is_shown.worlds m c w is i among (path, e)))
 
-  from_sight : (s : NumberedSight) → Contains sights s → IsFrom s
+  from_sight : (s : NumberedSight) → Contains (sights_of_members t (numbered_members ms)) s → IsFrom s
   from_sight s c = let m = mapped_cases (λ (x : NumberedMember). sights_of_part t x.part) numbered_member ms s c in by m.0 m.1 m.0.part refl m.2
     where
       by : (m : Member) → Contains ms m → (a : Part) → m.part ≡ a → Contains (sights_of_part t (numbered_part a)) s → IsFrom s
       by m among (parts.World w) is there =
           let i = flat_cases (sights_of_instance t) (numbered_scope w).instances s there in
           from_instance m among w is i.0 i.1 s i.2
-      by m among (parts.Interface q v imports) is there = side (interface_views q v imports s there)
-        where
-          side : ((i : ImportedView) × Contains imports.now i × (types_alone (numbered_import i) ≡ s)) ⊎ (own_sight q v imports ≡ s) → IsFrom s
-          side (inl i) =
-              an_import m among q v imports is (ap (λ (x : NumberedSight). x.whole) (sym i.2))
-              (subst (Contains (map (λ (x : ℕ × NumberedView). x.0) (map numbered_import imports.now))) (ap (λ (x : NumberedSight). x.place) i.2)
-              (contains-map (λ (x : ℕ × NumberedView). x.0) (map numbered_import imports.now) (numbered_import i.0) (contains-map numbered_import imports.now i.0 i.1)))
-          side (inr own) = the_own (ap (λ (x : NumberedSight). is_of_package h n x.place) (sym own) ∙ own_package m among q v imports is)
+      by m among (parts.Interface q v imports) is there = elim (interface_views q v imports s there) [
+        | inl i ↦ an_import m among q v imports is (ap (λ (x : NumberedSight). x.whole) (sym i.2))
+            (subst (Contains (map (λ (x : ℕ × NumberedView). x.0) (map numbered_import imports.now))) (ap (λ (x : NumberedSight). x.place) i.2) (contains-map _ _ _ (contains-map _ _ _ i.1)))
+        | inr own ↦ the_own (ap (λ (x : NumberedSight). is_of_package h n x.place) (sym own) ∙ own_package m among q v imports is)
+      ]
 
-  whole : (s : NumberedSight) → Contains sights s → s.whole ≡ true → Shown s.place ⊎ (is_of_package h p.main s.place ≡ true)
+  whole : (s : NumberedSight) → Contains (sights_of_members t (numbered_members ms)) s → s.whole ≡ true → Shown s.place ⊎ (is_of_package h p.main s.place ≡ true)
   whole s c functions = search (std_rules, from_sight, never)
 
   -- ---- reasons
@@ -103,15 +97,15 @@ module _ (t : Tables) (h : Homes) (known : ℕ → Fact) (n : ℕ) (ms : List Me
       → Contains (map (λ (i : ℕ × NumberedView). i.0) (map numbered_import imports.now)) r → IsSeenFor t h planned.kept p b views read r
   by_import m c q v imports is r there =
       let reached = subst (λ a. PartIsReached t (numbered_part a)) is (at_mapped (λ (x : NumberedMember). PartIsReached t x.part) numbered_member ms is_shown.reached m c) in
-      in_member (q, numbered_view v) (map numbered_import imports.now) reached.0 reached.1
-      (view (own_sight q v imports) (own_there q v imports), all_of (IsViewOf t h planned.kept p b views read) (map numbered_import imports.now) import_) there
+      in_member (q, numbered_view v) (map numbered_import imports.now) reached.0 reached.1 (
+        view (own_sight q v imports) (own_there q v imports),
+        all_of (IsViewOf t h planned.kept p b views read) (map numbered_import imports.now) (λ x among.
+            let i = from_map numbered_import imports.now x among in
+            subst (IsViewOf t h planned.kept p b views read) i.2 (view (types_alone (numbered_import i.0)) (import_there q v imports i.0 i.1))),
+      ) there
     where
       view : (s : NumberedSight) → Contains (views_of_part (numbered_part (parts.Interface q v imports))) s → IsViewOf t h planned.kept p b views read (s.place, s.view)
       view s among = view_in m c s (subst (λ a. Contains (views_of_part (numbered_part a)) s) (sym is) among) (subst (λ a. Contains (sights_of_part t (numbered_part a)) s) (sym is) among)
-
-      import_ : (x : ℕ × NumberedView) → Contains (map numbered_import imports.now) x → IsViewOf t h planned.kept p b views read x
-      import_ x among = let i = from_map numbered_import imports.now x among in
-          subst (IsViewOf t h planned.kept p b views read) i.2 (view (types_alone (numbered_import i.0)) (import_there q v imports i.0 i.1))
 
   reasons : (q k : ℕ) (i : PlannedInterface) → HasPath t q → b.owners q ≡ as_interface k → interface_in p k ≡ Some i → is_of_package h p.main q ≡ false → IsSeenFor t h planned.kept p b views read q
   reasons q k i path is there foreign =
@@ -121,8 +115,7 @@ module _ (t : Tables) (h : Homes) (known : ℕ → Fact) (n : ℕ) (ms : List Me
       by : (s : NumberedSight) → s.place ≡ q → IsFrom s → IsSeenFor t h planned.kept p b views read q
       by s place (a_world shown) = in_world (subst Shown place shown)
       by s place (the_own e) = never (is_of_package h p.main q) (ap (λ (x : ℕ). is_of_package h p.main x) (sym place) ∙ (ap (λ (x : ℕ). is_of_package h x s.place) planned.main ∙ e)) foreign
-      by s place (an_import m among r v imports part types c) =
-          by_import m among r v imports part q (subst (Contains (map (λ (x : ℕ × NumberedView). x.0) (map numbered_import imports.now))) place c)
+      by s place (an_import m among r v imports part types c) = by_import m among r v imports part q (subst (Contains (map (λ (x : ℕ × NumberedView). x.0) (map numbered_import imports.now))) place c)
 
-  pub foreign_reasons : HasForeignReasons t h planned.kept p b views read sights
+  pub foreign_reasons : HasForeignReasons t h planned.kept p b views read (sights_of_members t (numbered_members ms))
   foreign_reasons = record { reasons = reasons; whole = whole }

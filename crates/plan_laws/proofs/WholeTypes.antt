@@ -12,7 +12,7 @@ use Rattle.plan_meaning.specs.NumberedWorlds.{HasPath, NumberedInstance}
 use Rattle.std.proofs.Common.{rules as std_rules, ◌≡◌, refl, sym, ap, subst, ◌∙◌, ℕ, ◌+◌, ◌<◌, ◌⊎◌, inl, inr, arith, true, ◌&&◌, ◌==◌, List, length, Option, Some, None, option_map, slice_get, Bool, zero, suc, false, cond, [], ◌∷◌, map, option_to_list, not, ◌||◌}
 use Rattle.std.proofs.lemmas.{Option.slice_get_within, Option.same_Some as same-some, Bool.eqb-true, Bool.eq-eqb}
 use Rattle.std.proofs.lemmas.List.Elements.{Contains-append_cases, Contains-append_left, Contains-append_right}
-use Rattle.std.specs.{Prelude.option_and_then, List.Contains, List.list_all, List.AllZip, List.flat_map, List.list_any, Option.option_map_or, Borrow.Bor}
+use Rattle.std.specs.{Prelude.option_and_then, List.Contains, List.list_all, List.flat_map, List.list_any, Option.option_map_or, Borrow.Bor}
 use Rattle.wit_model.specs.{Lookup.place_of_path, Names.PackageIdentity, Names.is_label, Names.path_in, Text.Text, Valid.as_interface, Valid.as_world}
 use Rattle.wit_model.proofs.{NameLaws.read_path_is_spelled, Elements.contains-filter_map, Elements.contains-get, Elements.none-in}
 use Rattle.comp_meaning.specs.Follow.{place_of}
@@ -21,7 +21,7 @@ use Rattle.read_exports.specs.declared.members.{Member.Member, Part.Part}
 use Rattle.plan_types.specs.PlannedTypes.{number_in}
 use Rattle.plan_types.specs.{Showings.NumberedShowing, Showings.showings_of_members, Showings.signatures_of_members, Used.function_parts, Used.signature_parts}
 use Rattle.plan_package.specs.PlanWhole.{PlansWhole, owners_in, places_in, shown_first}
-use Rattle.plan_package.specs.{WholeInterfaces.Home, WholeInterfaces.PlansInterface, Views.views_of_members, Views.views_of_part}
+use Rattle.plan_package.specs.{WholeInterfaces.Home, Views.views_of_members, Views.views_of_part}
 use Rattle.plan_package.specs.WholePackages.{PlansPackage, another, entries_from, the_main}
 use Rattle.plan_package.specs.WholeWorlds.{PlansItem, PlansWorld, a_function, a_type, an_instance, worlds_in}
 use Rattle.plan_type_laws.specs.{PlanTypes.NamesObey, ShownForms.FindsShown, ShownMarks.MarksStand, UsedParts.ShowingObeys}
@@ -58,13 +58,10 @@ module _ (t : Tables) (h : Homes) (ms : List Member) (members : List reads.Membe
   abbrev places : List ℕ
   places = places_in ms
 
-  abbrev homes : List ℕ
-  homes = homes_in ms
-
   -- ---- places
 
   -- the package of this number
-  package_there : (q : ℕ) (identity : PackageIdentity) → slice_get h.packages q ≡ Some identity → (k : PlannedPackage) × (package_in p q ≡ Some k) × (k.identity ≡ identity)
+  pub package_there : (q : ℕ) (identity : PackageIdentity) → slice_get h.packages q ≡ Some identity → (k : PlannedPackage) × (package_in p q ≡ Some k) × (k.identity ≡ identity)
   package_there q identity at =
       let low : q < length p.packages = (let within = slice_get_within h.packages q identity at in let many = planned.packages.many in omega (arith, within, many)) in
       let found = slice_there p.packages q low in
@@ -80,17 +77,13 @@ module _ (t : Tables) (h : Homes) (ms : List Member) (members : List reads.Membe
   path_planned i q home name package_ at (Some path) e =
       let is = ruled.input.homes.homes q path e in
       let same : home ≡ Some (is.package_, is.name) = sym at ∙ is.home in
-      let named : i.name ≡ Some is.name = name ∙ ap (option_map (λ (x : Home). x.1)) same in
-      let packed : i.package_ ≡ Some is.package_ = package_ ∙ ap (λ o. Some (option_map_or (λ (x : Home). x.0) o main)) same in
       let found = package_there is.package_ is.identity is.stands in
-      ap (λ o. option_and_then (λ name. option_and_then (λ n. option_map (λ (k : PlannedPackage). path_in k.identity name) (package_in p n)) i.package_) o) named
-      ∙ (ap (option_and_then (λ n. option_map (λ (k : PlannedPackage). path_in k.identity is.name) (package_in p n))) packed
+      ap (λ o. option_and_then (λ name. option_and_then (λ n. option_map (λ (k : PlannedPackage). path_in k.identity name) (package_in p n)) i.package_) o)
+      (name ∙ ap (option_map (λ (x : Home). x.1)) same)
+      ∙ (ap (option_and_then (λ n. option_map (λ (k : PlannedPackage). path_in k.identity is.name) (package_in p n))) (package_ ∙ ap (λ o. Some (option_map_or (λ (x : Home). x.0) o main)) same)
       ∙ (ap (option_map (λ (k : PlannedPackage). path_in k.identity is.name)) found.1
       ∙ ap Some (ap (λ x. path_in x is.name) found.2 ∙ sym (read_path_is_spelled path is.identity is.name is.reads).spelled)))
   path_planned i q home name package_ at None e = search std_rules
-
-  place_of_text : (o : Option Text) → place_of_path o ≡ place_of o
-  place_of_text x = search std_rules
 
   -- the place of an interface that is met
   interface_place : (m q : ℕ) → number_in places q ≡ Some m → place_in p (as_interface m) ≡ place_at t q
@@ -99,17 +92,16 @@ module _ (t : Tables) (h : Homes) (ms : List Member) (members : List reads.Membe
       let found = interface_there t h ms members ruled.input main p planned m q there in
       let first = first_there t h ms members ruled.input main p planned m q there in
       let made = found.2 first.0 first.1 in
-      ap place_of_path (ap (option_and_then (path_of_planned p)) found.1 ∙ path_planned found.0 q (home_at h q) made.name made.package_ refl (path_at t q) refl) ∙ place_of_text (path_at t q)
+      ap place_of_path (ap (option_and_then (path_of_planned p)) found.1 ∙ path_planned found.0 q (home_at h q) made.name made.package_ refl (path_at t q) refl) ∙ (search std_rules)
 
-  pub places_stand : (q : ℕ) → Contains places q ⊎ Contains homes q → place_in p (owners_of ms q) ≡ place_at t q
+  pub places_stand : (q : ℕ) → Contains places q ⊎ Contains (homes_in ms) q → place_in p (owners_of ms q) ≡ place_at t q
   places_stand q met = by (number_in places q) refl met
     where
-      by : (o : Option ℕ) → number_in places q ≡ o → Contains places q ⊎ Contains homes q
-          → place_in p (option_map_or as_interface o (option_map_or as_world (number_in homes q) (as_interface (length places + q)))) ≡ place_at t q
+      by : (o : Option ℕ) → number_in places q ≡ o → Contains places q ⊎ Contains (homes_in ms) q
+          → place_in p (option_map_or as_interface o (option_map_or as_world (number_in (homes_in ms) q) (as_interface (length places + q)))) ≡ place_at t q
       by (Some m) e met = interface_place m q e
       by None e (inl among) = let given = number_given places q among in let wrong : ◌≡◌ {A = Option ℕ} None (Some given.0) = sym e ∙ given.1 in absurd cc
-      by None e (inr among) =
-          ap (λ o. place_in p (option_map_or as_world o (as_interface (length places + q)))) (number_given homes q among).1
+      by None e (inr among) = ap (λ o. place_in p (option_map_or as_world o (as_interface (length places + q)))) (number_given (homes_in ms) q among).1
           ∙ sym (ap place_of (home_alone t h ms members ruled.input q among))
 
   -- ---- names
@@ -126,7 +118,7 @@ module _ (t : Tables) (h : Homes) (ms : List Member) (members : List reads.Membe
         label = subst (λ (x : Text). is_label x ≡ true) name_is.1 obeys.label;
         behind = subst (λ k. AllOf (λ m. m < 14 + k) y.declared) one obeys.is.behind;
         obeys = subst (λ r. rules.is_declared (place_at t r) (declaration_of t y.declared) ≡ true) name_is.0 obeys.obeys;
-        home = ap (place_in p) (owner_met places homes q met) ∙ places_stand q met;
+        home = ap (place_in p) (owner_met places (homes_in ms) q met) ∙ places_stand q met;
       }
 
   -- ---- the types
@@ -148,8 +140,7 @@ module _ (t : Tables) (h : Homes) (ms : List Member) (members : List reads.Membe
 
   pub types_whole : TypesAreWhole t planned.kept ms p
   types_whole = record {
-    types =
-        types_are_kept t input.tables showings (all_of (ShowingObeys t) showings (λ y c. showing_obeys t y (all_at (TypeObeys t) showings ruled.rules.types y c))) signatures ruled.rules.signatures
+    types = types_are_kept t input.tables showings (all_of (ShowingObeys t) showings (λ y c. showing_obeys t y (all_at (TypeObeys t) showings ruled.rules.types y c))) signatures ruled.rules.signatures
         (forms_obeyed t input.tables ruled.lengths h ms members input.shown input.stand) planned.kept_for.marks planned.kept_for.used planned.kept planned.kept_for.marked p (owners_in ms)
         (shown_first ms) finds planned.types name_obeys;
     marks = marks;
@@ -188,23 +179,18 @@ module _ (t : Tables) (kept : List ℕ) (p : Plan) where
   -- a part of one is a part of the other, where both become this function
   same_part : (f shape : FunctionShape) (id : Option Text) (g : PlannedFunction) → TakesAndGives kept f g → FunctionBecomes t kept p shape id g → (old : ℕ) → Contains (signature_parts f) old
       → IsPartOfFunction shape old
-  same_part f shape id g takes becomes old c = by (Contains-append_cases (map (λ (x : Text × ℕ). x.1) f.params) (option_to_list f.result) old c)
+  same_part f shape id g takes becomes old c = elim (Contains-append_cases (map (λ (x : Text × ℕ). x.1) f.params) (option_to_list f.result) old c) [
+    | inl among ↦ (let x = from_map (λ (x : Text × ℕ). x.1) f.params old among in let j = contains-get f.params x.0 x.1 in let y = zip_at (KeptParam kept) f.params g.params takes.params j.0 x.0 j.1 in
+        let z = zip_get (ParamBecomes t kept p) shape.params g.params becomes.params j.0 y.0 y.1 in
+        a_parameter z.0.0 (subst (λ (n : ℕ). Contains shape.params (z.0.0, n)) (one_old kept z.0.1 x.0.1 y.0.1 z.2.1.part y.2.1 ∙ x.2) (get-contains shape.params j.0 z.0 z.1)))
+    | inr last ↦ given f.result g.result shape.result refl takes.result becomes.result last
+  ]
     where
       given : (a b d : Option ℕ) → shape.result ≡ d → KeptIfGiven kept a b → BecomesIfGiven t kept p d b → Contains (option_to_list a) old → IsPartOfFunction shape old
       given None b d e x y there = none-in old there
       given (Some k) None d e x y there = absurd x
       given (Some k) (Some m) None e x y there = absurd y
       given (Some k) (Some m) (Some l) e x y there = a_result (e ∙ ap Some (one_old kept l k m y.part x ∙ one-contained k old there))
-
-      by : Contains (map (λ (x : Text × ℕ). x.1) f.params) old ⊎ Contains (option_to_list f.result) old → IsPartOfFunction shape old
-      by (inl among) =
-          let x = from_map (λ (x : Text × ℕ). x.1) f.params old among in
-          let j = contains-get f.params x.0 x.1 in
-          let y = zip_at (KeptParam kept) f.params g.params takes.params j.0 x.0 j.1 in
-          let z = zip_get (ParamBecomes t kept p) shape.params g.params becomes.params j.0 y.0 y.1 in
-          let same : z.0.1 ≡ old = one_old kept z.0.1 x.0.1 y.0.1 z.2.1.part y.2.1 ∙ x.2 in
-          a_parameter z.0.0 (subst (λ (n : ℕ). Contains shape.params (z.0.0, n)) same (get-contains shape.params j.0 z.0 z.1))
-      by (inr last) = given f.result g.result shape.result refl takes.result becomes.result last
 
 abbrev planned_item : PlannedKey × PlannedItem → PlannedItem
 planned_item e = e.1
@@ -234,19 +220,14 @@ first_whole q (r ∷ seen) s c place whole = by (r.place == q) refl r.whole refl
     past e (zero, low, same) =
         let own : (s.place == q) ≡ true = ap (λ k. k == q) place ∙ same-number q in
         let passes : (s.place == q && s.whole) ≡ true = λ i. own i && whole i in
-        let first : (r.place == q && r.whole) ≡ (s.place == q && s.whole) = ap (λ (x : NumberedSight). x.place == q && x.whole) same in
-        let wrong : false ≡ true = sym e ∙ (first ∙ passes) in
+        let wrong : false ≡ true = sym e ∙ (ap (λ (x : NumberedSight). x.place == q && x.whole) same ∙ passes) in
         absurd cc
     past e (suc i, low, same) = (i, omega (arith, low), same)
 
     by : (a : Bool) → (r.place == q) ≡ a → (b : Bool) → r.whole ≡ b → Contains (r ∷ seen) s → (Contains seen s → IsFirstWhole q seen) → IsFirstWhole q (r ∷ seen)
-    by true e true f c later = record {
-      sight = r;
-      among = get-contains (r ∷ seen) 0 r refl;
-      place = eqb-true r.place q e;
-      whole = f;
-      functions = (λ i. cond (e i && f i) r.view.functions (functions_seen q seen));
-    }
+    by true e true f c later =
+        let here : (r.place == q && r.whole) ≡ true = λ i. e i && f i in
+        record { sight = r; among = get-contains (r ∷ seen) 0 r refl; place = eqb-true r.place q e; whole = f; functions = ap (λ b. cond b r.view.functions (functions_seen q seen)) here }
     by true e false f c later = let none : (r.place == q && r.whole) ≡ false = λ i. e i && f i in further none (later (past none c))
     by false e b f c later = let none : (r.place == q && r.whole) ≡ false = ap (λ a. a && r.whole) e in further none (later (past none c))
 
@@ -255,11 +236,8 @@ module _ (t : Tables) (h : Homes) (known : ℕ → Fact) (n : ℕ) (ms : List Me
   abbrev kept : List ℕ
   kept = planned.kept
 
-  abbrev numbered : List NumberedMember
-  numbered = numbered_members ms
-
   abbrev views : List NumberedSight
-  views = views_of_members numbered
+  views = views_of_members (numbered_members ms)
 
   abbrev Kept : ℕ → Type 0
   Kept old = IsPartOfKept t h kept p b old
@@ -268,8 +246,7 @@ module _ (t : Tables) (h : Homes) (known : ℕ → Fact) (n : ℕ) (ms : List Me
 
   module _ (old : ℕ) where
     of_planned : (find : Text → Option TypeId) (m : ℕ) (i : PlannedInterface) (g : Text × NumberedFunction) → interface_in p m ≡ Some i → (e : Text × PlannedFunction) → Contains i.functions e
-        → IsPlannedFunction t kept find g e
-        → Contains (function_parts t g.1.signature) old → Kept old
+        → IsPlannedFunction t kept find g e → Contains (function_parts t g.1.signature) old → Kept old
     of_planned find m i g there e c is part =
         let among = contains-map (λ (x : Text × PlannedFunction). x.1) i.functions e c in
         let f = all_at (IsReadFunction t kept p b (as_interface m)) (functions_of i) (read.of_interfaces m i there) e.1 among in
@@ -278,25 +255,17 @@ module _ (t : Tables) (h : Homes) (known : ℕ → Fact) (n : ℕ) (ms : List Me
 
     by_view : (s : NumberedSight) → Contains views s → s.whole ≡ true → (f : Text × NumberedFunction) → Contains s.view.functions f → Contains (function_parts t f.1.signature) old → Kept old
     by_view s c whole f there part =
-        let from = flat_cases (λ (m : NumberedMember). views_of_part m.part) numbered s c in
-        let met = view_met ms from.0 from.1 s from.2 in
-        let number = number_given (places_in ms) s.place met in
+        let from = flat_cases (λ (m : NumberedMember). views_of_part m.part) (numbered_members ms) s c in
+        let number = number_given (places_in ms) s.place (view_met ms from.0 from.1 s from.2) in
         let m = number.0 in
         let at = number_there (places_in ms) s.place m number.1 in
         let i = interface_there t h ms members given.input n p planned m s.place at in
         let first = first_there t h ms members given.input n p planned m s.place at in
-        with_view m i.0 i.1 first.0 (i.2 first.0 first.1)
-      where
-        with_function : (m : ℕ) (i : PlannedInterface) → interface_in p m ≡ Some i → (find : Text → Option TypeId) → AllZip (IsPlannedFunction t kept find) (functions_seen s.place views) i.functions
-            → IsFirstWhole s.place views → Kept old
-        with_function m i at find zip first =
-            let g = alike.functions s first.sight c first.among (sym first.place) whole first.whole f there in
-            let among : Contains (functions_seen s.place views) g.0 = subst (λ fs. Contains fs g.0) (sym first.functions) g.1 in
-            let e = partner (IsPlannedFunction t kept find) (functions_seen s.place views) i.functions zip g.0 among in
-            of_planned find m i g.0 at e.0 e.1 e.2 (subst (λ k. Contains (function_parts t k) old) (sym g.2) part)
-
-        with_view : (m : ℕ) (i : PlannedInterface) → interface_in p m ≡ Some i → (r : NumberedSight) → PlansInterface t kept n (home_at h s.place) r.view (functions_seen s.place views) i → Kept old
-        with_view m i at r is = with_function m i at is.find is.functions (first_whole s.place views s c refl whole)
+        let is = i.2 first.0 first.1 in
+        let r = first_whole s.place views s c refl whole in
+        let g = alike.functions s r.sight c r.among (sym r.place) whole r.whole f there in
+        let e = partner (IsPlannedFunction t kept is.find) (functions_seen s.place views) i.0.functions is.functions g.0 (subst (λ fs. Contains fs g.0) (sym r.functions) g.1) in
+        of_planned is.find m i.0 g.0 i.1 e.0 e.1 e.2 (subst (λ k. Contains (function_parts t k) old) (sym g.2) part)
 
     -- ---- functions of worlds
 
@@ -320,8 +289,7 @@ module _ (t : Tables) (h : Homes) (known : ℕ → Fact) (n : ℕ) (ms : List Me
         of_item j x at find e there (a_type d q l other entry is_part) = let wrong : shown.Function k ≡ shown.Declares d q = sym shows ∙ other in absurd cc
         of_item j x at find e there (a_function a other key f) =
             let g = f.function in
-            let among : Contains (world_functions x) g = contains-filter_map item_function (items_of x) e.1 g there
-            (subst (λ i. Contains (option_to_list (item_function i)) g) (sym f.is) (contains-one g)) in
+            let among = contains-filter_map item_function (items_of x) e.1 g there (subst (λ i. Contains (option_to_list (item_function i)) g) (sym f.is) (contains-one g)) in
             let r = all_at (IsReadFunction t kept p b (as_world j)) (world_functions x) (read.of_worlds j x at) g among in
             of_world j x r.shape r.external_id g at among r.kept_function.becomes
             (same_part t kept p (function_at t a) r.shape r.external_id g f.planned.parts r.kept_function.becomes old
@@ -353,14 +321,10 @@ module _ (t : Tables) where
       (seen.0, sight_there t (numbered_members ms) seen.0 seen.1 (path.0, ap (path_at t) seen.2 ∙ path.1), seen.2)
 
 module _ (t : Tables) (h : Homes) (known : ℕ → Fact) (n : ℕ) (ms : List Member) (members : List reads.Member) (given : IsPackageInput t h known n ms members) where
-  abbrev sights : List NumberedSight
-  sights = sights_of_members t (numbered_members ms)
-
   -- ---- members
 
   pub one_package : (m : Member) → Contains ms m → m.package_number ≡ n
-  one_package m c = sym (eqb-true n m.package_number (all-contained (λ (x : NumberedMember). n == x.package_) (numbered_members ms) (numbered_member m)
-      (tests_hold t h known n ms members given).0 (contains-map numbered_member ms m c)))
+  one_package m c = sym (eqb-true n _ (all-contained _ _ (numbered_member m) (tests_hold t h known n ms members given).0 (contains-map _ _ m c)))
 
   -- the package has an identity
   pub main_identity : (m : Member) → Contains ms m → (identity : PackageIdentity) × (slice_get h.packages n ≡ Some identity)
@@ -386,22 +350,17 @@ module _ (t : Tables) (h : Homes) (known : ℕ → Fact) (n : ℕ) (ms : List Me
   pub at_top : (q : ℕ) (name : Text) → Contains (places_in ms) q → HasPath t q → home_at h q ≡ Some (n, name) → IsAtTop q
   at_top q name c path home =
       let seen = sight_of_place t ms q c path in
-      let stands : stands_at_top h n (numbered_members ms) seen.0 ≡ true = all-contained (stands_at_top h n (numbered_members ms)) sights seen.0 (tests_hold t h known n ms members given).1 seen.1 in
-      let own : is_of_package h n q ≡ true = ap (λ o. option_map_or (λ (x : ℕ × Text). x.0 == n) o false) home ∙ eq-eqb n n refl in
-      let any : list_any (λ (m : NumberedMember). is_interface_of q m.part) (numbered_members ms) ≡ true =
-      ap (λ b. not b || list_any (λ (m : NumberedMember). is_interface_of q m.part) (numbered_members ms)) (sym own)
-      ∙ subst (λ (x : ℕ). (not (is_of_package h n x) || list_any (λ (m : NumberedMember). is_interface_of x m.part) (numbered_members ms)) ≡ true) seen.2 stands in
-      let found = any_get (λ (m : NumberedMember). is_interface_of q m.part) (numbered_members ms) any in
-      chosen found.0 found.1 found.2 found.3
+      let found = any_get (λ (m : NumberedMember). is_interface_of q m.part) (numbered_members ms)
+      (ap (λ b. not b || list_any (λ (m : NumberedMember). is_interface_of q m.part) (numbered_members ms))
+      (sym (ap (λ o. option_map_or (λ (x : ℕ × Text). x.0 == n) o false) home ∙ eq-eqb n n refl))
+      ∙ subst (λ (x : ℕ). (not (is_of_package h n x) || list_any (λ (m : NumberedMember). is_interface_of x m.part) (numbered_members ms)) ≡ true) seen.2
+      (all-contained (stands_at_top h n (numbered_members ms)) (sights_of_members t (numbered_members ms)) seen.0 (tests_hold t h known n ms members given).1 seen.1)) in
+      (let back = get_back numbered_member ms found.0 found.1 found.2 in
+      by back.0 (get-contains ms found.0 back.0 back.1) back.0.part refl (ap (λ (x : NumberedMember). is_interface_of q x.part) back.2 ∙ found.3))
     where
       by : (m : Member) → Contains ms m → (a : Part) → m.part ≡ a → is_interface_of q (numbered_part a) ≡ true → IsAtTop q
       by m among (parts.World w) is e = no_true e
       by m among (parts.Interface p v imports) is e = record { member = m; among = among; view = v; imports = imports; is = is ∙ ap (λ x. parts.Interface x v imports) (sym (eqb-true q p e)) }
-
-      chosen : (k : ℕ) (m : NumberedMember) → slice_get (numbered_members ms) k ≡ Some m → is_interface_of q m.part ≡ true → IsAtTop q
-      chosen k m at e =
-          let back = get_back numbered_member ms k m at in
-          by back.0 (get-contains ms k back.0 back.1) back.0.part refl (ap (λ (x : NumberedMember). is_interface_of q x.part) back.2 ∙ e)
 
   -- ---- places without a path
 
@@ -414,23 +373,19 @@ module _ (t : Tables) (h : Homes) (known : ℕ → Fact) (n : ℕ) (ms : List Me
     pub instance : Contains (map (λ (i : NumberedInstance). i.place) (numbered_scope world).instances) q
 
   pub own_instance : (q : ℕ) → Contains (places_in ms) q → path_at t q ≡ None → IsOwnInstance q
-  own_instance q c none = by (from_joined [] (flat_map (λ (x : NumberedMember). orders.places_of_part x.part) (numbered_members ms)) q c)
+  own_instance q c none = elim (from_joined [] (flat_map (λ (x : NumberedMember). orders.places_of_part x.part) (numbered_members ms)) q c) [
+    | inl no_place ↦ none-in q no_place
+    | inr among ↦ (let m = mapped_cases (λ (x : NumberedMember). orders.places_of_part x.part) numbered_member ms q among in
+        of_part m.0 m.1 m.0.part refl (part_at t ms given.input.numbers m.0 m.1) m.2)
+  ]
     where
       wrong : {A : Type 0} (p : ℕ) → p ≡ q → HasPath t p → A
       wrong p same path = let no : None ≡ Some path.0 = sym none ∙ (ap (path_at t) (sym same) ∙ path.1) in absurd cc
 
       of_part : (m : Member) → Contains ms m → (a : Part) → m.part ≡ a → IsPartIn t (numbered_part a) → Contains (orders.places_of_part (numbered_part a)) q → IsOwnInstance q
       of_part m among (parts.World w) is good there = record { member = m; among = among; world = w; is = is; instance = there }
-      of_part m among (parts.Interface p v imports) is good there = case (Contains-append_cases (map (λ (i : ℕ × NumberedView). i.0) (map numbered_import imports.now)) (p ∷ []) q there)
-        where
-          case : Contains (map (λ (i : ℕ × NumberedView). i.0) (map numbered_import imports.now)) q ⊎ Contains (p ∷ []) q → IsOwnInstance q
-          case (inl among) =
-              let from = from_map (λ (i : ℕ × NumberedView). i.0) (map numbered_import imports.now) q among in
-              wrong from.0.0 from.2 (all_at (λ (i : ℕ × NumberedView). HasPath t i.0 × IsViewIn t i.0 i.1) (map numbered_import imports.now) good.1 from.0 from.1).0
-          case (inr last) = wrong p (one-contained p q last) good.0.0
-
-      by : Contains [] q ⊎ Contains (flat_map (λ (x : NumberedMember). orders.places_of_part x.part) (numbered_members ms)) q → IsOwnInstance q
-      by (inl no_place) = none-in q no_place
-      by (inr among) =
-          let m = mapped_cases (λ (x : NumberedMember). orders.places_of_part x.part) numbered_member ms q among in
-          of_part m.0 m.1 m.0.part refl (part_at t ms given.input.numbers m.0 m.1) m.2
+      of_part m among (parts.Interface p v imports) is good there = elim (Contains-append_cases (map (λ (i : ℕ × NumberedView). i.0) (map numbered_import imports.now)) (p ∷ []) q there) [
+        | inl among ↦ (let from = from_map (λ (i : ℕ × NumberedView). i.0) (map numbered_import imports.now) q among in
+            wrong from.0.0 from.2 (all_at (λ (i : ℕ × NumberedView). HasPath t i.0 × IsViewIn t i.0 i.1) (map numbered_import imports.now) good.1 from.0 from.1).0)
+        | inr last ↦ wrong p (one-contained p q last) good.0.0
+      ]

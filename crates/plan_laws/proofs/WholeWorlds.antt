@@ -1,7 +1,6 @@
 -- The interfaces that worlds import and export, by the numbers of their places: no inline one is an item twice.
-use Rattle.plan_laws.proofs.{WorldKeys.keys_differ, WorldKeys.planned_worlds_stand, WorldKeys.world_member, WholeTypes.packages_are_ruled}
+use Rattle.plan_laws.proofs.{WorldKeys.keys_differ, WorldKeys.planned_worlds_stand, WorldKeys.world_member, WholeTypes.packages_are_ruled, Showings.all_given}
 use Rattle.plan_laws.proofs.{PlaceNumbers.one_owner, Sources.Side, Sources.side_good, Sources.side_is, Sources.IsWorldIn, Sources.world_in as world_of}
-use Rattle.plan_laws.proofs.Showings.{all_given}
 use Rattle.plan_laws.proofs.FollowedItems.{items, items_at, items_behind, items_listed, items_seen, parts_back, seen_resource, types_behind}
 use Rattle.std.proofs.Common.{rules as std_rules, ◌≡◌, refl, sym, ap, subst, ◌∙◌, ℕ, ◌+◌, ◌<◌, inl, inr, arith, Bool, true, false, not, ◌&&◌, List, [], ◌++◌, length, map, option_to_list, Option, Some, None, slice_get, ◌||◌, ◌==◌, cond, ◌∷◌, filter, filter_map}
 use Rattle.std.proofs.{Math.ListN.length-map, lemmas.Option.slice_get_within, lemmas.Option.same_Some as same-some}
@@ -12,9 +11,9 @@ use Rattle.wit_model.specs.declared.model.TypeId.{TypeId}
 use Rattle.wit_model.specs.{Lookup.resource_of, Names.is_label, Text.Text, Valid.as_world, Uses.has}
 use Rattle.wit_model.proofs.Elements.{contains-filter_map}
 use Rattle.comp_meaning.specs.Rules.{distinct}
-use Rattle.plan_meaning.specs.{FollowedNumbers.IsCalledIn, FollowedNumbers.IsMetFrom, NumberedViews.PartsOf, NumberedViews.Tables, NumberedViews.function_at}
+use Rattle.plan_meaning.specs.{FollowedNumbers.IsMetFrom, NumberedViews.PartsOf, NumberedViews.Tables, NumberedViews.function_at}
 use Rattle.plan_meaning.specs.KeptFunctions.{IsKindOf, IsResource, a_constructor, a_method, a_static, an_async_method, an_async_static, of_none}
-use Rattle.plan_meaning.specs.{NumberedMembers.Homes, NumberedMembers.NumberedMember, NumberedMembers.home_at, NumberedRules.Fact, NumberedRules.is_function}
+use Rattle.plan_meaning.specs.{NumberedMembers.Homes, NumberedMembers.NumberedMember, NumberedMembers.home_at, NumberedRules.Fact}
 use Rattle.plan_meaning.specs.NumberedWorlds.{KeyStands, NumberedScope, NumberedSeen, NumberedShown, ScopeStands, are_imports, is_item, is_world, place_of_key, resources_seen, stand_earlier, are_once}
 use Rattle.plan_meaning.specs.Plan.{Plan, PlannedFunction, PlannedItem, PlannedKey, PlannedWorld, item_function, items_of, world_in, item_interface}
 use Rattle.plan_meaning.specs.PlanRules.{world_functions, has_name}
@@ -29,8 +28,8 @@ use Rattle.read_rules.specs.{Scopes.numbered_key, Scopes.numbered_scope, Scopes.
 use Rattle.read_rules.specs.declared.{scopes.InstanceKey.InstanceKey, scopes.Scope.Scope, scopes.Seen.Seen, views.View.View, scopes.Shown.Shown}
 use Rattle.plan_package.specs.PlanWhole.{PlansWhole, places_in}
 use Rattle.plan_package.specs.WholeWorlds.{PlansFunction, PlansInstance, PlansItem, PlansWorld, a_function, a_type, an_instance, worlds_in, world_in_part}
-use Rattle.plan_laws.specs.{FirstViews.ViewsAreOrdered, Owners.owners_of, ViewedInterfaces.views_read, WholeTypes.IsRuledInput}
-use Rattle.plan_laws.specs.{Whole.IsPackageInput, Whole.PartIsKnown, WorldItems.KeysAreApart, WorldItems.WorldIsPlanned, WorldItems.WorldsAreApart}
+use Rattle.plan_laws.specs.{FirstViews.ViewsAreOrdered, Owners.owners_of, ViewedInterfaces.views_read}
+use Rattle.plan_laws.specs.{Whole.IsPackageInput, Whole.PartIsKnown, WorldItems.WorldIsPlanned, WorldItems.WorldsAreApart}
 use Rattle.plan_laws.specs.WholeWorlds.{IsCounted, IsLastType, IsReadAs, IsUnderKey, PlannedWorldsAreRead, WorldIsFollowed, WorldsAreFollowed, WorldsAreReadAs}
 use Rattle.base_lemmas.proofs.Elements.{all_at, all_by_number, contains-map, contains-one, get-contains, zip_at_right as zip_get, zip-append as zip_both}
 use Rattle.base_lemmas.proofs.Lists.{get_back as unmapped_get, mapped_get, within_there as slice_there}
@@ -56,14 +55,10 @@ first_of : (a b c d e : Bool) → (a && b && c && d && e) ≡ true → a ≡ tru
 first_of x b c d e h = search std_rules
 
 module _ (t : Tables) (h : Homes) (known : ℕ → Fact) (n : ℕ) (ms : List Member) (members : List reads.Member) (given : IsPackageInput t h known n ms members) (ordered : ViewsAreOrdered t ms)
-    (worlds_apart : WorldsAreApart ms) (followed : WorldsAreFollowed t ms)
-    (p : Plan) (planned : PlansWhole t h.packages (home_at h) n ms p) (b : Beside) (beside_known : b.known ≡ known) (beside_owners : b.owners ≡ owners_of ms)
-    (functions : FunctionsAreRead t planned.kept p b) where
+    (worlds_apart : WorldsAreApart ms) (followed : WorldsAreFollowed t ms) (p : Plan) (planned : PlansWhole t h.packages (home_at h) n ms p) (b : Beside) (beside_known : b.known ≡ known)
+    (beside_owners : b.owners ≡ owners_of ms) (functions : FunctionsAreRead t planned.kept p b) where
   abbrev kept : List ℕ
   kept = planned.kept
-
-  ruled : IsRuledInput t h ms members
-  ruled = packages_are_ruled t h known n ms members given
 
   module _ (m : ℕ) (x : PlannedWorld) (there : world_in p m ≡ Some x) (w : Text × Scope) (at : slice_get (worlds_in ms) m ≡ Some w) (made : PlansWorld t kept (places_in ms) n w x) where
     abbrev scope : NumberedScope
@@ -76,14 +71,13 @@ module _ (t : Tables) (h : Homes) (known : ℕ → Fact) (n : ℕ) (ms : List Me
     world = world_of t h ms members given.input member.0 member.1 w.1 member.2
 
     stands : WorldIsPlanned t ms kept p b m w.1
-    stands = planned_worlds_stand t h ms members given.input ruled.agree ordered worlds_apart n p planned b beside_owners m w at
+    stands = planned_worlds_stand t h ms members given.input (packages_are_ruled t h known n ms members given).agree ordered worlds_apart n p planned b beside_owners m w at
 
     was : WorldIsFollowed t scope
     was = all_at (λ (y : Text × Scope). WorldIsFollowed t (numbered_scope y.1)) (worlds_in ms) followed w (get-contains (worlds_in ms) m w at)
 
     is_known : ScopeStands t known scope
-    is_known = subst (λ a. PartIsKnown t known (numbered_part a)) member.2
-        (all_at (λ (y : NumberedMember). PartIsKnown t known y.part) (numbered_members ms) given.scopes (numbered_member member.0) (contains-map numbered_member ms member.0 member.1))
+    is_known = subst (λ a. PartIsKnown t known (numbered_part a)) member.2 (all_at _ _ given.scopes (numbered_member member.0) (contains-map _ _ _ member.1))
 
     obeys : is_world t known scope ≡ true
     obeys = sym (worlds_in_numbers t given.input.tables known scope world.scope is_known world.shows) ∙ world.stands.obeys
@@ -92,9 +86,6 @@ module _ (t : Tables) (h : Homes) (known : ℕ → Fact) (n : ℕ) (ms : List Me
     imports_stand = first_of (are_imports t known scope.home [] scope.imports) (list_all (λ (s : NumberedSeen). is_item t known scope.home [] s.key s.shown) scope.exports)
         (distinct (map (λ (s : NumberedSeen). s.key) scope.imports))
         (distinct (map (λ (s : NumberedSeen). s.key) scope.exports)) (stand_earlier t [] (scope.imports ++ scope.exports)) obeys
-
-    keys_apart : KeysAreApart w.1
-    keys_apart = keys_differ t h ms members given.input given.placed.apart w.1 world
 
     -- ---- functions
 
@@ -113,28 +104,20 @@ module _ (t : Tables) (h : Homes) (known : ℕ → Fact) (n : ℕ) (ms : List Me
     function_under key f c g among named takes parts below = record {
       read = is_read;
       named = named;
-      parts =
-          parts_back t kept p (λ k. k < 14 + c) (function_at t f) is_read.shape is_read.external_id g takes is_read.kept_function.becomes parts;
+      parts = parts_back t kept p (λ k. k < 14 + c) (function_at t f) is_read.shape is_read.external_id g takes is_read.kept_function.becomes parts;
       resource = resource;
     }
       where
         is_read : IsReadFunction t kept p b (as_world m) g
         is_read = all_at (IsReadFunction t kept p b (as_world m)) (world_functions x) (functions.of_worlds m x there) g among
 
-        home : is_read.place ≡ scope.home
-        home = one_owner ms b beside_owners is_read.place scope.home (as_world m) is_read.owned stands.owned
-
-        name : is_read.name ≡ key
-        name = sym is_read.kept_function.named ∙ named
-
         resource : (i k : ℕ) → resource_of g.kind ≡ Some i → slice_get kept i ≡ Some k → k < c
         resource i k of_kind stands_at = by is_read.kept_function.kind
           where
             found : (id : TypeId) (r : Text) → resource_of g.kind ≡ Some id.0 → IsResource t b.known kept p (as_world m) is_read.place r id.0 → IsNamedAfter is_read.name r → k < c
-            found id r is res after =
-                let one : i ≡ id.0 = same-some i id.0 (sym of_kind ∙ is) in
-                let same : k ≡ res.shape = same-some k res.shape (sym stands_at ∙ (ap (slice_get kept) one ∙ res.stands)) in
-                below r (subst (λ z. IsNamedAfter z r) name after) k (ap (slice_get t.shapes) same ∙ (res.shape_is ∙ ap (λ q. Some (named_shape q r)) home))
+            found id r is res after = below r (subst (λ z. IsNamedAfter z r) (sym is_read.kept_function.named ∙ named) after) k
+                (ap (slice_get t.shapes) (same-some k res.shape (sym stands_at ∙ (ap (slice_get kept) (same-some i id.0 (sym of_kind ∙ is)) ∙ res.stands)))
+                ∙ (res.shape_is ∙ ap (λ q. Some (named_shape q r)) (one_owner ms b beside_owners is_read.place scope.home (as_world m) is_read.owned stands.owned)))
 
             by : IsKindOf t b.known kept p (as_world m) is_read.place is_read.name is_read.shape g.kind → k < c
             by (of_none label none) = let wrong : None ≡ Some i = sym none ∙ of_kind in absurd cc
@@ -148,27 +131,23 @@ module _ (t : Tables) (h : Homes) (known : ℕ → Fact) (n : ℕ) (ms : List Me
     imported_below : (j c : ℕ) (s : NumberedSeen) (f : ℕ) → slice_get scope.imports j ≡ Some s → slice_get was.counted.counts j ≡ Some c → s.shown ≡ worlds.function f → ResourceBelow s.key c
     imported_below j c s f at_s at_c shows r after k shape =
         let behind = items_behind t known scope.home scope.imports [] scope.imports refl imports_stand j s at_s in
-        let rule : is_function t known scope.home (resources_seen behind.before) s.key (function_at t f) ≡ true =
-        subst (λ y. is_item t known scope.home (resources_seen behind.before) s.key y ≡ true) shows behind.is in
-        let res = seen_resource behind.before r (resource_among t known scope.home s.key (function_at t f) (resources_seen behind.before) rule r after) in
+        let res = seen_resource behind.before r (resource_among t known scope.home s.key (function_at t f) (resources_seen behind.before)
+        (subst (λ y. is_item t known scope.home (resources_seen behind.before) s.key y ≡ true) shows behind.is) r after) in
         let earlier = behind.there res.number res.seen res.at in
-        let low : res.number < j = (let l : res.number < 0 + j = earlier.0 in omega (arith, l)) in
-        let many : length was.counted.counts ≡ length scope.imports = was.counted.many in
-        let within = slice_get_within scope.imports res.number res.seen earlier.1 in
-        let count = slice_there was.counted.counts res.number (omega (arith, many, within)) in
-        let last : IsLastType t scope.home was.counted.counts res.number count.0 res.seen.key =
-        subst (IsCounted t scope.home was.counted.counts res.number count.0 res.seen.key) res.shown (was.counted.counted res.number count.0 res.seen earlier.1 count.1) in
-        let one : last.number ≡ k = given.input.tables.shapes.apart last.number k (named_shape scope.home r) (last.shape ∙ ap (λ z. Some (named_shape scope.home z)) res.key) shape in
-        let below = was.counted.rising res.number j count.0 c count.1 at_c low in
-        let is = last.last in
-        omega (arith, one, below, is)
+        let count = slice_there was.counted.counts res.number (omega (arith, was.counted.many, slice_get_within scope.imports res.number res.seen earlier.1)) in
+        let last = subst (IsCounted t scope.home was.counted.counts res.number count.0 res.seen.key) res.shown (was.counted.counted res.number count.0 res.seen earlier.1 count.1) in
+        omega (
+          arith,
+          (given.input.tables.shapes.apart last.number k (named_shape scope.home r) (last.shape ∙ ap (λ z. Some (named_shape scope.home z)) res.key) shape),
+          was.counted.rising res.number j count.0 c count.1 at_c (let l : res.number < 0 + j = earlier.0 in omega (arith, l)),
+          last.last,
+        )
 
     -- ---- instances
 
     instance_item : (s : Seen) → Side w.1 s → (key : InstanceKey) (v : View) → s.shown ≡ shown.Instance key v → (e : PlannedKey × PlannedItem)
         → PlansInstance (places_in ms) (numbered_key key) (given_text s.external_id) e → (c : ℕ) → Item (record { seen = numbered_seen s; entry = e; count = c })
-    instance_item s side key v shows e plans c =
-        by key shows plans (side_good w.1 t world.good s side (shown.Instance key v) shows).0
+    instance_item s side key v shows e plans c = by key shows plans (side_good w.1 t world.good s side (shown.Instance key v) shows).0
         (subst (λ y. IsUnderKey t s.key.now (numbered_shown y)) shows (side_is w.1 (λ (y : NumberedSeen). IsUnderKey t y.key y.shown) was.imports was.exports s side))
         (stands.instances s side key v shows plans.number plans.found)
       where
@@ -177,12 +156,10 @@ module _ (t : Tables) (h : Homes) (known : ℕ → Fact) (n : ℕ) (ms : List Me
             → IsInterfaceOf t kept p b (views_read ms) (as_world m) scope.home (place_of_key (numbered_key k)) (numbered_view v) made.number
             → Item (record { seen = numbered_seen s; entry = e; count = c })
         by (keys.Path q) is made path named of = by_path q made.number (numbered_view v) (given_text s.external_id) path (ap numbered_shown is) named made.is of
-        by (keys.Label l q) is made none named of =
-            by_label q made.number (numbered_view v) (given_text s.external_id) (ap numbered_shown is ∙ ap (λ z. worlds.instance (worlds.label z q) (numbered_view v)) (sym named.0))
-            (ap is_label named.0 ∙ named.1)
+        by (keys.Label l q) is made none named of = by_label q made.number (numbered_view v) (given_text s.external_id)
+            (ap numbered_shown is ∙ ap (λ z. worlds.instance (worlds.label z q) (numbered_view v)) (sym named.0)) (ap is_label named.0 ∙ named.1)
             (made.is ∙ ap (λ z. (plan.label z, plan.interface made.number (given_text s.external_id))) (sym named.0)) of
-        by (keys.Implementing l q) is made path named of =
-            implementing_path q made.number (numbered_view v) (given_text s.external_id) path
+        by (keys.Implementing l q) is made path named of = implementing_path q made.number (numbered_view v) (given_text s.external_id) path
             (ap numbered_shown is ∙ ap (λ z. worlds.instance (worlds.implementing z q) (numbered_view v)) (sym named.0)) (ap is_label named.0 ∙ named.1)
             (made.is ∙ ap (λ z. (plan.label z, plan.interface made.number (given_text s.external_id))) (sym named.0)) of
 
@@ -196,8 +173,7 @@ module _ (t : Tables) (h : Homes) (known : ℕ → Fact) (n : ℕ) (ms : List Me
         → (c : ℕ) → PartsOf (λ k. k < 14 + c) (function_at t f) → ResourceBelow s.key.now c → Item (record { seen = numbered_seen s; entry = e; count = c })
     function_item s f shows e e_in key plans c parts below =
         let g = plans.function in
-        let among : Contains (world_functions x) g = contains-filter_map item_function (items_of x) e.1 g
-        e_in (subst (λ i. Contains (option_to_list (item_function i)) g) (sym plans.is) (contains-one g)) in
+        let among = contains-filter_map item_function (items_of x) e.1 g e_in (subst (λ i. Contains (option_to_list (item_function i)) g) (sym plans.is) (contains-one g)) in
         read.a_function f g (ap numbered_shown shows) (λ i. (key i, plans.is i)) (function_under s.key.now f c g among plans.planned.named plans.planned.parts parts below)
 
     import_item : (j : ℕ) (s : Seen) → slice_get w.1.imports.now j ≡ Some s → (e : PlannedKey × PlannedItem) → Contains (items_of x) e.1 → Plans s e → (c : ℕ) → slice_get was.counted.counts j ≡ Some c
@@ -215,11 +191,10 @@ module _ (t : Tables) (h : Homes) (known : ℕ → Fact) (n : ℕ) (ms : List Me
 
         by : Plans s e → Item (record { seen = numbered_seen s; entry = e; count = c })
         by (an_instance key v shows instance_plans) = instance_item s (inl in_it) key v shows e instance_plans c
-        by (a_function f shows key function_plans) =
-            function_item s f shows e e_in key function_plans c (subst (IsCounted t scope.home was.counted.counts j c s.key.now) (ap numbered_shown shows) counted)
-            (imported_below j c (numbered_seen s) f at_scope at_c (ap numbered_shown shows))
+        by (a_function f shows key function_plans) = function_item s f shows e e_in key function_plans c
+            (subst (IsCounted t scope.home was.counted.counts j c s.key.now) (ap numbered_shown shows) counted) (imported_below j c (numbered_seen s) f at_scope at_c (ap numbered_shown shows))
         by (a_type part d i shows is part_is) =
-            let type_ = stands.types keys_apart s in_it part d shows i part_is in
+            let type_ = stands.types (keys_differ t h ms members given.input given.placed.apart w.1 world) s in_it part d shows i part_is in
             let last : IsLastType t scope.home was.counted.counts j c s.key.now = subst (IsCounted t scope.home was.counted.counts j c s.key.now) (ap numbered_shown shows) counted in
             let one : last.number ≡ type_.0 = given.input.tables.shapes.apart last.number type_.0 (named_shape scope.home s.key.now) last.shape type_.2 in
             read.a_type d i (ap numbered_shown shows) is (record { number = type_.0; stands = type_.1; shape = type_.2; becomes = type_.3; last = last.last ∙ ap (λ k. k + 1) one })
@@ -233,65 +208,48 @@ module _ (t : Tables) (h : Homes) (known : ℕ → Fact) (n : ℕ) (ms : List Me
 
         by : Plans s e → Item (record { seen = numbered_seen s; entry = e; count = length t.shapes })
         by (an_instance key v shows instance_plans) = instance_item s (inr in_it) key v shows e instance_plans (length t.shapes)
-        by (a_function f shows key function_plans) =
-            let called : IsCalledIn t scope.home f = side_good w.1 t world.good s (inr in_it) (shown.Function f) shows in
-            function_item s f shows e e_in key function_plans (length t.shapes)
-            (parts_weaker (IsMetFrom t scope.home) (λ k. k < 14 + length t.shapes) (λ k met. met.range) (function_at t f) called.parts)
+        by (a_function f shows key function_plans) = function_item s f shows e e_in key function_plans (length t.shapes)
+            (parts_weaker (IsMetFrom t scope.home) (λ k. k < 14 + length t.shapes) (λ k met. met.range) (function_at t f) (side_good w.1 t world.good s (inr in_it) (shown.Function f) shows).parts)
             (λ r after k shape. slice_get_within t.shapes k (named_shape scope.home r) shape)
-        by (a_type part d i shows is part_is) =
-            no_true (sym (all_at (λ (c : Seen). is_type_seen (numbered_shown c.shown) ≡ false) w.1.exports.now world.none s in_it) ∙ ap (λ y. is_type_seen (numbered_shown y)) shows)
+        by (a_type part d i shows is part_is) = no_true (sym (all_at _ _ world.none s in_it) ∙ ap (λ y. is_type_seen (numbered_shown y)) shows)
 
     -- ---- the world
-
-    abbrev imported : List ReadItem
-    imported = items scope.imports x.imports was.counted.counts
 
     abbrev counts : List ℕ
     counts = map (λ (s : NumberedSeen). length t.shapes) scope.exports
 
-    abbrev exported : List ReadItem
-    exported = items scope.exports x.exports counts
-
     -- each item of a list, whose items are read as they were followed
     items_read : (cs : List Seen) (es : List (PlannedKey × PlannedItem)) (counts_of : List ℕ) → AllZip Plans cs es → ((e : PlannedKey × PlannedItem) → Contains es e → Contains (items_of x) e.1)
         → ((j : ℕ) (s : Seen) → slice_get cs j ≡ Some s → (e : PlannedKey × PlannedItem) → Contains (items_of x) e.1 → Plans s e → (c : ℕ) → slice_get counts_of j ≡ Some c
-        → Item (record { seen = numbered_seen s; entry = e; count = c }))
-        → AllByRecursion Item (items (map numbered_seen cs) es counts_of)
+        → Item (record { seen = numbered_seen s; entry = e; count = c })) → AllByRecursion Item (items (map numbered_seen cs) es counts_of)
     items_read cs es counts_of zip in_world each = all_given Item (items (map numbered_seen cs) es counts_of) (λ j y e.
         let is = items_at (map numbered_seen cs) es counts_of j y e in
         let from = zip_get Plans cs es zip j y.entry is.1 in
-        let seen : numbered_seen from.0 ≡ y.seen = same-some (numbered_seen from.0) y.seen (sym (mapped_get numbered_seen cs j from.0 from.1) ∙ is.0) in
-        subst (λ (z : NumberedSeen). Item (record { seen = z; entry = y.entry; count = y.count })) seen
-        (each j from.0 from.1 y.entry (in_world y.entry (get-contains es j y.entry is.1)) from.2 y.count is.2))
+        let seen : numbered_seen from.0 ≡ y.seen = same-some _ _ (sym (mapped_get numbered_seen cs j from.0 from.1) ∙ is.0) in
+        subst (λ (z : NumberedSeen). Item (record { seen = z; entry = y.entry; count = y.count })) seen (each j from.0 from.1 y.entry (in_world y.entry (get-contains _ j _ is.1)) from.2 y.count is.2))
 
-    imports_read : AllByRecursion Item imported
-    imports_read = items_read w.1.imports.now x.imports was.counted.counts made.imports
-        (λ e c. Contains-append_left (map value x.imports) (map value x.exports) e.1 (contains-map value x.imports e c)) import_item
+    imports_read : AllByRecursion Item (items scope.imports x.imports was.counted.counts)
+    imports_read = items_read w.1.imports.now x.imports was.counted.counts made.imports (λ e c. Contains-append_left _ _ _ (contains-map _ _ e c)) import_item
 
-    exports_read : AllByRecursion Item exported
-    exports_read = items_read w.1.exports.now x.exports counts made.exports
-        (λ e c. Contains-append_right (map value x.imports) (map value x.exports) e.1 (contains-map value x.exports e c))
+    exports_read : AllByRecursion Item (items scope.exports x.exports counts)
+    exports_read = items_read w.1.exports.now x.exports counts made.exports (λ e c. Contains-append_right (map value x.imports) (map value x.exports) e.1 (contains-map value x.exports e c))
         (λ j s at e e_in plans c at_c. let count = unmapped_get (λ (s : NumberedSeen). length t.shapes) scope.exports j c at_c in
         subst (λ (k : ℕ). Item (record { seen = numbered_seen s; entry = e; count = k })) count.2 (export_item j s at e e_in plans))
 
-    follows : types_follow imported ≡ true
-    follows = types_behind imported (λ i j a y at_a at_y low typed.
-        let is_a = items_at scope.imports x.imports was.counted.counts i a at_a in
+    follows : types_follow (items scope.imports x.imports was.counted.counts) ≡ true
+    follows = types_behind (items scope.imports x.imports was.counted.counts) (λ i j a y at_a at_y low typed.
         let is_y = items_at scope.imports x.imports was.counted.counts j y at_y in
-        let shows = type_there y.seen.shown typed in
-        let last : IsLastType t scope.home was.counted.counts j y.count y.seen.key =
-        subst (IsCounted t scope.home was.counted.counts j y.count y.seen.key) shows.1 (was.counted.counted j y.count y.seen is_y.0 is_y.2) in
-        last.behind i a.count is_a.2 low)
+        (subst (IsCounted t scope.home was.counted.counts j y.count y.seen.key) (type_there y.seen.shown typed).1 (was.counted.counted j y.count y.seen is_y.0 is_y.2)).behind i a.count
+        (items_at scope.imports x.imports was.counted.counts i a at_a).2 low)
       where
         type_there : (y : NumberedShown) → is_type_seen y ≡ true → (d : Option ℕ) × (y ≡ worlds.declares d)
         type_there (worlds.declares d) e = (d, refl)
         type_there _ e = no_true e
 
     no_type : list_all (λ (s : NumberedSeen). not (is_type_seen s.shown)) scope.exports ≡ true
-    no_type = all_by_number (λ (s : NumberedSeen). not (is_type_seen s.shown)) scope.exports (λ j y e.
+    no_type = all_by_number _ _ (λ j y e.
         let c = unmapped_get numbered_seen w.1.exports.now j y e in
-        subst (λ (s : NumberedSeen). not (is_type_seen s.shown) ≡ true) c.2
-        (ap not (all_at (λ (s : Seen). is_type_seen (numbered_shown s.shown) ≡ false) w.1.exports.now world.none c.0 (get-contains w.1.exports.now j c.0 c.1))))
+        subst (λ (s : NumberedSeen). not (is_type_seen s.shown) ≡ true) c.2 (ap not (all_at _ _ world.none c.0 (get-contains _ j _ c.1))))
 
     world_read : (y : IsReadWorld t kept p b (views_read ms) m x) × IsReadAs ms m y.scope
     world_read =
@@ -301,8 +259,8 @@ module _ (t : Tables) (h : Homes) (known : ℕ → Fact) (n : ℕ) (ms : List Me
           record {
             scope = scope;
             owned = stands.owned;
-            imports = imported;
-            exports = exported;
+            imports = items scope.imports x.imports was.counted.counts;
+            exports = items scope.exports x.exports counts;
             imports_seen = items_seen scope.imports x.imports was.counted.counts imports_many was.counted.many;
             exports_seen = items_seen scope.exports x.exports counts exports_many counts_many;
             imports_listed = items_listed scope.imports x.imports was.counted.counts imports_many was.counted.many;
@@ -370,8 +328,7 @@ module _ (places : List ℕ) where
         let exports = map item_of x.exports in
         subst (AllZip IsNumbered (places_of_seen (map numbered_seen w.1.imports.now) ++ places_of_seen (map numbered_seen w.1.exports.now))) (sym (filter_map-append item_interface imports exports))
         (zip_both IsNumbered (places_of_seen (map numbered_seen w.1.imports.now)) (filter_map item_interface imports) (places_of_seen (map numbered_seen w.1.exports.now))
-        (filter_map item_interface exports)
-        (side is.find w.1.imports.now x.imports is.imports) (side is.find w.1.exports.now x.exports is.exports))
+        (filter_map item_interface exports) (side is.find w.1.imports.now x.imports is.imports) (side is.find w.1.exports.now x.exports is.exports))
 
   -- ---- numbers of some of the places
 
@@ -398,8 +355,7 @@ module _ (places : List ℕ) where
   listed_once : (qs ns : List ℕ) → AreListed qs ns → are_once qs ≡ true → are_once ns ≡ true
   listed_once qs ns none e = refl
   listed_once qs ns (left_out q a b rest) e = listed_once a b rest (second_true (not (has a q)) (are_once a) e)
-  listed_once qs ns (listed q m a b is rest) e =
-      both (not (has b m)) (are_once b) (ap not (absent (has b m) refl)) (listed_once a b rest (second_true (not (has a q)) (are_once a) e))
+  listed_once qs ns (listed q m a b is rest) e = both (not (has b m)) (are_once b) (ap not (absent (has b m) refl)) (listed_once a b rest (second_true (not (has a q)) (are_once a) e))
     where
       absent : (c : Bool) → has b m ≡ c → c ≡ false
       absent false f = refl
@@ -448,8 +404,7 @@ module _ (places : List ℕ) where
             home_too (has_no_path t w.home) w.home (own (shown ++ others)) (inline_shown p x ++ flat_map (inline_shown p) vs)
             (subst (λ qs. AreListed qs (inline_shown p x ++ flat_map (inline_shown p) vs)) (sym (filter-append (has_no_path t) shown others))
             (listed_both (own shown) (inline_shown p x) (own others) (flat_map (inline_shown p) vs)
-            (passing (has_no_path t) (λ n. not (has_name p n)) tell shown (filter_map item_interface (items_of x)) (items_numbered t kept main (m.label.now, w) x a.0))
-            (more vs a.1)))
+            (passing (has_no_path t) (λ n. not (has_name p n)) tell shown (filter_map item_interface (items_of x)) (items_numbered t kept main (m.label.now, w) x a.0)) (more vs a.1)))
 
         by : (a : Part) → AllZip (PlansWorld t kept places main) (world_in_part m.label.now a ++ worlds_in ms) ws
             → ((us : List PlannedWorld) → AllZip (PlansWorld t kept places main) (worlds_in ms) us

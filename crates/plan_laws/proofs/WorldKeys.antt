@@ -7,7 +7,7 @@ use Rattle.std.specs.{Cmp.Lexicographic.pointwise, List.Contains, List.flat_map,
 use Rattle.wit_model.specs.declared.model.TypeOwner.{TypeOwner}
 use Rattle.wit_model.specs.{Text.Text, Uses.has, Valid.as_interface, Valid.as_world}
 use Rattle.wit_model.proofs.Elements.{contains-flat, contains-get, has-contains, none-in}
-use Rattle.plan_meaning.specs.{FollowedNumbers.IsPartIn, FollowedNumbers.IsShownIn, GatheredPlan.DeclaresKind, Shapes.named_shape, ReadFunctions.Beside}
+use Rattle.plan_meaning.specs.{FollowedNumbers.IsShownIn, GatheredPlan.DeclaresKind, Shapes.named_shape, ReadFunctions.Beside}
 use Rattle.plan_meaning.specs.NumberedWorlds.{place_of_key, NumberedScope, NumberedSeen, NumberedShown, are_once, seen_of}
 use Rattle.plan_meaning.specs.{NumberedMembers.Homes, NumberedMembers.NumberedMember, NumberedMembers.home_at, NumberedMembers.sights_of_members, Plan.Plan}
 use Rattle.plan_meaning.specs.NumberedViews.{NumberedSight, Tables, agree_in_numbers, same_shown, path_at}
@@ -56,9 +56,7 @@ same_declared k l a c e = ap declared_of e
 once_front : (p : ℕ) (met ps : List ℕ) → IsOnce (met ++ p ∷ ps) → has met p ≡ false
 once_front p met ps once = false_from_ne_true (has met p) (λ e.
     let there = contains-get met p (has-contains met p e) in
-    let low = slice_get_within met there.0 p there.1 in
-    let same : there.0 ≡ length met = once there.0 (length met) p (at_front met (p ∷ ps) there.0 p there.1) (middle_get met p ps) in
-    omega (arith, low, same))
+    omega (arith, slice_get_within met there.0 p there.1, (once there.0 (length met) p (at_front met (p ∷ ps) there.0 p there.1) (middle_get met p ps))))
 
 all_new : (met ps : List ℕ) → IsOnce (met ++ ps) → joined_all met ps ≡ met ++ ps
 all_new met [] once = sym (append-nil met)
@@ -92,15 +90,6 @@ world_member ms w c =
 module _ (t : Tables) (h : Homes) (ms : List Member) (members : List reads.Member) (input : IsInput t h ms members) (agreed : agree_in_numbers (sights_of_members t (numbered_members ms)) ≡ true)
     (ordered : ViewsAreOrdered t ms) (worlds_apart : WorldsAreApart ms)
     (n : ℕ) (p : Plan) (planned : PlansWhole t h.packages (home_at h) n ms p) (b : Beside) (beside_owners : b.owners ≡ owners_of ms) where
-  abbrev views : List NumberedSight
-  views = views_of_members (numbered_members ms)
-
-  abbrev places : List ℕ
-  places = places_in ms
-
-  abbrev homes : List ℕ
-  homes = homes_in ms
-
   -- ---- owners
 
   worlds_once : IsOnce (map home_of_world (worlds_in ms))
@@ -109,58 +98,54 @@ module _ (t : Tables) (h : Homes) (ms : List Member) (members : List reads.Membe
       let v = unmapped_get home_of_world (worlds_in ms) j q at_j in
       worlds_apart i j w.0 v.0 w.1 v.1 (w.2 ∙ sym v.2)
 
-  homes_are : homes ≡ map home_of_world (worlds_in ms)
+  homes_are : homes_in ms ≡ map home_of_world (worlds_in ms)
   homes_are = ap (joined_all []) (homes_of_worlds ms) ∙ all_new [] (map home_of_world (worlds_in ms)) worlds_once
 
-  no_place : (q : ℕ) → Contains homes q → number_in places q ≡ None
-  no_place q c = by (number_in places q) refl
+  no_place : (q : ℕ) → Contains (homes_in ms) q → number_in (places_in ms) q ≡ None
+  no_place q c = by (number_in (places_in ms) q) refl
     where
-      by : (o : Option ℕ) → number_in places q ≡ o → o ≡ None
+      by : (o : Option ℕ) → number_in (places_in ms) q ≡ o → o ≡ None
       by None e = refl
       by (Some k) e =
-          let seen = place_seen ms q (get-contains places k q (number_there places q k e)) in
-          absurd (ordered.apart seen.0 seen.1 (subst (Contains homes) (sym seen.2) c))
+          let seen = place_seen ms q (get-contains (places_in ms) k q (number_there (places_in ms) q k e)) in
+          absurd (ordered.apart seen.0 seen.1 (subst (Contains (homes_in ms)) (sym seen.2) c))
 
   module _ (m : ℕ) (w : Text × Scope) (at : slice_get (worlds_in ms) m ≡ Some w) where
-    home_there : slice_get homes m ≡ Some w.1.home
+    home_there : slice_get (homes_in ms) m ≡ Some w.1.home
     home_there = ap (λ hs. slice_get hs m) homes_are ∙ mapped_get home_of_world (worlds_in ms) m w at
 
-    home_number : number_in homes w.1.home ≡ Some m
+    home_number : number_in (homes_in ms) w.1.home ≡ Some m
     home_number =
-        let given = number_given homes w.1.home (get-contains homes m w.1.home home_there) in
-        given.1 ∙ ap Some (subst IsOnce (sym homes_are) worlds_once given.0 m w.1.home (number_there homes w.1.home given.0 given.1) home_there)
+        let given = number_given (homes_in ms) w.1.home (get-contains (homes_in ms) m w.1.home home_there) in
+        given.1 ∙ ap Some (subst IsOnce (sym homes_are) worlds_once given.0 m w.1.home (number_there (homes_in ms) w.1.home given.0 given.1) home_there)
 
     owned : b.owners w.1.home ≡ as_world m
-    owned =
-        ap (λ (o : ℕ → TypeOwner). o w.1.home) beside_owners
-        ∙ (ap (λ o. option_map_or as_interface o (option_map_or as_world (number_in homes w.1.home) (as_interface (length places + w.1.home))))
-        (no_place w.1.home (get-contains homes m w.1.home home_there))
-        ∙ ap (λ o. option_map_or as_world o (as_interface (length places + w.1.home))) home_number)
+    owned = ap (λ (o : ℕ → TypeOwner). o w.1.home) beside_owners ∙ (ap (λ o. option_map_or as_interface o
+        (option_map_or as_world (number_in (homes_in ms) w.1.home) (as_interface (length (places_in ms) + w.1.home))))
+        (no_place w.1.home (get-contains (homes_in ms) m w.1.home home_there)) ∙ ap (λ o. option_map_or as_world o (as_interface (length (places_in ms) + w.1.home))) home_number)
 
     -- ---- the member
 
     member : (x : Member) × Contains ms x × (x.part ≡ parts.World w.1) × (x.label.now ≡ w.0)
     member = world_member ms w (get-contains (worlds_in ms) m w at)
 
-    good : IsPartIn t (numbered_part (parts.World w.1))
-    good = (world_in t h ms members input member.0 member.1 w.1 member.2).good
-
     -- ---- instances
 
     instances_read : InstancesAreRead t ms planned.kept p b m w.1
     instances_read s c key v e u number =
         let q = place_of_key (numbered_key key) in
-        let there = number_there places q u number in
+        let there = number_there (places_in ms) q u number in
         let found = interface_there t h ms members input n p planned u q there in
         let first = first_there t h ms members input n p planned u q there in
-        let is = first_is q views first.0 first.1 in
-        let same = views_told t h ms members input agreed ordered first.0 (sight_of key v) is.0 (seen_sight t ms member.0 member.1 w.1 member.2 good s c key v e) is.1 in
+        let is = first_is q (views_of_members (numbered_members ms)) first.0 first.1 in
         record {
-          owned = ap (λ (o : ℕ → TypeOwner). o q) beside_owners ∙ ap (λ o. option_map_or as_interface o (option_map_or as_world (number_in homes q) (as_interface (length places + q)))) number;
+          owned = ap (λ (o : ℕ → TypeOwner). o q) beside_owners ∙ ap (λ o. option_map_or as_interface o
+              (option_map_or as_world (number_in (homes_in ms) q) (as_interface (length (places_in ms) + q)))) number;
           interface = found.0;
           there = found.1;
           agrees = ap (λ o. pointwise same_shown (option_map_or (λ (x : NumberedSight). x.view.types) o []) (numbered_view v).types) first.1 ∙ told_types first.0.view.types
-              (numbered_view v).types same;
+              (numbered_view v).types (views_told t h ms members input agreed ordered first.0 (sight_of key v) is.0
+              (seen_sight t ms member.0 member.1 w.1 member.2 (world_in t h ms members input member.0 member.1 w.1 member.2).good s c key v e) is.1);
         }
 
     -- ---- types
@@ -168,16 +153,14 @@ module _ (t : Tables) (h : Homes) (ms : List Member) (members : List reads.Membe
     -- a world of this place is this one
     same_world : (x : Member) → Contains ms x → (v : Scope) → x.part ≡ parts.World v → v.home ≡ w.1.home → v ≡ w.1
     same_world x x_there v world home =
-        let here : Contains (world_in_part x.label.now x.part) (x.label.now, v) = subst (λ a. Contains (world_in_part x.label.now a) (x.label.now, v)) (sym world) (contains-one (x.label.now, v)) in
-        let there = contains-get (worlds_in ms) (x.label.now, v) (contains-flat (λ (y : Member). world_in_part y.label.now y.part) ms x (x.label.now, v) x_there here) in
-        let one : there.0 ≡ m = worlds_apart there.0 m (x.label.now, v) w there.1 at home in
-        ap (λ (y : Text × Scope). y.1) (same-some (x.label.now, v) w (sym there.1 ∙ (ap (slice_get (worlds_in ms)) one ∙ at)))
+        let there = contains-get (worlds_in ms) (x.label.now, v) (contains-flat (λ (y : Member). world_in_part y.label.now y.part) ms x (x.label.now, v) x_there
+        (subst (λ a. Contains (world_in_part x.label.now a) (x.label.now, v)) (sym world) (contains-one (x.label.now, v)))) in
+        ap (λ (y : Text × Scope). y.1) (same-some (x.label.now, v) w (sym there.1 ∙ (ap (slice_get (worlds_in ms)) (worlds_apart there.0 m (x.label.now, v) w there.1 at home) ∙ at)))
 
     module _ (keys : KeysAreApart w.1) where
       -- what is shown of the type first is this import
       import_first : (s : Seen) → Contains w.1.imports.now s → (part : ℕ) (d : Option ℕ) → s.shown ≡ shown.Declares part d → (k : ℕ) → slice_get t.shapes k ≡ Some (named_shape w.1.home s.key.now)
-          → (y : NumberedShowing) → shown_first ms k ≡ Some y
-          → (y.declared ≡ d) × (y.external_id ≡ given_text s.external_id)
+          → (y : NumberedShowing) → shown_first ms k ≡ Some y → (y.declared ≡ d) × (y.external_id ≡ given_text s.external_id)
       import_first s c part d e k shape y first =
           let found = (firsts_found (showings_of_members ms)).0 k y first in
           let from = origin t h ms members input y found.0 in
@@ -187,30 +170,28 @@ module _ (t : Tables) (h : Homes) (ms : List Member) (members : List reads.Membe
           by x x_there (origins.in_view u u_there z z_there same) number =
               let among = view_among ms x x_there u u_there in
               let is = all_at (IsShownIn t u.place) u.view.types (member_view_in t ms input.numbers u among).types z z_there in
-              let slot = slot_number t z.slot is.number is.slot in
-              let equal : is.number ≡ k = (let a = ap (λ (g : NumberedShowing). g.part) same in omega (arith, a, number, slot)) in
-              let here = name_same t.shapes u.place w.1.home z.name s.key.now is.number k is.name.named shape equal in
-              absurd (ordered.apart u among (subst (Contains homes) (sym here.0) (get-contains homes m w.1.home home_there)))
+              absurd (ordered.apart u among (subst (Contains (homes_in ms)) (sym (name_same t.shapes u.place w.1.home z.name s.key.now is.number k is.name.named shape
+              (let a = ap (λ (g : NumberedShowing). g.part) same in omega (arith, a, number, slot_number t z.slot is.number is.slot))).0) (get-contains (homes_in ms) m w.1.home home_there)))
           by x x_there (origins.of_world v world other other_there kk dd declares same) number =
               let name = import_named t input.tables h ms members input x x_there v world other other_there kk dd declares in
               let equal : name.0 ≡ k = (let a = ap (λ (g : NumberedShowing). g.part) same in let u = name.1 in omega (arith, a, number, u)) in
               let here = name_same t.shapes v.home w.1.home other.key.now s.key.now name.0 k name.2.named shape equal in
-              let one = same_world x x_there v world here.0 in
               let at_s = contains-get w.1.imports.now s c in
-              let at_other = contains-get w.1.imports.now other (subst (λ (g : Scope). Contains g.imports.now other) one other_there) in
-              let index : at_other.0 ≡ at_s.0 = keys at_other.0 at_s.0 other s at_other.1 at_s.1 here.1 in
-              let equal_seen : other ≡ s = same-some other s (sym at_other.1 ∙ (ap (slice_get w.1.imports.now) index ∙ at_s.1)) in
-              let shown_same : shown.Declares kk dd ≡ shown.Declares part d = sym declares ∙ (ap (λ (g : Seen). g.shown) equal_seen ∙ e) in
-              let declared : dd ≡ d = same_declared kk part dd d shown_same in
-              (ap (λ (g : NumberedShowing). g.declared) (sym same) ∙ declared, ap (λ (g : NumberedShowing). g.external_id) (sym same) ∙ ap (λ (g : Seen). given_text g.external_id) equal_seen)
+              let at_other = contains-get w.1.imports.now other (subst (λ (g : Scope). Contains g.imports.now other) (same_world x x_there v world here.0) other_there) in
+              let equal_seen : other ≡ s = same-some other s (sym at_other.1 ∙ (ap (slice_get w.1.imports.now) (keys at_other.0 at_s.0 other s at_other.1 at_s.1 here.1) ∙ at_s.1)) in (
+                ap (λ (g : NumberedShowing). g.declared) (sym same) ∙ same_declared kk part dd d (sym declares ∙ (ap (λ (g : Seen). g.shown) equal_seen ∙ e)),
+                ap (λ (g : NumberedShowing). g.external_id) (sym same) ∙ ap (λ (g : Seen). given_text g.external_id) equal_seen,
+              )
 
       types_read : TypesAreRead t ms planned.kept p b w.1
       types_read s c part d e j is =
           let name = import_named t input.tables h ms members input member.0 member.1 w.1 member.2 s c part d e in
           let kept_there = kept_number planned.kept part name.0 j name.1 is in
-          let many = zip_length (PlansType t planned.kept (shown_first ms) (owners_in ms)) planned.kept p.types planned.types in
-          let low = slice_get_within planned.kept j name.0 kept_there in
-          let type_ = slice_there p.types j (omega (arith, many, low)) in
+          let type_ = slice_there p.types j (omega (
+            arith,
+            zip_length (PlansType t planned.kept (shown_first ms) (owners_in ms)) planned.kept p.types planned.types,
+            slice_get_within planned.kept j name.0 kept_there,
+          )) in
           let is_named = planned_name t h ms members input n p planned j name.0 type_.0 w.1.home s.key.now type_.1 kept_there name.2.named in
           let tells = import_first s c part d e name.0 name.2.named is_named.showing is_named.first in (
             name.0,
@@ -253,10 +234,9 @@ module _ (t : Tables) (h : Homes) (ms : List Member) (members : List reads.Membe
   pub keys_apart : (w : Scope) → IsWorldIn t h ms members input w → distinct (map (λ (s : NumberedSeen). s.key) (map numbered_seen w.imports.now)) ≡ true
   keys_apart w is =
       let scope = is.scope in
-      let tree = third_of (rules.are_imports [] scope.imports) (list_all (λ (s : follow.Seen). rules.is_item [] s.key s.shown) scope.exports)
-      (distinct (map (λ (s : follow.Seen). s.key) scope.imports)) (distinct (map (λ (s : follow.Seen). s.key) scope.exports))
-      (rules.stand_earlier [] (scope.imports ++ scope.exports)) is.stands.obeys in
-      ap distinct (sym (ap (map (λ (s : follow.Seen). s.key)) is.shows.imports ∙ map_of_map (λ (s : follow.Seen). s.key) (seen_of t) (map numbered_seen w.imports.now))) ∙ tree
+      ap distinct (sym (ap (map (λ (s : follow.Seen). s.key)) is.shows.imports ∙ map_of_map (λ (s : follow.Seen). s.key) (seen_of t) (map numbered_seen w.imports.now)))
+      ∙ (third_of (rules.are_imports [] scope.imports) (list_all (λ (s : follow.Seen). rules.is_item [] s.key s.shown) scope.exports) (distinct (map (λ (s : follow.Seen). s.key) scope.imports))
+      (distinct (map (λ (s : follow.Seen). s.key) scope.exports)) (rules.stand_earlier [] (scope.imports ++ scope.exports)) is.stands.obeys)
 
   -- the keys of its imports differ
   pub keys_differ : (w : Scope) → IsWorldIn t h ms members input w → KeysAreApart w
@@ -270,11 +250,9 @@ module _ (t : Tables) (h : Homes) (ms : List Member) (members : List reads.Membe
   pub one_world : (m n : Member) → Contains ms m → Contains ms n → (w v : Scope) → m.part ≡ parts.World w → n.part ≡ parts.World v → w.home ≡ v.home → numbered_scope w ≡ numbered_scope v
   one_world m n c d w v is_w is_v same =
       let scope = numbered_scope v in
-      let owned : a_world (numbered_scope w) ≡ a_world scope =
-      one_owned t (numbered_members ms) apart v.home (world_in t h ms members input n d v is_v).good.home (a_world (numbered_scope w)) (a_world scope)
+      ap (world_owned scope) (one_owned t (numbered_members ms) apart v.home (world_in t h ms members input n d v is_v).good.home (a_world (numbered_scope w)) (a_world scope)
       (subst (λ q. Contains {X = ℕ × Owned} (frames (numbered_members ms)) (q, a_world (numbered_scope w))) same (home_frame t h ms members input apart m c w is_w))
-      (home_frame t h ms members input apart n d v is_v) in
-      ap (world_owned scope) owned
+      (home_frame t h ms members input apart n d v is_v))
 
   -- no view is of the place of a world
   pub view_apart : (s : NumberedSight) → Contains (views_of_members (numbered_members ms)) s → (m : Member) → Contains ms m → (w : Scope) → m.part ≡ parts.World w → s.place ≡ w.home → ⊥
@@ -293,11 +271,7 @@ module _ (t : Tables) (h : Homes) (ms : List Member) (members : List reads.Membe
       let b_name = import_named t input.tables h ms members input k g v is_v b b_in other e b_shows in
       let one : a_name.0 ≡ b_name.0 = (let p = a_name.1 in let q = b_name.1 in omega (arith, p, q, same)) in
       let name = name_same t.shapes w.home v.home a.key.now b.key.now a_name.0 b_name.0 a_name.2.named b_name.2.named one in
-      let scope = one_world m k c g w v is_w is_v name.0 in
-      let here : Contains (map numbered_seen v.imports.now) (numbered_seen a) =
-      subst (λ (x : NumberedScope). Contains x.imports (numbered_seen a)) scope (contains-map numbered_seen w.imports.now a a_in) in
-      let second = world_in t h ms members input k g v is_v in
-      let seen = one_key (map numbered_seen v.imports.now) (keys_apart v second) (numbered_seen a) (numbered_seen b) here
-      (contains-map numbered_seen v.imports.now b b_in) name.1 in
-      let shown_same : worlds.declares d ≡ worlds.declares e = sym (ap numbered_shown a_shows) ∙ (ap (λ (x : NumberedSeen). x.shown) seen ∙ ap numbered_shown b_shows) in
-      ap (declared_in e) shown_same
+      ap (declared_in e) (sym (ap numbered_shown a_shows) ∙ (ap (λ (x : NumberedSeen). x.shown)
+      (one_key (map numbered_seen v.imports.now) (keys_apart v (world_in t h ms members input k g v is_v)) (numbered_seen a) (numbered_seen b)
+      (subst (λ (x : NumberedScope). Contains x.imports (numbered_seen a)) (one_world m k c g w v is_w is_v name.0) (contains-map numbered_seen w.imports.now a a_in))
+      (contains-map numbered_seen v.imports.now b b_in) name.1) ∙ ap numbered_shown b_shows))

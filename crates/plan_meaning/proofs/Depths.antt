@@ -27,9 +27,7 @@ module _ (r : Resolve) (m : ℕ) (is : IsPlan (plan_of r m)) where
 
   pub depths_kept : Keeps depths r
   unfolding depths
-  depths_kept = keeps_three depths r refl
-      (interfaces_pass r m (λ o f. planned.function_is_shallow (plan_of r m) f) function_shallow function_passes is.functions_shallow)
+  depths_kept = keeps_three depths r refl (interfaces_pass r m (λ o f. planned.function_is_shallow (plan_of r m) f) function_shallow function_passes is.functions_shallow)
       (worlds_pass r m (λ o f. planned.function_is_shallow (plan_of r m) f) function_shallow function_passes is.functions_shallow)
       (each_from_built planned_type (λ t. planned.parts_are_shallow (plan_of r m) t.kind) (λ def. list_all (rules.is_shallow r) (member_types def.kind))
-      (λ def h. (members_pass (planned.is_shallow (plan_of r m)) (rules.is_shallow r) shallow def.kind (sym (as_formed (planned_kind def.kind)) ∙ h)))
-      r.types.items is.depths)
+      (λ def h. (members_pass (planned.is_shallow (plan_of r m)) (rules.is_shallow r) shallow def.kind (sym (as_formed (planned_kind def.kind)) ∙ h))) r.types.items is.depths)

@@ -3,8 +3,8 @@ use Rattle.std.proofs.Common.{rules as std_rules, ◌≡◌, sym, ◌∙◌, ℕ
 use Rattle.std.specs.{Prelude.string_eq, List.list_any, List.IsDistinct, List.AllByRecursion, Map.keys_of}
 use Rattle.std.specs.declared.alloc.Global.{Global}
 use Rattle.indexmap.specs.IndexMap.{IsUnique}
-use Rattle.wit_model.specs.declared.model.{Resolve.Resolve, Package.Package, Interface.Interface, World.World, WorldKey.WorldKey, WorldItem.WorldItem}
-use Rattle.wit_model.specs.{Text.Text, Text.text_of, Text.text_eq, Text.optional_text, Names.is_label, Lookup.package_at, Lookup.interface_at, Lookup.world_at}
+use Rattle.wit_model.specs.declared.model.{Resolve.Resolve, Package.Package, Interface.Interface, WorldKey.WorldKey, WorldItem.WorldItem}
+use Rattle.wit_model.specs.{Text.Text, Text.text_of, Text.text_eq, Text.optional_text, Names.is_label, Lookup.package_at, Lookup.interface_at}
 use Rattle.wit_model.specs.{Rules.passes, Rules.are_distinct, Valid.HasDistinctKeys, Valid.key_eq}
 use Rattle.plan_meaning.specs.PlanRules.{IsPlan, names_of, members_differ, same_key, keys_differ}
 use Rattle.plan_meaning.specs.Built.{planned_function, planned_package, planned_interface, planned_key, planned_entries}
@@ -36,15 +36,12 @@ both_distinct f g es fs h = search (std_rules, strings_distinct, names_are, fron
 
 -- ---- keys of worlds
 
-same_key_is : (a b : WorldKey) → same_key (planned_key a) (planned_key b) ≡ key_eq a b
-same_key_is x y = search std_rules
-
 other_keys : (k : WorldKey) (es : List (WorldKey × WorldItem)) → not (list_any (λ other. same_key (planned_key k) other.0) (planned_entries es)) ≡ true
     → AllByRecursion (λ y. key_eq k y ≡ false) (keys_of es)
 other_keys k [] h = tt
 other_keys k (e ∷ es) h =
     let split = none_same (same_key (planned_key k) (planned_key e.0)) (list_any (λ other. same_key (planned_key k) other.0) (planned_entries es)) h in
-    (sym (same_key_is k e.0) ∙ split.0, other_keys k es split.1)
+    (sym (search std_rules) ∙ split.0, other_keys k es split.1)
 
 keys_distinct : (es : List (WorldKey × WorldItem)) → keys_differ (planned_entries es) ≡ true → IsDistinct key_eq (keys_of es)
 unfolding IsDistinct
@@ -53,17 +50,11 @@ keys_distinct (e ∷ es) h = (other_keys e.0 es (first_true _ _ h), keys_distinc
 
 module _ (r : Resolve) (m : ℕ) (is : IsPlan (plan_of r m)) where
   package_keys : (n : ℕ) (p : Package) → package_at r n ≡ Some p → IsUnique string_eq p.interfaces × IsUnique string_eq p.worlds
-  package_keys n p e =
-      both_distinct (λ id. id.0) (λ id. id.0) p.interfaces.entries p.worlds.entries
-      (all_there planned_package members_differ r.packages.items is.members_differ n p e)
+  package_keys n p e = both_distinct (λ id. id.0) (λ id. id.0) p.interfaces.entries p.worlds.entries (all_there planned_package members_differ r.packages.items is.members_differ n p e)
 
   interface_keys : (n : ℕ) (i : Interface) → interface_at r n ≡ Some i → IsUnique string_eq i.types × IsUnique string_eq i.functions
-  interface_keys n i e =
-      both_distinct (λ id. id.0) planned_function i.types.entries i.functions.entries
+  interface_keys n i e = both_distinct (λ id. id.0) planned_function i.types.entries i.functions.entries
       (second_true (passes is_label (optional_text i.name)) _ (all_there planned_interface planned.interface_labels r.interfaces.items is.interface_labels n i e))
 
-  world_keys : (n : ℕ) (w : World) → world_at r n ≡ Some w → IsUnique key_eq w.imports × IsUnique key_eq w.exports
-  world_keys n w e = search (std_rules, all_there, keys_distinct, first_true, second_true)
-
   pub keys_are_distinct : HasDistinctKeys r
-  keys_are_distinct = record { packages = package_keys; interfaces = interface_keys; worlds = world_keys }
+  keys_are_distinct = record { packages = package_keys; interfaces = interface_keys; worlds = λ n w e. search (std_rules, all_there, keys_distinct, first_true, second_true) }

@@ -1,10 +1,10 @@
 -- Functions stand under their names, and those of a resource are named and shaped after it.
-use Rattle.std.proofs.Common.{rules as std_rules, ◌≡◌, refl, sym, ap, ◌∙◌, ℕ, Bool, true, false, ◌&&◌, ◌||◌, [], ◌∷◌, ◌++◌, Option, Some, None, is_none, is_some, String, codes}
+use Rattle.std.proofs.Common.{rules as std_rules, ◌≡◌, refl, sym, ap, ◌∙◌, ℕ, Bool, true, false, ◌&&◌, [], ◌∷◌, ◌++◌, Option, Some, None, is_none, is_some, String, codes}
 use Rattle.std.proofs.lemmas.{List.Folds.list_all-append, List.Folds.list_all-map, Bool.and_from as both}
 use Rattle.std.specs.{List.list_all, Option.option_map_or}
 use Rattle.std.specs.declared.alloc.Global.{Global}
 use Rattle.wit_model.specs.declared.model.{Resolve.Resolve, WorldItem.WorldItem, TypeDefKind.TypeDefKind, «Type».«Type» as ValueType, FunctionKind.FunctionKind}
-use Rattle.wit_model.specs.declared.model.{World.World, WorldKey.WorldKey, TypeDef.TypeDef, TypeOwner.TypeOwner, Param.Param, Function.Function}
+use Rattle.wit_model.specs.declared.model.{World.World, WorldKey.WorldKey, TypeDef.TypeDef, TypeOwner.TypeOwner, Function.Function}
 use Rattle.wit_model.specs.{Text.Text, Text.text_of, Text.text_eq, Text.optional_text, Tree.Form, Lookup.type_at, Lookup.world_at}
 use Rattle.wit_model.specs.{Rules.passes, Rules.is_name_key}
 use Rattle.wit_model.specs.{Types.number_of, Valid.Keeps, Valid.function_names, Valid.as_interface, Valid.as_world, Valid.item_function}
@@ -41,8 +41,7 @@ module _ (r : Resolve) (m : ℕ) where
   -- a test of the type that a part is
   module _ (test : PlannedType → Bool) (rule : TypeDef → Bool) (same : (def : TypeDef) → test (planned_type def) ≡ rule def) where
     part_is : (t : ValueType) → planned.part_is (plan_of r m) test (part_of t) ≡ rules.type_is r rule t
-    part_is t =
-        ap (λ o. option_map_or (λ n. option_map_or test (type_in (plan_of r m) n) false) o false) (number_part t)
+    part_is t = ap (λ o. option_map_or (λ n. option_map_or test (type_in (plan_of r m) n) false) o false) (number_part t)
         ∙ same_or (λ n. option_map_or test (type_in (plan_of r m) n) false) (λ n. option_map_or rule (type_at r n) false) false (or_there test planned_type rule false same r.types.items) (number_of t)
 
   own_ok : (n : ℕ) (ok err : Option ValueType)
@@ -57,17 +56,10 @@ module _ (r : Resolve) (m : ℕ) where
   result_of_own_is n def = λ i. unnamed def.name i && has_own_ok_is n def.kind i
 
   constructs_is : (n : ℕ) (f : Function) → planned.constructs (plan_of r m) n (planned_function f) ≡ rules.constructs r n f
-  constructs_is n f =
-      or_of_map (λ k. planned.part_is (plan_of r m) (planned.is_own_of n) k || planned.part_is (plan_of r m) (planned.is_result_of_own (plan_of r m) n) k) part_of false f.result
-      ∙ same_or (λ t. planned.part_is (plan_of r m) (planned.is_own_of n) (part_of t) || planned.part_is (plan_of r m) (planned.is_result_of_own (plan_of r m) n) (part_of t))
-      (λ t. rules.type_is r (rules.is_own_of n) t || rules.type_is r (rules.is_result_of_own r n) t) false
-      (λ t i. part_is (planned.is_own_of n) (rules.is_own_of n) (own_of_is n) t i || part_is (planned.is_result_of_own (plan_of r m) n) (rules.is_result_of_own r n) (result_of_own_is n) t i) f.result
+  constructs_is n f = search (std_rules, or_of_map, plan_of, same_or, part_is, own_of_is, result_of_own_is)
 
   takes_self_is : (n : ℕ) (f : Function) → planned.takes_self (plan_of r m) n (planned_function f) ≡ rules.takes_self r n f
-  takes_self_is n f =
-      or_there (λ (x : Text × ℕ). text_eq x.0 (codes "self") && planned.part_is (plan_of r m) (planned.is_borrow_of n) x.1) (λ (x : Param). (text_of x.name, part_of x.ty))
-      (λ p. text_eq (text_of p.name) (codes "self") && rules.type_is r (rules.is_borrow_of n) p.ty) false
-      (λ x. ap (λ b. text_eq (text_of x.name) (codes "self") && b) (part_is (planned.is_borrow_of n) (rules.is_borrow_of n) (borrow_of_is n) x.ty)) f.params.items 0
+  takes_self_is n f = search (std_rules, or_there, codes, plan_of, part_is, borrow_of_is)
 
   member_of_is : (n : ℕ) (name : Text) (f : Function) (k : FunctionKind) → planned.is_member_of (plan_of r m) n name (planned_function f) k ≡ rules.is_member_of r n name f k
   member_of_is n name f x = search (std_rules, constructs_is, takes_self_is)
@@ -75,20 +67,10 @@ module _ (r : Resolve) (m : ℕ) where
   resource_name_is : (o : TypeOwner) (n : ℕ) → planned.resource_name (plan_of r m) o n ≡ rules.resource_name r o n
   resource_name_is o = search (std_rules, then_there, resource_itself)
 
-  pub member_is : (o : TypeOwner) (f : Function) → planned.is_member (plan_of r m) o (planned_function f) ≡ rules.is_member r o f
-  member_is o f = search (std_rules, plan_of, resource_name_is, same_or, member_of_is)
-
   pub belongs : (o : TypeOwner) (f : Function) → planned.is_member (plan_of r m) o (planned_function f) ≡ true → rules.is_member r o f ≡ true
-  belongs o f h = sym (member_is o f) ∙ h
+  belongs o f h = sym (search (std_rules, plan_of, resource_name_is, same_or, member_of_is)) ∙ h
 
   -- ---- keys
-
-  import_key : (n : ℕ) (k : WorldKey) (x : WorldItem) → planned.import_stands (plan_of r m) n (planned_key k, planned_item x) ≡ true
-      → passes (λ f. is_name_key (text_of f.name) k) (item_function x) ≡ true
-  import_key n x y h = search std_rules
-
-  export_key : (k : WorldKey) (x : WorldItem) → planned.export_stands (plan_of r m) (planned_key k, planned_item x) ≡ true → passes (λ f. is_name_key (text_of f.name) k) (item_function x) ≡ true
-  export_key x y h = search std_rules
 
   module _ (is : IsPlan (plan_of r m)) where
     abbrev is_right : ℕ → WorldKey × WorldItem → Bool
@@ -97,13 +79,12 @@ module _ (r : Resolve) (m : ℕ) where
     world_right : (n : ℕ) (w : World) → world_at r n ≡ Some w → list_all (is_right n) (w.imports.entries ++ w.exports.entries) ≡ true
     world_right n w at =
         let members = entries_pass (rules.is_member r (as_world n)) w (world_holds r m (planned.is_member (plan_of r m)) (rules.is_member r) belongs is.functions_belong n w at) in
-        list_all-append (is_right n) w.imports.entries w.exports.entries
-        ∙ both _ _
+        list_all-append (is_right n) w.imports.entries w.exports.entries ∙ both _ _
         (all_two (λ e. planned.import_stands (plan_of r m) n (planned_key e.0, planned_item e.1)) (λ e. passes (rules.is_member r (as_world n)) (item_function e.1)) (is_right n)
-        (λ e a b. passes_both (λ f. is_name_key (text_of f.name) e.0) (rules.is_member r (as_world n)) _ (λ f x y. both _ _ x y) (item_function e.1) (import_key n e.0 e.1 a) b) w.imports.entries
-        (imports_there r m is n w at) members.0)
-        (all_two (λ e. planned.export_stands (plan_of r m) (planned_key e.0, planned_item e.1)) (λ e. passes (rules.is_member r (as_world n)) (item_function e.1)) (is_right n)
-        (λ e a b. passes_both (λ f. is_name_key (text_of f.name) e.0) (rules.is_member r (as_world n)) _ (λ f x y. both _ _ x y) (item_function e.1) (export_key e.0 e.1 a) b) w.exports.entries
+        (λ e a b. passes_both (λ f. is_name_key (text_of f.name) e.0) (rules.is_member r (as_world n)) _ (λ f x y. both _ _ x y) (item_function e.1) (search std_rules) b) w.imports.entries
+        (imports_there r m is n w at) members.0) (all_two (λ e. planned.export_stands (plan_of r m) (planned_key e.0, planned_item e.1))
+        (λ e. passes (rules.is_member r (as_world n)) (item_function e.1)) (is_right n)
+        (λ e a b. passes_both (λ f. is_name_key (text_of f.name) e.0) (rules.is_member r (as_world n)) _ (λ f x y. both _ _ x y) (item_function e.1) (search std_rules) b) w.exports.entries
         (exports_there r m is n w at) members.1)
 
     pub function_names_kept : Keeps function_names r

@@ -27,12 +27,9 @@ values_are (e ∷ es) = ap (λ xs. planned_item e.1 ∷ xs) (values_are es)
 pub items_are : (w : World) → plan.items_of (planned_world w) ≡ map planned_item (items_of w)
 items_are w = (λ i. values_are w.imports.entries i ++ values_are w.exports.entries i) ∙ sym (append_of_map planned_item (values w.imports) (values w.exports))
 
-picked : (x : WorldItem) (fs : List Function) → cons_option (plan.item_function (planned_item x)) (map planned_function fs) ≡ map planned_function (cons_option (item_function x) fs)
-picked x fs = search std_rules
-
 pub item_functions_are : (xs : List WorldItem) → filter_map plan.item_function (map planned_item xs) ≡ map planned_function (filter_map item_function xs)
 item_functions_are [] = refl
-item_functions_are (x ∷ xs) = ap (cons_option (plan.item_function (planned_item x))) (item_functions_are xs) ∙ picked x (filter_map item_function xs)
+item_functions_are (x ∷ xs) = ap (cons_option (plan.item_function (planned_item x))) (item_functions_are xs) ∙ (search std_rules)
 
 pub world_functions_are : (w : World) → world_functions (planned_world w) ≡ map planned_function (functions_of_world w)
 world_functions_are w = ap (filter_map plan.item_function) (items_are w) ∙ item_functions_are (items_of w)

@@ -1,21 +1,21 @@
 -- A plan that is gathered from views in numbers means what they mean.
-use Rattle.std.proofs.Common.{rules as std_rules, ◌≡◌, refl, sym, ap, subst, ◌∙◌, ℕ, ◌+◌, arith, Bool, true, false, not, ◌&&◌, ◌==◌, cond, List, [], ◌∷◌, ◌++◌, map, filter_map, Option, Some, None, option_map, unwrap_or, slice_get, rules}
+use Rattle.std.proofs.Common.{rules as std_rules, ◌≡◌, refl, sym, ap, subst, ◌∙◌, ℕ, ◌+◌, arith, Bool, true, false, not, ◌&&◌, ◌==◌, cond, List, [], ◌∷◌, ◌++◌, map, filter_map, Option, Some, None, option_map, slice_get, rules}
 use Rattle.std.proofs.lemmas.List.Elements.{Contains-append_right}
 use Rattle.std.specs.{Prelude.option_and_then, Option.option_map_or, FinMap.from_entries}
-use Rattle.std.specs.List.{AllByRecursion, AllZip, Contains, filter, flat_map, list_any}
+use Rattle.std.specs.List.{AllByRecursion, AllZip, Contains, filter, flat_map}
 use Rattle.wit_model.specs.Text.{Text, TextMap, text_eq}
 use Rattle.wit_model.specs.{Tree.Form, Tree.Tree, Tree.Declaration, Tree.children, Meant.no_type, Meant.no_interface, Meant.no_world}
-use Rattle.wit_model.specs.{Types.no_tree, Meaning.FunctionMeaning, Meaning.TypeMeaning, Meaning.InterfaceMeaning, Meaning.WorldMeaning, Meaning.Item}
+use Rattle.wit_model.specs.{Meaning.FunctionMeaning, Meaning.TypeMeaning, Meaning.InterfaceMeaning, Meaning.WorldMeaning, Meaning.Item}
 use Rattle.wit_model.proofs.Elements.{contains-flat}
 use Rattle.comp_meaning.specs.{Follow.Scope, Follow.View, Follow.provided, SameLaws.named_meaning}
 use Rattle.comp_meaning.specs.Reads.{Part, Member, Sight, seen_meaning, is_of, package_with}
-use Rattle.plan_meaning.specs.{Shapes.node_shape, Shapes.part_tree, Shapes.shape_trees, Gathering.AreEnough, NumberedRules.Fact}
+use Rattle.plan_meaning.specs.{Shapes.node_shape, Shapes.part_tree, Gathering.AreEnough, NumberedRules.Fact}
 use Rattle.plan_meaning.specs.Plan.{Plan, PlannedKind, PlannedFunction, PlannedInterface, PlannedKey, PlannedItem, PlannedWorld, declared_as, trees_in}
 use Rattle.plan_meaning.specs.PlanMeaning.{type_meaning_in, function_meaning, interface_meaning_in, world_meaning_in, foreign_entry, shown_entry, plan_meaning, plan_world_meaning}
-use Rattle.plan_meaning.specs.NumberedViews.{FunctionShape, Tables, path_text, place_at, tree_at, signature_over, function_at, AreTables, NumberedType, NumberedFunction, NumberedView, view_of, declaration_of, shown_type, shown_function, NumberedSight, sight_of, IsSight, agree_in_numbers}
+use Rattle.plan_meaning.specs.NumberedViews.{FunctionShape, Tables, path_text, place_at, tree_at, signature_over, function_at, AreTables, NumberedFunction, NumberedView, view_of, declaration_of, shown_type, shown_function, NumberedSight, sight_of, IsSight, agree_in_numbers}
 use Rattle.plan_meaning.specs.NumberedWorlds.{path, label, implementing, NumberedShown, instance, function, declares, NumberedSeen, shown_of, seen_of, NumberedScope, Shows, sights_of_scope, HasPath}
-use Rattle.plan_meaning.specs.NumberedMembers.{Homes, HomesStand, is_of_package, NumberedPart, world, interface, NumberedMember, sights_of_members, sights_of_part, ShowsPart, IsMember, are_interfaces, are_package, is_named_in, package_shown, world_shown, IsKnownSight}
-use Rattle.plan_meaning.specs.GatheredPlan.{functions_seen, interfaces_listed, worlds_listed, Becomes, BecomesIfGiven, DeclaresKind, a_resource, a_name, a_form, TypeBecomes, TypeListed, ParamBecomes, FunctionBecomes, FunctionListed, InterfaceBecomes, InterfaceAt, ItemBecomes, SeenBecomes, WorldBecomes, SightBecomes, Keeps, InterfacesListed, WorldsListed, under_path, foreign_interface, AreChosen, is_foreign, IsGathered, GatheredPackageIsMeant, GatheredWorldIsMeant}
+use Rattle.plan_meaning.specs.NumberedMembers.{Homes, HomesStand, is_of_package, NumberedPart, world, interface, NumberedMember, sights_of_members, sights_of_part, ShowsPart, IsMember, are_interfaces, are_package, package_shown, world_shown, IsKnownSight}
+use Rattle.plan_meaning.specs.GatheredPlan.{functions_seen, interfaces_listed, worlds_listed, Becomes, BecomesIfGiven, DeclaresKind, a_resource, a_name, a_form, TypeBecomes, ParamBecomes, FunctionBecomes, FunctionListed, InterfaceBecomes, InterfaceAt, ItemBecomes, SeenBecomes, WorldBecomes, SightBecomes, Keeps, InterfacesListed, WorldsListed, under_path, foreign_interface, AreChosen, is_foreign, IsGathered, GatheredPackageIsMeant, GatheredWorldIsMeant}
 use Rattle.plan_meaning.proofs.{Gathering.functions_mean_one, Gathering.one_view_is_enough, NumberedWorlds.path_number, NumberedWorlds.sights_in_numbers}
 use Rattle.plan_meaning.proofs.NumberedMembers.{only_sights, of_package, all_sights, agree_same, interfaces_same, packages_in_numbers, one_world_in_numbers}
 use Rattle.plan_meaning.proofs.{Renumbering.trees_are_kept, ShapeLaws.node_tree, ShapeLaws.part_behind, ShapeLaws.tree_at_number}
@@ -41,10 +41,7 @@ module _ (t : Tables) (tables : AreTables t) (kept : List ℕ) (p : Plan) (keeps
   parts_kept = zip_map (Becomes t kept p) (tree_at t) (part_tree (trees_in p)) part_kept
 
   pub form_tree : (old n : ℕ) (form : Form) (olds : List ℕ) → old ≡ 14 + n → slice_get t.shapes n ≡ Some (node_shape form olds) → tree_at t old ≡ Tree.node form (children (map (tree_at t) olds))
-  form_tree old n form olds is there =
-      let trees = shape_trees (place_at t) t.shapes in
-      ap (tree_at t) is ∙ (part_behind trees n ∙ (ap (λ o. unwrap_or o no_tree) (tree_at_number (place_at t) t.shapes tables.shapes n (node_shape form olds) there) ∙ node_tree (place_at t)
-      trees form olds))
+  form_tree old n form olds is there = search (std_rules, part_behind, tree_at_number (place_at t) t.shapes tables.shapes n (node_shape form olds) there, node_tree)
 
   declared_kept : (d : Option ℕ) (kind : PlannedKind) → DeclaresKind t kept p d kind → declared_as (trees_in p) kind ≡ declaration_of t d
   declared_kept d kind (a_resource e k) = ap (declared_as (trees_in p)) k ∙ sym (ap (declaration_of t) e)
@@ -53,14 +50,6 @@ module _ (t : Tables) (tables : AreTables t) (kept : List ℕ) (p : Plan) (keeps
 
   type_kept : (d : Option ℕ) (id : Option Text) (n : ℕ) → TypeBecomes t kept p d id n → type_meaning_in p n ≡ record { declaration = declaration_of t d; external_id = id }
   type_kept d id n b = ap (λ o. option_map_or (planned.type_meaning p) o no_type) b.stands ∙ λ i. record { declaration = declared_kept d b.type_.kind b.kind i; external_id = b.same_id i }
-
-  abbrev type_entry : Text × ℕ → Text × TypeMeaning
-  type_entry e = (e.0, type_meaning_in p e.1)
-
-  types_kept : (xs : List NumberedType) (es : List (Text × ℕ)) → AllZip (TypeListed t kept p) xs es → map type_entry es ≡ map named_meaning (map (shown_type t) xs)
-  types_kept xs es z =
-      zip_map (TypeListed t kept p) (λ x. named_meaning (shown_type t x)) type_entry (λ x e h i. (h.0 i, type_kept x.declared x.external_id e.1 h.1 i)) xs es z
-      ∙ sym (map_of_map named_meaning (shown_type t) xs)
 
   -- ---- functions and interfaces
 
@@ -81,15 +70,15 @@ module _ (t : Tables) (tables : AreTables t) (kept : List ℕ) (p : Plan) (keeps
       → function_meaning p g ≡ record { signature = signature_over (tree_at t) f; external_id = id }
   function_kept f id g b = λ i. record { signature = signature_kept f id g b i; external_id = b.same_id i }
 
-  abbrev function_entry : Text × PlannedFunction → Text × FunctionMeaning
-  function_entry e = (e.0, function_meaning p e.1)
-
   interface_kept : (v : NumberedView) (fs : List (Text × NumberedFunction)) (x : PlannedInterface) → InterfaceBecomes t kept p v fs x
       → planned.interface_meaning p x ≡ reads.interface_meaning (view_of t v) (map (shown_function t) fs)
   interface_kept v fs x b =
-      let functions = zip_map (FunctionListed t kept p) (shown_function t) function_entry
+      let functions = zip_map (FunctionListed t kept p) (shown_function t) (λ e. (e.0, function_meaning p e.1))
       (λ f e h i. (h.0 i, function_kept (function_at t f.1.signature) f.1.external_id e.1 h.1 i)) fs x.functions b.functions in
-      λ i. record { types = types_kept v.types x.types b.types i; functions = from_entries (functions i) }
+      λ i. record {
+        types = (zip_map _ _ _ (λ x e h i. (h.0 i, type_kept x.declared x.external_id e.1 h.1 i)) v.types x.types b.types ∙ sym (map_of_map named_meaning (shown_type t) v.types)) i;
+        functions = from_entries (functions i);
+      }
 
   interface_there : (v : NumberedView) (fs : List (Text × NumberedFunction)) (n : ℕ) → InterfaceAt t kept p v fs n
       → interface_meaning_in p n ≡ reads.interface_meaning (view_of t v) (map (shown_function t) fs)
@@ -121,9 +110,8 @@ module _ (t : Tables) (tables : AreTables t) (kept : List ℕ) (p : Plan) (keeps
   functions_alike : (q : ℕ) → HasPath t q → (seen : List NumberedSight) → AllByRecursion (IsSight t) seen
       → reads.functions_of (path_text t q) (map (sight_of t) seen) ≡ map (shown_function t) (functions_seen q seen)
   functions_alike q at [] all = refl
-  functions_alike q at (s ∷ seen) all =
-      by (text_eq (path_text t q) (path_text t s.place) && s.whole) (s.place == q && s.whole) (ap (λ b. b && s.whole) (path_number t tables q s.place at (all.0.path, all.0.home)))
-      (functions_alike q at seen all.1)
+  functions_alike q at (s ∷ seen) all = by (text_eq (path_text t q) (path_text t s.place) && s.whole) (s.place == q && s.whole)
+      (ap (λ b. b && s.whole) (path_number t tables q s.place at (all.0.path, all.0.home))) (functions_alike q at seen all.1)
     where
       by : (a b : Bool) → a ≡ b → reads.functions_of (path_text t q) (map (sight_of t) seen) ≡ map (shown_function t) (functions_seen q seen)
           → cond a (map (shown_function t) s.view.functions) (reads.functions_of (path_text t q) (map (sight_of t) seen)) ≡ map (shown_function t) (cond b s.view.functions (functions_seen q seen))
@@ -167,10 +155,11 @@ module _ (t : Tables) (tables : AreTables t) (kept : List ℕ) (p : Plan) (keeps
           by (interface q v imports) (Part.interface view views) is own [] listed more = absurd listed
           by (interface q v imports) (Part.interface view views) is own (e ∷ es) listed more =
               let s : NumberedSight = record { place = q; view = v; whole = true } in
-              let there = own s (Contains-append_right (map (λ (i : ℕ × NumberedView). record { place = i.0; view = i.1; whole = false }) imports) (s ∷ []) s (contains-one s)) in
-              let one : interface_meaning_in p e.1 ≡ reads.interface_meaning view view.functions =
-              whole_kept seen sights agrees obey s there refl e.1 listed.0.there ∙ ap (λ (y : View). reads.interface_meaning y y.functions) (sym is.shown) in
-              λ i. ((listed.0.name ∙ sym z.0.label) i, one i) ∷ more es listed.1 i
+              λ i. (
+                (listed.0.name ∙ sym z.0.label) i,
+                (whole_kept seen sights agrees obey s (own s (Contains-append_right (map (λ (i : ℕ × NumberedView). record { place = i.0; view = i.1; whole = false }) imports) (s ∷ []) s
+                    (contains-one s))) refl e.1 listed.0.there ∙ ap (λ (y : View). reads.interface_meaning y y.functions) (sym is.shown)) i,
+              ) ∷ more es listed.1 i
           by _ _ is own es listed more = absurd is
       interfaces_kept _ among _ z es listed = absurd z
 
@@ -188,9 +177,8 @@ module _ (t : Tables) (tables : AreTables t) (kept : List ℕ) (p : Plan) (keeps
         by (world w) (Part.world scope) is [] listed more = absurd listed
         by (world w) (Part.world scope) is (e ∷ es) listed more =
             let there = listed.0.there in
-            let one : world_meaning_in p e.1 ≡ reads.world_meaning scope = ap (λ o. option_map_or (planned.world_meaning p) o no_world) there.stands ∙ world_kept w there.world
-            there.becomes scope is in
-            λ i. ((listed.0.name ∙ sym z.0.label) i, one i) ∷ more es listed.1 i
+            λ i. ((listed.0.name ∙ sym z.0.label) i, (ap (λ o. option_map_or (planned.world_meaning p) o no_world) there.stands ∙ world_kept w there.world there.becomes scope is) i)
+            ∷ more es listed.1 i
         by _ _ is es listed more = absurd is
     worlds_kept _ _ z es listed = absurd z
 
@@ -204,9 +192,7 @@ module _ (t : Tables) (tables : AreTables t) (kept : List ℕ) (p : Plan) (keeps
 
     sight_kept : (s : NumberedSight) → IsSight t s → (x : Text × PlannedInterface) → SightBecomes t kept p seen s x → entry_of x ≡ seen_meaning seen_all (sight_of t s)
     sight_kept s is x b =
-        let means : planned.interface_meaning p x.1 ≡ reads.interface_meaning (view_of t s.view) (reads.functions_of (path_text t s.place) seen_all) =
-        interface_kept s.view (functions_seen s.place seen) x.1 b.1 ∙ ap (reads.interface_meaning (view_of t s.view)) (sym (functions_alike s.place (is.path, is.home) seen all)) in
-        λ i. (sym b.0 i, means i)
+        λ i. (sym b.0 i, (interface_kept s.view (functions_seen s.place seen) x.1 b.1 ∙ ap (reads.interface_meaning (view_of t s.view)) (sym (functions_alike s.place (is.path, is.home) seen all))) i)
 
     chosen_kept : (chosen : List NumberedSight) → ((s : NumberedSight) → Contains chosen s → Contains seen s) → (xs : List (Text × PlannedInterface)) → AllZip (SightBecomes t kept p seen) chosen xs
         → map entry_of xs ≡ map (seen_meaning seen_all) (map (sight_of t) chosen)
@@ -235,27 +221,13 @@ module _ (t : Tables) (tables : AreTables t) (kept : List ℕ) (p : Plan) (keeps
 
       gathered : (chosen : List NumberedSight) → AreChosen test seen chosen → (xs : List (Text × PlannedInterface)) → AllZip (SightBecomes t kept p seen) chosen xs
           → ◌≡◌ {A = TextMap InterfaceMeaning} (from_entries (map entry_of xs)) (from_entries (map (seen_meaning seen_all) shown))
-      gathered chosen are xs z =
-          ap from_entries (chosen_kept chosen (λ s c. (are.among s c).0) xs z)
-          ∙ one_view_is_enough seen_all (map (sight_of t) chosen) shown agree (λ s c. let from = into s c in subst (Contains seen_all) from.3 (contains-map (sight_of t) seen from.0 from.1))
-          (enough chosen are)
+      gathered chosen are xs z = ap from_entries (chosen_kept chosen (λ s c. (are.among s c).0) xs z)
+          ∙ one_view_is_enough seen_all (map (sight_of t) chosen) shown agree (λ s c. let from = into s c in subst (Contains seen_all) from.3 (contains-map _ _ _ from.1)) (enough chosen are)
 
 -- ---- the entries of a plan
 
 abbrev meant_entry : Plan → Text × PlannedInterface → Text × InterfaceMeaning
 meant_entry p y = (y.0, planned.interface_meaning p y.1)
-
-abbrev meant_under : Plan → PlannedInterface → Text → Text × InterfaceMeaning
-meant_under p x q = (q, planned.interface_meaning p x)
-
-abbrev planned_under : PlannedInterface → Text → Text × PlannedInterface
-planned_under x q = (q, x)
-
-shown_is : (p : Plan) (x : PlannedInterface) → shown_entry p x ≡ option_map (meant_entry p) (under_path p x)
-shown_is p x = search std_rules
-
-foreign_is : (p : Plan) (x : PlannedInterface) → foreign_entry p x ≡ option_map (meant_entry p) (foreign_interface p x)
-foreign_is p x = search std_rules
 
 -- ---- a package
 
@@ -299,11 +271,9 @@ module _ (t : Tables) (tables : AreTables t) (h : Homes) (stand : HomesStand t h
 
   foreign_means : ◌≡◌ {A = TextMap InterfaceMeaning} (from_entries (filter_map (foreign_entry p) p.interfaces))
       (from_entries (map (seen_meaning (flat_map reads.sights members)) (filter is_other (flat_map reads.sights members))))
-  foreign_means =
-      ap from_entries (filter_mapped (foreign_entry p) (foreign_interface p) (meant_entry p) (foreign_is p) p.interfaces)
-      ∙ (gathered t tables g.kept p g.keeps seen sights (is_foreign h n) (filter is_other (map (sight_of t) seen)) agree into back g.chosen g.chosen_are
-      (filter_map (foreign_interface p) p.interfaces) g.foreign
-      ∙ ap (λ ss. from_entries (map (seen_meaning ss) (filter is_other ss))) (sym (all_sights t tables h stand ms members z)))
+  foreign_means = ap from_entries (filter_mapped (foreign_entry p) (foreign_interface p) (meant_entry p) (λ x. search std_rules) p.interfaces)
+      ∙ (gathered t tables g.kept p g.keeps seen sights (is_foreign h n) (filter is_other (map (sight_of t) seen)) agree into back g.chosen g.chosen_are (filter_map (foreign_interface p) p.interfaces)
+      g.foreign ∙ ap (λ ss. from_entries (map (seen_meaning ss) (filter is_other ss))) (sym (all_sights t tables h stand ms members z)))
 
   package_means : planned.package_meaning p g.main ≡ package_shown g.main.identity members
   package_means = λ i. record {
@@ -325,28 +295,20 @@ gathered_package_is_meant t tables h stand known n ms members z all are p g = pa
 
 pub gathered_world_is_meant : GatheredWorldIsMeant
 unfolding plan_world_meaning
-gathered_world_is_meant t tables h stand known n name w scope shows all are p g reads_ =
-    ap (option_and_then (λ k. option_map (planned.world_package p k) (plan.world_in p 0))) g.stands
+gathered_world_is_meant t tables h stand known n name w scope shows all are p g reads_ = ap (option_and_then (λ k. option_map (planned.world_package p k) (plan.world_in p 0))) g.stands
     ∙ (ap (option_map (planned.world_package p g.main)) g.first
-    ∙ (ap Some means
+    ∙ (ap Some (λ i. record { identity = g.main.identity; name = g.named i; world = world_kept t tables g.kept p g.keeps w g.world g.becomes scope shows i; shown = shown_means i })
     ∙ sym (one_world_in_numbers t tables h stand known n g.main.identity g.identity name reads_ w scope shows all ∙ ap (λ b. provided b (world_shown g.main.identity name scope)) are)))
   where
     sights : AllByRecursion (IsSight t) (sights_of_scope t w)
     sights = only_sights t known (sights_of_scope t w) all
 
     agree : reads.all_agree (map (sight_of t) (sights_of_scope t w)) ≡ true
-    agree =
-        agree_same t tables h stand known (sights_of_scope t w) all
-        ∙ first_true (agree_in_numbers (sights_of_scope t w)) (are_interfaces t known (sights_of_scope t w) && not (list_any (λ s. is_named_in h n name s.place) (sights_of_scope t w))) are
+    agree = agree_same t tables h stand known (sights_of_scope t w) all ∙ first_true _ _ are
 
     shown_means : ◌≡◌ {A = TextMap InterfaceMeaning} (from_entries (filter_map (shown_entry p) p.interfaces))
         (from_entries (map (seen_meaning (flat_map reads.of_instance scope.instances)) (flat_map reads.of_instance scope.instances)))
-    shown_means =
-        ap from_entries (filter_mapped (shown_entry p) (under_path p) (meant_entry p) (shown_is p) p.interfaces)
+    shown_means = ap from_entries (filter_mapped (shown_entry p) (under_path p) (meant_entry p) (λ x. search std_rules) p.interfaces)
         ∙ (gathered t tables g.kept p g.keeps (sights_of_scope t w) sights (λ s. true) (map (sight_of t) (sights_of_scope t w)) agree
-        (λ s c. let from = map_from (sight_of t) (sights_of_scope t w) s c in (from.0, from.1, refl, from.2))
-        (λ x c passes. contains-map (sight_of t) (sights_of_scope t w) x c) g.chosen g.chosen_are (filter_map (under_path p) p.interfaces) g.shown
-        ∙ ap (λ ss. from_entries (map (seen_meaning ss) ss)) (sym (sights_in_numbers t w scope shows)))
-
-    means : planned.world_package p g.main g.world ≡ world_shown g.main.identity name scope
-    means = λ i. record { identity = g.main.identity; name = g.named i; world = world_kept t tables g.kept p g.keeps w g.world g.becomes scope shows i; shown = shown_means i }
+        (λ s c. let from = map_from (sight_of t) (sights_of_scope t w) s c in (from.0, from.1, refl, from.2)) (λ x c passes. contains-map (sight_of t) (sights_of_scope t w) x c) g.chosen g.chosen_are
+        (filter_map (under_path p) p.interfaces) g.shown ∙ ap (λ ss. from_entries (map (seen_meaning ss) ss)) (sym (sights_in_numbers t w scope shows)))

@@ -4,8 +4,7 @@ use Rattle.std.specs.List.{list_all}
 use Rattle.wit_model.specs.declared.model.{Resolve.Resolve, World.World, WorldItem.WorldItem}
 use Rattle.wit_model.specs.{Uses.has, Uses.items_of, Rules.each_after, Valid.Keeps, Valid.order_of_items, Valid.as_world}
 use Rattle.wit_model.proofs.{Entries.worlds_keep, RulesLemmas.after_of_map}
-use Rattle.plan_meaning.specs.{Plan.used_by_numbers, Built.planned_world, Built.planned_item}
-use Rattle.plan_meaning.specs.PlanRules.{IsPlan}
+use Rattle.plan_meaning.specs.{Plan.used_by_numbers, Built.planned_world, Built.planned_item, PlanRules.IsPlan}
 use Rattle.plan_meaning.proofs.{Lists.each_built, Lists.or_there, FunctionRules.items_are, WorldItems.item_interface_is, TypeOrder.item_types_are}
 use Rattle.plan_meaning.proofs.Words.{plan_of, function_numbers_are, has_owner_is, used_are, used_by_kind_is, interface_used_is, direct_uses_are}
 use Rattle.base_lemmas.proofs.Lists.{filter_of_map}
@@ -25,8 +24,7 @@ module _ (r : Resolve) (m : ℕ) where
 
   types_are : (w : ℕ) (x : WorldItem) → planned.used_types (plan_of r m) w (planned_item x) ≡ rules.used_types r w x
   types_are w (item.Interface id stability docs external_id) = refl
-  types_are w (item.Function f) =
-      ap (λ ns. filter (plan.has_owner (plan_of r m) (as_world w)) (used_by_numbers (plan_of r m) ns)) (function_numbers_are f)
+  types_are w (item.Function f) = ap (λ ns. filter (plan.has_owner (plan_of r m) (as_world w)) (used_by_numbers (plan_of r m) ns)) (function_numbers_are f)
       ∙ (λ i. filter (λ n. has_owner_is r m (as_world w) n i) (used_are r m (parts.function_numbers f) i))
   types_are w (item.Type_ id) = search (std_rules, has_owner_is, or_there, plan_of, used_by_kind_is)
 
@@ -34,10 +32,7 @@ module _ (r : Resolve) (m : ℕ) where
   before_is w before x = λ i. list_all (has (item_interfaces_are before i)) (interfaces_are x i) && list_all (has (item_types_are before i)) (types_are w x i)
 
   world_is : (n : ℕ) (w : World) → each_after (planned.uses_stand_before (plan_of r m) n) [] (plan.items_of (planned_world w)) ≡ each_after (rules.uses_stand_before r n) [] (items_of w)
-  world_is n w =
-      ap (each_after (planned.uses_stand_before (plan_of r m) n) []) (items_are w)
-      ∙ (after_of_map (planned.uses_stand_before (plan_of r m) n) planned_item [] (items_of w)
-      ∙ ap (λ test. each_after test [] (items_of w)) (λ i before x. before_is n before x i))
+  world_is n w = search (std_rules, plan_of r m, plan_of r m, items_are w, after_of_map (planned.uses_stand_before (plan_of r m) n) planned_item [] (items_of w), before_is)
 
   pub order_of_items_kept : IsPlan (plan_of r m) → Keeps order_of_items r
   unfolding order_of_items

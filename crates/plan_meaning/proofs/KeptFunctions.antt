@@ -1,17 +1,17 @@
 -- Functions whose types are those of kept shapes pass the tests on their types and their resource.
-use Rattle.std.proofs.Common.{◌≡◌, inl, inr, refl, sym, ap, subst, ◌∙◌, ℕ, ◌+◌, arith, Bool, true, false, not, ◌&&◌, ◌||◌, ◌==◌, cond, List, [], ◌∷◌, length, map, drop, filter_map, Option, Some, None, option_map, option_to_list, is_none, slice_get, codes, rules as std_rules}
+use Rattle.std.proofs.Common.{◌≡◌, inl, inr, refl, sym, ap, subst, ◌∙◌, ℕ, ◌+◌, arith, Bool, true, false, not, ◌&&◌, ◌||◌, ◌==◌, cond, List, [], ◌∷◌, length, drop, filter_map, Option, Some, None, option_to_list, is_none, slice_get, codes, rules as std_rules}
 use Rattle.std.proofs.lemmas.{Bool.eqb-true, Bool.eq-eqb, Bool.lt-ltb, Bool.or_right, Bool.and_from as both, List.Folds.list_all-map}
 use Rattle.std.proofs.lemmas.Option.{slice_get_within}
 use Rattle.std.specs.{Prelude.nat_le, Prelude.nat_eq, Prelude.option_and_then, List.AllZip, List.list_all, List.starts_with, Option.option_map_or}
 use Rattle.wit_model.specs.declared.model.{TypeOwner.TypeOwner, FunctionKind.FunctionKind}
 use Rattle.wit_model.specs.{Text.Text, Text.text_eq, Lookup.resource_of}
-use Rattle.wit_model.specs.{Names.is_label, Names.constructor_name, Names.method_name, Names.static_name, Tree.Place, Tree.Form, Tree.Tree, Tree.levels}
-use Rattle.wit_model.specs.Rules.{after_prefix, are_member_labels, in_list, is_freestanding, is_id, passes}
+use Rattle.wit_model.specs.{Names.is_label, Names.method_name, Names.static_name, Tree.Place, Tree.Form, Tree.levels}
+use Rattle.wit_model.specs.Rules.{after_prefix, in_list, is_freestanding, is_id, passes}
 use Rattle.wit_model.proofs.{VersionLaws.same_text, TextLemmas.text_same}
-use Rattle.comp_meaning.specs.Rules.{are_labels, is_label_behind, most_levels}
+use Rattle.comp_meaning.specs.Rules.{is_label_behind, most_levels}
 use Rattle.plan_meaning.specs.Shapes.{Shape, first_label, form_code, named_shape, node_shape, IsShape, a_name, a_node, part_tree}
 use Rattle.plan_meaning.specs.Plan.{Plan, PlannedType, PlannedFunction, formed, function_parts, part_number, type_in, trees_in}
-use Rattle.plan_meaning.specs.PlanRules.{is_borrow_of, is_member, is_member_of, is_member_name, is_own_of, is_result_of_own, is_shallow, names_of, part_is, resource_name, takes_self}
+use Rattle.plan_meaning.specs.PlanRules.{is_borrow_of, is_member, is_member_of, is_member_name, is_own_of, is_result_of_own, is_shallow, part_is, resource_name}
 use Rattle.plan_meaning.specs.Renumbering.{IsPart, a_primitive, a_shape}
 use Rattle.plan_meaning.specs.NumberedViews.{FunctionShape, Tables, tree_at, AreTables}
 use Rattle.plan_meaning.specs.NumberedRules.{Fact, shape_at, name_in, only_of, held_in, own_sort, borrow_sort, ok_in, begins_with_self, constructs, is_handle, is_name}
@@ -72,8 +72,7 @@ module _ (t : Tables) (tables : AreTables t) (known : ℕ → Fact) (kept : List
   -- ---- levels
 
   parts_shallow : (place : Place) (olds news : List ℕ) → AllZip Becoming olds news → list_all (λ k. rules.is_parameter_type place (tree_at t k)) olds ≡ true → list_all (is_shallow p) news ≡ true
-  parts_shallow place olds news z h =
-      sym (list_all-map (λ x. nat_le (levels x) most_levels) (part_tree (trees_in p)) news)
+  parts_shallow place olds news z h = sym (list_all-map (λ x. nat_le (levels x) most_levels) (part_tree (trees_in p)) news)
       ∙ (ap (list_all (λ x. nat_le (levels x) most_levels)) (parts_kept t tables kept p (keeps t tables kept p are) olds news z)
       ∙ (list_all-map (λ x. nat_le (levels x) most_levels) (tree_at t) olds
       ∙ all_weaker (λ k. rules.is_parameter_type place (tree_at t k)) (λ k. nat_le (levels (tree_at t k)) most_levels)
@@ -99,8 +98,7 @@ module _ (t : Tables) (tables : AreTables t) (known : ℕ → Fact) (kept : List
               let places = eqb-true place q (first_true (place == q) (text_eq label name) test) in
               let labels = text_same label name (second_true (place == q) (text_eq label name) test) in
               tables.shapes.apart m is.shape (named_shape q name) (there ∙ (ap Some same ∙ (λ i. Some (named_shape (places i) (labels i))))) is.shape_is
-          named m s there h (a_node form ks same low) =
-              no_true (sym (ap (λ (x : Shape). option_map_or (λ (y : ℕ × Text). y.0 == q && text_eq y.1 name) (name_in x) false) same
+          named m s there h (a_node form ks same low) = no_true (sym (ap (λ (x : Shape). option_map_or (λ (y : ℕ × Text). y.0 == q && text_eq y.1 name) (name_in x) false) same
               ∙ ap (λ b. option_map_or (λ (y : ℕ × Text). y.0 == q && text_eq y.1 name) (cond b (Some ((form_code form).number, first_label (form_code form).labels)) None) false) (no_name form)) ∙ h)
 
           by : (m : ℕ) → k ≡ 14 + m → (found : Option Shape) → slice_get t.shapes m ≡ found → k ≡ 14 + is.shape
@@ -120,10 +118,7 @@ module _ (t : Tables) (tables : AreTables t) (known : ℕ → Fact) (kept : List
 
           by : IsPart kept k new → is_id n (part_number new) ≡ true
           by (a_primitive low same) = absurd (omega (arith, low, shape_is))
-          by (a_shape m j from stands to) =
-              let shapes : m ≡ is.shape = omega (arith, from, shape_is) in
-              let numbers : j ≡ n = are.once j n is.shape (stands ∙ ap Some shapes) is.stands in
-              ap (is_id n) (ap part_number to ∙ behind j) ∙ eq-eqb j n numbers
+          by (a_shape m j from stands to) = ap (is_id n) (ap part_number to ∙ behind j) ∙ eq-eqb j n (are.once j n is.shape (stands ∙ ap Some (omega (arith, from, shape_is))) is.stands)
 
       -- ---- handles
 
@@ -147,9 +142,7 @@ module _ (t : Tables) (tables : AreTables t) (known : ℕ → Fact) (kept : List
           number : is_id n (part_number part) ≡ true
 
         handle_type : (old m : ℕ) → old ≡ 14 + m → is_handle t known q sort name old ≡ true → (x : PlannedType) → IsKeptType t kept p m x → IsHandleType x
-        handle_type old m e h x (declared place label d there named home kind before good obeys) =
-            no_true (sym (ap (λ o. option_map_or (is_name t known q name) (option_and_then (held_in sort) o) false) (shape_there t old m (named_shape place label) e there)
-            ∙ ap (λ c. option_map_or (is_name t known q name) (cond c (only_of []) None) false) not_name) ∙ h)
+        handle_type old m e h x (declared place label d there named home kind before good obeys) = search (std_rules, no_true, shape_there)
         handle_type old m e h x (unnamed place form olds news there z none unowned kind part low) =
             let here = sym (ap (λ o. option_map_or (is_name t known q name) (option_and_then (held_in sort) o) false) (shape_there t old m (node_shape form olds) e there)) ∙ h in
             let parts = handle_parts form olds here in
@@ -168,8 +161,7 @@ module _ (t : Tables) (tables : AreTables t) (known : ℕ → Fact) (kept : List
                 ∙ (ap (λ o. option_map_or test o false) there.1 ∙ passes_test there.0 (handle_type old m from h there.0 there.2))
 
       own_becomes : (old new : ℕ) → is_handle t known q own_sort name old ≡ true → Becoming old new → part_is p (is_own_of n) new ≡ true
-      own_becomes = handle_becomes Form.own_of own_sort own_form refl (is_own_of n)
-          (λ x is_type. both (is_none x.name) (plan.is_own_kind n x.kind) (ap is_none is_type.none) (ap (plan.is_own_kind n) is_type.kind ∙ is_type.number))
+      own_becomes = handle_becomes Form.own_of own_sort own_form refl (is_own_of n) (λ x is_type. both _ _ (ap is_none is_type.none) (ap (plan.is_own_kind n) is_type.kind ∙ is_type.number))
 
       -- ---- constructors and methods
 
@@ -180,8 +172,7 @@ module _ (t : Tables) (tables : AreTables t) (known : ℕ → Fact) (kept : List
       result_type old m i e ok h x (unnamed place form olds news there z none unowned kind part low) =
           let made = result_form form olds i (sym (ap (option_and_then ok_in) (shape_there t old m (node_shape form olds) e there)) ∙ ok) in
           let first = one_new i made.1 news (subst (λ (ks : List ℕ). AllZip Becoming ks news) made.3 z) in
-          both (is_none x.name) (plan.has_own_ok p n x.kind) (ap is_none none)
-          (ap (plan.has_own_ok p n) (kind ∙ (λ j. formed (made.2 j) (first.2 j))) ∙ own_becomes i first.0 h first.3)
+          both (is_none x.name) (plan.has_own_ok p n x.kind) (ap is_none none) (ap (plan.has_own_ok p n) (kind ∙ (λ j. formed (made.2 j) (first.2 j))) ∙ own_becomes i first.0 h first.3)
 
       result_becomes : (old new i : ℕ) → option_and_then ok_in (shape_at t old) ≡ Some i → is_handle t known q own_sort name i ≡ true → Becoming old new → part_is p (is_result_of_own p n) new ≡ true
       result_becomes old new i ok h b = by b.part
@@ -208,17 +199,12 @@ module _ (t : Tables) (tables : AreTables t) (known : ℕ → Fact) (kept : List
           → option_map_or (λ (y : Text × ℕ). text_eq y.0 (codes "self") && part_is p (is_borrow_of n) y.1) (slice_get ys 0) false ≡ true
       self_becomes [] ys z h = no_true h
       self_becomes (x ∷ xs) [] z h = absurd z
-      self_becomes (x ∷ xs) (y ∷ ys) z h =
-          both (text_eq y.0 (codes "self")) (part_is p (is_borrow_of n) y.1) (ap (λ u. text_eq u (codes "self")) z.0.0 ∙ first_true (text_eq x.0 (codes "self"))
-          (is_handle t known q borrow_sort name x.1) h)
-          ((handle_becomes Form.borrow_of borrow_sort borrow_form refl (is_borrow_of n) (λ x is_type. both (is_none x.name) (plan.is_borrow_kind n x.kind) (ap is_none is_type.none)
-          (ap (plan.is_borrow_kind n) is_type.kind ∙ is_type.number))) x.1 y.1 (second_true (text_eq x.0 (codes "self")) (is_handle t known q borrow_sort name x.1) h) z.0.1)
+      self_becomes (x ∷ xs) (y ∷ ys) z h = both _ _ (ap (λ u. text_eq u (codes "self")) z.0.0 ∙ first_true _ _ h)
+          ((handle_becomes Form.borrow_of borrow_sort borrow_form refl (is_borrow_of n) (λ x is_type. both _ _ (ap is_none is_type.none) (ap (plan.is_borrow_kind n) is_type.kind ∙ is_type.number)))
+          x.1 y.1 (second_true _ _ h) z.0.1)
 
       member_is : (g : PlannedFunction) (kind : FunctionKind) → g.kind ≡ kind → resource_of kind ≡ Some n → is_member_of p n name g kind ≡ true → is_member p o g ≡ true
-      member_is g kind e own h =
-          ap (λ k. passes (λ m. option_map_or (λ r. is_member_of p m r g k) (resource_name p o m) false) (resource_of k)) e
-          ∙ (ap (passes (λ m. option_map_or (λ r. is_member_of p m r g kind) (resource_name p o m) false)) own
-          ∙ (ap (λ x. option_map_or (λ r. is_member_of p n r g kind) x false) resource_has_name ∙ h))
+      member_is g kind e own h = search (std_rules, resource_has_name)
 
       number_is : (kind : FunctionKind) → resource_of kind ≡ Some n → list_all (in_list p.types) (option_to_list (resource_of kind)) ≡ true
       number_is kind e = ap (λ x. list_all (in_list p.types) (option_to_list x)) e ∙ both (in_list p.types n) true (lt-ltb n (length p.types) (slice_get_within p.types n is.type_ is.there)) refl
@@ -231,15 +217,10 @@ module _ (t : Tables) (tables : AreTables t) (known : ℕ → Fact) (kept : List
 
       belongs : IsKindOf t known kept p o q name f g.kind → is_member p o g ≡ true
       belongs (of_none label e) = ap (passes (λ m. option_map_or (λ r. is_member_of p m r g g.kind) (resource_name p o m) false)) e
-      belongs (a_constructor id r e there named made) =
-          member_is r id.0 there g (call.Constructor id) e refl (both (text_eq g.name (constructor_name r)) (plan.constructs p id.0 g) (same_text g.name (constructor_name r) (is.named ∙ named))
-          (constructs_becomes r id.0 there f.result g.result is.becomes.result made))
-      belongs (a_method id r e there named self) =
-          member_is r id.0 there g (call.Method id) e refl (both (is_member_name (method_name r []) g) (takes_self p id.0 g) (name_behind (method_name r []) named)
-          (self_becomes r id.0 there f.params g.params is.becomes.params self))
+      belongs (a_constructor id r e there named made) = search (std_rules, member_is, both, same_text, named, constructs_becomes)
+      belongs (a_method id r e there named self) = search (std_rules, member_is, both, name_behind (method_name r []) named, named, self_becomes r id.0 there f.params g.params is.becomes.params self)
       belongs (an_async_method id r e there named self) =
-          member_is r id.0 there g (call.AsyncMethod id) e refl (both (is_member_name (method_name r []) g) (takes_self p id.0 g) (name_behind (method_name r []) named)
-          (self_becomes r id.0 there f.params g.params is.becomes.params self))
+          search (std_rules, member_is, both, name_behind (method_name r []) named, named, self_becomes r id.0 there f.params g.params is.becomes.params self)
       belongs (a_static id r e there named) = member_is r id.0 there g (call.Static id) e refl (name_behind (static_name r []) named)
       belongs (an_async_static id r e there named) = member_is r id.0 there g (call.AsyncStatic id) e refl (name_behind (static_name r []) named)
 
@@ -259,21 +240,11 @@ module _ (t : Tables) (tables : AreTables t) (known : ℕ → Fact) (kept : List
       name_is_label (a_static id r e there named) = ap (λ k. not (is_freestanding k) || is_label g.name) e
       name_is_label (an_async_static id r e there named) = ap (λ k. not (is_freestanding k) || is_label g.name) e
 
-      labels_obey : are_member_labels (names_of g.params) ≡ true
-      labels_obey =
-          let trees = map (λ (x : Text × ℕ). (x.0, tree_at t x.1)) f.params in
-          let labels = are_labels (map (λ (x : Text × Tree). x.0) trees) in
-          let params = list_all (λ (x : Text × Tree). rules.is_parameter_type is.place x.1) trees in
-          let names = zip_map (ParamBecomes t kept p) (λ (x : Text × ℕ). x.0) (λ (y : Text × ℕ). y.0) (λ x y h. h.0) f.params g.params is.becomes.params in
-          member_labels (names_of g.params) (ap are_labels (names ∙ sym (map_of_map (λ (x : Text × Tree). x.0) (λ (x : Text × ℕ). (x.0, tree_at t x.1)) f.params))
-          ∙ first_true labels params (first_true (labels && params) (rules.is_result_type is.place (option_map (tree_at t) f.result)) is.obeys))
-
       function_passes : FunctionPasses p o g
       function_passes = record {
         in_range = joined_well (in_list p.types) (filter_map part_number (function_parts g)) (option_to_list (resource_of g.kind))
-            (numbers_pass t kept p (shape_parts f) (function_parts g) (function_zip t kept p f id g is.becomes) (in_list p.types) (λ old c j m from at low. lt-ltb j (length p.types) low))
-            (resource_number is.kind);
-        labels = both (not (is_freestanding g.kind) || is_label g.name) (are_member_labels (names_of g.params)) (name_is_label is.kind) labels_obey;
+            (numbers_pass t kept p (shape_parts f) (function_parts g) (function_zip t kept p f id g is.becomes) (in_list p.types) (λ old c j m from at low. lt-ltb j _ low)) (resource_number is.kind);
+        labels = both _ _ (name_is_label is.kind) (search (std_rules, zip_map, member_labels, map_of_map, first_true));
         shallow = parts_shallow is.place (shape_parts f) (function_parts g) (function_zip t kept p f id g is.becomes) (signature_parts t is.place f is.obeys);
         belongs = belongs is.kind;
       }

@@ -37,8 +37,7 @@ kept_at t kept p are j m low at =
 
 module _ (t : Tables) (kept : List ℕ) (p : Plan) where
   pub function_zip : (f : FunctionShape) (id : Option Text) (g : PlannedFunction) → FunctionBecomes t kept p f id g → AllZip (Becomes t kept p) (shape_parts f) (function_parts g)
-  function_zip f id g is =
-      zip-append (Becomes t kept p) (map (λ (x : Text × ℕ). x.1) f.params) (map (λ (y : Text × ℕ). y.1) g.params) (option_to_list f.result) (option_to_list g.result)
+  function_zip f id g is = zip-append (Becomes t kept p) (map (λ (x : Text × ℕ). x.1) f.params) (map (λ (y : Text × ℕ). y.1) g.params) (option_to_list f.result) (option_to_list g.result)
       (along f.params g.params is.params) (given f.result g.result is.result)
     where
       along : (xs ys : List (Text × ℕ)) → AllZip (ParamBecomes t kept p) xs ys → AllZip (Becomes t kept p) (map (λ (x : Text × ℕ). x.1) xs) (map (λ (y : Text × ℕ). y.1) ys)
@@ -57,11 +56,7 @@ module _ (t : Tables) (kept : List ℕ) (p : Plan) where
 
   module _ (olds news : List ℕ) (z : AllZip (Becomes t kept p) olds news) where
     pub part_from : (j : ℕ) → Contains (filter_map part_number news) j → (old : ℕ) × Contains olds old × (m : ℕ) × (old ≡ 14 + m) × (slice_get kept j ≡ Some m) × (j < length p.types)
-    part_from j c =
-        let found = filter_map_from part_number news j c in
-        let from = zip_at_right (Becomes t kept p) olds news z found.0 found.1 found.2 in
-        let is = number_from from.0 found.1 from.2 j found.3 in
-        (from.0, get-contains olds found.0 from.0 from.1, is.0, is.1, is.2, is.3)
+    part_from j c = search (std_rules, filter_map_from part_number news j c, zip_at_right, number_from, get-contains)
 
     pub numbers_pass : (test : ℕ → Bool) → ((old : ℕ) → Contains olds old → (j m : ℕ) → old ≡ 14 + m → slice_get kept j ≡ Some m → j < length p.types → test j ≡ true)
         → list_all test (filter_map part_number news) ≡ true

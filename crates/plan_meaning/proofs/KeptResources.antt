@@ -38,22 +38,18 @@ module _ (t : Tables) (tables : AreTables t) (kept : List ℕ) (p : Plan) (are :
     alias_mark old new low b = by b.part
       where
         by : IsPart kept old new → option_map_or (λ m. unwrap_or (slice_get (take j all_marks) m) false) (part_number new) false ≡ marks old
-        by (a_primitive small same) =
-            ap (λ c. option_map_or (λ m. unwrap_or (slice_get (take j all_marks) m) false) (cond c None (Some (new - 14))) false) (lt-ltb new 14 (omega (arith, small, same))) ∙ sym
-            (marked.primitives old small)
+        by (a_primitive small same) = ap (λ c. option_map_or (λ m. unwrap_or (slice_get (take j all_marks) m) false) (cond c None (Some (new - 14))) false) (lt-ltb new 14 (omega (arith, small, same)))
+            ∙ sym (marked.primitives old small)
         by (a_shape m i from there to) =
             let before : i < j = are.rise i j m n there stands (omega (arith, from, low)) in
-            let range = b.range in
             ap (λ o. option_map_or (λ k. unwrap_or (slice_get (take j all_marks) k) false) o false) (ap part_number to ∙ behind i)
-            ∙ (ap (λ o. unwrap_or o false) (slice_take all_marks j i before) ∙ (smaller i m before (omega (arith, range, to)) there ∙ ap marks (sym from)))
+            ∙ (ap (λ o. unwrap_or o false) (slice_take all_marks j i before) ∙ (smaller i m before (omega (arith, b.range, to)) there ∙ ap marks (sym from)))
 
     kind_mark : (d : Option ℕ) → AllOf (λ k. k < 14 + n) d → DeclaresKind t kept p d x.kind → MarkedBy t kept p marks x.kind (marks (14 + n)) → marked_kind (take j all_marks) x.kind ≡ marks (14 + n)
     unfolding marked_kind
     kind_mark d low (a_resource none k) is = ap (marked_kind (take j all_marks)) k ∙ sym (subst (λ kind. MarkedBy t kept p marks kind (marks (14 + n))) k is)
     kind_mark d low (gathered.a_name old new some no_form b k) is =
-        let before : old < 14 + n = subst (AllOf (λ y. y < 14 + n)) some low in
-        let same : marks (14 + n) ≡ marks old = subst (λ kind. MarkedBy t kept p marks kind (marks (14 + n))) k is old b in
-        ap (marked_kind (take j all_marks)) k ∙ (alias_mark old new before b ∙ sym same)
+        ap (marked_kind (take j all_marks)) k ∙ (alias_mark old new (subst (AllOf (λ y. y < 14 + n)) some low) b ∙ sym (subst (λ kind. MarkedBy t kept p marks kind (marks (14 + n))) k is old b))
     kind_mark d low (a_form old m form olds news some from there z k) is = ap (marked_kind (take j all_marks)) k ∙ sym (subst (λ kind. MarkedBy t kept p marks kind (marks (14 + n))) k is)
 
     type_mark : IsKeptType t kept p n x → marked_kind (take j all_marks) x.kind ≡ marks (14 + n)
@@ -65,8 +61,7 @@ module _ (t : Tables) (tables : AreTables t) (kept : List ℕ) (p : Plan) (are :
   marks_are zero j n h low stands = absurd (omega (arith, h))
   marks_are (suc fuel) j n h low stands =
       let found = kept_at t kept p are j n low stands in
-      mark_there j found.0 found.1
-      ∙ type_mark j n (λ i m less within there. marks_are fuel i m (omega (arith, less, h)) within there) found.0 found.1 stands found.2
+      mark_there j found.0 found.1 ∙ type_mark j n (λ i m less within there. marks_are fuel i m (omega (arith, less, h)) within there) found.0 found.1 stands found.2
 
   -- ---- parts
 
@@ -80,8 +75,7 @@ module _ (t : Tables) (tables : AreTables t) (kept : List ℕ) (p : Plan) (are :
     where
       by : (b : Bool) → is_handle_form form ≡ b
           → cond (is_handle_form form) (list_all (is_resource p) (filter_map part_number news)) (list_all (λ m. not (is_resource p m)) (filter_map part_number news)) ≡ true
-      by true e =
-          ap (λ b. cond b (list_all (is_resource p) (filter_map part_number news)) (list_all (λ m. not (is_resource p m)) (filter_map part_number news))) e ∙ parts_tested (λ b. b) olds news z
+      by true e = ap (λ b. cond b (list_all (is_resource p) (filter_map part_number news)) (list_all (λ m. not (is_resource p m)) (filter_map part_number news))) e ∙ parts_tested (λ b. b) olds news z
           (is.handle e)
       by false e =
           ap (λ b. cond b (list_all (is_resource p) (filter_map part_number news)) (list_all (λ m. not (is_resource p m)) (filter_map part_number news))) e ∙ parts_tested not olds news z (is.other e)

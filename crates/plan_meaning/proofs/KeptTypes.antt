@@ -1,5 +1,5 @@
 -- Types of a plan that are those of kept shapes pass the tests on types.
-use Rattle.std.proofs.Common.{rules as std_rules, ◌≡◌, refl, sym, ap, subst, ◌∙◌, ℕ, ◌+◌, ◌-◌, ◌<◌, ◌≤◌, arith, true, false, not, ◌&&◌, ◌||◌, List, [], ◌∷◌, length, map, filter_map, Option, Some, is_some, slice_get}
+use Rattle.std.proofs.Common.{rules as std_rules, ◌≡◌, refl, sym, ap, subst, ◌∙◌, ℕ, ◌+◌, ◌-◌, ◌<◌, ◌≤◌, arith, true, false, not, ◌&&◌, List, [], ◌∷◌, length, map, filter_map, Option, Some, is_some, slice_get}
 use Rattle.std.proofs.lemmas.{Bool.lt-ltb, Bool.le-leb, Bool.leb-true, Bool.and_from as both, Option.slice_get_past as slice_past}
 use Rattle.std.proofs.lemmas.List.Folds.{list_all-map}
 use Rattle.std.specs.{Prelude.nat_le, Prelude.nat_lt, List.AllByRecursion, List.AllZip, List.list_all, Option.option_map_or}
@@ -69,13 +69,8 @@ module _ (t : Tables) (tables : AreTables t) (kept : List ℕ) (p : Plan) (are :
 
     kind_falls : (d : Option ℕ) (kind : PlannedKind) → AllOf (λ k. k < 14 + n) d → DeclaresKind t kept p d kind → list_all (λ m. nat_lt m j) (kind_numbers kind) ≡ true
     kind_falls d kind low (a_resource e k) = ap (λ x. list_all (λ m. nat_lt m j) (kind_numbers x)) k
-    kind_falls d kind low (gathered.a_name old new e no_form b k) =
-        let before : old < 14 + n = subst (AllOf (λ x. x < 14 + n)) e low in
-        ap (λ x. list_all (λ m. nat_lt m j) (kind_numbers x)) k ∙ parts_fall (old ∷ []) (new ∷ []) (b, tt) (before, tt)
-    kind_falls d kind low (a_form old m form olds news e is there z k) =
-        let before : old < 14 + n = subst (AllOf (λ x. x < 14 + n)) e low in
-        ap (λ x. list_all (λ i. nat_lt i j) (kind_numbers x)) k
-        ∙ parts_fall olds news z (each_so (λ i. i < 14 + m) (λ i. i < 14 + n) (λ i low. omega (arith, before, is, low)) olds (parts_before m form olds there))
+    kind_falls d kind low (gathered.a_name old new e no_form b k) = search (std_rules, parts_fall)
+    kind_falls d kind low (a_form old m form olds news e is there z k) = search (std_rules, parts_fall, each_so, parts_before)
 
     type_falls : (x : PlannedType) → IsKeptType t kept p n x → list_all (λ m. nat_lt m j) (kind_numbers x.kind) ≡ true
     type_falls x (unnamed place form olds news there z name owner kind part low) = ap (λ k. list_all (λ m. nat_lt m j) (kind_numbers k)) kind ∙ parts_fall olds news z (parts_before n form olds there)
@@ -104,18 +99,13 @@ module _ (t : Tables) (tables : AreTables t) (kept : List ℕ) (p : Plan) (are :
 
   module _ (n : ℕ) (form : Form) (olds : List ℕ) (there : slice_get t.shapes n ≡ Some (node_shape form olds)) where
     unnamed_form : (place : Place) → rules.is_part place (tree n) ≡ true → not (is_named_form form) ≡ true
-    unnamed_form place h =
-        first_true (not (is_named_form form)) (are_parts place (children (map (tree_at t) olds))) (sym (ap (rules.is_part place) (form_tree t tables kept p keeps (14 + n) n form olds refl there)) ∙ h)
+    unnamed_form place h = search (std_rules, first_true, form_tree, keeps)
 
     shallow_form : nat_le (levels (tree n)) most_levels ≡ true → deepest (children (map (tree_at t) olds)) ≤ most_levels
-    shallow_form h =
-        let low = leb-true (levels (tree n)) most_levels h in
-        let same : levels (tree n) ≡ deepest (children (map (tree_at t) olds)) + 1 = ap levels (form_tree t tables kept p keeps (14 + n) n form olds refl there) in
-        omega (arith, low, same)
+    shallow_form h = search (std_rules, leb-true, form_tree, keeps)
 
   parts_shallow : (olds news : List ℕ) → AllZip (Becomes t kept p) olds news → deepest (children (map (tree_at t) olds)) ≤ most_levels → list_all (is_shallow p) news ≡ true
-  parts_shallow olds news z h =
-      sym (list_all-map (λ x. nat_le (levels x) most_levels) (part_tree (trees_in p)) news)
+  parts_shallow olds news z h = sym (list_all-map (λ x. nat_le (levels x) most_levels) (part_tree (trees_in p)) news)
       ∙ (ap (list_all (λ x. nat_le (levels x) most_levels)) (parts_kept t tables kept p keeps olds news z) ∙ shallow_parts (map (tree_at t) olds) most_levels h)
 
   -- ---- what is declared as a form
@@ -127,14 +117,10 @@ module _ (t : Tables) (tables : AreTables t) (kept : List ℕ) (p : Plan) (are :
         (form_tree t tables kept p keeps old n form olds is there)) ∙ obeys
 
     form_has_labels : are_labels (form_labels form) ≡ true
-    form_has_labels =
-        first_true (are_labels (form_labels form)) (are_parts place (children (map (tree_at t) olds)))
-        (first_true (are_labels (form_labels form) && are_parts place (children (map (tree_at t) olds))) (nat_le (deepest (children (map (tree_at t) olds))) most_levels) form_obeys)
+    form_has_labels = search (std_rules, first_true, form_obeys)
 
     form_is_shallow : deepest (children (map (tree_at t) olds)) ≤ most_levels
-    form_is_shallow =
-        leb-true (deepest (children (map (tree_at t) olds))) most_levels
-        (second_true (are_labels (form_labels form) && are_parts place (children (map (tree_at t) olds))) (nat_le (deepest (children (map (tree_at t) olds))) most_levels) form_obeys)
+    form_is_shallow = search (std_rules, leb-true, second_true, form_obeys)
 
   -- ---- shapes
 
@@ -167,11 +153,8 @@ module _ (t : Tables) (tables : AreTables t) (kept : List ℕ) (p : Plan) (are :
       ap (λ x. are_member_labels (kind_labels x)) k ∙ member_labels (form_labels form) (form_has_labels old m form olds is there place d e obeys)
 
   type_has_labels : (n : ℕ) (x : PlannedType) → IsKeptType t kept p n x → type_labels x ≡ true
-  type_has_labels n x (unnamed place form olds news there z name owner kind part low) =
-      both (passes is_label x.name) (are_member_labels (kind_labels x.kind)) (ap (passes is_label) name)
-      (ap (λ k. are_member_labels (kind_labels k)) kind ∙ ap are_member_labels (no_labels form (unnamed_form n form olds there place part)))
-  type_has_labels n x (declared q name d there named home kind before good obeys) =
-      both (passes is_label x.name) (are_member_labels (kind_labels x.kind)) (ap (passes is_label) named ∙ good) (kind_has_labels (place_at t q) d x.kind obeys kind)
+  type_has_labels n x (unnamed place form olds news there z name owner kind part low) = search (std_rules, both, no_labels, unnamed_form)
+  type_has_labels n x (declared q name d there named home kind before good obeys) = search (std_rules, both, kind_has_labels (place_at t q) d x.kind obeys kind)
 
   -- ---- levels
 
@@ -190,21 +173,14 @@ module _ (t : Tables) (tables : AreTables t) (kept : List ℕ) (p : Plan) (are :
   named_type : (old n : ℕ) → old ≡ 14 + n → numbered.is_form t old ≡ false → (x : PlannedType) → IsKeptType t kept p n x → is_some x.name ≡ true
   named_type old n is no_form x y = search std_rules
 
-  alias_named : (old new : ℕ) → numbered.is_form t old ≡ false → Becomes t kept p old new → passes (is_named_number p) (part_number new) ≡ true
-  alias_named old new no_form b = search (std_rules, lt-ltb, kept_at, behind, named_type)
-
   alias_is_named : (d : Option ℕ) (kind : PlannedKind) → DeclaresKind t kept p d kind → passes (is_named_number p) (alias_number kind) ≡ true
   alias_is_named d kind (a_resource e k) = ap (λ x. passes (is_named_number p) (alias_number x)) k
-  alias_is_named d kind (gathered.a_name old new e no_form b k) = ap (λ x. passes (is_named_number p) (alias_number x)) k ∙ alias_named old new no_form b
+  alias_is_named d kind (gathered.a_name old new e no_form b k) = ap (λ x. passes (is_named_number p) (alias_number x)) k ∙ (search (std_rules, lt-ltb, kept_at, behind, named_type))
   alias_is_named d kind (a_form old m form olds news e is there z k) = ap (λ x. passes (is_named_number p) (alias_number x)) k
 
   type_is_named : (n : ℕ) (x : PlannedType) → IsKeptType t kept p n x → kind_is_named p x ≡ true
-  type_is_named n x (unnamed place form olds news there z name owner kind part low) =
-      both (not (is_named_kind x.kind) || is_some x.name) (passes (is_named_number p) (alias_number x.kind))
-      (ap (λ k. not (is_named_kind k) || is_some x.name) kind ∙ ap (λ b. b || is_some x.name) (unnamed_form n form olds there place part)) (ap (λ k. passes (is_named_number p) (alias_number k)) kind)
-  type_is_named n x (declared q name d there named home kind before good obeys) =
-      both (not (is_named_kind x.kind) || is_some x.name) (passes (is_named_number p) (alias_number x.kind))
-      (ap (λ o. not (is_named_kind x.kind) || is_some o) named ∙ or_true (not (is_named_kind x.kind))) (alias_is_named d x.kind kind)
+  type_is_named n x (unnamed place form olds news there z name owner kind part low) = search (std_rules, both, is_some, unnamed_form)
+  type_is_named n x (declared q name d there named home kind before good obeys) = search (std_rules, both, is_some x.name, or_true (not (is_named_kind x.kind)), alias_is_named d x.kind kind)
 
   pass : TypesPass p
   pass = record {

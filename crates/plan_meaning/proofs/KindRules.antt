@@ -15,9 +15,6 @@ use Rattle.plan_meaning.specs.PlanRules as planned
 key_is : (t : ValueType) → is_key_part (part_of t) ≡ rules.is_map_key t
 key_is x = search std_rules
 
-shape_is : (k : TypeDefKind) → planned.has_shape (planned_kind k) ≡ rules.has_shape k
-shape_is x = search std_rules
-
 named_is : (k : TypeDefKind) → planned.is_named_kind (planned_kind k) ≡ rules.is_named_kind k
 named_is x = search std_rules
 
@@ -28,7 +25,7 @@ module _ (r : Resolve) (m : ℕ) (is : IsPlan (plan_of r m)) where
   pub shapes_kept : Keeps shapes r
   unfolding shapes
   shapes_kept = types_keep (λ r n def. rules.has_shape def.kind) r
-      (each_from_built planned_type (λ t. planned.has_shape t.kind) (λ def. rules.has_shape def.kind) (λ def h. sym (shape_is def.kind) ∙ h) r.types.items is.types_shaped)
+      (each_from_built planned_type (λ t. planned.has_shape t.kind) (λ def. rules.has_shape def.kind) (λ def h. sym (search std_rules) ∙ h) r.types.items is.types_shaped)
 
   named_there : (o : Option TypeDef) → option_map_or (λ t. is_some t.name) (option_map planned_type o) false ≡ true → passes (λ def. is_some def.name) o ≡ true
   named_there x h = search std_rules

@@ -10,7 +10,7 @@ use Rattle.wit_model.specs.Rules.{in_list, passes, each_from, is_id, package_num
 use Rattle.wit_model.proofs.{Entries.packages_keep, VersionLaws.same_name, RulesLemmas.each_by_number}
 use Rattle.comp_meaning.specs.Same.{same_identity}
 use Rattle.comp_meaning.proofs.SameLaws.{identities_decide}
-use Rattle.plan_meaning.specs.PlanRules.{IsPlan, bears, lists_interface, lists_world, lists_members, is_alone}
+use Rattle.plan_meaning.specs.PlanRules.{IsPlan, bears, lists_interface, lists_world, is_alone}
 use Rattle.plan_meaning.specs.Built.{planned_interface, planned_world, planned_package}
 use Rattle.plan_meaning.proofs.{Lists.all_built, Lists.each_built, Lists.each_there, Lists.all_there, Words.plan_of}
 use Rattle.base_lemmas.proofs.{Bools.left_of as first_true, Bools.right_of as second_true, Elements.all_get, Options.there as some-of}
@@ -43,15 +43,13 @@ asked g test p q one two xs n h = search (std_rules, get_of_map, there, in_range
 
 module _ (r : Resolve) (m : ℕ) (is : IsPlan (plan_of r m)) where
   -- an interface that a package lists, and a world
-  pub interface_listed : (n : ℕ) (e : String Global × InterfaceId) → lists_interface (plan_of r m) n (text_of e.0, e.1.0) ≡ true
-      → (in_list r.interfaces.items e.1.0 ≡ true) × (passes (λ i. text_is i.name (text_of e.0)) (interface_at r e.1.0) ≡ true)
-      × (passes (λ i. is_id n (package_number i.package)) (interface_at r e.1.0) ≡ true)
+  pub interface_listed : (n : ℕ) (e : String Global × InterfaceId) → lists_interface (plan_of r m) n (text_of e.0, e.1.0) ≡ true → (in_list r.interfaces.items e.1.0 ≡ true)
+      × (passes (λ i. text_is i.name (text_of e.0)) (interface_at r e.1.0) ≡ true) × (passes (λ i. is_id n (package_number i.package)) (interface_at r e.1.0) ≡ true)
   interface_listed n e = asked planned_interface (λ i. bears (text_of e.0) i.name && is_id n i.package_) (λ i. text_is i.name (text_of e.0)) (λ i. is_id n (package_number i.package))
       (λ i k. sym (bears_is i.name (text_of e.0)) ∙ first_true _ _ k) (λ i k. second_true (bears (text_of e.0) (optional_text i.name)) _ k) r.interfaces.items e.1.0
 
-  pub world_listed : (n : ℕ) (e : String Global × WorldId) → lists_world (plan_of r m) n (text_of e.0, e.1.0) ≡ true
-      → (in_list r.worlds.items e.1.0 ≡ true) × (passes (λ w. text_eq (text_of w.name) (text_of e.0)) (world_at r e.1.0) ≡ true)
-      × (passes (λ w. is_id n (package_number w.package)) (world_at r e.1.0) ≡ true)
+  pub world_listed : (n : ℕ) (e : String Global × WorldId) → lists_world (plan_of r m) n (text_of e.0, e.1.0) ≡ true → (in_list r.worlds.items e.1.0 ≡ true)
+      × (passes (λ w. text_eq (text_of w.name) (text_of e.0)) (world_at r e.1.0) ≡ true) × (passes (λ w. is_id n (package_number w.package)) (world_at r e.1.0) ≡ true)
   world_listed n e = asked planned_world (λ w. text_eq w.name (text_of e.0) && is_id n w.package_) (λ w. text_eq (text_of w.name) (text_of e.0)) (λ w. is_id n (package_number w.package))
       (λ w k. first_true _ _ k) (λ w k. second_true (text_eq (text_of w.name) (text_of e.0)) _ k) r.worlds.items e.1.0
 
@@ -60,18 +58,12 @@ module _ (r : Resolve) (m : ℕ) (is : IsPlan (plan_of r m)) where
       (interfaces : (n : ℕ) (e : String Global × InterfaceId) → lists_interface (plan_of r m) n (text_of e.0, e.1.0) ≡ true → q n e ≡ true)
       (worlds : (n : ℕ) (e : String Global × WorldId) → lists_world (plan_of r m) n (text_of e.0, e.1.0) ≡ true → s n e ≡ true) where
     pub members_pass : each_from (λ n p. list_all (q n) p.interfaces.entries && list_all (s n) p.worlds.entries) 0 r.packages.items ≡ true
-    members_pass = each_built planned_package (lists_members (plan_of r m)) (λ n p. list_all (q n) p.interfaces.entries && list_all (s n) p.worlds.entries)
-        (λ n p h. both _ _
-        (all_built (λ e. (text_of e.0, e.1.0)) (lists_interface (plan_of r m) n) (q n) (interfaces n) p.interfaces.entries (first_true _ _ h))
-        (all_built (λ e. (text_of e.0, e.1.0)) (lists_world (plan_of r m) n) (s n) (worlds n) p.worlds.entries
-        (second_true (list_all (lists_interface (plan_of r m) n) (map (λ e. (text_of e.0, e.1.0)) p.interfaces.entries)) _ h)))
-        r.packages.items is.members
+    members_pass = search (std_rules, each_built, plan_of, both, all_built, first_true, second_true)
 
   pub names_in_packages_kept : Keeps names_in_packages r
   unfolding names_in_packages
-  names_in_packages_kept = packages_keep
-      (λ r n p. list_all (λ e. passes (λ i. text_is i.name (text_of e.0)) (interface_at r e.1.0)) p.interfaces.entries && list_all
-      (λ e. passes (λ w. text_eq (text_of w.name) (text_of e.0)) (world_at r e.1.0)) p.worlds.entries) r
+  names_in_packages_kept = packages_keep (λ r n p. list_all (λ e. passes (λ i. text_is i.name (text_of e.0)) (interface_at r e.1.0)) p.interfaces.entries
+      && list_all (λ e. passes (λ w. text_eq (text_of w.name) (text_of e.0)) (world_at r e.1.0)) p.worlds.entries) r
       (members_pass (λ n e. passes (λ i. text_is i.name (text_of e.0)) (interface_at r e.1.0)) (λ n e. passes (λ w. text_eq (text_of w.name) (text_of e.0)) (world_at r e.1.0))
       (λ n e h. (interface_listed n e h).1) (λ n e h. (world_listed n e h).1))
 
@@ -96,20 +88,14 @@ module _ (r : Resolve) (m : ℕ) (is : IsPlan (plan_of r m)) where
     named : (n : ℕ) (p : Package) → package_at r n ≡ Some p → is_identity (identity_of p.name) ≡ true → is_alone (plan_of r m) n (planned_package p) ≡ true
         → ((is_label (text_of p.name.namespace) && (is_label (text_of p.name.name) && passes is_version p.name.version)) && each_from (λ k other. (k == n) || not (same_package_name p.name other.name))
         0 r.packages.items) ≡ true
-    named n p e identity alone =
-        let rest = second_true (is_label (text_of p.name.namespace)) _ identity in
-        both _ _ (both _ _ (first_true _ _ identity) (both _ _ (first_true (is_label (text_of p.name.name)) _ rest) (version_at n p e)))
-        (each_by_number (λ k other. (k == n) || not (same_package_name p.name other.name)) r.packages.items (λ k other f.
-        either (k == n) (not (same_identity (identity_of p.name) (identity_of other.name))) (not (same_package_name p.name other.name))
-        (apart p.name other.name (version_at n p e) (version_at k other f))
-        (each_there planned_package (λ k other. (k == n) || not (same_identity (identity_of p.name) other.identity)) r.packages.items alone k other f)))
+    named n p e identity alone = both _ _ (both _ _ (first_true _ _ identity) (both _ _ (first_true _ _ (second_true _ _ identity)) (version_at n p e)))
+        (each_by_number _ _ (λ k other f. either (k == n) (not (same_identity (identity_of p.name) (identity_of other.name))) (not (same_package_name p.name other.name))
+        (apart p.name other.name (version_at n p e) (version_at k other f)) (each_there planned_package (λ k other. (k == n) || not (same_identity (identity_of p.name) other.identity))
+        r.packages.items alone k other f)))
 
     pub package_names_kept : Keeps package_names r
     unfolding package_names
-    package_names_kept = packages_keep
-        (λ r n p. (is_label (text_of p.name.namespace) && (is_label (text_of p.name.name) && passes is_version p.name.version)) && each_from
-        (λ k other. (k == n) || not (same_package_name p.name other.name)) 0 r.packages.items) r
-        (each_by_number (λ n p. (is_label (text_of p.name.namespace) && (is_label (text_of p.name.name) && passes is_version p.name.version)) && each_from
-        (λ k other. (k == n) || not (same_package_name p.name other.name)) 0 r.packages.items) r.packages.items
-        (λ n p e. named n p e (all_there planned_package (λ k. is_identity k.identity) r.packages.items is.identities n p e)
+    package_names_kept = packages_keep (λ r n p. (is_label (text_of p.name.namespace) && (is_label (text_of p.name.name) && passes is_version p.name.version))
+        && each_from (λ k other. (k == n) || not (same_package_name p.name other.name)) 0 r.packages.items) r
+        (each_by_number _ _ (λ n p e. named n p e (all_there planned_package (λ k. is_identity k.identity) r.packages.items is.identities n p e)
         (each_there planned_package (is_alone (plan_of r m)) r.packages.items is.alone n p e)))

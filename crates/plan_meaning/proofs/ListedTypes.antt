@@ -2,8 +2,8 @@
 use Rattle.std.proofs.Common.{rules as std_rules, ◌≡◌, refl, sym, ap, subst, ◌∙◌, ℕ, zero, suc, ◌+◌, arith, Bool, true, false, not, ◌||◌, cond, List, [], ◌∷◌, ◌++◌, Some, option_and_then, slice_get}
 use Rattle.std.proofs.lemmas.{Bool.or_right, Bool.and_from as both, Bool.not-true as not_true, List.Folds.list_any-append, Option.same_Some as same-some}
 use Rattle.std.specs.{List.AllZip, List.Contains, List.list_any, Option.option_map_or, Map.lookup}
-use Rattle.wit_model.specs.{Text.Text, Text.text_eq, Rules.are_distinct, Rules.each_from, Rules.is_id, Rules.passes, Valid.as_interface, Valid.as_world}
-use Rattle.wit_model.specs.{Parts.same_owner, Names.is_label}
+use Rattle.wit_model.specs.{Text.Text, Text.text_eq, Rules.are_distinct, Rules.each_from, Rules.is_id, Valid.as_interface, Valid.as_world}
+use Rattle.wit_model.specs.{Parts.same_owner}
 use Rattle.wit_model.proofs.{RulesLemmas.each_by_number}
 use Rattle.plan_meaning.specs.{Shapes.Shape, Shapes.first_label, Shapes.named_shape, ReadInterfaces.IsNumberOf, ReadInterfaces.IsKeptAs, ReadInterfaces.HasName}
 use Rattle.plan_meaning.specs.Plan.{Plan, PlannedKey, PlannedItem, PlannedType, PlannedInterface, PlannedWorld, interface_in, world_in, number_under, item_type}
@@ -31,9 +31,6 @@ no_key key name item h [] (i, low, e) = absurd (omega (arith, low))
 no_key key name item h (x ∷ es) (zero, low, e) = ap (λ b. b || list_any (λ (other : PlannedKey × PlannedItem). same_key key other.0) es) (ap (λ (y : PlannedKey × PlannedItem). same_key key y.0) e ∙ h)
 no_key key name item h (x ∷ es) (suc i, low, e) = search (std_rules, or_right, no_key key name item h es (i, omega (arith, low), e))
 
-under_same : (name : Text) (key : PlannedKey) → is_under_label name key ≡ true → same_key key (plan.label name) ≡ true
-under_same name x h = search std_rules
-
 -- what stands under a label where keys differ
 pub key_there : (name : Text) (item : PlannedItem) (es : List (PlannedKey × PlannedItem)) → keys_differ es ≡ true → Contains es (plan.label name, item) → lookup (is_under_label name) es ≡ Some item
 key_there name item [] d (i, low, e) = absurd (omega (arith, low))
@@ -44,9 +41,8 @@ key_there name item (x ∷ es) d (suc i, low, e) =
     go (is_under_label name x.0) refl later (not_true others (first_true (not others) (keys_differ es) d)) (key_there name item es (second_true (not others) (keys_differ es) d) later)
   where
     go : (b : Bool) → is_under_label name x.0 ≡ b → Contains es (plan.label name, item) → list_any (λ (other : PlannedKey × PlannedItem). same_key x.0 other.0) es ≡ false
-        → lookup (is_under_label name) es ≡ Some item
-        → cond b (Some x.1) (lookup (is_under_label name) es) ≡ Some item
-    go true f later absent rest = never (list_any (λ (other : PlannedKey × PlannedItem). same_key x.0 other.0) es) (no_key x.0 name item (under_same name x.0 f) es later) absent
+        → lookup (is_under_label name) es ≡ Some item → cond b (Some x.1) (lookup (is_under_label name) es) ≡ Some item
+    go true f later absent rest = never (list_any (λ (other : PlannedKey × PlannedItem). same_key x.0 other.0) es) (no_key x.0 name item (search std_rules) es later) absent
     go false f later absent rest = rest
 
 module _ (t : Tables) (tables : AreTables t) (kept : List ℕ) (p : Plan) (are : TypesAreKept t kept p) (b : Beside) (owned : AreOwned t kept p b.owners) (views : ℕ → NumberedView) (read : OrderIsRead t kept p b views) where
@@ -68,20 +64,16 @@ module _ (t : Tables) (tables : AreTables t) (kept : List ℕ) (p : Plan) (are :
   entry_of q k [] (n ∷ ns) es y z names c = absurd y
   entry_of q k (x ∷ xs) (n ∷ ns) [] y z names c = absurd z
   entry_of q k (x ∷ xs) (n ∷ ns) (a ∷ es) y z names (zero, low, e) = search std_rules
-  entry_of q k (x ∷ xs) (n ∷ ns) (a ∷ es) y z names (suc i, low, e) =
-      search (std_rules, contains-later, entry_of q k xs ns es y.1 z.1 names.1 (i, omega (arith, low), e))
+  entry_of q k (x ∷ xs) (n ∷ ns) (a ∷ es) y z names (suc i, low, e) = search (std_rules, contains-later, entry_of q k xs ns es y.1 z.1 names.1 (i, omega (arith, low), e))
 
   interface_lists : (j k q : ℕ) (name : Text) (m : ℕ) (i : PlannedInterface) (e : interface_in p m ≡ Some i) → slice_get kept j ≡ Some k → slice_get t.shapes k ≡ Some (named_shape q name)
       → Contains (read.interfaces m i e).read.numbers k → is_listed_in p j name (as_interface m) ≡ true
   interface_lists j k q name m i e at there c =
       let is = (read.interfaces m i e).read in
       let found = entry_of is.place k is.view.types is.numbers i.types is.shapes is.kept_there is.names c in
-      let number : found.entry.1 ≡ j = are.once found.entry.1 j k found.stands at in
-      let named : found.entry.0 ≡ name = same_name is.place q k found.entry.0 name found.shape there in
-      let entry : found.entry ≡ (name, j) = λ x. (named x, number x) in
-      let labels = has_labels t kept p are b m i is in
-      let differ = distinct_front (names_of i.types) (names_of i.functions) (second_true (passes is_label i.name) (are_distinct (names_of i.types ++ names_of i.functions)) labels) in
-      ap (λ o. option_map_or (λ (y : PlannedInterface). is_id j (number_under name y.types)) o false) e ∙ number_there name j i.types differ (subst (Contains i.types) entry found.listed)
+      ap (λ o. option_map_or (λ (y : PlannedInterface). is_id j (number_under name y.types)) o false) e
+      ∙ number_there name j i.types (distinct_front (names_of i.types) (names_of i.functions) (second_true _ _ (has_labels t kept p are b m i is)))
+      (subst (Contains i.types) (λ x. ((same_name is.place q k found.entry.0 name found.shape there) x, (are.once found.entry.1 j k found.stands at) x)) found.listed)
 
   -- ---- in a world
 
@@ -99,14 +91,12 @@ module _ (t : Tables) (tables : AreTables t) (kept : List ℕ) (p : Plan) (are :
       by (implementing_path a n v id path shown good entry is) d f h = no_true (sym (ap is_type_seen shown) ∙ seen)
       by (a_function g n shown entry is) d f h = no_true (sym (ap is_type_seen shown) ∙ seen)
       by {home = home} (a_type g n shown entry is) d f h =
-          let count = is.last in
-          let shape_number : is.number ≡ k = omega (arith, count, last) in
-          let number : n ≡ j = are.once n j k (is.stands ∙ ap Some shape_number) at in
-          let named : x.seen.key ≡ name = same_name home q k x.seen.key name (ap (slice_get t.shapes) (sym shape_number) ∙ is.shape) there in
-          let one : x.entry ≡ (plan.label name, plan.declares j) = entry ∙ (λ y. (plan.label (named y), plan.declares (number y))) in
-          let listed : Contains w.imports (plan.label name, plan.declares j) = subst (Contains w.imports) one (subst (λ es. Contains es x.entry) f d) in
+          let shape_number : is.number ≡ k = omega (arith, is.last, last) in
           ap (λ o. option_map_or (λ (y : PlannedWorld). is_id j (option_and_then item_type (lookup (is_under_label name) y.imports))) o false) e
-          ∙ (ap (λ o. is_id j (option_and_then item_type o)) (key_there name (plan.declares j) w.imports h listed) ∙ same-number j)
+          ∙ (ap (λ o. is_id j (option_and_then item_type o)) (key_there name (plan.declares j) w.imports h (subst (Contains w.imports) (entry ∙ (λ y. (
+            plan.label ((same_name home q k x.seen.key name (ap (slice_get t.shapes) (sym shape_number) ∙ is.shape) there) y),
+            plan.declares ((are.once n j k (is.stands ∙ ap Some shape_number) at) y),
+          ))) (subst (λ es. Contains es x.entry) f d))) ∙ same-number j)
 
   -- ---- each type
 
@@ -121,8 +111,7 @@ module _ (t : Tables) (tables : AreTables t) (kept : List ℕ) (p : Plan) (are :
       by : (k : ℕ) → slice_get kept j ≡ Some k → IsKeptType t kept p k x → is_listed p j x ≡ true
       by k at (unnamed place form olds news there z none unowned kind part low) =
           ap (λ o. option_map_or (λ name. is_listed_in p j name x.owner) o (same_owner x.owner owner.None)) none ∙ ap (λ o. same_owner o owner.None) unowned
-      by k at (declared q name d there called home kind before good obeys) =
-          ap (λ o. option_map_or (λ name. is_listed_in p j name x.owner) o (same_owner x.owner owner.None)) called
+      by k at (declared q name d there called home kind before good obeys) = ap (λ o. option_map_or (λ name. is_listed_in p j name x.owner) o (same_owner x.owner owner.None)) called
           ∙ (ap (is_listed_in p j name) (owned.owned j k x q name e at there) ∙ by_place k q name at there (read.names j k q x name e at there))
 
   pub types_are_listed : each_from (is_listed p) 0 p.types ≡ true

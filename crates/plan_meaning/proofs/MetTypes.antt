@@ -1,8 +1,8 @@
 -- The named types that numbers of a plan use are under no larger numbers.
-use Rattle.std.proofs.Common.{rules as std_rules, ◌≡◌, ◌⊎◌, inl, inr, refl, ap, ◌∙◌, ◌<◌, ℕ, zero, suc, arith, true, List, [], ◌∷◌, length, take, flat_map, Some, unwrap_or, ◌+◌, slice_get}
+use Rattle.std.proofs.Common.{rules as std_rules, ◌≡◌, ◌⊎◌, inl, inr, refl, ap, ◌∙◌, ◌<◌, ℕ, zero, suc, arith, true, List, [], ◌∷◌, length, take, flat_map, Some, unwrap_or, slice_get}
 use Rattle.std.proofs.lemmas.{Bool.Decides.nat_tests, List.Elements.Contains-append_cases, Bool.and_from as both, Bool.ltb-true as less_than}
 use Rattle.std.specs.{Prelude.nat_le, Prelude.nat_lt, List.Contains, List.list_all}
-use Rattle.wit_model.specs.{Parts.met_by, Parts.numbered_from, Rules.each_from}
+use Rattle.wit_model.specs.{Parts.met_by, Rules.each_from}
 use Rattle.wit_model.proofs.{Elements.none-in, Functions.all_flat, RulesLemmas.each_at, Tables.grow_at, Owners.numbered_at as numbered_there}
 use Rattle.plan_meaning.specs.Plan.{Plan, PlannedType, kind_numbers, met_at, met_in, used_by_numbers}
 use Rattle.base_lemmas.proofs.{Elements.all-contained, Elements.all_weaker, Elements.contains-later, Lists.slice_take, Lists.within_there as slice_there}
@@ -10,9 +10,7 @@ use Rattle.base_lemmas.proofs.{Elements.all-contained, Elements.all_weaker, Elem
 -- what is met at a type, by what is met at smaller numbers
 pub met_there : (p : Plan) (j : ℕ) (x : PlannedType) → slice_get p.types j ≡ Some x → met_by (met_in p) j ≡ met_at (take j (met_in p)) (j, x)
 unfolding met_in
-met_there p j x e =
-    let zero_more : 0 + j ≡ j = omega arith in
-    ap (λ o. unwrap_or o []) (grow_at met_at (numbered_from 0 p.types) j (j, x) (numbered_there 0 p.types j x e ∙ ap (λ m. Some (m, x)) zero_more))
+met_there p j x e = search (std_rules, grow_at, numbered_there 0 p.types j x e)
 
 pub flat_among : {A B : Type 0} (f : A → List B) (xs : List A) (y : B) → Contains (flat_map f xs) y → (x : A) × Contains xs x × Contains (f x) y
 flat_among f [] y c = none-in y c
@@ -37,8 +35,7 @@ module _ (p : Plan) (fall : each_from (λ n x. list_all (λ m. nat_lt m n) (kind
   low_by zero n h range = absurd (omega (arith, h))
   low_by (suc fuel) n h range =
       let found = slice_there p.types n range in
-      ap (list_all (λ m. nat_le m n)) (met_there p n found.0 found.1)
-      ∙ at_type n found.0 (each_at (λ n x. list_all (λ m. nat_lt m n) (kind_numbers x.kind)) p.types n found.0 fall found.1)
+      ap (list_all (λ m. nat_le m n)) (met_there p n found.0 found.1) ∙ at_type n found.0 (each_at (λ n x. list_all (λ m. nat_lt m n) (kind_numbers x.kind)) p.types n found.0 fall found.1)
       (λ j less. ap (λ o. list_all (λ m. nat_le m j) (unwrap_or o [])) (slice_take (met_in p) n j less) ∙ low_by fuel j (omega (arith, less, h)) (omega (arith, less, range)))
 
   -- a named type that numbers use is used by one of them that isn't smaller

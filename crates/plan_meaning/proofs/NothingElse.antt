@@ -71,9 +71,7 @@ module _ (r : Resolve) (m : ℕ) where
         (ap (λ o. is_some (optional_text o)) is_named)
 
     is_item : (n : ℕ) (i : Interface) → interface_at r n ≡ Some i → has (filter_map uses.item_interface (items_of w)) n ≡ true
-    is_item n i e =
-        sym (shows_is n w)
-        ∙ (ap (λ y. planned.is_shown_in y n) same
+    is_item n i e = sym (shows_is n w) ∙ (ap (λ y. planned.is_shown_in y n) same
         ∙ item_by n i e i.name refl (λ t. option_map_or (λ k. is_id n (number_under t k.interfaces)) (option_and_then (package_in (plan_of r m)) (option_map (λ id. id.0) i.package)) false)
         (option_map_or (in_list (map planned_package r.packages.items)) (option_map (λ id. id.0) i.package) false)
         (each_there planned_interface (planned.is_placed (plan_of r m)) r.interfaces.items is.plan.interfaces_placed n i e))
@@ -90,8 +88,7 @@ package_holds_alone p r is built = package_alone r p.main (subst IsPackagePlan (
 world_by : (r : Resolve) (m : ℕ) → IsWorldPlan (plan_of r m) → (w : World) → world_at r 0 ≡ Some w → HoldsWorldAlone r m w
 world_by r m is w there =
     let first = get_back planned_world r.worlds.items 0 is.world (ap (λ xs. slice_get xs 0) is.alone) in
-    let one : first.0 ≡ w = ap (λ o. unwrap_or o first.0) (sym first.1 ∙ there) in
-    world_alone r m is w there (ap planned_world (sym one) ∙ first.2)
+    world_alone r m is w there (ap planned_world (sym (ap (λ o. unwrap_or o first.0) (sym first.1 ∙ there))) ∙ first.2)
 
 pub world_holds_alone : (p : Plan) (r : Resolve) → IsWorldPlan p → IsBuilt p r → (w : World) → world_at r 0 ≡ Some w → HoldsWorldAlone r p.main w
 world_holds_alone p r is built = world_by r p.main (subst IsWorldPlan (sym (plan_is p r built)) is)

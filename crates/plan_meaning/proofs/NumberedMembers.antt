@@ -2,20 +2,18 @@
 use Rattle.std.proofs.Common.{rules as std_rules, ◌≡◌, refl, sym, ap, ◌∙◌, ℕ, Bool, true, false, not, ◌&&◌, ◌||◌, ◌==◌, List, [], ◌∷◌, ◌++◌, map, Option, Some, None, option_map, slice_get}
 use Rattle.std.proofs.lemmas.{Bool.eqb-true, Bool.eq-eqb, Bool.and_from as both, Option.same_Some as same-some}
 use Rattle.std.specs.{List.AllByRecursion, List.AllZip, List.flat_map, List.list_all, List.list_any, Option.option_map_or}
-use Rattle.wit_model.specs.{Text.Text, Text.text_eq, Names.PackageIdentity, Names.path_in, Names.read_path, Tree.Place}
+use Rattle.wit_model.specs.{Text.Text, Text.text_eq, Names.PackageIdentity, Names.path_in, Names.read_path}
 use Rattle.wit_model.proofs.{NameLaws.read_path_is_spelled, VersionLaws.same_text, TextLemmas.text_same}
-use Rattle.comp_meaning.specs.{Follow.View, Follow.each, Follow.provided, Follow.place_of, Same.same_identity}
-use Rattle.comp_meaning.specs.Reads.{Part, Member, Sight, is_of, all_agree, is_interface_part}
+use Rattle.comp_meaning.specs.{Follow.View, Follow.each, Same.same_identity}
+use Rattle.comp_meaning.specs.Reads.{Part, Member, is_of, all_agree, is_interface_part}
 use Rattle.comp_meaning.proofs.SameLaws.{identities_decide}
-use Rattle.plan_meaning.specs.NumberedViews.{Tables, path_text, AreTables, NumberedView, view_of, NumberedSight, sight_of, IsSight, agree_in_numbers}
-use Rattle.plan_meaning.specs.NumberedRules.{Fact, is_interface}
-use Rattle.plan_meaning.specs.NumberedWorlds.{path, NumberedSeen, seen_of, sights_of_scope, HasPath}
-use Rattle.plan_meaning.specs.NumberedMembers.{Homes, IsHomeOf, HomesStand, is_of_package, is_named_in, NumberedPart, world, interface, NumberedMember, sights_of_part, sights_of_members, ShowsInterface, ShowsPart, IsMember, shown_view, imported_view, exported_view, are_interfaces, is_interface_of, stands_at_top, package_shown, world_shown, IsKnownSight, ImportsInNumbers, ExportInNumbers, PackagesInNumbers, OneWorldInNumbers}
+use Rattle.plan_meaning.specs.NumberedViews.{Tables, path_text, AreTables, NumberedView, NumberedSight, sight_of, IsSight, agree_in_numbers}
+use Rattle.plan_meaning.specs.{NumberedRules.Fact, NumberedWorlds.NumberedSeen, NumberedWorlds.seen_of, NumberedWorlds.HasPath}
+use Rattle.plan_meaning.specs.NumberedMembers.{Homes, IsHomeOf, HomesStand, is_of_package, is_named_in, NumberedPart, world, interface, NumberedMember, sights_of_part, sights_of_members, ShowsInterface, ShowsPart, IsMember, shown_view, imported_view, are_interfaces, is_interface_of, stands_at_top, IsKnownSight, ImportsInNumbers, ExportInNumbers, PackagesInNumbers, OneWorldInNumbers}
 use Rattle.plan_meaning.proofs.{NumberedRules.interface_same, Lists.each_so, Lists.all_same}
 use Rattle.plan_meaning.proofs.{NumberedViews.all_agree_in_numbers, NumberedWorlds.path_is, NumberedWorlds.path_number, NumberedWorlds.sights_in_numbers}
 use Rattle.base_lemmas.proofs.{Bools.both_ways as either_way, Bools.left_of as first_true, Bools.right_of as second_true, Lists.append_of_map, Lists.map_of_map}
 use Rattle.base_lemmas.proofs.Numbers.{turned}
-use Rattle.comp_meaning.specs.Rules as rules
 use Rattle.comp_meaning.specs.Reads as reads
 
 pub only_sights : (t : Tables) (known : ℕ → Fact) (seen : List NumberedSight) → AllByRecursion (IsKnownSight t known) seen → AllByRecursion (IsSight t) seen
@@ -26,10 +24,8 @@ module _ (t : Tables) (tables : AreTables t) (h : Homes) (stand : HomesStand t h
 
   module _ (n : ℕ) (identity : PackageIdentity) (there : slice_get h.packages n ≡ Some identity) where
     package_number : (m : ℕ) (other : PackageIdentity) → slice_get h.packages m ≡ Some other → same_identity identity other ≡ (n == m)
-    package_number m other at =
-        either_way (same_identity identity other) (n == m)
-        (λ e. let same : identity ≡ other = (identities_decide identity other).0 e in eq-eqb n m (stand.apart n m other (there ∙ ap Some same) at))
-        (λ e. (identities_decide identity other).1 (same-some identity other (sym there ∙ (ap (slice_get h.packages) (eqb-true n m e) ∙ at))))
+    package_number m other at = either_way _ _ (λ e. let same : identity ≡ other = (identities_decide identity other).0 e in eq-eqb n m (stand.apart n m other (there ∙ ap Some same) at))
+        (λ e. (identities_decide identity other).1 (same-some _ _ (sym there ∙ (ap (slice_get h.packages) (eqb-true n m e) ∙ at))))
 
     of_read : Option (PackageIdentity × Text) → Bool
     of_read None = false
@@ -39,26 +35,20 @@ module _ (t : Tables) (tables : AreTables t) (h : Homes) (stand : HomesStand t h
     unfolding of_read
     of_package p x =
         let home = stand.homes p x.0 x.1 in
-        ap (is_of identity) (path_is t p x)
-        ∙ (ap of_read home.reads
-        ∙ (package_number home.package_ home.identity home.stands
+        ap (is_of identity) (path_is t p x) ∙ (ap of_read home.reads ∙ (package_number home.package_ home.identity home.stands
         ∙ (turned n home.package_ ∙ sym (ap (λ o. option_map_or (λ (y : ℕ × Text). y.0 == n) o false) home.home))))
 
     -- the path of this name in the package
     named_in : (name : Text) → read_path (path_in identity name) ≡ Some (identity, name) → (p : ℕ) → HasPath t p → text_eq (path_text t p) (path_in identity name) ≡ is_named_in h n name p
     named_in name reads p x =
         let home = stand.homes p x.0 x.1 in
-        either_way (text_eq (path_text t p) (path_in identity name)) ((home.package_ == n) && text_eq home.name name) (into home) (back home)
+        either_way _ _ (λ e.
+        let same_path : x.0 ≡ path_in identity name = sym (path_is t p x) ∙ text_same _ _ e in
+        let pair : ◌≡◌ {A = PackageIdentity × Text} (home.identity, home.name) (identity, name) = same-some _ _ (sym home.reads ∙ (ap read_path same_path ∙ reads)) in
+        let number : n ≡ home.package_ = stand.apart n home.package_ home.identity (there ∙ ap Some (sym (ap (λ (y : PackageIdentity × Text). y.0) pair))) home.stands in
+        both _ _ (eq-eqb _ n (sym number)) (same_text _ _ (ap (λ (y : PackageIdentity × Text). y.1) pair))) (back home)
         ∙ sym (ap (λ o. option_map_or (λ (y : ℕ × Text). y.0 == n && text_eq y.1 name) o false) home.home)
       where
-        into : (home : IsHomeOf h p x.0) → text_eq (path_text t p) (path_in identity name) ≡ true → ((home.package_ == n) && text_eq home.name name) ≡ true
-        into home e =
-            let same_path : x.0 ≡ path_in identity name = sym (path_is t p x) ∙ text_same (path_text t p) (path_in identity name) e in
-            let pair : ◌≡◌ {A = PackageIdentity × Text} (home.identity, home.name) (identity, name) =
-            same-some (home.identity, home.name) (identity, name) (sym home.reads ∙ (ap read_path same_path ∙ reads)) in
-            let number : n ≡ home.package_ = stand.apart n home.package_ home.identity (there ∙ ap Some (sym (ap (λ (y : PackageIdentity × Text). y.0) pair))) home.stands in
-            both (home.package_ == n) (text_eq home.name name) (eq-eqb home.package_ n (sym number)) (same_text home.name name (ap (λ (y : PackageIdentity × Text). y.1) pair))
-
         back : (home : IsHomeOf h p x.0) → ((home.package_ == n) && text_eq home.name name) ≡ true → text_eq (path_text t p) (path_in identity name) ≡ true
         back home e =
             let number : home.package_ ≡ n = eqb-true home.package_ n (first_true (home.package_ == n) (text_eq home.name name) e) in
@@ -79,27 +69,20 @@ module _ (t : Tables) (tables : AreTables t) (h : Homes) (stand : HomesStand t h
       let name : home.name ≡ x.label = ap (λ (y : ℕ × Text). y.1) pair ∙ sym under in
       sym (path_is t p is.path ∙ ((read_path_is_spelled is.path.0 home.identity home.name home.reads).spelled ∙ (λ i. path_in (identity i) (name i))))
 
-  abbrev imported_sight : Text × View → Sight
-  imported_sight i = record { path = i.0; view = i.1; whole = false }
-
   part_sights : (m : NumberedMember) (x : Member) → slice_get h.packages m.package_ ≡ Some x.package_ → x.label ≡ m.label → (a : NumberedPart) (b : Part) → ShowsPart t h m a b
       → reads.sights (record { label = x.label; package_ = x.package_; part = b }) ≡ map (sight_of t) (sights_of_part t a)
   part_sights m x package_ under y z is = search (std_rules, sights_in_numbers, map_of_map, exported_path, append_of_map)
 
   pub all_sights : (ms : List NumberedMember) (members : List Member) → AllZip (IsMember t h) ms members → flat_map reads.sights members ≡ map (sight_of t) (sights_of_members t ms)
   all_sights [] [] z = refl
-  all_sights (m ∷ ms) (x ∷ members) z =
-      (λ i. part_sights m x z.0.package_ z.0.label m.part x.part z.0.part i ++ all_sights ms members z.1 i) ∙ sym (append_of_map (sight_of t) (sights_of_part t m.part) (sights_of_members t ms))
+  all_sights (m ∷ ms) (x ∷ members) z = (λ i. part_sights m x z.0.package_ z.0.label m.part x.part z.0.part i ++ all_sights ms members z.1 i) ∙ sym (append_of_map _ _ _)
   all_sights _ _ z = absurd z
 
   -- ---- the rules
 
   module _ (known : ℕ → Fact) where
     pub interfaces_same : (seen : List NumberedSight) → AllByRecursion (IsKnownSight t known) seen → reads.are_interfaces (map (sight_of t) seen) ≡ are_interfaces t known seen
-    interfaces_same = all_same (IsKnownSight t known) (λ s. rules.is_interface (Place.of_interface s.path) s.view) (sight_of t)
-        (λ (s : NumberedSight). is_interface t known s.place s.view)
-        (λ s h. ap (λ place. rules.is_interface place (view_of t s.view)) (ap Place.of_interface (path_is t s.place (h.0.path, h.0.home)) ∙ sym (ap place_of h.0.home))
-        ∙ interface_same t tables.shapes known s.place s.view h.1)
+    interfaces_same = search (std_rules, all_same, path_is, interface_same)
 
     pub agree_same : (seen : List NumberedSight) → AllByRecursion (IsKnownSight t known) seen → all_agree (map (sight_of t) seen) ≡ agree_in_numbers seen
     agree_same seen all = all_agree_in_numbers t tables seen (only_sights t known seen all)
@@ -125,10 +108,8 @@ module _ (t : Tables) (tables : AreTables t) (h : Homes) (stand : HomesStand t h
           → list_all (λ x. same_identity identity x.package_) members ≡ true
           → list_any (λ x. is_interface_part x.part && text_eq (path_text t s.place) (path_in identity x.label)) members ≡ list_any (λ m. is_interface_of s.place m.part) ms
       one_is s at [] [] z same = refl
-      one_is s at (m ∷ ms) (x ∷ members) z same =
-          let first = first_true (same_identity identity x.package_) (list_all (λ y. same_identity identity y.package_) members) same in
-          let more = second_true (same_identity identity x.package_) (list_all (λ y. same_identity identity y.package_) members) same in
-          λ i. part_is s at m x z.0.package_ z.0.label first m.part x.part z.0.part i || one_is s at ms members z.1 more i
+      one_is s at (m ∷ ms) (x ∷ members) z same = λ i. part_is s at m x z.0.package_ z.0.label (first_true _ _ same) m.part x.part z.0.part i
+          || one_is s at ms members z.1 (second_true _ _ same) i
       one_is s at _ _ z same = absurd z
 
       top_same : (ms : List NumberedMember) (members : List Member) → AllZip (IsMember t h) ms members → list_all (λ x. same_identity identity x.package_) members ≡ true
@@ -149,8 +130,7 @@ module _ (t : Tables) (tables : AreTables t) (h : Homes) (stand : HomesStand t h
               && (all_agree (map (sight_of t) seen) && reads.are_interfaces (map (sight_of t) seen))))
               ≡ (list_all (λ m. n == m.package_) ms && (list_all (stands_at_top h n ms) seen && (agree_in_numbers seen && are_interfaces t known seen)))
           by true e = λ i. packages_same ms members z i && (top_same ms members z e seen all i && (agree_same seen all i && interfaces_same seen all i))
-          by false e =
-              ap (λ b. b && (list_all (reads.stands_at_top identity members) (map (sight_of t) seen) && (all_agree (map (sight_of t) seen) && reads.are_interfaces (map (sight_of t) seen)))) e
+          by false e = ap (λ b. b && (list_all (reads.stands_at_top identity members) (map (sight_of t) seen) && (all_agree (map (sight_of t) seen) && reads.are_interfaces (map (sight_of t) seen)))) e
               ∙ sym (ap (λ b. b && (list_all (stands_at_top h n ms) seen && (agree_in_numbers seen && are_interfaces t known seen))) (sym (packages_same ms members z) ∙ e))
 
       named_same : (name : Text) → read_path (path_in identity name) ≡ Some (identity, name) → (seen : List NumberedSight) → AllByRecursion (IsKnownSight t known) seen
@@ -170,24 +150,13 @@ imports_same t (s ∷ ss) = search (std_rules, import_same, imports_same t ss)
 pub imports_in_numbers : ImportsInNumbers
 imports_in_numbers t w scope shows = ap (each reads.imported_view) shows.imports ∙ imports_same t w.imports
 
-export_same : (t : Tables) (ss : List NumberedSeen) → reads.exported_view (map (seen_of t) ss) ≡ option_map (shown_view t) (exported_view ss)
-export_same t y = search std_rules
-
 pub export_in_numbers : ExportInNumbers
-export_in_numbers t w scope shows = ap reads.exported_view shows.exports ∙ export_same t w.exports
+export_in_numbers t w scope shows = ap reads.exported_view shows.exports ∙ (search std_rules)
 
 -- ---- laws
 
 pub packages_in_numbers : PackagesInNumbers
-packages_in_numbers t tables h stand known n identity there ms members z all =
-    ap (λ test. provided test (package_shown identity members))
-    (ap (λ seen. list_all (λ x. same_identity identity x.package_) members && (list_all (reads.stands_at_top identity members) seen && (all_agree seen && reads.are_interfaces seen)))
-    (all_sights t tables h stand ms members z)
-    ∙ test_same t tables h stand known n identity there ms members z (sights_of_members t ms) all)
+packages_in_numbers t tables h stand known n identity there ms members z all = search (std_rules, all_sights, test_same)
 
 pub one_world_in_numbers : OneWorldInNumbers
-one_world_in_numbers t tables h stand known n identity there name reads_ w scope shows all =
-    ap (λ test. provided test (world_shown identity name scope))
-    (ap (λ seen. all_agree seen && (reads.are_interfaces seen && not (list_any (λ s. text_eq s.path (path_in identity name)) seen))) (sights_in_numbers t w scope shows)
-    ∙ λ i. agree_same t tables h stand known (sights_of_scope t w) all i && (interfaces_same t tables h stand known (sights_of_scope t w) all i && not
-    (named_same t tables h stand known n identity there name reads_ (sights_of_scope t w) all i)))
+one_world_in_numbers t tables h stand known n identity there name reads_ w scope shows all = search (std_rules, sights_in_numbers t w scope shows, agree_same, interfaces_same, named_same)

@@ -2,10 +2,10 @@
 use Rattle.std.proofs.Common.{◌≡◌, refl, sym, ap, ◌∙◌, ℕ, ◌+◌, ◌-◌, ◌<◌, min, Bool, true, false, not, ◌&&◌, ◌||◌, ◌==◌, cond, List, [], ◌∷◌, map, Option, Some, None, option_map, slice_get, codes, rules as std_rules}
 use Rattle.std.proofs.lemmas.Bool.{eqb-true, eq-eqb, lt-ltb}
 use Rattle.std.specs.{Prelude.option_and_then, Prelude.nat_le, List.AllByRecursion, List.Contains, List.list_any, Option.option_map_or}
-use Rattle.wit_model.specs.{Text.Text, Text.text_eq, Names.is_label, Names.constructor_name, Names.method_name, Names.static_name}
+use Rattle.wit_model.specs.{Text.Text, Text.text_eq, Names.is_label}
 use Rattle.wit_model.specs.Tree.{Place, Form, Tree, Trees, Declaration, children, deepest, levels, Primitive}
 use Rattle.comp_meaning.specs.{Same.same_place, Same.same_tree, Same.same_trees, Same.same_form}
-use Rattle.comp_meaning.specs.Rules.{are_labels, form_labels, is_label_behind, most_levels, are_parts, own_name, borrow_name}
+use Rattle.comp_meaning.specs.Rules.{are_labels, form_labels, most_levels, are_parts, own_name, borrow_name}
 use Rattle.comp_meaning.proofs.SameLaws.{places_decide}
 use Rattle.plan_meaning.specs.Shapes.{Shape, form_code, first_label, named_shape, node_shape, IsTable}
 use Rattle.plan_meaning.specs.NumberedViews.{FunctionShape, Tables, place_at, tree_at, signature_over, IsPart, AllOf, PartsOf, itself, inside, NumberedType, NumberedView, view_of, declaration_of, shown_type, ViewPasses}
@@ -76,10 +76,9 @@ module _ (t : Tables) (table : IsTable t.shapes) (known : ℕ → Fact) (p : ℕ
 
   pub declared_same : (d : Option ℕ) → AllOf Known d → rules.is_declared here (declaration_of t d) ≡ is_declared t known p d
   declared_same None h = refl
-  declared_same (Some k) h =
-      by_shape t table (λ x. rules.is_declared here (Declaration.type_ x)) (λ o. not (option_map_or (λ s. not (s.sort == 0)) o false) || is_declared_form p (known k)) k h.part (λ q e. refl)
-      (λ n q name is there e. refl)
-      (λ n form ks is there e ranges. form_same form (children (map (tree_at t) ks)) k h e ∙ sym (ap (λ b. not (not b) || is_declared_form p (known k)) (no_name form)))
+  declared_same (Some k) h = by_shape t table (λ x. rules.is_declared here (Declaration.type_ x)) (λ o. not (option_map_or (λ s. not (s.sort == 0)) o false) || is_declared_form p (known k)) k h.part
+      (λ q e. refl) (λ n q name is there e. refl) (λ n form ks is there e ranges. form_same form (children (map (tree_at t) ks)) k h e
+      ∙ sym (ap (λ b. not (not b) || is_declared_form p (known k)) (no_name form)))
 
   -- ---- signatures
 
@@ -120,12 +119,10 @@ module _ (t : Tables) (table : IsTable t.shapes) (known : ℕ → Fact) (p : ℕ
       handle_cases _ _ x o e h = absurd cc
 
       handle_same : (k : ℕ) → IsPart t k → IsSeenFrom t p k → same_tree (tree_at t k) handle_tree ≡ is_handle t known p sort resource k
-      handle_same k part seen =
-          by_shape t table (λ x. same_tree x handle_tree) (λ o. option_map_or (is_name t known p resource) (option_and_then (held_in sort) o) false) k part (λ q e. refl)
+      handle_same k part seen = by_shape t table (λ x. same_tree x handle_tree) (λ o. option_map_or (is_name t known p resource) (option_and_then (held_in sort) o) false) k part (λ q e. refl)
           (λ n q name is there e. sym (ap (λ b. option_map_or (is_name t known p resource) (cond b None None) false) not_name))
-          (λ n form ks is there e ranges. handle_cases (same_form form handle) ((form_code form).sort == sort)
-          (same_trees (children (map (tree_at t) ks)) (Trees.child itself_named Trees.no_children)) (only_of ks) (by_sort form)
-          (only_same ks ranges (λ m c q h. seen q (inside k n m q form ks is there c h))))
+          (λ n form ks is there e ranges. handle_cases (same_form form handle) ((form_code form).sort == sort) (same_trees (children (map (tree_at t) ks)) (Trees.child itself_named Trees.no_children))
+          (only_of ks) (by_sort form) (only_same ks ranges (λ m c q h. seen q (inside k n m q form ks is there c h))))
 
     own_same : (k : ℕ) → IsPart t k → IsSeenFrom t p k → same_tree (tree_at t k) (own_name here resource) ≡ is_handle t known p own_sort resource k
     own_same k part seen = handle_same Form.own_of own_sort own_by_sort refl k part seen
@@ -147,21 +144,16 @@ module _ (t : Tables) (table : IsTable t.shapes) (known : ℕ → Fact) (p : ℕ
 
     constructs_same : (r : Option ℕ) → AllOf Known r → rules.constructs (own_name here resource) (option_map (tree_at t) r) ≡ constructs t known p resource r
     constructs_same None h = refl
-    constructs_same (Some k) h =
-        by_shape t table (λ x. rules.constructs (own_name here resource) (Some x))
+    constructs_same (Some k) h = by_shape t table (λ x. rules.constructs (own_name here resource) (Some x))
         (λ o. option_map_or (is_handle t known p own_sort resource) (option_and_then ok_in o) (is_handle t known p own_sort resource k)) k h.part (λ q e. itself_same e)
-        (λ n q name is there e. itself_same e)
-        (λ n form ks is there e ranges. ok_same form ks (is_handle t known p own_sort resource k)
+        (λ n q name is there e. itself_same e) (λ n form ks is there e ranges. ok_same form ks (is_handle t known p own_sort resource k)
         (λ m c. own_same m (all_at (IsPart t) ks ranges m c) (λ q x. h.seen q (inside k n m q form ks is there c x))) (itself_same e))
       where
         itself_same : {x : Tree} → tree_at t k ≡ x → same_tree x (own_name here resource) ≡ is_handle t known p own_sort resource k
         itself_same e = sym (ap (λ x. same_tree x (own_name here resource)) e) ∙ own_same k h.part h.seen
 
     function_of_same : (name : Text) (f : FunctionShape) → PartsOf Known f → rules.is_function_of here name (signature_over (tree_at t) f) resource ≡ is_function_of t known p name f resource
-    function_of_same name f h =
-        λ i. (text_eq name (constructor_name resource) && not f.is_async && constructs_same f.result h.1 i)
-        || (is_label_behind (method_name resource []) name && begins_same f.params h.0 i)
-        || is_label_behind (static_name resource []) name
+    function_of_same name f h = search (std_rules, constructs_same, begins_same)
 
   pub function_same : (resources : List Text) (name : Text) (f : FunctionShape) → PartsOf Known f
       → rules.is_function here resources name (signature_over (tree_at t) f) ≡ is_function t known p resources name f

@@ -50,11 +50,7 @@ module _ (t : Tables) (tables : AreTables t) where
   one_params [] [] hp hq e = refl
   one_params (p ∷ ps) (q ∷ qs) hp hq e =
       let head : param_tree p ≡ param_tree q = cc in
-      let rest : map param_tree ps ≡ map param_tree qs = cc in
-      let names : p.0 ≡ q.0 = ap (λ (x : Text × Tree). x.0) head in
-      let numbers : p.1 ≡ q.1 = one_outside p.1 q.1 hp.0 hq.0 (ap (λ (x : Text × Tree). x.1) head) in
-      let more : ps ≡ qs = one_params ps qs hp.1 hq.1 rest in
-      λ i. (names i, numbers i) ∷ more i
+      λ i. ((ap (λ (x : Text × Tree). x.0) head) i, (one_outside p.1 q.1 hp.0 hq.0 (ap (λ (x : Text × Tree). x.1) head)) i) ∷ (one_params ps qs hp.1 hq.1 cc) i
   one_params _ _ hp hq e = absurd cc
 
   one_result : (a b : Option ℕ) → AllOf (IsOutsidePart t) a → AllOf (IsOutsidePart t) b → option_map (tree_at t) a ≡ option_map (tree_at t) b → a ≡ b
@@ -63,18 +59,14 @@ module _ (t : Tables) (tables : AreTables t) where
   one_function : (f g : FunctionShape) → PartsOf (IsOutsidePart t) f → PartsOf (IsOutsidePart t) g → signature_over (tree_at t) f ≡ signature_over (tree_at t) g → f ≡ g
   one_function f g hf hg e =
       let params = one_params f.params g.params hf.0 hg.0 (ap (λ (s : Signature). s.params) e) in
-      let results = one_result f.result g.result hf.1 hg.1 (ap (λ (s : Signature). s.result) e) in
-      let waits = ap (λ (s : Signature). s.is_async) e in
-      λ i. record { is_async = waits i; params = params i; result = results i }
+      λ i. record { is_async = (ap (λ (s : Signature). s.is_async) e) i; params = params i; result = (one_result f.result g.result hf.1 hg.1 (ap (λ (s : Signature). s.result) e)) i }
 
   function_there : (n : ℕ) → n < length t.functions → slice_get t.functions n ≡ Some (function_at t n)
   function_there n h = let found = slice_there t.functions n h in found.1 ∙ ap Some (sym (ap (λ o. unwrap_or o no_function) found.1))
 
   function_number : (m n : ℕ) → m < length t.functions → n < length t.functions → PartsOf (IsOutsidePart t) (function_at t m) → PartsOf (IsOutsidePart t) (function_at t n)
       → same_signature (signature_at t m) (signature_at t n) ≡ (m == n)
-  function_number m n hm hn pm pn =
-      either_way (same_signature (signature_at t m) (signature_at t n)) (m == n)
-      (λ h.
+  function_number m n hm hn pm pn = either_way (same_signature (signature_at t m) (signature_at t n)) (m == n) (λ h.
       let shapes : function_at t m ≡ function_at t n = one_function (function_at t m) (function_at t n) pm pn ((signatures_decide (signature_at t m) (signature_at t n)).0 h) in
       eq-eqb m n (tables.apart m n (function_at t n) (function_there m hm ∙ ap Some shapes) (function_there n hn)))
       (λ h. (signatures_decide (signature_at t m) (signature_at t n)).1 (ap (signature_at t) (eqb-true m n h)))
@@ -148,8 +140,7 @@ module _ (t : Tables) (tables : AreTables t) where
   pub first_agree_in_numbers : (earlier seen : List NumberedSight) → AllByRecursion (IsSight t) earlier → AllByRecursion (IsSight t) seen
       → agree_with_first (map (sight_of t) earlier) (map (sight_of t) seen) ≡ agree_with_first_in_numbers earlier seen
   first_agree_in_numbers earlier [] he h = refl
-  first_agree_in_numbers earlier (s ∷ seen) he h =
-      search (std_rules, append_of_map, first_alike, all_end, first_agree_in_numbers (earlier ++ s ∷ []) seen (all_end (IsSight t) earlier s he h.0) h.1)
+  first_agree_in_numbers earlier (s ∷ seen) he h = search (std_rules, append_of_map, first_alike, all_end, first_agree_in_numbers (earlier ++ s ∷ []) seen (all_end (IsSight t) earlier s he h.0) h.1)
 
 pub each_number_tells : EachNumberTells
 each_number_tells t tables = numbers_tell t tables

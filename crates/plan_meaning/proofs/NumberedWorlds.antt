@@ -2,13 +2,13 @@
 use Rattle.std.proofs.Common.{◌≡◌, refl, sym, ap, ◌∙◌, ℕ, true, not, ◌&&◌, ◌||◌, ◌==◌, cond, List, [], ◌∷◌, ◌++◌, map, Option, Some, None, unwrap_or, rules as std_rules}
 use Rattle.std.proofs.lemmas.Bool.{eqb-true}
 use Rattle.std.specs.{Prelude.option_and_then, List.AllByRecursion, List.flat_map, List.list_all, List.list_any, Option.option_map_or}
-use Rattle.wit_model.specs.{Text.Text, Text.text_eq, Tree.Place, Tree.Tree, Tree.Declaration, Uses.has}
+use Rattle.wit_model.specs.{Text.Text, Text.text_eq, Tree.Place, Tree.Declaration, Uses.has}
 use Rattle.comp_meaning.specs.{Follow.View, Follow.Seen, Follow.interface_of, Follow.place_of, Rules.distinct}
 use Rattle.plan_meaning.specs.{Shapes.form_code, Shapes.first_label, NumberedRules.Fact, NumberedRules.name_in, NumberedRules.IsKnown}
 use Rattle.plan_meaning.specs.NumberedViews.{Tables, path_at, path_text, place_at, IsPart, AllOf, AreTables, NumberedType, NumberedView, view_of, declaration_of, shown_type, sight_of}
 use Rattle.plan_meaning.specs.NumberedWorlds.{NumberedKey, path, place_of_key, key_of, NumberedShown, instance, function, declares, NumberedSeen, shown_of, seen_of, NumberedInstance, instance_of, sights_of_instance, if_outside, used_by, used_by_view, others_than, uses_of, path_seen, stand_earlier, are_reached, are_once, resources_seen, is_item, are_imports, HasPath, KeyStands, ItemStands, DeclaresParts, UsesInNumbers, ReachedInNumbers, PathsInNumbers, WorldsInNumbers, SightsInNumbers}
 use Rattle.plan_meaning.proofs.NumberedRules.{no_name, declared_same, function_same, interface_same, by_shape}
-use Rattle.plan_meaning.proofs.Lists.{each_so, all_same}
+use Rattle.plan_meaning.proofs.Lists.{each_so, all_same, flat_along, all_flat}
 use Rattle.base_lemmas.proofs.{Elements.all_both as all_in_both, Lists.append_of_map, Lists.map_of_map}
 use Rattle.comp_meaning.specs.Rules as rules
 use Rattle.comp_meaning.specs.Reads as reads
@@ -35,35 +35,23 @@ module _ (t : Tables) (tables : AreTables t) where
   used_paths : (d : Option ℕ) → AllByRecursion (HasPath t) (used_by t d)
   used_paths y = search std_rules
 
-  name_used : (q : ℕ) (name : Text) → rules.used_by (Declaration.type_ (Tree.named (place_at t q) name)) ≡ map (path_text t) (if_outside t q)
-  name_used q name = search std_rules
-
   abbrev places_named : Option (ℕ × Text) → List ℕ
   places_named o = option_map_or (λ (x : ℕ × Text). if_outside t x.0) o []
 
   used_same : (d : Option ℕ) → AllOf (IsPart t) d → rules.used_by (declaration_of t d) ≡ map (path_text t) (used_by t d)
   used_same None h = refl
-  used_same (Some k) h =
-      by_shape t tables.shapes (λ x. rules.used_by (Declaration.type_ x)) (λ o. map (path_text t) (places_named (option_and_then name_in o))) k h (λ q e. refl)
-      (λ n q name is there e. name_used q name)
+  used_same (Some k) h = by_shape t tables.shapes (λ x. rules.used_by (Declaration.type_ x)) (λ o. map (path_text t) (places_named (option_and_then name_in o))) k h (λ q e. refl)
+      (λ n q name is there e. (search std_rules))
       (λ n form ks is there e ranges. sym (ap (λ b. map (path_text t) (places_named (cond b (Some ((form_code form).number, first_label (form_code form).labels)) None))) (no_name form)))
 
   -- ---- what a view uses
 
-  used_by_types : (xs : List NumberedType) → AllByRecursion (λ (x : NumberedType). AllOf (IsPart t) x.declared) xs
-      → flat_map (λ x. rules.used_by x.meaning.declaration) (map (shown_type t) xs) ≡ map (path_text t) (flat_map (λ x. used_by t x.declared) xs)
-  used_by_types [] h = refl
-  used_by_types (x ∷ xs) h = (λ i. used_same x.declared h.0 i ++ used_by_types xs h.1 i) ∙ sym (append_of_map (path_text t) (used_by t x.declared) (flat_map (λ y. used_by t y.declared) xs))
-
   pub view_uses : (v : NumberedView) → DeclaresParts t v → rules.used_by_view (view_of t v) ≡ map (path_text t) (used_by_view t v)
-  view_uses v h = used_by_types v.types h
-
-  types_paths : (xs : List NumberedType) → AllByRecursion (HasPath t) (flat_map (λ x. used_by t x.declared) xs)
-  types_paths [] = tt
-  types_paths (x ∷ xs) = all_in_both (HasPath t) (used_by t x.declared) (flat_map (λ y. used_by t y.declared) xs) (used_paths x.declared) (types_paths xs)
+  view_uses v h = flat_along (λ (x : NumberedType). AllOf (IsPart t) x.declared) (λ x. rules.used_by x.meaning.declaration) (shown_type t) (path_text t) (λ x. used_by t x.declared)
+      (λ x. used_same x.declared) v.types h
 
   pub view_paths : (v : NumberedView) → AllByRecursion (HasPath t) (used_by_view t v)
-  view_paths v = types_paths v.types
+  view_paths v = all_flat (HasPath t) (λ x. used_by t x.declared) (λ x. used_paths x.declared) v.types
 
   -- ---- others than the own
 
@@ -96,14 +84,8 @@ module _ (t : Tables) (tables : AreTables t) where
   abbrev AreOver : List NumberedSeen → Type 0
   AreOver ss = AllByRecursion (λ (s : NumberedSeen). ItemIsOver s.shown) ss
 
-  uses_same : (s : NumberedSeen) → ItemIsOver s.shown → rules.uses (seen_of t s) ≡ map (path_text t) (uses_of t s.shown)
-  uses_same s h = search (std_rules, view_uses, others_same, view_paths, used_same)
-
   uses_paths : (x : NumberedShown) → AllByRecursion (HasPath t) (uses_of t x)
   uses_paths x = search (std_rules, others_paths, view_paths, used_paths)
-
-  seen_same : (x : NumberedShown) → rules.path_seen (shown_of t x) ≡ map (path_text t) (path_seen x)
-  seen_same x = search std_rules
 
   seen_paths : (x : NumberedShown) → ItemIsOver x → AllByRecursion (HasPath t) (path_seen x)
   seen_paths x h = search std_rules
@@ -113,10 +95,10 @@ module _ (t : Tables) (tables : AreTables t) where
   earlier_same earlier [] he h = refl
   earlier_same earlier (s ∷ ss) he h =
       let here : list_all (λ x. list_any (text_eq x) (map (path_text t) earlier)) (rules.uses (seen_of t s)) ≡ list_all (has earlier) (uses_of t s.shown) =
-      ap (list_all (λ x. list_any (text_eq x) (map (path_text t) earlier))) (uses_same s h.0)
+      ap (list_all (λ x. list_any (text_eq x) (map (path_text t) earlier))) (search (std_rules, view_uses, others_same, view_paths, used_same))
       ∙ all_same (HasPath t) (λ x. list_any (text_eq x) (map (path_text t) earlier)) (path_text t) (has earlier) (λ q. has_path earlier q he) (uses_of t s.shown) (uses_paths s.shown) in
       let more : map (path_text t) earlier ++ rules.path_seen (shown_of t s.shown) ≡ map (path_text t) (earlier ++ path_seen s.shown) =
-      ap (λ xs. map (path_text t) earlier ++ xs) (seen_same s.shown) ∙ sym (append_of_map (path_text t) earlier (path_seen s.shown)) in
+      ap (λ xs. map (path_text t) earlier ++ xs) (search std_rules) ∙ sym (append_of_map (path_text t) earlier (path_seen s.shown)) in
       let rest = ap (λ xs. rules.stand_earlier xs (map (seen_of t) ss)) more ∙ earlier_same (earlier ++ path_seen s.shown) ss
       (all_in_both (HasPath t) earlier (path_seen s.shown) he (seen_paths s.shown h.0)) h.1 in
       λ i. here i && rest i
@@ -129,25 +111,17 @@ module _ (t : Tables) (tables : AreTables t) where
   abbrev IsOver : ℕ × NumberedView → Type 0
   IsOver i = HasPath t i.0 × DeclaresParts t i.1
 
-  later_uses : (ls : List (ℕ × NumberedView)) → AllByRecursion IsOver ls → flat_map (λ l. rules.used_by_view l.1) (map seen_view ls) ≡ map (path_text t) (flat_map (λ l. used_by_view t l.1) ls)
-  later_uses [] h = refl
-  later_uses (l ∷ ls) h = (λ i. view_uses l.1 h.0.1 i ++ later_uses ls h.1 i) ∙ sym (append_of_map (path_text t) (used_by_view t l.1) (flat_map (λ x. used_by_view t x.1) ls))
-
-  later_paths : (ls : List (ℕ × NumberedView)) → AllByRecursion (HasPath t) (flat_map (λ l. used_by_view t l.1) ls)
-  later_paths [] = tt
-  later_paths (l ∷ ls) = all_in_both (HasPath t) (used_by_view t l.1) (flat_map (λ x. used_by_view t x.1) ls) (view_paths l.1) (later_paths ls)
-
   pub reached_same : (imports : List (ℕ × NumberedView)) (exported : NumberedView) → AllByRecursion IsOver imports → DeclaresParts t exported
       → reads.are_reached (map seen_view imports) (view_of t exported) ≡ are_reached t imports exported
   reached_same [] exported h he = refl
   reached_same (i ∷ later) exported h he =
       let all : flat_map (λ l. rules.used_by_view l.1) (map seen_view later) ++ rules.used_by_view (view_of t exported) ≡ map (path_text t)
       (flat_map (λ l. used_by_view t l.1) later ++ used_by_view t exported) =
-      (λ j. later_uses later h.1 j ++ view_uses exported he j) ∙ sym (append_of_map (path_text t) (flat_map (λ l. used_by_view t l.1) later) (used_by_view t exported)) in
-      let one = ap (list_any (text_eq (path_text t i.0))) all
-      ∙ has_path (flat_map (λ l. used_by_view t l.1) later ++ used_by_view t exported) i.0
-      (all_in_both (HasPath t) (flat_map (λ l. used_by_view t l.1) later) (used_by_view t exported) (later_paths later) (view_paths exported)) h.0.0 in
-      λ j. one j && reached_same later exported h.1 he j
+      (λ j. (flat_along IsOver (λ l. rules.used_by_view l.1) seen_view (path_text t) (λ l. used_by_view t l.1) (λ l h. view_uses l.1 h.1)) later h.1 j ++ view_uses exported he j)
+      ∙ sym (append_of_map (path_text t) (flat_map (λ l. used_by_view t l.1) later) (used_by_view t exported)) in
+      λ j. (ap (list_any (text_eq (path_text t i.0))) all ∙ has_path (flat_map (λ l. used_by_view t l.1) later ++ used_by_view t exported) i.0
+      (all_in_both (HasPath t) (flat_map (λ l. used_by_view t l.1) later) (used_by_view t exported) (all_flat (HasPath t) (λ l. used_by_view t l.1) (λ l. view_paths l.1) later) (view_paths exported))
+      h.0.0) j && reached_same later exported h.1 he j
 
 -- ---- worlds
 
@@ -175,18 +149,14 @@ module _ (t : Tables) (tables : AreTables t) (known : ℕ → Fact) (home : ℕ)
   declared_over : (p : ℕ) (d : Option ℕ) → AllOf (IsKnown t known p) d → AllOf (IsPart t) d
   declared_over p x h = search std_rules
 
-  item_over : (x : NumberedShown) → ItemStands t known home x → ItemIsOver t tables x
-  item_over y h = search (std_rules, each_so, declared_over)
-
   all_over : (ss : List NumberedSeen) → AllStand ss → AreOver t tables ss
-  all_over = each_so (λ (s : NumberedSeen). ItemStands t known home s.shown) (λ s. ItemIsOver t tables s.shown) (λ s. item_over s.shown)
+  all_over = each_so (λ (s : NumberedSeen). ItemStands t known home s.shown) (λ s. ItemIsOver t tables s.shown) (λ s. (λ h. search (std_rules, each_so, declared_over)))
 
   keys_same : (ss : List NumberedSeen) → distinct (map (λ s. s.key) (map (seen_of t) ss)) ≡ distinct (map (λ s. s.key) ss)
   keys_same ss = ap distinct (map_of_map (λ (s : Seen). s.key) (seen_of t) ss)
 
   order_same : (is es : List NumberedSeen) → AllStand is → AllStand es → rules.stand_earlier [] (map (seen_of t) is ++ map (seen_of t) es) ≡ stand_earlier t [] (is ++ es)
-  order_same is es hi he =
-      ap (rules.stand_earlier []) (sym (append_of_map (seen_of t) is es))
+  order_same is es hi he = ap (rules.stand_earlier []) (sym (append_of_map (seen_of t) is es))
       ∙ earlier_same t tables [] (is ++ es) tt (all_in_both (λ (s : NumberedSeen). ItemIsOver t tables s.shown) is es (all_over is hi) (all_over es he))
 
 pub worlds_in_numbers : WorldsInNumbers

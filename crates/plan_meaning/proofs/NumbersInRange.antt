@@ -24,11 +24,8 @@ use Rattle.plan_meaning.specs.PlanRules as planned
 
 -- ---- lists that fit
 
-place_fits : (n l : ℕ) → n < l → nat_le l 4294967295 ≡ true → is_place n ≡ true
-place_fits n l less h = grind (arith, nat_tests, less, h)
-
 place_there : {A B : Type 0} (g : A → B) (xs : List A) → fits (map g xs) ≡ true → (n : ℕ) (x : A) → slice_get xs n ≡ Some x → is_place n ≡ true
-place_there g xs h n x e = place_fits n (length xs) (slice_get_within xs n x e) (ap (λ l. nat_le l 4294967295) (sym (length_of_map g xs)) ∙ h)
+place_there g xs h n x e = grind (arith, nat_tests, (slice_get_within xs n x e), (ap (λ l. nat_le l 4294967295) (sym (length_of_map g xs)) ∙ h))
 
 -- ---- what has to stand there
 
@@ -51,10 +48,9 @@ module _ (r : Resolve) (m : ℕ) (is : IsPlan (plan_of r m)) where
       → passes (in_list r.packages.items) (package_number o) ≡ true
   package_inline x h = search (std_rules, mapped_range)
 
-  interface_package : (test : Text → PlannedPackage → Bool) (rest : Bool) (name : Option (String Global)) (o : Option PackageId) →
-      option_map_or (λ t. option_map_or (test t) (option_and_then (package_in (plan_of r m)) (option_map (λ id. id.0) o)) false) (optional_text name)
-      (option_map_or (in_list (map planned_package r.packages.items)) (option_map (λ id. id.0) o) false && rest) ≡ true
-      → passes (in_list r.packages.items) (package_number o) ≡ true
+  interface_package : (test : Text → PlannedPackage → Bool) (rest : Bool) (name : Option (String Global)) (o : Option PackageId)
+      → option_map_or (λ t. option_map_or (test t) (option_and_then (package_in (plan_of r m)) (option_map (λ id. id.0) o)) false) (optional_text name)
+      (option_map_or (in_list (map planned_package r.packages.items)) (option_map (λ id. id.0) o) false && rest) ≡ true → passes (in_list r.packages.items) (package_number o) ≡ true
   interface_package test rest x o h = search (std_rules, package_found, package_inline, first_true)
 
   type_found : (o : TypeOwner) (t : Text) (n : ℕ) → planned.is_type_of (plan_of r m) o (t, n) ≡ true → in_list r.types.items n ≡ true
@@ -67,21 +63,17 @@ module _ (r : Resolve) (m : ℕ) (is : IsPlan (plan_of r m)) where
 
   packages_range : each_from (λ n p. is_place n && (list_all (λ id. in_list r.interfaces.items id.0) (values p.interfaces) && list_all (λ id. in_list r.worlds.items id.0) (values p.worlds))) 0
       r.packages.items ≡ true
-  packages_range = each_by_number (λ n p. is_place n && (list_all (λ id. in_list r.interfaces.items id.0) (values p.interfaces) && list_all (λ id. in_list r.worlds.items id.0) (values p.worlds)))
-      r.packages.items (λ n p e. both _ _ (place_there planned_package r.packages.items is.packages_fit n p e)
+  packages_range = each_by_number _ _ (λ n p e. both _ _ (place_there planned_package r.packages.items is.packages_fit n p e)
       ((λ j. list_all-map (λ id. in_list r.interfaces.items id.0) (λ e. e.1) p.interfaces.entries j && list_all-map (λ id. in_list r.worlds.items id.0) (λ e. e.1) p.worlds.entries j)
       ∙ each_at (λ n p. list_all (λ e. in_list r.interfaces.items e.1.0) p.interfaces.entries && list_all (λ e. in_list r.worlds.items e.1.0) p.worlds.entries) r.packages.items n p
       (members_pass r m is (λ n e. in_list r.interfaces.items e.1.0) (λ n e. in_list r.worlds.items e.1.0) (λ n e h. (interface_listed r m is n e h).0) (λ n e h. (world_listed r m is n e h).0)) e))
 
   interfaces_range : each_from (λ n i. is_place n && (passes (in_list r.packages.items) (package_number i.package)
       && (list_all (λ id. in_list r.types.items id.0) (values i.types) && list_all (rules.function_in_range r) (values i.functions)))) 0 r.interfaces.items ≡ true
-  interfaces_range = each_by_number (λ n i. is_place n && (passes (in_list r.packages.items) (package_number i.package)
-      && (list_all (λ id. in_list r.types.items id.0) (values i.types) && list_all (rules.function_in_range r) (values i.functions)))) r.interfaces.items (λ n i e.
-      both _ _ (place_there planned_interface r.interfaces.items is.interfaces_fit n i e)
+  interfaces_range = each_by_number _ _ (λ n i e. both _ _ (place_there planned_interface r.interfaces.items is.interfaces_fit n i e)
       (both _ _ (interface_package (λ t k. is_id n (plan.number_under t k.interfaces)) _ i.name i.package
       (each_there planned_interface (planned.is_placed (plan_of r m)) r.interfaces.items is.interfaces_placed n i e))
-      (both _ _
-      (list_all-map (λ id. in_list r.types.items id.0) (λ e. e.1) i.types.entries
+      (both _ _ (list_all-map (λ id. in_list r.types.items id.0) (λ e. e.1) i.types.entries
       ∙ all_built (λ e. (text_of e.0, e.1.0)) (planned.is_type_of (plan_of r m) (as_interface n)) (λ e. in_list r.types.items e.1.0) (λ e k. type_found (as_interface n) (text_of e.0) e.1.0 k)
       i.types.entries (each_there planned_interface (λ n i. list_all (planned.is_type_of (plan_of r m) (as_interface n)) i.types) r.interfaces.items is.interface_types n i e))
       (interface_holds r m (λ o f. planned.function_in_range (plan_of r m) f) (λ o f. rules.function_in_range r f) function_range is.functions_in_range n i e))))
@@ -105,15 +97,13 @@ module _ (r : Resolve) (m : ℕ) (is : IsPlan (plan_of r m)) where
 
   worlds_range : each_from (λ n w. is_place n && (passes (in_list r.packages.items) (package_number w.package) && (entries_in_range r w.imports.entries && entries_in_range r w.exports.entries))) 0
       r.worlds.items ≡ true
-  worlds_range = each_by_number (λ n w. is_place n && (passes (in_list r.packages.items) (package_number w.package) && (entries_in_range r w.imports.entries && entries_in_range r w.exports.entries)))
-      r.worlds.items (λ n w e.
+  worlds_range = each_by_number _ _ (λ n w e.
       let fs = entries_pass (rules.function_in_range r) w
       (world_holds r m (λ o f. planned.function_in_range (plan_of r m) f) (λ o f. rules.function_in_range r f) function_range is.functions_in_range n w e) in
       both _ _ (place_there planned_world r.worlds.items is.worlds_fit n w e)
-      (both _ _
-      (package_found (λ k. is_id n (plan.number_under (text_of w.name) k.worlds)) w.package (each_there planned_world (planned.is_world_placed (plan_of r m)) r.worlds.items is.worlds_placed n w e))
-      (both _ _
-      (all_two (λ x. planned.import_stands (plan_of r m) n (planned_key x.0, planned_item x.1)) (λ x. passes (rules.function_in_range r) (item_function x.1))
+      (both _ _ (package_found (λ k. is_id n (plan.number_under (text_of w.name) k.worlds)) w.package
+      (each_there planned_world (planned.is_world_placed (plan_of r m)) r.worlds.items is.worlds_placed n w e))
+      (both _ _ (all_two (λ x. planned.import_stands (plan_of r m) n (planned_key x.0, planned_item x.1)) (λ x. passes (rules.function_in_range r) (item_function x.1))
       (λ x. key_in_range r x.0 && item_in_range r x.1) (import_range n) w.imports.entries (imports_there r m is n w e) fs.0)
       (all_two (λ x. planned.export_stands (plan_of r m) (planned_key x.0, planned_item x.1)) (λ x. passes (rules.function_in_range r) (item_function x.1))
       (λ x. key_in_range r x.0 && item_in_range r x.1) export_range w.exports.entries (exports_there r m is n w e) fs.1))))
@@ -131,12 +121,9 @@ module _ (r : Resolve) (m : ℕ) (is : IsPlan (plan_of r m)) where
   owner_by n x o h = search (std_rules, unowned, owned)
 
   types_range : each_from (λ n def. is_place n && (list_all (in_list r.types.items) (parts.kind_numbers def.kind) && owner_in_range r def.owner)) 0 r.types.items ≡ true
-  types_range = each_by_number (λ n def. is_place n && (list_all (in_list r.types.items) (parts.kind_numbers def.kind) && owner_in_range r def.owner)) r.types.items (λ n def e.
-      both _ _ (place_there planned_type r.types.items is.types_fit n def e)
-      (both _ _
-      (below n (length r.types.items) (slice_get_within r.types.items n def e) (parts.kind_numbers def.kind)
-      (ap (list_all (λ k. nat_lt k n)) (sym (kind_numbers_are def.kind))
-      ∙ each_there planned_type (λ j t. list_all (λ k. nat_lt k j) (plan.kind_numbers t.kind)) r.types.items is.types_fall n def e))
+  types_range = each_by_number _ _ (λ n def e. both _ _ (place_there planned_type r.types.items is.types_fit n def e)
+      (both _ _ (below n (length r.types.items) (slice_get_within _ n _ e) (parts.kind_numbers def.kind)
+      (ap (list_all (λ k. nat_lt k n)) (sym (kind_numbers_are def.kind)) ∙ each_there planned_type (λ j t. list_all (λ k. nat_lt k j) (plan.kind_numbers t.kind)) r.types.items is.types_fall n def e))
       (owner_by n def.name def.owner (each_there planned_type (planned.is_listed (plan_of r m)) r.types.items is.types_listed n def e))))
 
   pub numbers_kept : Keeps numbers_in_range r

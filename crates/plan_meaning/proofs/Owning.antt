@@ -1,19 +1,17 @@
 -- What is met from types and functions of an owner belongs to it.
-use Rattle.std.proofs.Common.{rules as std_rules, ◌≡◌, refl, sym, ap, ◌∙◌, ℕ, true, false, ◌&&◌, ◌||◌, not, nat_lt, nat_le, filter_map, Some, is_some}
+use Rattle.std.proofs.Common.{rules as std_rules, ◌≡◌, refl, sym, ap, ◌∙◌, ℕ, true, false, ◌&&◌, ◌||◌, not, nat_le, filter_map, is_some}
 use Rattle.std.proofs.lemmas.Bool.{and_from as both}
 use Rattle.std.specs.{List.list_all, Option.option_map_or}
-use Rattle.indexmap.specs.IndexMap.{values}
-use Rattle.wit_model.specs.declared.model.{Resolve.Resolve, Interface.Interface, TypeDef.TypeDef, TypeOwner.TypeOwner, Function.Function}
-use Rattle.wit_model.specs.{Lookup.interface_at, Lookup.type_at, Uses.owner_interface, Uses.alias_target, Uses.direct_deps, Valid.Keeps, Valid.owners}
+use Rattle.wit_model.specs.declared.model.{Resolve.Resolve, TypeDef.TypeDef, TypeOwner.TypeOwner, Function.Function}
+use Rattle.wit_model.specs.{Lookup.interface_at, Lookup.type_at, Uses.owner_interface, Valid.Keeps, Valid.owners}
 use Rattle.wit_model.specs.{Parts.same_owner, Types.number_of}
 use Rattle.wit_model.proofs.{Lists.list_all_filter_map, Owners.used_within, Checks.keeps_three, RulesLemmas.each_by_number}
-use Rattle.plan_meaning.specs.{Plan.type_in, PlanRules.IsPlan, Built.planned_type, Built.planned_function, Built.planned_interface}
+use Rattle.plan_meaning.specs.{Plan.type_in, PlanRules.IsPlan, Built.planned_type, Built.planned_function}
 use Rattle.plan_meaning.proofs.{Lists.same_or, Lists.each_from_built, Lists.or_there, Lists.each_there, KindRules.has_text}
 use Rattle.plan_meaning.proofs.Words.{plan_of, alias_is, value_numbers_are, has_owner_is, used_are, used_by_kind_is, interfaces_used_are}
 use Rattle.plan_meaning.proofs.FunctionRules.{worlds_pass, interface_holds}
 use Rattle.wit_model.specs.declared.model.TypeOwner.TheVariants as owner
 use Rattle.wit_model.specs.Parts as parts
-use Rattle.wit_model.specs.Uses as uses
 use Rattle.wit_model.specs.Rules as rules
 use Rattle.plan_meaning.specs.Plan as plan
 use Rattle.plan_meaning.specs.PlanRules as planned
@@ -30,17 +28,10 @@ module _ (r : Resolve) (m : ℕ) where
   target_is o = search (std_rules, or_there, plan_of, other_owner)
 
   use_is : (def : TypeDef) → planned.is_use (plan_of r m) (planned_type def) ≡ rules.is_use r def
-  use_is def =
-      ap (λ o. option_map_or (λ n. option_map_or (λ u. not (same_owner u.owner def.owner) && option_map_or (planned.has_name (plan_of r m)) (owner_interface u.owner) false) (type_in (plan_of r m) n)
-      false) o false) (alias_is def.kind)
-      ∙ same_or (λ n. option_map_or (λ u. not (same_owner u.owner def.owner) && option_map_or (planned.has_name (plan_of r m)) (owner_interface u.owner) false) (type_in (plan_of r m) n) false)
-      (λ n. option_map_or (λ target. not (same_owner target.owner def.owner) && option_map_or (λ i. option_map_or (λ other. is_some other.name) (interface_at r i) false) (owner_interface target.owner)
-      false) (type_at r n) false)
-      false (target_is def.owner) (alias_target def.kind)
+  use_is def = search (std_rules, plan_of r m, alias_is def.kind, same_or, is_some, target_is def.owner)
 
   type_stays_is : (def : TypeDef) → planned.type_stays (plan_of r m) (planned_type def) ≡ rules.type_stays r def
-  type_stays_is def =
-      λ i. same_owner def.owner owner.None
+  type_stays_is def = λ i. same_owner def.owner owner.None
       || (list_all (λ n. has_owner_is r m def.owner n i) (used_by_kind_is r m def.kind i) || (has_text def.name i && use_is def i))
 
   stays : (o : TypeOwner) (f : Function) → planned.function_stays (plan_of r m) o (planned_function f) ≡ true → rules.function_stays r o f ≡ true
@@ -48,17 +39,9 @@ module _ (r : Resolve) (m : ℕ) where
       ∙ (λ i. list_all (λ n. has_owner_is r m o n i) (used_are r m (filter_map number_of (parts.function_types f)) i))) ∙ h
 
   module _ (is : IsPlan (plan_of r m)) where
-    falls : (n : ℕ) (i : Interface) → interface_at r n ≡ Some i → list_all (λ k. nat_lt k n) (direct_deps r n) ≡ true
-    falls n i e =
-        sym (used_within r n i e)
-        ∙ (sym (list_all_filter_map (λ k. nat_le k n) (λ id. uses.interface_used_by r id.0) (values i.types))
-        ∙ (ap (list_all (λ k. nat_le k n)) (sym (interfaces_used_are r m i))
-        ∙ each_there planned_interface (λ k x. list_all (λ j. nat_le j k) (plan.interfaces_used_by (plan_of r m) x)) r.interfaces.items is.uses_fall n i e))
-
     pub owners_kept : Keeps owners r
     unfolding owners
-    owners_kept = keeps_three owners r refl
-        (each_by_number (λ n i. owners.interface_ r n i) r.interfaces.items (λ n i e. both _ _
-        (interface_holds r m (planned.function_stays (plan_of r m)) (rules.function_stays r) stays is.functions_stay n i e) (falls n i e)))
+    owners_kept = keeps_three owners r refl (each_by_number _ _ (λ n i e. both _ _ (interface_holds r m (planned.function_stays (plan_of r m)) (rules.function_stays r) stays is.functions_stay n i e)
+        (search (std_rules, used_within r n i e, list_all_filter_map, nat_le, interfaces_used_are r m i, each_there, plan_of r m))))
         (worlds_pass r m (planned.function_stays (plan_of r m)) (rules.function_stays r) stays is.functions_stay)
         (each_from_built planned_type (planned.type_stays (plan_of r m)) (rules.type_stays r) (λ def h. sym (type_stays_is def) ∙ h) r.types.items is.types_stay)

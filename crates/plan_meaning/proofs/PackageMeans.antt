@@ -15,9 +15,8 @@ use Rattle.plan_meaning.specs.Built.{IsBuilt, planned_function, planned_interfac
 use Rattle.plan_meaning.proofs.Lists.{any_get}
 use Rattle.plan_meaning.proofs.{Words.plan_of, Words.path_of_planned_is, Reaching.shown_in, Reaching.all_reached, Valid.plan_is, Valid.built_is_valid}
 use Rattle.plan_meaning.proofs.Meanings.{named_means, planned_function_entry, meant_function_entry, interface_is, interface_at_is, world_at_is, functions_are}
-use Rattle.base_lemmas.proofs.{Bools.left_of as first_true, Lists.get_back, Lists.nothing-mapped as none_mapped}
+use Rattle.base_lemmas.proofs.{Bools.left_of as first_true, Lists.get_back, Lists.nothing-mapped as none_mapped, Options.there as some-of}
 use Rattle.base_lemmas.proofs.Elements.{contains-map, contains-one, filter_map_from, get-contains, map_from}
-use Rattle.base_lemmas.proofs.Options.{there as some-of}
 use Rattle.wit_model.specs.Meant as meant
 use Rattle.plan_meaning.specs.PlanRules as rules
 use Rattle.plan_meaning.specs.PlanMeaning as planned
@@ -42,8 +41,7 @@ module _ (r : Resolve) (m : ℕ) where
   -- an entry of the plan, and what it is
   pub shown_is : (i : Interface) (k : Text) (x : InterfaceMeaning) → option_map (under i) (path_of_planned (plan_of r m) (planned_interface i)) ≡ Some (k, x)
       → (path_of_interface r i ≡ Some k) × (x ≡ meant.interface_meaning r i)
-  shown_is i k x e =
-      search (std_rules, some_path (path_of_planned (plan_of r m) (planned_interface i)) (under i) (k, x) e, plan_of r m, path_of_planned_is r m i, interface_is r m i)
+  shown_is i k x e = search (std_rules, some_path (path_of_planned (plan_of r m) (planned_interface i)) (under i) (k, x) e, plan_of r m, plan_of r m, path_of_planned_is r m i, interface_is r m i)
 
   pub shown_of : (i : Interface) (k : Text) → path_of_interface r i ≡ Some k → option_map (under i) (path_of_planned (plan_of r m) (planned_interface i)) ≡ Some (k, meant.interface_meaning r i)
   shown_of i k path = ap (option_map (under i)) (path_of_planned_is r m i ∙ path) ∙ ap (λ (y : InterfaceMeaning). Some (k, y)) (interface_is r m i)
@@ -71,10 +69,9 @@ module _ (r : Resolve) (m : ℕ) where
 -- Entries that a plan gives for some interfaces, by their paths, and those of numbers: one map, where the numbers are those of these interfaces.
 module _ (r : Resolve) (v : IsValid r) (given : PlannedInterface → Option (Text × InterfaceMeaning)) (Passes : Interface → Type 0)
     (is : (i : Interface) (k : Text) (x : InterfaceMeaning) → given (planned_interface i) ≡ Some (k, x) → Passes i × (path_of_interface r i ≡ Some k) × (x ≡ meant.interface_meaning r i))
-    (of : (i : Interface) (k : Text) → Passes i → path_of_interface r i ≡ Some k → given (planned_interface i) ≡ Some (k, meant.interface_meaning r i))
-    (numbers : List ℕ) (means : ℕ → InterfaceMeaning)
-    (among : (n : ℕ) (i : Interface) → interface_at r n ≡ Some i → (k : Text) → path_of_interface r i ≡ Some k → Passes i → Contains numbers n × (means n ≡ meant.interface_meaning r i))
-    (back : (n : ℕ) → Contains numbers n → (is_some (interface_path r n) ≡ true) × ((i : Interface) → interface_at r n ≡ Some i → Passes i)) where
+    (of : (i : Interface) (k : Text) → Passes i → path_of_interface r i ≡ Some k → given (planned_interface i) ≡ Some (k, meant.interface_meaning r i)) (numbers : List ℕ)
+    (means : ℕ → InterfaceMeaning) (among : (n : ℕ) (i : Interface) → interface_at r n ≡ Some i → (k : Text) → path_of_interface r i ≡ Some k → Passes i → Contains numbers n
+    × (means n ≡ meant.interface_meaning r i)) (back : (n : ℕ) → Contains numbers n → (is_some (interface_path r n) ≡ true) × ((i : Interface) → interface_at r n ≡ Some i → Passes i)) where
   abbrev planned_entries : List (Text × InterfaceMeaning)
   planned_entries = filter_map given (map planned_interface r.interfaces.items)
 
@@ -103,10 +100,8 @@ module _ (r : Resolve) (v : IsValid r) (given : PlannedInterface → Option (Tex
   there k x c =
       let s = source k x c in
       let found = among s.number s.from s.stands k s.path s.passes in
-      let path : interface_path r s.number ≡ Some k = path_there r s.number s.from s.stands ∙ s.path in
-      let value : means s.number ≡ x = found.1 ∙ sym s.value in
-      let same : at_number s.number ≡ (k, x) = λ j. (unwrap_or (path j) [], value j) in
-      subst (λ (q : Text × InterfaceMeaning). Contains meant_entries q) same (contains-map at_number numbers s.number found.0)
+      subst (λ (q : Text × InterfaceMeaning). Contains meant_entries q) (λ j. (unwrap_or ((path_there r s.number s.from s.stands ∙ s.path) j) [], (found.1 ∙ sym s.value) j))
+      (contains-map at_number numbers s.number found.0)
 
   from_number : (n : ℕ) (k : Text) (x : InterfaceMeaning) → Contains numbers n → at_number n ≡ (k, x) → (path : Text) → interface_path r n ≡ Some path → Contains planned_entries (k, x)
   from_number n k x c e path there =
@@ -114,12 +109,11 @@ module _ (r : Resolve) (v : IsValid r) (given : PlannedInterface → Option (Tex
       let i = standing.def in
       let its_path : path_of_interface r i ≡ Some path = sym (path_there r n i standing.there) ∙ there in
       let passes = (back n c).1 i standing.there in
-      let key : path ≡ k = ap (λ o. unwrap_or o []) (sym there) ∙ ap (λ (q : Text × InterfaceMeaning). q.0) e in
-      let value : meant.interface_meaning r i ≡ x = sym (among n i standing.there path its_path passes).1 ∙ ap (λ (q : Text × InterfaceMeaning). q.1) e in
-      let entry : given (planned_interface i) ≡ Some (k, x) = of i path passes its_path ∙ (λ j. Some (key j, value j)) in
-      contains-filter_map given (map planned_interface r.interfaces.items) (planned_interface i) (k, x)
-      (contains-map planned_interface r.interfaces.items i (get-contains r.interfaces.items n i standing.there))
-      (subst (λ (o : Option (Text × InterfaceMeaning)). Contains (option_to_list o) (k, x)) (sym entry) (contains-one (k, x)))
+      contains-filter_map given (map planned_interface r.interfaces.items) (planned_interface i) (k, x) (contains-map _ _ i (get-contains _ n i standing.there))
+      (subst (λ (o : Option (Text × InterfaceMeaning)). Contains (option_to_list o) (k, x)) (sym (of i path passes its_path ∙ (λ j. Some (
+        (ap (λ o. unwrap_or o []) (sym there) ∙ ap (λ (q : Text × InterfaceMeaning). q.0) e) j,
+        (sym (among n i standing.there path its_path passes).1 ∙ ap (λ (q : Text × InterfaceMeaning). q.1) e) j,
+      )))) (contains-one (k, x)))
 
   here : (k : Text) (x : InterfaceMeaning) → Contains meant_entries (k, x) → Contains planned_entries (k, x)
   here k x c =
@@ -131,9 +125,8 @@ module _ (r : Resolve) (v : IsValid r) (given : PlannedInterface → Option (Tex
   one_value k x y c d =
       let a = source k x c in
       let b = source k y d in
-      let numbers = path-once r v a.number b.number k (path_there r a.number a.from a.stands ∙ a.path) (path_there r b.number b.from b.stands ∙ b.path) in
-      let one : a.from ≡ b.from = same-some a.from b.from (sym a.stands ∙ (ap (interface_at r) numbers ∙ b.stands)) in
-      a.value ∙ (ap (meant.interface_meaning r) one ∙ sym b.value)
+      a.value ∙ (ap (meant.interface_meaning r) (same-some a.from b.from (sym a.stands
+      ∙ (ap (interface_at r) (path-once r v a.number b.number k (path_there r a.number a.from a.stands ∙ a.path) (path_there r b.number b.from b.stands ∙ b.path)) ∙ b.stands))) ∙ sym b.value)
 
   pub entries_are : ◌≡◌ {A = TextMap InterfaceMeaning} (from_entries planned_entries) (from_entries meant_entries)
   entries_are = one_map planned_entries meant_entries (record { one_value = one_value; there = there; here = here })
@@ -142,28 +135,16 @@ module _ (r : Resolve) (m : ℕ) (is : IsPackagePlan (plan_of r m)) (v : IsValid
   -- without a world that shows it, an interface of another package has no functions
   plans_none : (n : ℕ) (i : Interface) → interface_at r n ≡ Some i → is_some (interface_path r n) ≡ true → rules.is_foreign (plan_of r m) (planned_interface i) ≡ true → is_shown_in r p n ≡ false
       → (planned_interface i).functions ≡ []
-  plans_none n i e path foreign hidden =
-      is.bare n (planned_interface i) (get_of_map planned_interface r.interfaces.items n ∙ ap (option_map planned_interface) e) foreign
+  plans_none n i e path foreign hidden = is.bare n (planned_interface i) (get_of_map planned_interface r.interfaces.items n ∙ ap (option_map planned_interface) e) foreign
       (unseen (list_any (λ w. rules.is_shown_in w n) (map planned_world r.worlds.items)) refl)
     where
       unseen : (b : Bool) → list_any (λ w. rules.is_shown_in w n) (map planned_world r.worlds.items) ≡ b → b ≡ false
       unseen false h = refl
-      unseen true h =
-          let w = any_get (λ w. rules.is_shown_in w n) (map planned_world r.worlds.items) h in
-          sym (shown_in r m is.plan v p at is.worlds n w.0 w.1 w.2 w.3 path) ∙ hidden
+      unseen true h = search (std_rules, any_get, shown_in)
 
   bare_means : (n : ℕ) (i : Interface) → interface_at r n ≡ Some i → is_some (interface_path r n) ≡ true → rules.is_foreign (plan_of r m) (planned_interface i) ≡ true → is_shown_in r p n ≡ false
       → types_alone (meant.interface_meaning r i) ≡ meant.interface_meaning r i
-  bare_means n i e path foreign hidden =
-      search (std_rules, plans_none n i e path foreign hidden, meant_function_entry r m, functions_are r m i, planned_function_entry r m)
-
-  foreign_means : (n : ℕ) (i : Interface) → interface_at r n ≡ Some i → is_some (interface_path r n) ≡ true → rules.is_foreign (plan_of r m) (planned_interface i) ≡ true
-      → foreign_meaning r p n ≡ meant.interface_meaning r i
-  foreign_means n i e path foreign = search (std_rules, meaning_there, bare_means)
-
-  is_other : (n : ℕ) (i : Interface) → interface_at r n ≡ Some i → (k : Text) → path_of_interface r i ≡ Some k → is_id m (package_number i.package) ≡ false
-      → rules.is_foreign (plan_of r m) (planned_interface i) ≡ true
-  is_other n i e k path other = both _ _ (named r i k path) (ap not other)
+  bare_means n i e path foreign hidden = search (std_rules, plans_none n i e path foreign hidden, meant_function_entry r m, functions_are r m i, planned_function_entry r m)
 
   other_package : (n : ℕ) (i : Interface) → interface_at r n ≡ Some i → is_foreign r m n ≡ true → is_id m (package_number i.package) ≡ false
   other_package n i e foreign = search std_rules
@@ -173,7 +154,7 @@ module _ (r : Resolve) (m : ℕ) (is : IsPackagePlan (plan_of r m)) (v : IsValid
       let some = first_true (is_some (interface_path r n)) _ (sym (foreign_is r m n i e) ∙ foreign) in
       let path = some-of (interface_path r n) some in
       none_mapped (λ e. (text_of e.0, planned_function e.1)) i.functions.entries
-      (plans_none n i e some (is_other n i e path.0 (sym (path_there r n i e) ∙ path.1) (other_package n i e foreign)) hidden)
+      (plans_none n i e some (both _ _ (named r i path.0 (sym (path_there r n i e) ∙ path.1)) (ap not (other_package n i e foreign))) hidden)
 
   foreign_are : ◌≡◌ {A = TextMap InterfaceMeaning} (from_entries (filter_map (foreign_entry (plan_of r m)) (map planned_interface r.interfaces.items)))
       (from_entries (map (λ n. (unwrap_or (interface_path r n) [], foreign_meaning r p n)) (foreign_of r m p)))
@@ -182,10 +163,9 @@ module _ (r : Resolve) (m : ℕ) (is : IsPackagePlan (plan_of r m)) (v : IsValid
       among : (n : ℕ) (i : Interface) → interface_at r n ≡ Some i → (k : Text) → path_of_interface r i ≡ Some k → is_id m (package_number i.package) ≡ false
           → Contains (foreign_of r m p) n × (foreign_meaning r p n ≡ meant.interface_meaning r i)
       among n i e k path other =
-          let some : is_some (interface_path r n) ≡ true = ap is_some (path_there r n i e ∙ path) in
-          let foreign : is_foreign r m n ≡ true = foreign_is r m n i e ∙ both _ _ some (ap not (same_test r m i.package ∙ other)) in (
+          let foreign : is_foreign r m n ≡ true = foreign_is r m n i e ∙ both _ _ (ap is_some (path_there r n i e ∙ path)) (ap not (same_test r m i.package ∙ other)) in (
             has-contains (foreign_of r m p) n (has_filter (is_foreign r m) (reached_by_package r p) n (all_reached r m is.plan v p at is.worlds is.wanted n i e) foreign),
-            foreign_means n i e some (is_other n i e k path other),
+            (search (std_rules, meaning_there, bare_means)),
           )
 
       back : (n : ℕ) → Contains (foreign_of r m p) n → (is_some (interface_path r n) ≡ true) × ((i : Interface) → interface_at r n ≡ Some i → is_id m (package_number i.package) ≡ false)

@@ -37,17 +37,13 @@ times_more n x ns t rest h = search std_rules
 
 times_none : (n : ℕ) (xs : List PlannedItem) → has (filter_map plan.item_interface xs) n ≡ false → count_by (λ x. is_id n (plan.item_interface x)) xs ≡ 0
 times_none n [] h = refl
-times_none n (x ∷ xs) h =
-    sum_by-cons (λ y. cond (is_id n (plan.item_interface y)) 1 0) x xs
-    ∙ times_more n (plan.item_interface x) (filter_map plan.item_interface xs) (count_by (λ y. is_id n (plan.item_interface y)) xs) (times_none n xs) h
+times_none n (x ∷ xs) h = search (std_rules, sum_by-cons, times_more, count_by, times_none n xs)
 
 sum_none : (n : ℕ) (ws : List PlannedWorld) → list_any (λ w. planned.is_shown_in w n) ws ≡ false → sum_by (planned.times_shown n) ws ≡ 0
 sum_none n [] h = refl
 sum_none n (w ∷ ws) h =
     let split = neither (planned.is_shown_in w n) (list_any (λ x. planned.is_shown_in x n) ws) h in
-    let here = times_none n (plan.items_of w) split.0 in
-    let rest = sum_none n ws split.1 in
-    sum_by-cons (planned.times_shown n) w ws ∙ omega (arith, here, rest)
+    sum_by-cons (planned.times_shown n) w ws ∙ omega (arith, times_none n (plan.items_of w) split.0, sum_none n ws split.1)
 
 pub shown_somewhere : (n : ℕ) (ws : List PlannedWorld) → (sum_by (planned.times_shown n) ws == 1) ≡ true → list_any (λ w. planned.is_shown_in w n) ws ≡ true
 shown_somewhere n ws h = search (std_rules, no_true, sum_none)
@@ -82,12 +78,10 @@ module _ (r : Resolve) (m : ℕ) (is : IsPlan (plan_of r m)) (v : IsValid r) (p 
 
   pub world_among : (j : ℕ) (w : World) → world_at r j ≡ Some w → Contains (worlds_of r p) w
   world_among j w e =
-      let planned_at : slice_get (map planned_world r.worlds.items) j ≡ Some (planned_world w) = get_of_map planned_world r.worlds.items j ∙ ap (option_map planned_world) e in
-      let placed = each_there planned_world (planned.is_world_placed (plan_of r m)) r.worlds.items is.worlds_placed j w e in
-      let listed = main_package (λ k. is_id j (number_under (text_of w.name) k.worlds)) w.package
-      (all_get (λ x. is_id m x.package_) (map planned_world r.worlds.items) j (planned_world w) home planned_at) placed in
       let stands = map_from (λ (id : WorldId). id.0) (values p.worlds) j (has-contains (map (λ id. id.0) (values p.worlds)) j
-      (listed_number (λ id. id.0) p.worlds.entries (text_of w.name) j listed)) in
+      (listed_number (λ id. id.0) p.worlds.entries (text_of w.name) j (main_package (λ k. is_id j (number_under (text_of w.name) k.worlds)) w.package
+      (all_get (λ x. is_id m x.package_) (map planned_world r.worlds.items) j (planned_world w) home (get_of_map planned_world r.worlds.items j ∙ ap (option_map planned_world) e))
+      (each_there planned_world (planned.is_world_placed (plan_of r m)) r.worlds.items is.worlds_placed j w e)))) in
       contains-filter_map (λ id. world_at r id.0) (values p.worlds) stands.0 w stands.1
       (let found : world_at r stands.0.0 ≡ Some w = ap (world_at r) stands.2 ∙ e in let one : option_to_list (Some w) ≡ option_to_list (world_at r stands.0.0) = ap option_to_list (sym found) in
       subst (λ (xs : List World). Contains xs w) one (contains-one w))
@@ -96,15 +90,12 @@ module _ (r : Resolve) (m : ℕ) (is : IsPlan (plan_of r m)) (v : IsValid r) (p 
   starts = map (λ id. id.0) (values p.interfaces) ++ flat_map (interfaces_of_world r) (worlds_of r p)
 
   listed_starts : (n : ℕ) (name : Text) → is_id n (number_under name (planned_package p).interfaces) ≡ true → has starts n ≡ true
-  listed_starts n name h =
-      list_any-append (λ k. k == n) (map (λ id. id.0) (values p.interfaces)) (flat_map (interfaces_of_world r) (worlds_of r p))
+  listed_starts n name h = list_any-append (λ k. k == n) (map (λ id. id.0) (values p.interfaces)) (flat_map (interfaces_of_world r) (worlds_of r p))
       ∙ or_left (has (map (λ id. id.0) (values p.interfaces)) n) _ (listed_number (λ (id : InterfaceId). id.0) p.interfaces.entries name n h)
 
   shown_starts : (n j : ℕ) (w : World) → world_at r j ≡ Some w → has (filter_map uses.item_interface (items_of w)) n ≡ true → has starts n ≡ true
-  shown_starts n j w e h =
-      list_any-append (λ k. k == n) (map (λ id. id.0) (values p.interfaces)) (flat_map (interfaces_of_world r) (worlds_of r p))
-      ∙ or_right (has (map (λ id. id.0) (values p.interfaces)) n) _
-      (contains-has (flat_map (interfaces_of_world r) (worlds_of r p)) n
+  shown_starts n j w e h = list_any-append (λ k. k == n) (map (λ id. id.0) (values p.interfaces)) (flat_map (interfaces_of_world r) (worlds_of r p))
+      ∙ or_right (has (map (λ id. id.0) (values p.interfaces)) n) _ (contains-has (flat_map (interfaces_of_world r) (worlds_of r p)) n
       (contains-flat (interfaces_of_world r) (worlds_of r p) w n (world_among j w e) (has-contains (interfaces_of_world r w) n (item_among r n (items_of w) h))))
 
   -- a plan's world that shows the interface
@@ -136,8 +127,7 @@ module _ (r : Resolve) (m : ℕ) (is : IsPlan (plan_of r m)) (v : IsValid r) (p 
         (map planned_world r.worlds.items))) ≡ true → Why n
     why_by n i e None unnamed h =
         let somewhere = any_get (λ w. planned.is_shown_in w n) (map planned_world r.worlds.items)
-        (shown_somewhere n (map planned_world r.worlds.items) (first_true _ _
-        (second_true (option_map_or (in_list (map planned_package r.packages.items)) (option_map (λ id. id.0) i.package) false) _ h))) in
+        (shown_somewhere n (map planned_world r.worlds.items) (first_true _ _ (second_true _ _ h))) in
         inl (planned_starts n somewhere.0 somewhere.1 somewhere.2 somewhere.3)
     why_by n i e (Some s) named h = go (is_id m (option_map (λ id. id.0) i.package)) refl
       where
@@ -157,11 +147,8 @@ module _ (r : Resolve) (m : ℕ) (is : IsPlan (plan_of r m)) (v : IsValid r) (p 
 
     leads_by : (fuel n : ℕ) (i : Interface) → length r.interfaces.items ≤ n + fuel → interface_at r n ≡ Some i → Leads n
     leads_by zero n i h e = let less = slice_get_within r.interfaces.items n i e in absurd (omega (arith, h, less))
-    leads_by (suc fuel) n i h e =
-        leads_from n (why_by n i e i.name refl (each_there planned_interface (planned.is_placed (plan_of r m)) r.interfaces.items is.interfaces_placed n i e))
+    leads_by (suc fuel) n i h e = leads_from n (why_by n i e i.name refl (each_there planned_interface (planned.is_placed (plan_of r m)) r.interfaces.items is.interfaces_placed n i e))
         (λ j uses_n. let user = user_stands r j n uses_n in let falls = uses_fall r v j n uses_n in leads_by fuel j user.0 (omega (arith, h, falls)) user.1)
 
     pub all_reached : (n : ℕ) (i : Interface) → interface_at r n ≡ Some i → has (reached_by_package r p) n ≡ true
-    all_reached n i e =
-        let lead = leads_by (length r.interfaces.items) n i (omega arith) e in
-        chains_reach r v starts lead.0 lead.1 n lead.2 lead.3
+    all_reached n i e = search (std_rules, leads_by (length r.interfaces.items) n i (omega arith) e, chains_reach)

@@ -19,10 +19,8 @@ module _ (t : Tables) (tables : AreTables t) (kept : List ℕ) (p : Plan) (are :
     (read : FunctionsAreRead t kept p b) where
   each_passes : (test : TypeOwner → PlannedFunction → Bool) → ((o : TypeOwner) (g : PlannedFunction) → IsReadFunction t kept p b o g → test o g ≡ true) → FunctionsPass p test
   each_passes test passes = record {
-    of_interfaces = each_by_number (λ n i. list_all (test (as_interface n)) (functions_of i)) p.interfaces
-        (λ n i e. all_of (IsReadFunction t kept p b (as_interface n)) (test (as_interface n)) (passes (as_interface n)) (functions_of i) (read.of_interfaces n i e));
-    of_worlds = each_by_number (λ n w. list_all (test (as_world n)) (world_functions w)) p.worlds
-        (λ n w e. all_of (IsReadFunction t kept p b (as_world n)) (test (as_world n)) (passes (as_world n)) (world_functions w) (read.of_worlds n w e));
+    of_interfaces = each_by_number _ _ (λ n i e. all_of (IsReadFunction t kept p b (as_interface n)) (test (as_interface n)) (passes (as_interface n)) (functions_of i) (read.of_interfaces n i e));
+    of_worlds = each_by_number _ _ (λ n w e. all_of (IsReadFunction t kept p b (as_world n)) (test (as_world n)) (passes (as_world n)) (world_functions w) (read.of_worlds n w e));
   }
 
   pass : (o : TypeOwner) (g : PlannedFunction) → IsReadFunction t kept p b o g → FunctionPasses p o g
@@ -32,8 +30,7 @@ module _ (t : Tables) (tables : AreTables t) (kept : List ℕ) (p : Plan) (are :
   tests = record {
     functions_in_range = each_passes (λ o g. function_in_range p g) (λ o g is. (pass o g is).in_range);
     functions_labelled = each_passes (λ o g. function_labels g) (λ o g is. (pass o g is).labels);
-    functions_stay = each_passes (function_stays p) (λ o g is.
-        subst (λ (x : TypeOwner). function_stays p x g ≡ true) is.owned
+    functions_stay = each_passes (function_stays p) (λ o g is. subst (λ (x : TypeOwner). function_stays p x g ≡ true) is.owned
         ((kept_owners_stand t tables kept p are b.owners owned).functions is.place is.shape is.external_id g is.kept_function.becomes is.seen is.obeys));
     functions_take_values = each_passes (λ o g. takes_values p g)
         (λ o g is. (kept_resources_stand t tables kept p are b.marks marked).functions is.shape is.external_id g is.kept_function.becomes is.values);

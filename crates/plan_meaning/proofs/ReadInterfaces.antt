@@ -2,21 +2,18 @@
 use Rattle.std.proofs.Common.{rules as std_rules, ◌≡◌, refl, sym, ap, ◌∙◌, ℕ, true, false, ◌&&◌, List, [], ◌∷◌, ◌++◌, map, Some, slice_get}
 use Rattle.std.proofs.lemmas.{Bool.lt-ltb, Bool.and_from as both, List.Folds.list_all-map}
 use Rattle.std.specs.{Prelude.nat_lt, List.AllZip, List.list_all, Option.option_map_or}
-use Rattle.wit_model.specs.{Text.Text, Text.text_eq, Meaning.FunctionMeaning, Parts.same_owner, Rules.are_distinct, Rules.passes, Valid.as_interface}
-use Rattle.wit_model.specs.Names.{is_label}
+use Rattle.wit_model.specs.{Text.Text, Parts.same_owner, Valid.as_interface}
 use Rattle.wit_model.proofs.{VersionLaws.same_text, PartsLemmas.owner_itself, RulesLemmas.each_by_number}
-use Rattle.comp_meaning.specs.{Follow.ShownType, Rules.distinct}
-use Rattle.plan_meaning.specs.{Shapes.named_shape, ReadFunctions.Beside}
-use Rattle.plan_meaning.specs.Plan.{Plan, PlannedType, PlannedFunction, PlannedInterface, numbers_of}
-use Rattle.plan_meaning.specs.{PlanRules.are_rising, PlanRules.bears, PlanRules.interface_labels, PlanRules.is_type_of, PlanRules.names_of, KeptOwners.AreOwned}
-use Rattle.plan_meaning.specs.NumberedViews.{Tables, place_at, NumberedType, NumberedFunction, view_of, shown_type, shown_function}
+use Rattle.comp_meaning.specs.{Rules.distinct}
+use Rattle.plan_meaning.specs.{Shapes.named_shape, ReadFunctions.Beside, NumberedViews.Tables, NumberedViews.NumberedType, NumberedViews.NumberedFunction}
+use Rattle.plan_meaning.specs.Plan.{Plan, PlannedType, PlannedInterface, numbers_of}
+use Rattle.plan_meaning.specs.{PlanRules.are_rising, PlanRules.bears, PlanRules.interface_labels, PlanRules.is_type_of, KeptOwners.AreOwned}
 use Rattle.plan_meaning.specs.KeptTypes.{IsKeptType, TypesAreKept}
 use Rattle.plan_meaning.specs.ReadInterfaces.{IsNumberOf, IsKeptAs, HasName, IsNamed, IsReadInterface, ReadInterfacesPass}
 use Rattle.plan_meaning.proofs.{KeptParts.kept_at}
 use Rattle.base_lemmas.proofs.Bools.{left_of as first_true, right_of as second_true}
 use Rattle.base_lemmas.proofs.{Elements.all_by_number, Elements.all_get, Elements.zip_at_right, Elements.zip_map, Lists.map_of_map}
 use Rattle.comp_meaning.proofs.RulesLemmas.{distinct_same}
-use Rattle.comp_meaning.specs.Rules as rules
 
 module _ (t : Tables) (kept : List ℕ) (p : Plan) (are : TypesAreKept t kept p) where
   -- ---- order
@@ -27,8 +24,7 @@ module _ (t : Tables) (kept : List ℕ) (p : Plan) (are : TypesAreKept t kept p)
 
   all_rise : (ns : List ℕ) (es : List (Text × ℕ)) → AllZip (IsKeptAs kept p) ns es → are_rising ns ≡ true → are_rising (numbers_of es) ≡ true
   all_rise [] [] z h = refl
-  all_rise (n ∷ ns) (e ∷ es) z h =
-      search (std_rules, both, later_rise, first_true, second_true, all_rise ns es z.1 (second_true (list_all (nat_lt n) ns) (are_rising ns) h))
+  all_rise (n ∷ ns) (e ∷ es) z h = search (std_rules, both, later_rise, first_true, second_true, all_rise ns es z.1 (second_true (list_all (nat_lt n) ns) (are_rising ns) h))
   all_rise _ _ z h = absurd z
 
   -- ---- types
@@ -40,45 +36,31 @@ module _ (t : Tables) (kept : List ℕ) (p : Plan) (are : TypesAreKept t kept p)
     type_is : (x : NumberedType) (n : ℕ) (e : Text × ℕ) → IsNumberOf t q x n → IsKeptAs kept p n e → HasName x e → is_type_of p (as_interface m) e ≡ true
     type_is x n e there at name =
         let found = kept_at t kept p are e.1 n at.1 at.0 in
-        let owner_is = owned.owned e.1 n found.0 q x.name found.1 at.0 there ∙ home in
         ap (λ o. option_map_or (λ y. bears e.0 y.name && same_owner y.owner (as_interface m)) o false) found.1
-        ∙ both (bears e.0 found.0.name) (same_owner found.0.owner (as_interface m))
-        (ap (λ y. bears y found.0.name) name ∙ bears_name q n x.name found.0 there found.2)
-        (ap (λ o. same_owner o (as_interface m)) owner_is ∙ owner_itself (as_interface m))
+        ∙ both (bears e.0 found.0.name) (same_owner found.0.owner (as_interface m)) (ap (λ y. bears y found.0.name) name ∙ bears_name q n x.name found.0 there found.2)
+        (ap (λ o. same_owner o (as_interface m)) (owned.owned e.1 n found.0 q x.name found.1 at.0 there ∙ home) ∙ owner_itself (as_interface m))
 
     types_are : (xs : List NumberedType) (ns : List ℕ) (es : List (Text × ℕ)) → AllZip (IsNumberOf t q) xs ns → AllZip (IsKeptAs kept p) ns es → AllZip HasName xs es
         → list_all (is_type_of p (as_interface m)) es ≡ true
     types_are xs ns [] y z names = refl
     types_are [] ns (e ∷ es) y z names = absurd names
     types_are (x ∷ xs) [] (e ∷ es) y z names = absurd y
-    types_are (x ∷ xs) (n ∷ ns) (e ∷ es) y z names = both (is_type_of p (as_interface m) e) (list_all (is_type_of p (as_interface m)) es) (type_is x n e y.0 z.0 names.0)
-        (types_are xs ns es y.1 z.1 names.1)
+    types_are (x ∷ xs) (n ∷ ns) (e ∷ es) y z names = search (std_rules, both, type_is, types_are xs ns es y.1 z.1 names.1)
 
   -- ---- one interface
 
   module _ (b : Beside) (m : ℕ) (i : PlannedInterface) (is : IsReadInterface t kept p b m i) where
     shown_names : distinct (map (λ (x : NumberedType). x.name) is.view.types ++ map (λ (f : Text × NumberedFunction). f.0) is.view.functions) ≡ true
-    shown_names =
-        sym (ap distinct (λ j. map_of_map (λ (x : ShownType). x.name) (shown_type t) is.view.types j ++ map_of_map (λ (f : Text × FunctionMeaning). f.0) (shown_function t) is.view.functions j))
-        ∙ second_true
-        (list_all (λ x. is_label x.name && rules.is_declared (place_at t is.place) x.meaning.declaration) (view_of t is.view).types
-        && list_all (λ f. rules.is_function (place_at t is.place) (rules.resources_of (view_of t is.view).types) f.0 f.1.signature) (view_of t is.view).functions)
-        (distinct (map (λ x. x.name) (view_of t is.view).types ++ map (λ f. f.0) (view_of t is.view).functions)) is.obeys
+    shown_names = search (std_rules, map_of_map, second_true)
 
     pub has_labels : interface_labels i ≡ true
-    has_labels =
-        let functions = zip_map IsNamed (λ (f : Text × NumberedFunction). f.0) (λ (e : Text × PlannedFunction). e.0) (λ f e h. h.0) is.view.functions i.functions is.functions in
-        both (passes is_label i.name) (are_distinct (names_of i.types ++ names_of i.functions)) is.label
-        (ap are_distinct (λ j. zip_map HasName (λ (x : NumberedType). x.name) (λ (e : Text × ℕ). e.0) (λ x e h. h) is.view.types i.types is.names j ++ functions j)
-        ∙ (distinct_same (map (λ (x : NumberedType). x.name) is.view.types ++ map (λ (f : Text × NumberedFunction). f.0) is.view.functions) ∙ shown_names))
+    has_labels = search (std_rules, zip_map, both, distinct_same, shown_names)
 
 pub read_interfaces_pass : ReadInterfacesPass
 read_interfaces_pass t tables kept p are b owned read = record {
-  interface_labels = all_by_number interface_labels p.interfaces (λ m i e. has_labels t kept p are b m i (read m i e));
-  interface_types = each_by_number (λ n i. list_all (is_type_of p (as_interface n)) i.types) p.interfaces
-      (λ m i e. let is = read m i e in types_are t kept p are b owned m is.place is.owned is.view.types is.numbers i.types is.shapes is.kept_there is.names);
-  types_rise = all_by_number (λ i. are_rising (numbers_of i.types)) p.interfaces (λ m i e. let is = read m i e in all_rise t kept p are is.numbers i.types is.kept_there is.rise);
-  function_keys = all_by_number (λ i. list_all (λ e. text_eq e.0 e.1.name) i.functions) p.interfaces
-      (λ m i e. let is = read m i e in all_by_number (λ (x : Text × PlannedFunction). text_eq x.0 x.1.name) i.functions (λ j x f.
-      let from = zip_at_right IsNamed is.view.functions i.functions is.functions j x f in same_text x.0 x.1.name (from.2.0 ∙ sym from.2.1)));
+  interface_labels = all_by_number _ _ (λ m i e. has_labels t kept p are b m i (read m i e));
+  interface_types = each_by_number _ _ (λ m i e. let is = read m i e in types_are t kept p are b owned m is.place is.owned is.view.types is.numbers i.types is.shapes is.kept_there is.names);
+  types_rise = all_by_number _ _ (λ m i e. let is = read m i e in all_rise t kept p are is.numbers i.types is.kept_there is.rise);
+  function_keys = all_by_number _ _ (λ m i e. let is = read m i e in all_by_number _ _ (λ j x f.
+      let from = zip_at_right IsNamed is.view.functions i.functions is.functions j x f in same_text _ _ (from.2.0 ∙ sym from.2.1)));
 }

@@ -35,11 +35,8 @@ times_once n (k ∷ ns) once h = go (k == n) refl (times_once n ns (second_true 
   where
     go : (b : Bool) → (k == n) ≡ b → (has ns n ≡ true → times n ns ≡ 1) → times n (k ∷ ns) ≡ 1
     go true e rest =
-        let same : k ≡ n = eqb-true k n e in
-        let absent : has ns n ≡ false = ap (has ns) (sym same) ∙ not_true (has ns k) (first_true (not (has ns k)) (are_once ns) once) in
-        one_more n k ns ∙ (ap (λ b. cond b 1 0 + times n ns) e ∙ ap (λ m. 1 + m) (times_absent n ns absent))
-    go false e rest =
-        one_more n k ns ∙ (ap (λ b. cond b 1 0 + times n ns) e ∙ (nothing_more (times n ns) ∙ rest (sym (ap (λ b. b || has ns n) e) ∙ h)))
+        search (std_rules, eqb-true k n e, not_true (has ns k) (first_true (not (has ns k)) (are_once ns) once), first_true (not (has ns k)) (are_once ns) once, one_more n k ns, times_absent)
+    go false e rest = search (std_rules, one_more, nothing_more)
 
 pub times_filter : (test : ℕ → Bool) (n : ℕ) → test n ≡ true → (ns : List ℕ) → times n (filter test ns) ≡ times n ns
 times_filter test n pass [] = refl
@@ -81,23 +78,21 @@ number_there name n (x ∷ es) d (suc i, low, e) =
   where
     go : (b : Bool) → text_eq name x.0 ≡ b → list_any (text_eq x.0) (names_of es) ≡ false → is_id n (number_under name es) ≡ true → list_any (text_eq name) (names_of es) ≡ true
         → is_id n (cond b (Some x.1) (number_under name es)) ≡ true
-    go true f absent rest there = let same : name ≡ x.0 = (bytes_eq-Decides name x.0).0 f in
-        never (list_any (text_eq x.0) (names_of es)) (ap (λ y. list_any (text_eq y) (names_of es)) (sym same) ∙ there) absent
+    go true f absent rest there = search (std_rules, bytes_eq-Decides, never)
     go false f absent rest there = rest
 
 pub distinct_both : (xs ys : List Text) → are_distinct xs ≡ true → are_distinct ys ≡ true → list_all (λ x. not (list_any (text_eq x) ys)) xs ≡ true → are_distinct (xs ++ ys) ≡ true
 distinct_both [] ys d e apart = e
-distinct_both (x ∷ xs) ys d e apart =
-    search (
-      std_rules,
-      both,
-      list_any-append,
-      neither,
-      not_true,
-      first_true,
-      second_true,
-      distinct_both xs ys (second_true (not (list_any (text_eq x) xs)) (are_distinct xs) d) e (second_true (not (list_any (text_eq x) ys)) (list_all (λ y. not (list_any (text_eq y) ys)) xs) apart),
-    )
+distinct_both (x ∷ xs) ys d e apart = search (
+  std_rules,
+  both,
+  list_any-append,
+  neither,
+  not_true,
+  first_true,
+  second_true,
+  distinct_both xs ys (second_true (not (list_any (text_eq x) xs)) (are_distinct xs) d) e (second_true (not (list_any (text_eq x) ys)) (list_all (λ y. not (list_any (text_eq y) ys)) xs) apart),
+)
 
 pub or_nothing : (a : Bool) → (a || false) ≡ true → a ≡ true
 or_nothing x h = search std_rules

@@ -4,7 +4,7 @@ use Rattle.std.proofs.lemmas.Bool.{eqb-true, eq-eqb, leb-true, or_right, and_fro
 use Rattle.std.proofs.lemmas.{List.Elements.Contains-append_cases, List.Elements.Contains-append_left, List.Elements.filter_map-append}
 use Rattle.std.proofs.lemmas.Option.{slice_get_within, same_Some as same-some}
 use Rattle.std.proofs.lemmas.List.Folds.{list_all-append, list_all-map, list_any-append}
-use Rattle.std.specs.{Prelude.nat_le, Prelude.nat_lt, List.AllByRecursion, List.Contains, List.list_all, Cmp.Lexicographic.pointwise, Option.option_map_or}
+use Rattle.std.specs.{Prelude.nat_lt, List.AllByRecursion, List.Contains, List.list_all, Cmp.Lexicographic.pointwise, Option.option_map_or}
 use Rattle.std.specs.Map.{lookup}
 use Rattle.wit_model.specs.{Text.Text, Parts.same_owner, Valid.as_interface, Valid.as_world}
 use Rattle.wit_model.specs.{Lookup.resource_of, Uses.has, Uses.once, Uses.owner_interface, Rules.each_after, Rules.each_from, Rules.in_list, Rules.is_id}
@@ -44,8 +44,7 @@ same_declared z u h = search std_rules
 pub same_uses : (t : Tables) (xs ys : List NumberedType) → pointwise same_shown xs ys ≡ true
     → flat_map (λ (x : NumberedType). used_by t x.declared) xs ≡ flat_map (λ (x : NumberedType). used_by t x.declared) ys
 same_uses t [] [] h = refl
-same_uses t (x ∷ xs) (y ∷ ys) h =
-    search (std_rules, first_true, same_declared, second_true, same_uses t xs ys (second_true (same_shown x y) (pointwise same_shown xs ys) h))
+same_uses t (x ∷ xs) (y ∷ ys) h = search (std_rules, first_true, same_declared, second_true, same_uses t xs ys (second_true (same_shown x y) (pointwise same_shown xs ys) h))
 same_uses t _ _ h = no_true h
 
 pub has_front : (xs ys : List ℕ) (n : ℕ) → has xs n ≡ true → has (xs ++ ys) n ≡ true
@@ -60,15 +59,11 @@ module _ (t : Tables) (tables : AreTables t) (kept : List ℕ) (p : Plan) (are :
   kept_order : (i j a c : ℕ) → slice_get kept i ≡ Some a → slice_get kept j ≡ Some c → i < j → a < c
   kept_order i j a c at_i at_j less = search std_rules
 
-  kept_below : (i j a c : ℕ) → slice_get kept i ≡ Some a → slice_get kept j ≡ Some c → nat_le i j ≡ true → a ≤ c
-  kept_below i j a c at_i at_j le = search std_rules
-
   fall : each_from (λ n x. list_all (λ m. nat_lt m n) (kind_numbers x.kind)) 0 p.types ≡ true
   fall = (kept_types_pass t tables kept p are).1.types_fall
 
   part_below : (n : ℕ) (x : PlannedType) → slice_get p.types n ≡ Some x → (i : ℕ) → Contains (kind_numbers x.kind) i → i < n
-  part_below n x e i c = ltb→lt i n (subst T (sym (all-contained (λ j. nat_lt j n) (kind_numbers x.kind) i
-      (each_at (λ n x. list_all (λ m. nat_lt m n) (kind_numbers x.kind)) p.types n x fall e) c)) tt)
+  part_below n x e i c = ltb→lt i n (subst T (sym (all-contained _ _ i (each_at (λ n x. list_all (λ m. nat_lt m n) (kind_numbers x.kind)) p.types n x fall e) c)) tt)
 
   -- ---- one world
 
@@ -129,9 +124,7 @@ module _ (t : Tables) (tables : AreTables t) (kept : List ℕ) (p : Plan) (are :
           where
             other_place : (d : Bool) → (r == q) ≡ d → (r == q) ≡ false
             other_place false e = e
-            other_place true e =
-                let one : u ≡ n = one_interface u n (sym at ∙ (ap b.owners (eqb-true r q e) ∙ is.owned)) in
-                never (u == n) (eq-eqb u n one) apart
+            other_place true e = never (u == n) (eq-eqb u n (one_interface u n (sym at ∙ (ap b.owners (eqb-true r q e) ∙ is.owned)))) apart
 
             there : has (others_than q (used_by_view t v)) r ≡ true
             there = others_have q r (used_by_view t v) (other_place (r == q) refl)
@@ -141,10 +134,8 @@ module _ (t : Tables) (tables : AreTables t) (kept : List ℕ) (p : Plan) (are :
         each u c =
             let all = option_map_or (interfaces_used_by p) (interface_in p n) [] in
             let kept_u = filter_has (λ k. not (k == n)) (once all) u (contains-has (direct_uses p n) u c) in
-            let in_all : has all u ≡ true = sym (has_once u all) ∙ kept_u.0 in
-            let listed_u : Contains (interfaces_used_by p is.interface) u = has-contains (interfaces_used_by p is.interface) u
-            (sym (ap (λ o. has (option_map_or (interfaces_used_by p) o []) u) is.there) ∙ in_all) in
-            by u (not_true (u == n) kept_u.1) (interface_uses t tables kept p are b owned views n is.interface viewed u listed_u)
+            by u (not_true (u == n) kept_u.1) (interface_uses t tables kept p are b owned views n is.interface viewed u
+            (has-contains (interfaces_used_by p is.interface) u (sym (ap (λ o. has (option_map_or (interfaces_used_by p) o []) u) is.there) ∙ (sym (has_once u all) ∙ kept_u.0))))
 
     type_uses_there : (key : Text) (count : ℕ) (d : Option ℕ) (id : Option Text) (n : ℕ) → IsTypeUnder t kept p b views (as_world m) home key count d id n → (earlier found : List ℕ)
         → ((r u : ℕ) → has earlier r ≡ true → b.owners r ≡ as_interface u → has found u ≡ true) → list_all (has earlier) (used_by t d) ≡ true
@@ -163,15 +154,11 @@ module _ (t : Tables) (tables : AreTables t) (kept : List ℕ) (p : Plan) (are :
     -- ---- types
 
     stands_first : (x : ReadItem) (rest : List ReadItem) (j : ℕ) (w : IsWorldType j) → list_all (λ (y : ReadItem). not (is_type_seen y.seen.shown) || nat_lt x.count y.count) rest ≡ true
-        → w.number < x.count
-        → (is_type_seen x.seen.shown ≡ true → x.count ≡ w.number + 1 → ⊥) → (found : List ℕ) → (has found j ≡ true) ⊎ Waits (x ∷ rest) w.number → has found j ≡ true
+        → w.number < x.count → (is_type_seen x.seen.shown ≡ true → x.count ≡ w.number + 1 → ⊥) → (found : List ℕ) → (has found j ≡ true) ⊎ Waits (x ∷ rest) w.number → has found j ≡ true
     stands_first x rest j w follow low here found (inl h) = h
-    stands_first x rest j w follow low here found (inr (y, (zero, l, e), seen, count)) =
-        absurd (here (ap (λ (z : ReadItem). is_type_seen z.seen.shown) e ∙ seen) (ap (λ (z : ReadItem). z.count) e ∙ count))
+    stands_first x rest j w follow low here found (inr (y, (zero, l, e), seen, count)) = search std_rules
     stands_first x rest j w follow low here found (inr (y, (suc i, l, e), seen, count)) =
-        let test = all-contained (λ (z : ReadItem). not (is_type_seen z.seen.shown) || nat_lt x.count z.count) rest y follow (i, omega (arith, l), e) in
-        let above : x.count < y.count = ltb→lt x.count y.count (subst T (sym (sym (ap (λ v. not v || nat_lt x.count y.count) seen) ∙ test)) tt) in
-        absurd (omega (arith, low, above, count))
+        absurd (omega (arith, low, (ltb→lt x.count y.count (subst T (sym (sym (ap (λ v. not v || nat_lt x.count y.count) seen) ∙ (all-contained _ _ y follow (i, omega (arith, l), e)))) tt)), count))
 
     -- the named types of the world that numbers use
     used_stand : (x : ReadItem) (rest : List ReadItem) (ns : List ℕ) → ((n : ℕ) → Contains ns n → (k : ℕ) × (slice_get kept n ≡ Some k) × (k < x.count) × (n < length p.types))
@@ -187,7 +174,7 @@ module _ (t : Tables) (tables : AreTables t) (kept : List ℕ) (p : Plan) (are :
             let used = has-contains (used_by_numbers p ns) j kept_j.0 in
             let from = used_among p fall ns (λ n d. (low n d).3) j used in
             let at = low from.0 from.1 in
-            let le : w.number ≤ at.0 = kept_below j from.0 w.number at.0 w.stands at.1 from.2 in
+            let le : w.number ≤ at.0 = (search std_rules) in
             let less = at.2 in
             stands_first x rest j w follow (omega (arith, le, less)) (here j w used) found (inv j w)
 
@@ -207,9 +194,7 @@ module _ (t : Tables) (tables : AreTables t) (kept : List ℕ) (p : Plan) (are :
         by : Contains (filter_map part_number (function_parts g)) n ⊎ Contains (option_to_list (resource_of g.kind)) n → (k : ℕ) × (slice_get kept n ≡ Some k) × (k < count) × (n < length p.types)
         by (inl d) =
             let from = part_from t kept p (shape_parts is.read.shape) (function_parts g) (function_zip t kept p is.read.shape is.read.external_id g is.read.kept_function.becomes) n d in
-            let low = all_at (λ k. k < 14 + count) (shape_parts is.read.shape) (all_parts (λ k. k < 14 + count) is.read.shape is.parts) from.0 from.1 in
-            let number = from.3 in
-            (from.2, from.4, omega (arith, low, number), from.5)
+            (from.2, from.4, omega (arith, (all_at (λ k. k < 14 + count) (shape_parts is.read.shape) (all_parts (λ k. k < 14 + count) is.read.shape is.parts) from.0 from.1), from.3), from.5)
         by (inr d) =
             let found = slice_there p.types n range in
             let at = are.each n found.0 found.1 in
@@ -222,49 +207,36 @@ module _ (t : Tables) (tables : AreTables t) (kept : List ℕ) (p : Plan) (are :
         → (a : ℕ) × (slice_get kept i ≡ Some a) × (a < count) × (i < length p.types)
     numbers_low count n k x e at last i c =
         let less = part_below n x e i c in
-        let range_n = slice_get_within p.types n x e in
-        let range : i < length p.types = omega (arith, less, range_n) in
+        let range : i < length p.types = omega (arith, less, slice_get_within p.types n x e) in
         let found = slice_there p.types i range in
         let is = are.each i found.0 found.1 in
-        let low = kept_order i n is.0 k is.1 at less in
-        (is.0, is.1, omega (arith, low, last), range)
+        (is.0, is.1, omega (arith, kept_order i n is.0 k is.1 at less, last), range)
 
     own_number : (n k : ℕ) (x : PlannedType) → slice_get p.types n ≡ Some x → slice_get kept n ≡ Some k → (j : ℕ) (w : IsWorldType j) → Contains (used_by_numbers p (kind_numbers x.kind)) j
         → k + 1 ≡ w.number + 1 → ⊥
     own_number n k x e at j w c same =
-        let range_n = slice_get_within p.types n x e in
-        let from = used_among p fall (kind_numbers x.kind) (λ i d. let less = part_below n x e i d in omega (arith, less, range_n)) j c in
-        let less = part_below n x e from.0 from.1 in
-        let le = leb-true j from.0 from.2 in
-        let low = kept_order j n w.number k w.stands at (omega (arith, le, less)) in
-        omega (arith, low, same)
+        let from = used_among p fall (kind_numbers x.kind) (λ i d. let less = part_below n x e i d in omega (arith, less, slice_get_within p.types n x e)) j c in
+        omega (arith, kept_order j n w.number k w.stands at (omega (arith, leb-true j from.0 from.2, part_below n x e from.0 from.1)), same)
 
     stands : (x : ReadItem) (rest : List ReadItem) → Item x → (earlier : List ℕ) (before : List PlannedItem) → Before earlier before (x ∷ rest) → list_all (has earlier) (uses_of t x.seen.shown) ≡ true
         → list_all (λ (y : ReadItem). not (is_type_seen y.seen.shown) || nat_lt x.count y.count) rest ≡ true → uses_stand_before p m before x.entry.1 ≡ true
-    stands x rest (by_path q n v id path shown key entry is) earlier before inv h follow =
-        ap (λ (e : PlannedKey × PlannedItem). uses_stand_before p m before e.1) entry
+    stands x rest (by_path q n v id path shown key entry is) earlier before inv h follow = ap (λ (e : PlannedKey × PlannedItem). uses_stand_before p m before e.1) entry
         ∙ both (list_all (has (filter_map item_interface before)) (direct_uses p n)) true
         (uses_there q n v is earlier (filter_map item_interface before) inv.interfaces (sym (ap (λ s. list_all (has earlier) (uses_of t s)) shown) ∙ h)) refl
-    stands x rest (by_label q n v id shown good entry is) earlier before inv h follow =
-        ap (λ (e : PlannedKey × PlannedItem). uses_stand_before p m before e.1) entry
+    stands x rest (by_label q n v id shown good entry is) earlier before inv h follow = ap (λ (e : PlannedKey × PlannedItem). uses_stand_before p m before e.1) entry
         ∙ both (list_all (has (filter_map item_interface before)) (direct_uses p n)) true
         (uses_there q n v is earlier (filter_map item_interface before) inv.interfaces (sym (ap (λ s. list_all (has earlier) (uses_of t s)) shown) ∙ h)) refl
-    stands x rest (implementing_path q n v id path shown good entry is) earlier before inv h follow =
-        ap (λ (e : PlannedKey × PlannedItem). uses_stand_before p m before e.1) entry
+    stands x rest (implementing_path q n v id path shown good entry is) earlier before inv h follow = ap (λ (e : PlannedKey × PlannedItem). uses_stand_before p m before e.1) entry
         ∙ both (list_all (has (filter_map item_interface before)) (direct_uses p n)) true
         (uses_there q n v is earlier (filter_map item_interface before) inv.interfaces (sym (ap (λ s. list_all (has earlier) (uses_of t s)) shown) ∙ h)) refl
-    stands x rest (a_function f g shown entry is) earlier before inv h follow =
-        ap (λ (e : PlannedKey × PlannedItem). uses_stand_before p m before e.1) entry
+    stands x rest (a_function f g shown entry is) earlier before inv h follow = ap (λ (e : PlannedKey × PlannedItem). uses_stand_before p m before e.1) entry
         ∙ used_stand x rest (function_numbers g) (function_low x.seen.key x.count g is) follow (λ j w c seen count. no_true (sym (ap is_type_seen shown) ∙ seen))
         (filter_map item_type before) inv.types
-    stands x rest (a_type d n shown entry is) earlier before inv h follow =
-        let ns = kind_numbers is.becomes.type_.kind in
-        ap (λ (e : PlannedKey × PlannedItem). uses_stand_before p m before e.1) entry
+    stands x rest (a_type d n shown entry is) earlier before inv h follow = ap (λ (e : PlannedKey × PlannedItem). uses_stand_before p m before e.1) entry
         ∙ both (list_all (has (filter_map item_interface before)) (option_to_list (interface_used_by p n))) (list_all (has (filter_map item_type before)) (used_types p m (plan.declares n)))
         (type_uses_there x.seen.key x.count d x.seen.external_id n is earlier (filter_map item_interface before) inv.interfaces (sym (ap (λ s. list_all (has earlier) (uses_of t s)) shown) ∙ h))
         (ap (λ o. list_all (has (filter_map item_type before)) (filter (has_owner p (as_world m)) (option_map_or (λ (y : PlannedType). used_by_numbers p (kind_numbers y.kind)) o [])))
-        is.becomes.stands
-        ∙ used_stand x rest ns (numbers_low x.count n is.number is.becomes.type_ is.becomes.stands is.stands is.last) follow
+        is.becomes.stands ∙ used_stand x rest (kind_numbers is.becomes.type_.kind) (numbers_low x.count n is.number is.becomes.type_ is.becomes.stands is.stands is.last) follow
         (λ j w c seen count. own_number n is.number is.becomes.type_ is.becomes.stands is.stands j w c (sym is.last ∙ count)) (filter_map item_type before) inv.types)
 
     -- ---- from item to item
@@ -272,8 +244,7 @@ module _ (t : Tables) (tables : AreTables t) (kept : List ℕ) (p : Plan) (are :
     next : (x : ReadItem) (rest : List ReadItem) → Item x → (earlier : List ℕ) (before : List PlannedItem) → Before earlier before (x ∷ rest)
         → Before (earlier ++ path_seen x.seen.shown) (before ++ x.entry.1 ∷ []) rest
     next x rest is earlier before inv = record {
-      interfaces = λ r u h at. seen_interface r u at is
-          (either (has earlier r) (has (path_seen x.seen.shown) r) (sym (list_any-append (λ k. k == r) earlier (path_seen x.seen.shown)) ∙ h));
+      interfaces = λ r u h at. seen_interface r u at is (either (has earlier r) (has (path_seen x.seen.shown) r) (sym (list_any-append (λ k. k == r) earlier (path_seen x.seen.shown)) ∙ h));
       types = λ j w. seen_type j w (inv.types j w);
     }
       where
@@ -282,8 +253,7 @@ module _ (t : Tables) (tables : AreTables t) (kept : List ℕ) (p : Plan) (are :
         either false c h = inr h
 
         interface_last : (u n : ℕ) (id : Option Text) → x.entry.1 ≡ plan.interface n id → u ≡ n → has (filter_map item_interface (before ++ x.entry.1 ∷ [])) u ≡ true
-        interface_last u n id e same =
-            ap (λ ns. has ns u) (filter_map-append item_interface before (x.entry.1 ∷ []))
+        interface_last u n id e same = ap (λ ns. has ns u) (filter_map-append item_interface before (x.entry.1 ∷ []))
             ∙ has_end (filter_map item_interface before) (filter_map item_interface (x.entry.1 ∷ [])) u
             (ap (λ i. has (filter_map item_interface (i ∷ [])) u) e ∙ (ap (λ v. v || false) (eq-eqb n u (sym same))))
 
@@ -309,13 +279,10 @@ module _ (t : Tables) (tables : AreTables t) (kept : List ℕ) (p : Plan) (are :
         type_last j w seen count (by_label q n v id shown good entry is) = no_true (sym (ap is_type_seen shown) ∙ seen)
         type_last j w seen count (implementing_path q n v id path shown good entry is) = no_true (sym (ap is_type_seen shown) ∙ seen)
         type_last j w seen count (a_function f g shown entry is) = no_true (sym (ap is_type_seen shown) ∙ seen)
-        type_last j w seen count (a_type d n shown entry is) =
-            let last = is.last in
-            let number : is.number ≡ w.number = omega (arith, last, count) in
-            let same : n ≡ j = are.once n j w.number (is.stands ∙ ap Some number) w.stands in
-            ap (λ ns. has ns j) (filter_map-append item_type before (x.entry.1 ∷ []))
+        type_last j w seen count (a_type d n shown entry is) = ap (λ ns. has ns j) (filter_map-append item_type before (x.entry.1 ∷ []))
             ∙ has_end (filter_map item_type before) (filter_map item_type (x.entry.1 ∷ [])) j
-            (ap (λ (e : PlannedKey × PlannedItem). has (filter_map item_type (e.1 ∷ [])) j) entry ∙ ap (λ v. v || false) (eq-eqb n j same))
+            (ap (λ (e : PlannedKey × PlannedItem). has (filter_map item_type (e.1 ∷ [])) j) entry
+            ∙ ap (λ v. v || false) (eq-eqb n j (are.once n j w.number (is.stands ∙ ap Some (omega (arith, is.last, count))) w.stands)))
 
         seen_type : (j : ℕ) (w : IsWorldType j) → (has (filter_map item_type before) j ≡ true) ⊎ Waits (x ∷ rest) w.number → (has (filter_map item_type (before ++ x.entry.1 ∷ [])) j ≡ true)
             ⊎ Waits rest w.number
@@ -327,13 +294,8 @@ module _ (t : Tables) (tables : AreTables t) (kept : List ℕ) (p : Plan) (are :
         → stand_earlier t earlier (map (λ (x : ReadItem). x.seen) xs) ≡ true
         → each_after (uses_stand_before p m) before (map (λ (e : PlannedKey × PlannedItem). e.1) (map (λ (x : ReadItem). x.entry) xs)) ≡ true
     in_order [] a follow earlier before inv h = refl
-    in_order (x ∷ xs) a follow earlier before inv h =
-        let behind_x = list_all (λ (y : ReadItem). not (is_type_seen y.seen.shown) || nat_lt x.count y.count) xs in
-        let here = list_all (has earlier) (uses_of t x.seen.shown) in
-        let more = stand_earlier t (earlier ++ path_seen x.seen.shown) (map (λ (y : ReadItem). y.seen) xs) in
-        both (uses_stand_before p m before x.entry.1) (each_after (uses_stand_before p m) (before ++ x.entry.1 ∷ []) (map (λ (e : PlannedKey × PlannedItem). e.1) (map (λ (y : ReadItem). y.entry) xs)))
-        (stands x xs a.0 earlier before inv (first_true here more h) (first_true behind_x (types_follow xs) follow))
-        (in_order xs a.1 (second_true behind_x (types_follow xs) follow) (earlier ++ path_seen x.seen.shown) (before ++ x.entry.1 ∷ []) (next x xs a.0 earlier before inv) (second_true here more h))
+    in_order (x ∷ xs) a follow earlier before inv h = both _ _ (stands x xs a.0 earlier before inv (first_true _ _ h) (first_true _ _ follow))
+        (in_order xs a.1 (second_true _ _ follow) (earlier ++ path_seen x.seen.shown) (before ++ x.entry.1 ∷ []) (next x xs a.0 earlier before inv) (second_true _ _ h))
 
     -- ---- all items
 
@@ -348,10 +310,12 @@ module _ (t : Tables) (tables : AreTables t) (kept : List ℕ) (p : Plan) (are :
         by (by_label q n v id shown good entry is) h = no_true (sym (ap (λ (e : PlannedKey × PlannedItem). is_id j (item_type e.1)) entry) ∙ h)
         by (implementing_path q n v id path shown good entry is) h = no_true (sym (ap (λ (e : PlannedKey × PlannedItem). is_id j (item_type e.1)) entry) ∙ h)
         by (a_function f g shown entry is) h = no_true (sym (ap (λ (e : PlannedKey × PlannedItem). is_id j (item_type e.1)) entry) ∙ h)
-        by (a_type d n shown entry is) h =
-            let same : n ≡ j = eqb-true n j (sym (ap (λ (e : PlannedKey × PlannedItem). is_id j (item_type e.1)) entry) ∙ h) in
-            let number : is.number ≡ w.number = same-some is.number w.number (sym is.stands ∙ (ap (slice_get kept) same ∙ w.stands)) in
-            (x, (0, omega arith, refl), ap is_type_seen shown, is.last ∙ ap (λ k. k + 1) number)
+        by (a_type d n shown entry is) h = (
+          x,
+          (0, omega arith, refl),
+          ap is_type_seen shown,
+          is.last ∙ ap (λ k. k + 1) (same-some _ _ (sym is.stands ∙ (ap (slice_get kept) (eqb-true n j (sym (ap (λ (e : PlannedKey × PlannedItem). is_id j (item_type e.1)) entry) ∙ h)) ∙ w.stands))),
+        )
 
         go : (c : Bool) → is_id j (option_and_then item_type (cond c (Some x.entry.1) (lookup test (map (λ (y : ReadItem). y.entry) xs)))) ≡ true
             → (is_id j (option_and_then item_type (lookup test (map (λ (y : ReadItem). y.entry) xs))) ≡ true → Waits xs w.number) → Waits (x ∷ xs) w.number
@@ -360,16 +324,10 @@ module _ (t : Tables) (tables : AreTables t) (kept : List ℕ) (p : Plan) (are :
 
     all_follow : (xs ys : List ReadItem) → types_follow xs ≡ true → list_all (λ (y : ReadItem). not (is_type_seen y.seen.shown)) ys ≡ true → types_follow (xs ++ ys) ≡ true
     all_follow [] [] h none = refl
-    all_follow [] (y ∷ ys) h none = both (list_all (λ (z : ReadItem). not (is_type_seen z.seen.shown) || nat_lt y.count z.count) ys) (types_follow ys)
-        (all_weaker (λ (z : ReadItem). not (is_type_seen z.seen.shown)) (λ (z : ReadItem). not (is_type_seen z.seen.shown) || nat_lt y.count z.count)
-        (λ z e. ap (λ v. v || nat_lt y.count z.count) e) ys
-        (second_true (not (is_type_seen y.seen.shown)) (list_all (λ (z : ReadItem). not (is_type_seen z.seen.shown)) ys) none))
-        (all_follow [] ys refl (second_true (not (is_type_seen y.seen.shown)) (list_all (λ (z : ReadItem). not (is_type_seen z.seen.shown)) ys) none))
+    all_follow [] (y ∷ ys) h none = both _ _ (all_weaker _ _ (λ z e. ap (λ v. v || nat_lt y.count z.count) e) ys (second_true _ _ none)) (all_follow [] ys refl (second_true _ _ none))
     all_follow (x ∷ xs) ys h none =
         let later : ReadItem → Bool = λ z. not (is_type_seen z.seen.shown) || nat_lt x.count z.count in
-        both (list_all later (xs ++ ys)) (types_follow (xs ++ ys))
-        (list_all-append later xs ys
-        ∙ both (list_all later xs) (list_all later ys) (first_true (list_all later xs) (types_follow xs) h)
+        both _ _ (list_all-append later xs ys ∙ both _ _ (first_true (list_all later xs) (types_follow xs) h)
         (all_weaker (λ (z : ReadItem). not (is_type_seen z.seen.shown)) later (λ z e. ap (λ v. v || nat_lt x.count z.count) e) ys none))
         (all_follow xs ys (second_true (list_all later xs) (types_follow xs) h) none)
 
@@ -378,31 +336,21 @@ module _ (t : Tables) (tables : AreTables t) (kept : List ℕ) (p : Plan) (are :
       let is = read.worlds m w e in
       let xs = is.imports in
       let ys = is.exports in
-      let entries : map (λ (x : ReadItem). x.entry) (xs ++ ys) ≡ w.imports ++ w.exports = append_of_map (λ (x : ReadItem). x.entry) xs ys ∙ (λ i. is.imports_listed i ++ is.exports_listed i) in
-      let seen : map (λ (x : ReadItem). x.seen) (xs ++ ys) ≡ is.scope.imports ++ is.scope.exports = append_of_map (λ (x : ReadItem). x.seen) xs ys ∙ (λ i. is.imports_seen i ++ is.exports_seen i) in
-      let items : map (λ (z : PlannedKey × PlannedItem). z.1) (map (λ (x : ReadItem). x.entry) (xs ++ ys)) ≡ items_of w =
-      ap (map (λ (z : PlannedKey × PlannedItem). z.1)) entries ∙ append_of_map (λ (z : PlannedKey × PlannedItem). z.1) w.imports w.exports in
-      let none : list_all (λ (y : ReadItem). not (is_type_seen y.seen.shown)) ys ≡ true =
-      sym (list_all-map (λ (s : NumberedSeen). not (is_type_seen s.shown)) (λ (y : ReadItem). y.seen) ys)
-      ∙ (ap (list_all (λ (s : NumberedSeen). not (is_type_seen s.shown))) is.exports_seen ∙ is.no_types) in
-      let begin : Before m is.scope.home is.owned [] [] (xs ++ ys) = record {
-        interfaces = λ r u h at. no_true h;
-        types = λ j v. inr (waiting m w e j v);
-      } in
-      ap (each_after (uses_stand_before p m) []) (sym items)
+      ap (each_after (uses_stand_before p m) []) (sym (ap (map (λ (z : PlannedKey × PlannedItem). z.1))
+      (append_of_map (λ (x : ReadItem). x.entry) xs ys ∙ (λ i. is.imports_listed i ++ is.exports_listed i)) ∙ append_of_map (λ (z : PlannedKey × PlannedItem). z.1) w.imports w.exports))
       ∙ in_order m is.scope.home is.owned (xs ++ ys) (all_both (Item m is.scope.home is.owned) xs ys is.imports_read is.exports_read)
-      (all_follow m is.scope.home is.owned xs ys is.follow none) [] [] begin
-      (ap (stand_earlier t []) seen ∙ order_obeys t tables kept p are b owned views m w is)
+      (all_follow m is.scope.home is.owned xs ys is.follow (sym (list_all-map (λ (s : NumberedSeen). not (is_type_seen s.shown)) (λ (y : ReadItem). y.seen) ys)
+      ∙ (ap (list_all (λ (s : NumberedSeen). not (is_type_seen s.shown))) is.exports_seen ∙ is.no_types))) [] [] (record { interfaces = λ r u h at. no_true h; types = λ j v. inr (waiting m w e j v) })
+      (ap (stand_earlier t []) (append_of_map (λ (x : ReadItem). x.seen) xs ys ∙ (λ i. is.imports_seen i ++ is.exports_seen i)) ∙ order_obeys t tables kept p are b owned views m w is)
     where
       waiting : (m : ℕ) (w : PlannedWorld) (e : world_in p m ≡ Some w) → let is = read.worlds m w e in (j : ℕ) (v : IsWorldType m is.scope.home is.owned j)
           → Waits m is.scope.home is.owned (is.imports ++ is.exports) v.number
       waiting m w e j v =
           let is = read.worlds m w e in
-          let owner_is = owned.owned j v.number v.type_ is.scope.home v.name v.there v.stands v.shape ∙ is.owned in
           let found = waits_there m is.scope.home is.owned j v (is_under_label v.name) is.imports is.imports_read
           (ap (λ es. is_id j (option_and_then item_type (lookup (is_under_label v.name) es))) is.imports_listed
           ∙ (sym (ap (λ o. option_map_or (λ (y : PlannedWorld). is_id j (option_and_then item_type (lookup (is_under_label v.name) y.imports))) o false) e) ∙ by v.type_ v.name (v.called)
-          owner_is (listed t tables kept p are b owned views read j v.type_ v.there))) in
+          (owned.owned j v.number v.type_ is.scope.home v.name v.there v.stands v.shape ∙ is.owned) (listed t tables kept p are b owned views read j v.type_ v.there))) in
           (found.0, Contains-append_left is.imports is.exports found.0 found.1, found.2, found.3)
         where
           by : (x : PlannedType) (name : Text) → x.name ≡ Some name → x.owner ≡ as_world m → is_listed p j x ≡ true → is_listed_in p j name (as_world m) ≡ true

@@ -1,17 +1,17 @@
 -- Packages, and the places of interfaces and worlds, that are read pass the tests of a plan on them.
-use Rattle.std.proofs.Common.{◌≡◌, refl, sym, ap, ◌∙◌, ℕ, ◌+◌, Bool, true, false, not, ◌&&◌, ◌||◌, ◌==◌, List, [], ◌∷◌, filter_map, flat_map, Option, Some, None, option_and_then, is_some, slice_get}
+use Rattle.std.proofs.Common.{rules as std_rules, ◌≡◌, refl, sym, ap, ◌∙◌, ℕ, ◌+◌, Bool, true, false, not, ◌&&◌, ◌||◌, ◌==◌, List, [], ◌∷◌, filter_map, flat_map, Option, Some, None, option_and_then, is_some, slice_get}
 use Rattle.std.proofs.lemmas.{Bool.eq-eqb, Bool.and_from as both, Bool.not-true as not_true, Bool.or_right, Option.same_Some as same-some}
 use Rattle.std.proofs.lemmas.{List.Folds.list_all-map, List.Sums.sum_by-cons, Slice.Eq.bytes_eq-Decides}
 use Rattle.std.specs.{Prelude.sum_by, List.AllByRecursion, List.list_all, List.list_any, Option.option_map_or, Option.option_eq}
 use Rattle.wit_model.specs.declared.model.TypeOwner.{TypeOwner}
 use Rattle.wit_model.specs.{Text.Text, Text.text_eq, Parts.same_owner, Valid.as_interface}
-use Rattle.wit_model.specs.{Names.path_in, Names.is_identity, Names.is_label, Uses.has, Uses.owner_interface, Rules.are_distinct, Rules.in_list, Rules.is_id}
+use Rattle.wit_model.specs.{Names.path_in, Uses.has, Uses.owner_interface, Rules.are_distinct, Rules.in_list, Rules.is_id}
 use Rattle.wit_model.proofs.{Elements.contains-flat, Elements.contains-has, Elements.has-contains, NameLaws.read_path_is_spelled, RulesLemmas.each_by_number}
 use Rattle.wit_model.proofs.{VersionLaws.same_text, UsesLemmas.has_filter, PartsLemmas.owner_itself}
 use Rattle.comp_meaning.specs.Same.{same_identity}
 use Rattle.comp_meaning.proofs.{SameLaws.identities_decide, RulesLemmas.distinct_same}
 use Rattle.plan_meaning.specs.Plan.{Plan, PlannedInterface, PlannedWorld, PlannedPackage, package_in, interface_in, world_in, number_under, numbers_of, item_interface, items_of}
-use Rattle.plan_meaning.specs.PlanRules.{bears, has_name, is_alone, is_placed, is_world_placed, lists_interface, lists_members, lists_world, members_differ, names_of, times_shown}
+use Rattle.plan_meaning.specs.PlanRules.{bears, has_name, is_placed, is_world_placed, lists_interface, lists_world, members_differ, names_of, times_shown}
 use Rattle.plan_meaning.specs.NumberedViews.{Tables, path_at, AreTables}
 use Rattle.plan_meaning.specs.{NumberedWorlds.HasPath, NumberedWorlds.are_once, NumberedMembers.Homes, NumberedMembers.HomesStand, NumberedMembers.home_at}
 use Rattle.plan_meaning.specs.ReadPlaces.{inline_shown, IsPlacedInterface, under_path, inline, IsListedInterface, IsListedWorld, PlacesAreRead, PlaceTests, ReadPlacesPass}
@@ -31,19 +31,12 @@ module _ (t : Tables) (tables : AreTables t) (h : Homes) (homes : HomesStand t h
       let second = homes.homes b pb.0 pb.1 in
       let fx = same-some (first.package_, first.name) (n, name) (sym first.home ∙ ha) in
       let sx = same-some (second.package_, second.name) (n, name) (sym second.home ∙ hb) in
-      let one : first.identity ≡ second.identity = same-some first.identity second.identity
-      (sym first.stands ∙ (ap (λ (x : ℕ × Text). slice_get h.packages x.0) (fx ∙ sym sx) ∙ second.stands)) in
-      let names : first.name ≡ second.name = ap (λ (x : ℕ × Text). x.1) (fx ∙ sym sx) in
-      let left = (read_path_is_spelled pa.0 first.identity first.name first.reads).spelled in
-      let right = (read_path_is_spelled pb.0 second.identity second.name second.reads).spelled in
-      let path : pa.0 ≡ pb.0 = left ∙ ((λ i. path_in (one i) (names i)) ∙ sym right) in
-      tables.paths a b pa.0 pa.1 (pb.1 ∙ ap Some (sym path))
+      tables.paths a b pa.0 pa.1 (pb.1 ∙ ap Some (sym ((read_path_is_spelled pa.0 first.identity first.name first.reads).spelled
+      ∙ ((λ i. path_in ((same-some first.identity second.identity (sym first.stands ∙ (ap (λ (x : ℕ × Text). slice_get h.packages x.0) (fx ∙ sym sx) ∙ second.stands))) i)
+      ((ap (λ (x : ℕ × Text). x.1) (fx ∙ sym sx)) i)) ∙ sym (read_path_is_spelled pb.0 second.identity second.name second.reads).spelled))))
 
   module _ (p : Plan) (owners : ℕ → TypeOwner) (read : PlacesAreRead t h p owners) where
     -- ---- packages
-
-    identity_there : (n : ℕ) (k : PlannedPackage) → package_in p n ≡ Some k → is_identity k.identity ≡ true
-    identity_there n k e = let is = read.packages n k e in (read_path_is_spelled is.path k.identity is.name is.reads).identity
 
     other_identity : (n : ℕ) (k : PlannedPackage) → package_in p n ≡ Some k → (m : ℕ) (other : PlannedPackage) → package_in p m ≡ Some other
         → ((m == n) || not (same_identity k.identity other.identity)) ≡ true
@@ -51,10 +44,8 @@ module _ (t : Tables) (tables : AreTables t) (h : Homes) (homes : HomesStand t h
       where
         go : (b : Bool) → same_identity k.identity other.identity ≡ b → ((m == n) || not (same_identity k.identity other.identity)) ≡ true
         go false g = ap (λ b. (m == n) || not b) g ∙ or_true (m == n)
-        go true g =
-            let same : k.identity ≡ other.identity = (identities_decide k.identity other.identity).0 g in
-            let number : m ≡ n = homes.apart m n other.identity (read.packages m other f).identity ((read.packages n k e).identity ∙ ap Some same) in
-            ap (λ b. b || not (same_identity k.identity other.identity)) (eq-eqb m n number)
+        go true g = ap (λ b. b || not (same_identity k.identity other.identity)) (eq-eqb m n
+            (homes.apart m n other.identity (read.packages m other f).identity ((read.packages n k e).identity ∙ ap Some ((identities_decide k.identity other.identity).0 g))))
 
     all_interfaces : (n : ℕ) (es : List (Text × ℕ)) → AllByRecursion (IsListedInterface t h p owners n) es → list_all (lists_interface p n) es ≡ true
     all_interfaces n [] a = refl
@@ -62,22 +53,15 @@ module _ (t : Tables) (tables : AreTables t) (h : Homes) (homes : HomesStand t h
       where
         by : IsPlacedInterface t h p owners e.1 a.0.interface → lists_interface p n e ≡ true
         by (under_path q k name package_ path owned home named of_package there listed) =
-            let place : q ≡ a.0.place = read.apart q a.0.place (ap (same_owner (owners q)) (a.0.owned ∙ sym owned) ∙ owner_itself (owners q)) in
-            let one = same-some (k, name) (n, e.0) (sym home ∙ (ap (home_at h) place ∙ a.0.home)) in
+            let one = same-some _ _ (sym home ∙ (ap (home_at h) (read.apart q a.0.place (ap (same_owner (owners q)) (a.0.owned ∙ sym owned) ∙ owner_itself (owners q))) ∙ a.0.home)) in
             ap (λ o. option_map_or (λ (i : PlannedInterface). bears e.0 i.name && is_id n i.package_) o false) a.0.there
-            ∙ ((λ j. bears e.0 (named j) && is_id n (of_package j)) ∙ both (text_eq name e.0) (k == n) (same_text name e.0 (ap (λ (x : ℕ × Text). x.1) one))
-            (eq-eqb k n (ap (λ (x : ℕ × Text). x.0) one)))
+            ∙ ((λ j. bears e.0 (named j) && is_id n (of_package j)) ∙ both _ _ (same_text _ _ (ap (λ (x : ℕ × Text). x.1) one)) (eq-eqb k n (ap (λ (x : ℕ × Text). x.0) one)))
         by (inline q k w none owned unnamed there shown) =
-            let place : q ≡ a.0.place = read.apart q a.0.place (ap (same_owner (owners q)) (a.0.owned ∙ sym owned) ∙ owner_itself (owners q)) in
-            absurd (no_true (ap is_some (sym none ∙ (ap (path_at t) place ∙ a.0.path.1))))
+            absurd (no_true (ap is_some (sym none ∙ (ap (path_at t) (read.apart q a.0.place (ap (same_owner (owners q)) (a.0.owned ∙ sym owned) ∙ owner_itself (owners q))) ∙ a.0.path.1))))
 
     all_worlds : (n : ℕ) (es : List (Text × ℕ)) → AllByRecursion (IsListedWorld t h p owners n) es → list_all (lists_world p n) es ≡ true
     all_worlds n [] a = refl
-    all_worlds n (e ∷ es) a =
-        both (lists_world p n e) (list_all (lists_world p n) es)
-        (ap (λ o. option_map_or (λ (w : PlannedWorld). text_eq w.name e.0 && is_id n w.package_) o false) a.0.there
-        ∙ ((λ j. text_eq (a.0.named j) e.0 && is_id n (a.0.home j)) ∙ both (text_eq e.0 e.0) (n == n) (same_text e.0 e.0 refl) (same-number n)))
-        (all_worlds n es a.1)
+    all_worlds n (e ∷ es) a = search (std_rules, both, same_text, same-number, all_worlds n es a.1)
 
     -- names of interfaces differ, as their numbers do
     other_names : (n : ℕ) (e : Text × ℕ) → IsListedInterface t h p owners n e → (es : List (Text × ℕ)) → AllByRecursion (IsListedInterface t h p owners n) es → has (numbers_of es) e.1 ≡ false
@@ -86,19 +70,12 @@ module _ (t : Tables) (tables : AreTables t) (h : Homes) (homes : HomesStand t h
     other_names n e is (x ∷ es) a none = go (text_eq e.0 x.0) refl (other_names n e is es a.1)
       where
         go : (b : Bool) → text_eq e.0 x.0 ≡ b → (has (numbers_of es) e.1 ≡ false → list_any (text_eq e.0) (names_of es) ≡ false) → list_any (text_eq e.0) (names_of (x ∷ es)) ≡ false
-        go true f more =
-            let same : e.0 ≡ x.0 = (bytes_eq-Decides e.0 x.0).0 f in
-            let place : is.place ≡ a.0.place = one_home is.place a.0.place n x.0 is.path a.0.path (is.home ∙ ap (λ y. Some (n, y)) same) a.0.home in
-            let number : x.1 ≡ e.1 = one_interface x.1 e.1 (sym a.0.owned ∙ (ap owners (sym place) ∙ is.owned)) in
-            never (has (numbers_of (x ∷ es)) e.1) (ap (λ b. b || has (numbers_of es) e.1) (eq-eqb x.1 e.1 number)) none
+        go true f more = search (std_rules, bytes_eq-Decides, one_home, one_interface, never, eq-eqb)
         go false f more = ap (λ b. b || list_any (text_eq e.0) (names_of es)) f ∙ more (none_second (x.1 == e.1) (has (numbers_of es) e.1) none)
 
     interface_names : (n : ℕ) (es : List (Text × ℕ)) → AllByRecursion (IsListedInterface t h p owners n) es → are_once (numbers_of es) ≡ true → are_distinct (names_of es) ≡ true
     interface_names n [] a once = refl
-    interface_names n (e ∷ es) a once =
-        both (not (list_any (text_eq e.0) (names_of es))) (are_distinct (names_of es))
-        (ap not (other_names n e a.0 es a.1 (not_true (has (numbers_of es) e.1) (first_true (not (has (numbers_of es) e.1)) (are_once (numbers_of es)) once))))
-        (interface_names n es a.1 (second_true (not (has (numbers_of es) e.1)) (are_once (numbers_of es)) once))
+    interface_names n (e ∷ es) a once = both _ _ (ap not (other_names n e a.0 es a.1 (not_true _ (first_true _ _ once)))) (interface_names n es a.1 (second_true _ _ once))
 
     interfaces_differ : (n : ℕ) (k : PlannedPackage) → package_in p n ≡ Some k → are_distinct (names_of k.interfaces) ≡ true
     interfaces_differ n k e = let is = read.packages n k e in interface_names n k.interfaces is.interfaces is.once
@@ -107,8 +84,7 @@ module _ (t : Tables) (tables : AreTables t) (h : Homes) (homes : HomesStand t h
     worlds_differ n k e = distinct_same (names_of k.worlds) ∙ (read.packages n k e).labels
 
     all_differ : (n : ℕ) (k : PlannedPackage) → package_in p n ≡ Some k → members_differ k ≡ true
-    all_differ n k e =
-        distinct_both (names_of k.interfaces) (names_of k.worlds) (interfaces_differ n k e) (worlds_differ n k e)
+    all_differ n k e = distinct_both (names_of k.interfaces) (names_of k.worlds) (interfaces_differ n k e) (worlds_differ n k e)
         (list_all-map (λ x. not (list_any (text_eq x) (names_of k.worlds))) (λ (y : Text × ℕ). y.0) k.interfaces ∙ (read.packages n k e).apart)
 
     -- ---- interfaces
@@ -116,9 +92,8 @@ module _ (t : Tables) (tables : AreTables t) (h : Homes) (homes : HomesStand t h
     shown_times : (m : ℕ) → has_name p m ≡ false → (ws : List PlannedWorld) → sum_by (times_shown m) ws ≡ times m (flat_map (inline_shown p) ws)
     shown_times m unnamed [] = refl
     shown_times m unnamed (w ∷ ws) =
-        let here : times_shown m w ≡ times m (inline_shown p w) =
-        times_of item_interface m (items_of w) ∙ sym (times_filter (λ k. not (has_name p k)) m (ap not unnamed) (filter_map item_interface (items_of w))) in
-        sum_by-cons (times_shown m) w ws ∙ ((λ i. here i + shown_times m unnamed ws i) ∙ sym (times_both m (inline_shown p w) (flat_map (inline_shown p) ws)))
+        sum_by-cons (times_shown m) w ws ∙ ((λ i. (times_of item_interface m (items_of w) ∙ sym (times_filter (λ k. not (has_name p k)) m (ap not unnamed) (filter_map item_interface (items_of w))))
+        i + shown_times m unnamed ws i) ∙ sym (times_both m (inline_shown p w) (flat_map (inline_shown p) ws)))
 
     same_package : (a b : Option ℕ) → a ≡ b → option_eq ◌==◌ a b ≡ true
     same_package None b e = ap (option_eq ◌==◌ None) (sym e)
@@ -130,9 +105,7 @@ module _ (t : Tables) (tables : AreTables t) (h : Homes) (homes : HomesStand t h
       where
         go : (b : Bool) → has (filter_map item_interface (items_of w)) m ≡ b → ((times_shown m w == 0) || option_eq ◌==◌ w.package_ i.package_) ≡ true
         go false f = ap (λ k. (k == 0) || option_eq ◌==◌ w.package_ i.package_) (times_of item_interface m (items_of w) ∙ times_absent m (filter_map item_interface (items_of w)) f)
-        go true f =
-            let home = read.inline_home n w m i at (has-contains (filter_map item_interface (items_of w)) m f) e none in
-            or_right (times_shown m w == 0) (option_eq ◌==◌ w.package_ i.package_) (same_package w.package_ i.package_ (sym home))
+        go true f = search (std_rules, has-contains, or_right, same_package)
 
     placed : (m : ℕ) (i : PlannedInterface) → interface_in p m ≡ Some i → is_placed p m i ≡ true
     placed m i e = by (read.interfaces m i e)
@@ -144,22 +117,16 @@ module _ (t : Tables) (tables : AreTables t) (h : Homes) (homes : HomesStand t h
             && ((sum_by (times_shown m) p.worlds == 1) && list_all (λ w. (times_shown m w == 0) || option_eq ◌==◌ w.package_ i.package_) p.worlds)))
             ∙ (ap (λ o. option_map_or (λ (y : PlannedPackage). is_id m (number_under name y.interfaces)) o false) there ∙ number_there name m k.interfaces (interfaces_differ n k there) listed)
         by (inline q n w no_path_there owned none there shown) =
-            let home : i.package_ ≡ w.package_ = read.inline_home n w m i there shown e none in
             let at = read.worlds n w there in
             let unnamed = (ap (λ o. option_map_or (λ (x : PlannedInterface). is_some x.name) o false) e ∙ ap is_some none) in
-            let in_world : has (inline_shown p w) m ≡ true = has_filter (λ k. not (has_name p k)) (filter_map item_interface (items_of w)) m
-            (contains-has (filter_map item_interface (items_of w)) m shown) (ap not unnamed) in
-            let in_all : has (flat_map (inline_shown p) p.worlds) m ≡ true =
-            contains-has (flat_map (inline_shown p) p.worlds) m (contains-flat (inline_shown p) p.worlds w m (get-contains p.worlds n w there) (has-contains (inline_shown p w) m in_world)) in
             ap (λ o. option_map_or (λ x. option_map_or (λ (y : PlannedPackage). is_id m (number_under x y.interfaces)) (option_and_then (package_in p) i.package_) false) o
             (option_map_or (in_list p.packages) i.package_ false
             && ((sum_by (times_shown m) p.worlds == 1) && list_all (λ w. (times_shown m w == 0) || option_eq ◌==◌ w.package_ i.package_) p.worlds))) none
-            ∙ both (option_map_or (in_list p.packages) i.package_ false) ((sum_by (times_shown m) p.worlds == 1) && list_all
-            (λ w. (times_shown m w == 0) || option_eq ◌==◌ w.package_ i.package_) p.worlds)
-            (ap (λ o. option_map_or (in_list p.packages) o false) (home ∙ at.home) ∙ in_range p.packages at.number (ap is_some at.there))
-            (both (sum_by (times_shown m) p.worlds == 1) (list_all (λ w. (times_shown m w == 0) || option_eq ◌==◌ w.package_ i.package_) p.worlds)
-            (ap (λ k. k == 1) (shown_times m unnamed p.worlds ∙ times_once m (flat_map (inline_shown p) p.worlds) read.inline_once in_all))
-            (all_by_number (λ x. (times_shown m x == 0) || option_eq ◌==◌ x.package_ i.package_) p.worlds (λ k x f. world_is_home m i e none k x f)))
+            ∙ both _ _ (ap (λ o. option_map_or (in_list p.packages) o false) (read.inline_home n w m i there shown e none ∙ at.home) ∙ in_range p.packages at.number (ap is_some at.there))
+            (both _ _ (ap (λ k. k == 1) (shown_times m unnamed p.worlds ∙ times_once m (flat_map (inline_shown p) p.worlds) read.inline_once
+            (contains-has _ m (contains-flat (inline_shown p) p.worlds w m (get-contains _ n w there)
+            (has-contains _ m (has_filter (λ k. not (has_name p k)) (filter_map item_interface (items_of w)) m (contains-has _ m shown) (ap not unnamed)))))))
+            (all_by_number _ _ (λ k x f. world_is_home m i e none k x f)))
 
     -- ---- worlds
 
@@ -172,16 +139,15 @@ module _ (t : Tables) (tables : AreTables t) (h : Homes) (homes : HomesStand t h
 
     pass : PlaceTests p
     pass = record {
-      identities = all_by_number (λ k. is_identity k.identity) p.packages identity_there;
-      alone = each_by_number (is_alone p) p.packages
-          (λ n k e. each_by_number (λ m other. (m == n) || not (same_identity k.identity other.identity)) p.packages (λ m other f. other_identity n k e m other f));
-      members = each_by_number (lists_members p) p.packages
-          (λ n k e. let is = read.packages n k e in both (list_all (lists_interface p n) k.interfaces) (list_all (lists_world p n) k.worlds) (all_interfaces n k.interfaces is.interfaces)
-          (all_worlds n k.worlds is.worlds));
-      members_differ = all_by_number members_differ p.packages all_differ;
-      interfaces_placed = each_by_number (is_placed p) p.interfaces placed;
-      worlds_placed = each_by_number (is_world_placed p) p.worlds world_placed;
-      world_labels = all_by_number (λ w. is_label w.name) p.worlds (λ m w e. (read.worlds m w e).label);
+      identities = all_by_number _ _ (λ n k e.
+          let is = read.packages n k e in (read_path_is_spelled is.path k.identity is.name is.reads).identity);
+      alone = each_by_number _ _ (λ n k e. each_by_number _ _ (λ m other f. other_identity n k e m other f));
+      members = each_by_number _ _ (λ n k e. let is = read.packages n k e in
+          both _ _ (all_interfaces n k.interfaces is.interfaces) (all_worlds n k.worlds is.worlds));
+      members_differ = all_by_number _ _ all_differ;
+      interfaces_placed = each_by_number _ _ placed;
+      worlds_placed = each_by_number _ _ world_placed;
+      world_labels = all_by_number _ _ (λ m w e. (read.worlds m w e).label);
     }
 
 pub read_places_pass : ReadPlacesPass

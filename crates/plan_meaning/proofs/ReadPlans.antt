@@ -1,6 +1,5 @@
 -- All that a plan is asked for holds of one that is read.
-use Rattle.std.proofs.Common.{◌≡◌, ◌≤◌, ◌<◌, ℕ, arith, true, length, rules}
-use Rattle.std.proofs.lemmas.Bool.{le-leb}
+use Rattle.std.proofs.{Common.◌≡◌, Common.◌≤◌, Common.◌<◌, Common.ℕ, Common.arith, Common.true, Common.length, Common.rules, lemmas.Bool.le-leb}
 use Rattle.std.specs.Prelude.{nat_le}
 use Rattle.plan_meaning.specs.ReadPlans.{ReadPlanStands}
 use Rattle.plan_meaning.proofs.{KeptOwners.kept_owners_stand, ReadOrder.read_order_passes, ReadPlaces.read_places_pass, ReadWorlds.read_worlds_pass}

@@ -5,18 +5,17 @@ use Rattle.std.proofs.lemmas.List.Elements.{Contains-append_cases, Contains-appe
 use Rattle.std.specs.{List.AllZip, List.Contains, List.list_any, Option.option_map_or}
 use Rattle.wit_model.specs.declared.model.TypeOwner.{TypeOwner}
 use Rattle.wit_model.specs.Text.{Text}
-use Rattle.wit_model.specs.{Lookup.resource_of, Parts.same_owner, Uses.has, Uses.once, Rules.has_items, Rules.is_id, Valid.as_interface, Valid.as_world}
+use Rattle.wit_model.specs.{Parts.same_owner, Uses.has, Uses.once, Rules.has_items, Rules.is_id, Valid.as_interface, Valid.as_world}
 use Rattle.wit_model.proofs.{Chains.has_once, UsesLemmas.has_filter, PartsLemmas.owner_itself, RulesLemmas.each_by_number}
 use Rattle.wit_model.proofs.Elements.{contains-filter_map, contains-get, contains-has, has-contains, none-in}
 use Rattle.plan_meaning.specs.Plan.{Plan, PlannedKey, PlannedItem, PlannedType, PlannedFunction, PlannedInterface, PlannedPackage, package_in, interface_in, kind_numbers, part_number, function_numbers, function_parts, interfaces_used_by, item_interface, items_of}
 use Rattle.plan_meaning.specs.PlanRules.{HoldsNoMore, IsWanted, shown, used, direct_uses, functions_of, is_foreign, is_part, is_shown_in, world_functions}
 use Rattle.plan_meaning.specs.Renumbering.{IsPart, a_primitive, a_shape}
-use Rattle.plan_meaning.specs.NumberedViews.{FunctionShape, Tables, path_at, AreTables, NumberedView, NumberedSight}
+use Rattle.plan_meaning.specs.NumberedViews.{FunctionShape, Tables, AreTables, NumberedView, NumberedSight}
 use Rattle.plan_meaning.specs.{NumberedWorlds.HasPath, NumberedWorlds.are_once, NumberedWorlds.are_reached, NumberedWorlds.used_by_view, ReadPlans.IsReadPlan}
 use Rattle.plan_meaning.specs.{NumberedMembers.Homes, NumberedMembers.HomesStand, NumberedMembers.home_at, NumberedMembers.is_of_package, ReadFunctions.Beside}
 use Rattle.plan_meaning.specs.GatheredPlan.{Becomes, FunctionBecomes, FunctionListed, functions_seen}
-use Rattle.plan_meaning.specs.ReadPlaces.{IsPlacedInterface, under_path, inline}
-use Rattle.plan_meaning.specs.ReadWorlds.{ReadItem, IsReadItem}
+use Rattle.plan_meaning.specs.{ReadPlaces.IsPlacedInterface, ReadPlaces.under_path, ReadPlaces.inline, ReadWorlds.ReadItem, ReadWorlds.IsReadItem}
 use Rattle.plan_meaning.specs.ReadWholes.{IsPartOfFunction, a_parameter, a_result, IsPartOfKept, of_type, of_interface, of_world, HasHomes, IsKeptForReasons, place_shown, IsShownByWorld, IsViewOf, IsSeenFor, in_world, in_member, ForeignIsRead, IsReadWorldPlan, ReadPackagePlanStands, ReadWorldPlanStands}
 use Rattle.plan_meaning.proofs.{KeptParts.shape_parts, KeptParts.function_zip, ReadLists.never, ReadPlans.read_plan_stands, UsedInterfaces.interface_uses_back}
 use Rattle.plan_meaning.proofs.{Lists.no_true, MetTypes.flat_among, ReadOrder.same_uses, Words.behind}
@@ -36,10 +35,7 @@ module _ (t : Tables) (tables : AreTables t) (h : Homes) (homes : HomesStand t h
       where
         by : IsPart kept old new → part_number new ≡ Some j
         by (a_primitive low same) = absurd (omega (arith, low, is))
-        by (a_shape m i from stands to) =
-            let number : m ≡ k = omega (arith, from, is) in
-            let one : i ≡ j = read.types.once i j k (stands ∙ ap Some number) at in
-            ap part_number to ∙ (behind i ∙ ap Some one)
+        by (a_shape m i from stands to) = ap part_number to ∙ (behind i ∙ ap Some (read.types.once i j k (stands ∙ ap Some (omega (arith, from, is))) at))
 
     numbers_have : (olds news : List ℕ) → AllZip (Becomes t kept p) olds news → Contains olds (14 + k) → has (filter_map part_number news) j ≡ true
     numbers_have olds news z c =
@@ -49,17 +45,11 @@ module _ (t : Tables) (tables : AreTables t) (h : Homes) (homes : HomesStand t h
         (subst (λ o. Contains (option_to_list o) j) (sym (part_there (14 + k) found.0 refl found.2)) (0, omega arith, refl))))
 
     of_function : (f : FunctionShape) (id : Option Text) (g : PlannedFunction) → FunctionBecomes t kept p f id g → IsPartOfFunction f (14 + k) → has (function_numbers g) j ≡ true
-    of_function f id g is part =
-        contains-has (function_numbers g) j (Contains-append_left (filter_map part_number (function_parts g)) (option_to_list (resource_of g.kind)) j
-        (has-contains (filter_map part_number (function_parts g)) j (numbers_have (shape_parts f) (function_parts g) (function_zip t kept p f id g is) (by part))))
+    of_function f id g is part = contains-has _ j (Contains-append_left _ _ j (has-contains _ j (numbers_have (shape_parts f) (function_parts g) (function_zip t kept p f id g is) (by part))))
       where
         by : IsPartOfFunction f (14 + k) → Contains (shape_parts f) (14 + k)
         by (a_parameter name c) = Contains-append_left (map (λ (x : Text × ℕ). x.1) f.params) (option_to_list f.result) (14 + k) (contains-map (λ (x : Text × ℕ). x.1) f.params (name, 14 + k) c)
-        by (a_result e) =
-            Contains-append_right (map (λ (x : Text × ℕ). x.1) f.params) (option_to_list f.result) (14 + k) (subst (λ o. Contains (option_to_list o) (14 + k)) (sym e) (0, omega arith, refl))
-
-    abbrev in_types : Bool
-    in_types = list_any (λ x. has (kind_numbers x.kind) j) p.types
+        by (a_result e) = Contains-append_right _ _ _ (subst (λ o. Contains (option_to_list o) (14 + k)) (sym e) (0, omega arith, refl))
 
     abbrev in_interfaces : Bool
     in_interfaces = list_any (λ i. list_any (λ f. has (function_numbers f) j) (functions_of i)) p.interfaces
@@ -68,17 +58,10 @@ module _ (t : Tables) (tables : AreTables t) (h : Homes) (homes : HomesStand t h
     in_worlds = list_any (λ w. list_any (λ f. has (function_numbers f) j) (world_functions w)) p.worlds
 
     is_part_of : IsPartOfKept t h kept p b (14 + k) → is_part p j ≡ true
-    is_part_of (of_type i x form olds news e kind z c) =
-        ap (λ v. v || (in_interfaces || in_worlds))
+    is_part_of (of_type i x form olds news e kind z c) = ap (λ v. v || (in_interfaces || in_worlds))
         (contains_any (λ y. has (kind_numbers y.kind) j) p.types x (get-contains p.types i x e) (ap (λ y. has (kind_numbers y) j) kind ∙ numbers_have olds news z c))
-    is_part_of (of_interface m i f id g e c is part) =
-        or_right in_types (in_interfaces || in_worlds)
-        (ap (λ v. v || in_worlds) (contains_any (λ i. list_any (λ f. has (function_numbers f) j) (functions_of i)) p.interfaces i (get-contains p.interfaces m i e)
-        (contains_any (λ f. has (function_numbers f) j) (functions_of i) g c (of_function f id g is part))))
-    is_part_of (of_world m w f id g e c is part) =
-        or_right in_types (in_interfaces || in_worlds)
-        (or_right in_interfaces in_worlds (contains_any (λ w. list_any (λ f. has (function_numbers f) j) (world_functions w)) p.worlds w (get-contains p.worlds m w e)
-        (contains_any (λ f. has (function_numbers f) j) (world_functions w) g c (of_function f id g is part))))
+    is_part_of (of_interface m i f id g e c is part) = or_right _ _ (ap (λ v. v || in_worlds) (contains_any _ _ i (get-contains _ m i e) (contains_any _ _ g c (of_function f id g is part))))
+    is_part_of (of_world m w f id g e c is part) = or_right _ _ (or_right _ _ (contains_any _ _ w (get-contains _ m w e) (contains_any _ _ g c (of_function f id g is part))))
 
   module _ (reasons : IsKeptForReasons t h kept p b) where
     type_used : (j : ℕ) (x : PlannedType) → slice_get p.types j ≡ Some x → (is_some x.name || (is_part p j && is_none x.external_id)) ≡ true
@@ -99,24 +82,15 @@ module _ (t : Tables) (tables : AreTables t) (h : Homes) (homes : HomesStand t h
     package_used n k e = by (reasons.packages n k e)
       where
         lists : (is : HasHomes t h kept p b n) → IsPlacedInterface t h p b.owners is.number is.interface → has_items k.interfaces ≡ true
-        lists is (under_path q a name l path owned home named of_package there listed) =
-            let place : q ≡ is.place = one_place q is.place is.number owned is.owned in
-            let one = same-some (a, name) (n, is.name) (sym home ∙ (ap (home_at h) place ∙ is.home)) in
-            let same : l ≡ k = same-some l k (sym there ∙ (ap (package_in p) (ap (λ (x : ℕ × Text). x.0) one) ∙ e)) in
-            ap (λ (y : PlannedPackage). has_items y.interfaces) (sym same) ∙ filled l.interfaces (name, is.number) listed
-        lists is (inline q a w none owned unnamed there shown_there) =
-            let place : q ≡ is.place = one_place q is.place is.number owned is.owned in
-            no_true (ap is_some (sym none ∙ (ap (path_at t) place ∙ is.path.1)))
+        lists is (under_path q a name l path owned home named of_package there listed) = search (std_rules, one_place, same-some, filled)
+        lists is (inline q a w none owned unnamed there shown_there) = search (std_rules, one_place, no_true, is_some)
 
         by : (n ≡ p.main) ⊎ HasHomes t h kept p b n → ((n == p.main) || has_items k.interfaces) ≡ true
         by (inl same) = ap (λ v. v || has_items k.interfaces) (eq-eqb n p.main same)
         by (inr is) = or_right (n == p.main) (has_items k.interfaces) (lists is (read.places.interfaces is.number is.interface is.there))
 
     pub no_more : HoldsNoMore p
-    no_more = record {
-      types = each_by_number (λ n x. is_some x.name || (is_part p n && is_none x.external_id)) p.types type_used;
-      packages = each_by_number (λ n k. (n == p.main) || has_items k.interfaces) p.packages package_used;
-    }
+    no_more = search (std_rules, each_by_number, is_some, is_none, type_used, package_used)
 
   -- ---- interfaces that a world shows
 
@@ -128,16 +102,11 @@ module _ (t : Tables) (tables : AreTables t) (h : Homes) (homes : HomesStand t h
   world_shows q n at is =
       let w = is.world in
       let r = read.order.worlds is.number w is.there in
-      let all = r.imports ++ r.exports in
-      let items : map (λ (z : PlannedKey × PlannedItem). z.1) (map (λ (x : ReadItem). x.entry) all) ≡ items_of w =
-      ap (map (λ (z : PlannedKey × PlannedItem). z.1)) (append_of_map (λ (x : ReadItem). x.entry) r.imports r.exports ∙ (λ i. r.imports_listed i ++ r.exports_listed i))
-      ∙ append_of_map (λ (z : PlannedKey × PlannedItem). z.1) w.imports w.exports in
-      let item_is = all_at (IsReadItem t kept p b views (as_world is.number) r.scope.home) all
-      (all_both (IsReadItem t kept p b views (as_world is.number) r.scope.home) r.imports r.exports r.imports_read r.exports_read) is.item is.listed in
-      let there = contains-map (λ (z : PlannedKey × PlannedItem). z.1) (map (λ (x : ReadItem). x.entry) all) is.item.entry (contains-map (λ (x : ReadItem). x.entry) all is.item is.listed) in
-      contains-has (filter_map item_interface (items_of w)) n
-      (contains-filter_map item_interface (items_of w) is.item.entry.1 n (subst (λ xs. Contains xs is.item.entry.1) items there)
-      (subst (λ o. Contains (option_to_list o) n) (sym (item_shows (as_world is.number) r.scope.home q n at is.item item_is is.shows)) (0, omega arith, refl)))
+      contains-has _ n (contains-filter_map item_interface (items_of w) is.item.entry.1 n
+      (subst (λ xs. Contains xs is.item.entry.1) (ap (map (λ (z : PlannedKey × PlannedItem). z.1)) (append_of_map _ _ _ ∙ (λ i. r.imports_listed i ++ r.exports_listed i)) ∙ append_of_map _ _ _)
+      (contains-map _ _ _ (contains-map _ _ _ is.listed))) (subst (λ o. Contains (option_to_list o) n)
+      (sym (item_shows (as_world is.number) r.scope.home q n at is.item (all_at _ _
+      (all_both (IsReadItem t kept p b views (as_world is.number) r.scope.home) r.imports r.exports r.imports_read r.exports_read) is.item is.listed) is.shows)) (0, omega arith, refl)))
 
   -- ---- interfaces that another uses
 
@@ -164,20 +133,10 @@ module _ (t : Tables) (tables : AreTables t) (h : Homes) (homes : HomesStand t h
     uses : Contains (used_by_view t by_view.1) q
     away : q ≡ by_view.0 → ⊥
 
-  places_apart : (q : ℕ) (xs : List (ℕ × NumberedView)) → has (map (λ (i : ℕ × NumberedView). i.0) xs) q ≡ false → (x : ℕ × NumberedView) → Contains xs x → q ≡ x.0 → ⊥
-  places_apart q xs none x c e =
-      let there = contains-has (map (λ (i : ℕ × NumberedView). i.0) xs) x.0 (contains-map (λ (i : ℕ × NumberedView). i.0) xs x c) in
-      let wrong : true ≡ false = sym there ∙ (ap (has (map (λ (i : ℕ × NumberedView). i.0) xs)) (sym e) ∙ none) in
-      no_true (sym wrong)
-
   used_later : (exported : ℕ × NumberedView) (imports : List (ℕ × NumberedView)) (q : ℕ) → are_reached t imports exported.1 ≡ true → are_once (map (λ (i : ℕ × NumberedView). i.0) imports) ≡ true
       → has (map (λ (i : ℕ × NumberedView). i.0) imports) exported.0 ≡ false → has (map (λ (i : ℕ × NumberedView). i.0) imports) q ≡ true → IsUsedBy exported imports q
   used_later exported [] q reached apart away here = no_true here
-  used_later exported (i ∷ later) q reached apart away here =
-      go (i.0 == q) refl
-      (λ f. used_later exported later q (second_true (has (flat_map (λ (l : ℕ × NumberedView). used_by_view t l.1) later ++ used_by_view t exported.1) i.0) (are_reached t later exported.1) reached)
-      (second_true (not (has (map (λ (l : ℕ × NumberedView). l.0) later) i.0)) (are_once (map (λ (l : ℕ × NumberedView). l.0) later)) apart)
-      (none_second (i.0 == exported.0) (has (map (λ (l : ℕ × NumberedView). l.0) later) exported.0) away) f)
+  used_later exported (i ∷ later) q reached apart away here = go (i.0 == q) refl (λ f. used_later exported later q (second_true _ _ reached) (second_true _ _ apart) (none_second _ _ away) f)
     where
       at : i.0 ≡ q → Contains (flat_map (λ (l : ℕ × NumberedView). used_by_view t l.1) later) q ⊎ Contains (used_by_view t exported.1) q → IsUsedBy exported (i ∷ later) q
       at same (inl c) =
@@ -188,14 +147,10 @@ module _ (t : Tables) (tables : AreTables t) (h : Homes) (homes : HomesStand t h
             by_view = found.0;
             among = contains-later exported (i ∷ later) found.0 (contains-later i later found.0 found.1);
             uses = found.2;
-            away = places_apart q later (ap (has (map (λ (l : ℕ × NumberedView). l.0) later)) (sym same) ∙ none) found.0 found.1;
+            away = λ e. no_true (sym (sym (contains-has _ _ (contains-map _ _ found.0 found.1))
+                ∙ (ap (has (map (λ (i : ℕ × NumberedView). i.0) later)) (sym e) ∙ (ap (has (map (λ (l : ℕ × NumberedView). l.0) later)) (sym same) ∙ none))));
           }
-      at same (inr c) = record {
-        by_view = exported;
-        among = (0, omega arith, refl);
-        uses = c;
-        away = λ e. let other = none_first (i.0 == exported.0) (has (map (λ (l : ℕ × NumberedView). l.0) later) exported.0) away in never (i.0 == exported.0) (eq-eqb i.0 exported.0 (same ∙ e)) other;
-      }
+      at same (inr c) = record { by_view = exported; among = (0, omega arith, refl); uses = c; away = λ e. let other = none_first _ _ away in never _ (eq-eqb _ _ (same ∙ e)) other }
 
       go : (v : Bool) → (i.0 == q) ≡ v → (has (map (λ (l : ℕ × NumberedView). l.0) later) q ≡ true → IsUsedBy exported later q) → IsUsedBy exported (i ∷ later) q
       go true e more =
@@ -287,11 +242,10 @@ module _ (t : Tables) (tables : AreTables t) (h : Homes) (homes : HomesStand t h
       ap (λ w. is_shown_in w n) (one-contained is.world by_world.world there) ∙ world_shows t tables h homes kept p b views is.read at.place n at.owned by_world
 
 pub read_world_plan_stands : ReadWorldPlanStands
-read_world_plan_stands t tables h homes kept p b views is = record {
-  plan = read_plan_stands t tables h homes kept p b views is.read;
-  no_more = no_more t tables h homes kept p b views is.read is.kept_for;
-  world = is.world;
-  alone = is.alone;
-  home = ap (is_id p.main) is.home ∙ same-number p.main;
-  shows = shows t tables h homes kept p b views is;
-}
+read_world_plan_stands t tables h homes kept p b views is = search (
+  std_rules,
+  read_plan_stands t tables h homes kept p b views is.read,
+  no_more t tables h homes kept p b views is.read is.kept_for,
+  same-number p.main,
+  shows t tables h homes kept p b views is,
+)

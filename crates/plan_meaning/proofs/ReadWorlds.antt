@@ -2,18 +2,16 @@
 use Rattle.std.proofs.Common.{◌≡◌, refl, sym, ap, subst, ◌∙◌, ◌<◌, ℕ, arith, Bool, true, false, not, ◌&&◌, ◌||◌, ◌==◌, List, [], ◌∷◌, ◌++◌, map, filter_map, Option, Some, is_none, is_some, slice_get, T, ltb→lt, rules}
 use Rattle.std.proofs.lemmas.Bool.{eqb-true, eq-eqb, lt-ltb, and_from as both, not-true as not_true, or_from as neither}
 use Rattle.std.proofs.lemmas.Option.{same_Some as same-some}
-use Rattle.std.specs.{Prelude.codes, Prelude.nat_lt, List.AllByRecursion, List.cons_option, List.list_all, List.list_any}
-use Rattle.std.specs.Option.{option_map_or}
+use Rattle.std.specs.{Prelude.codes, Prelude.nat_lt, List.AllByRecursion, List.cons_option, List.list_all, List.list_any, Option.option_map_or}
 use Rattle.wit_model.specs.declared.model.{TypeOwner.TypeOwner, FunctionKind.FunctionKind}
 use Rattle.wit_model.specs.{Text.Text, Text.text_eq, Rules.in_list, Rules.is_freestanding, Uses.owner_interface, Valid.as_interface, Valid.as_world}
 use Rattle.wit_model.specs.{Names.is_label, Parts.same_owner}
 use Rattle.wit_model.proofs.{VersionLaws.same_text, PartsLemmas.owner_itself, RulesLemmas.each_by_number}
 use Rattle.comp_meaning.specs.Rules.{distinct, is_label_behind}
-use Rattle.plan_meaning.specs.{Shapes.Shape, Shapes.first_label, Shapes.form_code, Shapes.named_shape, Shapes.node_shape, ReadFunctions.Beside}
+use Rattle.plan_meaning.specs.{Shapes.named_shape, ReadFunctions.Beside, NumberedRules.Fact, KeptOwners.AreOwned, KeptOwners.of_interface}
 use Rattle.plan_meaning.specs.Plan.{Plan, PlannedKey, PlannedItem, PlannedType, PlannedFunction, PlannedInterface, PlannedWorld, interface_in, item_type, world_types}
 use Rattle.plan_meaning.specs.PlanRules.{are_rising, bears, has_name, import_stands, export_stands, is_function_key, is_type_of, keys_differ, same_key}
-use Rattle.plan_meaning.specs.NumberedViews.{Tables, path_text, AreTables, NumberedView, FunctionShape, function_at}
-use Rattle.plan_meaning.specs.{NumberedRules.Fact, NumberedRules.is_signature, KeptOwners.AreOwned, KeptOwners.of_interface}
+use Rattle.plan_meaning.specs.NumberedViews.{Tables, path_text, AreTables, NumberedView, FunctionShape}
 use Rattle.plan_meaning.specs.NumberedWorlds.{HasPath, NumberedSeen, are_imports, is_item, stand_earlier}
 use Rattle.plan_meaning.specs.KeptTypes.{IsKeptType, unnamed, declared, TypesAreKept}
 use Rattle.plan_meaning.specs.KeptFunctions.{IsKindOf, of_none, a_constructor, a_method, an_async_method, a_static, an_async_static}
@@ -44,8 +42,7 @@ module _ (t : Tables) (tables : AreTables t) (kept : List ℕ) (p : Plan) (are :
   named_there : (q m : ℕ) → HasPath t q → b.owners q ≡ as_interface m → (i : PlannedInterface) → interface_in p m ≡ Some i → has_name p m ≡ true
   named_there q m path is i standing =
       let named = owned.outside q path (of_interface m i is standing) in
-      let one : m ≡ named.id.0 = same-some m named.id.0 (ap owner_interface (sym is ∙ named.is)) in
-      ap (has_name p) one ∙ named.named
+      ap (has_name p) (same-some m named.id.0 (ap owner_interface (sym is ∙ named.is))) ∙ named.named
 
   module _ (m home : ℕ) (owned_home : b.owners home ≡ as_world m) where
     abbrev Item : ReadItem → Type 0
@@ -62,64 +59,40 @@ module _ (t : Tables) (tables : AreTables t) (kept : List ℕ) (p : Plan) (are :
     type_there key count d id n is =
         let x = is.becomes.type_ in
         let from = are.each n x is.becomes.stands in
-        let number : from.0 ≡ is.number = same-some from.0 is.number (sym from.1 ∙ is.stands) in
-        let kept_type : IsKeptType t kept p is.number x = subst (λ k. IsKeptType t kept p k x) number from.2 in
+        let kept_type : IsKeptType t kept p is.number x = subst (λ k. IsKeptType t kept p k x) (same-some _ _ (sym from.1 ∙ is.stands)) from.2 in
         let owner_is = owned.owned n is.number x home key is.becomes.stands is.stands is.shape ∙ owned_home in (
           labelled is.number x is.shape kept_type,
           ap (λ o. option_map_or (λ (y : PlannedType). bears key y.name && same_owner y.owner (as_world m)) o false) is.becomes.stands
-              ∙ both (bears key x.name) (same_owner x.owner (as_world m)) (bears_name t kept p are home is.number key x is.shape kept_type)
-              (ap (λ o. same_owner o (as_world m)) owner_is ∙ owner_itself (as_world m)),
+              ∙ both _ _ (bears_name t kept p are home is.number key x is.shape kept_type) (ap (λ o. same_owner o (as_world m)) owner_is ∙ owner_itself (as_world m)),
         )
       where
         labelled : (k : ℕ) (x : PlannedType) → slice_get t.shapes k ≡ Some (named_shape home key) → IsKeptType t kept p k x → is_label key ≡ true
-        labelled k x at (declared r other d at_other called home_x kind before good obeys) =
-            let one : named_shape r other ≡ named_shape home key = same-some (named_shape r other) (named_shape home key) (sym at_other ∙ at) in
-            ap (λ (s : Shape). is_label (first_label s.labels)) (sym one) ∙ good
-        labelled k x at (unnamed place form olds news at_form z none unowned kind part low) =
-            let one : node_shape form olds ≡ named_shape home key = same-some (node_shape form olds) (named_shape home key) (sym at_form ∙ at) in
-            no_true (sym (no_name form) ∙ eq-eqb (form_code form).sort 0 (ap (λ (s : Shape). s.sort) one))
+        labelled k x at (declared r other d at_other called home_x kind before good obeys) = search (rules, same-some)
+        labelled k x at (unnamed place form olds news at_form z none unowned kind part low) = search (rules, same-some, no_true, no_name, eq-eqb)
 
     imports_itself : (x : ReadItem) → Item x → import_stands p m x.entry ≡ true
     imports_itself x (by_path q n v id path shown key entry is) = ap (import_stands p m) entry ∙ both (n == n) (has_name p n) (same-number n) (named_there q n path is.owned is.interface is.there)
     imports_itself x (by_label q n v id shown good entry is) = ap (import_stands p m) entry ∙ both (is_label x.seen.key) (in_list p.interfaces n) good (there q n v is)
     imports_itself x (implementing_path q n v id path shown good entry is) = ap (import_stands p m) entry ∙ both (is_label x.seen.key) (in_list p.interfaces n) good (there q n v is)
     imports_itself x (a_function f g shown entry is) = ap (import_stands p m) entry ∙ function_stands x.seen.key x.count g is
-    imports_itself x (a_type d n shown entry is) =
-        let type_ = type_there x.seen.key x.count d x.seen.external_id n is in ap (import_stands p m) entry ∙ both (is_label x.seen.key) (is_type_of p (as_world m) (x.seen.key, n)) type_.0 type_.1
+    imports_itself x (a_type d n shown entry is) = search (rules, type_there x.seen.key x.count d x.seen.external_id n is, both)
 
     all_imports : (xs : List ReadItem) → AllByRecursion Item xs → list_all (import_stands p m) (map (λ (x : ReadItem). x.entry) xs) ≡ true
     all_imports [] a = refl
     all_imports (x ∷ xs) a = both (import_stands p m x.entry) (list_all (import_stands p m) (map (λ (y : ReadItem). y.entry) xs)) (imports_itself x a.0) (all_imports xs a.1)
 
     exports_itself : (x : ReadItem) → Item x → is_item t b.known home [] x.seen.key x.seen.shown ≡ true → not (is_type_seen x.seen.shown) ≡ true → export_stands p x.entry ≡ true
-    exports_itself x (by_path q n v id path shown key entry is) obeys none =
-        ap (export_stands p) entry ∙ both (n == n) (has_name p n) (same-number n) (named_there q n path is.owned is.interface is.there)
+    exports_itself x (by_path q n v id path shown key entry is) obeys none = search (rules, both, same-number, named_there)
     exports_itself x (by_label q n v id shown good entry is) obeys none = ap (export_stands p) entry ∙ both (is_label x.seen.key) (in_list p.interfaces n) good (there q n v is)
     exports_itself x (implementing_path q n v id path shown good entry is) obeys none = ap (export_stands p) entry ∙ both (is_label x.seen.key) (in_list p.interfaces n) good (there q n v is)
-    exports_itself x (a_function f g shown entry is) obeys none =
-        let r = is.read in
-        let item = sym (ap (is_item t b.known home [] x.seen.key) shown) ∙ obeys in
-        let good : is_label x.seen.key ≡ true = or_nothing (is_label x.seen.key) (second_true (is_signature t b.known home (function_at t f)) (is_label x.seen.key || false) item) in
-        let same : r.name ≡ x.seen.key = sym r.kept_function.named ∙ is.named in
-        ap (export_stands p) entry
-        ∙ both (is_function_key x.seen.key g) (is_freestanding g.kind) (function_stands x.seen.key x.count g is)
-        (stands_free t b.known kept p (as_world m) r.place r.name r.shape g.kind r.kept_function.kind (ap is_label same ∙ good))
+    exports_itself x (a_function f g shown entry is) obeys none = search (rules, or_nothing, second_true, both, function_stands, stands_free)
     exports_itself x (a_type d n shown entry is) obeys none = no_true (sym (ap (λ s. not (is_type_seen s)) shown) ∙ none)
 
-    abbrev obeys_alone : NumberedSeen → Bool
-    obeys_alone s = is_item t b.known home [] s.key s.shown
-
-    abbrev no_type : NumberedSeen → Bool
-    no_type s = not (is_type_seen s.shown)
-
-    all_exports : (xs : List ReadItem) → AllByRecursion Item xs → list_all obeys_alone (map (λ (x : ReadItem). x.seen) xs) ≡ true → list_all no_type (map (λ (x : ReadItem). x.seen) xs) ≡ true
+    all_exports : (xs : List ReadItem) → AllByRecursion Item xs → list_all (λ s. is_item t b.known home [] s.key s.shown) (map (λ (x : ReadItem). x.seen) xs) ≡ true
+        → list_all (λ s. not (is_type_seen s.shown)) (map (λ (x : ReadItem). x.seen) xs) ≡ true
         → list_all (export_stands p) (map (λ (x : ReadItem). x.entry) xs) ≡ true
     all_exports [] a h k = refl
-    all_exports (x ∷ xs) a h k =
-        let rest = map (λ (y : ReadItem). y.seen) xs in
-        both (export_stands p x.entry) (list_all (export_stands p) (map (λ (y : ReadItem). y.entry) xs))
-        (exports_itself x a.0 (first_true (obeys_alone x.seen) (list_all obeys_alone rest) h) (first_true (no_type x.seen) (list_all no_type rest) k))
-        (all_exports xs a.1 (second_true (obeys_alone x.seen) (list_all obeys_alone rest) h) (second_true (no_type x.seen) (list_all no_type rest) k))
+    all_exports (x ∷ xs) a h k = both _ _ (exports_itself x a.0 (first_true _ _ h) (first_true _ _ k)) (all_exports xs a.1 (second_true _ _ h) (second_true _ _ k))
 
     -- ---- keys
 
@@ -139,34 +112,23 @@ module _ (t : Tables) (tables : AreTables t) (kept : List ℕ) (p : Plan) (are :
     same_keys x y (labelled_key e) (labelled_key f) h = sym (λ i. same_key (e i) (f i)) ∙ h
     same_keys x y (labelled_key e) (path_key q n f text is) h = no_true (sym (λ i. same_key (e i) (f i)) ∙ h)
     same_keys x y (path_key q n e text is) (labelled_key f) h = no_true (sym (λ i. same_key (e i) (f i)) ∙ h)
-    same_keys x y (path_key q n e text is) (path_key r k f other at) h =
-        let number : n ≡ k = eqb-true n k (sym (λ i. same_key (e i) (f i)) ∙ h) in
-        let place : q ≡ r = owned.apart q r (ap (same_owner (b.owners q)) (at ∙ (ap as_interface (sym number) ∙ sym is)) ∙ owner_itself (b.owners q)) in
-        same_text x.seen.key y.seen.key (text ∙ (ap (path_text t) place ∙ sym other))
+    same_keys x y (path_key q n e text is) (path_key r k f other at) h = search (rules, eqb-true, owner_itself (b.owners q), same_text)
 
     no_other_key : (x : ReadItem) → Item x → (ys : List ReadItem) → AllByRecursion Item ys
         → list_any (text_eq x.seen.key) (map (λ (s : NumberedSeen). s.key) (map (λ (y : ReadItem). y.seen) ys)) ≡ false
         → list_any (λ (other : PlannedKey × PlannedItem). same_key x.entry.0 other.0) (map (λ (y : ReadItem). y.entry) ys) ≡ false
     no_other_key x is [] a h = refl
-    no_other_key x is (y ∷ ys) a h =
-        neither (same_key x.entry.0 y.entry.0) (list_any (λ (other : PlannedKey × PlannedItem). same_key x.entry.0 other.0) (map (λ (z : ReadItem). z.entry) ys))
-        (differs (same_key x.entry.0 y.entry.0) refl) (no_other_key x is ys a.1
-        (none_second (text_eq x.seen.key y.seen.key) (list_any (text_eq x.seen.key) (map (λ (s : NumberedSeen). s.key) (map (λ (z : ReadItem). z.seen) ys))) h))
+    no_other_key x is (y ∷ ys) a h = neither (same_key x.entry.0 y.entry.0) (list_any (λ (other : PlannedKey × PlannedItem). same_key x.entry.0 other.0) (map (λ (z : ReadItem). z.entry) ys))
+        (differs (same_key x.entry.0 y.entry.0) refl) (no_other_key x is ys a.1 (none_second _ _ h))
       where
         differs : (v : Bool) → same_key x.entry.0 y.entry.0 ≡ v → same_key x.entry.0 y.entry.0 ≡ false
         differs false e = e
-        differs true e =
-            never (text_eq x.seen.key y.seen.key) (same_keys x y (key_is x is) (key_is y a.0) e)
-            (none_first (text_eq x.seen.key y.seen.key) (list_any (text_eq x.seen.key) (map (λ (s : NumberedSeen). s.key) (map (λ (z : ReadItem). z.seen) ys))) h)
+        differs true e = search (rules, never, same_keys, key_is, none_first)
 
     all_keys : (xs : List ReadItem) → AllByRecursion Item xs → distinct (map (λ (s : NumberedSeen). s.key) (map (λ (x : ReadItem). x.seen) xs)) ≡ true
         → keys_differ (map (λ (x : ReadItem). x.entry) xs) ≡ true
     all_keys [] a h = refl
-    all_keys (x ∷ xs) a h =
-        let keys = map (λ (s : NumberedSeen). s.key) (map (λ (y : ReadItem). y.seen) xs) in
-        both (not (list_any (λ (other : PlannedKey × PlannedItem). same_key x.entry.0 other.0) (map (λ (y : ReadItem). y.entry) xs))) (keys_differ (map (λ (y : ReadItem). y.entry) xs))
-        (ap not (no_other_key x a.0 xs a.1 (not_true (list_any (text_eq x.seen.key) keys) (first_true (not (list_any (text_eq x.seen.key) keys)) (distinct keys) h))))
-        (all_keys xs a.1 (second_true (not (list_any (text_eq x.seen.key) keys)) (distinct keys) h))
+    all_keys (x ∷ xs) a h = both _ _ (ap not (no_other_key x a.0 xs a.1 (not_true _ (first_true _ _ h)))) (all_keys xs a.1 (second_true _ _ h))
 
     -- ---- types
 
@@ -181,8 +143,7 @@ module _ (t : Tables) (tables : AreTables t) (kept : List ℕ) (p : Plan) (are :
 
     -- the number of a type of the world, with its number in the table behind this, if the item is one
     later_types : (n k low : ℕ) → slice_get kept n ≡ Some k → k < low → (xs : List ReadItem) → AllByRecursion Item xs
-        → list_all (λ (y : ReadItem). not (is_type_seen y.seen.shown) || nat_lt low y.count) xs ≡ true
-        → list_all (nat_lt n) (types_in xs) ≡ true
+        → list_all (λ (y : ReadItem). not (is_type_seen y.seen.shown) || nat_lt low y.count) xs ≡ true → list_all (nat_lt n) (types_in xs) ≡ true
     later_types n k low at less [] a h = refl
     later_types n k low at less (y ∷ ys) a h =
         let rest = later_types n k low at less ys a.1 (second_true (not (is_type_seen y.seen.shown) || nat_lt low y.count)
@@ -211,10 +172,8 @@ module _ (t : Tables) (tables : AreTables t) (kept : List ℕ) (p : Plan) (are :
         by (by_label q j v id shown good entry is) later rest = subst (λ (e : PlannedKey × PlannedItem). Rise xs e.1) (sym entry) rest
         by (implementing_path q j v id path shown good entry is) later rest = subst (λ (e : PlannedKey × PlannedItem). Rise xs e.1) (sym entry) rest
         by (a_function f g shown entry is) later rest = subst (λ (e : PlannedKey × PlannedItem). Rise xs e.1) (sym entry) rest
-        by (a_type d n shown entry is) later rest =
-            let last = is.last in
-            subst (λ (e : PlannedKey × PlannedItem). Rise xs e.1) (sym entry)
-            (both (list_all (nat_lt n) (types_in xs)) (are_rising (types_in xs)) (later_types n is.number x.count is.stands (omega (arith, last)) xs a.1 later) rest)
+        by (a_type d n shown entry is) later rest = subst (λ (e : PlannedKey × PlannedItem). Rise xs e.1) (sym entry)
+            (both (list_all (nat_lt n) (types_in xs)) (are_rising (types_in xs)) (later_types n is.number x.count is.stands (omega (arith, is.last)) xs a.1 later) rest)
 
   -- ---- the rules on worlds
 
@@ -242,29 +201,24 @@ module _ (t : Tables) (tables : AreTables t) (kept : List ℕ) (p : Plan) (are :
 
     all_export : list_all (export_stands p) w.exports ≡ true
     all_export = ap (list_all (export_stands p)) (sym is.exports_listed) ∙ all_exports m is.scope.home is.owned is.exports is.exports_read
-        (ap (list_all (λ (s : NumberedSeen). is_item t b.known is.scope.home [] s.key s.shown)) is.exports_seen
-        ∙ (second_true imported exported (first_true (imported && exported) import_keys (first_true ((imported && exported) && import_keys) export_keys front))))
+        (ap (list_all (λ (s : NumberedSeen). is_item t b.known is.scope.home [] s.key s.shown)) is.exports_seen ∙ (second_true _ _ (first_true _ _ (first_true _ _ front))))
         (ap (list_all (λ (s : NumberedSeen). not (is_type_seen s.shown))) is.exports_seen ∙ is.no_types)
 
     pub import_keys_differ : keys_differ w.imports ≡ true
     import_keys_differ = ap keys_differ (sym is.imports_listed) ∙ all_keys m is.scope.home is.owned is.imports is.imports_read
-        (ap (λ ss. distinct (map (λ (s : NumberedSeen). s.key) ss)) is.imports_seen
-        ∙ (second_true (imported && exported) import_keys (first_true ((imported && exported) && import_keys) export_keys front)))
+        (ap (λ ss. distinct (map (λ (s : NumberedSeen). s.key) ss)) is.imports_seen ∙ (second_true _ _ (first_true _ _ front)))
 
     export_keys_differ : keys_differ w.exports ≡ true
     export_keys_differ = ap keys_differ (sym is.exports_listed) ∙ all_keys m is.scope.home is.owned is.exports is.exports_read
         (ap (λ ss. distinct (map (λ (s : NumberedSeen). s.key) ss)) is.exports_seen ∙ (second_true ((imported && exported) && import_keys) export_keys front))
 
     types_rise : are_rising (world_types w) ≡ true
-    types_rise = ap (λ es. are_rising (filter_map item_type (map (λ (e : PlannedKey × PlannedItem). e.1) es))) (sym is.imports_listed) ∙ all_types m is.scope.home is.owned is.imports
-        is.imports_read is.follow
+    types_rise = search (rules, all_types m is.scope.home is.owned is.imports is.imports_read is.follow)
 
 pub read_worlds_pass : ReadWorldsPass
 read_worlds_pass t tables kept p are b owned views read = record {
-  imports_stand = each_by_number (λ n w. list_all (import_stands p n) w.imports) p.worlds (λ m w e. all_import t tables kept p are b owned views m w (read m w e));
-  exports_stand = all_by_number (λ w. list_all (export_stands p) w.exports) p.worlds (λ m w e. all_export t tables kept p are b owned views m w (read m w e));
-  keys_differ = all_by_number (λ w. keys_differ w.imports && keys_differ w.exports) p.worlds
-      (λ m w e. both (keys_differ w.imports) (keys_differ w.exports) (import_keys_differ t tables kept p are b owned views m w (read m w e))
-      (export_keys_differ t tables kept p are b owned views m w (read m w e)));
-  world_types_rise = all_by_number (λ w. are_rising (world_types w)) p.worlds (λ m w e. types_rise t tables kept p are b owned views m w (read m w e));
+  imports_stand = each_by_number _ _ (λ m w e. all_import t tables kept p are b owned views m w (read m w e));
+  exports_stand = all_by_number _ _ (λ m w e. all_export t tables kept p are b owned views m w (read m w e));
+  keys_differ = all_by_number _ _ (λ m w e. both _ _ (import_keys_differ t tables kept p are b owned views m w (read m w e)) (export_keys_differ t tables kept p are b owned views m w (read m w e)));
+  world_types_rise = all_by_number _ _ (λ m w e. types_rise t tables kept p are b owned views m w (read m w e));
 }

@@ -4,9 +4,9 @@ use Rattle.std.proofs.lemmas.{Bool.ltb-true as less_than, Option.same_Some as sa
 use Rattle.std.specs.{List.AllZip, List.list_all, List.cons_option}
 use Rattle.wit_model.specs.{Tree.Place, Tree.Tree, Types.no_tree, Rules.each_from}
 use Rattle.wit_model.proofs.{Tables.grow_at, RulesLemmas.each_at}
-use Rattle.plan_meaning.specs.Shapes.{Shape, part_tree, shape_tree, shape_trees, IsTable}
+use Rattle.plan_meaning.specs.Shapes.{Shape, part_tree, shape_trees, IsTable}
 use Rattle.plan_meaning.specs.Plan.{Plan, PlannedType, part_number, kind_numbers, tree_of_planned, trees_in}
-use Rattle.plan_meaning.specs.Renumbering.{IsPart, IsTypeOf, AreKept, TreesAreKept}
+use Rattle.plan_meaning.specs.Renumbering.{IsPart, AreKept, TreesAreKept}
 use Rattle.plan_meaning.proofs.{ShapeLaws.node_tree, ShapeLaws.name_tree, ShapeLaws.part_behind, ShapeLaws.part_front, ShapeLaws.tree_at_number, Words.behind}
 use Rattle.base_lemmas.proofs.{Bools.left_of as first_true, Lists.slice_take, Lists.within_there as slice_there}
 
@@ -41,10 +41,6 @@ module _ (place : ℕ → Place) (shapes : List Shape) (kept : List ℕ) (p : Pl
       search (std_rules, rest_passes, part_kept, parts_kept j small old new zip.1 (rest_passes (λ k. nat_lt k j) (part_number w) (filter_map part_number new) h))
   parts_kept j small _ _ zip h = absurd zip
 
-  made_tree : (j : ℕ) → Smaller j → (t : PlannedType) (s : Shape) → list_all (λ k. nat_lt k j) (kind_numbers t.kind) ≡ true → IsTypeOf place kept p s t
-      → tree_of_planned p (take j (trees_in p)) t ≡ shape_tree place old_trees s
-  made_tree j small t s h y = search (std_rules, name_tree, parts_kept, node_tree)
-
   planned_tree : (j : ℕ) (t : PlannedType) → slice_get p.types j ≡ Some t → slice_get (trees_in p) j ≡ Some (tree_of_planned p (take j (trees_in p)) t)
   unfolding trees_in
   planned_tree j t e = grow_at (tree_of_planned p) p.types j t e
@@ -53,11 +49,9 @@ module _ (place : ℕ → Place) (shapes : List Shape) (kept : List ℕ) (p : Pl
   number_kept j n small low stands =
       let found = slice_there p.types j low in
       let from = are.types j found.0 found.1 in
-      let same : from.0 ≡ n = same-some from.0 n (sym from.2 ∙ stands) in
       let numbers = each_at (λ i t. list_all (λ k. nat_lt k i) (kind_numbers t.kind)) p.types j found.0 falls found.1 in
-      ap (λ o. unwrap_or o no_tree) (planned_tree j found.0 found.1)
-      ∙ (made_tree j small found.0 from.1 numbers from.4
-      ∙ (sym (ap (λ o. unwrap_or o no_tree) (tree_at_number place shapes table from.0 from.1 from.3)) ∙ ap (tree_of_number old_trees) same))
+      ap (λ o. unwrap_or o no_tree) (planned_tree j found.0 found.1) ∙ ((search (std_rules, name_tree, parts_kept, node_tree))
+      ∙ (sym (ap (λ o. unwrap_or o no_tree) (tree_at_number place shapes table from.0 from.1 from.3)) ∙ ap (tree_of_number old_trees) (same-some from.0 n (sym from.2 ∙ stands))))
 
   numbers_kept : (fuel j n : ℕ) → j < fuel → j < length p.types → slice_get kept j ≡ Some n → tree_of_number (trees_in p) j ≡ tree_of_number old_trees n
   numbers_kept zero j n h low stands = absurd (omega (arith, h))

@@ -1,5 +1,5 @@
 -- Which numbers are resources: the marks along a plan's types say what following aliases finds.
-use Rattle.std.proofs.Common.{rules as std_rules, ◌≡◌, refl, sym, ap, subst, ◌∙◌, ℕ, zero, suc, ◌+◌, ◌<◌, ◌≤◌, Bool, true, false, ◌&&◌, not, nat_lt, T, ltb→lt, List, [], ◌∷◌, length, map, take, filter_map, option_map, option_to_list, Option, Some, None, slice_get, unwrap_or, arith}
+use Rattle.std.proofs.Common.{rules as std_rules, ◌≡◌, refl, sym, ap, ◌∙◌, ℕ, zero, suc, ◌+◌, ◌<◌, ◌≤◌, Bool, true, false, ◌&&◌, not, nat_lt, ltb→lt, List, [], ◌∷◌, length, map, take, filter_map, option_map, option_to_list, Option, Some, None, slice_get, unwrap_or, arith}
 use Rattle.std.proofs.lemmas.{Option.slice_get_past, Option.slice_get-map as get_of_map, Bool.and_from as both}
 use Rattle.std.specs.{List.list_all, List.cons_option, Option.option_map_or}
 use Rattle.wit_model.specs.declared.model.{Resolve.Resolve, TypeDefKind.TypeDefKind, «Type».«Type» as ValueType, TypeOwner.TypeOwner, Function.Function}
@@ -41,9 +41,7 @@ module _ (r : Resolve) (m : ℕ) (below : Keeps references r) where
         go : (o : Option ℕ) → list_all (λ j. nat_lt j n) (option_to_list o) ≡ true
             → option_map_or (λ j. unwrap_or (slice_get (take n marks) j) false) o false ≡ option_map_or (parts.is_resource r) o false
         go None low = refl
-        go (Some j) low =
-            let less : j < n = ltb→lt j n (subst T (sym (first_true (nat_lt j n) true low)) tt) in
-            ap (λ o. unwrap_or o false) (slice_take marks n j less) ∙ same j less
+        go (Some j) low = search (std_rules, ltb→lt, first_true, slice_take)
 
     mark_is : (k : TypeDefKind) (x : PlannedType) → x.kind ≡ planned_kind k → list_all (λ j. nat_lt j n) (parts.kind_numbers k) ≡ true
         → marked_at (take n marks) x ≡ is_resource_kind (parts.is_resource r) k
@@ -58,10 +56,7 @@ module _ (r : Resolve) (m : ℕ) (below : Keeps references r) where
 
   unmarked : (n : ℕ) → length r.types.items ≤ n → plan.is_resource (plan_of r m) n ≡ false
   unfolding resource_marks
-  unmarked n h =
-      let made = grow_keeps marked_at [] (map planned_type r.types.items) in
-      let long : length (resource_marks (plan_of r m)) ≤ n = omega (arith, h, ap length made.1, made.2, length_of_map planned_type r.types.items) in
-      ap (λ o. unwrap_or o false) (slice_get_past (resource_marks (plan_of r m)) n long)
+  unmarked n h = search (std_rules, grow_keeps marked_at [] (map planned_type r.types.items), plan_of r m, plan_of r m, length_of_map planned_type r.types.items, slice_get_past)
 
   resource_step_is : (n : ℕ) → ((j : ℕ) → j < n → plan.is_resource (plan_of r m) j ≡ parts.is_resource r j) → plan.is_resource (plan_of r m) n ≡ parts.is_resource r n
   resource_step_is n same = go (type_at r n) refl
@@ -96,13 +91,11 @@ module _ (r : Resolve) (m : ℕ) (is : IsPlan (plan_of r m)) where
   takes_values o f = list_all (λ t. not (is_resource_type r t)) (function_types f)
 
   function_passes : (o : TypeOwner) (f : Function) → planned.takes_values (plan_of r m) (planned_function f) ≡ true → takes_values o f ≡ true
-  function_passes o f h =
-      members (function_types f) (sym (list_all_filter_map no_resource_at number_of (function_types f)) ∙ (ap (list_all no_resource_at) (sym (value_numbers_are f)) ∙ h))
+  function_passes o f h = members (function_types f) (sym (list_all_filter_map no_resource_at number_of (function_types f)) ∙ (ap (list_all no_resource_at) (sym (value_numbers_are f)) ∙ h))
     where
       members : (ts : List ValueType) → list_all (λ t. list_all no_resource_at (option_to_list (number_of t))) ts ≡ true → list_all (λ t. not (is_resource_type r t)) ts ≡ true
       members [] h = refl
-      members (t ∷ ts) h =
-          both _ _ (value_passes t (ap (λ o. list_all no_resource_at (option_to_list o)) (number_part t) ∙ first_true _ _ h)) (members ts (second_true _ _ h))
+      members (t ∷ ts) h = both _ _ (value_passes t (ap (λ o. list_all no_resource_at (option_to_list o)) (number_part t) ∙ first_true _ _ h)) (members ts (second_true _ _ h))
 
   -- a kind that is no handle
   of_values : (k : TypeDefKind) (ks : List ℕ) → formed_pass value_part (planned_kind k) ≡ list_all value_part ks → handled k ≡ None → list_all no_resource_at (filter_map part_number ks) ≡ true
@@ -130,8 +123,7 @@ module _ (r : Resolve) (m : ℕ) (is : IsPlan (plan_of r m)) where
 
   pub handles_kept : Keeps handles r
   unfolding handles
-  handles_kept = keeps_three handles r refl
-      (interfaces_pass r m (λ o f. planned.takes_values (plan_of r m) f) takes_values function_passes is.functions_take_values)
+  handles_kept = keeps_three handles r refl (interfaces_pass r m (λ o f. planned.takes_values (plan_of r m) f) takes_values function_passes is.functions_take_values)
       (worlds_pass r m (λ o f. planned.takes_values (plan_of r m) f) takes_values function_passes is.functions_take_values)
       (each_from_built planned_type (λ t. planned.handles_resources (plan_of r m) t.kind)
       (λ def. list_all (λ t. not (is_resource_type r t)) (member_types def.kind) && passes (parts.is_resource r) (handled def.kind)) (λ def h. kind_passes def.kind h) r.types.items is.handles)

@@ -32,18 +32,13 @@ absent_here m n ns less h = let other : (n == m) ≡ false = grind (arith, nat_t
 covered : (a b c : Bool) → a ≡ (b || c) → c ≡ false → (not a || b) ≡ true
 covered a y c e f = search std_rules
 
-grouped : (a b c : Bool) → (a || (b || c)) ≡ ((a || (b || false)) || c)
-grouped x b c = search std_rules
-
 pub in_order : (used : ℕ → List ℕ) → ((n : ℕ) → list_all (λ m. nat_lt m n) (used n) ≡ true) → (all before rest : List ℕ) → ((m : ℕ) → has all m ≡ (has before m || has rest m)) → are_rising rest ≡ true
     → each_after (λ b n. list_all (λ m. not (has all m) || has b m) (used n)) before rest ≡ true
 in_order used low all before [] split rise = refl
-in_order used low all before (n ∷ rest) split rise =
-    both _ _
-    (all_weaker (λ m. nat_lt m n) (λ m. not (has all m) || has before m) (λ m h. covered (has all m) (has before m) (has (n ∷ rest) m) (split m)
-    (absent_here m n rest (less_than m n h) (first_true (list_all (nat_lt n) rest) _ rise))) (used n) (low n))
-    (in_order used low all (before ++ n ∷ []) rest
-    (λ m. split m ∙ (grouped (has before m) (n == m) (has rest m) ∙ ap (λ b. b || has rest m) (sym (list_any-append (λ k. k == m) before (n ∷ []))))) (second_true (list_all (nat_lt n) rest) _ rise))
+in_order used low all before (n ∷ rest) split rise = both _ _ (all_weaker (λ m. nat_lt m n) (λ m. not (has all m) || has before m)
+    (λ m h. covered (has all m) (has before m) (has (n ∷ rest) m) (split m) (absent_here m n rest (less_than m n h) (first_true (list_all (nat_lt n) rest) _ rise))) (used n) (low n))
+    (in_order used low all (before ++ n ∷ []) rest (λ m. split m ∙ ((search std_rules) ∙ ap (λ b. b || has rest m) (sym (list_any-append (λ k. k == m) before (n ∷ [])))))
+    (second_true (list_all (nat_lt n) rest) _ rise))
 
 -- ---- what is used is smaller
 
@@ -55,13 +50,8 @@ module _ (r : Resolve) (m : ℕ) (fall : each_from (λ n x. list_all (λ j. nat_
       go None e = refl
       go (Some def) e =
           let ns = plan.kind_numbers (planned_kind def.kind) in
-          let low = each_there planned_type (λ n x. list_all (λ j. nat_lt j n) (plan.kind_numbers x.kind)) r.types.items fall n def e in
-          let within : (j : ℕ) → Contains ns j → j < n = λ j c. less_than j n (all-contained (λ i. nat_lt i n) ns j low c) in
-          let range = slice_get_within r.types.items n def e in
-          let long = length_of_map planned_type r.types.items in
-          ap (list_all (λ k. nat_lt k n)) (sym (used_by_kind_is r m def.kind))
-          ∙ all_pass (λ k. nat_lt k n) (plan.used_by_numbers (plan_of r m) ns) (λ k c.
-          let from = used_among (plan_of r m) fall ns (λ j d. let less = within j d in omega (arith, less, range, long)) k c in
-          let less = within from.0 from.1 in
-          let le = leb-true k from.0 from.2 in
-          lt-ltb k n (omega (arith, less, le)))
+          let within : (j : ℕ) → Contains ns j
+          → j < n = λ j c. less_than j n (all-contained _ _ j (each_there planned_type (λ n x. list_all (λ j. nat_lt j n) (plan.kind_numbers x.kind)) r.types.items fall n def e) c) in
+          ap (list_all (λ k. nat_lt k n)) (sym (used_by_kind_is r m def.kind)) ∙ all_pass (λ k. nat_lt k n) (plan.used_by_numbers (plan_of r m) ns) (λ k c.
+          let from = used_among (plan_of r m) fall ns (λ j d. let less = within j d in omega (arith, less, slice_get_within _ n _ e, length_of_map planned_type r.types.items)) k c in
+          lt-ltb k n (omega (arith, within from.0 from.1, leb-true k _ from.2)))

@@ -2,8 +2,7 @@
 use Rattle.std.proofs.Common.{rules as std_rules, ◌≡◌, ◌⊎◌, inl, inr, refl, sym, ap, ◌∙◌, ℕ, zero, suc, ◌+◌, ◌-◌, ◌<◌, arith, Bool, List, [], ◌∷◌, ◌++◌, map, take, length, Some, slice_get, unwrap_or, option_map}
 use Rattle.std.proofs.lemmas.{Bool.cases_lt as below_or, Option.slice_get-map as get_of_map}
 use Rattle.std.specs.List.{AllByRecursion, Contains}
-use Rattle.wit_model.specs.{Text.Text, Types.grow, Types.no_tree}
-use Rattle.wit_model.specs.Tree.{Primitive, Place, Form, Tree, Trees, children}
+use Rattle.wit_model.specs.{Text.Text, Types.grow, Types.no_tree, Tree.Primitive, Tree.Place, Tree.Form, Tree.Tree, Tree.Trees, Tree.children}
 use Rattle.wit_model.proofs.Tables.{grow_at}
 use Rattle.comp_meaning.specs.Same.{primitive_number}
 use Rattle.plan_meaning.specs.Shapes.{Shape, form_code, form_of, marked, node_shape, named_shape, primitives, part_tree, shape_tree, shape_trees, IsShape, a_name, a_node, IsTable, OneNumber}
@@ -73,12 +72,7 @@ primitive_at T k h = search (std_rules, part_front, numbered_at)
 
 module _ (T : List Tree) (n : ℕ) where
   part_same : (k : ℕ) → k < 14 + n → part_tree (take n T) k ≡ part_tree T k
-  part_same k h = elim (split_part k) [
-    | inl small ↦ part_front (take n T) k small ∙ sym (part_front T k small)
-    | inr m ↦
-        let below : m.0 < n = omega (arith, h, m.1) in
-        ap (part_tree (take n T)) m.1 ∙ (part_behind (take n T) m.0 ∙ (ap (λ o. unwrap_or o no_tree) (slice_take T n m.0 below) ∙ (sym (part_behind T m.0) ∙ ap (part_tree T) (sym m.1))))
-  ]
+  part_same k h = search (std_rules, split_part k, part_front, part_behind, slice_take)
 
   parts_same : (ks : List ℕ) → AllByRecursion (λ k. k < 14 + n) ks → map (part_tree (take n T)) ks ≡ map (part_tree T) ks
   parts_same [] h = refl
@@ -90,8 +84,7 @@ module _ (T : List Tree) (n : ℕ) where
 pub tree_at_number : (place : ℕ → Place) (ss : List Shape) → IsTable ss → (n : ℕ) (s : Shape) → slice_get ss n ≡ Some s
     → slice_get (shape_trees place ss) n ≡ Some (shape_tree place (shape_trees place ss) s)
 unfolding shape_trees
-tree_at_number place ss table n s e =
-    grow_at (shape_tree place) ss n s e ∙ ap Some (shape_same (grow (shape_tree place) [] ss) n place s (table.each n s e))
+tree_at_number place ss table n s e = search (std_rules, grow_at (shape_tree place) ss n s e, shape_same (grow (shape_tree place) [] ss) n place s (table.each n s e))
 
 -- ---- no tree has two numbers
 
@@ -157,15 +150,10 @@ module _ (place : ℕ → Place) (ss : List Shape) (table : IsTable ss) where
 
   mutual
     same_part : (x : Tree) (a b : ℕ) → InRange a → InRange b → AreApart place ss a b → part_tree trees a ≡ x → part_tree trees b ≡ x → a ≡ b
-    same_part (Tree.primitive p) a b ha hb apart ea eb =
-        both_views a b (part_tree trees a) (part_tree trees b) apart (ea ∙ sym eb) (viewed a ha) (viewed b hb)
-        (λ ks ls ra rb near f g ta tb. let wrong : Tree.primitive p ≡ Tree.node f (children (map (part_tree trees) ks)) = sym ea ∙ ta in absurd cc)
-    same_part (Tree.named q y) a b ha hb apart ea eb =
-        both_views a b (part_tree trees a) (part_tree trees b) apart (ea ∙ sym eb) (viewed a ha) (viewed b hb)
+    same_part (Tree.primitive p) a b ha hb apart ea eb = search (std_rules, both_views, viewed a ha, viewed b hb)
+    same_part (Tree.named q y) a b ha hb apart ea eb = both_views a b (part_tree trees a) (part_tree trees b) apart (ea ∙ sym eb) (viewed a ha) (viewed b hb)
         (λ ks ls ra rb near f g ta tb. let wrong : Tree.named q y ≡ Tree.node f (children (map (part_tree trees) ks)) = sym ea ∙ ta in absurd cc)
-    same_part (Tree.node h ts) a b ha hb apart ea eb =
-        both_views a b (part_tree trees a) (part_tree trees b) apart (ea ∙ sym eb) (viewed a ha) (viewed b hb)
-        (λ ks ls ra rb near f g ta tb.
+    same_part (Tree.node h ts) a b ha hb apart ea eb = both_views a b (part_tree trees a) (part_tree trees b) apart (ea ∙ sym eb) (viewed a ha) (viewed b hb) (λ ks ls ra rb near f g ta tb.
         let one : Tree.node h ts ≡ Tree.node f (children (map (part_tree trees) ks)) = sym ea ∙ ta in
         let two : Tree.node h ts ≡ Tree.node g (children (map (part_tree trees) ls)) = sym eb ∙ tb in
         let first : children (map (part_tree trees) ks) ≡ ts = cc in

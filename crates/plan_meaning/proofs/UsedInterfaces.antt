@@ -34,40 +34,29 @@ module _ (t : Tables) (tables : AreTables t) (kept : List ℕ) (p : Plan) (are :
     own : o ≡ owner_interface (b.owners q) → ((r : ℕ) → Contains (used_by t d) r → r ≡ q) → UsedBy q d o
     other : (r : ℕ) → used_by t d ≡ r ∷ [] → o ≡ owner_interface (b.owners r) → UsedBy q d o
 
-  uses_outside : (d : Option ℕ) (old k r : ℕ) (name : Text) → d ≡ Some old → old ≡ 14 + k → slice_get t.shapes k ≡ Some (named_shape r name) → used_by t d ≡ if_outside t r
-  uses_outside d old k r name e is there = search rules
-
-  only_there : (d : Option ℕ) (old k r : ℕ) (name : Text) → d ≡ Some old → old ≡ 14 + k → slice_get t.shapes k ≡ Some (named_shape r name) → (a : ℕ) → Contains (used_by t d) a → a ≡ r
-  only_there d old k r name e is there a c = search std_rules
-
   -- what is no name uses nothing
   no_uses : (d : Option ℕ) (old : ℕ) → d ≡ Some old → name_at t old ≡ None → used_by t d ≡ []
   no_uses d old e none = ap (used_by t) e ∙ ap (λ o. option_map_or (λ (x : ℕ × Text). if_outside t x.0) o []) none
 
   -- the type of the number of a name
-  name_used : (n k q : ℕ) (name : Text) (x : PlannedType) → type_in p n ≡ Some x → slice_get kept n ≡ Some k → slice_get t.shapes k ≡ Some (named_shape q name)
-      → (d : Option ℕ) (old new i m : ℕ) → DeclaresKind t kept p d x.kind → d ≡ Some old → numbered.is_form t old ≡ false → Becomes t kept p old new → old ≡ 14 + m → slice_get kept i ≡ Some m
-      → new ≡ 14 + i
+  name_used : (n k q : ℕ) (name : Text) (x : PlannedType) → type_in p n ≡ Some x → slice_get kept n ≡ Some k → slice_get t.shapes k ≡ Some (named_shape q name) → (d : Option ℕ) (old new i m : ℕ)
+      → DeclaresKind t kept p d x.kind → d ≡ Some old → numbered.is_form t old ≡ false → Becomes t kept p old new → old ≡ 14 + m → slice_get kept i ≡ Some m → new ≡ 14 + i
       → UsedBy q d (option_and_then (λ (u : PlannedType). owner_interface u.owner) (type_in p i))
   name_used n k q name x there at shape d old new i m kind is no_form becomes from stands to =
-      let range = becomes.range in
-      let found = kept_at t kept p are i m (omega (arith, range, to)) stands in
+      let found = kept_at t kept p are i m (omega (arith, becomes.range, to)) stands in
       by found.0 found.1 found.2
     where
       place : {r : ℕ} {label : Text} → option_and_then (λ (u : PlannedType). owner_interface u.owner) (type_in p i) ≡ owner_interface (b.owners r) → slice_get t.shapes m ≡ Some (named_shape r label)
           → (r ≡ q) ⊎ HasPath t r → UsedBy q d (option_and_then (λ (u : PlannedType). owner_interface u.owner) (type_in p i))
-      place {r = r} {label = label} owner_is name_there (inl same) = own (owner_is ∙ ap (λ a. owner_interface (b.owners a)) same) (λ a c. only_there d old m r label is from name_there a c ∙ same)
-      place {r = r} {label = label} owner_is name_there (inr path) = other r (uses_outside d old m r label is from name_there ∙ ap (λ o. option_map_or (λ (s : Text). r ∷ []) o []) path.1) owner_is
+      place {r = r} {label = label} owner_is name_there (inl same) = own (owner_is ∙ ap (λ a. owner_interface (b.owners a)) same) (λ a c. (search std_rules) ∙ same)
+      place {r = r} {label = label} owner_is name_there (inr path) = other r ((search rules) ∙ ap (λ o. option_map_or (λ (s : Text). r ∷ []) o []) path.1) owner_is
 
       by : (y : PlannedType) → slice_get p.types i ≡ Some y → IsKeptType t kept p m y → UsedBy q d (option_and_then (λ (u : PlannedType). owner_interface u.owner) (type_in p i))
       by y e (unnamed place form olds news form_there z none unowned kind_y part low) =
-          let form_is : numbered.is_form t old ≡ true = ap (λ o. option_map_or (λ (s : Shape). not (s.sort == 0)) o false) (shape_there t old m (node_shape form olds) from form_there) ∙ ap not
-          (no_name form) in
-          no_true (sym no_form ∙ form_is)
+          no_true (sym no_form ∙ (ap (λ o. option_map_or (λ (s : Shape). not (s.sort == 0)) o false) (shape_there t old m (node_shape form olds) from form_there) ∙ ap not (no_name form)))
       by y e (declared r label c name_there called home kind_y before good obeys) =
-          let owner_is : option_and_then (λ (u : PlannedType). owner_interface u.owner) (type_in p i) ≡ owner_interface (b.owners r) =
-          ap (option_and_then (λ (u : PlannedType). owner_interface u.owner)) e ∙ ap owner_interface (owned.owned i m y r label e stands name_there) in
-          place owner_is name_there (owned.used n k x q name m r label there at shape (subst (λ o. DeclaresKind t kept p o x.kind) (is ∙ ap Some from) kind) name_there)
+          place (ap (option_and_then (λ (u : PlannedType). owner_interface u.owner)) e ∙ ap owner_interface (owned.owned i m y r label e stands name_there)) name_there
+          (owned.used n k x q name m r label there at shape (subst (λ o. DeclaresKind t kept p o x.kind) (is ∙ ap Some from) kind) name_there)
 
   pub type_uses : (n k q : ℕ) (name : Text) (d : Option ℕ) (id : Option Text) → slice_get kept n ≡ Some k → slice_get t.shapes k ≡ Some (named_shape q name) → TypeBecomes t kept p d id n
       → UsedBy q d (interface_used_by p n)
@@ -81,19 +70,15 @@ module _ (t : Tables) (tables : AreTables t) (kept : List ℕ) (p : Plan) (are :
 
       by : DeclaresKind t kept p d is.type_.kind → UsedBy q d (abbrev_of is.type_.kind)
       by (a_resource none kind) = nothing (ap abbrev_of kind) (ap (used_by t) none)
-      by (a_form old m form olds news e from f z kind) =
-          nothing (ap abbrev_of kind) (no_uses d old e (ap (option_and_then name_in) (shape_there t old m (node_shape form olds) from f) ∙ ap
+      by (a_form old m form olds news e from f z kind) = nothing (ap abbrev_of kind) (no_uses d old e (ap (option_and_then name_in) (shape_there t old m (node_shape form olds) from f) ∙ ap
           (λ v. cond v (Some ((node_shape form olds).number, first_label (node_shape form olds).labels)) None) (no_name form)))
       by (gathered.a_name old new e no_form becomes kind) = subst (λ x. UsedBy q d (abbrev_of x)) (sym kind) (part becomes.part)
         where
           part : IsPart kept old new → UsedBy q d (abbrev_of (plan.alias new))
-          part (a_primitive low same) =
-              nothing (ap (λ c. option_and_then (λ m. option_and_then (λ (u : PlannedType). owner_interface u.owner) (type_in p m)) (cond c None (Some (new - 14))))
-              (lt-ltb new 14 (omega (arith, low, same))))
-              (no_uses d old e (ap (option_and_then name_in) (no_shape t old low)))
-          part (a_shape m i from stands to) =
-              subst (UsedBy q d) (sym (ap (option_and_then (λ m. option_and_then (λ (u : PlannedType). owner_interface u.owner) (type_in p m))) (ap part_number to ∙ behind i)))
-              (name_used n k q name is.type_ is.stands at shape d old new i m is.kind e no_form becomes from stands to)
+          part (a_primitive low same) = nothing (ap (λ c. option_and_then (λ m. option_and_then (λ (u : PlannedType). owner_interface u.owner) (type_in p m)) (cond c None (Some (new - 14))))
+              (lt-ltb new 14 (omega (arith, low, same)))) (no_uses d old e (ap (option_and_then name_in) (no_shape t old low)))
+          part (a_shape m i from stands to) = subst (UsedBy q d) (sym (ap (option_and_then (λ m. option_and_then (λ (u : PlannedType). owner_interface u.owner) (type_in p m)))
+              (ap part_number to ∙ behind i))) (name_used n k q name is.type_ is.stands at shape d old new i m is.kind e no_form becomes from stands to)
 
   -- ---- the interfaces that an interface uses
 
@@ -105,8 +90,7 @@ module _ (t : Tables) (tables : AreTables t) (kept : List ℕ) (p : Plan) (are :
         let typed = zip_at (TypeListed t kept p) is.read.view.types i.types is.types found.0 entry.0 entry.1 in
         let number = zip_at (IsKeptAs kept p) is.read.numbers i.types is.read.kept_there found.0 entry.0 entry.1 in
         let shape = zip_at (IsNumberOf t is.read.place) is.read.view.types is.read.numbers is.read.shapes found.0 number.0 number.1 in
-        let used : interface_used_by p entry.0.1 ≡ Some u = ap (interface_used_by p) entry.2 ∙ found.3 in
-        by typed.0 (get-contains is.read.view.types found.0 typed.0 typed.1) used
+        by typed.0 (get-contains is.read.view.types found.0 typed.0 typed.1) (ap (interface_used_by p) entry.2 ∙ found.3)
         (type_uses entry.0.1 number.0 is.read.place shape.0.name typed.0.declared typed.0.external_id number.2.0 shape.2 typed.2.1)
       where
         by : (x : NumberedType) → Contains is.read.view.types x → {o : Option ℕ} → o ≡ Some u → UsedBy is.read.place x.declared o
@@ -115,8 +99,7 @@ module _ (t : Tables) (tables : AreTables t) (kept : List ℕ) (p : Plan) (are :
         by x there used (own same only) = inl (one_interface u m (sym (owned_by (b.owners is.read.place) u (sym same ∙ used)) ∙ is.read.owned))
         by x there used (other r all same) = inr (
           r,
-          contains-flat (λ (y : NumberedType). used_by t y.declared) is.read.view.types x r there
-              (subst (λ ns. Contains ns r) (sym all) (0, omega arith, refl)),
+          contains-flat (λ (y : NumberedType). used_by t y.declared) is.read.view.types x r there (subst (λ ns. Contains ns r) (sym all) (0, omega arith, refl)),
           owned_by (b.owners r) u (sym same ∙ used),
         )
 

@@ -7,7 +7,6 @@ use Rattle.indexmap.specs.{IndexMap.IndexMap, Layout.hash_map}
 use Rattle.wit_model.specs.declared.model.{Resolve.Resolve, Interface.Interface, TypeDefKind.TypeDefKind, «Type».«Type» as ValueType, FunctionKind.FunctionKind}
 use Rattle.wit_model.specs.declared.model.{TypeId.TypeId, TypeDef.TypeDef, TypeOwner.TypeOwner, Function.Function, World.World, WorldItem.WorldItem, Docs.Docs}
 use Rattle.wit_model.specs.{Valid.IsValid}
-use Rattle.plan_meaning.specs.{Built.IsBuilt}
 use Rattle.plan_meaning.proofs.{Valid.built_is_valid, WholePlan.whole_plan, WholePlan.is_plan}
 use Rattle.base_lemmas.proofs.Numbers.{utf8-a, utf8-b, utf8-constructor, utf8-f, utf8-h, utf8-i, utf8-j, utf8-k, utf8-method, utf8-p, utf8-pkg, utf8-r, utf8-s, utf8-self, utf8-t, utf8-w, utf8-x}
 use Rattle.wit_model.specs.declared.model.TypeDefKind.TheVariants as kind
@@ -70,14 +69,7 @@ module _ (alloc : Global) (hasher : BuildHasherDefault FoldHasher) where
   entry name kind_ param t result = (name, func name kind_ param t result)
 
   abbrev face : Option (String Global) → ℕ → List (String Global × TypeId) → List (String Global × Function) → Interface
-  face name home types_ functions_ = record {
-    name = name;
-    types = map_of types_;
-    functions = map_of functions_;
-    docs = no_docs;
-    stability = stability.Unknown;
-    «package» = Some (record { 0 = home });
-  }
+  face name home types_ functions_ = record { name = name; types = map_of types_; functions = map_of functions_; docs = no_docs; stability = stability.Unknown; «package» = Some (record { 0 = home }) }
 
   abbrev shown : ℕ → WorldItem
   shown n = item.Interface (record { 0 = n }) stability.Unknown no_docs None
@@ -87,9 +79,7 @@ module _ (alloc : Global) (hasher : BuildHasherDefault FoldHasher) where
     name = text (codes "w") (lit< tt) utf8-w;
     imports = map_of ((key.Name (text (codes "p") (lit< tt) utf8-p), shown 0) ∷ (key.Name text-t, item.Type_ (type-id 9)) ∷
         (key.Name text-f, item.Function (func text-f call.Freestanding text-x (of_type 9) None)) ∷ []);
-    exports = map_of ((key.Name (text (codes "h") (lit< tt) utf8-h), shown 4)
-        ∷ (key.Name text-t, item.Function (func text-t call.Freestanding text-x (of_type 9) None))
-        ∷ (key.Name text-x, shown 3)
+    exports = map_of ((key.Name (text (codes "h") (lit< tt) utf8-h), shown 4) ∷ (key.Name text-t, item.Function (func text-t call.Freestanding text-x (of_type 9) None)) ∷ (key.Name text-x, shown 3)
         ∷ (key.Interface (record { 0 = 3 }), shown 3) ∷ []);
     docs = no_docs;
     stability = stability.Unknown;
@@ -104,8 +94,7 @@ module _ (alloc : Global) (hasher : BuildHasherDefault FoldHasher) where
           docs = no_docs;
           interfaces = map_of ((text (codes "j") (lit< tt) utf8-j, record { 0 = 0 }) ∷ (text (codes "k") (lit< tt) utf8-k, record { 0 = 1 }) ∷ []);
           worlds = map_of [];
-        }
-        ∷ record {
+        } ∷ record {
           name = record { namespace = text (codes "a") (lit< tt) utf8-a; name = text (codes "b") (lit< tt) utf8-b; version = None };
           docs = no_docs;
           interfaces = map_of ((text (codes "i") (lit< tt) utf8-i, record { 0 = 2 }) ∷ (text (codes "s") (lit< tt) utf8-s, record { 0 = 3 }) ∷ []);
@@ -122,20 +111,12 @@ module _ (alloc : Global) (hasher : BuildHasherDefault FoldHasher) where
     worlds = vec_of (world ∷ []) (lit< tt);
     types = vec_of (
         record { name = Some text-t; kind = kind.Type_ ty.U32; owner = in_interface 0; docs = no_docs; stability = stability.Unknown; external_id = Some (text (codes "pkg") (lit< tt) utf8-pkg) }
-        ∷ def (Some text-t) (kind.Type_ (of_type 0)) (in_interface 1)
-        ∷ def (Some text-t) (kind.Type_ (of_type 1)) (in_interface 2)
-        ∷ def None (kind.List (of_type 2)) owner.None
-        ∷ def (Some (text (codes "r") (lit< tt) utf8-r)) kind.Resource (in_interface 3)
-        ∷ def None (kind.Handle (handle.Own (type-id 4))) owner.None
-        ∷ def (Some (text (codes "h") (lit< tt) utf8-h)) (kind.Handle (handle.Own (type-id 4))) (in_interface 3)
-        ∷ def None (kind.Result (record { ok = Some (of_type 5); err = None })) owner.None
-        ∷ def None (kind.Handle (handle.Borrow (type-id 4))) owner.None
-        ∷ def (Some text-t) (kind.Type_ (of_type 0)) (owner.World (record { 0 = 0 }))
+        ∷ def (Some text-t) (kind.Type_ (of_type 0)) (in_interface 1) ∷ def (Some text-t) (kind.Type_ (of_type 1)) (in_interface 2) ∷ def None (kind.List (of_type 2)) owner.None
+        ∷ def (Some (text (codes "r") (lit< tt) utf8-r)) kind.Resource (in_interface 3) ∷ def None (kind.Handle (handle.Own (type-id 4))) owner.None
+        ∷ def (Some (text (codes "h") (lit< tt) utf8-h)) (kind.Handle (handle.Own (type-id 4))) (in_interface 3) ∷ def None (kind.Result (record { ok = Some (of_type 5); err = None })) owner.None
+        ∷ def None (kind.Handle (handle.Borrow (type-id 4))) owner.None ∷ def (Some text-t) (kind.Type_ (of_type 0)) (owner.World (record { 0 = 0 }))
         ∷ def (Some text-t) (kind.Type_ (of_type 0)) (in_interface 4) ∷ []) (lit< tt);
   }
 
-  is_built : IsBuilt whole_plan whole
-  is_built = search rules
-
   is_valid : IsValid whole
-  is_valid = built_is_valid whole_plan whole is_plan is_built
+  is_valid = built_is_valid whole_plan whole is_plan (search rules)

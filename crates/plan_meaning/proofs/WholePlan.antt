@@ -3,11 +3,9 @@
 use Rattle.std.proofs.Common.{rules as std_rules, ◌≡◌, refl, ℕ, zero, suc, true, false, List, [], ◌∷◌, Option, Some, None}
 use Rattle.std.specs.{Prelude.codes, List.list_any}
 use Rattle.wit_model.specs.declared.model.{TypeOwner.TypeOwner, FunctionKind.FunctionKind}
-use Rattle.wit_model.specs.{Text.Text, Meaning.TypeMeaning}
-use Rattle.wit_model.specs.Tree.{Tree, Place, Form}
-use Rattle.plan_meaning.specs.Shapes.{part_tree}
+use Rattle.wit_model.specs.{Text.Text, Meaning.TypeMeaning, Tree.Tree, Tree.Place, Tree.Form}
+use Rattle.plan_meaning.specs.{Shapes.part_tree, PlanRules.IsPlan, PlanRules.IsPackagePlan, PlanRules.IsWanted, PlanRules.shown, PlanRules.used}
 use Rattle.plan_meaning.specs.Plan.{Plan, PlannedKind, resource, alias, formed, PlannedType, PlannedFunction, PlannedInterface, interface, function, declares, label, path_of, PlannedWorld, met_in, resource_marks, trees_in, interface_in}
-use Rattle.plan_meaning.specs.{PlanRules.IsPlan, PlanRules.IsPackagePlan, PlanRules.IsWanted, PlanRules.shown, PlanRules.used}
 use Rattle.wit_model.specs.declared.model.TypeOwner.TheVariants as owner
 use Rattle.wit_model.specs.declared.model.FunctionKind.TheVariants as call
 use Rattle.wit_model.specs.Tree as tree
@@ -29,17 +27,10 @@ unnamed_type form ks = record { name = None; owner = owner.None; kind = formed f
 
 abbrev pub planned_types : List PlannedType
 planned_types =
-    record { name = Some (codes "t"); owner = of_interface 0; kind = alias 3; external_id = Some (codes "pkg") }
-    ∷ named_type (codes "t") (of_interface 1) (alias 14)
-    ∷ named_type (codes "t") (of_interface 2) (alias 15)
-    ∷ unnamed_type Form.list_of (16 ∷ [])
-    ∷ named_type (codes "r") (of_interface 3) resource
-    ∷ unnamed_type Form.own_of (18 ∷ [])
-    ∷ named_type (codes "h") (of_interface 3) (formed Form.own_of (18 ∷ []))
-    ∷ unnamed_type (Form.result_of true false) (19 ∷ [])
-    ∷ unnamed_type Form.borrow_of (18 ∷ [])
-    ∷ named_type (codes "t") of_world (alias 14)
-    ∷ named_type (codes "t") (of_interface 4) (alias 14) ∷ []
+    record { name = Some (codes "t"); owner = of_interface 0; kind = alias 3; external_id = Some (codes "pkg") } ∷ named_type (codes "t") (of_interface 1) (alias 14)
+    ∷ named_type (codes "t") (of_interface 2) (alias 15) ∷ unnamed_type Form.list_of (16 ∷ []) ∷ named_type (codes "r") (of_interface 3) resource ∷ unnamed_type Form.own_of (18 ∷ [])
+    ∷ named_type (codes "h") (of_interface 3) (formed Form.own_of (18 ∷ [])) ∷ unnamed_type (Form.result_of true false) (19 ∷ []) ∷ unnamed_type Form.borrow_of (18 ∷ [])
+    ∷ named_type (codes "t") of_world (alias 14) ∷ named_type (codes "t") (of_interface 4) (alias 14) ∷ []
 
 -- ---- functions, interfaces and the world
 
@@ -53,25 +44,20 @@ abbrev pub planned_interfaces : List PlannedInterface
 planned_interfaces =
     record { name = Some (codes "j"); package_ = Some 0; types = (codes "t", 0) ∷ []; functions = (codes "f", plain (codes "f") 14) ∷ [] }
     ∷ record { name = Some (codes "k"); package_ = Some 0; types = (codes "t", 1) ∷ []; functions = [] }
-    ∷ record { name = Some (codes "i"); package_ = Some 1; types = (codes "t", 2) ∷ []; functions = (codes "f", plain (codes "f") 17) ∷ [] }
-    ∷ record {
+    ∷ record { name = Some (codes "i"); package_ = Some 1; types = (codes "t", 2) ∷ []; functions = (codes "f", plain (codes "f") 17) ∷ [] } ∷ record {
       name = Some (codes "s");
       package_ = Some 1;
       types = (codes "r", 4) ∷ (codes "h", 6) ∷ [];
       functions = (codes "[constructor]r", taking (codes "[constructor]r") (call.Constructor (record { 0 = 4 })) (codes "x") 1 (Some 21))
           ∷ (codes "[method]r.m", taking (codes "[method]r.m") (call.AsyncMethod (record { 0 = 4 })) (codes "self") 22 None) ∷ [];
-    }
-    ∷ record { name = None; package_ = Some 1; types = (codes "t", 10) ∷ []; functions = (codes "f", taking (codes "f") call.AsyncFreestanding (codes "x") 24 None) ∷ [] } ∷ []
+    } ∷ record { name = None; package_ = Some 1; types = (codes "t", 10) ∷ []; functions = (codes "f", taking (codes "f") call.AsyncFreestanding (codes "x") 24 None) ∷ [] } ∷ []
 
 abbrev pub planned_world : PlannedWorld
 planned_world = record {
   name = codes "w";
   package_ = Some 1;
   imports = (label (codes "p"), interface 0 None) ∷ (label (codes "t"), declares 9) ∷ (label (codes "f"), function (plain (codes "f") 23)) ∷ [];
-  exports = (label (codes "h"), interface 4 None)
-      ∷ (label (codes "t"), function (plain (codes "t") 23))
-      ∷ (label (codes "x"), interface 3 None)
-      ∷ (path_of 3, interface 3 None) ∷ [];
+  exports = (label (codes "h"), interface 4 None) ∷ (label (codes "t"), function (plain (codes "t") 23)) ∷ (label (codes "x"), interface 3 None) ∷ (path_of 3, interface 3 None) ∷ [];
 }
 
 abbrev pub whole_plan : Plan

@@ -4,15 +4,14 @@ use Rattle.std.proofs.lemmas.Option.{slice_get-map as get_of_map}
 use Rattle.std.specs.declared.alloc.Global.{Global}
 use Rattle.std.specs.{List.cons_option, Option.option_map_or}
 use Rattle.wit_model.specs.declared.model.{Resolve.Resolve, TypeDef.TypeDef, Function.Function}
-use Rattle.wit_model.specs.declared.model.{Interface.Interface, PackageId.PackageId, TypeDefKind.TypeDefKind, TypeOwner.TypeOwner, «Type».«Type» as ValueType}
-use Rattle.wit_model.specs.Text.{Text, text_of, optional_text}
-use Rattle.wit_model.specs.{Names.path_in, Uses.alias_target, Uses.owner_interface, Uses.used_interface, Uses.direct_deps}
+use Rattle.wit_model.specs.declared.model.{Interface.Interface, TypeDefKind.TypeDefKind, TypeOwner.TypeOwner, «Type».«Type» as ValueType}
+use Rattle.wit_model.specs.{Text.Text, Text.text_of, Text.optional_text, Parts.met_by, Parts.met_of, Parts.met_inside, Parts.same_owner, Parts.function_types}
+use Rattle.wit_model.specs.{Uses.alias_target, Uses.owner_interface, Uses.used_interface, Uses.direct_deps}
 use Rattle.wit_model.specs.Tree.{Tree, Place, Declaration, children, child, given, named, is_given}
 use Rattle.wit_model.specs.Types.{number_of, tree_of, declared_by, tree_of_declaration, tree_of_definition, trees_of}
-use Rattle.wit_model.specs.Lookup.{path_in_package, path_of_interface, interface_path, place_of, resource_of}
-use Rattle.wit_model.specs.Parts.{met_by, met_of, met_inside, same_owner, function_types}
+use Rattle.wit_model.specs.Lookup.{path_of_interface, interface_path, place_of, resource_of}
 use Rattle.plan_meaning.specs.{Shapes.part_tree, PlanRules.direct_uses}
-use Rattle.plan_meaning.specs.Plan.{Plan, path_of_planned, path_at, place_in, part_number, kind_numbers, function_parts, function_numbers, met_at, met_in, used_by_numbers, has_owner, declared_as, tree_of_planned, trees_in, alias_number, interface_used_by, interfaces_used_by, type_in, package_in}
+use Rattle.plan_meaning.specs.Plan.{Plan, path_of_planned, path_at, place_in, part_number, kind_numbers, function_parts, function_numbers, met_at, met_in, used_by_numbers, has_owner, declared_as, tree_of_planned, trees_in, alias_number, interface_used_by, interfaces_used_by, type_in}
 use Rattle.plan_meaning.specs.Built.{part_of, given_parts, planned_kind, planned_type, planned_function, planned_interface, planned_world, planned_package}
 use Rattle.plan_meaning.proofs.ShapeLaws.{part_behind}
 use Rattle.plan_meaning.proofs.Lists.{grow_of_map, same_grow, numbered_of_map, option_of_map, same_then, then_there, or_there}
@@ -73,8 +72,7 @@ params_result [] (Some t) = refl
 params_result (p ∷ ps) o = ap (λ ks. part_of p ∷ ks) (params_result ps o)
 
 pub function_parts_are : (f : Function) → function_parts (planned_function f) ≡ map part_of (function_types f)
-function_parts_are f =
-    ap (λ ks. ks ++ option_to_list (option_map part_of f.result)) (map_of_map (λ (x : Text × ℕ). x.1) (λ x. (text_of x.name, part_of x.ty)) f.params.items ∙ sym
+function_parts_are f = ap (λ ks. ks ++ option_to_list (option_map part_of f.result)) (map_of_map (λ (x : Text × ℕ). x.1) (λ x. (text_of x.name, part_of x.ty)) f.params.items ∙ sym
     (map_of_map part_of (λ x. x.ty) f.params.items))
     ∙ params_result (map (λ x. x.ty) f.params.items) f.result
 
@@ -111,13 +109,8 @@ module _ (r : Resolve) (m : ℕ) where
   abbrev pub P : Plan
   P = plan_of r m
 
-  path_by : (name : Option (String Global)) (package_ : Option PackageId) →
-      option_and_then (λ t. option_and_then (λ q. option_map (λ k. path_in k.identity t) (package_in P q)) (option_map (λ id. id.0) package_)) (optional_text name)
-      ≡ option_and_then (λ s. option_and_then (λ p. path_in_package r p.0 (text_of s)) package_) name
-  path_by x y = search (std_rules, get_of_map, option_of_map)
-
   pub path_of_planned_is : (i : Interface) → path_of_planned P (planned_interface i) ≡ path_of_interface r i
-  path_of_planned_is i = path_by i.name i.package
+  path_of_planned_is i = search (std_rules, get_of_map, option_of_map)
 
   pub path_is : (n : ℕ) → path_at P n ≡ interface_path r n
   path_is = then_there (path_of_planned P) planned_interface (path_of_interface r) path_of_planned_is r.interfaces.items

@@ -21,8 +21,7 @@ module _ (r : Resolve) (m : ℕ) (is : IsWorldPlan (plan_of r m)) (v : IsValid r
   shown_are : ◌≡◌ {A = TextMap InterfaceMeaning} (from_entries (filter_map (shown_entry (plan_of r m)) (map planned_interface r.interfaces.items)))
       (from_entries (map (λ n. (unwrap_or (interface_path r n) [], interface_meaning_at r n)) (shown_by r w)))
   shown_are = entries_are r v (shown_entry (plan_of r m)) (λ i. Unit {0}) (λ i k x e. let found = shown_is r m i k x e in (tt, found.0, found.1)) (λ i k passes path. shown_of r m i k path)
-      (shown_by r w) (interface_meaning_at r) among
-      (λ n c. ((filter_has (λ n. is_some (interface_path r n)) (filter_map uses.item_interface (items_of w)) n (contains-has (shown_by r w) n c)).1, λ i e. tt))
+      (shown_by r w) (interface_meaning_at r) among (λ n c. ((filter_has (λ n. is_some (interface_path r n)) (filter_map uses.item_interface (items_of w)) n (contains-has _ n c)).1, λ i e. tt))
     where
       among : (n : ℕ) (i : Interface) → interface_at r n ≡ Some i → (k : Text) → path_of_interface r i ≡ Some k → Unit {0} → Contains (shown_by r w) n ×
           (interface_meaning_at r n ≡ meant.interface_meaning r i)

@@ -6,8 +6,7 @@ use Rattle.wit_model.specs.declared.model.{Resolve.Resolve, WorldKey.WorldKey, W
 use Rattle.wit_model.specs.{Text.Text, Text.text_of, Lookup.type_at, Valid.Keeps, Valid.world_items, Valid.as_world}
 use Rattle.wit_model.specs.{Parts.same_owner, Rules.passes, Rules.is_id, Rules.text_is}
 use Rattle.wit_model.proofs.{Entries.worlds_keep, RulesLemmas.each_by_number}
-use Rattle.plan_meaning.specs.PlanRules.{IsPlan}
-use Rattle.plan_meaning.specs.Built.{planned_key, planned_item}
+use Rattle.plan_meaning.specs.{PlanRules.IsPlan, Built.planned_key, Built.planned_item}
 use Rattle.plan_meaning.proofs.{Lists.no_true, Listed.there, Listed.passes_weaker, Listed.bears_is, FunctionRules.imports_there, FunctionRules.exports_there}
 use Rattle.plan_meaning.proofs.{Words.plan_of, KindRules.has_text}
 use Rattle.base_lemmas.proofs.{Bools.left_of as first_true, Bools.right_of as second_true, Elements.all_weaker}
@@ -34,15 +33,8 @@ module _ (r : Resolve) (m : ℕ) (is : IsPlan (plan_of r m)) where
   import_passes w (key.Name name) (item.Type_ id) h = own_type (as_world w) (text_of name) id.0 (second_true _ _ h)
   import_passes w (key.Name name) _ h = refl
 
-  export_passes : (k : WorldKey) (x : WorldItem) → planned.export_stands (plan_of r m) (planned_key k, planned_item x) ≡ true → rules.export_stands r k x ≡ true
-  export_passes y x h = search (std_rules, key_stands, second_true, no_true)
-
   pub world_items_kept : Keeps world_items r
   unfolding world_items
   world_items_kept = worlds_keep (λ r n w. list_all (λ e. rules.import_stands r n e.0 e.1) w.imports.entries && list_all (λ e. rules.export_stands r e.0 e.1) w.exports.entries) r
-      (each_by_number (λ n w. list_all (λ e. rules.import_stands r n e.0 e.1) w.imports.entries && list_all (λ e. rules.export_stands r e.0 e.1) w.exports.entries) r.worlds.items (λ n w at.
-      both _ _
-      (all_weaker (λ e. planned.import_stands (plan_of r m) n (planned_key e.0, planned_item e.1)) (λ e. rules.import_stands r n e.0 e.1) (λ e k. import_passes n e.0 e.1 k) w.imports.entries
-      (imports_there r m is n w at))
-      (all_weaker (λ e. planned.export_stands (plan_of r m) (planned_key e.0, planned_item e.1)) (λ e. rules.export_stands r e.0 e.1) (λ e k. export_passes e.0 e.1 k) w.exports.entries
-      (exports_there r m is n w at))))
+      (each_by_number _ _ (λ n w at. both _ _ (all_weaker _ _ (λ e k. import_passes n e.0 e.1 k) w.imports.entries (imports_there r m is n w at))
+      (all_weaker _ _ (λ e k. (search (std_rules, key_stands, second_true, no_true))) w.exports.entries (exports_there r m is n w at))))

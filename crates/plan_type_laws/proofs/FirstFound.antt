@@ -1,9 +1,8 @@
 -- What is shown of a type first is a showing of it.
-use Rattle.std.proofs.Common.{rules as std_rules, ◌≡◌, refl, sym, ap, ◌∙◌, ◌+◌, Bool, true, false, ◌==◌, cond, List, [], ◌∷◌, Option, Some, None}
+use Rattle.std.proofs.Common.{rules as std_rules, ◌≡◌, refl, sym, ap, ◌∙◌, ◌+◌, Bool, true, false, ◌==◌, cond, List, [], ◌∷◌, Some, None}
 use Rattle.std.proofs.lemmas.{Bool.eqb-true, Bool.ltb-false, Bool.ltb-true, List.get_or_past, Option.same_Some as same-some}
 use Rattle.std.specs.{List.Contains, List.find}
-use Rattle.plan_types.specs.declared.showings.Showing.{Showing}
-use Rattle.plan_types.specs.{FirstShown.TellsFirst, FirstShown.first_showing, FirstShown.showing_at, Showings.NumberedShowing}
+use Rattle.plan_types.specs.{FirstShown.first_showing, Showings.NumberedShowing}
 use Rattle.plan_type_laws.specs.ShownForms.{FindsShown, FirstsAreFound}
 use Rattle.base_lemmas.proofs.Elements.{contains-later, get-contains}
 
@@ -18,8 +17,5 @@ first_found test (y ∷ xs) x e = by (test y) refl e (first_found test xs x)
 first_is_found : (showings : List NumberedShowing) → FindsShown showings (λ n. first_showing n showings)
 first_is_found showings n s e = let found = first_found (λ (s : NumberedShowing). 14 + n == s.part) showings s e in (found.0, sym (eqb-true (14 + n) s.part found.1))
 
-told_is_found : (showings : List NumberedShowing) (table : List (Option Showing)) → TellsFirst showings table → FindsShown showings (showing_at table)
-told_is_found showings table tells n s e = search (std_rules, first_is_found, ltb-true, get_or_past, ltb-false)
-
 pub firsts_found : FirstsAreFound
-firsts_found showings = (first_is_found showings, told_is_found showings)
+firsts_found showings = (first_is_found showings, (λ table tells n s e. search (std_rules, first_is_found, ltb-true, get_or_past, ltb-false)))

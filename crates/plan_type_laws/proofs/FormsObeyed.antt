@@ -39,10 +39,8 @@ module _ (t : Tables) (tables : AreTables t) (fit : LengthsFit t) where
       by : PartView (place_at t) t.shapes tables.shapes k (tree_at t k) → is_key_part k ≡ true
       by (is_primitive p small stands number) =
           let found = slice_there primitives k small in
-          let trees = shape_trees (place_at t) t.shapes in
-          let tree : tree_at t k ≡ Tree.primitive found.0 = part_front trees k small ∙ ap (λ o. unwrap_or o no_tree)
-          (get_of_map Tree.primitive primitives k ∙ ap (option_map Tree.primitive) found.1) in
-          ap (λ o. option_map_or is_key_primitive o false) found.1 ∙ (sym (ap is_key tree) ∙ key)
+          ap (λ o. option_map_or is_key_primitive o false) found.1 ∙ (sym (ap is_key
+          (part_front (shape_trees (place_at t) t.shapes) k small ∙ ap (λ o. unwrap_or o no_tree) (get_of_map Tree.primitive primitives k ∙ ap (option_map Tree.primitive) found.1))) ∙ key)
       by (is_name n q x is at stands) = no_true (sym (ap is_key stands) ∙ key)
       by (is_node n f ks is at stands parts) = no_true (sym (ap is_key stands) ∙ key)
 
@@ -64,8 +62,7 @@ module _ (t : Tables) (tables : AreTables t) (Obeys : Form → List ℕ → Type
 
   part_obeys : (Met : Place → Text → Bool → Type 0) (k : ℕ) → TreeStands Met (tree_at t k) → EachForm t Obeys k
   part_obeys Met k stands = record {
-    holds = λ n form parts within at.
-        form_obeys form parts n at (ap (is_formed form) (sym (child_list_back (map (tree_at t) parts))) ∙ (inner_stands t tables Met k n form parts stands within at).0);
+    holds = λ n form parts within at. form_obeys form parts n at (ap (is_formed form) (sym (child_list_back (map (tree_at t) parts))) ∙ (inner_stands t tables Met k n form parts stands within at).0);
   }
 
   declared_obeys : (Met : Place → Text → Bool → Type 0) (b : Bool) (d : Option ℕ) → DeclarationStands Met (declaration_of t d) b → AllOf (EachForm t Obeys) d
@@ -77,11 +74,8 @@ module _ (t : Tables) (tables : AreTables t) (Obeys : Form → List ℕ → Type
       by (Tree.named place name) e stands = part_obeys (λ p n r. Unit {0}) k (subst (TreeStands (λ p n r. Unit {0})) (sym e) tt)
       by (Tree.node form ts) e stands = part_obeys Met k (subst (TreeStands Met) (sym e) stands.1)
 
-  any_parts : (n : ℕ) → PartsOf (λ k. Unit {0}) (function_at t n)
-  any_parts n = search (std_rules, all_any)
-
   signature_obeys : (Met : Place → Text → Bool → Type 0) (n : ℕ) → SignatureStands Met (signature_at t n) → PartsOf (EachForm t Obeys) (function_at t n)
-  signature_obeys Met n stands = signature_parts_hold t tables Met (λ k. Unit {0}) (EachForm t Obeys) (λ k any stand. part_obeys Met k stand) (function_at t n) (any_parts n) stands
+  signature_obeys Met n stands = signature_parts_hold t tables Met (λ k. Unit {0}) (EachForm t Obeys) (λ k any stand. part_obeys Met k stand) (function_at t n) (search (std_rules, all_any)) stands
 
   -- ---- views
 
@@ -92,14 +86,12 @@ module _ (t : Tables) (tables : AreTables t) (Obeys : Form → List ℕ → Type
   FunctionStands n = PartsOf (EachForm t Obeys) (function_at t n)
 
   view_types : (Outside : Place → Text → Bool → Type 0) (own : Place) (v : NumberedView) → ViewStands Outside own (view_of t v) → AllByRecursion ShowingStands (showings_of_view v)
-  view_types Outside own v stands =
-      all_mapped ShowingStands showing_of v.types
+  view_types Outside own v stands = all_mapped ShowingStands showing_of v.types
       (at_each (shown_type t) (TypeStands Outside own (view_of t v)) (λ x. Unit {0}) (λ x. ShowingStands (showing_of x)) v.types
       (λ n x any is. declared_obeys (IsMetInView Outside own (view_of t v) n) is.is_resource x.declared is.declared) (all_any v.types) stands.types)
 
   view_functions : (Outside : Place → Text → Bool → Type 0) (own : Place) (v : NumberedView) → ViewStands Outside own (view_of t v) → AllByRecursion FunctionStands (signatures_of_view v)
-  view_functions Outside own v stands =
-      all_mapped FunctionStands (λ (f : Text × NumberedFunction). f.1.signature) v.functions
+  view_functions Outside own v stands = all_mapped FunctionStands (λ (f : Text × NumberedFunction). f.1.signature) v.functions
       (at_each (shown_function t) (λ n (f : Text × FunctionMeaning). SignatureStands (IsMetInView Outside own (view_of t v) (length (view_of t v).types)) f.1.signature) (λ f. Unit {0})
       (λ (f : Text × NumberedFunction). FunctionStands f.1.signature) v.functions
       (λ n f any is. signature_obeys (IsMetInView Outside own (view_of t v) (length (view_of t v).types)) f.1.signature is) (all_any v.functions) stands.functions)
@@ -123,13 +115,10 @@ module _ (t : Tables) (tables : AreTables t) (Obeys : Form → List ℕ → Type
 
     all_seen : (count : ℕ → ℕ) (ss : List NumberSeen) → AllAt (λ n (s : Seen). ShownStands scope.instances scope.imports (count n) s.shown) (map (seen_of t) (map numbered_seen ss))
         → AreHeld (flat_map showings_of_seen ss) (flat_map signatures_of_seen ss)
-    all_seen count ss all =
-        let each : AllByRecursion (λ (s : NumberSeen). AreHeld (showings_of_seen s) (signatures_of_seen s)) ss =
-        at_each (λ (s : NumberSeen). seen_of t (numbered_seen s)) (λ n (s : Seen). ShownStands scope.instances scope.imports (count n) s.shown) (λ s. Unit {0})
-        (λ (s : NumberSeen). AreHeld (showings_of_seen s) (signatures_of_seen s)) ss
-        (λ n s any is. seen_obeys (count n) s.shown (given_text s.external_id) is) (all_any ss)
-        (subst (AllAt (λ n (s : Seen). ShownStands scope.instances scope.imports (count n) s.shown)) (map_of_map (seen_of t) numbered_seen ss) all) in
-        all_held ShowingStands FunctionStands showings_of_seen signatures_of_seen ss each
+    all_seen count ss all = all_held ShowingStands FunctionStands showings_of_seen signatures_of_seen ss
+        (at_each (λ (s : NumberSeen). seen_of t (numbered_seen s)) (λ n (s : Seen). ShownStands scope.instances scope.imports (count n) s.shown) (λ s. Unit {0})
+        (λ (s : NumberSeen). AreHeld (showings_of_seen s) (signatures_of_seen s)) ss (λ n s any is. seen_obeys (count n) s.shown (given_text s.external_id) is) (all_any ss)
+        (subst (AllAt (λ n (s : Seen). ShownStands scope.instances scope.imports (count n) s.shown)) (map_of_map (seen_of t) numbered_seen ss) all))
 
   -- ---- members
 
@@ -154,14 +143,13 @@ module _ (t : Tables) (tables : AreTables t) (Obeys : Form → List ℕ → Type
         let V = λ (n : ℕ) (x : Instance). StandsAmong all x in
         let own = each_stands last (Contains-append_right front (last ∷ []) last (contains-one last)) in
         let own_view = subst (ViewStands (IsShownBefore all own.0) (place_of last.interface)) is.shown own.1 in
-        let before : AllAt V (map (λ (i : ImportedView). named_instance (path_text t i.place, view_of t (numbered_view i.view))) imports.now) =
-        subst (AllAt V) (ap (map named_instance) is.imported ∙ (map_of_map named_instance (λ (i : ℕ × NumberedView). (path_text t i.0, view_of t i.1)) (map numbered_import imports.now)
-        ∙ map_of_map (λ (i : ℕ × NumberedView). named_instance (path_text t i.0, view_of t i.1)) numbered_import imports.now))
-        (λ n x e. each_stands x (Contains-append_left front (last ∷ []) x (get-contains front n x e))) in
         let each : AllByRecursion (λ (i : ImportedView). AllByRecursion ShowingStands (showings_of_import i)) imports.now =
         at_each (λ (i : ImportedView). named_instance (path_text t i.place, view_of t (numbered_view i.view))) V (λ i. Unit {0})
         (λ (i : ImportedView). AllByRecursion ShowingStands (showings_of_import i)) imports.now
-        (λ n i any is. view_types (IsShownBefore all is.0) (place_of (Some (path_text t i.place))) (numbered_view i.view) is.1) (all_any imports.now) before in (
+        (λ n i any is. view_types (IsShownBefore all is.0) (place_of (Some (path_text t i.place))) (numbered_view i.view) is.1) (all_any imports.now)
+        (subst (AllAt V) (ap (map named_instance) is.imported ∙ (map_of_map named_instance (λ (i : ℕ × NumberedView). (path_text t i.0, view_of t i.1)) (map numbered_import imports.now)
+        ∙ map_of_map (λ (i : ℕ × NumberedView). named_instance (path_text t i.0, view_of t i.1)) numbered_import imports.now))
+        (λ n x e. each_stands x (Contains-append_left front (last ∷ []) x (get-contains front n x e)))) in (
           all_both ShowingStands (flat_map showings_of_import imports.now) (showings_of_view (numbered_view v)) (all_flat ShowingStands showings_of_import imports.now each)
               (view_types (IsShownBefore all own.0) (place_of last.interface) (numbered_view v) own_view),
           view_functions (IsShownBefore all own.0) (place_of last.interface) (numbered_view v) own_view,
@@ -169,8 +157,7 @@ module _ (t : Tables) (tables : AreTables t) (Obeys : Form → List ℕ → Type
     part_obeys_all _ _ is each_stands stands = absurd is
 
   members_obey : (h : Homes) (all : List Instance) (ms : List Member) (members : List reads.Member) → AllZip (IsMember t h) (numbered_members ms) members
-      → ((x : Instance) → Contains (all_instances members) x → StandsAmong all x)
-      → AllByRecursion (λ (x : reads.Member). PartStands x.part) members
+      → ((x : Instance) → Contains (all_instances members) x → StandsAmong all x) → AllByRecursion (λ (x : reads.Member). PartStands x.part) members
       → AllByRecursion (λ (m : Member). AreHeld (showings_of_part m.part) (signatures_of_part m.part)) ms
   members_obey h all (m ∷ ms) [] zip each stand = absurd zip
   members_obey h all (m ∷ ms) (x ∷ members) zip each stand = (

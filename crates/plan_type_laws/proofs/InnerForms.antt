@@ -38,10 +38,8 @@ module _ (t : Tables) (tables : AreTables t) where
       by : PartView (place_at t) t.shapes tables.shapes (14 + n) (tree_at t (14 + n)) → AllByRecursion (IsPart t) parts
       by (is_primitive p small stands number) = absurd (omega (arith, small))
       by (is_name m q x is at stands) = let wrong : Tree.named (place_at t q) x ≡ Tree.node form (children (map (tree_at t) parts)) = sym stands ∙ tree_of_form n form parts there in absurd cc
-      by (is_node m f ks is at stands range) =
-          let same : n ≡ m = omega (arith, is) in
-          let shapes : node_shape f ks ≡ node_shape form parts = same-some (node_shape f ks) (node_shape form parts) (sym at ∙ (ap (slice_get t.shapes) (sym same) ∙ there)) in
-          subst (AllByRecursion (IsPart t)) (ap (λ (s : Shape). s.parts) shapes) range
+      by (is_node m f ks is at stands range) = subst (AllByRecursion (IsPart t)) (ap (λ (s : Shape). s.parts) (same-some _ _
+          (sym at ∙ (ap (slice_get t.shapes) (sym (omega (arith, is))) ∙ there)))) range
 
   -- a name holds no form
   pub name_alone : {A : Type 0} (k n : ℕ) (place : Place) (name : Text) (form : Form) (parts : List ℕ) → tree_at t k ≡ Tree.named place name → HasNumberIn t k n
@@ -92,8 +90,7 @@ module _ (t : Tables) (tables : AreTables t) where
         by false h stand later = later (child_stands ks j stand c)
         by true h stand later =
             let held = handle_held ks stand in
-            let one : held.part ≡ j = among held.part j [] (subst (λ xs. Contains xs j) held.alone c) (λ e. e) (none-in j) in
-            name_alone j l held.place held.name form parts (ap (tree_at t) (sym one) ∙ held.is) within there
+            name_alone j l held.place held.name form parts (ap (tree_at t) (sym (among held.part j [] (subst (λ xs. Contains xs j) held.alone c) (λ e. e) (none-in j))) ∙ held.is) within there
 
     -- what holds of each well-formed part that a function has
     pub signature_parts_hold : (R Q : ℕ → Type 0) → ((k : ℕ) → R k → TreeStands Met (tree_at t k) → Q k) → (f : FunctionShape) → PartsOf R f

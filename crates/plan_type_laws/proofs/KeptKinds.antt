@@ -3,8 +3,7 @@ use Rattle.std.proofs.Common.{rules as std_rules, ◌≡◌, refl, ℕ, ◌+◌,
 use Rattle.std.specs.List.{AllZip}
 use Rattle.wit_model.specs.Tree.{Form}
 use Rattle.plan_meaning.specs.GatheredPlan.{Becomes, DeclaresKind}
-use Rattle.plan_meaning.specs.{NumberedViews.AreTables, NumberedViews.Tables, Renumbering.IsPart}
-use Rattle.plan_meaning.specs.{Plan.Plan, Plan.PlannedKind, Shapes.node_shape}
+use Rattle.plan_meaning.specs.{NumberedViews.AreTables, NumberedViews.Tables, Renumbering.IsPart, Plan.Plan, Plan.PlannedKind, Shapes.node_shape}
 use Rattle.plan_meaning.specs.Plan as plan
 
 -- ---- numbers
@@ -22,8 +21,7 @@ module _ (t : Tables) (tables : AreTables t) (kept : List ℕ) (p : Plan) where
   same_olds _ _ _ x y = absurd y
 
   same_form : (a b m n : ℕ) (f g : Form) (olds others news mores : List ℕ) → a ≡ 14 + m → b ≡ 14 + n → slice_get t.shapes m ≡ Some (node_shape f olds)
-      → slice_get t.shapes n ≡ Some (node_shape g others)
-      → AllZip (Becomes t kept p) olds news → AllZip (Becomes t kept p) others mores → plan.formed f news ≡ plan.formed g mores → a ≡ b
+      → slice_get t.shapes n ≡ Some (node_shape g others) → AllZip (Becomes t kept p) olds news → AllZip (Becomes t kept p) others mores → plan.formed f news ≡ plan.formed g mores → a ≡ b
   same_form a b m n f g olds others news mores am bn m_at n_at z y e = search (std_rules, same_olds)
 
   -- two parts that are declared as one kind are the same

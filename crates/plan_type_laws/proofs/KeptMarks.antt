@@ -19,8 +19,7 @@ marks_kept t tables showings signatures m marks used kept are p owners find find
       primitives = m.primitives;
       forms = λ n form parts is there. (
         m.forms n form parts there,
-        kept_forms t tables (FormIsMarked m.marks) showings named signatures m.inner marks used kept are p owners find finds types n form
-            parts is there,
+        kept_forms t tables (FormIsMarked m.marks) showings named signatures m.inner marks used kept are p owners find finds types n form parts is there,
       );
       names = λ j n x q name at stands there.
           let y = shown_kind t tables (FormIsMarked m.marks) showings named signatures m.inner marks used kept are p owners find finds types j n x q name at stands there in

@@ -28,27 +28,19 @@ module _ (all : List Instance) where
   views_behind : (count : ℕ) (members : List reads.Member) → StandBehind count (all_instances members) all → AllByRecursion MemberStands members
       → AllAt (λ n (x : Instance). ViewStands (IsShownBefore all (count + n)) (place_of x.interface) x.view) (all_instances members)
   views_behind count [] stand each n x e = absurd cc
-  views_behind count (m ∷ members) stand each n x e = by (views_behind (count + length (instances_of m)) members later each.1) (split_at (instances_of m) (all_instances members) n x e)
+  views_behind count (m ∷ members) stand each n x e = by (views_behind (count + length (instances_of m)) members (λ k y f.
+      let found = behind_at (instances_of m) (all_instances members) k y f in
+      subst (λ i. slice_get all i ≡ Some y) (omega (arith, found.1)) (stand found.0 y found.2)) each.1) (split_at (instances_of m) (all_instances members) n x e)
     where
       here : StandBehind count (instances_of m) all
       here k y f = stand k y (at_front (instances_of m) (all_instances members) k y f)
-
-      later : StandBehind (count + length (instances_of m)) (all_instances members) all
-      later k y f =
-          let found = behind_at (instances_of m) (all_instances members) k y f in
-          let is = found.1 in
-          let same : count + found.0 ≡ count + length (instances_of m) + k = omega (arith, is) in
-          subst (λ i. slice_get all i ≡ Some y) same (stand found.0 y found.2)
 
       by : AllAt (λ k (y : Instance). ViewStands (IsShownBefore all (count + length (instances_of m) + k)) (place_of y.interface) y.view) (all_instances members)
           → (slice_get (instances_of m) n ≡ Some x) ⊎ ((k : ℕ) × (n ≡ length (instances_of m) + k) × (slice_get (all_instances members) k ≡ Some x))
           → ViewStands (IsShownBefore all (count + n)) (place_of x.interface) x.view
       by rest (inl own) = view_wider (IsShownBefore (instances_of m) n) (IsShownBefore all (count + n)) (shown_behind count (instances_of m) all here n) (place_of x.interface) x.view
           (each.0.views n x own)
-      by rest (inr behind) =
-          let is = behind.1 in
-          let same : count + length (instances_of m) + behind.0 ≡ count + n = omega (arith, is) in
-          subst (λ i. ViewStands (IsShownBefore all i) (place_of x.interface) x.view) same (rest behind.0 x behind.2)
+      by rest (inr behind) = subst (λ i. ViewStands (IsShownBefore all i) (place_of x.interface) x.view) (omega (arith, behind.1)) (rest behind.0 x behind.2)
 
 pub members_stand_together : MembersStandTogether
 members_stand_together members each = record {

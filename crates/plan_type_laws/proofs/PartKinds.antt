@@ -71,9 +71,8 @@ module _ (t : Tables) (kinds : Text → Text → Bool) where
         (λ (x : NumberedType). IsShownIn t p x × DeclarationStands (OfKind (kind_at kinds h.own)) (declaration_of t x.declared) (kind_at kinds h.own (place_at t p) x.name)) v.types
         (λ n x is d. (is, subst (λ place. DeclarationStands (OfKind (kind_at kinds h.own)) (declaration_of t x.declared) (kind_at kinds h.own place x.name)) e d)) within.types h.types;
     functions = at_each (shown_function t) (λ n (f : Text × FunctionMeaning). SignatureStands (OfKind (kind_at kinds h.own)) f.1.signature)
-        (λ (f : Text × NumberedFunction). IsCalledIn t p f.1.signature)
-        (λ (f : Text × NumberedFunction). IsCalledIn t p f.1.signature × SignatureStands (OfKind (kind_at kinds h.own)) (signature_at t f.1.signature)) v.functions (λ n f is s. (is, s))
-        within.functions h.functions;
+        (λ (f : Text × NumberedFunction). IsCalledIn t p f.1.signature) (λ (f : Text × NumberedFunction). IsCalledIn t p f.1.signature
+        × SignatureStands (OfKind (kind_at kinds h.own)) (signature_at t f.1.signature)) v.functions (λ n f is s. (is, s)) within.functions h.functions;
   }
 
   -- ---- worlds
@@ -95,8 +94,7 @@ module _ (t : Tables) (kinds : Text → Text → Bool) where
 
     seen_kinds : (count : ℕ → ℕ) (ss : List NumberSeen) → AllByRecursion (IsSeenIn t home) (map numbered_seen ss) → AllByRecursion (NamesSeen t home) ss
         → AllAt (λ n (s : Seen). ShownStands scope.instances scope.imports (count n) s.shown) (map (seen_of t) (map numbered_seen ss))
-        → AllAt (λ n (s : Seen). ShownHasKind (kind_at kinds own) s.key s.shown) (map (seen_of t) (map numbered_seen ss))
-        → AllByRecursion (SeenKinds home own) ss
+        → AllAt (λ n (s : Seen). ShownHasKind (kind_at kinds own) s.key s.shown) (map (seen_of t) (map numbered_seen ss)) → AllByRecursion (SeenKinds home own) ss
     seen_kinds count ss within named stand kind =
         let P = λ (n : ℕ) (s : Seen). ShownStands scope.instances scope.imports (count n) s.shown × ShownHasKind (kind_at kinds own) s.key s.shown in
         at_each (λ (s : NumberSeen). seen_of t (numbered_seen s)) P (λ (s : NumberSeen). IsSeenIn t home (numbered_seen s) × NamesSeen t home s) (SeenKinds home own) ss
@@ -121,27 +119,23 @@ module _ (t : Tables) (kinds : Text → Text → Bool) where
 
   module _ (h : Homes) (stand : HomesStand t h) (m : Member) (identity : PackageIdentity) (there : slice_get h.packages m.package_number ≡ Some identity) (name : Text) (under : name ≡ m.label.now) where
     part_kinds : (part : Part) (y : reads.Part) → ShowsPart t h (numbered_member m) (numbered_part part) y → PartStands y
-        → MemberHasKinds kinds (record { label = name; package_ = identity; part = y })
-        → IsPartIn t (numbered_part part) → PartNames t part → PartKinds part
+        → MemberHasKinds kinds (record { label = name; package_ = identity; part = y }) → IsPartIn t (numbered_part part) → PartNames t part → PartKinds part
     part_kinds (parts.World w) (reads.Part.world scope) is stands has within names = world_kinds w scope is stands.stands has.views has.world within names
     part_kinds (parts.Interface p v imports) (reads.Part.interface view views) is stands has within names =
         let front = map named_instance views in
-        let last : Instance = named_instance (path_in identity name, view) in
+        let last = named_instance (path_in identity name, view) in
         let all = front ++ last ∷ [] in
-        let own = has.views (length front) last (middle_get front last []) in
-        let own_view = subst (λ x. ViewHasKinds kinds all (length front) (record { interface = Some (path_in identity name); view = x })) is.shown own in
-        let f = λ (i : ImportedView). named_instance (path_text t i.place, view_of t (numbered_view i.view)) in
-        let before : AllAt (ViewHasKinds kinds all) (map f imports.now) =
-        subst (AllAt (ViewHasKinds kinds all)) (ap (map named_instance) is.imported
-        ∙ (map_of_map named_instance (λ (i : ℕ × NumberedView). (path_text t i.0, view_of t i.1)) (map numbered_import imports.now)
-        ∙ map_of_map (λ (i : ℕ × NumberedView). named_instance (path_text t i.0, view_of t i.1)) numbered_import imports.now)) (λ n x e. has.views n x (at_front front (last ∷ []) n x e)) in
         record {
           home = is.path;
-          view = view_kinds all (length front) (Some (path_in identity name)) p (exported_place t h stand m identity there name under p is.path is.home) (numbered_view v) within.0.1 own_view;
-          imported = at_each f (ViewHasKinds kinds all) (λ (i : ImportedView). HasPath t i.place × IsViewIn t i.place (numbered_view i.view))
-              (λ (i : ImportedView). HasPath t i.place × ViewKinds i.place (numbered_view i.view)) imports.now
+          view = view_kinds all (length front) (Some (path_in identity name)) p (exported_place t h stand m identity there name under p is.path is.home) (numbered_view v) within.0.1
+              (subst (λ x. ViewHasKinds kinds all (length front) (record { interface = Some (path_in identity name); view = x })) is.shown (has.views (length front) last (middle_get front last [])));
+          imported = at_each (λ (i : ImportedView). named_instance (path_text t i.place, view_of t (numbered_view i.view))) (ViewHasKinds kinds all)
+              (λ (i : ImportedView). HasPath t i.place × IsViewIn t i.place (numbered_view i.view)) (λ (i : ImportedView). HasPath t i.place × ViewKinds i.place (numbered_view i.view)) imports.now
               (λ n i both is. (both.0, view_kinds all n (Some (path_text t i.place)) i.place (path_place t i.place both.0) (numbered_view i.view) both.1 is))
-              (all_unmapped (λ (i : ℕ × NumberedView). HasPath t i.0 × IsViewIn t i.0 i.1) numbered_import imports.now within.1) before;
+              (all_unmapped (λ (i : ℕ × NumberedView). HasPath t i.0 × IsViewIn t i.0 i.1) numbered_import imports.now within.1)
+              (subst (AllAt (ViewHasKinds kinds all)) (ap (map named_instance) is.imported
+              ∙ (map_of_map named_instance (λ (i : ℕ × NumberedView). (path_text t i.0, view_of t i.1)) (map numbered_import imports.now)
+              ∙ map_of_map (λ (i : ℕ × NumberedView). named_instance (path_text t i.0, view_of t i.1)) numbered_import imports.now)) (λ n x e. has.views n x (at_front front (last ∷ []) n x e)));
         }
     part_kinds _ _ is stands has within names = absurd is
 

@@ -39,10 +39,8 @@ module _ (t : Tables) where
   no_name home key x none = search std_rules
 
   pub no_names : (home : ℕ) (ss : List NumberSeen) → AllAt (λ n (s : Seen). scopes.is_type s.shown ≡ false) (map (seen_of t) (map numbered_seen ss)) → AllByRecursion (NamesSeen t home) ss
-  no_names home ss none =
-      at_each (λ (s : NumberSeen). seen_of t (numbered_seen s)) (λ n (s : Seen). scopes.is_type s.shown ≡ false) (λ s. Unit {0}) (NamesSeen t home) ss (λ n s any is. no_name home s.key.now s.shown is)
-      (all_any ss)
-      (subst (AllAt (λ n (s : Seen). scopes.is_type s.shown ≡ false)) (map_of_map (seen_of t) numbered_seen ss) none)
+  no_names home ss none = at_each (λ (s : NumberSeen). seen_of t (numbered_seen s)) (λ n (s : Seen). scopes.is_type s.shown ≡ false) (λ s. Unit {0}) (NamesSeen t home) ss
+      (λ n s any is. no_name home s.key.now s.shown is) (all_any ss) (subst (AllAt (λ n (s : Seen). scopes.is_type s.shown ≡ false)) (map_of_map (seen_of t) numbered_seen ss) none)
 
   -- the place of an interface that is exported, by its package and its name
   pub exported_place : (h : Homes) → HomesStand t h → (m : Member) (identity : PackageIdentity) → slice_get h.packages m.package_number ≡ Some identity → (name : Text) → name ≡ m.label.now

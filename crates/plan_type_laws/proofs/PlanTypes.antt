@@ -17,9 +17,8 @@ no_some : {A : Type 0} {B : Type 0} (x : A) → None ≡ Some x → B
 no_some x e = let wrong : ⊥ = cc in absurd wrong
 
 module _ (t : Tables) (tables : AreTables t) (showings : List NumberedShowing) (shown : AllByRecursion (ShowingObeys t) showings) (signatures : List ℕ)
-    (called : AllByRecursion (SignatureObeys t) signatures) (marks : List Bool)
-    (used : AreUsed t (used_parts t showings signatures) marks) (kept : List ℕ) (are : AreMarked marks kept) (p : Plan) (owners : ℕ → TypeOwner) (find : ℕ → Option NumberedShowing)
-    (many : length p.types ≡ length kept) (names : NamesObey t p owners find marks) where
+    (called : AllByRecursion (SignatureObeys t) signatures) (marks : List Bool) (used : AreUsed t (used_parts t showings signatures) marks) (kept : List ℕ) (are : AreMarked marks kept) (p : Plan)
+    (owners : ℕ → TypeOwner) (find : ℕ → Option NumberedShowing) (many : length p.types ≡ length kept) (names : NamesObey t p owners find marks) where
   one_kept : (n : ℕ) (x : PlannedType) → is_marked marks n ≡ true → PlansType t kept find owners n x → IsKeptType t kept p n x
   one_kept n x mark (unnamed s at no_name a b c formed_so) = by (tables.shapes.each n s at)
     where
@@ -35,8 +34,7 @@ module _ (t : Tables) (tables : AreTables t) (showings : List NumberedShowing) (
       by : IsShape n s → IsKeptType t kept p n x
       by (a_node form olds e below) = no_some (q, name) (sym (unnamed_node form olds) ∙ (sym (ap name_in e) ∙ is))
       by (a_name r other e) =
-          let same : ◌≡◌ {A = ℕ × Text} (r, other) (q, name) = same-some (r, other) (q, name) (sym (ap name_in e) ∙ is) in
-          let there : slice_get t.shapes n ≡ Some (named_shape q name) = at ∙ ap Some (e ∙ ap (λ (z : ℕ × Text). named_shape z.0 z.1) same) in
+          let there : slice_get t.shapes n ≡ Some (named_shape q name) = at ∙ ap Some (e ∙ ap (λ (z : ℕ × Text). named_shape z.0 z.1) (same-some (r, other) (q, name) (sym (ap name_in e) ∙ is))) in
           let obeys = names n q name y mark there first in
           declared q name y.declared there a (ap (place_in p) b ∙ obeys.home) (kinds_declared t tables kept p many y.declared x.kind kind) obeys.behind obeys.label obeys.obeys
 

@@ -12,11 +12,10 @@ types_are_read t h ms members input kept p owners plan =
     let find = λ (n : ℕ). first_showing n showings in
     let finds = (firsts_found showings).0 in
     let rules = shown_obeys t input.tables h input.homes ms members input.shown input.stand input.interfaces input.numbers input.placed.names in
-    let forms = forms_obeyed t input.tables input.lengths h ms members input.shown input.stand in
     let marks = names_marked t input.tables h input.homes ms members input.shown input.stand input.kinds input.numbers input.placed in
-    let names = names_obey t input.tables showings rules.names find finds p owners plan.marks plan.places in
     record {
-      types = types_are_kept t input.tables showings rules.declared signatures rules.called forms plan.marks plan.used kept plan.marked p owners find finds plan.types names;
+      types = types_are_kept t input.tables showings rules.declared signatures rules.called (forms_obeyed t input.tables input.lengths h ms members input.shown input.stand) plan.marks plan.used kept
+          plan.marked p owners find finds plan.types (names_obey t input.tables showings rules.names find finds p owners plan.marks plan.places);
       told = marks;
       marked = marks_kept t input.tables showings signatures marks plan.marks plan.used kept plan.marked p owners find finds plan.types;
     }

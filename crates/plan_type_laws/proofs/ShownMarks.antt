@@ -96,9 +96,7 @@ module _ (t : Tables) (tables : AreTables t) (kinds : Text → Text → Bool) (o
       where
         by : PartView (place_at t) t.shapes tables.shapes k (tree_at t k) → marks k ≡ false
         by (is_primitive x small is number) = mark_of_primitive k small
-        by (is_name n q name e at is) =
-            let kind : false ≡ kind_at kinds own (place_at t q) name = subst (TreeStands Kind) is stands in
-            sym (kind ∙ name_mark k n q name e at from)
+        by (is_name n q name e at is) = sym (subst (TreeStands Kind) is stands ∙ name_mark k n q name e at from)
         by (is_node n form parts e at is low) = ap marks e ∙ mark_of_form n form parts at
 
     values_marked : (ks : List ℕ) → AllByRecursion (IsPart t) ks → AllByRecursion From ks → PartsStand Kind false (children (map (tree_at t) ks)) → list_all (λ k. not (marks k)) ks ≡ true
@@ -115,8 +113,7 @@ module _ (t : Tables) (tables : AreTables t) (kinds : Text → Text → Bool) (o
             let same : Tree.named place name ≡ Tree.named (place_at t q) other = sym e ∙ is in
             let places : place ≡ place_at t q = cc in
             let names : name ≡ other = cc in
-            let kind : true ≡ kind_at kinds own (place_at t q) other = met ∙ (λ i. kind_at kinds own (places i) (names i)) in
-            sym (kind ∙ name_mark k n q other en at from)
+            sym ((met ∙ (λ i. kind_at kinds own (places i) (names i))) ∙ name_mark k n q other en at from)
         by (is_node n form parts en at is low) = let wrong : Tree.named place name ≡ Tree.node form (children (map (tree_at t) parts)) = sym e ∙ is in absurd cc
 
     -- ---- forms
@@ -142,11 +139,9 @@ module _ (t : Tables) (tables : AreTables t) (kinds : Text → Text → Bool) (o
         by false e stand = record { handle = λ h. no_true (sym (same_handle form ∙ e) ∙ h); other = λ h. values_marked parts range froms stand }
         by true e stand =
             let held = handle_held t tables Kind parts stand in
-            let one_range = subst (AllByRecursion (IsPart t)) held.alone range in
-            let one_from = subst (AllByRecursion From) held.alone froms in
-            let marked : marks held.part ≡ true = handle_mark held.part one_range.0 one_from.0 held.place held.name held.is held.met in
             record {
-              handle = λ h. ap (list_all marks) held.alone ∙ both (marks held.part) true marked refl;
+              handle = λ h. ap (list_all marks) held.alone ∙ both (marks held.part) true
+                  (handle_mark held.part (subst (AllByRecursion (IsPart t)) held.alone range).0 (subst (AllByRecursion From) held.alone froms).0 held.place held.name held.is held.met) refl;
               other = λ h. no_true (sym h ∙ (same_handle form ∙ e));
             }
 
@@ -174,24 +169,20 @@ module _ (t : Tables) (tables : AreTables t) (kinds : Text → Text → Bool) (o
       where
         by : PartView (place_at t) t.shapes tables.shapes old (tree_at t old) → DeclaredIsMarked b (Some old)
         by (is_primitive x small is number) =
-            let kind : b ≡ false = subst (λ y. DeclarationStands Kind (Declaration.type_ y) b) is stands in
-            record { tells = λ k e. e ∙ (kind ∙ sym (mark_of_primitive old small)); inner = no_form old small }
-        by (is_name n q name en at is) =
-            let kind : b ≡ kind_at kinds own (place_at t q) name = subst (λ y. DeclarationStands Kind (Declaration.type_ y) b) is stands in
-            record {
-              tells = λ k e. e ∙ (kind ∙ name_mark old n q name en at met.names);
-              inner =
-                  record { holds = λ m form parts within there. name_alone t tables old m (place_at t q) name form parts is within there };
-            }
+            record { tells = λ k e. e ∙ (subst (λ y. DeclarationStands Kind (Declaration.type_ y) b) is stands ∙ sym (mark_of_primitive old small)); inner = no_form old small }
+        by (is_name n q name en at is) = record {
+          tells = λ k e. e ∙ (subst (λ y. DeclarationStands Kind (Declaration.type_ y) b) is stands ∙ name_mark old n q name en at met.names);
+          inner = record { holds = λ m form parts within there. name_alone t tables old m (place_at t q) name form parts is within there };
+        }
         by (is_node n form parts en at is low) =
             let kind = subst (λ y. DeclarationStands Kind (Declaration.type_ y) b) is stands in
             record { tells = λ k e. e ∙ (kind.0 ∙ sym (ap marks en ∙ mark_of_form n form parts at)); inner = part_marked old met.names (subst (TreeStands Kind) (sym is) kind.1) }
 
     -- ---- functions
 
-    function_marked : (n : ℕ) → IsCalledIn t p n → SignatureStands Kind (signature_at t n) → PartsOf IsValue (function_at t n)
-    function_marked n called stands =
-        signature_parts_hold t tables Kind (IsMetFrom t p) IsValue (λ k met stand. (value_mark k met.range met.names stand, part_marked k met.names stand)) (function_at t n) called.parts stands
+    pub call_marked : (n : ℕ) → IsCalledIn t p n × SignatureStands Kind (signature_at t n) → Called n
+    call_marked n called = signature_parts_hold t tables Kind (IsMetFrom t p) IsValue (λ k met stand. (value_mark k met.range met.names stand, part_marked k met.names stand)) (function_at t n)
+        called.0.parts called.1
 
     -- ---- what is shown
 
@@ -207,19 +198,14 @@ module _ (t : Tables) (tables : AreTables t) (kinds : Text → Text → Bool) (o
     pub name_marked : (key : Text) (part : ℕ) (d : Option ℕ) (external_id : Option Text) → NameKinds t kinds p own key part d → Shown (record { part = part; declared = d; external_id = external_id })
     name_marked key part d external_id names = showing_marked (record { part = part; declared = d; external_id = external_id }) key names.is names.met names.kind
 
-    pub call_marked : (n : ℕ) → IsCalledIn t p n × SignatureStands Kind (signature_at t n) → Called n
-    call_marked n called = function_marked n called.0 called.1
-
   pub view_marked : (p : ℕ) (v : NumberedView) (k : ViewKinds t kinds p v) → HasOwn p k.own → AreShown (showings_of_view v) (signatures_of_view v)
   view_marked p v k has = (
-    all_mapped Shown showing_of v.types
-        (recursion_weaker (λ (x : NumberedType). IsShownIn t p x × DeclarationStands (OfKind (kind_at kinds k.own)) (declaration_of t x.declared) (kind_at kinds k.own (place_at t p) x.name))
-        (λ (x : NumberedType). Shown (showing_of x))
+    all_mapped Shown showing_of v.types (recursion_weaker (λ (x : NumberedType). IsShownIn t p x
+        × DeclarationStands (OfKind (kind_at kinds k.own)) (declaration_of t x.declared) (kind_at kinds k.own (place_at t p) x.name)) (λ (x : NumberedType). Shown (showing_of x))
         (λ x is. type_marked p k.own has x is.0 is.1) v.types k.types),
     all_mapped Called (λ (f : Text × NumberedFunction). f.1.signature) v.functions
         (recursion_weaker (λ (f : Text × NumberedFunction). IsCalledIn t p f.1.signature × SignatureStands (OfKind (kind_at kinds k.own)) (signature_at t f.1.signature))
-        (λ (f : Text × NumberedFunction). Called f.1.signature)
-        (λ f is. call_marked p k.own has f.1.signature is) v.functions k.functions),
+        (λ (f : Text × NumberedFunction). Called f.1.signature) (λ f is. call_marked p k.own has f.1.signature is) v.functions k.functions),
   )
 
 -- ---- places and the kinds of their names
@@ -268,9 +254,7 @@ module _ (test : ℕ → Bool) where
     where
       by : (b : Bool) → test f.0 ≡ b → are_once (if b then f.0 ∷ places fs else places fs) ≡ true → (are_once (places fs) ≡ true → AllByRecursion (Found (own_in fs)) fs)
           → AllByRecursion (Found (own_in (f ∷ fs))) fs
-      by true e once later =
-          found_behind f fs (others_differ f.0 fs (not-true (has (places fs) f.0) (first_true (not (has (places fs) f.0)) (are_once (places fs)) once)))
-          (later (second_true (not (has (places fs) f.0)) (are_once (places fs)) once))
+      by true e once later = found_behind f fs (others_differ f.0 fs (not-true (has (places fs) f.0) (first_true _ _ once))) (later (second_true _ _ once))
       by false e once later = found_behind f fs (past f.0 e fs) (later once)
 
 -- ---- the frames of what is shown
@@ -334,14 +318,12 @@ module _ (t : Tables) (tables : AreTables t) (kinds : Text → Text → Bool) (o
     seen_held (s ∷ ss) is all =
         let split = all_split Owned (frames_of_shown t kinds home own s.key.now s.shown is.0) (frames_of_seen t kinds home own ss is.1) all in
         two_held (Shown t tables kinds own_at) (Called t tables kinds own_at) (showings_of_seen s) (flat_map showings_of_seen ss) (signatures_of_seen s) (flat_map signatures_of_seen ss)
-        (shown_held s.key.now s.shown (given_text s.external_id) is.0 split.0)
-        (seen_held ss is.1 split.1)
+        (shown_held s.key.now s.shown (given_text s.external_id) is.0 split.0) (seen_held ss is.1 split.1)
 
   imports_held : (is : List ImportedView) → AllByRecursion (λ (i : ImportedView). HasPath t i.place × ViewKinds t kinds i.place (numbered_view i.view)) is
       → AllByRecursion (Shown t tables kinds own_at) (flat_map showings_of_import is)
   imports_held [] all = tt
-  imports_held (i ∷ is) all =
-      all_both (Shown t tables kinds own_at) (showings_of_import i) (flat_map showings_of_import is)
+  imports_held (i ∷ is) all = all_both (Shown t tables kinds own_at) (showings_of_import i) (flat_map showings_of_import is)
       (view_marked t tables kinds own_at i.place (numbered_view i.view) all.0.1 (own_by_path t tables kinds own_at i.place all.0.1.own all.0.0)).0 (imports_held is all.1)
 
   part_held : (part : Part) (is : PartKinds t kinds part) → AllByRecursion Owned (frames_of_part t kinds part is) → Holds (showings_of_part part) (signatures_of_part part)
@@ -371,8 +353,7 @@ names_marked t tables h stand ms members zip stands has within placed =
     let is = member_kinds t kinds h stand ms members zip stands.parts has.each within placed.names in
     let fs = frames t kinds ms is in
     let own_at = own_in fs in
-    let found = each_found (has_no_path t) fs (ap (λ ps. are_once (filter (has_no_path t) ps)) (places_are t kinds ms is) ∙ placed.apart) in
-    let held = members_held t tables kinds own_at ms is found in
+    let held = members_held t tables kinds own_at ms is (each_found (has_no_path t) fs (ap (λ ps. are_once (filter (has_no_path t) ps)) (places_are t kinds ms is) ∙ placed.apart)) in
     let showings = showings_of_members ms in
     let signatures = signatures_of_members ms in
     let Form = EachForm t (FormIsMarked (marks t tables kinds own_at)) in

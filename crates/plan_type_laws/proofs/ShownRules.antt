@@ -2,11 +2,10 @@
 use Rattle.plan_type_laws.proofs.{Walks.all_two, Walks.Held, Walks.two_held, KeptKinds.kinds_tell, InnerForms.name_there}
 use Rattle.plan_type_laws.proofs.UsedWalk.{form_there, in_both, in_flat, one_there, unnamed_node, used_fine}
 use Rattle.plan_type_laws.proofs.PartPlaces.{exported_place, key_place, no_names, parts_weaker, path_place}
-use Rattle.std.proofs.Common.{rules as std_rules, ◌≡◌, refl, sym, ap, subst, ◌∙◌, ℕ, zero, suc, ◌+◌, ◌-◌, arith, Bool, true, false, not, ◌==◌, if◌then◌else◌, List, [], ◌∷◌, map, length, Option, Some, None, option_and_then, option_to_list, slice_get, ◌<◌, ◌&&◌, ◌||◌, ◌++◌}
+use Rattle.std.proofs.Common.{rules as std_rules, ◌≡◌, refl, sym, ap, subst, ◌∙◌, ℕ, zero, suc, ◌+◌, ◌-◌, arith, Bool, true, false, not, ◌==◌, if◌then◌else◌, List, [], ◌∷◌, map, Option, Some, None, option_and_then, option_to_list, slice_get, ◌<◌, ◌&&◌, ◌||◌, ◌++◌}
 use Rattle.std.proofs.{ByRecursion.All-weaker as recursion_weaker}
 use Rattle.std.proofs.lemmas.{Option.same_Some as same-some, Option.slice_get_within, Slice.Zip.AllZip-long as zip_length, List.Folds.list_all-append}
-use Rattle.std.specs.{Option.option_map_or}
-use Rattle.std.specs.List.{AllByRecursion, AllZip, Contains, flat_map, list_all, list_any}
+use Rattle.std.specs.{Option.option_map_or, List.AllByRecursion, List.AllZip, List.flat_map, List.list_all, List.list_any}
 use Rattle.wit_model.specs.declared.model.TypeOwner.{TypeOwner}
 use Rattle.wit_model.specs.{Text.Text, Tree.Form, Tree.Place, Meaning.FunctionMeaning, Meaning.Signature, Names.PackageIdentity, Names.is_label, Names.path_in}
 use Rattle.wit_model.specs.Uses.{has}
@@ -28,8 +27,7 @@ use Rattle.plan_type_laws.specs.ShownForms.{EachForm, FindsShown, FormsHold, its
 use Rattle.plan_type_laws.specs.{ShownMarks.NamesSeen, ShownMarks.NamesShown, ShownMarks.PartNames, UsedParts.ShowingObeys, UsedParts.SignatureObeys}
 use Rattle.plan_type_laws.specs.ShownRules.{NamesObeyRules, ShowingIsName, ShownObeysRules}
 use Rattle.base_lemmas.proofs.{Elements.all_at, Elements.zip_at_right as zip_get, Elements.all_both, Bools.left_of as first_true, Bools.right_of as second_true}
-use Rattle.comp_meaning.specs.Follow.{Scope, Seen, ShownType, View, interface_of, place_of}
-use Rattle.comp_meaning.specs.{Reads.Sight, Rules.distinct}
+use Rattle.comp_meaning.specs.{Follow.Scope, Follow.Seen, Follow.ShownType, Follow.View, Follow.interface_of, Follow.place_of, Reads.Sight}
 use Rattle.read_shown.specs.{Parts.PartStands, Trees.AllAt}
 use Rattle.read_rules.specs.declared.{reached.ImportedView.ImportedView, scopes.Scope.Scope as NumberScope, scopes.Shown.Shown as NumberShown}
 use Rattle.read_rules.specs.declared.scopes.Seen.{Seen as NumberSeen}
@@ -77,10 +75,11 @@ module _ (t : Tables) (tables : AreTables t) (P : Form → List ℕ → Type 0) 
   inner_form : (n : ℕ) (s : Shape) → slice_get t.shapes n ≡ Some s → name_in s ≡ None → EachForm t P (14 + n) → (k : ℕ) → has s.parts k ≡ true → EachForm t P k
   inner_form n s at no_name each k there =
       let node = form_there n s no_name (tables.shapes.each n s at) in
-      let form = node.0 in
       let parts = node.1 in
-      let among : Contains parts k = has-contains parts k (sym (ap (λ (r : Shape). has r.parts k) node.2) ∙ there) in
-      record { holds = λ m f ps within is. each.holds m f ps (inside (14 + n) n k m form parts refl (at ∙ ap Some node.2) among within) is }
+      record {
+        holds = λ m f ps within is. each.holds m f ps (inside (14 + n) n k m node.0 parts refl (at ∙ ap Some node.2)
+            (has-contains parts k (sym (ap (λ (r : Shape). has r.parts k) node.2) ∙ there)) within) is;
+      }
 
   -- what a name declares
   declared_form : (d : Option ℕ) → AllOf (EachForm t P) d → (k : ℕ) → has (declared_parts t d) k ≡ true → EachForm t P k
@@ -98,8 +97,7 @@ module _ (t : Tables) (tables : AreTables t) (P : Form → List ℕ → Type 0) 
       by false form there = subst (EachForm t P) (one_there old k there) all
 
   module _ (showings : List NumberedShowing) (are_names : AllByRecursion (λ (s : NumberedShowing). (x : ℕ × Text) × (name_at t s.part ≡ Some x)) showings) (signatures : List ℕ)
-      (hold : FormsHold t P showings signatures)
-      (marks : List Bool) (used : AreUsed t (used_parts t showings signatures) marks) where
+      (hold : FormsHold t P showings signatures) (marks : List Bool) (used : AreUsed t (used_parts t showings signatures) marks) where
     shown_form : (n : ℕ) (s : Shape) → slice_get t.shapes n ≡ Some s → name_in s ≡ None → has (flat_map (showing_parts t) showings) (14 + n) ≡ true → EachForm t P (14 + n)
     shown_form n s at no_name there = in_flat (showing_parts t) (λ x. ((y : ℕ × Text) × (name_at t x.part ≡ Some y)) × AllOf (EachForm t P) x.declared) (14 + n) one showings
         (all_two (λ x. (y : ℕ × Text) × (name_at t x.part ≡ Some y)) (λ x. AllOf (EachForm t P) x.declared) showings are_names hold.declared) there
@@ -118,9 +116,6 @@ module _ (t : Tables) (tables : AreTables t) (P : Form → List ℕ → Type 0) 
     used_form n s is at no_name = used_fine t tables (EachForm t P) inner_form showings signatures shown_form called_form marks used n s is at no_name
 
     module _ (kept : List ℕ) (are : AreMarked marks kept) (p : Plan) (owners : ℕ → TypeOwner) (find : ℕ → Option NumberedShowing) (finds : FindsShown showings find) (types : AllZip (PlansType t kept find owners) kept p.types) where
-      many : length p.types ≡ length kept
-      many = zip_length (PlansType t kept find owners) kept p.types types
-
       -- what a name of the plan is shown as
       pub shown_kind : (j n : ℕ) (x : PlannedType) (q : ℕ) (name : Text) → slice_get p.types j ≡ Some x → slice_get kept j ≡ Some n → slice_get t.shapes n ≡ Some (named_shape q name)
           → (y : NumberedShowing) × (find n ≡ Some y) × DeclaresKind t kept p y.declared x.kind
@@ -128,9 +123,8 @@ module _ (t : Tables) (tables : AreTables t) (P : Form → List ℕ → Type 0) 
         where
           at_number : PlansType t kept find owners n x → (y : NumberedShowing) × (find n ≡ Some y) × DeclaresKind t kept p y.declared x.kind
           at_number (unnamed s s_at no_name a b c formed) =
-              let same : s ≡ named_shape q name = same-some s (named_shape q name) (sym s_at ∙ there) in
-              let wrong : ◌≡◌ {A = Option (ℕ × Text)} None (Some (q, name)) = sym no_name ∙ ap name_in same in absurd cc
-          at_number (named_type s r other y s_at is first a b c kind) = (y, first, kinds_declared t tables kept p many y.declared x.kind kind)
+              let wrong : ◌≡◌ {A = Option (ℕ × Text)} None (Some (q, name)) = sym no_name ∙ ap name_in (same-some s (named_shape q name) (sym s_at ∙ there)) in absurd cc
+          at_number (named_type s r other y s_at is first a b c kind) = (y, first, kinds_declared t tables kept p (zip_length (PlansType t kept find owners) kept p.types types) y.declared x.kind kind)
 
           by : (m : ℕ) × (slice_get kept j ≡ Some m) × PlansType t kept find owners m x → (y : NumberedShowing) × (find n ≡ Some y) × DeclaresKind t kept p y.declared x.kind
           by found = at_number (subst (λ m. PlansType t kept find owners m x) (same-some found.0 n (sym found.1 ∙ stands)) found.2)
@@ -140,10 +134,8 @@ module _ (t : Tables) (tables : AreTables t) (P : Form → List ℕ → Type 0) 
           (used_form n (node_shape form parts) (mark_there marks n (are.among j n stands)) there (unnamed_node form parts)).holds n form parts (itself (14 + n) n refl) there
       kept_forms n form parts (of_name j m x q name at stands named_at kind) there =
           let y = shown_kind j m x q name at stands named_at in
-          let same : y.0.declared ≡ Some (14 + n) = kinds_tell t tables kept p y.0.declared (Some (14 + n)) x.kind y.2 kind in
-          let all : AllOf (EachForm t P) y.0.declared = all_at (λ (s : NumberedShowing). AllOf (EachForm t P) s.declared) showings hold.declared y.0 (finds m y.0 y.1).0 in
-          let one : EachForm t P (14 + n) = subst (AllOf (EachForm t P)) same all in
-          one.holds n form parts (itself (14 + n) n refl) there
+          (subst (AllOf (EachForm t P)) (kinds_tell t tables kept p y.0.declared (Some (14 + n)) x.kind y.2 kind)
+          (all_at (λ (s : NumberedShowing). AllOf (EachForm t P) s.declared) showings hold.declared y.0 (finds m y.0 y.1).0)).holds n form parts (itself (14 + n) n refl) there
 
 -- ---- what is shown of what was read obeys the rules
 
@@ -166,40 +158,27 @@ module _ (t : Tables) (tables : AreTables t) where
       → list_all (λ (f : Text × FunctionMeaning). rules.is_function place resources f.0 f.1.signature) (map (shown_function t) fs) ≡ true
       → AllByRecursion (SignatureObeys t) (map (λ (f : Text × NumberedFunction). f.1.signature) fs)
   functions_obey p place resources [] called h = tt
-  functions_obey p place resources (f ∷ fs) called h =
-      let test = λ (f : Text × FunctionMeaning). rules.is_function place resources f.0 f.1.signature in
-      let one = test (shown_function t f) in
-      let rest = list_all test (map (shown_function t) fs) in (
-        call_obeys p f.1.signature place called.0 (function_signature place resources f.0 (signature_at t f.1.signature) (first_true one rest h)),
-        functions_obey p place resources fs called.1 (second_true one rest h),
-      )
+  functions_obey p place resources (f ∷ fs) called h = (
+    call_obeys p f.1.signature place called.0 (function_signature place resources f.0 (signature_at t f.1.signature) (first_true _ _ h)),
+    functions_obey p place resources fs called.1 (second_true _ _ h),
+  )
 
   -- ---- types
 
-  type_obeys : (p : ℕ) (x : NumberedType) → IsShownIn t p x → (is_label x.name && rules.is_declared (place_at t p) (declaration_of t x.declared)) ≡ true → ShowingIsName t (showing_of x)
-  type_obeys p x is h = search std_rules
-
   types_obey : (p : ℕ) (xs : List NumberedType) → AllByRecursion (IsShownIn t p) xs
-      → list_all (λ (x : ShownType). is_label x.name && rules.is_declared (place_at t p) x.meaning.declaration) (map (shown_type t) xs) ≡ true
-      → AllByRecursion (ShowingIsName t) (map showing_of xs)
+      → list_all (λ (x : ShownType). is_label x.name && rules.is_declared (place_at t p) x.meaning.declaration) (map (shown_type t) xs) ≡ true → AllByRecursion (ShowingIsName t) (map showing_of xs)
   types_obey p [] is h = tt
   types_obey p (x ∷ xs) is h =
       let test = λ (x : ShownType). is_label x.name && rules.is_declared (place_at t p) x.meaning.declaration in
-      let one = test (shown_type t x) in
-      let rest = list_all test (map (shown_type t) xs) in
-      (type_obeys p x is.0 (first_true one rest h), types_obey p xs is.1 (second_true one rest h))
+      ((search std_rules), types_obey p xs is.1 (second_true (test (shown_type t x)) (list_all test (map (shown_type t) xs)) h))
 
   -- ---- views
 
   view_obeys : (p : ℕ) (v : NumberedView) → IsViewIn t p v → (place : Place) → place ≡ place_at t p → rules.is_interface place (view_of t v) ≡ true → Hold (showings_of_view v) (signatures_of_view v)
   view_obeys p v within place same h =
-      let at : rules.is_interface (place_at t p) (view_of t v) ≡ true = ap (λ q. rules.is_interface q (view_of t v)) (sym same) ∙ h in
-      let types = list_all (λ (x : ShownType). is_label x.name && rules.is_declared (place_at t p) x.meaning.declaration) (view_of t v).types in
       let resources = rules.resources_of (view_of t v).types in
-      let functions = list_all (λ (f : Text × FunctionMeaning). rules.is_function (place_at t p) resources f.0 f.1.signature) (view_of t v).functions in
-      let apart = distinct (map (λ (x : ShownType). x.name) (view_of t v).types ++ map (λ (f : Text × FunctionMeaning). f.0) (view_of t v).functions) in
-      let both = first_true (types && functions) apart at in
-      (types_obey p v.types within.types (first_true types functions both), functions_obey p (place_at t p) resources v.functions within.functions (second_true types functions both))
+      let both = first_true _ _ (ap (λ q. rules.is_interface q (view_of t v)) (sym same) ∙ h) in
+      (types_obey p v.types within.types (first_true _ _ both), functions_obey p (place_at t p) resources v.functions within.functions (second_true _ _ both))
 
   -- ---- worlds
 
@@ -207,22 +186,19 @@ module _ (t : Tables) (tables : AreTables t) where
     name_obeys : (key : Text) (part : ℕ) (d : Option ℕ) (external_id : Option Text) → NamesShown t home key (shown.Declares part d)
         → IsSeenIn t home (record { key = key; shown = numbered_shown (shown.Declares part d); external_id = external_id })
         → (is_label key && rules.is_declared Place.here (declaration_of t d)) ≡ true → ShowingIsName t (record { part = part; declared = d; external_id = external_id })
-    name_obeys key part d external_id named within h =
-        let same : within.0 ≡ named.0 = tables.shapes.apart within.0 named.0 (named_shape home key) within.1.named named.2 in
-        record {
-          number = named.0;
-          home = home;
-          name = key;
-          part = named.1;
-          there = named.2;
-          behind = subst (λ n. AllOf (λ k. k < 14 + n) d) same within.1.behind;
-          label = first_true (is_label key) (rules.is_declared Place.here (declaration_of t d)) h;
-          obeys = ap (λ o. rules.is_declared (place_of o) (declaration_of t d)) no_path ∙ second_true (is_label key) (rules.is_declared Place.here (declaration_of t d)) h;
-        }
+    name_obeys key part d external_id named within h = record {
+      number = named.0;
+      home = home;
+      name = key;
+      part = named.1;
+      there = named.2;
+      behind = subst (λ n. AllOf (λ k. k < 14 + n) d) (tables.shapes.apart within.0 named.0 (named_shape home key) within.1.named named.2) within.1.behind;
+      label = first_true (is_label key) (rules.is_declared Place.here (declaration_of t d)) h;
+      obeys = ap (λ o. rules.is_declared (place_of o) (declaration_of t d)) no_path ∙ second_true (is_label key) (rules.is_declared Place.here (declaration_of t d)) h;
+    }
 
     item_obeys : (resources : List Text) (key : Text) (s : NumberShown) (external_id : Option Text) → IsSeenIn t home (record { key = key; shown = numbered_shown s; external_id = external_id })
-        → NamesShown t home key s
-        → rules.is_item resources key (shown_of t (numbered_shown s)) ≡ true → Hold (showings_of_shown s external_id) (signatures_of_shown s)
+        → NamesShown t home key s → rules.is_item resources key (shown_of t (numbered_shown s)) ≡ true → Hold (showings_of_shown s external_id) (signatures_of_shown s)
     item_obeys resources key (shown.Instance k v) external_id within named h =
         view_obeys (place_of_key (numbered_key k)) (numbered_view v) within.1 (place_of (interface_of (key_of t (numbered_key k)))) (key_place t (numbered_key k) within.0) h
     item_obeys resources key (shown.Function n) external_id within named h = (tt, (call_obeys home n Place.here within (function_signature Place.here resources key (signature_at t n) h), tt))
@@ -233,39 +209,25 @@ module _ (t : Tables) (tables : AreTables t) where
     imports_obey earlier [] within named h = (tt, tt)
     imports_obey earlier (s ∷ ss) within named h =
         let x = seen_of t (numbered_seen s) in
-        let one = rules.is_item (rules.resources_seen earlier) x.key x.shown in
-        let rest = rules.are_imports (earlier ++ x ∷ []) (map (seen_of t) (map numbered_seen ss)) in
         two_held (ShowingIsName t) (SignatureObeys t) (showings_of_seen s) (flat_map showings_of_seen ss) (signatures_of_seen s) (flat_map signatures_of_seen ss)
-        (item_obeys (rules.resources_seen earlier) s.key.now s.shown (given_text s.external_id) within.0 named.0 (first_true one rest h))
-        (imports_obey (earlier ++ x ∷ []) ss within.1 named.1 (second_true one rest h))
+        (item_obeys (rules.resources_seen earlier) s.key.now s.shown (given_text s.external_id) within.0 named.0 (first_true _ _ h))
+        (imports_obey (earlier ++ x ∷ []) ss within.1 named.1 (second_true _ _ h))
 
     exports_obey : (ss : List NumberSeen) → AllByRecursion (IsSeenIn t home) (map numbered_seen ss) → AllByRecursion (NamesSeen t home) ss
         → list_all (λ (s : Seen). rules.is_item [] s.key s.shown) (map (seen_of t) (map numbered_seen ss)) ≡ true → Hold (flat_map showings_of_seen ss) (flat_map signatures_of_seen ss)
     exports_obey [] within named h = (tt, tt)
-    exports_obey (s ∷ ss) within named h =
-        let test = λ (s : Seen). rules.is_item [] s.key s.shown in
-        let one = test (seen_of t (numbered_seen s)) in
-        let rest = list_all test (map (seen_of t) (map numbered_seen ss)) in
-        two_held (ShowingIsName t) (SignatureObeys t) (showings_of_seen s) (flat_map showings_of_seen ss) (signatures_of_seen s) (flat_map signatures_of_seen ss)
-        (item_obeys [] s.key.now s.shown (given_text s.external_id) within.0 named.0 (first_true one rest h)) (exports_obey ss within.1 named.1 (second_true one rest h))
+    exports_obey (s ∷ ss) within named h = two_held (ShowingIsName t) (SignatureObeys t) (showings_of_seen s) (flat_map showings_of_seen ss) (signatures_of_seen s) (flat_map signatures_of_seen ss)
+        (item_obeys [] s.key.now s.shown (given_text s.external_id) within.0 named.0 (first_true _ _ h)) (exports_obey ss within.1 named.1 (second_true _ _ h))
 
   world_obeys : (w : NumberScope) (scope : Scope) → Shows t (numbered_scope w) scope → scopes.ScopeStands scope → rules.is_world scope ≡ true → IsScopeIn t (numbered_scope w)
       → AllByRecursion (NamesSeen t w.home) w.imports.now
       → Hold (flat_map showings_of_seen w.imports.now ++ flat_map showings_of_seen w.exports.now) (flat_map signatures_of_seen w.imports.now ++ flat_map signatures_of_seen w.exports.now)
   world_obeys w scope is stands h within names =
-      let imports = rules.are_imports [] scope.imports in
-      let exports = list_all (λ (s : Seen). rules.is_item [] s.key s.shown) scope.exports in
-      let in_keys = distinct (map (λ (s : Seen). s.key) scope.imports) in
-      let out_keys = distinct (map (λ (s : Seen). s.key) scope.exports) in
-      let earlier = rules.stand_earlier [] (scope.imports ++ scope.exports) in
-      let four = first_true (imports && exports && in_keys && out_keys) earlier h in
-      let three = first_true (imports && exports && in_keys) out_keys four in
-      let two = first_true (imports && exports) in_keys three in
-      let exported = no_names t w.home w.exports.now (subst (AllAt (λ n (s : Seen). scopes.is_type s.shown ≡ false)) is.exports stands.no_types) in
+      let two = first_true _ _ (first_true _ _ (first_true _ _ h)) in
       two_held (ShowingIsName t) (SignatureObeys t) (flat_map showings_of_seen w.imports.now) (flat_map showings_of_seen w.exports.now) (flat_map signatures_of_seen w.imports.now)
-      (flat_map signatures_of_seen w.exports.now)
-      (imports_obey w.home within.home [] w.imports.now within.imports names (ap (rules.are_imports []) (sym is.imports) ∙ first_true imports exports two))
-      (exports_obey w.home within.home w.exports.now within.exports exported (ap (list_all (λ (s : Seen). rules.is_item [] s.key s.shown)) (sym is.exports) ∙ second_true imports exports two))
+      (flat_map signatures_of_seen w.exports.now) (imports_obey w.home within.home [] w.imports.now within.imports names (ap (rules.are_imports []) (sym is.imports) ∙ first_true _ _ two))
+      (exports_obey w.home within.home w.exports.now within.exports (no_names t w.home w.exports.now (subst (AllAt (λ n (s : Seen). scopes.is_type s.shown ≡ false)) is.exports stands.no_types))
+      (ap (list_all (λ (s : Seen). rules.is_item [] s.key s.shown)) (sym is.exports) ∙ second_true _ _ two))
 
   -- ---- members
 
@@ -279,12 +241,9 @@ module _ (t : Tables) (tables : AreTables t) where
       → list_all may_be (map imported (map (λ (i : ℕ × NumberedView). (path_text t i.0, view_of t i.1)) (map numbered_import is))) ≡ true
       → AllByRecursion (ShowingIsName t) (flat_map showings_of_import is)
   views_obey [] within h = tt
-  views_obey (i ∷ is) within h =
-      let one = rules.is_interface (Place.of_interface (path_text t i.place)) (view_of t (numbered_view i.view)) in
-      let rest = list_all may_be (map imported (map (λ (i : ℕ × NumberedView). (path_text t i.0, view_of t i.1)) (map numbered_import is))) in
-      all_both (ShowingIsName t) (showings_of_import i) (flat_map showings_of_import is)
-      (view_obeys i.place (numbered_view i.view) within.0.1 (Place.of_interface (path_text t i.place)) (path_place t i.place within.0.0) (first_true one rest h)).0
-      (views_obey is within.1 (second_true one rest h))
+  views_obey (i ∷ is) within h = all_both (ShowingIsName t) (showings_of_import i) (flat_map showings_of_import is)
+      (view_obeys i.place (numbered_view i.view) within.0.1 (Place.of_interface (path_text t i.place)) (path_place t i.place within.0.0) (first_true _ _ h)).0
+      (views_obey is within.1 (second_true _ _ h))
 
   module _ (h : Homes) (stand : HomesStand t h) (m : Member) (identity : PackageIdentity) (there : slice_get h.packages m.package_number ≡ Some identity) (name : Text)
       (under : name ≡ m.label.now) where
@@ -296,10 +255,8 @@ module _ (t : Tables) (tables : AreTables t) where
         let own : Sight = record { path = path_in identity name; view = view; whole = true } in
         let front = list_all may_be (map imported views) in
         let split : (front && list_all may_be (own ∷ [])) ≡ true = sym (list_all-append may_be (map imported views) (own ∷ [])) ∙ may in
-        let last = first_true (may_be own) true (second_true front (list_all may_be (own ∷ [])) split) in
-        let view_same : rules.is_interface (Place.of_interface (path_in identity name)) (view_of t (numbered_view v)) ≡ true =
-        ap (rules.is_interface (Place.of_interface (path_in identity name))) (sym is.shown) ∙ last in
-        let shown = view_obeys p (numbered_view v) within.0.1 (Place.of_interface (path_in identity name)) (exported_place t h stand m identity there name under p is.path is.home) view_same in (
+        let shown = view_obeys p (numbered_view v) within.0.1 (Place.of_interface (path_in identity name)) (exported_place t h stand m identity there name under p is.path is.home)
+        (ap (rules.is_interface (Place.of_interface (path_in identity name))) (sym is.shown) ∙ (first_true (may_be own) true (second_true front (list_all may_be (own ∷ [])) split))) in (
           all_both (ShowingIsName t) (flat_map showings_of_import imports.now) (showings_of_view (numbered_view v))
               (views_obey imports.now within.1 (ap (λ vs. list_all may_be (map imported vs)) (sym is.imported) ∙ first_true front (list_all may_be (own ∷ [])) split)) shown.0,
           shown.1,
@@ -307,24 +264,20 @@ module _ (t : Tables) (tables : AreTables t) where
     part_obeys _ _ is stands may within names = absurd is
 
   members_obey : (h : Homes) → HomesStand t h → (ms : List Member) (members : List reads.Member) → AllZip (IsMember t h) (numbered_members ms) members
-      → AllByRecursion (λ (x : reads.Member). PartStands x.part) members
-      → list_all may_be (flat_map reads.sights members) ≡ true → AreMembersIn t (numbered_members ms) → AllByRecursion (λ (m : Member). PartNames t m.part) ms
-      → Hold (showings_of_members ms) (signatures_of_members ms)
+      → AllByRecursion (λ (x : reads.Member). PartStands x.part) members → list_all may_be (flat_map reads.sights members) ≡ true → AreMembersIn t (numbered_members ms)
+      → AllByRecursion (λ (m : Member). PartNames t m.part) ms → Hold (showings_of_members ms) (signatures_of_members ms)
   members_obey h stand (m ∷ ms) [] zip stands may within names = absurd zip
   members_obey h stand (m ∷ ms) (x ∷ members) zip stands may within names =
-      let first = list_all may_be (reads.sights x) in
-      let rest = list_all may_be (flat_map reads.sights members) in
-      let split : (first && rest) ≡ true = sym (list_all-append may_be (reads.sights x) (flat_map reads.sights members)) ∙ may in
+      let split = sym (list_all-append may_be (reads.sights x) (flat_map reads.sights members)) ∙ may in
       two_held (ShowingIsName t) (SignatureObeys t) (showings_of_part m.part) (showings_of_members ms) (signatures_of_part m.part) (signatures_of_members ms)
-      (part_obeys h stand m x.package_ zip.0.package_ x.label zip.0.label m.part x.part zip.0.part stands.0 (first_true first rest split) within.0 names.0)
-      (members_obey h stand ms members zip.1 stands.1 (second_true first rest split) within.1 names.1)
+      (part_obeys h stand m x.package_ zip.0.package_ x.label zip.0.label m.part x.part zip.0.part stands.0 (first_true _ _ split) within.0 names.0)
+      (members_obey h stand ms members zip.1 stands.1 (second_true _ _ split) within.1 names.1)
   members_obey h stand _ _ zip stands may within names = (tt, tt)
 
   -- ---- what follows for each name
 
   name_is_shown : (s : NumberedShowing) → ShowingIsName t s → ShowingObeys t s
-  name_is_shown s is =
-      search (std_rules, name_there t s.part is.number is.home is.name is.part is.there, slice_get_within t.shapes is.number (named_shape is.home is.name) is.there)
+  name_is_shown s is = search (std_rules, name_there t s.part is.number is.home is.name is.part is.there, slice_get_within t.shapes is.number (named_shape is.home is.name) is.there)
 
 pub shown_obeys : ShownObeysRules
 shown_obeys t tables h stand ms members zip stands may within names = search (std_rules, members_obey, recursion_weaker, name_is_shown)
@@ -336,9 +289,8 @@ names_obey t tables showings are find finds p owners marks homes n q name s mark
     let number : is.number ≡ n = omega (arith, is.part, shown.1) in
     let same : named_shape is.home is.name ≡ named_shape q name = same-some (named_shape is.home is.name) (named_shape q name) (sym is.there ∙ (ap (slice_get t.shapes) number ∙ there)) in
     let home : is.home ≡ q = ap (λ (x : Shape). x.number) same in
-    let called : is.name ≡ name = ap (λ (x : Shape). first_label x.labels) same in
     record {
-      label = subst (λ x. is_label x ≡ true) called is.label;
+      label = subst (λ x. is_label x ≡ true) (ap (λ (x : Shape). first_label x.labels) same) is.label;
       behind = subst (λ m. AllOf (λ k. k < 14 + m) s.declared) number is.behind;
       obeys = subst (λ x. rules.is_declared (place_at t x) (declaration_of t s.declared) ≡ true) home is.obeys;
       home = homes n q name mark there;

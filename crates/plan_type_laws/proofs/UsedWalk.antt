@@ -5,8 +5,7 @@ use Rattle.std.proofs.lemmas.List.Folds.{list_any-append}
 use Rattle.std.specs.List.{AllByRecursion, Contains, flat_map}
 use Rattle.wit_model.specs.{Text.Text, Tree.Form, Uses.has}
 use Rattle.wit_model.proofs.Elements.{contains-has}
-use Rattle.plan_meaning.specs.NumberedRules.{name_in}
-use Rattle.plan_meaning.specs.{NumberedViews.AreTables, NumberedViews.Tables, Shapes.Shape, Shapes.IsShape, Shapes.node_shape}
+use Rattle.plan_meaning.specs.{NumberedRules.name_in, NumberedViews.AreTables, NumberedViews.Tables, Shapes.Shape, Shapes.IsShape, Shapes.node_shape}
 use Rattle.plan_parts.specs.Marks.{IsUsed, is_marked, marked, part}
 use Rattle.plan_types.specs.{Showings.NumberedShowing, Used.function_parts, Used.showing_parts, Used.used_parts, Used.AreUsed}
 
@@ -38,11 +37,10 @@ no_parts n s x is y = search std_rules
 -- ---- what is used
 
 module _ (t : Tables) (tables : AreTables t) (Fine : ℕ → Type 0) (inner : (n : ℕ) (s : Shape) → slice_get t.shapes n ≡ Some s → name_in s ≡ None → Fine (14 + n) → (k : ℕ)
-    → has s.parts k ≡ true → Fine k)
-    (showings : List NumberedShowing) (signatures : List ℕ) (shown : (n : ℕ) (s : Shape) → slice_get t.shapes n ≡ Some s → name_in s ≡ None → has (flat_map (showing_parts t) showings) (14 + n) ≡ true
-    → Fine (14 + n))
-    (called : (n : ℕ) (s : Shape) → slice_get t.shapes n ≡ Some s → name_in s ≡ None → has (flat_map (function_parts t) signatures) (14 + n) ≡ true → Fine (14 + n))
-    (marks : List Bool) (used : AreUsed t (used_parts t showings signatures) marks) where
+    → has s.parts k ≡ true → Fine k) (showings : List NumberedShowing) (signatures : List ℕ)
+    (shown : (n : ℕ) (s : Shape) → slice_get t.shapes n ≡ Some s → name_in s ≡ None → has (flat_map (showing_parts t) showings) (14 + n) ≡ true → Fine (14 + n))
+    (called : (n : ℕ) (s : Shape) → slice_get t.shapes n ≡ Some s → name_in s ≡ None → has (flat_map (function_parts t) signatures) (14 + n) ≡ true → Fine (14 + n)) (marks : List Bool)
+    (used : AreUsed t (used_parts t showings signatures) marks) where
   part_fine : (m k : ℕ) (ks : List ℕ) → ((r : Shape) → slice_get t.shapes m ≡ Some r → name_in r ≡ None → Fine (14 + m)) → slice_get (map (λ (s : Shape). s.parts) t.shapes) m ≡ Some ks
       → Contains ks (14 + k) → Fine (14 + k)
   part_fine m k ks whole parts there = by (slice_get t.shapes m) refl (sym (get_of_map (λ (s : Shape). s.parts) t.shapes m) ∙ parts)
@@ -56,8 +54,7 @@ module _ (t : Tables) (tables : AreTables t) (Fine : ℕ → Type 0) (inner : (n
       by (Some r) e f = later r e (ap (λ l. has l (14 + k)) (same-some r.parts ks f) ∙ contains-has ks (14 + k) there) (name_in r) refl
 
   by_use : (n : ℕ) → IsUsed (map (λ (s : Shape). s.parts) t.shapes) used.roots n → (s : Shape) → slice_get t.shapes n ≡ Some s → name_in s ≡ None → Fine (14 + n)
-  by_use n (marked m is) s at no_name =
-      in_both (flat_map (showing_parts t) showings) (flat_map (function_parts t) signatures) (14 + m) (shown m s at no_name) (called m s at no_name)
+  by_use n (marked m is) s at no_name = in_both (flat_map (showing_parts t) showings) (flat_map (function_parts t) signatures) (14 + m) (shown m s at no_name) (called m s at no_name)
       (sym (used.shown m (slice_get_within t.shapes m s at)) ∙ is)
   by_use n (part m k ks before parts there) s at no_name = part_fine m k ks (by_use m before) parts there
 

@@ -1,12 +1,12 @@
 -- What is printed of a declared type is read as it.
-use Rattle.std.proofs.Common.{◌≡◌, refl, ap, ◌∙◌, ℕ, ◌+◌, ◌-◌, Bool, true, false, ◌&&◌, nat_lt, length, List, [], ◌∷◌, ◌++◌, append-nil, append_assoc, codes, Option, Some, None, map}
+use Rattle.std.proofs.Common.{◌≡◌, refl, ℕ, ◌+◌, ◌-◌, Bool, true, false, ◌&&◌, nat_lt, length, List, [], ◌∷◌, ◌++◌, append-nil, append_assoc, codes, Option, Some, None, map}
 use Rattle.std.specs.{List.list_all, List.flat_map, Prelude.option_map}
 use Rattle.wit_model.specs.{Names.is_label, Names.begins_with_letter, Rules.passes}
 use Rattle.print_grammar.specs.{Keyword.Keyword as WordKey, Keyword.escaped, Token.Token.Punctuation, Token.Token.Key, Token.Token, Token.spelled, Tree.ResourceMember.Constructor, Tree.ResourceMember.Method, Tree.ResourceMember.Static}
-use Rattle.print_grammar.specs.Calls.{type_calls, params_calls, alias_body_calls, alias_kind, payload_calls, field_calls, case_calls, label_calls, resource_member_calls, declared_calls, block_calls, prefix_calls, signature_calls, doc_calls, space as space_call}
-use Rattle.print_grammar.specs.Token.Mark.{Comma, Colon, Semi, Equals, OpenBrace, CloseBrace, OpenParen}
+use Rattle.print_grammar.specs.Calls.{alias_body_calls, alias_kind, payload_calls, field_calls, case_calls, label_calls, resource_member_calls, declared_calls, block_calls, prefix_calls, signature_calls, doc_calls}
+use Rattle.print_grammar.specs.Token.Mark.{Comma, Colon, Semi, OpenBrace, CloseBrace}
 use Rattle.print_grammar.specs.Tree.{TypeTree, Prefix, FieldTree, CaseTree, LabelTree, SignatureTree, ResourceMember, Declared}
-use Rattle.print_grammar.specs.Tree.TypeTree.{PrimitiveType, Name, Handle, Own, Borrow, TupleOf, OptionOf, ListOf, FixedListOf, MapOf, Result, ResultOk, ResultErr, ResultOf, Future, FutureOf, Stream, StreamOf}
+use Rattle.print_grammar.specs.Tree.TypeTree.{ListOf, FixedListOf, MapOf, Future, FutureOf, Stream, StreamOf}
 use Rattle.print_grammar.specs.Tree.Declared.{RecordOf, VariantOf, FlagsOf, EnumOf, AliasOf, ResourceOf}
 use Rattle.print_grammar.specs.AsRead.{type_as_read, bare_prefix, bare_field, bare_case, bare_label, bare_signature, bare_resource_member, bare_declared}
 use Rattle.print_grammar.specs.Grammar.{ReadsSignature, ReadsType, ReadsField, ReadsCase, ReadsLabel, ReadsResourceMember, ReadsDeclared, ReadsPrefix, Listed, Repeated, Listed.last_with_comma, Listed.next, Repeated.closed, Repeated.again}
@@ -15,9 +15,9 @@ use Rattle.print_output.specs.OutputCall.{OutputCall, is_one_line}
 use Rattle.print_output.specs.OutputCall.OutputCall.{Keyword, Ty, Param, Case, Str, Semicolon, IndentStart, IndentEnd, Newline}
 use Rattle.print_output.specs.declared.type_kind.TypeKind.{TypeKind}
 use Rattle.print_grammar.proofs.{TokenFacts.id_token, TokenFacts.id_is, PrefixReads.docs_read, PrefixReads.prefix_reads}
-use Rattle.print_grammar.proofs.Printing.{Follows, Printed, Ended, relist, three_lists, word_call, id_call, line_begins, semicolon_call, paren_call, comma, space, line_feed, equals, open_brace, close_brace, open_paren}
+use Rattle.print_grammar.proofs.Printing.{Follows, Printed, Ended, relist, word_call, id_call, line_begins, semicolon_call, greater_call, comma_call, open_call, equals_call, paren_call, space, line_feed, mark}
 use Rattle.print_grammar.proofs.Printing.Prints.{by_keyword, by_type, by_param, by_case, by_str}
-use Rattle.print_grammar.proofs.TypeTokens.{type_reads, angled, angled_two, angled_length, word_reads}
+use Rattle.print_grammar.proofs.TypeTokens.{type_reads, opened, length_call, word_reads}
 use Rattle.print_grammar.proofs.SignatureReads.{colon_call, space_before, arguments_reads, arguments_end, signature_reads}
 use Rattle.base_lemmas.proofs.Bools.{left_of, right_of}
 use Rattle.print_output.specs.declared.type_kind.TypeKind.TheVariants as kind
@@ -26,53 +26,43 @@ use Rattle.print_output.specs.declared.type_kind.TypeKind.TheVariants as kind
 
 pub alias_body_reads : (ty : TypeTree) → is_well_type ty ≡ true → {more : List OutputCall} {ts : List Token} → Ended more ts
     → Printed false (alias_body_calls ty ++ more) (λ before. ReadsType before (type_as_read ty) ts)
-alias_body_reads (ListOf ty) h e = angled (type_calls ty) WordKey.List_ by_type refl refl by_str by_str e (λ f. type_reads ty h f) (λ b r. ReadsType.list r)
-alias_body_reads (FixedListOf ty n) h e = angled_length (type_calls ty) n WordKey.List_ by_type refl refl by_str by_str by_str (right_of (is_well_type ty) _ h) e (λ f. type_reads ty (left_of _ _ h) f)
-    (λ b r. ReadsType.fixed_list r)
+alias_body_reads (ListOf ty) h e = let i = type_reads ty h (greater_call by_str e.follows) in simp append_assoc (_, opened WordKey.List_ by_type refl refl by_str i.1, ReadsType.list i.2)
+alias_body_reads (FixedListOf ty n) h e =
+    let i = type_reads ty (left_of _ _ h) (length_call n (right_of (is_well_type ty) _ h) by_str by_str (greater_call by_str e.follows)) in
+    simp append_assoc (_, opened WordKey.List_ by_type refl refl by_str i.1, ReadsType.fixed_list i.2)
 alias_body_reads (MapOf key value) h e =
-    angled_two (type_calls key) (type_calls value) {P = λ after before. ReadsType before (type_as_read key) after} WordKey.Map by_type refl refl by_str by_str e
-    (λ rest after f. type_reads key (left_of _ _ h) f) (λ f. type_reads value (right_of (is_well_type key) _ h) f) (λ b c r s. ReadsType.map r s)
-alias_body_reads Future h {ts = ts} e = word_reads WordKey.Future by_type refl refl e ReadsType.future
-alias_body_reads (FutureOf ty) h e = angled (type_calls ty) WordKey.Future by_type refl refl by_str by_str e (λ f. type_reads ty h f) (λ b r. ReadsType.future_of r)
-alias_body_reads Stream h {ts = ts} e = word_reads WordKey.Stream by_type refl refl e ReadsType.stream
-alias_body_reads (StreamOf ty) h e = angled (type_calls ty) WordKey.Stream by_type refl refl by_str by_str e (λ f. type_reads ty h f) (λ b r. ReadsType.stream_of r)
-alias_body_reads (PrimitiveType p) h e = type_reads (PrimitiveType p) h e
-alias_body_reads (Name name) h e = type_reads (Name name) h e
-alias_body_reads (Handle resource) h e = type_reads (Handle resource) h e
-alias_body_reads (Own resource) h e = type_reads (Own resource) h e
-alias_body_reads (Borrow resource) h e = type_reads (Borrow resource) h e
-alias_body_reads (TupleOf types) h e = type_reads (TupleOf types) h e
-alias_body_reads (OptionOf ty) h e = type_reads (OptionOf ty) h e
-alias_body_reads Result h e = type_reads Result h e
-alias_body_reads (ResultOk ok) h e = type_reads (ResultOk ok) h e
-alias_body_reads (ResultErr err) h e = type_reads (ResultErr err) h e
-alias_body_reads (ResultOf ok err) h e = type_reads (ResultOf ok err) h e
+    let v = type_reads value (right_of (is_well_type key) _ h) (greater_call by_str e.follows) in
+    let i = type_reads key (left_of _ _ h) (comma_call v.1) in simp append_assoc (_, opened WordKey.Map by_type refl refl by_str i.1, ReadsType.map i.2 v.2)
+alias_body_reads Future h e = word_reads WordKey.Future by_type refl refl e ReadsType.future
+alias_body_reads (FutureOf ty) h e = let i = type_reads ty h (greater_call by_str e.follows) in simp append_assoc (_, opened WordKey.Future by_type refl refl by_str i.1, ReadsType.future_of i.2)
+alias_body_reads Stream h e = word_reads WordKey.Stream by_type refl refl e ReadsType.stream
+alias_body_reads (StreamOf ty) h e = let i = type_reads ty h (greater_call by_str e.follows) in simp append_assoc (_, opened WordKey.Stream by_type refl refl by_str i.1, ReadsType.stream_of i.2)
+alias_body_reads ty h e = type_reads ty h e
 
 -- ---- blocks
 
 -- a block's end
 pub end_call : {more : List OutputCall} {ts : List Token} → Follows true more ts → Follows true (IndentEnd ∷ more) (Punctuation CloseBrace ∷ ts)
-end_call f = line_begins IndentEnd refl (record { at = λ level. close_brace (line_feed (f.at (level - 1))) })
+end_call f = line_begins IndentEnd refl (record { at = λ level. mark CloseBrace refl (line_feed (f.at (level - 1))) })
 
 -- a block's start
 pub start_call : {more : List OutputCall} {ts : List Token} → Follows true more ts → Follows false (IndentStart ∷ more) (Punctuation OpenBrace ∷ ts)
-start_call f = record { at = λ level. space (open_brace (line_feed (f.at (level + 1)))) }
+start_call f = record { at = λ level. space (mark OpenBrace refl (line_feed (f.at (level + 1)))) }
 
 -- an entry's end: a comma and a line's end
 comma_line : {more : List OutputCall} {ts : List Token} → Follows true more ts → Ended (Str (codes ",") ∷ Newline ∷ more) (Punctuation Comma ∷ ts)
-comma_line f = record { follows = record { at = λ level. comma (line_feed (f.at level)) }; word = λ level. refl }
+comma_line f = record { follows = record { at = λ level. mark Comma refl (line_feed (f.at level)) }; word = λ level. refl }
 
 -- a word, a name and a block
 pub block_reads : {word : List ℕ} (k : WordKey) (name : List ℕ) (of_kind : TypeKind) (body more : List OutputCall) {P Q : List Token → Type 0} → begins_with_letter word ≡ true
     → spelled word ≡ Some (Key k) → is_label name ≡ true
     → Printed true (body ++ (IndentEnd ∷ more)) P → ((tokens : List Token) → P tokens → Q (Key k ∷ id_token name ∷ Punctuation OpenBrace ∷ tokens))
     → Printed true (block_calls word name of_kind body ++ more) Q
-block_reads {word} k name of_kind body more letter s h inside make =
-    relist (ap (λ x. Keyword word ∷ space_call ∷ Ty (escaped name) of_kind ∷ IndentStart ∷ x) (append_assoc body (IndentEnd ∷ []) more)) (
-      Key k ∷ id_token name ∷ Punctuation OpenBrace ∷ inside.0,
-      line_begins (Keyword word) refl (word_call (Key k) by_keyword letter s (λ level. refl) (space_before (id_call name by_type h (λ level. refl) (start_call inside.1)))),
-      make inside.0 inside.2,
-    )
+block_reads {word} k name of_kind body more letter s h inside make = relist (
+  _,
+  line_begins (Keyword word) refl (word_call (Key k) by_keyword letter s (λ level. refl) (space_before (id_call name (by_type {kind = of_kind}) h (λ level. refl) (start_call inside.1)))),
+  make inside.0 inside.2,
+) (simp append_assoc)
 
 -- What is printed of entries, each with a comma and a line's end, is read as them.
 pub lines_read : {X : Type 0} (calls : X → List OutputCall) (well : X → Bool) (read : X → X) (Reads : List Token → X → List Token → Type 0)
@@ -84,13 +74,8 @@ lines_read {X} calls well read Reads each (x ∷ xs) h {more} {after} f = go x x
   where
     go : (y : X) (ys : List X) → list_all well (y ∷ ys) ≡ true
         → Printed true (flat_map calls (y ∷ ys) ++ (IndentEnd ∷ more)) (λ before. Listed Reads (Punctuation CloseBrace) before (map read (y ∷ ys)) after)
-    go y [] g =
-        let i = each y (left_of _ _ g) (IndentEnd ∷ more) (Punctuation CloseBrace ∷ after) (end_call f) in
-        relist (ap (λ x. x ++ (IndentEnd ∷ more)) (append-nil (calls y))) (i.0, i.1, last_with_comma i.2)
-    go y (z ∷ zs) g =
-        let r = go z zs (right_of (well y) _ g) in
-        let i = each y (left_of _ _ g) (flat_map calls (z ∷ zs) ++ (IndentEnd ∷ more)) r.0 r.1 in
-        relist (append_assoc (calls y) (flat_map calls (z ∷ zs)) (IndentEnd ∷ more)) (i.0, i.1, next i.2 r.2)
+    go y [] g = let i = each y (left_of _ _ g) _ _ (end_call f) in simp append-nil (i.0, i.1, last_with_comma i.2)
+    go y (z ∷ zs) g = let r = go z zs (right_of (well y) _ g) in let i = each y (left_of _ _ g) _ _ r.1 in relist (i.0, i.1, next i.2 r.2) (simp append_assoc)
 
 -- What is printed of members is read as them.
 pub members_repeat : {X : Type 0} (calls : X → List OutputCall) (well : X → Bool) (read : X → X) (Reads : List Token → X → List Token → Type 0)
@@ -98,10 +83,9 @@ pub members_repeat : {X : Type 0} (calls : X → List OutputCall) (well : X → 
     → (xs : List X) → list_all well xs ≡ true → {more : List OutputCall} {after : List Token} → Follows true more after
     → Printed true (flat_map calls xs ++ (IndentEnd ∷ more)) (λ before. Repeated Reads (Punctuation CloseBrace) before (map read xs) after)
 members_repeat calls well read Reads each [] h {after = after} f = (Punctuation CloseBrace ∷ after, end_call f, closed)
-members_repeat calls well read Reads each (x ∷ xs) h {more} f =
+members_repeat calls well read Reads each (x ∷ xs) h f =
     let r = members_repeat calls well read Reads each xs (right_of (well x) _ h) f in
-    let i = each x (left_of _ _ h) (flat_map calls xs ++ (IndentEnd ∷ more)) r.0 r.1 in
-    relist (append_assoc (calls x) (flat_map calls xs) (IndentEnd ∷ more)) (i.0, i.1, again i.2 r.2)
+    let i = each x (left_of _ _ h) _ _ r.1 in relist (i.0, i.1, again i.2 r.2) (simp append_assoc)
 
 -- ---- entries
 
@@ -112,9 +96,7 @@ module _ (emits_docs : Bool) where
       let named = right_of (list_all is_one_line x.docs) _ h in
       let i = type_reads x.ty (right_of (is_label x.name) _ named) (comma_line f) in
       let line = id_call x.name (by_param {text = escaped x.name}) (left_of _ _ named) (λ level. refl) (colon_call i.1) in
-      relist (append_assoc (doc_calls emits_docs x.docs) (Param (escaped x.name) ∷ Str (codes ": ") ∷ (type_calls x.ty ++ (Str (codes ",") ∷ Newline ∷ []))) more
-      ∙ ap (λ y. doc_calls emits_docs x.docs ++ (Param (escaped x.name) ∷ Str (codes ": ") ∷ y)) (append_assoc (type_calls x.ty) (Str (codes ",") ∷ Newline ∷ []) more))
-      (id_token x.name ∷ Punctuation Colon ∷ i.0, docs_read emits_docs x.docs (left_of _ _ h) (line_begins (Param (escaped x.name)) refl line), ReadsField.field (id_is x.name) i.2)
+      relist (_, docs_read emits_docs x.docs (left_of _ _ h) (line_begins (Param (escaped x.name)) refl line), ReadsField.field (id_is x.name) i.2) (simp append_assoc)
 
   case_reads : (x : CaseTree) → is_well_case x ≡ true → (more : List OutputCall) (ts : List Token) → Follows true more ts
       → Printed true (case_calls emits_docs x ++ more) (λ before. ReadsCase before (bare_case type_as_read x) (Punctuation Comma ∷ ts))
@@ -129,25 +111,18 @@ module _ (emits_docs : Bool) where
       go None g =
           let e = comma_line f in
           let line = id_call x.name (by_case {text = escaped x.name}) (left_of _ _ named) e.word e.follows in
-          relist (append_assoc (doc_calls emits_docs x.docs) (Case (escaped x.name) ∷ Str (codes ",") ∷ Newline ∷ []) more)
-          (id_token x.name ∷ Punctuation Comma ∷ ts, docs_read emits_docs x.docs (left_of _ _ h) (line_begins (Case (escaped x.name)) refl line), ReadsCase.case_alone (id_is x.name))
+          relist (_, docs_read emits_docs x.docs (left_of _ _ h) (line_begins (Case (escaped x.name)) refl line), ReadsCase.case_alone (id_is x.name)) (simp append_assoc)
       go (Some ty) g =
-          let e = comma_line f in
-          let i = type_reads ty g (paren_call e.follows) in
-          let inside : Follows false (Str (codes "(") ∷ (type_calls ty ++ (Str (codes ")") ∷ Str (codes ",") ∷ Newline ∷ more))) (Punctuation OpenParen ∷ i.0) =
-          record { at = λ level. open_paren (i.1.at level) } in
-          let line = id_call x.name (by_case {text = escaped x.name}) (left_of _ _ named) (λ level. refl) inside in
-          relist (append_assoc (doc_calls emits_docs x.docs) (Case (escaped x.name) ∷ (payload_calls (Some ty) ++ (Str (codes ",") ∷ Newline ∷ []))) more
-          ∙ ap (λ y. doc_calls emits_docs x.docs ++ (Case (escaped x.name) ∷ Str (codes "(") ∷ y)) (three_lists (type_calls ty) (Str (codes ")") ∷ []) (Str (codes ",") ∷ Newline ∷ []) more))
-          (id_token x.name ∷ Punctuation OpenParen ∷ i.0, docs_read emits_docs x.docs (left_of _ _ h) (line_begins (Case (escaped x.name)) refl line), ReadsCase.case_of (id_is x.name) i.2)
+          let i = type_reads ty g (paren_call (comma_line f).follows) in
+          let line = id_call x.name (by_case {text = escaped x.name}) (left_of _ _ named) (λ level. refl) (open_call i.1) in
+          relist (_, docs_read emits_docs x.docs (left_of _ _ h) (line_begins (Case (escaped x.name)) refl line), ReadsCase.case_of (id_is x.name) i.2) (simp append_assoc)
 
   label_reads : (x : LabelTree) → is_well_label x ≡ true → (more : List OutputCall) (ts : List Token) → Follows true more ts
       → Printed true (label_calls emits_docs x ++ more) (λ before. ReadsLabel before (bare_label type_as_read x) (Punctuation Comma ∷ ts))
   label_reads x h more ts f =
       let e = comma_line f in
       let line = id_call x.name (by_case {text = escaped x.name}) (right_of (list_all is_one_line x.docs) _ h) e.word e.follows in
-      relist (append_assoc (doc_calls emits_docs x.docs) (Case (escaped x.name) ∷ Str (codes ",") ∷ Newline ∷ []) more)
-      (id_token x.name ∷ Punctuation Comma ∷ ts, docs_read emits_docs x.docs (left_of _ _ h) (line_begins (Case (escaped x.name)) refl line), ReadsLabel.label (id_is x.name))
+      relist (_, docs_read emits_docs x.docs (left_of _ _ h) (line_begins (Case (escaped x.name)) refl line), ReadsLabel.label (id_is x.name)) (simp append_assoc)
 
   -- ---- functions of resources
 
@@ -164,9 +139,7 @@ module _ (emits_docs : Bool) where
       let i = signature_reads s (right_of (is_label name) _ g) (semicolon_call f) in
       let line = line_begins (Ty (escaped name) of_kind) refl (id_call name by_type (left_of _ _ g) (λ level. refl) (colon_call i.1)) in
       let p = prefix_reads emits_docs prefix (left_of _ _ h) line in
-      relist (append_assoc (prefix_calls emits_docs prefix) (Ty (escaped name) of_kind ∷ Str (codes ": ") ∷ (signature_calls s ++ (Semicolon ∷ []))) more
-      ∙ ap (λ y. prefix_calls emits_docs prefix ++ (Ty (escaped name) of_kind ∷ Str (codes ": ") ∷ y)) (append_assoc (signature_calls s) (Semicolon ∷ []) more))
-      (p.0, p.1, (i.0, p.2, i.2))
+      relist (p.0, p.1, (i.0, p.2, i.2)) (simp append_assoc)
 
   resource_member_reads : (x : ResourceMember) → is_well_resource_member x ≡ true → (more : List OutputCall) (ts : List Token) → Follows true more ts
       → Printed true (resource_member_calls emits_docs x ++ more) (λ before. ReadsResourceMember before (bare_resource_member type_as_read x) ts)
@@ -175,24 +148,17 @@ module _ (emits_docs : Bool) where
       let i = arguments_reads params result (left_of _ _ g) (right_of (list_all is_well_param params) _ g) (semicolon_call f) in
       let line = line_begins (Keyword (codes "constructor")) refl (word_call (Key WordKey.Constructor) by_keyword refl refl (arguments_end params result (Semicolon ∷ more)) i.1) in
       let p = prefix_reads emits_docs prefix (left_of _ _ h) line in
-      relist (append_assoc (prefix_calls emits_docs prefix) (Keyword (codes "constructor") ∷ (params_calls params result ++ (Semicolon ∷ []))) more
-      ∙ ap (λ y. prefix_calls emits_docs prefix ++ (Keyword (codes "constructor") ∷ y)) (append_assoc (params_calls params result) (Semicolon ∷ []) more))
-      (p.0, p.1, ReadsResourceMember.constructor_ p.2 i.2.1 i.2.2)
+      relist (p.0, p.1, ReadsResourceMember.constructor_ p.2 i.2.1 i.2.2) (simp append_assoc)
   resource_member_reads (Method prefix name s) h more ts f =
       let i = function_reads prefix name kind.FunctionMethod s h more ts f in
       (i.0, i.1, ReadsResourceMember.method i.2.1 (id_is name) i.2.2)
   resource_member_reads (Static prefix name s) h more ts f =
       let g = right_of (is_well_prefix prefix) _ h in
       let i = signature_reads s (right_of (is_label name) _ g) (semicolon_call f) in
-      let static : Follows false (Keyword (codes "static") ∷ space_call ∷ (signature_calls s ++ (Semicolon ∷ more))) (Key WordKey.Static ∷ i.0) =
-      word_call (Key WordKey.Static) by_keyword refl refl (λ level. refl) (space_before i.1) in
+      let static = word_call (Key WordKey.Static) (by_keyword {text = codes "static"}) refl refl (λ level. refl) (space_before i.1) in
       let line = line_begins (Ty (escaped name) kind.FunctionStatic) refl (id_call name by_type (left_of _ _ g) (λ level. refl) (colon_call static)) in
       let p = prefix_reads emits_docs prefix (left_of _ _ h) line in
-      relist (append_assoc (prefix_calls emits_docs prefix) (Ty (escaped name) kind.FunctionStatic ∷ Str (codes ": ") ∷ Keyword (codes "static") ∷ space_call
-      ∷ (signature_calls s ++ (Semicolon ∷ []))) more
-      ∙ ap (λ y. prefix_calls emits_docs prefix ++ (Ty (escaped name) kind.FunctionStatic ∷ Str (codes ": ") ∷ Keyword (codes "static") ∷ space_call ∷ y))
-      (append_assoc (signature_calls s) (Semicolon ∷ []) more))
-      (p.0, p.1, ReadsResourceMember.static p.2 (id_is name) i.2)
+      relist (p.0, p.1, ReadsResourceMember.static p.2 (id_is name) i.2) (simp append_assoc)
 
   -- ---- declarations
 
@@ -211,13 +177,12 @@ module _ (emits_docs : Bool) where
   )
   resource_reads name (m ∷ ms) h g more ts f =
       let i = members_repeat (resource_member_calls emits_docs) is_well_resource_member (bare_resource_member type_as_read) ReadsResourceMember resource_member_reads (m ∷ ms) g f in
-      relist (ap (λ y. Ty (codes "resource") kind.BuiltIn ∷ space_call ∷ Ty (escaped name) kind.Resource ∷ IndentStart ∷ y)
-      (append_assoc (flat_map (resource_member_calls emits_docs) (m ∷ ms)) (IndentEnd ∷ []) more)) (
-        Key WordKey.Resource ∷ id_token name ∷ Punctuation OpenBrace ∷ i.0,
+      relist (
+        _,
         line_begins (Ty (codes "resource") kind.BuiltIn) refl (word_call (Key WordKey.Resource) by_type refl refl (λ level. refl)
-            (space_before (id_call name by_type h (λ level. refl) (start_call i.1)))),
+            (space_before (id_call name (by_type {kind = kind.Resource}) h (λ level. refl) (start_call i.1)))),
         ReadsDeclared.resource_with (id_is name) i.2,
-      )
+      ) (simp append_assoc)
 
   -- What is printed of a declared type is read as it.
   pub declared_reads : (d : Declared) → is_well_declared d ≡ true → (more : List OutputCall) (ts : List Token) → Follows true more ts
@@ -240,10 +205,10 @@ module _ (emits_docs : Bool) where
       (λ b r. ReadsDeclared.enum (id_is name) r)
   declared_reads (AliasOf name ty) h more ts f =
       let i = alias_body_reads ty (right_of (is_label name) _ h) (semicolon_call f) in
-      let body : Follows false (Str (codes " = ") ∷ (alias_body_calls ty ++ (Semicolon ∷ more))) (Punctuation Equals ∷ i.0) = record { at = λ level. space (equals (space (i.1.at level))) } in
-      relist (ap (λ y. Keyword (codes "type") ∷ space_call ∷ Ty (escaped name) (alias_kind ty) ∷ Str (codes " = ") ∷ y) (append_assoc (alias_body_calls ty) (Semicolon ∷ []) more)) (
-        Key WordKey.Type_ ∷ id_token name ∷ Punctuation Equals ∷ i.0,
-        line_begins (Keyword (codes "type")) refl (word_call (Key WordKey.Type_) by_keyword refl refl (λ level. refl) (space_before (id_call name by_type (left_of _ _ h) (λ level. refl) body))),
+      relist (
+        _,
+        line_begins (Keyword (codes "type")) refl (word_call (Key WordKey.Type_) by_keyword refl refl (λ level. refl)
+            (space_before (id_call name (by_type {kind = alias_kind ty}) (left_of _ _ h) (λ level. refl) (equals_call i.1)))),
         ReadsDeclared.alias (id_is name) i.2,
-      )
+      ) (simp append_assoc)
   declared_reads (ResourceOf name members) h more ts f = resource_reads name members (left_of _ _ h) (right_of (is_label name) _ h) more ts f

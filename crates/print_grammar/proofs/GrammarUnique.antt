@@ -1,52 +1,38 @@
 -- A list of tokens is at most one file, and a text at most one.
-use Rattle.std.proofs.Common.{rules as std_rules, ◌≡◌, List, ℕ, refl, subst, [], ◌∷◌, ap, sym, Bool, true, false}
+use Rattle.std.proofs.Common.{rules as std_rules, ◌≡◌, List, ℕ, refl, subst, [], ◌∷◌, ap, sym, ◌∙◌, Bool, true, false}
 use Rattle.print_grammar.specs.{Token.Token, Token.Tokens, Token.Front, Token.Mark, Grammar.ReadsUse.use_names, Grammar.ReadsPath.full}
-use Rattle.print_grammar.specs.{Token.Front.Ended, Token.Front.Skipped, Token.Front.Found, Grammar.ReadsSignature.func}
-use Rattle.print_grammar.specs.Token.{Tokens.no_tokens, Tokens.skip, Tokens.token, Mark.Colon, Mark.Semi, Mark.OpenBrace, Mark.CloseBrace}
+use Rattle.print_grammar.specs.{Token.Front.Ended, Token.Front.Skipped, Token.Front.Found, Token.Front.Unknown, Token.front_of_text, Grammar.ReadsSignature.func, Grammar.ReadsSignature.async_func}
+use Rattle.print_grammar.specs.Token.{Tokens.no_tokens, Tokens.skip, Tokens.token, Mark.CloseBrace}
 use Rattle.print_grammar.specs.{Keyword.Keyword, Grammar.ReadsFile.file}
 use Rattle.print_grammar.specs.{Token.Token.Punctuation, Token.Token.Key, Grammar.ReadsNested.nested_package, Reading.IsReading, Reading.OneReading}
 use Rattle.print_grammar.specs.Grammar.{ReadsItem.interface_item, ReadsItem.world_item, ReadsHead.head, ReadsAllNested.nested_end, ReadsAllNested.next_nested}
 use Rattle.print_grammar.specs.Tree.{SignatureTree, PathTree, UsedName, Declared, ExternTree, ItemTree, PackageHead, PackageTree, FileTree}
-use Rattle.print_grammar.specs.Grammar.{IsId, Repeated, ReadsPath, ReadsUse, ReadsDeclared, ReadsSignature, ReadsMember, ReadsExtern, ReadsWorldMember, ReadsItem, ReadsItems, ReadsHead, ReadsNested, ReadsAllNested, ReadsFile}
+use Rattle.print_grammar.specs.Grammar.{IsId, ReadsPath, ReadsUse, ReadsDeclared, ReadsSignature, ReadsMember, ReadsExtern, ReadsWorldMember, ReadsItem, ReadsItems, ReadsHead, ReadsNested, ReadsAllNested, ReadsFile}
 use Rattle.print_grammar.specs.Grammar.{ReadsMember.member_use, ReadsMember.member_type, ReadsMember.member_function, ReadsItems.no_items, ReadsItems.next_item}
 use Rattle.print_grammar.specs.Grammar.ReadsExtern.{extern_path, extern_function, extern_named_path, extern_interface}
 use Rattle.print_grammar.specs.Grammar.ReadsWorldMember.{world_use, world_type, world_import, world_export}
 use Rattle.print_grammar.proofs.TypeTokens.{id-unique, tail_same, begins_with_at}
-use Rattle.print_grammar.proofs.ListsUnique.{Same, Unique, Never, head_same, repeated-unique, no_id_key, signature-unique}
-use Rattle.print_grammar.proofs.PrefixUnique.{use_no_at, declared_no_at, id_no_at, version-unique, gates-unique, prefix-unique, all_prefix, no_prefix, path-unique, use-unique, function-unique, declared-unique, mark_or_id}
+use Rattle.print_grammar.proofs.ListsUnique.{Same, Unique, Never, head_same, repeated-same, no_id_key, signature-unique}
+use Rattle.print_grammar.proofs.PrefixUnique.{use_no_at, declared_no_at, id_no_at, version-unique, gates-unique, prefix-unique, all_prefix, no_prefix, path-unique, use-unique, named-unique, declared-unique, mark_or_id}
 
 -- ---- A text has at most one list of tokens.
 
-same_skip : (f : Front) (a b : List ℕ) → f ≡ Skipped a → f ≡ Skipped b → b ≡ a
-same_skip f a b p q = cc
+-- what is known of tokens by what stands at the front of their text
+abbrev BeginAt : Front → List Token → Type 0
+BeginAt Ended tokens = tokens ≡ []
+BeginAt (Skipped rest) tokens = Tokens rest tokens
+BeginAt (Found t rest) tokens = (more : List Token) × (tokens ≡ t ∷ more) × Tokens rest more
+BeginAt Unknown tokens = ⊥
 
-same_rest : (f : Front) (s t : Token) (a b : List ℕ) → f ≡ Found s a → f ≡ Found t b → b ≡ a
-same_rest f s t a b p q = cc
-
-same_token : (f : Front) (s t : Token) (a b : List ℕ) → f ≡ Found s a → f ≡ Found t b → s ≡ t
-same_token f s t a b p q = cc
-
-skip_no_end : (f : Front) (a : List ℕ) → f ≡ Skipped a → f ≡ Ended → ⊥
-skip_no_end f a p q = cc
-
-found_no_end : (f : Front) (t : Token) (a : List ℕ) → f ≡ Found t a → f ≡ Ended → ⊥
-found_no_end f t a p q = cc
-
-found_no_skip : (f : Front) (t : Token) (a b : List ℕ) → f ≡ Found t a → f ≡ Skipped b → ⊥
-found_no_skip f t a b p q = cc
+begin_at : {text : List ℕ} {tokens : List Token} → Tokens text tokens → (f : Front) → front_of_text text ≡ f → BeginAt f tokens
+begin_at (no_tokens p) f e = rw (sym e ∙ p) refl
+begin_at (skip p a) f e = rw (sym e ∙ p) a
+begin_at (token p a) f e = rw (sym e ∙ p) (_, refl, a)
 
 pub tokens-unique : {text : List ℕ} {xs ys : List Token} → Tokens text xs → Tokens text ys → xs ≡ ys
-tokens-unique (no_tokens p) (no_tokens q) = refl
-tokens-unique (no_tokens p) (skip q b) = absurd (skip_no_end _ _ q p)
-tokens-unique (no_tokens p) (token q b) = absurd (found_no_end _ _ _ q p)
-tokens-unique (skip p a) (no_tokens q) = absurd (skip_no_end _ _ p q)
-tokens-unique (skip p a) (skip {tokens = ts} q b) = tokens-unique a (subst (λ x. Tokens x ts) (same_skip _ _ _ p q) b)
-tokens-unique (skip p a) (token q b) = absurd (found_no_skip _ _ _ _ q p)
-tokens-unique (token p a) (no_tokens q) = absurd (found_no_end _ _ _ p q)
-tokens-unique (token p a) (skip q b) = absurd (found_no_skip _ _ _ _ p q)
-tokens-unique (token p a) (token {tokens = ts} q b) =
-    let h = tokens-unique a (subst (λ x. Tokens x ts) (same_rest _ _ _ _ _ p q) b) in
-    let e = same_token _ _ _ _ _ p q in cc
+tokens-unique (no_tokens p) y = sym (begin_at y _ p)
+tokens-unique (skip p a) y = tokens-unique a (begin_at y _ p)
+tokens-unique (token p a) y = let r = begin_at y _ p in cc (tokens-unique a r.2, r.1)
 
 -- ---- what the page is for
 
@@ -64,27 +50,18 @@ declared_or_id x i = search std_rules
 -- ---- interfaces
 
 member-unique : Unique ReadsMember
-member-unique _ _ _ _ _ (member_use p a) (member_use {after = rest} {path = path} {names = names} q b) =
-    let h = prefix-unique (use_no_at a) (use_no_at b) p q in
-    let k = use-unique a (subst (λ x. ReadsUse x path names rest) (sym h.1) b) in
-    let e = h.0 in let f = k.0 in let g = k.1 in (cc, k.2)
-member-unique _ _ _ _ _ (member_use p a) (member_type {after = rest} {declared = d} q b) =
-    absurd (use_or_declared a (subst (λ x. ReadsDeclared x d rest) (sym (prefix-unique (use_no_at a) (declared_no_at b) p q).1) b))
-member-unique _ _ _ _ _ (member_use {after = rest} {path = path} {names = names} p a) (member_function q j b) =
-    absurd (use_or_id (subst (λ x. ReadsUse x path names rest) (prefix-unique (use_no_at a) (id_no_at _ j) p q).1 a) j)
-member-unique _ _ _ _ _ (member_type {after = rest} {declared = d} p a) (member_use q b) =
-    absurd (use_or_declared b (subst (λ x. ReadsDeclared x d rest) (prefix-unique (declared_no_at a) (use_no_at b) p q).1 a))
-member-unique _ _ _ _ _ (member_type p a) (member_type {after = rest} {declared = d} q b) =
-    let h = prefix-unique (declared_no_at a) (declared_no_at b) p q in
-    let k = declared-unique a (subst (λ x. ReadsDeclared x d rest) (sym h.1) b) in
-    let e = h.0 in let f = k.0 in (cc, k.1)
-member-unique _ _ _ _ _ (member_type {after = rest} {declared = d} p a) (member_function q j b) =
-    absurd (declared_or_id (subst (λ x. ReadsDeclared x d rest) (prefix-unique (declared_no_at a) (id_no_at _ j) p q).1 a) j)
-member-unique _ _ _ _ _ (member_function p i a) (member_use {after = rest} {path = path} {names = names} q b) =
-    absurd (use_or_id (subst (λ x. ReadsUse x path names rest) (sym (prefix-unique (id_no_at _ i) (use_no_at b) p q).1) b) i)
-member-unique _ _ _ _ _ (member_function p i a) (member_type {after = rest} {declared = d} q b) =
-    absurd (declared_or_id (subst (λ x. ReadsDeclared x d rest) (sym (prefix-unique (id_no_at _ i) (declared_no_at b) p q).1) b) i)
-member-unique _ _ _ _ _ (member_function p i a) (member_function q j b) = let h = function-unique p i a q j b in let e = h.0 in let f = h.1 in let g = h.2 in (cc, h.3)
+member-unique _ _ _ _ _ (member_use p a) (member_use q b) =
+    let h = prefix-unique (use_no_at a) (use_no_at b) p q in let k = use-unique a (rw (← h.1) at b) in (cc (h.0, k.0, k.1), k.2)
+member-unique _ _ _ _ _ (member_use p a) (member_type q b) = absurd (use_or_declared (rw (prefix-unique (use_no_at a) (declared_no_at b) p q).1 at a) b)
+member-unique _ _ _ _ _ (member_use p a) (member_function q j b) = absurd (use_or_id (rw (prefix-unique (use_no_at a) (id_no_at _ j) p q).1 at a) j)
+member-unique _ _ _ _ _ (member_type p a) (member_use q b) = absurd (use_or_declared b (rw (prefix-unique (declared_no_at a) (use_no_at b) p q).1 at a))
+member-unique _ _ _ _ _ (member_type p a) (member_type q b) =
+    let h = prefix-unique (declared_no_at a) (declared_no_at b) p q in let k = declared-unique a (rw (← h.1) at b) in (cc (h.0, k.0), k.1)
+member-unique _ _ _ _ _ (member_type p a) (member_function q j b) = absurd (declared_or_id (rw (prefix-unique (declared_no_at a) (id_no_at _ j) p q).1 at a) j)
+member-unique _ _ _ _ _ (member_function p i a) (member_use q b) = absurd (use_or_id (rw (prefix-unique (use_no_at b) (id_no_at _ i) q p).1 at b) i)
+member-unique _ _ _ _ _ (member_function p i a) (member_type q b) = absurd (declared_or_id (rw (prefix-unique (declared_no_at b) (id_no_at _ i) q p).1 at b) i)
+member-unique _ _ _ _ _ (member_function p i a) (member_function q j b) =
+    let h = named-unique p i q j in let s = signature-unique refl refl a (rw (← h.2) at b) in (cc (h.0, h.1, s.0), tail_same s.1)
 
 -- nothing but a prefix stands before these
 mark_use : {mark : Mark} {x y : List Token} {p : PathTree} {names : List UsedName} → ReadsUse (Punctuation mark ∷ x) p names y → ⊥
@@ -104,110 +81,65 @@ key_path x = search std_rules
 path_or_signature : {x y z : List Token} {p : PathTree} {s : SignatureTree} → ReadsPath x p y → ReadsSignature x s z → ⊥
 path_or_signature p x = search (std_rules, key_path)
 
--- a path with a colon isn't a name and a colon before a signature, a path or an interface
-colon_signature : {t : Token} {x y z : List Token} {p : PathTree} {s : SignatureTree} → ReadsPath (t ∷ Punctuation Colon ∷ x) p (Punctuation Semi ∷ y) → ReadsSignature x s z → ⊥
-colon_signature (full i j k v) (func a r) = elim a [ ]
-
-colon_path : {t : Token} {x y z : List Token} {p q : PathTree} → ReadsPath (t ∷ Punctuation Colon ∷ x) p (Punctuation Semi ∷ y) → ReadsPath x q (Punctuation Semi ∷ z) → ⊥
-colon_path (full i j k v) q = elim q [ ]
-
-colon_interface : {t : Token} {x y : List Token} {p : PathTree} → ReadsPath (t ∷ Punctuation Colon ∷ Key Keyword.Interface ∷ Punctuation OpenBrace ∷ x) p (Punctuation Semi ∷ y) → ⊥
-colon_interface p = elim p [ ]
-
 extern-unique : {before after rest : List Token} {a b : ExternTree} → ReadsExtern before a after → ReadsExtern before b rest → Same a b after rest
 extern-unique (extern_path a) (extern_path b) = let h = path-unique refl refl a b in (ap ExternTree.Path h.0, tail_same h.1)
-extern-unique (extern_path a) (extern_function j b) = absurd (colon_signature a b)
-extern-unique (extern_path a) (extern_named_path j b) = absurd (colon_path a b)
-extern-unique (extern_path a) (extern_interface j l) = absurd (colon_interface a)
-extern-unique (extern_function i a) (extern_path b) = absurd (colon_signature b a)
-extern-unique (extern_function i a) (extern_function j b) = let h = signature-unique refl refl a b in let e = id-unique i j in let f = h.0 in (cc, tail_same h.1)
+extern-unique (extern_path (full i j k v)) (extern_function l (func a r)) = elim a [ ]
+extern-unique (extern_path (full i j k v)) (extern_named_path l b) = elim b [ ]
+extern-unique (extern_path a) (extern_interface j l) = elim a [ ]
+extern-unique (extern_function i (func a r)) (extern_path (full j k l v)) = elim a [ ]
+extern-unique (extern_function i (async_func a r)) (extern_path b) = elim b [ ]
+extern-unique (extern_function i a) (extern_function j b) = let h = signature-unique refl refl a b in (cc (id-unique i j, h.0), tail_same h.1)
 extern-unique (extern_function i a) (extern_named_path j b) = absurd (path_or_signature b a)
 extern-unique (extern_function i a) (extern_interface j l) = elim a [ ]
-extern-unique (extern_named_path i a) (extern_path b) = absurd (colon_path b a)
+extern-unique (extern_named_path i a) (extern_path (full j k l v)) = elim a [ ]
 extern-unique (extern_named_path i a) (extern_function j b) = absurd (path_or_signature a b)
-extern-unique (extern_named_path i a) (extern_named_path j b) = let h = path-unique refl refl a b in let e = id-unique i j in let f = h.0 in (cc, tail_same h.1)
+extern-unique (extern_named_path i a) (extern_named_path j b) = let h = path-unique refl refl a b in (cc (id-unique i j, h.0), tail_same h.1)
 extern-unique (extern_named_path i a) (extern_interface j l) = absurd (key_path a)
-extern-unique (extern_interface i l) (extern_path b) = absurd (colon_interface b)
+extern-unique (extern_interface i l) (extern_path b) = elim b [ ]
 extern-unique (extern_interface i l) (extern_function j b) = elim b [ ]
 extern-unique (extern_interface i l) (extern_named_path j b) = absurd (key_path b)
-extern-unique (extern_interface i l) (extern_interface j m) = let h = repeated-unique member-unique member-never l m in let e = id-unique i j in let f = h.0 in (cc, h.1)
+extern-unique (extern_interface i l) (extern_interface j m) = let h = repeated-same member-unique member-never refl l m in (cc (id-unique i j, h.0), h.1)
 
 -- ---- worlds
 
-import_use : {x y : List Token} {p : PathTree} {names : List UsedName} → ReadsUse (Key Keyword.Import ∷ x) p names y → ⊥
-import_use a = elim a [ ]
-
-export_use : {x y : List Token} {p : PathTree} {names : List UsedName} → ReadsUse (Key Keyword.Export ∷ x) p names y → ⊥
-export_use a = elim a [ ]
-
-import_declared : {x y : List Token} {d : Declared} → ReadsDeclared (Key Keyword.Import ∷ x) d y → ⊥
-import_declared a = elim a [ ]
-
-export_declared : {x y : List Token} {d : Declared} → ReadsDeclared (Key Keyword.Export ∷ x) d y → ⊥
-export_declared a = elim a [ ]
-
-import_or_export : {x y : List Token} → Key Keyword.Import ∷ x ≡ Key Keyword.Export ∷ y → ⊥
-import_or_export e = cc e
-
 world_member-unique : Unique ReadsWorldMember
-world_member-unique _ _ _ _ _ (world_use p a) (world_use {after = rest} {path = path} {names = names} q b) =
-    let h = prefix-unique (use_no_at a) (use_no_at b) p q in
-    let k = use-unique a (subst (λ x. ReadsUse x path names rest) (sym h.1) b) in
-    let e = h.0 in let f = k.0 in let g = k.1 in (cc, k.2)
-world_member-unique _ _ _ _ _ (world_use p a) (world_type {after = rest} {declared = d} q b) =
-    absurd (use_or_declared a (subst (λ x. ReadsDeclared x d rest) (sym (prefix-unique (use_no_at a) (declared_no_at b) p q).1) b))
-world_member-unique _ _ _ _ _ (world_use {after = rest} {path = path} {names = names} p a) (world_import q b) =
-    absurd (import_use (subst (λ x. ReadsUse x path names rest) (prefix-unique (use_no_at a) refl p q).1 a))
-world_member-unique _ _ _ _ _ (world_use {after = rest} {path = path} {names = names} p a) (world_export q b) =
-    absurd (export_use (subst (λ x. ReadsUse x path names rest) (prefix-unique (use_no_at a) refl p q).1 a))
-world_member-unique _ _ _ _ _ (world_type {after = rest} {declared = d} p a) (world_use q b) =
-    absurd (use_or_declared b (subst (λ x. ReadsDeclared x d rest) (prefix-unique (declared_no_at a) (use_no_at b) p q).1 a))
-world_member-unique _ _ _ _ _ (world_type p a) (world_type {after = rest} {declared = d} q b) =
-    let h = prefix-unique (declared_no_at a) (declared_no_at b) p q in
-    let k = declared-unique a (subst (λ x. ReadsDeclared x d rest) (sym h.1) b) in
-    let e = h.0 in let f = k.0 in (cc, k.1)
-world_member-unique _ _ _ _ _ (world_type {after = rest} {declared = d} p a) (world_import q b) =
-    absurd (import_declared (subst (λ x. ReadsDeclared x d rest) (prefix-unique (declared_no_at a) refl p q).1 a))
-world_member-unique _ _ _ _ _ (world_type {after = rest} {declared = d} p a) (world_export q b) =
-    absurd (export_declared (subst (λ x. ReadsDeclared x d rest) (prefix-unique (declared_no_at a) refl p q).1 a))
-world_member-unique _ _ _ _ _ (world_import p a) (world_use {after = rest} {path = path} {names = names} q b) =
-    absurd (import_use (subst (λ x. ReadsUse x path names rest) (sym (prefix-unique refl (use_no_at b) p q).1) b))
-world_member-unique _ _ _ _ _ (world_import p a) (world_type {after = rest} {declared = d} q b) =
-    absurd (import_declared (subst (λ x. ReadsDeclared x d rest) (sym (prefix-unique refl (declared_no_at b) p q).1) b))
-world_member-unique _ _ _ _ _ (world_import p a) (world_import {after = rest} {e = x} q b) =
-    let h = prefix-unique refl refl p q in
-    let k = extern-unique a (subst (λ t. ReadsExtern t x rest) (sym (tail_same h.1)) b) in
-    let e = h.0 in let f = k.0 in (cc, k.1)
-world_member-unique _ _ _ _ _ (world_import p a) (world_export q b) = absurd (import_or_export (prefix-unique refl refl p q).1)
-world_member-unique _ _ _ _ _ (world_export p a) (world_use {after = rest} {path = path} {names = names} q b) =
-    absurd (export_use (subst (λ x. ReadsUse x path names rest) (sym (prefix-unique refl (use_no_at b) p q).1) b))
-world_member-unique _ _ _ _ _ (world_export p a) (world_type {after = rest} {declared = d} q b) =
-    absurd (export_declared (subst (λ x. ReadsDeclared x d rest) (sym (prefix-unique refl (declared_no_at b) p q).1) b))
-world_member-unique _ _ _ _ _ (world_export p a) (world_import q b) = absurd (import_or_export (sym (prefix-unique refl refl p q).1))
-world_member-unique _ _ _ _ _ (world_export p a) (world_export {after = rest} {e = x} q b) =
-    let h = prefix-unique refl refl p q in
-    let k = extern-unique a (subst (λ t. ReadsExtern t x rest) (sym (tail_same h.1)) b) in
-    let e = h.0 in let f = k.0 in (cc, k.1)
+world_member-unique _ _ _ _ _ (world_use p a) (world_use q b) =
+    let h = prefix-unique (use_no_at a) (use_no_at b) p q in let k = use-unique a (rw (← h.1) at b) in (cc (h.0, k.0, k.1), k.2)
+world_member-unique _ _ _ _ _ (world_use p a) (world_type q b) = absurd (use_or_declared (rw (prefix-unique (use_no_at a) (declared_no_at b) p q).1 at a) b)
+world_member-unique _ _ _ _ _ (world_use p a) (world_import q b) = elim (rw (prefix-unique (use_no_at a) refl p q).1 at a) [ ]
+world_member-unique _ _ _ _ _ (world_use p a) (world_export q b) = elim (rw (prefix-unique (use_no_at a) refl p q).1 at a) [ ]
+world_member-unique _ _ _ _ _ (world_type p a) (world_use q b) = absurd (use_or_declared b (rw (prefix-unique (declared_no_at a) (use_no_at b) p q).1 at a))
+world_member-unique _ _ _ _ _ (world_type p a) (world_type q b) =
+    let h = prefix-unique (declared_no_at a) (declared_no_at b) p q in let k = declared-unique a (rw (← h.1) at b) in (cc (h.0, k.0), k.1)
+world_member-unique _ _ _ _ _ (world_type p a) (world_import q b) = elim (rw (prefix-unique (declared_no_at a) refl p q).1 at a) [ ]
+world_member-unique _ _ _ _ _ (world_type p a) (world_export q b) = elim (rw (prefix-unique (declared_no_at a) refl p q).1 at a) [ ]
+world_member-unique _ _ _ _ _ (world_import p a) (world_use q b) = elim (rw (prefix-unique (use_no_at b) refl q p).1 at b) [ ]
+world_member-unique _ _ _ _ _ (world_import p a) (world_type q b) = elim (rw (prefix-unique (declared_no_at b) refl q p).1 at b) [ ]
+world_member-unique _ _ _ _ _ (world_import p a) (world_import q b) =
+    let h = prefix-unique refl refl p q in let k = extern-unique a (rw (← tail_same h.1) at b) in (cc (h.0, k.0), k.1)
+world_member-unique _ _ _ _ _ (world_import p a) (world_export q b) = absurd (cc (prefix-unique refl refl p q).1)
+world_member-unique _ _ _ _ _ (world_export p a) (world_use q b) = elim (rw (prefix-unique (use_no_at b) refl q p).1 at b) [ ]
+world_member-unique _ _ _ _ _ (world_export p a) (world_type q b) = elim (rw (prefix-unique (declared_no_at b) refl q p).1 at b) [ ]
+world_member-unique _ _ _ _ _ (world_export p a) (world_import q b) = absurd (cc (prefix-unique refl refl p q).1)
+world_member-unique _ _ _ _ _ (world_export p a) (world_export q b) =
+    let h = prefix-unique refl refl p q in let k = extern-unique a (rw (← tail_same h.1) at b) in (cc (h.0, k.0), k.1)
 
 world_member-never : Never ReadsWorldMember (Punctuation CloseBrace)
 world_member-never y z u v = search (std_rules, mark_use, all_prefix, mark_declared, no_prefix)
 
 -- ---- items
 
-interface_or_world : {x y : List Token} → Key Keyword.Interface ∷ x ≡ Key Keyword.World ∷ y → ⊥
-interface_or_world e = cc e
-
 item-unique : Unique ReadsItem
-item-unique _ _ _ _ _ (interface_item {label = k} g i l) (interface_item {after = rest} {members = ms} h j m) =
+item-unique _ _ _ _ _ (interface_item g i l) (interface_item h j m) =
     let e = gates-unique refl refl g h in
-    let n = repeated-unique member-unique member-never l (subst (λ x. Repeated ReadsMember (Punctuation CloseBrace) x ms rest) (sym (tail_same (tail_same (tail_same e.1)))) m) in
-    let f = e.0 in let id = id-unique (subst (λ x. IsId x k) (head_same (tail_same e.1)) i) j in let o = n.0 in (cc, n.1)
-item-unique _ _ _ _ _ (interface_item g i l) (world_item h j m) = absurd (interface_or_world (gates-unique refl refl g h).1)
-item-unique _ _ _ _ _ (world_item g i l) (interface_item h j m) = absurd (interface_or_world (sym (gates-unique refl refl g h).1))
-item-unique _ _ _ _ _ (world_item {label = k} g i l) (world_item {after = rest} {members = ms} h j m) =
+    let n = repeated-same member-unique member-never (tail_same (tail_same (tail_same e.1))) l m in
+    (cc (e.0, id-unique (rw (head_same (tail_same e.1)) at i) j, n.0), n.1)
+item-unique _ _ _ _ _ (interface_item g i l) (world_item h j m) = absurd (cc (gates-unique refl refl g h).1)
+item-unique _ _ _ _ _ (world_item g i l) (interface_item h j m) = absurd (cc (gates-unique refl refl g h).1)
+item-unique _ _ _ _ _ (world_item g i l) (world_item h j m) =
     let e = gates-unique refl refl g h in
-    let n = repeated-unique world_member-unique world_member-never l (subst (λ x. Repeated ReadsWorldMember (Punctuation CloseBrace) x ms rest) (sym (tail_same (tail_same (tail_same e.1)))) m) in
-    let f = e.0 in let id = id-unique (subst (λ x. IsId x k) (head_same (tail_same e.1)) i) j in let o = n.0 in (cc, n.1)
+    let n = repeated-same world_member-unique world_member-never (tail_same (tail_same (tail_same e.1))) l m in
+    (cc (e.0, id-unique (rw (head_same (tail_same e.1)) at i) j, n.0), n.1)
 
 item-never : Never ReadsItem (Punctuation CloseBrace)
 item-never x y z u = search std_rules
@@ -226,34 +158,24 @@ items-unique : {before after rest : List Token} {a b : List ItemTree} → ends_i
 items-unique e f no_items no_items = (refl, refl)
 items-unique {after = after} e f no_items (next_item b m) = absurd (no_item_there after e b)
 items-unique {rest = rest} e f (next_item a l) no_items = absurd (no_item_there rest f a)
-items-unique e f (next_item a l) (next_item {after = rest} {items = is} b m) =
-    let h = item-unique _ _ _ _ _ a b in
-    let k = items-unique e f l (subst (λ x. ReadsItems x is rest) (sym h.1) m) in
-    let g = h.0 in let i = k.0 in (cc, k.1)
+items-unique e f (next_item a l) (next_item b m) =
+    let h = item-unique _ _ _ _ _ a b in let k = items-unique e f l (rw (← h.1) at m) in (cc (h.0, k.0), k.1)
 
 -- ---- packages
 
 head-unique : {before after rest : List Token} {a b : PackageHead} → begins_with_at after ≡ false → begins_with_at rest ≡ false → ReadsHead before a after → ReadsHead before b rest
     → Same a b after rest
-head-unique n o (head i j v) (head k l w) = let h = version-unique n o v w in let e = id-unique i k in let f = id-unique j l in let g = h.0 in (cc, h.1)
+head-unique n o (head i j v) (head k l w) = let h = version-unique n o v w in (cc (id-unique i k, id-unique j l, h.0), h.1)
 
 nested-unique : {before after rest : List Token} {a b : PackageTree} → ReadsNested before a after → ReadsNested before b rest → Same a b after rest
-nested-unique (nested_package h l) (nested_package {after = rest} {items = is} k m) =
-    let e = head-unique refl refl h k in
-    let n = repeated-unique item-unique item-never l (subst (λ x. Repeated ReadsItem (Punctuation CloseBrace) x is rest) (sym (tail_same e.1)) m) in
-    let f = e.0 in let g = n.0 in (cc, n.1)
-
-no_nested_at_end : {a : PackageTree} {x : List Token} → ReadsNested [] a x → ⊥
-no_nested_at_end a = elim a [ ]
+nested-unique (nested_package h l) (nested_package k m) =
+    let e = head-unique refl refl h k in let n = repeated-same item-unique item-never (tail_same e.1) l m in (cc (e.0, n.0), n.1)
 
 all_nested-unique : {before : List Token} {a b : List PackageTree} → ReadsAllNested before a → ReadsAllNested before b → a ≡ b
 all_nested-unique nested_end nested_end = refl
-all_nested-unique nested_end (next_nested b m) = absurd (no_nested_at_end b)
-all_nested-unique (next_nested a l) nested_end = absurd (no_nested_at_end a)
-all_nested-unique (next_nested a l) (next_nested {trees = trees} b m) =
-    let h = nested-unique a b in
-    let k = all_nested-unique l (subst (λ x. ReadsAllNested x trees) (sym h.1) m) in
-    let e = h.0 in cc
+all_nested-unique nested_end (next_nested b m) = elim b [ ]
+all_nested-unique (next_nested a l) nested_end = elim a [ ]
+all_nested-unique (next_nested a l) (next_nested b m) = let h = nested-unique a b in cc (h.0, all_nested-unique l (rw (← h.1) at m))
 
 nested_ends_items : {before : List Token} {a : List PackageTree} → ReadsAllNested before a → ends_items before ≡ true
 nested_ends_items nested_end = refl
@@ -261,11 +183,10 @@ nested_ends_items (next_nested (nested_package h l) m) = refl
 
 -- A list of tokens is at most one file.
 pub file-unique : {tokens : List Token} {a b : FileTree} → ReadsFile tokens a → ReadsFile tokens b → a ≡ b
-file-unique (file h l n) (file {after = rest} {items = is} {nested = trees} k m o) =
+file-unique (file h l n) (file k m o) =
     let e = head-unique refl refl h k in
-    let i = items-unique (nested_ends_items n) (nested_ends_items o) l (subst (λ x. ReadsItems x is rest) (sym (tail_same e.1)) m) in
-    let j = all_nested-unique n (subst (λ x. ReadsAllNested x trees) (sym i.1) o) in
-    let f = e.0 in let g = i.0 in cc
+    let i = items-unique (nested_ends_items n) (nested_ends_items o) l (rw (← tail_same e.1) at m) in
+    cc (e.0, i.0, all_nested-unique n (rw (← i.1) at o))
 
 -- A text has at most one list of tokens, and a list of tokens at most one tree.
 pub one_reading : OneReading

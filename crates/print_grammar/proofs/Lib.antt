@@ -1,5 +1,7 @@
 -- Tests of every byte of a text. Serves TokenFacts, VersionFacts.
 pub mod ByteTests
+-- What the worked examples share: the tokens of a text, computed, and small trees. Serves no function, only DeclaredExamples, ReadingExamples, TextExamples.
+pub mod Scanned
 -- Worked examples: the tokens and the tree of a text with every kind of declared type but a record. Serves no function.
 mod DeclaredExamples
 -- The text that calls append, from the front on. Serves FileReads, PathReads, PrefixReads, Printing and 2 more.

@@ -1,5 +1,5 @@
 -- What is printed of a path and of a use is read as it.
-use Rattle.std.proofs.Common.{rules as std_rules, ◌≡◌, refl, ap, subst, ℕ, true, false, nat_lt, length, List, [], ◌∷◌, ◌++◌, codes, Option, Some, None, map}
+use Rattle.std.proofs.Common.{rules as std_rules, ◌≡◌, refl, subst, ℕ, true, false, nat_lt, length, List, [], ◌∷◌, ◌++◌, append_assoc, codes, Option, Some, None, map}
 use Rattle.wit_model.specs.{Names.is_label, Names.is_version_text, Rules.passes}
 use Rattle.print_grammar.specs.{Keyword.escaped, Token.Token, WellNamed.is_well_path, WellNamed.is_well_used, WellNamed.is_well_use, WellNamed.are_well_some}
 use Rattle.print_grammar.specs.{Keyword.Keyword.As, Keyword.Keyword.Use, Token.Token.Punctuation, Token.Token.Key, Token.Token.VersionText}
@@ -12,7 +12,7 @@ use Rattle.print_output.specs.OutputCall.OutputCall.{Keyword, Ty, Str, Semicolon
 use Rattle.print_output.specs.declared.type_kind.TypeKind.{TypeKind}
 use Rattle.print_grammar.proofs.{TokenFacts.id_at, TokenFacts.slash_at, TokenFacts.id_token, TokenFacts.id_is, TextOf.text_of}
 use Rattle.print_grammar.proofs.VersionFacts.{version_at, ends_version}
-use Rattle.print_grammar.proofs.Printing.{Follows, Printed, EndsWord, Ended, relist, two_lists, word_call, id_call, colon, dot, semi, line_feed, at_sign, open_brace, close_brace}
+use Rattle.print_grammar.proofs.Printing.{Follows, Printed, EndsWord, Ended, relist, word_call, id_call, line_feed, mark}
 use Rattle.print_grammar.proofs.{Printing.Prints.by_keyword, Printing.Prints.by_type, SignatureReads.listed_reads, SignatureReads.space_before}
 use Rattle.base_lemmas.proofs.{Bools.left_of, Bools.right_of, Lists.identity}
 use Rattle.print_output.specs.declared.type_kind.TypeKind.TheVariants as kind
@@ -26,7 +26,7 @@ pub version_reads : (version : Option (List ℕ)) (of_kind : TypeKind) → passe
     → Printed false (version_calls version of_kind ++ more) (λ before. ReadsVersion before version ts)
 version_reads None of_kind h {ts = ts} f ends = (ts, f, ReadsVersion.no_version)
 version_reads (Some version) of_kind h {more} {ts} f ends =
-    (Punctuation At ∷ VersionText version ∷ ts, record { at = λ level. at_sign (version_at version (text_of false level more) h (ends level) (f.at level)) }, ReadsVersion.with_version)
+    (Punctuation At ∷ VersionText version ∷ ts, record { at = λ level. mark At refl (version_at version (text_of false level more) h (ends level) (f.at level)) }, ReadsVersion.with_version)
 
 pub version_ends_word : (version : Option (List ℕ)) (of_kind : TypeKind) (more : List OutputCall) → EndsWord more → EndsWord (version_calls version of_kind ++ more)
 version_ends_word x of_kind more ends = search std_rules
@@ -34,7 +34,7 @@ version_ends_word x of_kind more ends = search std_rules
 -- an id, a colon and more
 pub colon_id_call : (label : List ℕ) (of_kind : TypeKind) {more : List OutputCall} {ts : List Token} → is_label label ≡ true → Follows false more ts
     → Follows false (Ty (escaped label) of_kind ∷ Str (codes ":") ∷ more) (id_token label ∷ Punctuation Colon ∷ ts)
-colon_id_call label of_kind h f = id_call label by_type h (λ level. refl) (record { at = λ level. colon (f.at level) })
+colon_id_call label of_kind h f = id_call label by_type h (λ level. refl) (record { at = λ level. mark Colon refl (f.at level) })
 
 -- a slash and an id
 slash_call : (label : List ℕ) (of_kind : TypeKind) {more : List OutputCall} {ts : List Token} → is_label label ≡ true → EndsWord more → Follows false more ts
@@ -78,7 +78,7 @@ names_read : (names : List UsedName) → are_well_some is_well_used names ≡ tr
 names_read [] h f = absurd cc
 names_read (n ∷ ns) h {more} {ts} f =
     let close : Ended (Str (codes "}") ∷ Semicolon ∷ more) (Punctuation CloseBrace ∷ Punctuation Semi ∷ ts) =
-    record { follows = record { at = λ level. close_brace (semi (line_feed (f.at level))) }; word = λ level. refl } in
+    record { follows = record { at = λ level. mark CloseBrace refl (mark Semi refl (line_feed (f.at level))) }; word = λ level. refl } in
     let i = listed_reads used_name_calls is_well_used (λ x. x) ReadsUsedName CloseBrace used_reads n ns (right_of (nat_lt 0 (length (n ∷ ns))) _ h) close in
     (i.0, i.1, subst (λ xs. Listed ReadsUsedName (Punctuation CloseBrace) i.0 xs (Punctuation Semi ∷ ts)) (identity (n ∷ ns)) i.2)
 
@@ -89,11 +89,6 @@ pub use_reads : (path : PathTree) (names : List UsedName) → is_well_use path n
 use_reads path names h {more} f =
     let n = names_read names (right_of (is_well_path path) _ h) f in
     let braced : Follows false (Str (codes ".{") ∷ (separated (Str (codes ", ")) (map used_name_calls names) ++ (Str (codes "}") ∷ Semicolon ∷ more))) (Punctuation Dot ∷ Punctuation OpenBrace ∷ n.0) =
-    record { at = λ level. dot (open_brace (n.1.at level)) } in
+    record { at = λ level. mark Dot refl (mark OpenBrace refl (n.1.at level)) } in
     let p = path_reads path (left_of _ _ h) braced (λ level. refl) (λ level. refl) in
-    relist (ap (λ x. Keyword (codes "use") ∷ space_call ∷ x) (two_lists (path_calls path) (Str (codes ".{")) (separated (Str (codes ", ")) (map used_name_calls names))
-    (Str (codes "}") ∷ Semicolon ∷ []) more)) (
-      Key Use ∷ p.0,
-      word_call (Key Use) by_keyword refl refl (λ level. refl) (space_before p.1),
-      ReadsUse.use_names p.2 n.2,
-    )
+    relist (_, word_call (Key Use) (by_keyword {text = codes "use"}) refl refl (λ level. refl) (space_before p.1), ReadsUse.use_names p.2 n.2) (simp append_assoc)

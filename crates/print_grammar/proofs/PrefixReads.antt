@@ -2,7 +2,7 @@
 use Rattle.std.proofs.Common.{rules as std_rules, ◌≡◌, refl, sym, ap, ◌∙◌, subst, ℕ, ◌+◌, ◌*◌, ◌/◌, ◌%◌, ◌^◌, ◌<◌, true, false, ◌==◌, List, [], ◌∷◌, ◌++◌, append-nil, append_assoc, Option, Some, None, inl, inr, arith, zero, suc}
 use Rattle.std.specs.{List.list_all, List.flat_map, Option.option_map, Fmt.digits, Fmt.digits_onto, Fmt.digit_glyph}
 use lib.Utf8.{scalar}
-use Rattle.std.proofs.lemmas.Bool.{cases_Bool, eqb-true, eq-eqb, false_from_ne_true as refuted}
+use Rattle.std.proofs.lemmas.Bool.{cases_Bool, eqb-true, eq-eqb, false_from_ne_true as refuted, not-true as not_true}
 use Rattle.std.proofs.{Math.Nat.pow-suc, Math.Utf8.scalar_fits, Common.Bool, Common.not, Common.codes, Common.map}
 use Rattle.print_grammar.specs.Calls.{is_plain, escaped_character, prefix_calls, external_id_calls, character_call, doc_calls, gates_calls, deprecated_calls}
 use Rattle.print_grammar.specs.Token.{Token, Tokens, spelled, StringState, string_step, string_characters, hexadecimal, after_comment}
@@ -12,8 +12,8 @@ use Rattle.print_grammar.specs.{Keyword.escaped, Tree.Gates, Tree.Prefix, AsRead
 use Rattle.print_grammar.specs.{Tree.Gates.Ungated, Tree.Gates.Since, Tree.Gates.Unstable, Token.Tokens.skip, WellNamed.is_well_gates, WellNamed.is_well_prefix}
 use Rattle.print_grammar.specs.Grammar.{ReadsPrefix, ReadsExternalId, ReadsGates, ReadsDeprecated, ReadsVersionArgument}
 use Rattle.print_grammar.proofs.{TokenFacts.EndsToken, TokenFacts.ends_by, TokenFacts.token_at, TokenFacts.word_at, TokenFacts.id_is, VersionFacts.version_at}
-use Rattle.print_grammar.proofs.{Printing.Prints.by_str, TextOf.text_of}
-use Rattle.print_grammar.proofs.Printing.{Follows, Printed, EndsWord, relist, id_call, line_begins, space, open_paren, close_paren, equals, at_sign, line_feed}
+use Rattle.print_grammar.proofs.{Printing.Prints.by_str, Printing.Prints.by_keyword, TextOf.text_of}
+use Rattle.print_grammar.proofs.Printing.{Follows, Printed, EndsWord, relist, word_call, id_call, line_begins, open_call, equals_call, space, line_feed, mark}
 use Rattle.base_lemmas.proofs.Bools.{left_of, right_of}
 use Rattle.wit_model.specs.{Names.is_label, Names.is_version_text, Names.begins_with_letter, Rules.passes}
 use Rattle.print_output.specs.{OutputCall.OutputCall, OutputCall.is_one_line, Render.doc_text}
@@ -29,10 +29,7 @@ goes_step : (state : StringState) (c : ℕ) (cs : List ℕ) (next : StringState)
 goes_step state c cs next e = rw (e, string_characters) refl
 
 plain_other : (c d : ℕ) → is_plain d ≡ false → is_plain c ≡ true → (c == d) ≡ false
-plain_other c d e h = refuted _ (λ same. no (ap is_plain (eqb-true c d same)))
-  where
-    no : is_plain c ≡ is_plain d → ⊥
-    no f = cc
+plain_other c d e h = refuted _ (λ same. let f : is_plain c ≡ is_plain d = ap is_plain (eqb-true c d same) in cc)
 
 plain_step : (c : ℕ) → is_plain c ≡ true → string_step Between c ≡ Reads c
 plain_step c h = rw (plain_other c 34 refl h, plain_other c 92 refl h, h) refl
@@ -138,14 +135,7 @@ quoted_at cs rest {ts} h more =
 
 comment_ends : (line rest : List ℕ) → is_one_line line ≡ true → after_comment (line ++ 10 ∷ rest) ≡ 10 ∷ rest
 comment_ends [] rest h = refl
-comment_ends (c ∷ cs) rest h = rw (not_line c (left_of _ _ h)) (comment_ends cs rest (right_of (not (c == 10)) _ h))
-  where
-    not_line : (d : ℕ) → not (d == 10) ≡ true → (d == 10) ≡ false
-    not_line d e = flip (d == 10) e
-      where
-        flip : (b : Bool) → not b ≡ true → b ≡ false
-        flip true f = cc
-        flip false f = refl
+comment_ends (c ∷ cs) rest h = rw (not_true (c == 10) (left_of _ _ h)) (comment_ends cs rest (right_of (not (c == 10)) _ h))
 
 doc_skipped : (line rest : List ℕ) {ts : List Token} → is_one_line line ≡ true → Tokens rest ts → Tokens (doc_text line ++ rest) ts
 doc_skipped [] rest h more = skip refl (line_feed more)
@@ -167,7 +157,7 @@ docs_read true (line ∷ docs) h {more} f =
 attribute_call : (word : List ℕ) {more : List OutputCall} {ts : List Token} → begins_with_letter word ≡ true → spelled word ≡ Some (Word word) → EndsWord more → Follows false more ts
     → Follows true (Keyword (64 ∷ word) ∷ more) (Punctuation At ∷ Word word ∷ ts)
 attribute_call word {more} letter s ends f =
-    line_begins (Keyword (64 ∷ word)) refl (record { at = λ level. at_sign (word_at word (text_of false level more) (Word word) letter s (ends level) (f.at level)) })
+    line_begins (Keyword (64 ∷ word)) refl (record { at = λ level. mark At refl (word_at word (text_of false level more) (Word word) letter s (ends level) (f.at level)) })
 
 -- a version in parentheses, and a line's end
 argument_call : (version : List ℕ) {more : List OutputCall} {ts : List Token} → is_version_text version ≡ true → Follows true more ts
@@ -175,8 +165,8 @@ argument_call : (version : List ℕ) {more : List OutputCall} {ts : List Token} 
     (Punctuation OpenParen ∷ Word (codes "version") ∷ Punctuation Equals ∷ VersionText version ∷ Punctuation CloseParen ∷ ts)
 argument_call version {more} h f = record {
   at = λ level.
-      open_paren (word_at (codes "version") (32 ∷ 61 ∷ 32 ∷ (version ++ (41 ∷ 10 ∷ text_of true level more))) (Word (codes "version")) refl refl refl
-      (space (equals (space (version_at version (41 ∷ 10 ∷ text_of true level more) h refl (close_paren (line_feed (f.at level))))))));
+      mark OpenParen refl (word_at (codes "version") (32 ∷ 61 ∷ 32 ∷ (version ++ (41 ∷ 10 ∷ text_of true level more))) (Word (codes "version")) refl refl refl
+      (space (mark Equals refl (space (version_at version (41 ∷ 10 ∷ text_of true level more) h refl (mark CloseParen refl (line_feed (f.at level))))))));
 }
 
 deprecated_reads : (deprecated : Option (List ℕ)) → passes is_version_text deprecated ≡ true → {more : List OutputCall} {ts : List Token} → Follows true more ts
@@ -194,16 +184,11 @@ gates_read (Since version deprecated) h f =
     (_, attribute_call (codes "since") refl refl (λ level. refl) (argument_call version (left_of _ _ h) d.1), ReadsGates.since refl (ReadsVersionArgument.version_argument refl) d.2)
 gates_read (Unstable feature deprecated) h {more} f =
     let d = deprecated_reads deprecated (right_of (is_label feature) _ h) f in
-    let close : Follows false (Str (codes ")") ∷ Newline ∷ (deprecated_calls deprecated ++ more)) (Punctuation CloseParen ∷ d.0) = record { at = λ level. close_paren (line_feed (d.1.at level)) } in
-    let named = id_call feature (by_str {text = escaped feature}) (left_of _ _ h) (λ level. refl) close in (
-      _,
-      attribute_call (codes "unstable") refl refl (λ level. refl) (record {
-        at =
-            λ level. open_paren (word_at (codes "feature") (32 ∷ 61 ∷ 32 ∷ text_of false level (Str (escaped feature) ∷ Str (codes ")") ∷ Newline ∷ (deprecated_calls deprecated ++ more)))
-            (Word (codes "feature")) refl refl refl (space (equals (space (named.at level)))));
-      }),
-      ReadsGates.unstable refl refl (id_is feature) d.2,
-    )
+    let close : Follows false (Str (codes ")") ∷ Newline ∷ (deprecated_calls deprecated ++ more)) (Punctuation CloseParen ∷ d.0) =
+    record { at = λ level. mark CloseParen refl (line_feed (d.1.at level)) } in
+    let named = equals_call (id_call feature (by_str {text = escaped feature}) (left_of _ _ h) (λ level. refl) close) in
+    let word = word_call (Word (codes "feature")) (by_keyword {text = codes "feature"}) refl refl (λ level. refl) named in
+    (_, attribute_call (codes "unstable") refl refl (λ level. refl) (open_call word), ReadsGates.unstable refl refl (id_is feature) d.2)
 
 -- ---- external ids
 
@@ -215,8 +200,8 @@ string_call : (cs : List ℕ) {more : List OutputCall} {ts : List Token} → lis
     → Follows false (Str (codes "(\"") ∷ ((map character_call cs ++ (Str (codes "\")") ∷ Newline ∷ [])) ++ more)) (Punctuation OpenParen ∷ Quoted cs ∷ Punctuation CloseParen ∷ ts)
 string_call cs {more} {ts} h f = record {
   at = λ level.
-      open_paren (subst (λ x. Tokens (34 ∷ x) (Quoted cs ∷ Punctuation CloseParen ∷ ts)) (sym (text level))
-      (quoted_at cs (41 ∷ 10 ∷ text_of true level more) h (close_paren (line_feed (f.at level)))));
+      mark OpenParen refl (subst (λ x. Tokens (34 ∷ x) (Quoted cs ∷ Punctuation CloseParen ∷ ts)) (sym (text level))
+      (quoted_at cs (41 ∷ 10 ∷ text_of true level more) h (mark CloseParen refl (line_feed (f.at level)))));
 }
   where
     text : (level : ℕ) → text_of false level ((map character_call cs ++ (Str (codes "\")") ∷ Newline ∷ [])) ++ more) ≡ body cs ++ (34 ∷ 41 ∷ 10 ∷ text_of true level more)
@@ -231,9 +216,8 @@ external_id_reads (Some cs) h f =
 -- What is printed in front of an item is read as it, without its documentation.
 pub prefix_reads : (emits_docs : Bool) (prefix : Prefix) → is_well_prefix prefix ≡ true → {more : List OutputCall} {ts : List Token} → Follows true more ts
     → Printed true (prefix_calls emits_docs prefix ++ more) (λ before. ReadsPrefix before (bare_prefix type_as_read prefix) ts)
-prefix_reads emits_docs prefix h {more} f =
-    let e = external_id_reads prefix.external_id (right_of (is_well_gates prefix.gates) _ (right_of (list_all is_one_line prefix.docs) _ h)) f in
-    let g = gates_read prefix.gates (left_of _ _ (right_of (list_all is_one_line prefix.docs) _ h)) e.1 in
-    relist (append_assoc (doc_calls emits_docs prefix.docs ++ gates_calls prefix.gates) (external_id_calls prefix.external_id) more
-    ∙ append_assoc (doc_calls emits_docs prefix.docs) (gates_calls prefix.gates) (external_id_calls prefix.external_id ++ more))
-    (g.0, docs_read emits_docs prefix.docs (left_of _ _ h) g.1, ReadsPrefix.prefix g.2 e.2)
+prefix_reads emits_docs prefix h f =
+    let w = right_of (list_all is_one_line prefix.docs) _ h in
+    let e = external_id_reads prefix.external_id (right_of (is_well_gates prefix.gates) _ w) f in
+    let g = gates_read prefix.gates (left_of _ _ w) e.1 in
+    relist (g.0, docs_read emits_docs prefix.docs (left_of _ _ h) g.1, ReadsPrefix.prefix g.2 e.2) (simp append_assoc)

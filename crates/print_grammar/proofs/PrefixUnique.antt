@@ -1,11 +1,11 @@
 -- A list of tokens begins with at most one prefix, path, use or declared type.
-use Rattle.std.proofs.Common.{rules as std_rules, ◌≡◌, List, ◌∷◌, ℕ, refl, ap, sym, subst, ◌∙◌, Bool, true, false, Option, Some, codes}
+use Rattle.std.proofs.Common.{rules as std_rules, ◌≡◌, List, ◌∷◌, ℕ, refl, ap, sym, ◌∙◌, Bool, true, false, Option, Some, codes}
 use Rattle.std.proofs.lemmas.{Bool.Decides.Decides-eqb, Slice.Eq.slice_eq-Decides}
 use Rattle.wit_model.specs.Text.{text_eq}
-use Rattle.print_grammar.specs.{Keyword.Keyword, Token.Token, Token.Mark}
-use Rattle.print_grammar.specs.Token.{Token.Punctuation, Token.Key, Token.Word, Mark.At, Mark.Colon, Mark.Semi, Mark.Dot, Mark.CloseBrace}
-use Rattle.print_grammar.specs.Tree.{SignatureTree, Gates, Prefix, PathTree, UsedName, Declared}
-use Rattle.print_grammar.specs.Grammar.{IsId, Listed, ReadsVersion, ReadsVersionArgument, ReadsDeprecated, ReadsGates, ReadsExternalId, ReadsPrefix, ReadsPath, ReadsUsedName, ReadsUse, ReadsField, ReadsCase, ReadsLabel, ReadsResourceMember, ReadsDeclared, ReadsParams, ReadsSignature}
+use Rattle.print_grammar.specs.{Token.Token, Token.Mark}
+use Rattle.print_grammar.specs.Token.{Token.Punctuation, Token.Word, Mark.At, Mark.Colon, Mark.Semi, Mark.Dot, Mark.CloseBrace}
+use Rattle.print_grammar.specs.Tree.{Gates, Prefix, PathTree, UsedName, Declared}
+use Rattle.print_grammar.specs.Grammar.{IsId, ReadsVersion, ReadsVersionArgument, ReadsDeprecated, ReadsGates, ReadsExternalId, ReadsPrefix, ReadsPath, ReadsUsedName, ReadsUse, ReadsField, ReadsCase, ReadsLabel, ReadsResourceMember, ReadsDeclared}
 use Rattle.print_grammar.specs.Grammar.{ReadsVersion.no_version, ReadsVersion.with_version, ReadsDeprecated.not_deprecated, ReadsDeprecated.deprecated}
 use Rattle.print_grammar.specs.Grammar.{ReadsVersionArgument.version_argument, ReadsPath.local, ReadsPath.full, ReadsField.field, ReadsLabel.label}
 use Rattle.print_grammar.specs.Grammar.{ReadsGates.no_gates, ReadsGates.since, ReadsGates.unstable, ReadsExternalId.no_external_id, ReadsExternalId.external_id}
@@ -13,7 +13,7 @@ use Rattle.print_grammar.specs.Grammar.{ReadsPrefix.prefix, ReadsResourceMember.
 use Rattle.print_grammar.specs.Grammar.{ReadsUsedName.same_name, ReadsUsedName.other_name, ReadsUse.use_names, ReadsCase.case_alone, ReadsCase.case_of}
 use Rattle.print_grammar.specs.Grammar.ReadsDeclared.{record_, variant, flags, enum, alias, resource, resource_with}
 use Rattle.print_grammar.proofs.TypeTokens.{id-unique, tail_same, type-unique, begins_with_at, no_less}
-use Rattle.print_grammar.proofs.ListsUnique.{Same, Unique, UniqueBefore, Never, head_same, listed-unique, repeated-unique, no_id_mark, no_id_key, arguments-unique, signature-unique}
+use Rattle.print_grammar.proofs.ListsUnique.{Same, Unique, UniqueBefore, Never, head_same, listed-unique, repeated-same, no_id_mark, arguments-unique, signature-unique}
 
 -- ---- gates and external ids
 
@@ -59,16 +59,12 @@ gates_before n o no_gates no_gates = (refl, refl)
 gates_before n o no_gates (since {label = word} l b d) = absurd (same_text word (codes "since") l n.1)
 gates_before n o no_gates (unstable {label = word} l m i d) = absurd (same_text word (codes "unstable") l n.2)
 gates_before n o (since {label = word} l a c) no_gates = absurd (same_text word (codes "since") l o.1)
-gates_before n o (since l a c) (since {after = rest} {d = e} m b d) =
-    let h = argument-unique a b in
-    let k = deprecated-unique n o c (subst (λ x. ReadsDeprecated x e rest) (sym h.1) d) in
-    let f = h.0 in let g = k.0 in (cc, k.1)
+gates_before n o (since l a c) (since m b d) =
+    let h = argument-unique a b in let k = deprecated-unique n o c (rw (← h.1) at d) in (cc (h.0, k.0), k.1)
 gates_before n o (since l a c) (unstable m p i d) = absurd (since_or_unstable (sym l ∙ m))
 gates_before n o (unstable {label = word} l m i c) no_gates = absurd (same_text word (codes "unstable") l o.2)
 gates_before n o (unstable m p i c) (since l b d) = absurd (since_or_unstable (sym l ∙ m))
-gates_before n o (unstable l m i c) (unstable p q j d) =
-    let k = deprecated-unique n o c d in
-    let f = id-unique i j in let g = k.0 in (cc, k.1)
+gates_before n o (unstable l m i c) (unstable p q j d) = let k = deprecated-unique n o c d in (cc (id-unique i j, k.0), k.1)
 
 -- Gates are determined where no `@` follows them.
 pub gates-unique : {before after rest : List Token} {a b : Gates} → begins_with_at after ≡ false → begins_with_at rest ≡ false → ReadsGates before a after → ReadsGates before b rest
@@ -129,25 +125,22 @@ pub path-unique : {before after rest : List Token} {a b : PathTree} → ends_pat
 path-unique e f (local i) (local j) = (ap PathTree.Local (id-unique i j), refl)
 path-unique e f (local i) (full j k l v) = absurd (cc e)
 path-unique e f (full i j k v) (local l) = absurd (cc f)
-path-unique {after = after} {rest = rest} e f (full i j k v) (full l m n w) =
-    let h = version-unique (path_no_at after e) (path_no_at rest f) v w in
-    let a = id-unique i l in let b = id-unique j m in let c = id-unique k n in let d = h.0 in (cc, h.1)
+path-unique e f (full i j k v) (full l m n w) =
+    let h = version-unique (path_no_at _ e) (path_no_at _ f) v w in (cc (id-unique i l, id-unique j m, id-unique k n, h.0), h.1)
 
 used-unique : UniqueBefore ReadsUsedName
 used-unique _ _ _ _ _ s t (same_name i) (same_name j) = let h = id-unique i j in (cc, refl)
 used-unique _ _ _ _ _ s t (same_name i) (other_name j k) = absurd (cc s)
 used-unique _ _ _ _ _ s t (other_name i k) (same_name j) = absurd (cc t)
-used-unique _ _ _ _ _ s t (other_name i k) (other_name j l) = let g = id-unique i j in let h = id-unique k l in (cc, refl)
+used-unique _ _ _ _ _ s t (other_name i k) (other_name j l) = (cc (id-unique i j, id-unique k l), refl)
 
 used-never : Never ReadsUsedName (Punctuation CloseBrace)
 used-never x y z u = search std_rules
 
 pub use-unique : {before after rest : List Token} {a b : PathTree} {xs ys : List UsedName} → ReadsUse before a xs after → ReadsUse before b ys rest → (a ≡ b) × (xs ≡ ys) × (after ≡ rest)
-use-unique (use_names p l) (use_names {after = rest} {names = ys} q m) =
+use-unique (use_names p l) (use_names q m) =
     let h = path-unique refl refl p q in
-    let k = listed-unique used-unique (λ ts. refl) (λ e. cc e) used-never l
-    (subst (λ x. Listed ReadsUsedName (Punctuation CloseBrace) x ys (Punctuation Semi ∷ rest)) (sym (tail_same (tail_same h.1))) m) in
-    (h.0, k.0, tail_same k.1)
+    let k = listed-unique used-unique (λ ts. refl) (λ e. cc e) used-never l (rw (← tail_same (tail_same h.1)) at m) in (h.0, k.0, tail_same k.1)
 
 -- ---- declared types
 
@@ -172,56 +165,39 @@ label-unique _ _ _ _ _ s t (label i) (label j) = let h = id-unique i j in (cc, r
 label-never : Never ReadsLabel (Punctuation CloseBrace)
 label-never _ _ _ (label i) = no_id_mark i
 
--- what stands in front, a name and a signature
-pub function-unique : {before between middle after rest : List Token} {t u : Token} {k l : List ℕ} {p q : Prefix} {a b : SignatureTree}
-    → ReadsPrefix before p (t ∷ Punctuation Colon ∷ between) → IsId t k → ReadsSignature between a (Punctuation Semi ∷ after)
-    → ReadsPrefix before q (u ∷ Punctuation Colon ∷ middle) → IsId u l → ReadsSignature middle b (Punctuation Semi ∷ rest)
-    → (p ≡ q) × (k ≡ l) × (a ≡ b) × (after ≡ rest)
-function-unique {rest = rest} {k = k} {b = b} p i a q j c =
-    let h = prefix-unique (id_no_at _ i) (id_no_at _ j) p q in
-    let s = signature-unique refl refl a (subst (λ x. ReadsSignature x b (Punctuation Semi ∷ rest)) (sym (tail_same (tail_same h.1))) c) in
-    (h.0, id-unique (subst (λ x. IsId x k) (head_same h.1) i) j, s.0, tail_same s.1)
-
-pub key_or_id : {keyword : Keyword} {t : Token} {x : List Token} {y : List Token} {l : List ℕ} → Key keyword ∷ x ≡ t ∷ y → IsId t l → ⊥
-key_or_id {l = l} e i = no_id_key (subst (λ z. IsId z l) (sym (head_same e)) i)
+-- what stands in front, a name and what follows its colon
+pub named-unique : {before x y : List Token} {t u : Token} {k l : List ℕ} {p q : Prefix} → ReadsPrefix before p (t ∷ Punctuation Colon ∷ x) → IsId t k
+    → ReadsPrefix before q (u ∷ Punctuation Colon ∷ y) → IsId u l → (p ≡ q) × (k ≡ l) × (x ≡ y)
+named-unique p i q j = let h = prefix-unique (id_no_at _ i) (id_no_at _ j) p q in (h.0, id-unique (rw (head_same h.1) at i) j, tail_same (tail_same h.1))
 
 pub mark_or_id : {mark : Mark} {t : Token} {l : List ℕ} → Punctuation mark ≡ t → IsId t l → ⊥
-mark_or_id {l = l} e i = no_id_mark (subst (λ z. IsId z l) (sym e) i)
-
-no_static : {x y : List Token} {s : SignatureTree} → ReadsSignature (Key Keyword.Static ∷ x) s y → ⊥
-no_static a = elim a [ ]
-
-static_or_signature : {x y z : List Token} {s : SignatureTree} → Key Keyword.Static ∷ x ≡ y → ReadsSignature y s z → ⊥
-static_or_signature {z = z} {s} e a = no_static (subst (λ t. ReadsSignature t s z) (sym e) a)
+mark_or_id e i = elim (rw (← e) at i) [ ]
 
 resource_member-unique : Unique ReadsResourceMember
-resource_member-unique _ _ _ _ _ (constructor_ p a r) (constructor_ {middle = m} {after = rest} {params = ps} {result = t} q b s) =
-    let h = prefix-unique refl refl p q in
-    let k = arguments-unique refl refl a r (subst (λ x. ReadsParams x ps m) (sym (tail_same h.1)) b) s in
-    let e = h.0 in let f = k.0 in let g = k.1 in (cc, tail_same k.2)
-resource_member-unique _ _ _ _ _ (constructor_ p a r) (method q j b) = absurd (key_or_id (prefix-unique refl (id_no_at _ j) p q).1 j)
-resource_member-unique _ _ _ _ _ (constructor_ p a r) (static q j b) = absurd (key_or_id (prefix-unique refl (id_no_at _ j) p q).1 j)
-resource_member-unique _ _ _ _ _ (method p i a) (constructor_ q b s) = absurd (key_or_id (sym (prefix-unique (id_no_at _ i) refl p q).1) i)
-resource_member-unique _ _ _ _ _ (method p i a) (method q j b) = let h = function-unique p i a q j b in let e = h.0 in let f = h.1 in let g = h.2 in (cc, h.3)
-resource_member-unique _ _ _ _ _ (method p i a) (static q j b) = absurd (static_or_signature (sym (tail_same (tail_same (prefix-unique (id_no_at _ i) (id_no_at _ j) p q).1))) a)
-resource_member-unique _ _ _ _ _ (static p i a) (constructor_ q b s) = absurd (key_or_id (sym (prefix-unique (id_no_at _ i) refl p q).1) i)
-resource_member-unique _ _ _ _ _ (static p i a) (method q j b) = absurd (static_or_signature (tail_same (tail_same (prefix-unique (id_no_at _ i) (id_no_at _ j) p q).1)) b)
-resource_member-unique _ _ _ _ _ (static {label = k} p i a) (static {after = rest} {signature = s} q j b) =
-    let h = prefix-unique (id_no_at _ i) (id_no_at _ j) p q in
-    let m = signature-unique refl refl a (subst (λ x. ReadsSignature x s (Punctuation Semi ∷ rest)) (sym (tail_same (tail_same (tail_same h.1)))) b) in
-    let e = h.0 in let f = id-unique (subst (λ x. IsId x k) (head_same h.1) i) j in let g = m.0 in (cc, tail_same m.1)
+resource_member-unique _ _ _ _ _ (constructor_ p a r) (constructor_ q b s) =
+    let h = prefix-unique refl refl p q in let k = arguments-unique refl refl a r (rw (← tail_same h.1) at b) s in (cc (h.0, k.0, k.1), tail_same k.2)
+resource_member-unique _ _ _ _ _ (constructor_ p a r) (method q j b) = elim (rw (← head_same (prefix-unique refl (id_no_at _ j) p q).1) at j) [ ]
+resource_member-unique _ _ _ _ _ (constructor_ p a r) (static q j b) = elim (rw (← head_same (prefix-unique refl (id_no_at _ j) p q).1) at j) [ ]
+resource_member-unique _ _ _ _ _ (method p i a) (constructor_ q b s) = elim (rw (← head_same (prefix-unique refl (id_no_at _ i) q p).1) at i) [ ]
+resource_member-unique _ _ _ _ _ (method p i a) (method q j b) =
+    let h = named-unique p i q j in let s = signature-unique refl refl a (rw (← h.2) at b) in (cc (h.0, h.1, s.0), tail_same s.1)
+resource_member-unique _ _ _ _ _ (method p i a) (static q j b) = elim (rw (named-unique p i q j).2 at a) [ ]
+resource_member-unique _ _ _ _ _ (static p i a) (constructor_ q b s) = elim (rw (← head_same (prefix-unique refl (id_no_at _ i) q p).1) at i) [ ]
+resource_member-unique _ _ _ _ _ (static p i a) (method q j b) = elim (rw (named-unique q j p i).2 at b) [ ]
+resource_member-unique _ _ _ _ _ (static p i a) (static q j b) =
+    let h = named-unique p i q j in let s = signature-unique refl refl a (rw (← tail_same h.2) at b) in (cc (h.0, h.1, s.0), tail_same s.1)
 
 resource_member-never : Never ReadsResourceMember (Punctuation CloseBrace)
 resource_member-never x y z u = search (std_rules, no_prefix, mark_or_id)
 
 pub declared-unique : {before after rest : List Token} {a b : Declared} → ReadsDeclared before a after → ReadsDeclared before b rest → Same a b after rest
-declared-unique (record_ i l) (record_ j m) = let h = listed-unique field-unique (λ ts. refl) (λ e. cc e) field-never l m in let e = id-unique i j in let f = h.0 in (cc, h.1)
-declared-unique (variant i l) (variant j m) = let h = listed-unique case-unique (λ ts. refl) (λ e. cc e) case-never l m in let e = id-unique i j in let f = h.0 in (cc, h.1)
-declared-unique (flags i l) (flags j m) = let h = listed-unique label-unique (λ ts. refl) (λ e. cc e) label-never l m in let e = id-unique i j in let f = h.0 in (cc, h.1)
-declared-unique (enum i l) (enum j m) = let h = listed-unique label-unique (λ ts. refl) (λ e. cc e) label-never l m in let e = id-unique i j in let f = h.0 in (cc, h.1)
+declared-unique (record_ i l) (record_ j m) = let h = listed-unique field-unique (λ ts. refl) (λ e. cc e) field-never l m in (cc (id-unique i j, h.0), h.1)
+declared-unique (variant i l) (variant j m) = let h = listed-unique case-unique (λ ts. refl) (λ e. cc e) case-never l m in (cc (id-unique i j, h.0), h.1)
+declared-unique (flags i l) (flags j m) = let h = listed-unique label-unique (λ ts. refl) (λ e. cc e) label-never l m in (cc (id-unique i j, h.0), h.1)
+declared-unique (enum i l) (enum j m) = let h = listed-unique label-unique (λ ts. refl) (λ e. cc e) label-never l m in (cc (id-unique i j, h.0), h.1)
 declared-unique (alias i a) (alias j b) = let h = type-unique refl refl a b in let e = id-unique i j in let f = h.0 in (cc, tail_same h.1)
 declared-unique (resource i) (resource j) = let e = id-unique i j in (cc, refl)
-declared-unique (resource_with i l) (resource_with j m) = let h = repeated-unique resource_member-unique resource_member-never l m in let e = id-unique i j in let f = h.0 in (cc, h.1)
+declared-unique (resource_with i l) (resource_with j m) = let h = repeated-same resource_member-unique resource_member-never refl l m in let e = id-unique i j in let f = h.0 in (cc, h.1)
 
 -- no use and no declared type begins with `@`
 pub use_no_at : {before after : List Token} {p : PathTree} {names : List UsedName} → ReadsUse before p names after → begins_with_at before ≡ false

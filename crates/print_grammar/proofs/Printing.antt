@@ -1,10 +1,10 @@
 -- Calls whose text begins with tokens: one call, and then what follows it.
-use Rattle.std.proofs.Common.{rules as std_rules, ◌≡◌, refl, sym, ap, ◌∙◌, subst, ℕ, ◌-◌, Bool, true, false, not, List, [], ◌∷◌, ◌++◌, append_assoc, codes, Some}
+use Rattle.std.proofs.Common.{rules as std_rules, ◌≡◌, refl, sym, ap, ◌∙◌, subst, ℕ, ◌-◌, Bool, true, false, not, nat_lt, List, [], ◌∷◌, ◌++◌, codes, Some}
 use Rattle.wit_model.specs.Names.{is_label, begins_with_letter}
-use Rattle.print_grammar.specs.{Keyword.escaped, Token.Token, Token.Tokens, Token.spelled, Token.Token.Punctuation}
-use Rattle.print_grammar.specs.Token.Mark.{OpenBrace, CloseBrace, OpenParen, CloseParen, Less, Greater, Colon, Semi, Comma, Dot, Equals, At, Arrow}
+use Rattle.print_grammar.specs.{Keyword.escaped, Token.Token, Token.Tokens, Token.spelled, Token.Mark, Token.Token.Punctuation}
+use Rattle.print_grammar.specs.Token.Mark.{Slash, OpenBrace, CloseBrace, OpenParen, CloseParen, Less, Greater, Colon, Semi, Comma, Dot, Equals, At, Arrow}
 use Rattle.print_output.specs.{OutputCall.OutputCall, Render.front_of}
-use Rattle.print_output.specs.OutputCall.OutputCall.{PushStr, IndentIfNeeded, IndentStart, IndentEnd, Newline, IndentAndPrint, Keyword, Ty, Param, Case, GenericArgsStart, GenericArgsEnd, Doc, Semicolon, Str}
+use Rattle.print_output.specs.OutputCall.OutputCall.{PushStr, IndentStart, IndentEnd, Newline, Keyword, Ty, Param, Case, GenericArgsStart, GenericArgsEnd, Semicolon, Str}
 use Rattle.print_output.specs.declared.type_kind.TypeKind.{TypeKind}
 use Rattle.print_grammar.proofs.TextOf.{text_of}
 use Rattle.print_grammar.proofs.TokenFacts.{ends_by, token_at, mark_at, word_at, id_at, blank_at, blanks_at, ends_word, is_label_byte, id_token}
@@ -22,60 +22,37 @@ abbrev pub EndsWord : List OutputCall → Type 0
 EndsWord calls = (level : ℕ) → ends_word (text_of false level calls) ≡ true
 
 -- the same calls, put together otherwise
-pub relist : {begun : Bool} {P : List Token → Type 0} {calls others : List OutputCall} → calls ≡ others → Printed begun others P → Printed begun calls P
-relist {begun} {P} e p = subst (λ x. Printed begun x P) (sym e) p
-
--- two lists, with a call between and more behind
-pub two_lists : (first : List OutputCall) (call : OutputCall) (second third more : List OutputCall) → (first ++ (call ∷ (second ++ third))) ++ more ≡ first ++ (call ∷ (second ++ (third ++ more)))
-two_lists first call second third more = append_assoc first (call ∷ (second ++ third)) more ∙ ap (λ x. first ++ (call ∷ x)) (append_assoc second third more)
-
-pub three_lists : (first second third more : List OutputCall) → ((first ++ second) ++ third) ++ more ≡ first ++ (second ++ (third ++ more))
-three_lists first second third more = append_assoc (first ++ second) third more ∙ append_assoc first second (third ++ more)
+pub relist : {begun : Bool} {P : List Token → Type 0} {calls others : List OutputCall} → Printed begun others P → calls ≡ others → Printed begun calls P
+relist {begun} {P} p e = subst (λ x. Printed begun x P) (sym e) p
 
 -- ---- marks
 
-module _ {rest : List ℕ} {ts : List Token} where
-  pub colon : Tokens rest ts → Tokens (58 ∷ rest) (Punctuation Colon ∷ ts)
-  colon = mark_at 58 (Punctuation Colon) refl refl refl (λ d more. refl)
+-- the byte of a mark, if it is one byte that begins no comment
+abbrev byte_of : Mark → ℕ
+byte_of OpenBrace = 123
+byte_of CloseBrace = 125
+byte_of OpenParen = 40
+byte_of CloseParen = 41
+byte_of Less = 60
+byte_of Greater = 62
+byte_of Colon = 58
+byte_of Semi = 59
+byte_of Comma = 44
+byte_of Dot = 46
+byte_of Equals = 61
+byte_of At = 64
+byte_of mark = 0
 
-  pub semi : Tokens rest ts → Tokens (59 ∷ rest) (Punctuation Semi ∷ ts)
-  semi = mark_at 59 (Punctuation Semi) refl refl refl (λ d more. refl)
+pub mark : (m : Mark) {rest : List ℕ} {ts : List Token} → nat_lt 0 (byte_of m) ≡ true → Tokens rest ts → Tokens (byte_of m ∷ rest) (Punctuation m ∷ ts)
+mark Slash h f = absurd cc
+mark Arrow h f = absurd cc
+mark _ h f = mark_at _ _ refl refl refl (λ d more. refl) f
 
-  pub comma : Tokens rest ts → Tokens (44 ∷ rest) (Punctuation Comma ∷ ts)
-  comma = mark_at 44 (Punctuation Comma) refl refl refl (λ d more. refl)
+pub space : {rest : List ℕ} {ts : List Token} → Tokens rest ts → Tokens (32 ∷ rest) ts
+space f = blank_at 32 refl f
 
-  pub less : Tokens rest ts → Tokens (60 ∷ rest) (Punctuation Less ∷ ts)
-  less = mark_at 60 (Punctuation Less) refl refl refl (λ d more. refl)
-
-  pub greater : Tokens rest ts → Tokens (62 ∷ rest) (Punctuation Greater ∷ ts)
-  greater = mark_at 62 (Punctuation Greater) refl refl refl (λ d more. refl)
-
-  pub open_paren : Tokens rest ts → Tokens (40 ∷ rest) (Punctuation OpenParen ∷ ts)
-  open_paren = mark_at 40 (Punctuation OpenParen) refl refl refl (λ d more. refl)
-
-  pub close_paren : Tokens rest ts → Tokens (41 ∷ rest) (Punctuation CloseParen ∷ ts)
-  close_paren = mark_at 41 (Punctuation CloseParen) refl refl refl (λ d more. refl)
-
-  pub open_brace : Tokens rest ts → Tokens (123 ∷ rest) (Punctuation OpenBrace ∷ ts)
-  open_brace = mark_at 123 (Punctuation OpenBrace) refl refl refl (λ d more. refl)
-
-  pub close_brace : Tokens rest ts → Tokens (125 ∷ rest) (Punctuation CloseBrace ∷ ts)
-  close_brace = mark_at 125 (Punctuation CloseBrace) refl refl refl (λ d more. refl)
-
-  pub dot : Tokens rest ts → Tokens (46 ∷ rest) (Punctuation Dot ∷ ts)
-  dot = mark_at 46 (Punctuation Dot) refl refl refl (λ d more. refl)
-
-  pub equals : Tokens rest ts → Tokens (61 ∷ rest) (Punctuation Equals ∷ ts)
-  equals = mark_at 61 (Punctuation Equals) refl refl refl (λ d more. refl)
-
-  pub at_sign : Tokens rest ts → Tokens (64 ∷ rest) (Punctuation At ∷ ts)
-  at_sign = mark_at 64 (Punctuation At) refl refl refl (λ d more. refl)
-
-  pub space : Tokens rest ts → Tokens (32 ∷ rest) ts
-  space = blank_at 32 refl
-
-  pub line_feed : Tokens rest ts → Tokens (10 ∷ rest) ts
-  line_feed = blank_at 10 refl
+pub line_feed : {rest : List ℕ} {ts : List Token} → Tokens rest ts → Tokens (10 ∷ rest) ts
+line_feed f = blank_at 10 refl f
 
 pub arrow : (rest : List ℕ) {ts : List Token} → Tokens rest ts → Tokens (45 ∷ 62 ∷ rest) (Punctuation Arrow ∷ ts)
 arrow [] more = token_at 45 (62 ∷ []) [] (Punctuation Arrow) refl refl refl tt more
@@ -119,7 +96,7 @@ no_word p h more level = ap ends_word (printed_text p level more) ∙ ap not h
 
 -- a mark
 pub less_call : {call : OutputCall} {more : List OutputCall} {ts : List Token} → Prints call (60 ∷ []) → Follows false more ts → Follows false (call ∷ more) (Punctuation Less ∷ ts)
-less_call p f = call_is p (λ level. less (f.at level))
+less_call p f = call_is p (λ level. mark Less refl (f.at level))
 
 -- whether the call indents, if it may stand where a line has just begun
 abbrev pub indents : OutputCall → Bool
@@ -136,18 +113,8 @@ pub line_begins : (call : OutputCall) {more : List OutputCall} {ts : List Token}
 line_begins (PushStr text) h f = absurd cc
 line_begins IndentStart h f = absurd cc
 line_begins Newline h f = absurd cc
-line_begins IndentIfNeeded h f = record { at = λ level. blanks_in_front true level (f.at level) }
 line_begins IndentEnd h f = record { at = λ level. blanks_in_front true (level - 1) (f.at level) }
-line_begins (IndentAndPrint text) h f = record { at = λ level. blanks_in_front true level (f.at level) }
-line_begins (Keyword text) h f = record { at = λ level. blanks_in_front true level (f.at level) }
-line_begins (Ty text kind) h f = record { at = λ level. blanks_in_front true level (f.at level) }
-line_begins (Param text) h f = record { at = λ level. blanks_in_front true level (f.at level) }
-line_begins (Case text) h f = record { at = λ level. blanks_in_front true level (f.at level) }
-line_begins GenericArgsStart h f = record { at = λ level. blanks_in_front true level (f.at level) }
-line_begins GenericArgsEnd h f = record { at = λ level. blanks_in_front true level (f.at level) }
-line_begins (Doc line) h f = record { at = λ level. blanks_in_front true level (f.at level) }
-line_begins Semicolon h f = record { at = λ level. blanks_in_front true level (f.at level) }
-line_begins (Str text) h f = record { at = λ level. blanks_in_front true level (f.at level) }
+line_begins _ h f = record { at = λ level. blanks_in_front true level (f.at level) }
 
 -- ---- what ends a type, a signature or an entry
 
@@ -158,16 +125,24 @@ pub record Ended (more : List OutputCall) (tokens : List Token) : Type 0 where
 
 -- a comma and a space
 pub comma_call : {more : List OutputCall} {ts : List Token} → Follows false more ts → Ended (Str (codes ", ") ∷ more) (Punctuation Comma ∷ ts)
-comma_call f = record { follows = record { at = λ level. comma (space (f.at level)) }; word = λ level. refl }
+comma_call f = record { follows = record { at = λ level. mark Comma refl (space (f.at level)) }; word = λ level. refl }
 
 -- a line's end
 pub semicolon_call : {more : List OutputCall} {ts : List Token} → Follows true more ts → Ended (Semicolon ∷ more) (Punctuation Semi ∷ ts)
-semicolon_call f = record { follows = record { at = λ level. semi (line_feed (f.at level)) }; word = λ level. refl }
+semicolon_call f = record { follows = record { at = λ level. mark Semi refl (line_feed (f.at level)) }; word = λ level. refl }
 
 -- a closing angle bracket
 pub greater_call : {call : OutputCall} {more : List OutputCall} {ts : List Token} → Prints call (62 ∷ []) → Follows false more ts → Ended (call ∷ more) (Punctuation Greater ∷ ts)
-greater_call {more = more} p f = record { follows = call_is p (λ level. greater (f.at level)); word = no_word p refl more }
+greater_call {more = more} p f = record { follows = call_is p (λ level. mark Greater refl (f.at level)); word = no_word p refl more }
 
 -- a closing parenthesis
 pub paren_call : {more : List OutputCall} {ts : List Token} → Follows false more ts → Ended (Str (codes ")") ∷ more) (Punctuation CloseParen ∷ ts)
-paren_call f = record { follows = record { at = λ level. close_paren (f.at level) }; word = λ level. refl }
+paren_call f = record { follows = record { at = λ level. mark CloseParen refl (f.at level) }; word = λ level. refl }
+
+-- an open parenthesis
+pub open_call : {more : List OutputCall} {ts : List Token} → Follows false more ts → Follows false (Str (codes "(") ∷ more) (Punctuation OpenParen ∷ ts)
+open_call f = record { at = λ level. mark OpenParen refl (f.at level) }
+
+-- an equals sign between spaces
+pub equals_call : {more : List OutputCall} {ts : List Token} → Follows false more ts → Follows false (Str (codes " = ") ∷ more) (Punctuation Equals ∷ ts)
+equals_call f = record { at = λ level. space (mark Equals refl (space (f.at level))) }

@@ -4,7 +4,7 @@ use Rattle.print_grammar.specs.Keyword.Keyword.{Package, World, Import, Export, 
 use Rattle.print_grammar.specs.{Keyword.Primitive.U32, Keyword.Primitive.Bool_, Tree.ExternTree.NamedFunction, Grammar.Repeated.closed, Grammar.Repeated.again}
 use Rattle.print_grammar.specs.Calls.{file_calls}
 use Rattle.print_grammar.specs.{Tree.TypeTree.PrimitiveType, Grammar.ReadsItem.world_item, Grammar.ReadsGates.no_gates, Grammar.ReadsSignature.func}
-use Rattle.print_grammar.specs.{Token.Token, Token.Tokens, Token.front_of_text, Tree.FileTree, Tree.SignatureTree, Tree.Prefix, Grammar.ReadsVersion.no_version}
+use Rattle.print_grammar.specs.{Token.Token, Token.Tokens, Token.front_of_text, Tree.FileTree, Grammar.ReadsVersion.no_version}
 use Rattle.print_grammar.specs.Token.Token.{Word, Escaped, Key, VersionText, Digits, Quoted, Punctuation}
 use Rattle.print_grammar.specs.Token.Mark.{Arrow, Colon, Semi, OpenBrace, CloseBrace, OpenParen, CloseParen}
 use Rattle.print_grammar.specs.{Token.Front.Found, Token.Front.Unknown, Grammar.ReadsFile, Grammar.ReadsSignature, Grammar.ReadsExternalId.no_external_id}
@@ -13,6 +13,7 @@ use Rattle.print_grammar.specs.{Tree.Gates.Ungated, Tree.ItemTree.WorldItem, Gra
 use Rattle.print_grammar.specs.Grammar.{ReadsFile.file, ReadsItems.no_items, ReadsItems.next_item, ReadsWorldMember.world_import, ReadsWorldMember.world_export}
 use Rattle.print_grammar.specs.Grammar.{ReadsHead.head, ReadsAllNested.nested_end, ReadsExtern.extern_function, ReadsParams.no_params, ReadsResult.no_result}
 use Rattle.std.specs.List.{flat_map}
+use Rattle.print_grammar.proofs.Scanned.{bare, no_parameters, scanned}
 use Rattle.print_output.specs.{OutputCall.body_calls, Render.render}
 
 -- a world that imports a function and exports one
@@ -22,35 +23,22 @@ two_functions_text =
 
 abbrev two_functions_tokens : List Token
 two_functions_tokens =
-    Key Package ∷ Word (codes "a") ∷ Punctuation Colon ∷ Word (codes "b") ∷ Punctuation Semi
-    ∷ Key World ∷ Word (codes "foo") ∷ Punctuation OpenBrace
-    ∷ Key Import ∷ Word (codes "host") ∷ Punctuation Colon ∷ Key Func ∷ Punctuation OpenParen ∷ Punctuation CloseParen ∷ Punctuation Semi
-    ∷ Key Export ∷ Word (codes "guest") ∷ Punctuation Colon ∷ Key Func ∷ Punctuation OpenParen ∷ Punctuation CloseParen ∷ Punctuation Semi
-    ∷ Punctuation CloseBrace ∷ []
-
-abbrev plain_prefix : Prefix
-plain_prefix = record { docs = []; gates = Ungated; external_id = None }
-
-abbrev no_parameters : SignatureTree
-no_parameters = record { is_async = false; params = []; result = None }
+    Key Package ∷ Word (codes "a") ∷ Punctuation Colon ∷ Word (codes "b") ∷ Punctuation Semi ∷ Key World ∷ Word (codes "foo") ∷ Punctuation OpenBrace ∷ Key Import ∷ Word (codes "host")
+    ∷ Punctuation Colon ∷ Key Func ∷ Punctuation OpenParen ∷ Punctuation CloseParen ∷ Punctuation Semi ∷ Key Export ∷ Word (codes "guest") ∷ Punctuation Colon ∷ Key Func ∷ Punctuation OpenParen
+    ∷ Punctuation CloseParen ∷ Punctuation Semi ∷ Punctuation CloseBrace ∷ []
 
 abbrev two_functions : FileTree
 two_functions = record {
   main = record {
     head = record { docs = []; namespace = codes "a"; name = codes "b"; version = None };
-    items = WorldItem [] Ungated (codes "foo") (WorldImport plain_prefix (NamedFunction (codes "host") no_parameters) ∷ WorldExport plain_prefix
+    items = WorldItem [] Ungated (codes "foo") (WorldImport bare (NamedFunction (codes "host") no_parameters) ∷ WorldExport bare
         (NamedFunction (codes "guest") no_parameters) ∷ []) ∷ [];
   };
   nested = [];
 }
 
 pub two-functions-tokens : Tokens two_functions_text two_functions_tokens
-two-functions-tokens =
-    token refl (skip refl (token refl (token refl (token refl (token refl (skip refl (skip refl
-    (token refl (skip refl (token refl (skip refl (token refl (skip refl (skip refl (skip refl
-    (token refl (skip refl (token refl (token refl (skip refl (token refl (token refl (token refl (token refl (skip refl (skip refl (skip refl (skip refl
-    (token refl (skip refl (token refl (token refl (skip refl (token refl (token refl (token refl (token refl (skip refl
-    (token refl (skip refl (no_tokens refl)))))))))))))))))))))))))))))))))))))))))
+two-functions-tokens = scanned 200 _ _ refl
 
 pub no-parameters : (after : List Token) → ReadsSignature (Key Func ∷ Punctuation OpenParen ∷ Punctuation CloseParen ∷ Punctuation Semi ∷ after) no_parameters (Punctuation Semi ∷ after)
 no-parameters after = func no_params no_result
@@ -118,8 +106,8 @@ with_keywords = record {
   main = record {
     head = record { docs = []; namespace = codes "a"; name = codes "b"; version = Some (codes "1.0.0-rc.1") };
     items = WorldItem [] Ungated (codes "foo")
-        (WorldImport plain_prefix (NamedFunction (codes "map") (record { is_async = false; params = record { name = codes "type"; ty = PrimitiveType U32 } ∷ []; result = Some (PrimitiveType Bool_) }))
-        ∷ WorldImport plain_prefix (NamedFunction (codes "z") (record { is_async = true; params = []; result = None })) ∷ []) ∷ [];
+        (WorldImport bare (NamedFunction (codes "map") (record { is_async = false; params = record { name = codes "type"; ty = PrimitiveType U32 } ∷ []; result = Some (PrimitiveType Bool_) }))
+        ∷ WorldImport bare (NamedFunction (codes "z") (record { is_async = true; params = []; result = None })) ∷ []) ∷ [];
   };
   nested = [];
 }

@@ -1,5 +1,5 @@
 -- Worked examples: the tokens and the trees of texts of every kind: types, strings with escapes, nested packages.
-use Rattle.std.proofs.Common.{◌≡◌, [], ◌∷◌, ◌++◌, List, ℕ, refl, codes, None, Some, false, true}
+use Rattle.std.proofs.Common.{◌≡◌, [], ◌∷◌, ◌++◌, List, ℕ, refl, codes, None, Some, true}
 use Rattle.std.specs.Fmt.{digits}
 use Rattle.wit_model.specs.Names.{cut}
 use Rattle.print_grammar.specs.Keyword.Keyword.{PrimitiveWord, Package, Interface, World, Func, Record, Tuple, Option_, List_, Map, Underscore}
@@ -9,7 +9,7 @@ use Rattle.print_grammar.specs.{Calls.type_calls, Calls.file_calls, Tree.TypeTre
 use Rattle.print_grammar.specs.{Token.Token, Token.Tokens, Tree.Declared.RecordOf, Grammar.ReadsPrefix.prefix, Grammar.ReadsField.field, Grammar.ReadsHead.head}
 use Rattle.print_grammar.specs.Token.Token.{Word, Escaped, Key, VersionText, Digits, Quoted, Punctuation}
 use Rattle.print_grammar.specs.Token.Mark.{OpenBrace, CloseBrace, OpenParen, CloseParen, Less, Greater, Colon, Semi, Comma, Dot, Equals, At}
-use Rattle.print_grammar.specs.{Token.Tokens.no_tokens, Token.Tokens.skip, Token.Tokens.token, Tree.TypeTree, Tree.Prefix, Tree.SignatureTree, Tree.FileTree}
+use Rattle.print_grammar.specs.{Token.Tokens.no_tokens, Token.Tokens.skip, Token.Tokens.token, Tree.TypeTree, Tree.SignatureTree, Tree.FileTree}
 use Rattle.print_grammar.specs.Tree.TypeTree.{PrimitiveType, Name, Own, Borrow, TupleOf, OptionOf, ListOf, FixedListOf, MapOf, Result, ResultOk, ResultErr, ResultOf, Future, FutureOf, Stream, StreamOf}
 use Rattle.print_grammar.specs.{Tree.MemberTree.TypeMember, Tree.MemberTree.FunctionMember, Grammar.ReadsFile, Grammar.ReadsType, Grammar.ReadsSignature}
 use Rattle.print_grammar.specs.{Tree.ItemTree.InterfaceItem, Grammar.ReadsResult.no_result, Grammar.ReadsSignature.func, Grammar.ReadsDeclared.record_}
@@ -20,12 +20,7 @@ use Rattle.print_grammar.specs.Grammar.{ReadsParams.no_params, ReadsDeprecated.n
 use Rattle.print_grammar.specs.Grammar.{ReadsVersion.no_version, ReadsVersion.with_version, ReadsMember.member_type, ReadsMember.member_function}
 use Rattle.print_grammar.specs.Grammar.{ReadsExternalId.no_external_id, ReadsExternalId.external_id, ReadsAllNested.nested_end, ReadsAllNested.next_nested}
 use Rattle.print_output.specs.Render.{render}
-
-abbrev bare : Prefix
-bare = record { docs = []; gates = Ungated; external_id = None }
-
-abbrev no_parameters : SignatureTree
-no_parameters = record { is_async = false; params = []; result = None }
+use Rattle.print_grammar.proofs.Scanned.{bare, no_parameters, scanned}
 
 -- ---- types
 
@@ -34,19 +29,13 @@ primitives_text = codes "tuple<bool, u8, u16, u32, u64, s8, s16, s32, s64, f32, 
 
 abbrev primitives_tokens : List Token
 primitives_tokens =
-    Key Tuple ∷ Punctuation Less ∷ Key (PrimitiveWord Bool_) ∷ Punctuation Comma ∷ Key (PrimitiveWord U8) ∷ Punctuation Comma
-    ∷ Key (PrimitiveWord U16) ∷ Punctuation Comma ∷ Key (PrimitiveWord U32) ∷ Punctuation Comma ∷ Key (PrimitiveWord U64) ∷ Punctuation Comma
-    ∷ Key (PrimitiveWord S8) ∷ Punctuation Comma ∷ Key (PrimitiveWord S16) ∷ Punctuation Comma ∷ Key (PrimitiveWord S32) ∷ Punctuation Comma
-    ∷ Key (PrimitiveWord S64) ∷ Punctuation Comma ∷ Key (PrimitiveWord F32) ∷ Punctuation Comma ∷ Key (PrimitiveWord F64) ∷ Punctuation Comma
-    ∷ Key (PrimitiveWord Char) ∷ Punctuation Comma ∷ Key (PrimitiveWord String) ∷ Punctuation Comma ∷ Key (PrimitiveWord ErrorContext)
-    ∷ Punctuation Greater ∷ []
+    Key Tuple ∷ Punctuation Less ∷ Key (PrimitiveWord Bool_) ∷ Punctuation Comma ∷ Key (PrimitiveWord U8) ∷ Punctuation Comma ∷ Key (PrimitiveWord U16) ∷ Punctuation Comma ∷ Key (PrimitiveWord U32)
+    ∷ Punctuation Comma ∷ Key (PrimitiveWord U64) ∷ Punctuation Comma ∷ Key (PrimitiveWord S8) ∷ Punctuation Comma ∷ Key (PrimitiveWord S16) ∷ Punctuation Comma ∷ Key (PrimitiveWord S32)
+    ∷ Punctuation Comma ∷ Key (PrimitiveWord S64) ∷ Punctuation Comma ∷ Key (PrimitiveWord F32) ∷ Punctuation Comma ∷ Key (PrimitiveWord F64) ∷ Punctuation Comma ∷ Key (PrimitiveWord Char)
+    ∷ Punctuation Comma ∷ Key (PrimitiveWord String) ∷ Punctuation Comma ∷ Key (PrimitiveWord ErrorContext) ∷ Punctuation Greater ∷ []
 
 pub primitives-tokens : Tokens primitives_text primitives_tokens
-primitives-tokens =
-    token refl (token refl (token refl (token refl (skip refl (token refl (token refl (skip refl (token refl (token refl (skip refl (token refl
-    (token refl (skip refl (token refl (token refl (skip refl (token refl (token refl (skip refl (token refl (token refl (skip refl (token refl
-    (token refl (skip refl (token refl (token refl (skip refl (token refl (token refl (skip refl (token refl (token refl (skip refl (token refl
-    (token refl (skip refl (token refl (token refl (skip refl (token refl (token refl (no_tokens refl)))))))))))))))))))))))))))))))))))))))))))
+primitives-tokens = scanned 200 _ _ refl
 
 abbrev primitives : TypeTree
 primitives = TupleOf (AndTypes (PrimitiveType Bool_) (AndTypes (PrimitiveType U8)
@@ -68,29 +57,18 @@ forms_text = codes "tuple<option<t>, list<u8>, list<u8, 4>, map<string, u32>, re
 
 abbrev forms_tokens : List Token
 forms_tokens =
-    Key Tuple ∷ Punctuation Less ∷ Key Option_ ∷ Punctuation Less ∷ Word (codes "t") ∷ Punctuation Greater ∷ Punctuation Comma ∷ Key List_
-    ∷ Punctuation Less ∷ Key (PrimitiveWord U8) ∷ Punctuation Greater ∷ Punctuation Comma ∷ Key List_ ∷ Punctuation Less ∷ Key (PrimitiveWord U8)
-    ∷ Punctuation Comma ∷ Digits 4 ∷ Punctuation Greater ∷ Punctuation Comma ∷ Key Map ∷ Punctuation Less ∷ Key (PrimitiveWord String)
-    ∷ Punctuation Comma ∷ Key (PrimitiveWord U32) ∷ Punctuation Greater ∷ Punctuation Comma ∷ Key Keyword.Result ∷ Punctuation Comma ∷ Key Keyword.Result
-    ∷ Punctuation Less ∷ Key (PrimitiveWord U8) ∷ Punctuation Greater ∷ Punctuation Comma ∷ Key Keyword.Result ∷ Punctuation Less ∷ Key Underscore
-    ∷ Punctuation Comma ∷ Key (PrimitiveWord U8) ∷ Punctuation Greater ∷ Punctuation Comma ∷ Key Keyword.Result ∷ Punctuation Less ∷ Key (PrimitiveWord U8)
-    ∷ Punctuation Comma ∷ Key (PrimitiveWord String) ∷ Punctuation Greater ∷ Punctuation Comma ∷ Key Keyword.Future ∷ Punctuation Comma ∷ Key Keyword.Future
-    ∷ Punctuation Less ∷ Key (PrimitiveWord U8) ∷ Punctuation Greater ∷ Punctuation Comma ∷ Key Keyword.Stream ∷ Punctuation Comma ∷ Key Keyword.Stream
-    ∷ Punctuation Less ∷ Key (PrimitiveWord U8) ∷ Punctuation Greater ∷ Punctuation Comma ∷ Key Keyword.Own ∷ Punctuation Less ∷ Word (codes "r")
-    ∷ Punctuation Greater ∷ Punctuation Comma ∷ Key Keyword.Borrow ∷ Punctuation Less ∷ Word (codes "r") ∷ Punctuation Greater ∷ Punctuation Greater ∷ []
+    Key Tuple ∷ Punctuation Less ∷ Key Option_ ∷ Punctuation Less ∷ Word (codes "t") ∷ Punctuation Greater ∷ Punctuation Comma ∷ Key List_ ∷ Punctuation Less ∷ Key (PrimitiveWord U8)
+    ∷ Punctuation Greater ∷ Punctuation Comma ∷ Key List_ ∷ Punctuation Less ∷ Key (PrimitiveWord U8) ∷ Punctuation Comma ∷ Digits 4 ∷ Punctuation Greater ∷ Punctuation Comma ∷ Key Map
+    ∷ Punctuation Less ∷ Key (PrimitiveWord String) ∷ Punctuation Comma ∷ Key (PrimitiveWord U32) ∷ Punctuation Greater ∷ Punctuation Comma ∷ Key Keyword.Result ∷ Punctuation Comma
+    ∷ Key Keyword.Result ∷ Punctuation Less ∷ Key (PrimitiveWord U8) ∷ Punctuation Greater ∷ Punctuation Comma ∷ Key Keyword.Result ∷ Punctuation Less ∷ Key Underscore ∷ Punctuation Comma
+    ∷ Key (PrimitiveWord U8) ∷ Punctuation Greater ∷ Punctuation Comma ∷ Key Keyword.Result ∷ Punctuation Less ∷ Key (PrimitiveWord U8) ∷ Punctuation Comma ∷ Key (PrimitiveWord String)
+    ∷ Punctuation Greater ∷ Punctuation Comma ∷ Key Keyword.Future ∷ Punctuation Comma ∷ Key Keyword.Future ∷ Punctuation Less ∷ Key (PrimitiveWord U8) ∷ Punctuation Greater ∷ Punctuation Comma
+    ∷ Key Keyword.Stream ∷ Punctuation Comma ∷ Key Keyword.Stream ∷ Punctuation Less ∷ Key (PrimitiveWord U8) ∷ Punctuation Greater ∷ Punctuation Comma ∷ Key Keyword.Own ∷ Punctuation Less
+    ∷ Word (codes "r") ∷ Punctuation Greater ∷ Punctuation Comma ∷ Key Keyword.Borrow ∷ Punctuation Less ∷ Word (codes "r") ∷ Punctuation Greater ∷ Punctuation Greater ∷ []
 
 pub forms-tokens : Tokens forms_text forms_tokens
 unfolding cut
-forms-tokens =
-    token refl (token refl (token refl (token refl (token refl (token refl (token refl (skip refl (token refl (token refl (token refl (token refl
-    (token refl (skip refl (token refl (token refl (token refl (token refl (skip refl (token refl (token refl (token refl (skip refl (token refl
-    (token refl (token refl (token refl (skip refl (token refl (token refl (token refl (skip refl (token refl (token refl (skip refl (token refl
-    (token refl (token refl (token refl (token refl (skip refl (token refl (token refl (token refl (token refl (skip refl (token refl (token refl
-    (token refl (skip refl (token refl (token refl (token refl (token refl (skip refl (token refl (token refl (token refl (skip refl (token refl
-    (token refl (skip refl (token refl (token refl (token refl (token refl (token refl (skip refl (token refl (token refl (skip refl (token refl
-    (token refl (token refl (token refl (token refl (skip refl (token refl (token refl (token refl (token refl (token refl (skip refl (token refl
-    (token refl (token refl (token refl (token refl (no_tokens
-    refl))))))))))))))))))))))))))))))))))))))))))))))))))))))))))))))))))))))))))))))))))))))))
+forms-tokens = scanned 200 _ _ refl
 
 abbrev forms : TypeTree
 forms = TupleOf (AndTypes (OptionOf (Name (codes "t"))) (AndTypes (ListOf (PrimitiveType U8))
@@ -138,22 +116,13 @@ escapes_text = codes "package a:b;" ++ (10 ∷ 10 ∷ (codes "interface i {"
 
 abbrev escapes_tokens : List Token
 escapes_tokens =
-    Key Package ∷ Word (codes "a") ∷ Punctuation Colon ∷ Word (codes "b") ∷ Punctuation Semi ∷ Key Interface ∷ Word (codes "i")
-    ∷ Punctuation OpenBrace ∷ Punctuation At ∷ Word (codes "unstable") ∷ Punctuation OpenParen ∷ Word (codes "feature") ∷ Punctuation Equals
-    ∷ Escaped (codes "async") ∷ Punctuation CloseParen ∷ Punctuation At ∷ Word (codes "external-id") ∷ Punctuation OpenParen
-    ∷ Quoted (97 ∷ 34 ∷ 233 ∷ []) ∷ Punctuation CloseParen ∷ Key Record ∷ Word (codes "p") ∷ Punctuation OpenBrace ∷ Escaped (codes "type")
-    ∷ Punctuation Colon ∷ Key (PrimitiveWord U32) ∷ Punctuation Comma ∷ Escaped (codes "map") ∷ Punctuation Colon ∷ Key (PrimitiveWord String)
-    ∷ Punctuation Comma ∷ Punctuation CloseBrace ∷ Punctuation CloseBrace ∷ []
+    Key Package ∷ Word (codes "a") ∷ Punctuation Colon ∷ Word (codes "b") ∷ Punctuation Semi ∷ Key Interface ∷ Word (codes "i") ∷ Punctuation OpenBrace ∷ Punctuation At ∷ Word (codes "unstable")
+    ∷ Punctuation OpenParen ∷ Word (codes "feature") ∷ Punctuation Equals ∷ Escaped (codes "async") ∷ Punctuation CloseParen ∷ Punctuation At ∷ Word (codes "external-id") ∷ Punctuation OpenParen
+    ∷ Quoted (97 ∷ 34 ∷ 233 ∷ []) ∷ Punctuation CloseParen ∷ Key Record ∷ Word (codes "p") ∷ Punctuation OpenBrace ∷ Escaped (codes "type") ∷ Punctuation Colon ∷ Key (PrimitiveWord U32)
+    ∷ Punctuation Comma ∷ Escaped (codes "map") ∷ Punctuation Colon ∷ Key (PrimitiveWord String) ∷ Punctuation Comma ∷ Punctuation CloseBrace ∷ Punctuation CloseBrace ∷ []
 
 pub escapes-tokens : Tokens escapes_text escapes_tokens
-escapes-tokens =
-    token refl (skip refl (token refl (token refl (token refl (token refl (skip refl (skip refl (token refl (skip refl (token refl (skip refl (token
-    refl (skip refl (skip refl (skip refl (token refl (token refl (token refl (token refl (skip refl (token refl (skip refl (token refl (token refl
-    (skip refl (skip refl (skip refl (token refl (token refl (token refl (token refl (token refl (skip refl (skip refl (skip refl (token refl (skip
-    refl (token refl (skip refl (token refl (skip refl (skip refl (skip refl (skip refl (skip refl (token refl (token refl (skip refl (token refl
-    (token refl (skip refl (skip refl (skip refl (skip refl (skip refl (token refl (token refl (skip refl (token refl (token refl (skip refl (skip
-    refl (skip refl (token refl (skip refl (token refl (skip refl (skip refl (no_tokens
-    refl)))))))))))))))))))))))))))))))))))))))))))))))))))))))))))))))))))))
+escapes-tokens = scanned 200 _ _ refl
 
 abbrev escapes : FileTree
 escapes = record {
@@ -191,18 +160,13 @@ inner_text = codes "package a:b;" ++ (10 ∷ 10 ∷ (codes "package c:d@1.0.0 {"
 
 abbrev inner_tokens : List Token
 inner_tokens =
-    Key Package ∷ Word (codes "a") ∷ Punctuation Colon ∷ Word (codes "b") ∷ Punctuation Semi ∷ Key Package ∷ Word (codes "c") ∷ Punctuation Colon
-    ∷ Word (codes "d") ∷ Punctuation At ∷ VersionText (codes "1.0.0") ∷ Punctuation OpenBrace ∷ Key Interface ∷ Word (codes "i")
-    ∷ Punctuation OpenBrace ∷ Word (codes "f") ∷ Punctuation Colon ∷ Key Func ∷ Punctuation OpenParen ∷ Punctuation CloseParen ∷ Punctuation Semi
-    ∷ Punctuation CloseBrace ∷ Punctuation CloseBrace ∷ []
+    Key Package ∷ Word (codes "a") ∷ Punctuation Colon ∷ Word (codes "b") ∷ Punctuation Semi ∷ Key Package ∷ Word (codes "c") ∷ Punctuation Colon ∷ Word (codes "d") ∷ Punctuation At
+    ∷ VersionText (codes "1.0.0") ∷ Punctuation OpenBrace ∷ Key Interface ∷ Word (codes "i") ∷ Punctuation OpenBrace ∷ Word (codes "f") ∷ Punctuation Colon ∷ Key Func ∷ Punctuation OpenParen
+    ∷ Punctuation CloseParen ∷ Punctuation Semi ∷ Punctuation CloseBrace ∷ Punctuation CloseBrace ∷ []
 
 pub inner-tokens : Tokens inner_text inner_tokens
 unfolding cut
-inner-tokens =
-    token refl (skip refl (token refl (token refl (token refl (token refl (skip refl (skip refl (token refl (skip refl (token refl (token refl (token
-    refl (token refl (token refl (skip refl (token refl (skip refl (skip refl (skip refl (token refl (skip refl (token refl (skip refl (token refl
-    (skip refl (skip refl (skip refl (skip refl (skip refl (token refl (token refl (skip refl (token refl (token refl (token refl (token refl (skip
-    refl (skip refl (skip refl (token refl (skip refl (token refl (skip refl (no_tokens refl))))))))))))))))))))))))))))))))))))))))))))
+inner-tokens = scanned 200 _ _ refl
 
 abbrev inner : FileTree
 inner = record {

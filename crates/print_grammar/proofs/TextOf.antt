@@ -23,27 +23,15 @@ text_of begun level (Doc line ∷ calls) = front_of begun level ++ (doc_text lin
 text_of begun level (Semicolon ∷ calls) = front_of begun level ++ (59 ∷ 10 ∷ text_of true level calls)
 text_of begun level (Str text ∷ calls) = front_of begun level ++ (text ++ text_of false level calls)
 
--- what stands there already, and then three parts
-three : (a b c d : List ℕ) → ((a ++ b) ++ c) ++ d ≡ a ++ (b ++ (c ++ d))
-three a b c d = simp append_assoc
+-- one call and what follows it
+one_call : (view : View Written) (call : OutputCall) (calls : List OutputCall) → let next = after writes view call in
+    next.kept.text ++ text_of next.line_begun next.kept.level calls ≡ view.kept.text ++ text_of view.line_begun view.kept.level (call ∷ calls)
+one_call v (PushStr text) calls = simp append_assoc
+one_call v _ calls = simp append_assoc
 
 pub text_after : (view : View Written) (calls : List OutputCall) → (after_all writes view calls).kept.text ≡ view.kept.text ++ text_of view.line_begun view.kept.level calls
 text_after v [] = sym (append-nil v.kept.text)
-text_after v (PushStr text ∷ calls) = text_after (after writes v (PushStr text)) calls ∙ append_assoc v.kept.text text _
-text_after v (IndentIfNeeded ∷ calls) = text_after (after writes v IndentIfNeeded) calls ∙ three v.kept.text (front_of v.line_begun v.kept.level) [] _
-text_after v (IndentStart ∷ calls) = text_after (after writes v IndentStart) calls ∙ append_assoc v.kept.text (32 ∷ 123 ∷ 10 ∷ []) _
-text_after v (IndentEnd ∷ calls) = text_after (after writes v IndentEnd) calls ∙ three v.kept.text (front_of v.line_begun (v.kept.level - 1)) (125 ∷ 10 ∷ []) _
-text_after v (Newline ∷ calls) = text_after (after writes v Newline) calls ∙ append_assoc v.kept.text (10 ∷ []) _
-text_after v (IndentAndPrint text ∷ calls) = text_after (after writes v (IndentAndPrint text)) calls ∙ three v.kept.text (front_of v.line_begun v.kept.level) text _
-text_after v (Keyword text ∷ calls) = text_after (after writes v (Keyword text)) calls ∙ three v.kept.text (front_of v.line_begun v.kept.level) text _
-text_after v (Ty text kind ∷ calls) = text_after (after writes v (Ty text kind)) calls ∙ three v.kept.text (front_of v.line_begun v.kept.level) text _
-text_after v (Param text ∷ calls) = text_after (after writes v (Param text)) calls ∙ three v.kept.text (front_of v.line_begun v.kept.level) text _
-text_after v (Case text ∷ calls) = text_after (after writes v (Case text)) calls ∙ three v.kept.text (front_of v.line_begun v.kept.level) text _
-text_after v (GenericArgsStart ∷ calls) = text_after (after writes v GenericArgsStart) calls ∙ three v.kept.text (front_of v.line_begun v.kept.level) (60 ∷ []) _
-text_after v (GenericArgsEnd ∷ calls) = text_after (after writes v GenericArgsEnd) calls ∙ three v.kept.text (front_of v.line_begun v.kept.level) (62 ∷ []) _
-text_after v (Doc line ∷ calls) = text_after (after writes v (Doc line)) calls ∙ three v.kept.text (front_of v.line_begun v.kept.level) (doc_text line) _
-text_after v (Semicolon ∷ calls) = text_after (after writes v Semicolon) calls ∙ three v.kept.text (front_of v.line_begun v.kept.level) (59 ∷ 10 ∷ []) _
-text_after v (Str text ∷ calls) = text_after (after writes v (Str text)) calls ∙ three v.kept.text (front_of v.line_begun v.kept.level) text _
+text_after v (call ∷ calls) = text_after (after writes v call) calls ∙ one_call v call calls
 
 -- the text of calls from the start
 pub rendered : (calls : List OutputCall) → render calls ≡ text_of false 0 calls

@@ -50,9 +50,9 @@ token_at c cs rest t blank comment s h more = token front more
     front = rw (blank, comment, front_of_text) (ap found (longest-goes [] (c ∷ cs) rest t s h))
 
 -- A text of one byte that begins no longer token.
-pub mark_at : (c : ℕ) (t : Token) → is_blank c ≡ false → (c == 47) ≡ false → spelled (c ∷ []) ≡ Some t → ((d : ℕ) (more : List ℕ) → spelled (c ∷ d ∷ more) ≡ None) → {rest : List ℕ} {ts : List Token}
-    → Tokens rest ts → Tokens (c ∷ rest) (t ∷ ts)
-mark_at c t blank slash s longer {rest} more = token_at c [] rest t blank (rw slash refl) s (ends rest) more
+pub mark_at : (c : ℕ) (t : Token) {rest : List ℕ} {ts : List Token} → is_blank c ≡ false → begins_comment (c ∷ rest) ≡ false → spelled (c ∷ []) ≡ Some t
+    → ((d : ℕ) (more : List ℕ) → spelled (c ∷ d ∷ more) ≡ None) → Tokens rest ts → Tokens (c ∷ rest) (t ∷ ts)
+mark_at c t {rest} blank comment s longer more = token_at c [] rest t blank comment s (ends rest) more
   where
     ends : (text : List ℕ) → EndsToken (c ∷ []) text
     ends [] = tt
@@ -164,8 +164,4 @@ id_no_slash (c ∷ cs) rest h = go (keyword_of (c ∷ cs)) refl
 
 -- A slash in front of an id begins no comment.
 pub slash_at : (label rest : List ℕ) {ts : List Token} → is_label label ≡ true → Tokens (escaped label ++ rest) ts → Tokens (47 ∷ (escaped label ++ rest)) (Token.Punctuation Slash ∷ ts)
-slash_at label rest h more = token_at 47 [] (escaped label ++ rest) (Token.Punctuation Slash) refl (id_no_slash label rest h) refl (ends (escaped label ++ rest)) more
-  where
-    ends : (text : List ℕ) → EndsToken (47 ∷ []) text
-    ends [] = tt
-    ends (d ∷ ds) = ends_by (47 ∷ []) d ds (λ more. refl)
+slash_at label rest h more = mark_at 47 (Token.Punctuation Slash) refl (id_no_slash label rest h) refl (λ d more. refl) more

@@ -1,25 +1,24 @@
 -- A list of tokens begins with at most one type, where what follows doesn't go on with it.
-use Rattle.std.proofs.Common.{◌≡◌, refl, sym, ap, ◌∙◌, subst, ℕ, true, false, nat_lt, List, [], ◌∷◌, ◌++◌, append-nil, append_assoc, codes, Some, ◌^◌, Bool}
+use Rattle.std.proofs.Common.{rules as std_rules, ◌≡◌, refl, ap, ℕ, true, false, nat_lt, List, [], ◌∷◌, ◌++◌, append-nil, append_assoc, codes, Some, ◌^◌, Bool}
 use Rattle.std.proofs.lemmas.Bool.{ltb-true}
 use Rattle.wit_model.specs.Names.{is_label, begins_with_letter}
 use Rattle.print_grammar.specs.{Keyword.Keyword, Keyword.Primitive, Keyword.primitive_text, Keyword.escaped, WellNamed.is_well_type, WellNamed.are_well_types}
 use Rattle.print_grammar.specs.Keyword.Primitive.{Bool_}
 use Rattle.print_grammar.specs.{Calls.type_calls, Calls.types_calls, AsRead.type_as_read, AsRead.types_as_read, Tree.TypeTree, Tree.TypeTrees}
-use Rattle.print_grammar.specs.{Tree.TypeTrees.NoTypes, Tree.TypeTrees.AndTypes, Grammar.ReadsType, Grammar.ReadsTypes, Grammar.IsId, Keyword.Keyword.As}
-use Rattle.print_grammar.specs.{Token.Token, Token.Tokens, Token.spelled, Token.Mark, Token.Token.Punctuation, Token.Token.Key, Token.Token.Digits}
+use Rattle.print_grammar.specs.{Tree.TypeTrees.NoTypes, Tree.TypeTrees.AndTypes, Grammar.ReadsType, Grammar.ReadsTypes, Grammar.IsId}
+use Rattle.print_grammar.specs.{Token.Token, Token.spelled, Token.Mark, Token.Token.Punctuation, Token.Token.Key, Token.Token.Digits}
 use Rattle.print_grammar.specs.Grammar.{ReadsTypes.last_type, ReadsTypes.next_type, ReadsTypes.last_type_with_comma, IsId.plain, IsId.with_percent}
-use Rattle.print_grammar.specs.Token.Mark.{Less, Greater, Comma, OpenParen, CloseParen, CloseBrace, Semi, At, Arrow}
+use Rattle.print_grammar.specs.Token.Mark.{Less, Greater, Comma, CloseParen, CloseBrace, Semi, At}
 use Rattle.print_grammar.specs.Tree.TypeTree.{PrimitiveType, Name, Handle, Own, Borrow, TupleOf, OptionOf, ListOf, FixedListOf, MapOf, Result, ResultOk, ResultErr, ResultOf, Future, FutureOf, Stream, StreamOf}
 use Rattle.print_grammar.specs.Grammar.ReadsType.{primitive, named, named_with_percent, own, borrow, tuple, option, map, list, fixed_list, future, future_of, stream, stream_of, result, result_ok, result_of, result_err}
 use Rattle.print_output.specs.OutputCall.{OutputCall}
-use Rattle.print_output.specs.OutputCall.OutputCall.{PushStr, Ty, GenericArgsStart, GenericArgsEnd, Str}
+use Rattle.print_output.specs.OutputCall.OutputCall.{PushStr, Str}
 use Rattle.print_grammar.proofs.TokenFacts.{word_at, mark_at, id_token, id_is}
 use Rattle.print_grammar.proofs.VersionFacts.{number_at, ends_version}
 use Rattle.print_grammar.proofs.{TextOf.text_of, Printing.Prints.by_type, Printing.Prints.by_push, Printing.Prints.by_start, Printing.Prints.by_end}
-use Rattle.print_grammar.proofs.Printing.{Follows, Printed, Prints, Ended, relist, two_lists, word_call, id_call, call_is, less_call, greater_call, comma_call, no_word, printed_text, comma, less, space}
+use Rattle.print_grammar.proofs.Printing.{Follows, Printed, Prints, Ended, relist, word_call, id_call, call_is, less_call, greater_call, comma_call, no_word, printed_text, space, mark}
 use Rattle.std.specs.Fmt.{decimal}
 use Rattle.base_lemmas.proofs.Bools.{left_of, right_of}
-use Rattle.print_output.specs.declared.type_kind.TypeKind.TheVariants as kind
 
 -- ---- What is printed of a type is read as it.
 
@@ -45,85 +44,32 @@ pub word_reads : {call : OutputCall} {text : List ℕ} {more : List OutputCall} 
     → spelled text ≡ Some (Key k) → Ended more ts → P (Key k ∷ ts) → Printed false (call ∷ more) P
 word_reads {ts = ts} k p letter s e r = (Key k ∷ ts, word_call (Key k) p letter s e.word e.follows, r)
 
--- a word, and something between angle brackets
-pub angled : {first start end : OutputCall} {word : List ℕ} (inner : List OutputCall) {more : List OutputCall} {ts : List Token} {P Q : List Token → Type 0} (k : Keyword) → Prints first word
-    → begins_with_letter word ≡ true → spelled word ≡ Some (Key k) → Prints start (60 ∷ []) → Prints end (62 ∷ []) → Ended more ts
-    → (Ended (end ∷ more) (Punctuation Greater ∷ ts) → Printed false (inner ++ (end ∷ more)) P) → ((tokens : List Token) → P tokens → Q (Key k ∷ Punctuation Less ∷ tokens))
-    → Printed false (first ∷ start ∷ ((inner ++ (end ∷ [])) ++ more)) Q
-angled {first} {start} {end} {word} inner {more} {ts} {P} {Q} k p letter s q r e inside make =
-    let i = inside (greater_call r e.follows) in
-    relist (ap (λ x. first ∷ start ∷ x) (append_assoc inner (end ∷ []) more))
-    (Key k ∷ Punctuation Less ∷ i.0, word_call (Key k) p letter s (no_word q refl _) (less_call q i.1), make i.0 i.2)
+-- a word and an open angle bracket
+pub opened : {first start : OutputCall} {word : List ℕ} {more : List OutputCall} {ts : List Token} (k : Keyword) → Prints first word → begins_with_letter word ≡ true → spelled word ≡ Some (Key k)
+    → Prints start (60 ∷ []) → Follows false more ts → Follows false (first ∷ start ∷ more) (Key k ∷ Punctuation Less ∷ ts)
+opened k p letter s q f = word_call (Key k) p letter s (no_word q refl _) (less_call q f)
 
--- a word, and two parts between angle brackets
-pub angled_two : {first start end : OutputCall} {word : List ℕ} (inner other : List OutputCall) {more : List OutputCall} {ts : List Token} {P : List Token → List Token → Type 0}
-    {R Q : List Token → Type 0} (k : Keyword) → Prints first word → begins_with_letter word ≡ true → spelled word ≡ Some (Key k) → Prints start (60 ∷ []) → Prints end (62 ∷ []) → Ended more ts
-    → ((rest : List OutputCall) (after : List Token) → Ended rest after → Printed false (inner ++ rest) (P after))
-    → (Ended (end ∷ more) (Punctuation Greater ∷ ts) → Printed false (other ++ (end ∷ more)) R)
-    → ((tokens between : List Token) → P (Punctuation Comma ∷ between) tokens → R between → Q (Key k ∷ Punctuation Less ∷ tokens))
-    → Printed false (first ∷ start ∷ ((inner ++ (Str (codes ", ") ∷ (other ++ (end ∷ [])))) ++ more)) Q
-angled_two {first} {start} {end} {word} inner other {more} {ts} {P} {R} {Q} k p letter s q r e one two make =
-    let second = two (greater_call r e.follows) in
-    let i = one (Str (codes ", ") ∷ (other ++ (end ∷ more))) (Punctuation Comma ∷ second.0) (comma_call second.1) in
-    relist (ap (λ x. first ∷ start ∷ x) (two_lists inner (Str (codes ", ")) other (end ∷ []) more))
-    (Key k ∷ Punctuation Less ∷ i.0, word_call (Key k) p letter s (no_word q refl _) (less_call q i.1), make i.0 second.0 i.2 second.2)
+-- the same in one call
+pushed : (word : List ℕ) {text : List ℕ} {more : List OutputCall} {ts : List Token} (k : Keyword) → text ≡ word ++ (60 ∷ []) → begins_with_letter word ≡ true → spelled word ≡ Some (Key k)
+    → Follows false more ts → Follows false (PushStr text ∷ more) (Key k ∷ Punctuation Less ∷ ts)
+pushed word {more = more} k t letter s f = call_is by_push (λ level. rw (t, append_assoc) (word_at word (60 ∷ text_of false level more) (Key k) letter s refl (mark Less refl (f.at level))))
 
 -- the length of a list, after a comma
 abbrev pub length_text : ℕ → List ℕ
 length_text n = codes ", " ++ decimal n
 
-length_call : {call end : OutputCall} (n : ℕ) {more : List OutputCall} {ts : List Token} → nat_lt n (2 ^ 64) ≡ true → Prints call (length_text n) → Prints end (62 ∷ [])
+pub length_call : {call end : OutputCall} (n : ℕ) {more : List OutputCall} {ts : List Token} → nat_lt n (2 ^ 64) ≡ true → Prints call (length_text n) → Prints end (62 ∷ [])
     → Ended (end ∷ more) (Punctuation Greater ∷ ts) → Ended (call ∷ end ∷ more) (Punctuation Comma ∷ Digits n ∷ Punctuation Greater ∷ ts)
 length_call {call} {end} n {more} small p q e = record {
-  follows = call_is p (λ level. comma (space (number_at n (text_of false level (end ∷ more)) (ltb-true n (2 ^ 64) small) (ap ends_version (printed_text q level more)) (e.follows.at level))));
+  follows = call_is p (λ level.
+      let behind = number_at n (text_of false level (end ∷ more)) (ltb-true n (2 ^ 64) small) (ap ends_version (printed_text q level more)) (e.follows.at level) in
+      mark Comma refl (space behind));
   word = no_word p refl (end ∷ more);
 }
 
--- a word, and a type and a number between angle brackets
-pub angled_length : {first start call end : OutputCall} {word : List ℕ} (inner : List OutputCall) (n : ℕ) {more : List OutputCall} {ts : List Token} {P Q : List Token → Type 0} (k : Keyword)
-    → Prints first word → begins_with_letter word ≡ true → spelled word ≡ Some (Key k) → Prints start (60 ∷ []) → Prints call (length_text n) → Prints end (62 ∷ []) → nat_lt n (2 ^ 64) ≡ true
-    → Ended more ts
-    → (Ended (call ∷ end ∷ more) (Punctuation Comma ∷ Digits n ∷ Punctuation Greater ∷ ts) → Printed false (inner ++ (call ∷ end ∷ more)) P)
-    → ((tokens : List Token) → P tokens → Q (Key k ∷ Punctuation Less ∷ tokens))
-    → Printed false (first ∷ start ∷ ((inner ++ (call ∷ end ∷ [])) ++ more)) Q
-angled_length {first} {start} {call} {end} {word} inner n {more} {ts} {P} {Q} k p letter s q c r small e inside make =
-    let i = inside (length_call n small c r (greater_call r e.follows)) in
-    relist (ap (λ x. first ∷ start ∷ x) (append_assoc inner (call ∷ end ∷ []) more))
-    (Key k ∷ Punctuation Less ∷ i.0, word_call (Key k) p letter s (no_word q refl _) (less_call q i.1), make i.0 i.2)
-
--- a word with its angle bracket in one call
-pub pushed_angled : (word : List ℕ) {text : List ℕ} (inner : List OutputCall) {more : List OutputCall} {ts : List Token} {P Q : List Token → Type 0} (k : Keyword) → text ≡ word ++ (60 ∷ [])
-    → begins_with_letter word ≡ true → spelled word ≡ Some (Key k) → Ended more ts
-    → (Ended (PushStr (codes ">") ∷ more) (Punctuation Greater ∷ ts) → Printed false (inner ++ (PushStr (codes ">") ∷ more)) P)
-    → ((tokens : List Token) → P tokens → Q (Key k ∷ Punctuation Less ∷ tokens))
-    → Printed false (PushStr text ∷ ((inner ++ (PushStr (codes ">") ∷ [])) ++ more)) Q
-pushed_angled word {text} inner {more} {ts} {P} {Q} k t letter s e inside make =
-    let i = inside (greater_call by_push e.follows) in
-    relist (ap (λ x. PushStr text ∷ x) (append_assoc inner (PushStr (codes ">") ∷ []) more))
-    (Key k ∷ Punctuation Less ∷ i.0, begins i.1, make i.0 i.2)
-  where
-    begins : {tokens : List Token} → Follows false (inner ++ (PushStr (codes ">") ∷ more)) tokens
-        → Follows false (PushStr text ∷ (inner ++ (PushStr (codes ">") ∷ more))) (Key k ∷ Punctuation Less ∷ tokens)
-    begins {tokens} f = call_is by_push (λ level.
-        let rest = text_of false level (inner ++ (PushStr (codes ">") ∷ more)) in
-        subst (λ x. Tokens x (Key k ∷ Punctuation Less ∷ tokens)) (sym (ap (λ x. x ++ rest) t ∙ append_assoc word (60 ∷ []) rest))
-        (word_at word (60 ∷ rest) (Key k) letter s refl (less (f.at level))))
-
--- a resource between angle brackets
-handle_reads : {first : OutputCall} {word : List ℕ} (resource : List ℕ) {more : List OutputCall} {ts : List Token} {Q : List Token → Type 0} (k : Keyword) → Prints first word
-    → begins_with_letter word ≡ true → spelled word ≡ Some (Key k) → is_label resource ≡ true → Ended more ts
-    → ((t : Token) → IsId t resource → Q (Key k ∷ Punctuation Less ∷ t ∷ Punctuation Greater ∷ ts))
-    → Printed false (first ∷ GenericArgsStart ∷ Ty (escaped resource) kind.Resource ∷ GenericArgsEnd ∷ more) Q
-handle_reads resource {more = more} {ts = ts} k p letter s h e make =
-    let close = greater_call by_end e.follows in (
-      Key k ∷ Punctuation Less ∷ id_token resource ∷ Punctuation Greater ∷ ts,
-      word_call (Key k) p letter s (no_word by_start refl (Ty (escaped resource) kind.Resource ∷ GenericArgsEnd ∷ more)) (less_call by_start (id_call resource by_type h close.word close.follows)),
-      make (id_token resource) (id_is resource),
-    )
-
 -- nothing for the first part of a result
 err_call : {more : List OutputCall} {ts : List Token} → Follows false more ts → Follows false (Str (codes "_, ") ∷ more) (Key Keyword.Underscore ∷ Punctuation Comma ∷ ts)
-err_call f = record { at = λ level. mark_at 95 (Key Keyword.Underscore) refl refl refl (λ d more. refl) (comma (space (f.at level))) }
+err_call f = record { at = λ level. mark_at 95 (Key Keyword.Underscore) refl refl refl (λ d more. refl) (mark Comma refl (space (f.at level))) }
 
 mutual
   pub type_reads : (ty : TypeTree) → is_well_type ty ≡ true → {more : List OutputCall} {ts : List Token} → Ended more ts
@@ -131,41 +77,39 @@ mutual
   type_reads (PrimitiveType p) h e = word_reads (Keyword.PrimitiveWord p) by_type (primitive_letter p) (primitive_spelled p) e ReadsType.primitive
   type_reads (Name name) h e = name_reads name by_type h e
   type_reads (Handle resource) h e = name_reads resource by_type h e
-  type_reads (Own resource) h e = handle_reads resource Keyword.Own by_type refl refl h e (λ t i. ReadsType.own i)
-  type_reads (Borrow resource) h e = handle_reads resource Keyword.Borrow by_type refl refl h e (λ t i. ReadsType.borrow i)
-  type_reads (TupleOf types) h e = angled (types_calls types) Keyword.Tuple by_type refl refl by_start by_end e (λ f. types_reads types h f) (λ b r. ReadsType.tuple r)
-  type_reads (OptionOf ty) h e = angled (type_calls ty) Keyword.Option_ by_type refl refl by_start by_end e (λ f. type_reads ty h f) (λ b r. ReadsType.option r)
-  type_reads (ListOf ty) h e = angled (type_calls ty) Keyword.List_ by_type refl refl by_start by_end e (λ f. type_reads ty h f) (λ b r. ReadsType.list r)
-  type_reads (FixedListOf ty n) h e = angled_length (type_calls ty) n Keyword.List_ by_type refl refl by_start by_push by_end (right_of (is_well_type ty) _ h) e (λ f. type_reads ty (left_of _ _ h) f)
-      (λ b r. ReadsType.fixed_list r)
+  type_reads (Own resource) h e =
+      let f = greater_call by_end e.follows in (_, opened Keyword.Own by_type refl refl by_start (id_call resource by_type h f.word f.follows), ReadsType.own (id_is resource))
+  type_reads (Borrow resource) h e =
+      let f = greater_call by_end e.follows in (_, opened Keyword.Borrow by_type refl refl by_start (id_call resource by_type h f.word f.follows), ReadsType.borrow (id_is resource))
+  type_reads (TupleOf types) h e =
+      let i = types_reads types h (greater_call by_end e.follows) in simp append_assoc (_, opened Keyword.Tuple by_type refl refl by_start i.1, ReadsType.tuple i.2)
+  type_reads (OptionOf ty) h e = let i = type_reads ty h (greater_call by_end e.follows) in simp append_assoc (_, opened Keyword.Option_ by_type refl refl by_start i.1, ReadsType.option i.2)
+  type_reads (ListOf ty) h e = let i = type_reads ty h (greater_call by_end e.follows) in simp append_assoc (_, opened Keyword.List_ by_type refl refl by_start i.1, ReadsType.list i.2)
+  type_reads (FixedListOf ty n) h e =
+      let i = type_reads ty (left_of _ _ h) (length_call n (right_of (is_well_type ty) _ h) by_push by_end (greater_call by_end e.follows)) in
+      simp append_assoc (_, opened Keyword.List_ by_type refl refl by_start i.1, ReadsType.fixed_list i.2)
   type_reads (MapOf key value) h e =
-      angled_two (type_calls key) (type_calls value) {P = λ after before. ReadsType before (type_as_read key) after} Keyword.Map by_type refl refl by_start by_end e
-      (λ rest after f. type_reads key (left_of _ _ h) f) (λ f. type_reads value (right_of (is_well_type key) _ h) f) (λ b c r s. ReadsType.map r s)
-  type_reads Result h {ts = ts} e = word_reads Keyword.Result by_type refl refl e ReadsType.result
-  type_reads (ResultOk ok) h e = angled (type_calls ok) Keyword.Result by_type refl refl by_start by_end e (λ f. type_reads ok h f) (λ b r. ReadsType.result_ok r)
-  type_reads (ResultErr err) h {ts = ts} e =
-      angled (Str (codes "_, ") ∷ type_calls err) {P = λ before. ReadsType (Key Keyword.Result ∷ Punctuation Less ∷ before) (ResultErr (type_as_read err)) ts} Keyword.Result by_type refl refl
-      by_start by_end e
-      (λ f. let i = type_reads err h f in (Key Keyword.Underscore ∷ Punctuation Comma ∷ i.0, err_call i.1, ReadsType.result_err i.2))
-      (λ b r. r)
+      let v = type_reads value (right_of (is_well_type key) _ h) (greater_call by_end e.follows) in
+      let i = type_reads key (left_of _ _ h) (comma_call v.1) in simp append_assoc (_, opened Keyword.Map by_type refl refl by_start i.1, ReadsType.map i.2 v.2)
+  type_reads Result h e = word_reads Keyword.Result by_type refl refl e ReadsType.result
+  type_reads (ResultOk ok) h e = let i = type_reads ok h (greater_call by_end e.follows) in simp append_assoc (_, opened Keyword.Result by_type refl refl by_start i.1, ReadsType.result_ok i.2)
+  type_reads (ResultErr err) h e =
+      let i = type_reads err h (greater_call by_end e.follows) in simp append_assoc (_, opened Keyword.Result by_type refl refl by_start (err_call i.1), ReadsType.result_err i.2)
   type_reads (ResultOf ok err) h e =
-      angled_two (type_calls ok) (type_calls err) {P = λ after before. ReadsType before (type_as_read ok) after} Keyword.Result by_type refl refl by_start by_end e
-      (λ rest after f. type_reads ok (left_of _ _ h) f) (λ f. type_reads err (right_of (is_well_type ok) _ h) f) (λ b c r s. ReadsType.result_of r s)
-  type_reads Future h {ts = ts} e = word_reads Keyword.Future by_push refl refl e ReadsType.future
-  type_reads (FutureOf ty) h e = pushed_angled (codes "future") (type_calls ty) Keyword.Future refl refl refl e (λ f. type_reads ty h f) (λ b r. ReadsType.future_of r)
-  type_reads Stream h {ts = ts} e = word_reads Keyword.Stream by_push refl refl e ReadsType.stream
-  type_reads (StreamOf ty) h e = pushed_angled (codes "stream") (type_calls ty) Keyword.Stream refl refl refl e (λ f. type_reads ty h f) (λ b r. ReadsType.stream_of r)
+      let v = type_reads err (right_of (is_well_type ok) _ h) (greater_call by_end e.follows) in
+      let i = type_reads ok (left_of _ _ h) (comma_call v.1) in simp append_assoc (_, opened Keyword.Result by_type refl refl by_start i.1, ReadsType.result_of i.2 v.2)
+  type_reads Future h e = word_reads Keyword.Future by_push refl refl e ReadsType.future
+  type_reads (FutureOf ty) h e = let i = type_reads ty h (greater_call by_push e.follows) in simp append_assoc (_, pushed (codes "future") Keyword.Future refl refl refl i.1, ReadsType.future_of i.2)
+  type_reads Stream h e = word_reads Keyword.Stream by_push refl refl e ReadsType.stream
+  type_reads (StreamOf ty) h e = let i = type_reads ty h (greater_call by_push e.follows) in simp append_assoc (_, pushed (codes "stream") Keyword.Stream refl refl refl i.1, ReadsType.stream_of i.2)
 
   types_reads : (types : TypeTrees) → are_well_types types ≡ true → {more : List OutputCall} {ts : List Token} → Ended more (Punctuation Greater ∷ ts)
       → Printed false (types_calls types ++ more) (λ before. ReadsTypes before (types_as_read types) ts)
   types_reads NoTypes h e = absurd cc
-  types_reads (AndTypes ty NoTypes) h {more} e =
-      let i = type_reads ty (left_of _ _ h) e in
-      relist (ap (λ x. x ++ more) (append-nil (type_calls ty))) (i.0, i.1, last_type i.2)
-  types_reads (AndTypes ty (AndTypes other types)) h {more} e =
+  types_reads (AndTypes ty NoTypes) h e = let i = type_reads ty (left_of _ _ h) e in simp append-nil (i.0, i.1, last_type i.2)
+  types_reads (AndTypes ty (AndTypes other types)) h e =
       let r = types_reads (AndTypes other types) (right_of (is_well_type ty) _ h) e in
-      let i = type_reads ty (left_of _ _ h) (comma_call r.1) in
-      relist (append_assoc (type_calls ty) (Str (codes ", ") ∷ types_calls (AndTypes other types)) more) (i.0, i.1, next_type i.2 r.2)
+      let i = type_reads ty (left_of _ _ h) (comma_call r.1) in relist (i.0, i.1, next_type i.2 r.2) (simp append_assoc)
 
 -- ---- what the page is for
 
@@ -188,26 +132,14 @@ abbrev pub stops : List Token → Bool
 stops (Punctuation mark ∷ tokens) = is_stop mark
 stops tokens = false
 
--- whether tokens begin with `<`, `->`, `@`, `(` or `as`
+-- whether tokens begin with `<` or `@`
 abbrev pub begins_with_less : List Token → Bool
 begins_with_less (Punctuation Less ∷ tokens) = true
 begins_with_less tokens = false
 
-abbrev pub begins_with_arrow : List Token → Bool
-begins_with_arrow (Punctuation Arrow ∷ tokens) = true
-begins_with_arrow tokens = false
-
 abbrev pub begins_with_at : List Token → Bool
 begins_with_at (Punctuation At ∷ tokens) = true
 begins_with_at tokens = false
-
-abbrev pub begins_with_paren : List Token → Bool
-begins_with_paren (Punctuation OpenParen ∷ tokens) = true
-begins_with_paren tokens = false
-
-abbrev pub begins_with_as : List Token → Bool
-begins_with_as (Key As ∷ tokens) = true
-begins_with_as tokens = false
 
 pub no_less : (ts : List Token) → stops ts ≡ true → begins_with_less ts ≡ false
 no_less (Punctuation Less ∷ ts) h = absurd cc
@@ -240,53 +172,35 @@ mutual
   type-unique first second (tuple a) (tuple b) = let h = types-unique a b in (ap TypeTree.TupleOf h.0, h.1)
   type-unique first second (option a) (option b) = let h = type-unique refl refl a b in (ap TypeTree.OptionOf h.0, cc)
   type-unique first second (list a) (list b) = let h = type-unique refl refl a b in (ap TypeTree.ListOf h.0, cc)
-  type-unique first second (list a) (fixed_list b) = let h = type-unique refl refl a b in absurd (let e = h.1 in cc)
-  type-unique first second (fixed_list a) (list b) = let h = type-unique refl refl a b in absurd (let e = h.1 in cc)
-  type-unique first second (fixed_list a) (fixed_list b) = let h = type-unique refl refl a b in let e = h.0 in let r = h.1 in (cc, cc)
-  type-unique first second (map a c) (map {after = rest} {v = w} b d) =
-      let h = type-unique refl refl a b in
-      let k = type-unique refl refl c (subst (λ x. ReadsType x w (Punctuation Greater ∷ rest)) (sym (tail_same h.1)) d) in
-      let e = h.0 in let f = k.0 in let r = k.1 in (cc, cc)
+  type-unique first second (list a) (fixed_list b) = let h = type-unique refl refl a b in absurd (cc h.1)
+  type-unique first second (fixed_list a) (list b) = let h = type-unique refl refl a b in absurd (cc h.1)
+  type-unique first second (fixed_list a) (fixed_list b) = let h = type-unique refl refl a b in (cc (h.0, h.1), cc h.1)
+  type-unique first second (map a c) (map b d) =
+      let h = type-unique refl refl a b in let k = type-unique refl refl c (rw (← tail_same h.1) at d) in (cc (h.0, k.0), cc k.1)
   type-unique first second future future = (refl, refl)
-  type-unique first second future (future_of b) = absurd (cc first)
-  type-unique first second (future_of a) future = absurd (cc second)
   type-unique first second (future_of a) (future_of b) = let h = type-unique refl refl a b in (ap TypeTree.FutureOf h.0, cc)
   type-unique first second stream stream = (refl, refl)
-  type-unique first second stream (stream_of b) = absurd (cc first)
-  type-unique first second (stream_of a) stream = absurd (cc second)
   type-unique first second (stream_of a) (stream_of b) = let h = type-unique refl refl a b in (ap TypeTree.StreamOf h.0, cc)
   type-unique first second result result = (refl, refl)
-  type-unique first second result (result_ok b) = absurd (cc first)
-  type-unique first second result (result_of b d) = absurd (cc first)
-  type-unique first second result (result_err b) = absurd (cc first)
-  type-unique first second (result_ok a) result = absurd (cc second)
   type-unique first second (result_ok a) (result_ok b) = let h = type-unique refl refl a b in (ap TypeTree.ResultOk h.0, cc)
-  type-unique first second (result_ok a) (result_of b d) = let h = type-unique refl refl a b in absurd (let e = h.1 in cc)
-  type-unique first second (result_of a c) result = absurd (cc second)
-  type-unique first second (result_of a c) (result_ok b) = let h = type-unique refl refl a b in absurd (let e = h.1 in cc)
-  type-unique first second (result_of a c) (result_of {after = rest} {err = w} b d) =
-      let h = type-unique refl refl a b in
-      let k = type-unique refl refl c (subst (λ x. ReadsType x w (Punctuation Greater ∷ rest)) (sym (tail_same h.1)) d) in
-      let e = h.0 in let f = k.0 in let r = k.1 in (cc, cc)
+  type-unique first second (result_ok a) (result_of b d) = let h = type-unique refl refl a b in absurd (cc h.1)
+  type-unique first second (result_of a c) (result_ok b) = let h = type-unique refl refl a b in absurd (cc h.1)
+  type-unique first second (result_of a c) (result_of b d) =
+      let h = type-unique refl refl a b in let k = type-unique refl refl c (rw (← tail_same h.1) at d) in (cc (h.0, k.0), cc k.1)
+  type-unique first second (result_err a) (result_err b) = let h = type-unique refl refl a b in (ap TypeTree.ResultErr h.0, cc)
   type-unique first second (result_ok a) (result_err b) = elim a [ ]
   type-unique first second (result_of a c) (result_err b) = elim a [ ]
   type-unique first second (result_err a) (result_ok b) = elim b [ ]
   type-unique first second (result_err a) (result_of b d) = elim b [ ]
-  type-unique first second (result_err a) result = absurd (cc second)
-  type-unique first second (result_err a) (result_err b) = let h = type-unique refl refl a b in (ap TypeTree.ResultErr h.0, cc)
+  type-unique first second x y = search std_rules
 
   pub types-unique : {before after rest : List Token} {t s : TypeTrees} → ReadsTypes before t after → ReadsTypes before s rest → (t ≡ s) × (after ≡ rest)
-  types-unique (last_type a) (last_type b) = let h = type-unique refl refl a b in let e = h.0 in let r = h.1 in (cc, cc)
-  types-unique (last_type a) (last_type_with_comma b) = let h = type-unique refl refl a b in let r = h.1 in absurd cc
-  types-unique (last_type a) (next_type b d) = let h = type-unique refl refl a b in let r = h.1 in absurd cc
-  types-unique (last_type_with_comma a) (last_type b) = let h = type-unique refl refl a b in let r = h.1 in absurd cc
-  types-unique (last_type_with_comma a) (last_type_with_comma b) = let h = type-unique refl refl a b in let e = h.0 in let r = h.1 in (cc, cc)
-  types-unique (last_type_with_comma a) (next_type {after = rest} {types = types} b d) =
-      let h = type-unique refl refl a b in absurd (no_types_at_end (subst (λ x. ReadsTypes x types rest) (sym (tail_same h.1)) d))
-  types-unique (next_type a c) (last_type b) = let h = type-unique refl refl a b in let r = h.1 in absurd cc
-  types-unique (next_type {after = after} {types = types} a c) (last_type_with_comma b) =
-      let h = type-unique refl refl a b in absurd (no_types_at_end (subst (λ x. ReadsTypes x types after) (tail_same h.1) c))
-  types-unique (next_type a c) (next_type {after = rest} {types = types} b d) =
-      let h = type-unique refl refl a b in
-      let k = types-unique c (subst (λ x. ReadsTypes x types rest) (sym (tail_same h.1)) d) in
-      let e = h.0 in let f = k.0 in let r = k.1 in (cc, cc)
+  types-unique (last_type a) (last_type b) = let h = type-unique refl refl a b in (cc h.0, cc h.1)
+  types-unique (last_type a) (last_type_with_comma b) = let h = type-unique refl refl a b in absurd (cc h.1)
+  types-unique (last_type a) (next_type b d) = let h = type-unique refl refl a b in absurd (cc h.1)
+  types-unique (last_type_with_comma a) (last_type b) = let h = type-unique refl refl a b in absurd (cc h.1)
+  types-unique (last_type_with_comma a) (last_type_with_comma b) = let h = type-unique refl refl a b in (cc h.0, cc h.1)
+  types-unique (last_type_with_comma a) (next_type b d) = let h = type-unique refl refl a b in absurd (no_types_at_end (rw (← tail_same h.1) at d))
+  types-unique (next_type a c) (last_type b) = let h = type-unique refl refl a b in absurd (cc h.1)
+  types-unique (next_type a c) (last_type_with_comma b) = let h = type-unique refl refl a b in absurd (no_types_at_end (rw (tail_same h.1) at c))
+  types-unique (next_type a c) (next_type b d) = let h = type-unique refl refl a b in let k = types-unique c (rw (← tail_same h.1) at d) in (cc (h.0, k.0), k.1)

@@ -1,5 +1,5 @@
 -- The text of a version is one token.
-use Rattle.std.proofs.Common.{rules as std_rules, ◌≡◌, refl, sym, ap, ◌∙◌, subst, ℕ, ◌<◌, ◌^◌, Bool, true, false, ◌&&◌, ◌||◌, ◌==◌, not, List, [], ◌∷◌, ◌++◌, length, Option, Some, None, append-nil, append_assoc, inl, inr, arith, suc, get_or, Ok, Err, Result, nat_lt, unwrap_or}
+use Rattle.std.proofs.Common.{rules as std_rules, ◌≡◌, refl, sym, ap, ◌∙◌, subst, ℕ, ◌<◌, ◌^◌, Bool, true, false, ◌&&◌, ◌||◌, ◌==◌, not, List, [], ◌∷◌, ◌++◌, length, Option, Some, None, append-nil, append_assoc, inl, inr, arith, suc, get_or, Ok, Err, Result, nat_lt}
 use Rattle.std.proofs.lemmas.Bool.{cases_Bool, eqb-true, lt-ltb, and_from as both, and_right as and_false, false_from_ne_true as refuted, not-true as not_true, or_left}
 use Rattle.std.proofs.lemmas.{Bool.Decides.nat_tests, List.Folds.list_all-append}
 use Rattle.std.proofs.lemmas.{Fmt.decimal_is_IsNumeral, Fmt.decimal_nonempty, Fmt.first_decimal, Fmt.decimal_digit, List.Sums.AllPass-from_list_all}
@@ -28,21 +28,10 @@ unfolding cut
 cut-at c [] ys same h = rw same refl
 cut-at c (x ∷ xs) ys same h = search (std_rules, not_true, left_of, right_of, cut-at c xs ys same (right_of (not (x == c)) _ h))
 
-given_pair : (p q : List ℕ × List ℕ) → ◌≡◌ {A = Option (List ℕ × List ℕ)} (Some p) (Some q) → p ≡ q
-given_pair p q e = ap (λ (o : Option (List ℕ × List ℕ)). unwrap_or o p) e
-
 cut-sound : (c : ℕ) (text : List ℕ) (p : List ℕ × List ℕ) → cut c text ≡ Some p → text ≡ p.0 ++ c ∷ p.1
 unfolding cut
 cut-sound c [] p e = cc e
-cut-sound c (x ∷ xs) p e = elim (cases_Bool (x == c)) [
-  | inl same ↦ ap (λ b. b ∷ xs) (eqb-true x c same) ∙ ap (λ (q : List ℕ × List ℕ). q.0 ++ c ∷ q.1) (given_pair ([], xs) p (rw same at e))
-  | inr other ↦ go (cut-sound c xs) (cut c xs) refl (rw other at e)
-]
-  where
-    go : ((q : List ℕ × List ℕ) → cut c xs ≡ Some q → xs ≡ q.0 ++ c ∷ q.1) → (o : Option (List ℕ × List ℕ)) → cut c xs ≡ o → option_map (λ (q : List ℕ × List ℕ). (x ∷ q.0, q.1)) o ≡ Some p
-        → x ∷ xs ≡ p.0 ++ c ∷ p.1
-    go sound None f g = cc g
-    go sound (Some q) f g = ap (λ b. x ∷ b) (sound q f) ∙ ap (λ (r : List ℕ × List ℕ). r.0 ++ c ∷ r.1) (given_pair (x ∷ q.0, q.1) p g)
+cut-sound c (x ∷ xs) p e = search (std_rules, cases_Bool, eqb-true, cut-sound c xs)
 
 -- ---- the bytes of a version
 
@@ -56,17 +45,24 @@ digit_byte b h = grind (arith, nat_tests)
 identifier_version : (b : ℕ) → (is_identifier_byte b || (b == 46)) ≡ true → is_version_byte b ≡ true
 identifier_version b h = or_left _ _ (or_left _ _ h)
 
+-- what the bytes of identifiers and the dots between them pass
+identifiers_pass : (Q : ℕ → Bool) (P : List ℕ → Bool) → ((b : ℕ) → (is_identifier_byte b || (b == 46)) ≡ true → Q b ≡ true)
+    → ((part : List ℕ) → P part ≡ true → list_all is_identifier_byte part ≡ true) → (text : List ℕ) → list_all P (parts text) ≡ true → list_all Q text ≡ true
+identifiers_pass Q P on_byte on_part text h = weaker_all _ Q on_byte text (parts_pass is_identifier_byte 46 text (weaker_all P _ on_part (parts text) h))
+
+build_part : (part : List ℕ) → is_build_identifier part ≡ true → list_all is_identifier_byte part ≡ true
+build_part part h = right_of (nat_lt 0 (length part)) _ h
+
+pre_release_part : (part : List ℕ) → is_pre_identifier part ≡ true → list_all is_identifier_byte part ≡ true
+pre_release_part part h = build_part part (left_of _ _ h)
+
 build_bytes : (text : List ℕ) → is_build text ≡ true → list_all is_version_byte text ≡ true
 build_bytes [] h = refl
-build_bytes (b ∷ bs) h =
-    weaker_all _ is_version_byte identifier_version (b ∷ bs)
-    (parts_pass is_identifier_byte 46 (b ∷ bs) (weaker_all is_build_identifier _ (λ part e. right_of (nat_lt 0 (length part)) _ e) (parts (b ∷ bs)) h))
+build_bytes (b ∷ bs) h = identifiers_pass _ is_build_identifier identifier_version build_part (b ∷ bs) h
 
 pre_release_bytes : (text : List ℕ) → is_pre_release text ≡ true → list_all is_version_byte text ≡ true
 pre_release_bytes [] h = refl
-pre_release_bytes (b ∷ bs) h =
-    weaker_all _ is_version_byte identifier_version (b ∷ bs)
-    (parts_pass is_identifier_byte 46 (b ∷ bs) (weaker_all is_pre_identifier _ (λ part e. right_of (nat_lt 0 (length part)) _ (left_of (is_build_identifier part) _ e)) (parts (b ∷ bs)) h))
+pre_release_bytes (b ∷ bs) h = identifiers_pass _ is_pre_identifier identifier_version pre_release_part (b ∷ bs) h
 
 numeral_bytes : (text : List ℕ) → is_numeral text ≡ true → list_all is_identifier_byte text ≡ true
 numeral_bytes text h = weaker_all is_ascii_digit _ digit_byte text (left_of (is_numeric text) _ (right_of (nat_lt 0 (length text)) _ h))
@@ -79,30 +75,20 @@ core_bytes text h =
     weaker_all _ is_version_byte identifier_version text
     (parts_pass is_identifier_byte 46 text (numerals_bytes (parts text) h))
 
--- a test that each byte on both sides of a cut passes, and the byte at which it is cut
-cut_pass : (P : ℕ → Bool) (c : ℕ) (text : List ℕ) (p : List ℕ × List ℕ) → cut c text ≡ Some p → P c ≡ true → list_all P p.0 ≡ true → list_all P p.1 ≡ true → list_all P text ≡ true
-cut_pass P c text p e here front back =
-    ap (list_all P) (cut-sound c text p e) ∙ (list_all-append P p.0 (c ∷ p.1) ∙ both _ _ front (both _ _ here back))
+-- the bytes of a text that may be cut, by those of its parts
+cut_bytes : (c : ℕ) (front back : List ℕ → Bool) → is_version_byte c ≡ true → ((t : List ℕ) → front t ≡ true → list_all is_version_byte t ≡ true)
+    → ((t : List ℕ) → back t ≡ true → list_all is_version_byte t ≡ true) → (text : List ℕ) (o : Option (List ℕ × List ℕ)) → cut c text ≡ o
+    → option_map_or (λ (p : List ℕ × List ℕ). front p.0 && is_given back p.1) o (front text) ≡ true → list_all is_version_byte text ≡ true
+cut_bytes c front back here on_front on_back text None e h = on_front text h
+cut_bytes c front back here on_front on_back text (Some p) e h =
+    ap (list_all is_version_byte) (cut-sound c text p e) ∙ (list_all-append is_version_byte p.0 (c ∷ p.1)
+    ∙ both _ _ (on_front p.0 (left_of _ _ h)) (both _ _ here (on_back p.1 (right_of (nat_lt 0 (length p.1)) _ (right_of (front p.0) _ h)))))
 
 number_bytes : (text : List ℕ) → is_version_number text ≡ true → list_all is_version_byte text ≡ true
-number_bytes text h = go (cut 45 text) refl h
-  where
-    go : (o : Option (List ℕ × List ℕ)) → cut 45 text ≡ o → option_map_or (λ (p : List ℕ × List ℕ). is_version_core p.0 && is_given is_pre_release p.1) o (is_version_core text) ≡ true
-        → list_all is_version_byte text ≡ true
-    go None e g = core_bytes text g
-    go (Some p) e g =
-        cut_pass is_version_byte 45 text p e refl (core_bytes p.0 (left_of _ _ g))
-        (pre_release_bytes p.1 (right_of (nat_lt 0 (length p.1)) _ (right_of (is_version_core p.0) _ g)))
+number_bytes text h = cut_bytes 45 is_version_core is_pre_release refl core_bytes pre_release_bytes text (cut 45 text) refl h
 
 version_bytes : (text : List ℕ) → is_semantic_version text ≡ true → list_all is_version_byte text ≡ true
-version_bytes text h = go (cut 43 text) refl h
-  where
-    go : (o : Option (List ℕ × List ℕ)) → cut 43 text ≡ o → option_map_or (λ (p : List ℕ × List ℕ). is_version_number p.0 && is_given is_build p.1) o (is_version_number text) ≡ true
-        → list_all is_version_byte text ≡ true
-    go None e g = number_bytes text g
-    go (Some p) e g =
-        cut_pass is_version_byte 43 text p e refl (number_bytes p.0 (left_of _ _ g))
-        (build_bytes p.1 (right_of (nat_lt 0 (length p.1)) _ (right_of (is_version_number p.0) _ g)))
+version_bytes text h = cut_bytes 43 is_version_number is_build refl number_bytes build_bytes text (cut 43 text) refl h
 
 -- ---- the text of a version's parts
 
@@ -159,9 +145,7 @@ identifier_no_plus b h = grind (arith, nat_tests)
 
 pre_release_no_plus : (text : List ℕ) → is_pre_release text ≡ true → list_all (λ b. not (b == 43)) text ≡ true
 pre_release_no_plus [] h = refl
-pre_release_no_plus (b ∷ bs) h =
-    weaker_all _ (λ x. not (x == 43)) identifier_no_plus (b ∷ bs)
-    (parts_pass is_identifier_byte 46 (b ∷ bs) (weaker_all is_pre_identifier _ (λ part e. right_of (nat_lt 0 (length part)) _ (left_of (is_build_identifier part) _ e)) (parts (b ∷ bs)) h))
+pre_release_no_plus (b ∷ bs) h = identifiers_pass (λ x. not (x == 43)) is_pre_identifier identifier_no_plus pre_release_part (b ∷ bs) h
 
 -- the text before the build metadata
 abbrev number_text : Parts → List ℕ
@@ -176,26 +160,23 @@ number_no_plus p v =
     mark [] h = refl
     mark (b ∷ bs) h = pre_release_no_plus (b ∷ bs) h
 
-number_is_number : (p : Parts) → IsValid p → is_version_number (number_text p) ≡ true
-number_is_number p v = go p.3 v.3
-  where
-    unmarked : list_all (λ b. not (b == 45)) (core_text p) ≡ true
-    unmarked = weaker_all is_unmarked _ (λ b h. left_of _ _ h) (core_text p) (core_unmarked p v)
+-- a text that passes one test, and behind a mark, if there is more, a text that passes another
+marked_passes : (c : ℕ) (front back : List ℕ → Bool) → (c == c) ≡ true → (text more : List ℕ) → list_all (λ b. not (b == c)) text ≡ true → front text ≡ true → back more ≡ true
+    → option_map_or (λ (p : List ℕ × List ℕ). front p.0 && is_given back p.1) (cut c (text ++ marked c more)) (front (text ++ marked c more)) ≡ true
+marked_passes c front back same text [] unmarked f b = rw (append-nil text, cut-none c text unmarked) f
+marked_passes c front back same text (x ∷ xs) unmarked f b = rw (cut-at c text (x ∷ xs) same unmarked) (both _ _ f (both _ _ (lt-ltb 0 (suc (length xs)) (omega arith)) b))
 
-    go : (text : List ℕ) → is_pre_release text ≡ true → is_version_number (core_text p ++ marked 45 text) ≡ true
-    go [] h = ap is_version_number (append-nil (core_text p)) ∙ rw (cut-none 45 (core_text p) unmarked) (core_is_core p v)
-    go (b ∷ bs) h = rw (cut-at 45 (core_text p) (b ∷ bs) refl unmarked) (both _ _ (core_is_core p v) (both _ _ (lt-ltb 0 (suc (length bs)) (omega arith)) h))
+number_is_number : (p : Parts) → IsValid p → is_version_number (number_text p) ≡ true
+number_is_number p v =
+    marked_passes 45 is_version_core is_pre_release refl (core_text p) p.3 (weaker_all is_unmarked _ (λ b h. left_of _ _ h) (core_text p) (core_unmarked p v)) (core_is_core p v) v.3
 
 parts_joined : (p : Parts) → parts_text p ≡ number_text p ++ marked 43 p.4
 parts_joined p = simp append_assoc
 
 -- The text of the parts of a version is a version.
 pub parts_are_version : (p : Parts) → IsValid p → is_semantic_version (parts_text p) ≡ true
-parts_are_version p v = ap is_semantic_version (parts_joined p) ∙ go p.4 v.4
-  where
-    go : (text : List ℕ) → is_build text ≡ true → is_semantic_version (number_text p ++ marked 43 text) ≡ true
-    go [] h = ap is_semantic_version (append-nil (number_text p)) ∙ rw (cut-none 43 (number_text p) (number_no_plus p v)) (number_is_number p v)
-    go (b ∷ bs) h = rw (cut-at 43 (number_text p) (b ∷ bs) refl (number_no_plus p v)) (both _ _ (number_is_number p v) (both _ _ (lt-ltb 0 (suc (length bs)) (omega arith)) h))
+parts_are_version p v =
+    ap is_semantic_version (parts_joined p) ∙ marked_passes 43 is_version_number is_build refl (number_text p) p.4 (number_no_plus p v) (number_is_number p v) v.4
 
 -- ---- the token
 
@@ -340,13 +321,15 @@ begins_with_digit (c ∷ cs) = is_ascii_digit c
 digits_first : (text more : List ℕ) → is_numeral text ≡ true → begins_with_digit (text ++ more) ≡ true
 digits_first x more h = search std_rules
 
--- a text that is a version, with what ends it behind it
-digits_at : (text rest : List ℕ) {ts : List Token} → begins_with_digit text ≡ true → is_numeric text ≡ false → is_semantic_version text ≡ true → ends_version rest ≡ true → Tokens rest ts
-    → Tokens (text ++ rest) (Token.VersionText text ∷ ts)
-digits_at x rest digit e f ends more = search (std_rules, token_at, digit_no_blank, no_comment, digit_no_slash, number_spelled, version_token, number_ends)
+numeral_first : (text : List ℕ) → is_numeral text ≡ true → begins_with_digit text ≡ true
+numeral_first x h = search std_rules
+
+-- a text that begins with a digit and is a token, with what ends it behind it
+digits_at : (text rest : List ℕ) (t : Token) {ts : List Token} → begins_with_digit text ≡ true → number_token text ≡ Some t → ends_version rest ≡ true → Tokens rest ts → Tokens (text ++ rest) (t ∷ ts)
+digits_at x rest t digit e ends more = search (std_rules, token_at, digit_no_blank, no_comment, digit_no_slash, number_spelled, number_ends)
 
 parts_at : (p : Parts) (rest : List ℕ) {ts : List Token} → IsValid p → ends_version rest ≡ true → Tokens rest ts → Tokens (parts_text p ++ rest) (Token.VersionText (parts_text p) ∷ ts)
-parts_at p rest v ends more = search (std_rules, digits_at, digits_first, decimal_numeral, dot_no_digit, parts_are_version)
+parts_at p rest v ends more = search (std_rules, digits_at, version_token, digits_first, decimal_numeral, dot_no_digit, parts_are_version)
 
 -- The text of a version, with what is no part of a version behind it, is one token.
 pub version_at : (text rest : List ℕ) {ts : List Token} → is_version_text text ≡ true → ends_version rest ≡ true → Tokens rest ts → Tokens (text ++ rest) (Token.VersionText text ∷ ts)
@@ -363,14 +346,4 @@ number_value n h = rw (decimal_digits n h, number_token) (ap (λ d. Some (Token.
 
 -- The digits of a number, with what is no part of a version behind them, are one token.
 pub number_at : (n : ℕ) (rest : List ℕ) {ts : List Token} → n < 2 ^ 64 → ends_version rest ≡ true → Tokens rest ts → Tokens (decimal n ++ rest) (Token.Digits n ∷ ts)
-number_at n rest {ts} h ends more = go (decimal n) (first (decimal n) (decimal_numeral n h)) (number_value n h)
-  where
-    first : (text : List ℕ) → is_numeral text ≡ true → begins_with_digit text ≡ true
-    first [] e = absurd cc
-    first (c ∷ cs) e = left_of _ _ (left_of _ _ (right_of (nat_lt 0 (length (c ∷ cs))) _ e))
-
-    go : (text : List ℕ) → begins_with_digit text ≡ true → number_token text ≡ Some (Token.Digits n) → Tokens (text ++ rest) (Token.Digits n ∷ ts)
-    go [] digit s = absurd cc
-    go (c ∷ cs) digit s =
-        token_at c cs rest (Token.Digits n) (digit_no_blank c digit) (no_comment c (cs ++ rest) (digit_no_slash c digit))
-        (number_spelled c cs digit ∙ s) (number_ends c cs rest digit ends) more
+number_at n rest h ends more = digits_at (decimal n) rest (Token.Digits n) (numeral_first (decimal n) (decimal_numeral n h)) (number_value n h) ends more

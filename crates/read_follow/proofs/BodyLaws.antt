@@ -1,7 +1,7 @@
 -- A body has all the bytes of its items.
 use Rattle.std.proofs.Common.{rules as std_rules, ◌≡◌, refl, sym, ap, ◌∙◌, ℕ, ◌+◌, ◌-◌, ◌≤◌, arith, List, [], ◌++◌, length, take, Option, Some, None, append-nil}
 use Rattle.std.proofs.lemmas.{List.take_at, List.length-append, Option.same_Some as some_is}
-use Rattle.comp_bytes.specs.{Form.Spellings, Form.Sequence, Laws.IsReadBy, Reading.Reader, Reading.sequence_at}
+use Rattle.comp_bytes.specs.{Form.Spellings, Laws.IsReadBy, Reading.Reader, Reading.sequence_at}
 use Rattle.comp_bytes.proofs.PartLaws.{sequence_takes, sequence_again}
 use Rattle.read_follow.specs.declared.bodies.Body.{Body}
 use Rattle.read_follow.specs.Bodies.{behind, items_of, items_in, IsBody}
@@ -16,10 +16,7 @@ found_before (Some x) rest e = (x.0, ap (followed_by x.0) (some_is x.1 rest e))
 
 -- what is in front of the rest
 pub cut_is : (items front rest : List ℕ) → items ≡ front ++ rest → take (length items - length rest) items ≡ front
-cut_is items front rest parts =
-    let whole : length items ≡ length front + length rest = ap length parts ∙ length-append front rest in
-    let k : length items - length rest ≡ length front = omega (arith, whole) in
-    ap (λ j. take j items) k ∙ (ap (take (length front)) parts ∙ take_at front rest (length front) refl)
+cut_is items front rest parts = ap (λ j. take j items) (omega (arith, (ap length parts ∙ length-append front rest))) ∙ (ap (take (length front)) parts ∙ take_at front rest (length front) refl)
 
 module _ {A : Type 0} {form : A → Spellings} {reader : Reader A} (law : IsReadBy form reader) (n : ℕ) (items rest : List ℕ) (passed : behind (sequence_at reader n items) ≡ Some rest) where
   read : (xs : List A) × (sequence_at reader n items ≡ Some (xs, rest))
@@ -29,12 +26,8 @@ module _ {A : Type 0} {form : A → Spellings} {reader : Reader A} (law : IsRead
   alone : sequence_at reader n (take (length items - length rest) items) ≡ Some (read.0, [])
   alone =
       let t = sequence_takes law n items read.0 rest read.1 in
-      go t.0.front t.0.parts t.0.spelled t.1
-    where
-      go : (front : List ℕ) → items ≡ front ++ rest → Sequence form read.0 front → length read.0 ≡ n → sequence_at reader n (take (length items - length rest) items) ≡ Some (read.0, [])
-      go front parts spelled many =
-          ap (λ j. sequence_at reader j (take (length items - length rest) items)) (sym many)
-          ∙ (ap (sequence_at reader (length read.0)) (cut_is items front rest parts ∙ sym (append-nil front)) ∙ sequence_again law read.0 front [] spelled)
+      (ap (λ j. sequence_at reader j (take (length items - length rest) items)) (sym t.1)
+      ∙ (ap (sequence_at reader (length read.0)) (cut_is items t.0.front rest t.0.parts ∙ sym (append-nil t.0.front)) ∙ sequence_again law read.0 t.0.front [] t.0.spelled))
 
   pub shorter : length rest ≤ length items
   shorter = search (std_rules, sequence_takes, read, length-append)

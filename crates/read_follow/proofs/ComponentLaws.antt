@@ -1,5 +1,5 @@
 -- One entry of a component type after the other.
-use Rattle.std.proofs.Common.{◌≡◌, inl, inr, refl, sym, ap, ◌∙◌, subst, ℕ, zero, suc, ◌+◌, ◌-◌, ◌<◌, ◌≤◌, ◌==◌, ◌&&◌, arith, Bool, true, false, cond, List, [], ◌∷◌, ◌++◌, map, append_assoc, length, length-append, Option, Some, None, slice_get, unwrap_or}
+use Rattle.std.proofs.Common.{rules as std_rules, ◌≡◌, inl, inr, refl, sym, ap, ◌∙◌, subst, ℕ, zero, suc, ◌+◌, ◌-◌, ◌<◌, ◌≤◌, ◌==◌, ◌&&◌, arith, Bool, true, false, cond, List, [], ◌∷◌, ◌++◌, map, append_assoc, length, length-append, Option, Some, None, slice_get, unwrap_or}
 use Rattle.std.proofs.{Math.ListN.length-map, lemmas.List.append-nil, lemmas.Option.same_Some as some_same, lemmas.Option.slice_get_within as found_below}
 use Rattle.std.proofs.lemmas.Bool.{cases_lt}
 use Rattle.std.specs.{List.AllByRecursion, List.list_any, Option.option_map_or}
@@ -17,7 +17,7 @@ use Rattle.read_follow.specs.Numbering.{all_in, bare_parts, parts_in, scoped_tre
 use Rattle.read_follow.specs.{Pieces.AreAlike, ReadKeys.function_byte}
 use Rattle.read_follow.specs.{Placed.apart, Placed.HasNoNames, Placed.MayMeet, Placed.SignatureOver, Placed.SlotOver, Places.has_path, Places.ArePlacesOf}
 use Rattle.read_follow.specs.Scopes.{are_settled, find_slot, instance_in, meant_at, path_of, slot_of_instance, start_of, taken_from, waiting, weight, weights, world_signatures, world_trees, Enters, Goes, HasStages, IsFollowedTo, IsInstanceIn, IsPlacedWorld, IsScopedIn, IsScopeOf, IsStage, IsWorld, Stops, StopsAt, World}
-use Rattle.read_follow.specs.Slots.{no_signature, resource_slot, slot_in, slots_in, AreNames, IsName}
+use Rattle.read_follow.specs.Slots.{no_signature, slot_in, slots_in, AreNames}
 use Rattle.plan_meaning.specs.Shapes.{Shape, named_shape, node_shape, part_tree, shape_trees, IsTable}
 use Rattle.read_follow.proofs.DefiningLaws.{all_at, longer, no_shapes, same_list, scoped_grown}
 use Rattle.read_follow.proofs.FollowingLaws.{functions_wider, joins_all, joins_grow, names_of, ranges_of, slot_counted}
@@ -25,33 +25,13 @@ use Rattle.read_follow.proofs.{NumberingLaws.count_below, NumberingLaws.count_sc
 use Rattle.read_follow.proofs.{ReadKeyLaws.entered_as, ReadKeyLaws.function_entry, SectionLaws.alike}
 use Rattle.read_follow.proofs.{OverLaws.definition_over, OverLaws.signature_over, PlaceLaws.below_pathless, Refusing.refused, SlotLaws.mapped_none}
 use Rattle.read_follow.proofs.PlacedScopes.{extended_placed, found_over, none_past, path_marked, path_met}
-use Rattle.read_follow.proofs.ScopeLaws.{all_before, extended_world, goes_on, none_behind, plus_slot, waiting_push, waits}
+use Rattle.read_follow.proofs.ScopeLaws.{all_before, extended_world, goes_on, none_behind, plus_slot, waiting_push, waits, world_with}
 use Rattle.read_follow.proofs.StepLaws.{after_first, grow_on, guarded, headed, none_left, none_less, peeled, sequence_more, unread}
-use Rattle.base_lemmas.proofs.{Elements.all_both, Lists.append_of_map, Lists.mapped_get, Lists.slice_front, Numbers.less}
+use Rattle.base_lemmas.proofs.{Elements.all_both, Lists.append_of_map, Lists.mapped_get, Lists.slice_front, Lists.within_there as slice_there, Numbers.less}
 use Rattle.comp_meaning.specs.Follow as follow
 use Rattle.read_follow.specs.declared.slots.Slot.TheVariants as slots
 
 -- ---- the same step in other words
-
-pub goes_as : (few : ℕ) (f g : MeantScope → Option MeantScope) (old new : World) → ((m : MeantScope) → g m ≡ f m) → Goes few f old new → Goes few g old new
-goes_as few f g old new same s = record {
-  world = s.world;
-  shapes_grow = s.shapes_grow;
-  signatures_grow = s.signatures_grow;
-  paths_grow = s.paths_grow;
-  count = s.count;
-  placed = s.placed;
-  met = s.met;
-  order = s.order;
-  numbers = s.numbers;
-  home = s.home;
-  instances_grow = s.instances_grow;
-  imports_grow = s.imports_grow;
-  follows = λ place of. same (meant_at place old) ∙ s.follows place of;
-}
-
-pub stops_as : (f g : MeantScope → Option MeantScope) (old : World) (paths : List (Option Text)) (e : Refusal) → ((m : MeantScope) → g m ≡ f m) → Stops f old paths e → Stops g old paths e
-stops_as f g old paths e same h place of = refused e (f (meant_at place old)) (g (meant_at place old)) (λ none. same (meant_at place old) ∙ none) (h place of)
 
 -- ---- the entry in front
 
@@ -63,16 +43,11 @@ module _ (old : World) (bytes : List ℕ) where
       (ap (λ (p : RawEntry × List ℕ). p.1) same, subst (λ (p : RawEntry × List ℕ). Goes (weight p.0) (λ m. entry_step m p.0) old new) same g)
 
   pub read_stops : (x : RawEntry) (rest : List ℕ) (paths : List (Option Text)) (e : Refusal) → entry_at bytes ≡ Some (x, rest) → Stops (λ m. entry_step m x) old paths e → StopsAt bytes old paths e
-  read_stops x rest paths e is h y behind at =
-      let same : (x, rest) ≡ (y, behind) = some_same (x, rest) (y, behind) (sym is ∙ at) in
-      subst (λ (p : RawEntry × List ℕ). Stops (λ m. entry_step m p.0) old paths e) same h
+  read_stops x rest paths e is h y behind at = subst (λ (p : RawEntry × List ℕ). Stops (λ m. entry_step m p.0) old paths e) (some_same (x, rest) (y, behind) (sym is ∙ at)) h
 
   -- none is there
   pub unread_stops : (paths : List (Option Text)) (e : Refusal) → Refuses e (entry_at bytes) → StopsAt bytes old paths e
-  unread_stops paths e r x behind at place of = refused e (entry_at bytes) (entry_step (meant_at place old) x) (λ none. absurd (not_found (x, behind) (sym none ∙ at))) r
-    where
-      not_found : (found : RawEntry × List ℕ) → None ≡ Some found → ⊥
-      not_found found h = absurd cc
+  unread_stops paths e r x behind at place of = refused e (entry_at bytes) (entry_step (meant_at place old) x) (λ none. absurd ((absurd cc))) r
 
 pub stops_alike : (e other : Refusal) (bytes : List ℕ) (old : World) (paths : List (Option Text)) → AreAlike e other → StopsAt bytes old paths e → StopsAt bytes old paths other
 stops_alike e other bytes old paths a h x behind at place of = alike e other (entry_step (meant_at place old) x) a (h x behind at place of)
@@ -93,8 +68,7 @@ sequence_length {A = A} reader (suc n) bytes xs e = by (reader bytes) (sym (sequ
         omega (arith, long, many)
 
     by : (o : Option (A × List ℕ)) → after_first reader n o ≡ Some xs → ((behind : List ℕ) (ys : List A × List ℕ) → sequence_at reader n behind ≡ Some ys → length ys.0 ≡ n) → length xs.0 ≡ suc n
-    by None h f = absurd cc
-    by (Some x) h f = more x.0 (sequence_at reader n x.1) (f x.1) h
+    by x h f = search (std_rules, more)
 
 -- ---- a slot more
 
@@ -113,28 +87,14 @@ module _ (old : World) (st : IsWorld old) where
       → Goes few step old (with_slots more more_fs ss)
   pushed more more_fs gs gf tables s is over forms few step ss next count counted follows =
       goes_on old st more more_fs old.paths gs gf (same_list old.paths) tables (s ∷ []) [] [] [] [] few step (with_slots more more_fs ss)
-      (λ i. record {
-        home = old.home;
-        shapes = more;
-        signatures = more_fs;
-        paths = old.paths;
-        slots = next i;
-        instances = sym (append-nil old.instances) i;
-        imports = sym (append-nil old.imports) i;
-        exports = sym (append-nil old.exports) i;
-        used = sym (append-nil old.used) i;
-      })
-      (extended_world old st more more_fs old.paths gs gf (same_list old.paths) tables (s ∷ []) [] [] [] [] (is, tt) tt tt tt)
-      (λ base places p.
+      (λ i. world_with old.home more more_fs old.paths (next i) (sym (append-nil old.instances) i) (sym (append-nil old.imports) i) (sym (append-nil old.exports) i) (sym (append-nil old.used) i))
+      (extended_world old st more more_fs old.paths gs gf (same_list old.paths) tables (s ∷ []) [] [] [] [] (is, tt) tt tt tt) (λ base places p.
       extended_placed old st more more_fs old.paths gs gf (same_list old.paths) tables (s ∷ []) [] [] [] [] base places (length old.shapes) p [] (length more) (omega arith) (over base places p, tt)
-      (λ j x at past. absurd (none_past old.instances j x at past)) tt tt tt (tt, tt)
-      (λ j x at past. absurd (none_past old.instances j x at past)) (λ n q name low at. inl (forms.names n q name at)) (λ n form parts low at. forms.formed n form parts at) refl
-      (λ j x c at here past. absurd (none_past old.imports j x at past)))
-      (all_before old.paths (old.instances ++ [])) (none_behind (length old.paths) old.paths)
-      (let same = ap (λ us. waiting us 0 (old.slots ++ s ∷ [])) (append-nil old.used) in
+      (λ j x at past. absurd (none_past old.instances j x at past)) tt tt tt (tt, tt) (λ j x at past. absurd (none_past old.instances j x at past))
+      (λ n q name low at. inl (forms.names n q name at)) (λ n form parts low at. forms.formed n form parts at) refl (λ j x c at here past. absurd (none_past old.imports j x at past)))
+      (all_before old.paths (old.instances ++ [])) (none_behind (length old.paths) old.paths) (let same = ap (λ us. waiting us 0 (old.slots ++ s ∷ [])) (append-nil old.used) in
       let push = waiting_push old.used 0 old.slots s in
-      omega (arith, same, push, count))
-      (all_in None (parts_in (s ∷ []))) (slot_numbered old st more more_fs old.paths gs gf (same_list old.paths) tables s [] [] is counted)
+      omega (arith, same, push, count)) (all_in None (parts_in (s ∷ []))) (slot_numbered old st more more_fs old.paths gs gf (same_list old.paths) tables s [] [] is counted)
       (λ place of. follows place of ∙ ap Some (plus_slot (meant_at place old) (slot_in (shape_trees place more) (functions_in (shape_trees place more) more_fs) s)))
 
   names_at : (place : ℕ → Place) → AreNames (world_trees place old) old.slots
@@ -142,17 +102,13 @@ module _ (old : World) (st : IsWorld old) where
 
   pub defined_goes : (d : DefinedType) (more : List Shape) (ss : List Slot) → IsTable more → IsDefined old.shapes old.slots d more ss
       → Goes 1 (λ m. component_step m (Declaration.defined d)) old (with_slots more old.signatures ss)
-  defined_goes d more ss table is =
-      let tables : AreTables (length old.paths) more old.signatures = record {
-        table = table;
-        placed = is.placed (length old.paths) st.tables.placed;
-        signatures = functions_wider (length old.shapes) (length more) old.signatures (longer old.shapes more is.grown) st.tables.signatures;
-      } in
-      pushed more old.signatures is.grown (same_list old.signatures) tables (slots.Value is.part) is.range
-      (λ base places p. definition_over (MayMeet (map has_path old.paths) old.home) (meant_at apart old).slots p.slots d (part_tree (shape_trees apart more) is.part)
+  defined_goes d more ss table is = pushed more old.signatures is.grown (same_list old.signatures) (record {
+    table = table;
+    placed = is.placed (length old.paths) st.tables.placed;
+    signatures = functions_wider (length old.shapes) (length more) old.signatures (longer old.shapes more is.grown) st.tables.signatures;
+  }) (slots.Value is.part) is.range (λ base places p. definition_over (MayMeet (map has_path old.paths) old.home) (meant_at apart old).slots p.slots d (part_tree (shape_trees apart more) is.part)
       (is.found apart (world_signatures apart old) (names_at apart)))
-      is.forms 1 (λ m. component_step m (Declaration.defined d)) ss is.next
-      (let count = is.count in omega (arith, count)) (length more, is.counted, refl)
+      is.forms 1 (λ m. component_step m (Declaration.defined d)) ss is.next (let count = is.count in omega (arith, count)) (length more, is.counted, refl)
       (λ place of. ap (λ o. o >>= λ t. Some (in_scope (follow.value t) (meant_at place old))) (is.found place (world_signatures place old) (names_at place)))
 
   pub defined_stops : (d : DefinedType) (e : Refusal) → IsUndefined old.shapes old.slots d e → Stops (λ m. component_step m (Declaration.defined d)) old old.paths e
@@ -161,23 +117,16 @@ module _ (old : World) (st : IsWorld old) where
 
   pub signed_goes : (f : FunctionType) (more_fs : List FunctionShape) (ss : List Slot) → IsDefinedFunction old.signatures old.slots f more_fs ss
       → Goes 1 (λ m. component_step m (Declaration.function f)) old (with_slots old.shapes more_fs ss)
-  signed_goes f more_fs ss is =
-      let inside : is.number < length more_fs = found_below more_fs is.number is.shape is.at in
-      let grows = joins_grow old.signatures more_fs is.shape is.joins in
-      let tables : AreTables (length old.paths) old.shapes more_fs = record {
-        table = st.tables.table;
-        placed = st.tables.placed;
-        signatures = joins_all (IsFunctionIn (length old.shapes)) old.signatures more_fs is.shape is.joins st.tables.signatures
-            (is.ranges (length old.shapes) (ranges_of old.shapes old.signatures old.slots st.slots));
-      } in
-      pushed old.shapes more_fs (same_list old.shapes) grows tables (slots.Function is.number) inside
-      (λ base places p.
+  signed_goes f more_fs ss is = pushed old.shapes more_fs (same_list old.shapes) (joins_grow old.signatures more_fs is.shape is.joins) (record {
+    table = st.tables.table;
+    placed = st.tables.placed;
+    signatures = joins_all (IsFunctionIn (length old.shapes)) old.signatures more_fs is.shape is.joins st.tables.signatures
+        (is.ranges (length old.shapes) (ranges_of old.shapes old.signatures old.slots st.slots));
+  }) (slots.Function is.number) (found_below more_fs is.number is.shape is.at) (λ base places p.
       subst (λ (s : Signature). SignatureOver (MayMeet (map has_path old.paths) old.home) s)
       (sym (ap (λ o. unwrap_or o no_signature) (mapped_get (signature_in (world_trees apart old)) more_fs is.number is.shape is.at)))
       (signature_over (MayMeet (map has_path old.paths) old.home) (meant_at apart old).slots p.slots f (signature_in (world_trees apart old) is.shape)
-      (is.found (world_trees apart old) (world_signatures apart old))))
-      (no_shapes old.shapes) 1 (λ m. component_step m (Declaration.function f)) ss is.next (omega arith) refl
-      (λ place of.
+      (is.found (world_trees apart old) (world_signatures apart old)))) (no_shapes old.shapes) 1 (λ m. component_step m (Declaration.function f)) ss is.next (omega arith) refl (λ place of.
       ap (λ o. o >>= λ s. Some (in_scope (follow.function s) (meant_at place old))) (is.found (world_trees place old) (world_signatures place old))
       ∙ ap (λ s. Some (in_scope (follow.function s) (meant_at place old)))
       (sym (ap (λ o. unwrap_or o no_signature) (mapped_get (signature_in (world_trees place old)) more_fs is.number is.shape is.at))))
@@ -209,12 +158,10 @@ module _ (old : World) (st : IsWorld old) where
         → StopsAt bytes old old.paths e
     function_stops e h x behind at = by (function_type_at is_async front) refl (sym (function_entry is_async bytes front begins) ∙ at)
       where
-        by : (o : Option (FunctionType × List ℕ)) → function_type_at is_async front ≡ o → entered_as o ≡ Some (x, behind)
-            → Stops (λ m. entry_step m x) old old.paths e
+        by : (o : Option (FunctionType × List ℕ)) → function_type_at is_async front ≡ o → entered_as o ≡ Some (x, behind) → Stops (λ m. entry_step m x) old old.paths e
         by None e s = absurd cc
         by (Some f) is s =
-            let same : (plain (Declaration.function f.0), f.1) ≡ (x, behind) = some_same (plain (Declaration.function f.0), f.1) (x, behind) s in
-            subst (λ (p : RawEntry × List ℕ). Stops (λ m. entry_step m p.0) old old.paths e) same (signed_stops f.0 e (h f.0 f.1 is))
+            subst (λ (p : RawEntry × List ℕ). Stops (λ m. entry_step m p.0) old old.paths e) (some_same (plain (Declaration.function f.0), f.1) (x, behind) s) (signed_stops f.0 e (h f.0 f.1 is))
 
   -- ---- aliases
 
@@ -227,25 +174,12 @@ module _ (old : World) (st : IsWorld old) where
 
     found_meant : (name : Text) (ts : List ShownType) → find_type name (map (shown_type T F) ts) ≡ (find_slot name ts >>= λ s. Some (slot_in T F s))
     found_meant name [] = refl
-    found_meant name (t ∷ ts) = by (text_eq name t.name.now) (found_meant name ts)
-      where
-        by : (b : Bool) → find_type name (map (shown_type T F) ts) ≡ (find_slot name ts >>= λ s. Some (slot_in T F s))
-            → cond b (Some (slot_in T F t.slot)) (find_type name (map (shown_type T F) ts)) ≡ (cond b (Some t.slot) (find_slot name ts) >>= λ s. Some (slot_in T F s))
-        by true rest = refl
-        by false rest = rest
+    found_meant name (t ∷ ts) = search (std_rules, found_meant name ts)
 
     path_is : (p : ℕ) → p < length old.paths → has_path (path_of (place p)) ≡ has_path (unwrap_or (slice_get old.paths p) None)
-    path_is p below = by old.paths p below (of p)
-      where
-        same : (o : Option Text) → has_path (path_of (follow.place_of o)) ≡ has_path o
-        same None = refl
-        same (Some path) = refl
-
-        by : (ps : List (Option Text)) (k : ℕ) → k < length ps → ((o : Option Text) → slice_get ps k ≡ Some o → place p ≡ follow.place_of o)
-            → has_path (path_of (place p)) ≡ has_path (unwrap_or (slice_get ps k) None)
-        by [] k h f = absurd (omega (arith, h))
-        by (q ∷ ps) zero h f = ap (λ x. has_path (path_of x)) (f q refl) ∙ same q
-        by (q ∷ ps) (suc k) h f = by ps k (omega (arith, h)) f
+    path_is p below =
+        let found = slice_there old.paths p below in
+        ap (λ x. has_path (path_of x)) (of p found.0 found.1) ∙ ((search std_rules) ∙ ap (λ o. has_path (unwrap_or o None)) (sym found.1))
 
     provided_slot : (b : Bool) (o : Option Slot) → ((o >>= λ s. Some (slot_in T F s)) >>= λ slot. provided b slot) ≡ ((o >>= λ s. provided b s) >>= λ s. Some (slot_in T F s))
     provided_slot b None = refl
@@ -257,21 +191,14 @@ module _ (old : World) (st : IsWorld old) where
       where
         by : (o : Option Instance) → slice_get old.instances m ≡ o
             → exported_slot name (slice_get (map (instance_in place T F) old.instances) m) ≡ (slot_of_instance old.paths name o >>= λ s. Some (slot_in T F s))
-        by None e = ap (exported_slot name) (mapped_none (instance_in place T F) old.instances m e)
-        by (Some x) e =
-            let inside = all_at (IsInstanceIn old.shapes old.signatures old.paths) old.instances m x st.instances e in
-            ap (exported_slot name) (mapped_get (instance_in place T F) old.instances m x e)
-            ∙ (ap (λ o. o >>= λ slot. provided (has_path (path_of (place x.place))) slot) (found_meant name x.view.types.items)
-            ∙ (provided_slot (has_path (path_of (place x.place))) (find_slot name x.view.types.items)
-            ∙ ap (λ b. (find_slot name x.view.types.items >>= λ s. provided b s) >>= λ s. Some (slot_in T F s)) (path_is x.place inside.place)))
+        by x e = search (std_rules, mapped_none, mapped_get, found_meant, provided_slot, path_is, all_at)
 
     alias_meant : (a : Alias) → component_step (meant_at place old) (Declaration.alias_of a) ≡ (taken_from old.paths old.instances a >>= λ s. Some (in_scope (slot_in T F s) (meant_at place old)))
     alias_meant (Alias.of_outer scopes n) = refl
     alias_meant (Alias.of_export m name) = ap (λ o. o >>= λ slot. Some (in_scope slot (meant_at place old))) (exported_meant name m) ∙ by (slot_of_instance old.paths name (slice_get old.instances m))
       where
         by : (o : Option Slot) → ((o >>= λ s. Some (slot_in T F s)) >>= λ slot. Some (in_scope slot (meant_at place old))) ≡ (o >>= λ s. Some (in_scope (slot_in T F s) (meant_at place old)))
-        by None = refl
-        by (Some s) = refl
+        by x = search std_rules
 
   found_in : (name : Text) (ts : List ShownType) → AllByRecursion (IsShownIn old.shapes old.signatures) ts → (s : Slot) → find_slot name ts ≡ Some s → IsSlotIn old.shapes old.signatures s
       × IsTypeSlot s
@@ -280,23 +207,20 @@ module _ (old : World) (st : IsWorld old) where
     where
       by : (b : Bool) → cond b (Some t.slot) (find_slot name ts) ≡ Some s → (find_slot name ts ≡ Some s → IsSlotIn old.shapes old.signatures s × IsTypeSlot s) → IsSlotIn old.shapes old.signatures s
           × IsTypeSlot s
-      by true f rest = let same : t.slot ≡ s = cc in (subst (λ (x : Slot). IsSlotIn old.shapes old.signatures x) same h.0.slot, subst (λ (x : Slot). IsTypeSlot x) same h.0.kind)
-      by false f rest = rest f
+      by x f rest = search std_rules
+
+  given_if : (b : Bool) (o : Option Slot) (s : Slot) → (o >>= λ x. provided b x) ≡ Some s → (b ≡ true) × (o ≡ Some s)
+  given_if x y s e = search std_rules
 
   taken_in : (a : Alias) (s : Slot) → taken_from old.paths old.instances a ≡ Some s → IsSlotIn old.shapes old.signatures s × IsTypeSlot s
   taken_in (Alias.of_outer scopes n) s e = absurd cc
   taken_in (Alias.of_export m name) s e = by (slice_get old.instances m) refl e
     where
-      kept : (b : Bool) (o : Option Slot) → (o >>= λ x. provided b x) ≡ Some s → o ≡ Some s
-      kept b None e = absurd cc
-      kept true (Some x) e = e
-      kept false (Some x) e = absurd cc
-
       by : (o : Option Instance) → slice_get old.instances m ≡ o → slot_of_instance old.paths name o ≡ Some s → IsSlotIn old.shapes old.signatures s × IsTypeSlot s
       by None at f = absurd cc
       by (Some x) at f =
           let inside = all_at (IsInstanceIn old.shapes old.signatures old.paths) old.instances m x st.instances at in
-          found_in name x.view.types.items inside.types s (kept (has_path (unwrap_or (slice_get old.paths x.place) None)) (find_slot name x.view.types.items) f)
+          found_in name x.view.types.items inside.types s (given_if (has_path (unwrap_or (slice_get old.paths x.place) None)) (find_slot name x.view.types.items) s f).1
 
   -- what an alias takes over is a name of a place with a path
   taken_over : (base : List Shape) (places : ℕ) → IsPlacedWorld base places old → (a : Alias) (s : Slot) → taken_from old.paths old.instances a ≡ Some s
@@ -304,33 +228,23 @@ module _ (old : World) (st : IsWorld old) where
   taken_over base places p (Alias.of_outer scopes n) s e = absurd cc
   taken_over base places p (Alias.of_export m name) s e = by (slice_get old.instances m) refl e
     where
-      kept : (b : Bool) (o : Option Slot) → (o >>= λ x. provided b x) ≡ Some s → (b ≡ true) × (o ≡ Some s)
-      kept b None e = absurd cc
-      kept true (Some x) e = (refl, e)
-      kept false (Some x) e = absurd cc
-
       by : (o : Option Instance) → slice_get old.instances m ≡ o → slot_of_instance old.paths name o ≡ Some s
           → SlotOver (MayMeet (map has_path old.paths) old.home) (slot_in (world_trees apart old) (world_signatures apart old) s)
       by None at f = absurd cc
       by (Some x) at f =
-          let inside = all_at (IsInstanceIn old.shapes old.signatures old.paths) old.instances m x st.instances at in
-          let k = kept (has_path (unwrap_or (slice_get old.paths x.place) None)) (find_slot name x.view.types.items) f in
+          let k = given_if (has_path (unwrap_or (slice_get old.paths x.place) None)) (find_slot name x.view.types.items) s f in
           found_over old.shapes st.tables.table old.signatures (MayMeet (map has_path old.paths) old.home) x.place (path_met old.paths old.home x.place (path_marked old.paths x.place k.0))
-          name x.view.types.items inside.types (p.instances m x at).named s k.1
+          name x.view.types.items (all_at (IsInstanceIn old.shapes old.signatures old.paths) old.instances m x st.instances at).types (p.instances m x at).named s k.1
 
   no_wait : (s : Slot) → IsTypeSlot s → waits s ≡ 0
-  no_wait (slots.Value part) h = refl
-  no_wait (slots.Resource part) h = refl
-  no_wait (slots.Function f) h = absurd h
-  no_wait (slots.Instance b n) h = absurd h
+  no_wait x h = search std_rules
 
   pub alias_goes : (a : Alias) (s : Slot) (ss : List Slot) → taken_from old.paths old.instances a ≡ Some s → ss ≡ old.slots ++ s ∷ []
       → Goes 1 (λ m. component_step m (Declaration.alias_of a)) old (with_slots old.shapes old.signatures ss)
   alias_goes a s ss taken next =
       let h = taken_in a s taken in
-      let none = no_wait s h.1 in
       pushed old.shapes old.signatures (same_list old.shapes) (same_list old.signatures) st.tables s h.0 (λ base places p. taken_over base places p a s taken) (no_shapes old.shapes)
-      1 (λ m. component_step m (Declaration.alias_of a)) ss next (omega (arith, none)) (slot_counted old.shapes old.signatures s h.0)
+      1 (λ m. component_step m (Declaration.alias_of a)) ss next (omega (arith, no_wait s h.1)) (slot_counted old.shapes old.signatures s h.0)
       (λ place of. alias_meant place of a ∙ ap (λ o. o >>= λ x. Some (in_scope (slot_in (world_trees place old) (world_signatures place old) x) (meant_at place old))) taken)
 
   pub alias_stops : (a : Alias) (e : Refusal) → Refuses e (taken_from old.paths old.instances a) → Stops (λ m. component_step m (Declaration.alias_of a)) old old.paths e
@@ -344,8 +258,7 @@ module _ (old : World) (st : IsWorld old) where
   held_goes b around ss whole behind next =
       let many = sequence_length held_declaration_at b.count b.bytes.now (items_in held_declaration_at b, []) whole in
       pushed old.shapes old.signatures (same_list old.shapes) (same_list old.signatures) st.tables (slots.Instance b around) whole (λ base places p. tt) (no_shapes old.shapes)
-      (length (items_in held_declaration_at b))
-      (λ m. entry_step m (holds (items_in held_declaration_at b))) ss next (omega (arith, many)) refl
+      (length (items_in held_declaration_at b)) (λ m. entry_step m (holds (items_in held_declaration_at b))) ss next (omega (arith, many)) refl
       (λ place of. ap (λ n. Some (in_scope (follow.instance (items_in held_declaration_at b) n) (meant_at place old)))
       (length-map old.slots (slot_in (world_trees place old) (world_signatures place old)) ∙ sym behind))
 
@@ -365,14 +278,12 @@ one_step : {S A : Type 0} (step : S → A → Option S) (state : S) (xs : List A
 one_step {S = S} step state [] x = by (step state x)
   where
     by : (o : Option S) → (o >>= λ next. Some next) ≡ o
-    by None = refl
-    by (Some next) = refl
+    by x = search std_rules
 one_step {S = S} {A = A} step state (y ∷ xs) x = by (step state y) (λ next. one_step step next xs x)
   where
     by : (o : Option S) → ((next : S) → steps step next (xs ++ x ∷ []) ≡ (steps step next xs >>= λ last. step last x))
         → (o >>= λ next. steps step next (xs ++ x ∷ [])) ≡ ((o >>= λ next. steps step next xs) >>= λ last. step last x)
-    by None more = refl
-    by (Some next) more = more next
+    by x more = search (std_rules, more)
 
 -- ---- stages
 
@@ -422,7 +333,6 @@ module _ (start : World) (b : Body) where
       reached : (next : World) → Goes (weight x) (λ m. entry_step m x) now next → (ys : List RawEntry) → f.es ≡ x ∷ ys → IsStage start.shapes start.home all next (i + 1) next
       reached next g ys same =
           let front = f.stage.front in
-          let one = length-append front (x ∷ []) in
           let long = f.stage.long in
           record {
             world = g.world;
@@ -435,19 +345,15 @@ module _ (start : World) (b : Body) where
             front = front ++ x ∷ [];
             back = ys;
             split = f.behind ∙ (ap (λ zs. front ++ zs) same ∙ sym (append_assoc front (x ∷ []) ys));
-            long = omega (arith, one, long);
-            follows = λ place of.
-                one_step entry_step new_scope front x
-                ∙ (ap (λ o. o >>= λ m. entry_step m x) (f.stage.follows place (places_before now.paths next.paths g.paths_grow place of)) ∙ g.follows place of);
+            long = omega (arith, (length-append front (x ∷ [])), long);
+            follows = λ place of. one_step entry_step new_scope front x ∙ (ap (λ o. o >>= λ m. entry_step m x) (f.stage.follows place (places_before now.paths next.paths g.paths_grow place of))
+                ∙ g.follows place of);
           }
 
       pub followed_on : (next : World) → Goes (weight x) (λ m. entry_step m x) now next → IsFollowedTo start b (i + 1) behind next
       unfolding reached
       followed_on next g =
           let p = peeled entry_at (b.count - (i + 1)) rest f.es left_here x behind at in
-          let before = f.count in
-          let step = g.count in
-          let split = ap weights p.2 in
           record {
             world = g.world;
             shapes_grow = grow_on start.shapes now.shapes next.shapes f.shapes_grow g.shapes_grow;
@@ -458,27 +364,23 @@ module _ (start : World) (b : Body) where
             order = g.order (length start.paths) f.met f.order;
             es = p.0;
             left = p.1;
-            count = omega (arith, before, step, split);
+            count = omega (arith, f.count, g.count, ap weights p.2);
             follows = λ place of. sym (steps_on place (places_before now.paths next.paths g.paths_grow place of) (Some (meant_at place next)) (g.follows place of) p.0 p.2);
             stage = reached next g p.0 p.2;
             behind = (reached next g p.0 p.2).split;
             parts = f.parts ++ g.numbers.parts;
             counted = count_scoped (length start.shapes) f.parts (length now.shapes) g.numbers.parts (length next.shapes) f.counted g.numbers.counted;
             trees = λ place of.
-                let before = places_before now.paths next.paths g.paths_grow place of in
                 let T = world_trees place now in
                 let U = world_trees place next in
                 let along = trees_along (meant_at place next) p.0 in
-                let kept = scoped_grown place now.shapes next.shapes g.shapes_grow f.parts (count_below (length start.shapes) (bare_parts f.parts) (length now.shapes) f.counted) in
-                let one : trees_along (meant_at place now) f.es ≡ scoped_trees U g.numbers.parts ++ along =
-                ap (trees_along (meant_at place now)) p.2
-                ∙ (ap (λ o. option_map_or (λ last. trees_since (meant_at place now) last ++ trees_along last p.0) o []) (g.follows place of)
-                ∙ ap (λ ts. ts ++ along) (g.numbers.trees place of)) in
-                ap (λ ts. ts ++ along) (append_of_map (λ p. (p.0, part_tree U p.1)) f.parts g.numbers.parts ∙ ap (λ ts. ts ++ scoped_trees U g.numbers.parts) kept)
+                ap (λ ts. ts ++ along) (append_of_map _ _ _ ∙ ap (λ ts. ts ++ scoped_trees U g.numbers.parts)
+                (scoped_grown place now.shapes next.shapes g.shapes_grow f.parts (count_below (length start.shapes) (bare_parts f.parts) (length now.shapes) f.counted)))
                 ∙ (append_assoc (scoped_trees T f.parts) (scoped_trees U g.numbers.parts) along
-                ∙ (ap (λ ts. scoped_trees T f.parts ++ ts) (sym one) ∙ f.trees place before));
-            scoped =
-                all_both (λ (p : Option ℕ × ℕ). IsScopedIn next p.0 p.1) f.parts g.numbers.parts
+                ∙ (ap (λ ts. scoped_trees T f.parts ++ ts) (sym (ap (trees_along (meant_at place now)) p.2
+                ∙ (ap (λ o. option_map_or (λ last. trees_since (meant_at place now) last ++ trees_along last p.0) o []) (g.follows place of) ∙ ap (λ ts. ts ++ along) (g.numbers.trees place of))))
+                ∙ f.trees place (places_before now.paths next.paths g.paths_grow place of)));
+            scoped = all_both (λ (p : Option ℕ × ℕ). IsScopedIn next p.0 p.1) f.parts g.numbers.parts
                 (all_still_scoped now next g.shapes_grow g.paths_grow g.home g.instances_grow f.parts (count_below (length start.shapes) (bare_parts f.parts) (length now.shapes) f.counted) f.scoped)
                 (g.numbers.scoped start.shapes start.home (g.placed start.shapes start.home f.placed));
             stages = stages_on start.shapes start.home all now next (weight x) (λ m. entry_step m x) g i f.stages (reached next g p.0 p.2);
@@ -509,15 +411,12 @@ module _ (start : World) (b : Body) where
         by (Some x) is = nothing_on x.0 x.1 is paths e grows (h x.0 x.1 is)
 
   pub followed_whole : (i : ℕ) (rest : List ℕ) (now : World) → IsFollowedTo start b i rest now → i ≤ b.count → b.count ≤ i → IsFollowedTo start b b.count [] now
-  followed_whole i rest now f le ge =
-      let same : i ≡ b.count = omega (arith, le, ge) in
-      let none = none_left entry_at (b.count - i) rest f.es (omega (arith, ge)) f.left in
-      subst (λ (n : ℕ). IsFollowedTo start b n [] now) same (subst (λ (bytes : List ℕ). IsFollowedTo start b i bytes now) none.1 f)
+  followed_whole i rest now f le ge = subst (λ (n : ℕ). IsFollowedTo start b n [] now) (omega (arith, le, ge))
+      (subst (λ (bytes : List ℕ). IsFollowedTo start b i bytes now) (none_left entry_at (b.count - i) rest f.es (omega (arith, ge)) f.left).1 f)
 
 -- nothing has been followed
 pub followed_none : (home : ℕ) (shapes : List Shape) (fs : List FunctionShape) (paths : List (Option Text)) (b : Body) → AreTables (length paths) shapes fs → slice_get paths home ≡ Some None
-    → HasNoNames home shapes → IsBody entry_at b
-    → (new : World) → new ≡ start_of home shapes fs paths → IsFollowedTo (start_of home shapes fs paths) b 0 b.bytes.now new
+    → HasNoNames home shapes → IsBody entry_at b → (new : World) → new ≡ start_of home shapes fs paths → IsFollowedTo (start_of home shapes fs paths) b 0 b.bytes.now new
 followed_none home shapes fs paths b tables own fresh whole new e = subst (λ (w : World). IsFollowedTo (start_of home shapes fs paths) b 0 b.bytes.now w) (sym e) (record {
   world = world;
   shapes_grow = same_list shapes;
@@ -584,24 +483,16 @@ followed_none home shapes fs paths b tables own fresh whole new e = subst (λ (w
 settled_meant : (T : List Tree) (F : List Signature) (used : List ℕ) (n : ℕ) (ss : List Slot) → AreNames T ss → all_used used n (slots_in T F ss) ≡ are_settled used n ss
 settled_meant T F used n [] h = refl
 settled_meant T F used n (slots.Value part ∷ ss) h = settled_meant T F used (suc n) ss h
-settled_meant T F used n (slots.Resource part ∷ ss) h = by (part_tree T part) h.0 ∙ settled_meant T F used (suc n) ss h.1
-  where
-    by : (t : Tree) → IsName t → all_used used n (resource_slot t ∷ slots_in T F ss) ≡ all_used used (suc n) (slots_in T F ss)
-    by (Tree.primitive p) h = absurd h
-    by (Tree.named place name) h = refl
-    by (Tree.node form ts) h = absurd h
+settled_meant T F used n (slots.Resource part ∷ ss) h = search (std_rules, settled_meant T F used (suc n) ss h.1)
 settled_meant T F used n (slots.Function f ∷ ss) h = settled_meant T F used (suc n) ss h
 settled_meant T F used n (slots.Instance b around ∷ ss) h = ap (λ v. list_any (λ m. m == n) used && v) (settled_meant T F used (suc n) ss h)
 
 module _ (home : ℕ) (shapes : List Shape) (fs : List FunctionShape) (before paths : List (Option Text)) (own : paths ≡ before ++ None ∷ []) (new_home : home ≡ length before) (b : Body) (now : World) (f : IsFollowedTo (start_of home shapes fs paths) b b.count [] now) where
   steps_end : (place : ℕ → Place) → ArePlacesOf now.paths place → steps entry_step new_scope (items_in entry_at b) ≡ Some (meant_at place now)
-  steps_end place of =
-      let none = none_left entry_at (b.count - b.count) [] f.es (omega arith) f.left in
-      sym (f.follows place of) ∙ ap (steps entry_step (meant_at place now)) none.0
+  steps_end place of = sym (f.follows place of) ∙ ap (steps entry_step (meant_at place now)) (none_left entry_at (b.count - b.count) [] f.es (omega arith) f.left).0
 
   scope_is : (place : ℕ → Place) → ArePlacesOf now.paths place → (v : Bool) → are_settled now.used 0 now.slots ≡ v → entry_scope (items_in entry_at b) ≡ provided v (meant_at place now)
-  scope_is place of v e =
-      ap (λ o. o >>= λ scope. provided (all_used scope.used 0 scope.slots) scope) (steps_end place of)
+  scope_is place of v e = ap (λ o. o >>= λ scope. provided (all_used scope.used 0 scope.slots) scope) (steps_end place of)
       ∙ ap (λ w. provided w (meant_at place now))
       (settled_meant (world_trees place now) (world_signatures place now) now.used 0 now.slots (names_of place now.shapes now.signatures now.slots f.world.tables.table f.world.slots) ∙ e)
 
@@ -618,10 +509,7 @@ module _ (home : ℕ) (shapes : List Shape) (fs : List FunctionShape) (before pa
     paths_grow = grow_on before paths now.paths (record { more = None ∷ []; is = own }) f.paths_grow;
     count = (let count = f.count in omega (arith, count));
     placed = subst (λ (n : ℕ). IsPlacedWorld shapes n now) new_home f.placed;
-    met = λ q path at. elim (f.met q path at) [
-      | inl below ↦ inl (below_pathless before paths own q path (stood paths now.paths f.paths_grow q (Some path) below at))
-      | inr met ↦ inr met
-    ];
+    met = λ q path at. elim (f.met q path at) [ inl below ↦ inl (below_pathless before paths own q path (stood paths now.paths f.paths_grow q (Some path) below at)) | inr met ↦ inr met ];
     order = λ j x at q path there less. elim (f.order j x at q path there less) [
       | inl below ↦ inl (below_pathless before paths own q path (stood paths now.paths f.paths_grow q (Some path) below there))
       | inr met ↦ inr met

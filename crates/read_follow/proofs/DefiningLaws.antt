@@ -1,5 +1,5 @@
 -- Types of values and of functions in tables that grow.
-use Rattle.std.proofs.Common.{rules as std_rules, ◌≡◌, ◌⊎◌, refl, sym, ap, ◌∙◌, subst, ℕ, zero, suc, ◌+◌, ◌<◌, ◌≤◌, arith, inl, inr, true, false, List, [], ◌∷◌, ◌++◌, map, length, Option, Some, option_map, IfSome, slice_get, unwrap_or, append_assoc, append-nil, length-append}
+use Rattle.std.proofs.Common.{rules as std_rules, ◌≡◌, ◌⊎◌, refl, sym, ap, ◌∙◌, ℕ, ◌+◌, ◌<◌, ◌≤◌, arith, inl, inr, true, List, [], ◌∷◌, ◌++◌, map, length, Option, Some, option_map, IfSome, slice_get, unwrap_or, append_assoc, append-nil, length-append}
 use Rattle.std.proofs.lemmas.{Bool.cases_lt, Option.slice_get_past, Option.slice_get_within as found_below}
 use Rattle.std.specs.List.{AllByRecursion}
 use Rattle.wit_model.specs.{Meaning.Signature, Text.Text, Tree.Form, Tree.Place, Tree.Tree, Tree.children, Types.no_tree}
@@ -15,7 +15,7 @@ use Rattle.plan_meaning.specs.Shapes.{Shape, code, form_of, named_shape, node_sh
 use Rattle.plan_meaning.proofs.ShapeLaws.{form_back, name_tree, node_tree, one_number, part_behind, tree_at_number}
 use Rattle.plan_meaning.proofs.ShapesLemmas.{no_sort as no_name}
 use Rattle.read_follow.proofs.{NumberingLaws.adds_next, TableGrowth.part_kept, TableGrowth.trees_length, TableGrowth.trees_more}
-use Rattle.base_lemmas.proofs.{Elements.all_end, Lists.get_back as mapped_back, Lists.last_or, Lists.within_there as slice_there}
+use Rattle.base_lemmas.proofs.{Elements.all_at_too, Elements.all_end, Lists.get_back as mapped_back, Lists.last_or, Lists.within_there as slice_there}
 use Rattle.read_follow.specs.declared.slots.Slot.TheVariants as slots
 
 -- ---- lists that grow
@@ -76,55 +76,46 @@ trees_behind : (place : ℕ → Place) (ss us : List Shape) → (U : List Tree) 
 trees_behind place ss [] = ([], ap (shape_trees place) (append-nil ss) ∙ sym (append-nil (shape_trees place ss)))
 trees_behind place ss (u ∷ us) = search (std_rules, append_assoc, trees_more, trees_behind place (ss ++ u ∷ []) us)
 
+-- what is the same for each that holds
+pub map_so : {A B : Type 0} (P : A → Type 0) (f g : A → B) → ((x : A) → P x → f x ≡ g x) → (xs : List A) → AllByRecursion P xs → map f xs ≡ map g xs
+map_so P f g same [] h = refl
+map_so P f g same (x ∷ xs) h = λ i. same x h.0 i ∷ map_so P f g same xs h.1 i
+
 module _ (place : ℕ → Place) (ss new : List Shape) (grown : Grows ss new) where
   -- a part stands for what it did
   pub part_grown : (k : ℕ) → k < 14 + length ss → part_tree (shape_trees place new) k ≡ part_tree (shape_trees place ss) k
   part_grown k h =
-      let T = shape_trees place ss in
       let rest = trees_behind place ss grown.more in
-      let long : length T ≡ length ss = trees_length place ss in
-      ap (λ us. part_tree (shape_trees place us) k) grown.is ∙ (ap (λ U. part_tree U k) rest.1 ∙ part_kept T rest.0 k (omega (arith, h, long)))
+      ap (λ us. part_tree (shape_trees place us) k) grown.is ∙ (ap (λ U. part_tree U k) rest.1 ∙ part_kept (shape_trees place ss) rest.0 k (omega (arith, h, trees_length place ss)))
 
   pub parts_grown : (ks : List ℕ) → AllByRecursion (λ k. k < 14 + length ss) ks → map (part_tree (shape_trees place new)) ks ≡ map (part_tree (shape_trees place ss)) ks
-  parts_grown [] h = refl
-  parts_grown (k ∷ ks) h = λ i. part_grown k h.0 i ∷ parts_grown ks h.1 i
+  parts_grown ks h = map_so _ _ _ part_grown ks h
 
   -- so it is with their scopes
-  pub scoped_grown : {S : Type 0} (ps : List (S × ℕ)) → AllByRecursion (λ k. k < 14 + length ss) (bare_parts ps)
-      → scoped_trees (shape_trees place new) ps ≡ scoped_trees (shape_trees place ss) ps
+  pub scoped_grown : {S : Type 0} (ps : List (S × ℕ)) → AllByRecursion (λ k. k < 14 + length ss) (bare_parts ps) → scoped_trees (shape_trees place new) ps ≡ scoped_trees (shape_trees place ss) ps
   scoped_grown [] h = refl
   scoped_grown (p ∷ ps) h = λ i. (p.0, part_grown p.1 h.0 i) ∷ scoped_grown ps h.1 i
-
-  params_grown : (ps : List (Text × ℕ)) → AllByRecursion (λ p. p.1 < 14 + length ss) ps → map (param_tree (shape_trees place new)) ps ≡ map (param_tree (shape_trees place ss)) ps
-  params_grown [] h = refl
-  params_grown (p ∷ ps) h = λ i. (p.0, part_grown p.1 h.0 i) ∷ params_grown ps h.1 i
 
   outcome_grown : (o : Option ℕ) → IfSome o (λ k. k < 14 + length ss) → option_map (part_tree (shape_trees place new)) o ≡ option_map (part_tree (shape_trees place ss)) o
   outcome_grown x h = search (std_rules, part_grown)
 
   signature_grown : (s : FunctionShape) → IsFunctionIn (length ss) s → signature_in (shape_trees place new) s ≡ signature_in (shape_trees place ss) s
   unfolding signature_in
-  signature_grown s h = λ i. record { is_async = s.is_async; params = params_grown s.params h.params i; result = outcome_grown s.outcome h.outcome i }
+  signature_grown s h = λ i. record { is_async = s.is_async; params = map_so _ _ _ (λ (q : Text × ℕ) b j. (q.0, part_grown q.1 b j)) s.params h.params i; result = outcome_grown s.outcome h.outcome i }
 
   -- the types of functions are what they were
   pub functions_grown : (fs : List FunctionShape) → AreFunctionsIn (length ss) fs → functions_in (shape_trees place new) fs ≡ functions_in (shape_trees place ss) fs
-  functions_grown [] h = refl
-  functions_grown (f ∷ fs) h = λ i. signature_grown f h.0 i ∷ functions_grown fs h.1 i
+  functions_grown fs h = map_so _ _ _ signature_grown fs h
 
 -- ---- keys of maps
-
-shape_keyless : (place : ℕ → Place) (T : List Tree) (n : ℕ) (s : Shape) → IsShape n s → is_key (shape_tree place T s) ≡ false
-shape_keyless place x n s y = search (std_rules, name_tree, node_tree)
 
 -- no type of a table may be the key of a map
 pub no_keys : (place : ℕ → Place) (ss : List Shape) → IsTable ss → HasNoKeys (shape_trees place ss)
 no_keys place ss table n = ap is_key (part_behind T n) ∙ elim (cases_lt n (length ss)) [
   | inl inside ↦
       let found = slice_there ss n inside in
-      ap (λ o. is_key (unwrap_or o no_tree)) (tree_at_number place ss table n found.0 found.1) ∙ shape_keyless place T n found.0 (table.each n found.0 found.1)
-  | inr past ↦
-      let long : length T ≡ length ss = trees_length place ss in
-      ap (λ o. is_key (unwrap_or o no_tree)) (slice_get_past T n (omega (arith, past, long)))
+      ap (λ o. is_key (unwrap_or o no_tree)) (tree_at_number place ss table n found.0 found.1) ∙ (search (std_rules, name_tree, node_tree))
+  | inr past ↦ ap (λ o. is_key (unwrap_or o no_tree)) (slice_get_past T n (omega (arith, past, trees_length place ss)))
 ]
   where
     T : List Tree
@@ -151,12 +142,11 @@ part_defined ss old new d k small is found = record {
 pub key_defined : (ss more : List Shape) (old new : List Slot) (d : DefinedType) (s : Shape) (n : ℕ) → IsTable ss → IsTable more → AreInRange (length ss) old → IsNodeOf s old d
     → slice_get more n ≡ Some s → Adds ss s more → new ≡ old ++ slots.Value (14 + n) ∷ [] → IsDefined ss old d more new
 key_defined ss more old new d s n table wider ranges node at adds is =
-    let inside : n < length more = found_below more n s at in
     let grown = adds_grow ss more s adds in
     record {
       part = 14 + n;
       next = is;
-      range = omega (arith, inside);
+      range = omega (arith, found_below more n s at);
       grown = grown;
       count = adds_one ss more s adds;
       counted = adds_next ss more s n adds at;
@@ -166,13 +156,11 @@ key_defined ss more old new d s n table wider ranges node at adds is =
         formed = adds_formed ss more s adds node.form node.parts node.shape node.formed;
       };
       found = λ place F named.
-          let T = shape_trees place ss in
           let U = shape_trees place more in
-          let last : part_tree U (14 + n) ≡ Tree.node node.form (children (map (part_tree T) node.parts)) =
-          part_behind U n ∙ (ap (λ o. unwrap_or o no_tree) (tree_at_number place more wider n s at)
+          node.found (shape_trees place ss) F named (no_keys place ss table) ∙ ap Some
+          (sym (part_behind U n ∙ (ap (λ o. unwrap_or o no_tree) (tree_at_number place more wider n s at)
           ∙ (ap (shape_tree place U) node.shape ∙ (node_tree place U node.form node.parts
-          ∙ ap (λ ts. Tree.node node.form (children ts)) (parts_grown place ss more grown node.parts (node.ranges (length ss) ranges))))) in
-          node.found T F named (no_keys place ss table) ∙ ap Some (sym last);
+          ∙ ap (λ ts. Tree.node node.form (children ts)) (parts_grown place ss more grown node.parts (node.ranges (length ss) ranges)))))));
     }
 
 -- a key of a table is of a shape over the types before it
@@ -187,9 +175,7 @@ undefined ss old d e table r place F named = r (shape_trees place ss) F named (n
 -- ---- equal signatures
 
 pub all_at : {A : Type 0} (P : A → Type 0) (xs : List A) (n : ℕ) (x : A) → AllByRecursion P xs → slice_get xs n ≡ Some x → P x
-all_at P [] n x all e = absurd cc
-all_at P (y ∷ xs) zero x all e = let same : y ≡ x = cc in subst P same all.0
-all_at P (y ∷ xs) (suc n) x all e = all_at P xs n x all.1 e
+all_at P xs n x all e = all_at_too P xs all n x e
 
 module _ (place : ℕ → Place) (distinct : (p q : ℕ) → place p ≡ place q → p ≡ q) (ss : List Shape) (table : IsTable ss) where
   abbrev trees : List Tree
@@ -202,11 +188,7 @@ module _ (place : ℕ → Place) (distinct : (p q : ℕ) → place p ≡ place q
   one_params (p ∷ ps) [] hp hq e = absurd cc
   one_params (p ∷ ps) (q ∷ qs) hp hq e =
       let pair : param_tree trees p ≡ param_tree trees q = cc in
-      let others : map (param_tree trees) ps ≡ map (param_tree trees) qs = cc in
-      let name : p.0 ≡ q.0 = ap (λ (x : Text × Tree). x.0) pair in
-      let part : p.1 ≡ q.1 = one_number place distinct ss table p.1 q.1 hp.0 hq.0 (ap (λ (x : Text × Tree). x.1) pair) in
-      let rest = one_params ps qs hp.1 hq.1 others in
-      λ i. (name i, part i) ∷ rest i
+      λ i. ((ap (λ (x : Text × Tree). x.0) pair) i, (one_number place distinct ss table p.1 q.1 hp.0 hq.0 (ap (λ (x : Text × Tree). x.1) pair)) i) ∷ (one_params ps qs hp.1 hq.1 cc) i
 
   one_outcome : (o u : Option ℕ) → IfSome o (λ k. k < 14 + length ss) → IfSome u (λ k. k < 14 + length ss) → option_map (part_tree trees) o ≡ option_map (part_tree trees) u → o ≡ u
   one_outcome x y ho hu e = search (std_rules, one_number)
@@ -214,10 +196,9 @@ module _ (place : ℕ → Place) (distinct : (p q : ℕ) → place p ≡ place q
   one_signature : (s t : FunctionShape) → IsFunctionIn (length ss) s → IsFunctionIn (length ss) t → signature_in trees s ≡ signature_in trees t → s ≡ t
   unfolding signature_in
   one_signature s t hs ht e =
-      let kind : s.is_async ≡ t.is_async = ap (λ (f : Signature). f.is_async) e in
       let params = one_params s.params t.params hs.params ht.params (ap (λ (f : Signature). f.params) e) in
       let outcome = one_outcome s.outcome t.outcome hs.outcome ht.outcome (ap (λ (f : Signature). f.result) e) in
-      λ i. record { is_async = kind i; params = params i; outcome = outcome i }
+      λ i. record { is_async = (ap (λ (f : Signature). f.is_async) e) i; params = params i; outcome = outcome i }
 
   pub one_function : (fs : List FunctionShape) → AreFunctionsIn (length ss) fs → AreApart fs → (a b : ℕ) (f : Signature) → slice_get (functions_in trees fs) a ≡ Some f
       → slice_get (functions_in trees fs) b ≡ Some f → a ≡ b

@@ -1,5 +1,5 @@
 -- Facts about types, by those about their parts.
-use Rattle.std.proofs.Common.{rules as std_rules, ◌≡◌, inl, inr, refl, sym, ap, ◌∙◌, subst, ℕ, zero, suc, ◌+◌, ◌-◌, ◌<◌, ◌≤◌, min, max, arith, Bool, true, false, not, ◌&&◌, ◌==◌, cond, List, [], ◌∷◌, ◌++◌, map, take, length, get_or, Some, slice_get, unwrap_or, append-nil, append_assoc}
+use Rattle.std.proofs.Common.{rules as std_rules, ◌≡◌, inl, inr, refl, sym, ap, ◌∙◌, subst, ℕ, zero, suc, ◌+◌, ◌-◌, ◌<◌, ◌≤◌, min, max, arith, Bool, true, false, not, ◌&&◌, ◌==◌, cond, List, [], ◌∷◌, ◌++◌, map, take, length, get_or, slice_get, unwrap_or, append-nil, append_assoc}
 use Rattle.std.proofs.lemmas.{Bool.eq-eqb, Bool.eqb-true, Bool.lt-ltb, Bool.false≢true, List.take_more, List.map-append}
 use Rattle.std.proofs.lemmas.List.Elements.{Contains-append_left, Contains-append_right, Contains-append_cases}
 use Rattle.std.specs.{Borrow.Bor, List.AllByRecursion, List.Contains}
@@ -18,41 +18,27 @@ use Rattle.read_follow.specs.declared.facts.Names.TheVariants as names
 
 -- ---- places
 
-contains_at : {X : Type 0} (x y : X) (k : ℕ) → k < 1 → get_or (x ∷ []) k y ≡ y → y ≡ x
-contains_at x y z small e = search std_rules
-
 contains_one : {X : Type 0} (x y : X) → Contains (x ∷ []) y → y ≡ x
-contains_one x y c = contains_at x y c.0 c.1 c.2
+contains_one x y c = search std_rules
 
 along : (n : Names) (met other : (ℕ → Place) → List Place) → ((place : ℕ → Place) → met place ≡ other place) → AreOf n met → AreOf n other
 along names.Nowhere met other e h = λ place. sym (e place) ∙ h place
 along (names.In p) met other e h = λ place. (subst (λ xs. Contains xs (place p)) (e place) (h place).0, λ q c. (h place).1 q (subst (λ xs. Contains xs q) (sym (e place)) c))
-along names.InSeveral met other e h =
-    (h.0, h.1, h.2, λ place. (subst (λ xs. Contains xs (place h.0)) (e place) (h.3 place).0, subst (λ xs. Contains xs (place h.1)) (e place) (h.3 place).1))
+along names.InSeveral met other e h = (h.0, h.1, h.2, λ place. (subst (λ xs. Contains xs (place h.0)) (e place) (h.3 place).0, subst (λ xs. Contains xs (place h.1)) (e place) (h.3 place).1))
 
 join_of : (a b : Names) (met more : (ℕ → Place) → List Place) → AreOf a met → AreOf b more → AreOf (joined a b) (λ place. met place ++ more place)
 join_of names.Nowhere b met more ha hb = along b more (λ place. met place ++ more place) (λ place. ap (λ xs. xs ++ more place) (sym (ha place))) hb
-join_of names.InSeveral b met more ha hb =
-    (ha.0, ha.1, ha.2, λ place. (Contains-append_left (met place) (more place) (place ha.0) (ha.3 place).0, Contains-append_left (met place) (more place) (place ha.1) (ha.3 place).1))
-join_of (names.In p) names.Nowhere met more ha hb =
-    along (names.In p) met (λ place. met place ++ more place) (λ place. sym (append-nil (met place)) ∙ ap (λ xs. met place ++ xs) (sym (hb place))) ha
-join_of (names.In p) names.InSeveral met more ha hb =
-    (hb.0, hb.1, hb.2, λ place. (Contains-append_right (met place) (more place) (place hb.0) (hb.3 place).0, Contains-append_right (met place) (more place) (place hb.1) (hb.3 place).1))
+join_of names.InSeveral b met more ha hb = (ha.0, ha.1, ha.2, λ place. (Contains-append_left _ _ _ (ha.3 place).0, Contains-append_left _ _ _ (ha.3 place).1))
+join_of (names.In p) names.Nowhere met more ha hb = along (names.In p) met (λ place. met place ++ more place) (λ place. sym (append-nil (met place)) ∙ ap (λ xs. met place ++ xs) (sym (hb place))) ha
+join_of (names.In p) names.InSeveral met more ha hb = (hb.0, hb.1, hb.2, λ place. (Contains-append_right _ _ _ (hb.3 place).0, Contains-append_right _ _ _ (hb.3 place).1))
 join_of (names.In p) (names.In q) met more ha hb = by (p == q) refl
   where
     by : (b : Bool) → (p == q) ≡ b → AreOf (cond b (names.In p) names.InSeveral) (λ place. met place ++ more place)
-    by true e =
-        let same = eqb-true p q e in
-        λ place. (
-          Contains-append_left (met place) (more place) (place p) (ha place).0,
-          λ r c. elim (Contains-append_cases (met place) (more place) r c) [ inl h ↦ (ha place).1 r h | inr h ↦ (hb place).1 r h ∙ ap place (sym same) ],
-        )
-    by false e = (
-      p,
-      q,
-      (λ same. false≢true (sym e ∙ eq-eqb p q same)),
-      λ place. (Contains-append_left (met place) (more place) (place p) (ha place).0, Contains-append_right (met place) (more place) (place q) (hb place).0),
+    by true e = λ place. (
+      Contains-append_left (met place) (more place) (place p) (ha place).0,
+      λ r c. elim (Contains-append_cases (met place) (more place) r c) [ inl h ↦ (ha place).1 r h | inr h ↦ (hb place).1 r h ∙ ap place (sym (eqb-true p q e)) ],
     )
+    by false e = (p, q, (λ same. false≢true (sym e ∙ eq-eqb p q same)), λ place. (Contains-append_left _ _ _ (ha place).0, Contains-append_right _ _ _ (hb place).0))
 
 -- ---- one type more
 
@@ -68,12 +54,6 @@ plain_more : (ts : List Tree) (t : Tree) → are_plain (children (ts ++ t ∷ []
 plain_more [] t = and_true (is_plain t)
 plain_more (u ∷ ts) t = ap (λ b. is_plain u && b) (plain_more ts t) ∙ and_assoc (is_plain u) (are_plain (children ts)) (is_plain t)
 
-cap_max : (a b : ℕ) → max (min cap a) (min cap b) ≡ min cap (max a b)
-cap_max a b = omega arith
-
-cap_above : (d : ℕ) → min cap (min cap d + 1) ≡ min cap (d + 1)
-cap_above d = omega arith
-
 pub no_parts : Sums (record { levels = 0; names = names.Nowhere; is_plain = true }) (λ place. [])
 no_parts = record { levels = λ place. refl; names = λ place. refl; plain = λ place. refl }
 
@@ -82,11 +62,9 @@ sums_along s parts other e h = search std_rules
 
 sums_more : (s : Summary) (f : Fact) (parts : (ℕ → Place) → List Tree) (t : (ℕ → Place) → Tree) → Sums s parts → Tells f t → Sums (with_fact s f) (λ place. parts place ++ t place ∷ [])
 sums_more s f parts t h one = record {
-  levels = λ place. (λ i. max (h.levels place i) (one.levels place i)) ∙ (cap_max (deepest (children (parts place))) (tree.levels (t place)) ∙ ap (min cap)
-      (sym (deepest_more (parts place) (t place))));
+  levels = λ place. (λ i. max (h.levels place i) (one.levels place i)) ∙ ((omega arith) ∙ ap (min cap) (sym (deepest_more (parts place) (t place))));
   names = along (joined s.names f.names) (λ place. places_in (children (parts place)) ++ places (t place)) (λ place. places_in (children (parts place ++ t place ∷ [])))
-      (λ place. sym (places_more (parts place) (t place)))
-      (join_of s.names f.names (λ place. places_in (children (parts place))) (λ place. places (t place)) h.names one.names);
+      (λ place. sym (places_more (parts place) (t place))) (join_of s.names f.names (λ place. places_in (children (parts place))) (λ place. places (t place)) h.names one.names);
   plain = λ place. (λ i. h.plain place i && one.plain place i) ∙ sym (plain_more (parts place) (t place));
 }
 
@@ -94,9 +72,6 @@ sums_more s f parts t h one = record {
 
 pub tells_along : (f : Fact) (t u : (ℕ → Place) → Tree) → ((place : ℕ → Place) → t place ≡ u place) → Tells f t → Tells f u
 tells_along f t u e h = search std_rules
-
-primitive_tells : (p : Primitive) → Tells primitive_fact (λ place. Tree.primitive p)
-primitive_tells p = record { levels = λ place. refl; names = λ place. refl; plain = λ place. refl; parts = λ place. refl; labels = λ place. refl }
 
 primitive_at : (k : ℕ) → k < 14 → (p : Primitive) × ((T : List Tree) → part_tree T k ≡ Tree.primitive p)
 primitive_at k small =
@@ -107,20 +82,17 @@ module _ (facts : List Fact) where
   front_fact : (k : ℕ) → k < 14 → fact_at facts k ≡ primitive_fact
   front_fact k small = ap (λ b. cond b primitive_fact (unwrap_or (slice_get facts (k - 14)) primitive_fact)) (lt-ltb k 14 small)
 
-  kept_fact : (k n : ℕ) (f : Fact) → k ≡ 14 + n → slice_get facts n ≡ Some f → fact_at facts k ≡ f
-  kept_fact k n f is e = search std_rules
-
   module _ (trees : (ℕ → Place) → List Tree) (holds : FactsHold facts trees) where
     pub tells_part : (k : ℕ) → k < 14 + length facts → Tells (fact_at facts k) (λ place. part_tree (trees place) k)
     tells_part k h = elim (split_part k) [
       | inl small ↦
           let p = primitive_at k small in
           subst (λ f. Tells f (λ place. part_tree (trees place) k)) (sym (front_fact k small))
-          (tells_along primitive_fact (λ place. Tree.primitive p.0) (λ place. part_tree (trees place) k) (λ place. sym (p.1 (trees place))) (primitive_tells p.0))
+          (tells_along primitive_fact (λ place. Tree.primitive p.0) (λ place. part_tree (trees place) k) (λ place. sym (p.1 (trees place)))
+          ((record { levels = λ place. refl; names = λ place. refl; plain = λ place. refl; parts = λ place. refl; labels = λ place. refl })))
       | inr n ↦
-          let inside : n.0 < length facts = omega (arith, h, n.1) in
-          let found = slice_there facts n.0 inside in
-          subst (λ f. Tells f (λ place. part_tree (trees place) k)) (sym (kept_fact k n.0 found.0 n.1 found.1))
+          let found = slice_there facts n.0 (omega (arith, h, n.1)) in
+          subst (λ f. Tells f (λ place. part_tree (trees place) k)) (sym ((search std_rules)))
           (tells_along found.0 (λ place. part_tree (trees place) (14 + n.0)) (λ place. part_tree (trees place) k) (λ place. ap (part_tree (trees place)) (sym n.1)) (holds n.0 found.0 found.1))
     ]
 
@@ -176,7 +148,7 @@ module _ (trees : (ℕ → Place) → List Tree) (n : ℕ) where
     form_tells : (f : Form) (ks : List ℕ) → good ≡ are_labels (form_labels f) → Sums sum (λ place. map (part_tree (trees place)) ks)
         → Tells (node_fact sum (form_code f).sort good) (λ place. Tree.node f (children (map (part_tree (trees place)) ks)))
     form_tells f ks labels h = record {
-      levels = λ place. ap (λ d. min cap (d + 1)) (h.levels place) ∙ cap_above (deepest (children (map (part_tree (trees place)) ks)));
+      levels = λ place. ap (λ d. min cap (d + 1)) (h.levels place) ∙ (omega arith);
       names = h.names;
       plain = λ place. (λ i. h.plain place i && not (named_by_sort f i)) ∙ and_flip (are_plain (children (map (part_tree (trees place)) ks))) (not (is_named_form f));
       parts = h.plain;
@@ -187,11 +159,9 @@ module _ (trees : (ℕ → Place) → List Tree) (n : ℕ) where
         → (AllByRecursion (λ k. k < 14 + n) s.parts → Sums sum (λ place. map (part_tree (trees place)) s.parts)) → Tells (node_fact sum s.sort good) (λ place. shape_tree place (trees place) s)
     shape_of_form s (a_name p name is) other labels h = absurd (other (ap (λ (t : Shape). t.sort) is))
     shape_of_form s (a_node f ks is ranges) other labels h =
-        let sort : s.sort ≡ (form_code f).sort = ap (λ (t : Shape). t.sort) is in
         let parts : s.parts ≡ ks = ap (λ (t : Shape). t.parts) is in
-        let good_is : good ≡ are_labels (form_labels f) = labels ∙ (ap (λ (t : Shape). are_labels (map (λ l. l.0) t.labels)) is ∙ ap are_labels (labels_by_code f)) in
-        let sums : Sums sum (λ place. map (part_tree (trees place)) ks) = subst (λ (xs : List ℕ). Sums sum (λ place. map (part_tree (trees place)) xs)) parts
-        (h (subst (AllByRecursion (λ k. k < 14 + n)) (sym parts) ranges)) in
-        subst (λ (m : ℕ). Tells (node_fact sum m good) (λ place. shape_tree place (trees place) s)) (sym sort)
+        subst (λ (m : ℕ). Tells (node_fact sum m good) (λ place. shape_tree place (trees place) s)) (sym (ap (λ (t : Shape). t.sort) is))
         (tells_along (node_fact sum (form_code f).sort good) (λ place. Tree.node f (children (map (part_tree (trees place)) ks))) (λ place. shape_tree place (trees place) s)
-        (λ place. sym (ap (shape_tree place (trees place)) is ∙ node_tree place (trees place) f ks)) (form_tells f ks good_is sums))
+        (λ place. sym (ap (shape_tree place (trees place)) is ∙ node_tree place (trees place) f ks))
+        (form_tells f ks (labels ∙ (ap (λ (t : Shape). are_labels (map (λ l. l.0) t.labels)) is ∙ ap are_labels (labels_by_code f)))
+        (subst (λ (xs : List ℕ). Sums sum (λ place. map (part_tree (trees place)) xs)) parts (h (subst (AllByRecursion (λ k. k < 14 + n)) (sym parts) ranges)))))

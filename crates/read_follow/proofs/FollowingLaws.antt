@@ -13,10 +13,11 @@ use Rattle.read_follow.specs.{Numbering.slot_parts, Numbering.CountUp, Placed.ap
 use Rattle.read_follow.specs.Slots.{no_signature, resource_slot, slot_in, slots_in, AreInRange, AreNames, IsName}
 use Rattle.plan_meaning.specs.Shapes.{Shape, named_shape, part_tree, shape_trees, IsTable}
 use Rattle.plan_meaning.proofs.ShapeLaws.{name_tree, part_behind, tree_at_number}
-use Rattle.read_follow.proofs.DefiningLaws.{functions_grown, longer, no_shapes, one_longer, part_grown, same_list}
+use Rattle.read_follow.proofs.DefiningLaws.{functions_grown, longer, no_shapes, one_longer, part_grown, same_list, map_so}
 use Rattle.read_follow.proofs.{NumberingLaws.count_pushed, OverLaws.definition_over, OverLaws.signature_over, PlacedLaws.same_types}
 use Rattle.read_follow.proofs.Refusing.{refused}
 use Rattle.base_lemmas.proofs.{Elements.all_end, Lists.mapped_get, Lists.slice_front}
+use Rattle.plan_meaning.proofs.Lists.{each_so}
 use Rattle.wit_model.specs.Tree as tree
 use Rattle.comp_meaning.specs.Follow as follow
 use Rattle.read_follow.specs.declared.slots.Slot.TheVariants as slots
@@ -60,15 +61,12 @@ module _ (m : ℕ) (shapes more : List Shape) (fs more_fs : List FunctionShape) 
   pub wider_part : (k : ℕ) → k < 14 + length shapes → k < 14 + length more
   wider_part k h = let long = longer shapes more gs in omega (arith, h, long)
 
-  wider_name : (part : ℕ) → IsNamePart shapes part → IsNamePart more part
-  wider_name part h = search (std_rules, slice_front, found_below)
-
   pub wider_number : (n : ℕ) → n < length fs → n < length more_fs
   wider_number n h = let long = longer fs more_fs gf in omega (arith, h, long)
 
   pub wider_slot : (s : Slot) → IsSlotIn shapes fs s → IsSlotIn more more_fs s
   wider_slot (slots.Value part) h = wider_part part h
-  wider_slot (slots.Resource part) h = wider_name part h
+  wider_slot (slots.Resource part) h = search (std_rules, slice_front, found_below)
   wider_slot (slots.Function n) h = wider_number n h
   wider_slot (slots.Instance b n) h = h
 
@@ -77,16 +75,14 @@ module _ (m : ℕ) (shapes more : List Shape) (fs more_fs : List FunctionShape) 
   wider_declared (Some k) h = wider_part k h
 
   pub wider_slots : (ss : List Slot) → AreSlotsIn shapes fs ss → AreSlotsIn more more_fs ss
-  wider_slots [] h = tt
-  wider_slots (s ∷ ss) h = (wider_slot s h.0, wider_slots ss h.1)
+  wider_slots ss h = each_so _ _ wider_slot ss h
 
   pub wider_types : (ts : List ShownType) → AllByRecursion (IsShownIn shapes fs) ts → AllByRecursion (IsShownIn more more_fs) ts
   wider_types [] h = tt
   wider_types (t ∷ ts) h = (record { slot = wider_slot t.slot h.0.slot; declared = wider_declared t.declared h.0.declared; kind = h.0.kind }, wider_types ts h.1)
 
   pub wider_functions : (ts : List ShownFunction) → AllByRecursion (IsShownFunctionIn fs) ts → AllByRecursion (IsShownFunctionIn more_fs) ts
-  wider_functions [] h = tt
-  wider_functions (f ∷ ts) h = (wider_number f.function h.0, wider_functions ts h.1)
+  wider_functions ts h = each_so _ _ (λ (f : ShownFunction). wider_number f.function) ts h
 
   module _ (place : ℕ → Place) where
     abbrev T : List Tree
@@ -102,9 +98,7 @@ module _ (m : ℕ) (shapes more : List Shape) (fs more_fs : List FunctionShape) 
     signatures_split = ap (functions_in U) gf.is ∙ (map-append (signature_in U) fs gf.more ∙ ap (λ xs. xs ++ functions_in U gf.more) (functions_grown place shapes more gs fs tables.signatures))
 
     pub signature_stays : (n : ℕ) → n < length fs → slice_get (functions_in U more_fs) n ≡ slice_get (functions_in T fs) n
-    signature_stays n h =
-        let long : length (functions_in T fs) ≡ length fs = length-map fs (signature_in T) in
-        ap (λ xs. slice_get xs n) signatures_split ∙ slice_front (functions_in T fs) (functions_in U gf.more) n (omega (arith, h, long))
+    signature_stays n h = ap (λ xs. slice_get xs n) signatures_split ∙ slice_front (functions_in T fs) (functions_in U gf.more) n (omega (arith, h, length-map fs (signature_in T)))
 
     pub slot_stays : (s : Slot) → IsSlotIn shapes fs s → slot_in U (functions_in U more_fs) s ≡ slot_in T (functions_in T fs) s
     slot_stays (slots.Value part) h = ap follow.value (part_stays part h)
@@ -113,8 +107,7 @@ module _ (m : ℕ) (shapes more : List Shape) (fs more_fs : List FunctionShape) 
     slot_stays (slots.Instance b n) h = refl
 
     pub slots_stay : (ss : List Slot) → AreSlotsIn shapes fs ss → slots_in U (functions_in U more_fs) ss ≡ slots_in T (functions_in T fs) ss
-    slots_stay [] h = refl
-    slots_stay (s ∷ ss) h = λ i. slot_stays s h.0 i ∷ slots_stay ss h.1 i
+    slots_stay ss h = map_so _ _ _ slot_stays ss h
 
     pub declared_stays : (o : Option ℕ) → IfSome o (λ k. k < 14 + length shapes) → declared_in U o ≡ declared_in T o
     declared_stays None h = refl
@@ -124,13 +117,11 @@ module _ (m : ℕ) (shapes more : List Shape) (fs more_fs : List FunctionShape) 
     type_stays t h = λ i. record {
       name = t.name.now;
       meaning = record { declaration = declared_stays t.declared h.declared i; external_id = option_map text_of t.external_id };
-      slot =
-          slot_stays t.slot h.slot i;
+      slot = slot_stays t.slot h.slot i;
     }
 
     pub types_stay : (ts : List ShownType) → AllByRecursion (IsShownIn shapes fs) ts → map (shown_type U (functions_in U more_fs)) ts ≡ map (shown_type T (functions_in T fs)) ts
-    types_stay [] h = refl
-    types_stay (t ∷ ts) h = λ i. type_stays t h.0 i ∷ types_stay ts h.1 i
+    types_stay ts h = map_so _ _ _ type_stays ts h
 
     pub functions_stay : (ts : List ShownFunction) → AllByRecursion (IsShownFunctionIn fs) ts → map (shown_function (functions_in U more_fs)) ts ≡ map (shown_function (functions_in T fs)) ts
     functions_stay [] h = refl
@@ -139,15 +130,7 @@ module _ (m : ℕ) (shapes more : List Shape) (fs more_fs : List FunctionShape) 
 
 pub functions_wider : (n m : ℕ) (fs : List FunctionShape) → n ≤ m → AreFunctionsIn n fs → AreFunctionsIn m fs
 functions_wider n m [] le h = tt
-functions_wider n m (f ∷ fs) le h = (record { params = params_wider f.params h.0.params; outcome = outcome_wider f.outcome h.0.outcome }, functions_wider n m fs le h.1)
-  where
-    params_wider : (ps : List (Text × ℕ)) → AllByRecursion (λ p. p.1 < 14 + n) ps → AllByRecursion (λ p. p.1 < 14 + m) ps
-    params_wider [] all = tt
-    params_wider (p ∷ ps) all = (omega (arith, all.0, le), params_wider ps all.1)
-
-    outcome_wider : (o : Option ℕ) → IfSome o (λ k. k < 14 + n) → IfSome o (λ k. k < 14 + m)
-    outcome_wider None b = tt
-    outcome_wider (Some k) b = omega (arith, b, le)
+functions_wider n m (f ∷ fs) le h = (record { params = each_so _ _ (λ (q : Text × ℕ) b. omega (arith, b, le)) f.params h.0.params; outcome = search std_rules }, functions_wider n m fs le h.1)
 
 pub joins_grow : {X : Type 0} (old new : List X) (x : X) → Joins old x new → Grows old new
 joins_grow old new x stays = same_list old
@@ -190,8 +173,7 @@ module _ (m : ℕ) (old : State) (st : IsState m old) (more : List Shape) (more_
     }
 
     pub pushed_scope : (place : ℕ → Place) → scope_at place (with_slots ss) ≡ in_instance (slot_in (shape_trees place more) (functions_in (shape_trees place more) more_fs) s) (scope_at place old)
-    pushed_scope place =
-        (λ i. record { slots = slot_last place i; shown = view_at place (with_slots ss) old.types old.functions })
+    pushed_scope place = (λ i. record { slots = slot_last place i; shown = view_at place (with_slots ss) old.types old.functions })
         ∙ ap (in_instance (slot_in (shape_trees place more) (functions_in (shape_trees place more) more_fs) s)) (scope_stays place)
 
     pub pushed_placed : (marks : List Bool) (before : List Shape) (here : ℕ) → IsPlacedState marks before here old
@@ -199,8 +181,7 @@ module _ (m : ℕ) (old : State) (st : IsState m old) (more : List Shape) (more_
         → AddsForms old.shapes more → IsPlacedState marks before here (with_slots ss)
     pushed_placed marks before here p one forms =
         let meant = pushed_scope apart in
-        same_types marks before here old (with_slots ss) p gs
-        (subst (λ (xs : List Meant). AllByRecursion (SlotOver (MayMeet marks here)) xs) (sym (ap (λ (x : MeantScope). x.slots) meant))
+        same_types marks before here old (with_slots ss) p gs (subst (λ (xs : List Meant). AllByRecursion (SlotOver (MayMeet marks here)) xs) (sym (ap (λ (x : MeantScope). x.slots) meant))
         (all_end (SlotOver (MayMeet marks here)) (scope_at apart old).slots (slot_in (shape_trees apart more) (functions_in (shape_trees apart more) more_fs) s) p.slots one))
         (subst (λ (v : follow.View). ViewOver (MayMeet marks here) v) (sym (ap (λ (x : MeantScope). x.shown) meant)) p.shown) refl forms
 
@@ -231,10 +212,7 @@ module _ (m : ℕ) (old : State) (st : IsState m old) (more : List Shape) (more_
           ≡ with_meant (slot_in (shape_trees place more) (functions_in (shape_trees place more) more_fs) s) (shown_type (shape_trees place more) (functions_in (shape_trees place more) more_fs) t)
           (scope_at place old)
       shown_scope place =
-          (λ i. record {
-            slots = slot_last place i;
-            shown = record { types = type_last place i; functions = map (shown_function (functions_in (shape_trees place more) more_fs)) old.functions };
-          })
+          (λ i. record { slots = slot_last place i; shown = record { types = type_last place i; functions = map (shown_function (functions_in (shape_trees place more) more_fs)) old.functions } })
           ∙ ap (with_meant (slot_in (shape_trees place more) (functions_in (shape_trees place more) more_fs) s) (shown_type (shape_trees place more) (functions_in (shape_trees place more) more_fs) t))
           (scope_stays place)
 
@@ -258,20 +236,16 @@ module _ (marks : List Bool) (old : State) (st : IsState (length marks) old) (he
         signatures_grow = same_list old.signatures;
         count = is.count;
         counted = count_pushed old.slots ss (slots.Value is.part) (length old.shapes) (length more) is.next (length more, is.counted, refl);
-        placed = λ before p.
-            pushed_placed (length marks) old st more old.signatures is.grown (same_list old.signatures) tables (slots.Value is.part) is.range ss is.next marks before here p
+        placed = λ before p. pushed_placed (length marks) old st more old.signatures is.grown (same_list old.signatures) tables (slots.Value is.part) is.range ss is.next marks before here p
             (definition_over (MayMeet marks here) (slots_at apart old old.slots) p.slots d (part_tree (shape_trees apart more) is.part)
-            (is.found apart (signatures_at apart old) (names_of apart old.shapes old.signatures old.slots st.tables.table st.slots)))
-            is.forms;
-        follows = λ place marked.
-            ap (λ o. o >>= λ t. Some (in_instance (follow.value t) (scope_at place old)))
+            (is.found apart (signatures_at apart old) (names_of apart old.shapes old.signatures old.slots st.tables.table st.slots))) is.forms;
+        follows = λ place marked. ap (λ o. o >>= λ t. Some (in_instance (follow.value t) (scope_at place old)))
             (is.found place (signatures_at place old) (names_of place old.shapes old.signatures old.slots st.tables.table st.slots))
             ∙ ap Some (sym (pushed_scope (length marks) old st more old.signatures is.grown (same_list old.signatures) tables (slots.Value is.part) is.range ss is.next place));
       }
 
   pub defined_halts : (d : DefinedType) (e : Refusal) → IsUndefined old.shapes old.slots d e → Halts marks (step_of (Declaration.defined d)) old e
-  defined_halts d e r place marked =
-      refused e (definition (scope_at place old).slots d) (step_of (Declaration.defined d) place (scope_at place old))
+  defined_halts d e r place marked = refused e (definition (scope_at place old).slots d) (step_of (Declaration.defined d) place (scope_at place old))
       (λ none. ap (λ o. o >>= λ t. Some (in_instance (follow.value t) (scope_at place old))) none)
       (r place (signatures_at place old) (names_of place old.shapes old.signatures old.slots st.tables.table st.slots))
 
@@ -292,14 +266,12 @@ module _ (marks : List Bool) (old : State) (st : IsState (length marks) old) (he
         signatures_grow = grows;
         count = omega arith;
         counted = count_pushed old.slots ss (slots.Function is.number) (length old.shapes) (length old.shapes) is.next refl;
-        placed = λ before p.
-            pushed_placed (length marks) old st old.shapes more_fs (same_list old.shapes) grows tables (slots.Function is.number) inside ss is.next marks before here p
+        placed = λ before p. pushed_placed (length marks) old st old.shapes more_fs (same_list old.shapes) grows tables (slots.Function is.number) inside ss is.next marks before here p
             (subst (λ (s : Signature). SignatureOver (MayMeet marks here) s) (sym
             (ap (λ o. unwrap_or o no_signature) (mapped_get (signature_in (trees_at apart old)) more_fs is.number is.shape is.at)))
             (signature_over (MayMeet marks here) (slots_at apart old old.slots) p.slots f (signature_in (trees_at apart old) is.shape) (is.found (trees_at apart old) (signatures_at apart old))))
             (no_shapes old.shapes);
-        follows = λ place marked.
-            ap (λ o. o >>= λ s. Some (in_instance (follow.function s) (scope_at place old))) (is.found (trees_at place old) (signatures_at place old))
+        follows = λ place marked. ap (λ o. o >>= λ s. Some (in_instance (follow.function s) (scope_at place old))) (is.found (trees_at place old) (signatures_at place old))
             ∙ (ap (λ s. Some (in_instance (follow.function s) (scope_at place old)))
             (sym (ap (λ o. unwrap_or o no_signature) (mapped_get (signature_in (trees_at place old)) more_fs is.number is.shape is.at)))
             ∙ ap Some (sym (pushed_scope (length marks) old st old.shapes more_fs (same_list old.shapes) grows tables (slots.Function is.number) inside ss is.next place)));
@@ -307,10 +279,8 @@ module _ (marks : List Bool) (old : State) (st : IsState (length marks) old) (he
 
   pub function_halts : (f : FunctionType) (e : Refusal) → ((T : List Tree) (F : List Signature) → Refuses e (function_signature (slots_in T F old.slots) f))
       → Halts marks (step_of (Declaration.function f)) old e
-  function_halts f e r place marked =
-      refused e (function_signature (scope_at place old).slots f) (step_of (Declaration.function f) place (scope_at place old))
-      (λ none. ap (λ o. o >>= λ s. Some (in_instance (follow.function s) (scope_at place old))) none)
-      (r (trees_at place old) (signatures_at place old))
+  function_halts f e r place marked = refused e (function_signature (scope_at place old).slots f) (step_of (Declaration.function f) place (scope_at place old))
+      (λ none. ap (λ o. o >>= λ s. Some (in_instance (follow.function s) (scope_at place old))) none) (r (trees_at place old) (signatures_at place old))
 
 -- ---- the same step in other words
 

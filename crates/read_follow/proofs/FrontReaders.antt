@@ -19,9 +19,8 @@ module _ {A : Type 0} {form : A → Spellings} {reader : Reader A} (law : IsRead
   none_when bytes None e absent = refl
   none_when bytes (Some x) e absent =
       let t = law.takes bytes x.0 x.1 e in
-      let end_is : length t.front - 0 ≡ length t.front = omega arith in
-      let whole : take (length t.front - 0) bytes ≡ t.front = ap (λ (n : ℕ). take n bytes) end_is ∙ ap (take (length t.front)) t.parts ∙ take_at t.front x.1 (length t.front) refl in
-      absurd (absent x.0 (length t.front) (subst (form x.0) (sym whole) t.spelled))
+      absurd (absent x.0 (length t.front) (subst (form x.0) (sym (ap (λ (n : ℕ). take n bytes) (omega arith) ∙ ap (take (length t.front)) t.parts
+      ∙ take_at t.front x.1 (length t.front) refl)) t.spelled))
 
   -- a refusal of the reader
   pub refused_at : (bytes : List ℕ) (left : ℕ) (e : Error) → RefusesAt e bytes ((y : A) (end : ℕ) → form y (slice_range bytes 0 end) → ⊥) → Refuses (refusal_from e left) (reader bytes)

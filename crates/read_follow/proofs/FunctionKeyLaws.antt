@@ -32,8 +32,7 @@ params_same : (xs ys : List (Bor (List ℕ) × ℕ)) → pointwise same_param xs
 params_same [] [] e = refl
 params_same [] (y ∷ ys) e = absurd (true≢false (sym e))
 params_same (x ∷ xs) [] e = absurd (true≢false (sym e))
-params_same (x ∷ xs) (y ∷ ys) e =
-    search (std_rules, first_true, text_same, eqb-true, second_true, params_same xs ys (second_true (same_param x y) (pointwise same_param xs ys) e))
+params_same (x ∷ xs) (y ∷ ys) e = search (std_rules, first_true, text_same, eqb-true, second_true, params_same xs ys (second_true (same_param x y) (pointwise same_param xs ys) e))
 
 params_again : (xs ys : List (Bor (List ℕ) × ℕ)) → map param_of xs ≡ map param_of ys → pointwise same_param xs ys ≡ true
 params_again [] [] e = refl
@@ -41,28 +40,17 @@ params_again [] (y ∷ ys) e = absurd cc
 params_again (x ∷ xs) [] e = absurd cc
 params_again (x ∷ xs) (y ∷ ys) e =
     let pair : param_of x ≡ param_of y = cc in
-    let text : x.0.now ≡ y.0.now = ap (λ (p : Text × ℕ). p.0) pair in
-    let part : x.1 ≡ y.1 = ap (λ (p : Text × ℕ). p.1) pair in
-    let rest : map param_of xs ≡ map param_of ys = cc in
-    both (same_param x y) (pointwise same_param xs ys)
-    (both (text_eq x.0.now y.0.now) (x.1 == y.1) ((bytes_eq-Decides x.0.now y.0.now).1 text) (eq-eqb x.1 y.1 part))
-    (params_again xs ys rest)
+    both _ _ (both _ _ ((bytes_eq-Decides x.0.now y.0.now).1 (ap (λ (p : Text × ℕ). p.0) pair)) (eq-eqb _ _ (ap (λ (p : Text × ℕ). p.1) pair))) (params_again xs ys cc)
 
 outcomes_same : (a b : Option ℕ) → option_eq nat_eq a b ≡ true → a ≡ b
 outcomes_same z u e = search std_rules
-
-outcomes_again : (a b : Option ℕ) → a ≡ b → option_eq nat_eq a b ≡ true
-outcomes_again z u e = search std_rules
 
 pub function_same : (a b : FunctionKey) → same_function a b ≡ true → function_shape a ≡ function_shape b
 function_same a b e = search (std_rules, beq_same, first_true, second_true, params_same, outcomes_same)
 
 pub function_again : (a b : FunctionKey) → function_shape a ≡ function_shape b → same_function a b ≡ true
-function_again a b e =
-    let kind : a.is_async ≡ b.is_async = ap (λ (s : FunctionShape). s.is_async) e in
-    let params = params_again a.params.items b.params.items (ap (λ (s : FunctionShape). s.params) e) in
-    let outcome = outcomes_again a.result b.result (ap (λ (s : FunctionShape). s.outcome) e) in
-    both (beq a.is_async b.is_async) _ (ap (beq a.is_async) (sym kind) ∙ beq_again a.is_async) (both _ _ params outcome)
+function_again a b e = both (beq a.is_async b.is_async) _ (ap (beq a.is_async) (sym (ap (λ (s : FunctionShape). s.is_async) e)) ∙ beq_again a.is_async)
+    (both _ _ (params_again a.params.items b.params.items (ap (λ (s : FunctionShape). s.params) e)) ((search std_rules)))
 
 -- ---- parameters, one after the other
 
@@ -95,22 +83,18 @@ module _ (ss : List Slot) (all : List (Bor (List ℕ) × ComponentValType)) (i :
     param_row k nks e is T F =
         let x = get_or all i d in
         let found = each (field_type (slots_in T F ss)) (drop (i + 1) (map labeled all)) in
-        let y : Text × Tree = (x.0.now, part_tree T k) in
         let front = map (param_tree T) (map param_of ks) in
-        let grown : map (param_tree T) (map param_of nks) ≡ front ++ y ∷ [] =
-        ap (λ (zs : Params). map (param_tree T) (map param_of zs)) is ∙ (ap (map (param_tree T)) (map-append param_of ks ((x.0, k) ∷ [])) ∙ map-append (param_tree T) (map param_of ks)
-        ((x.0.now, k) ∷ [])) in
-        ap (λ zs. behind_rows zs found) grown ∙ (sym (behind_more front y found) ∙ (ap (behind_rows front) (sym (head T F (Some (part_tree T k)) (e T F))) ∙ kept T F))
+        ap (λ zs. behind_rows zs found) (ap (λ (zs : Params). map (param_tree T) (map param_of zs)) is
+        ∙ (ap (map (param_tree T)) (map-append param_of ks ((x.0, k) ∷ [])) ∙ map-append (param_tree T) (map param_of ks) ((x.0.now, k) ∷ [])))
+        ∙ (sym (behind_more front (x.0.now, part_tree T k) found) ∙ (ap (behind_rows front) (sym (head T F (Some (part_tree T k)) (e T F))) ∙ kept T F))
 
     pub param_refused : (e : Refusal) → ((T : List Tree) (F : List Signature) → Refuses e (value_type (slots_in T F ss) (get_or all i d).1))
         → (T : List Tree) (F : List Signature) → Refuses e (each (field_type (slots_in T F ss)) (map labeled all))
-    param_refused e r T F =
-        refused e (value_type (slots_in T F ss) (get_or all i d).1) (each (field_type (slots_in T F ss)) (map labeled all))
+    param_refused e r T F = refused e (value_type (slots_in T F ss) (get_or all i d).1) (each (field_type (slots_in T F ss)) (map labeled all))
         (λ none. sym (kept T F) ∙ ap (behind_rows (map (param_tree T) (map param_of ks))) (head T F None none)) (r T F)
 
   pub param_rows : length all ≤ i → (T : List Tree) (F : List Signature) → each (field_type (slots_in T F ss)) (map labeled all) ≡ Some (map (param_tree T) (map param_of ks))
-  param_rows past T F =
-      sym (kept T F) ∙ (ap (λ rows. behind_rows (map (param_tree T) (map param_of ks)) (each (field_type (slots_in T F ss)) rows)) (raw_end labeled all i past)
+  param_rows past T F = sym (kept T F) ∙ (ap (λ rows. behind_rows (map (param_tree T) (map param_of ks)) (each (field_type (slots_in T F ss)) rows)) (raw_end labeled all i past)
       ∙ ap Some (append-nil (map (param_tree T) (map param_of ks))))
 
 -- ---- the whole type
@@ -119,11 +103,10 @@ module _ (ss : List Slot) (f : FunctionType) where
   abbrev signed : Option (List (Text × Tree)) → Option (Option Tree) → Option Signature
   signed ps r = ps >>= λ xs. r >>= λ y. Some (record { is_async = f.is_async; params = xs; result = y })
 
-  pub signature_is : (s : FunctionShape) → s.is_async ≡ f.is_async
-      → ((n : ℕ) → AreInRange n ss → AllByRecursion (λ p. p.1 < 14 + n) s.params) → ((n : ℕ) → AreInRange n ss → IfSome s.outcome (λ k. k < 14 + n))
+  pub signature_is : (s : FunctionShape) → s.is_async ≡ f.is_async → ((n : ℕ) → AreInRange n ss → AllByRecursion (λ p. p.1 < 14 + n) s.params)
+      → ((n : ℕ) → AreInRange n ss → IfSome s.outcome (λ k. k < 14 + n))
       → ((T : List Tree) (F : List Signature) → each (field_type (slots_in T F ss)) f.parameters ≡ Some (map (param_tree T) s.params))
-      → ((T : List Tree) (F : List Signature) → given (value_type (slots_in T F ss)) f.result_type ≡ Some (option_map (part_tree T) s.outcome))
-      → IsSignatureOf s ss f
+      → ((T : List Tree) (F : List Signature) → given (value_type (slots_in T F ss)) f.result_type ≡ Some (option_map (part_tree T) s.outcome)) → IsSignatureOf s ss f
   unfolding signature_in
   signature_is s kind hp ho fp fo = record {
     ranges = λ n ranges. record { params = hp n ranges; outcome = ho n ranges };

@@ -1,5 +1,5 @@
 -- Declarations of an instance type: those of which none is an import.
-use Rattle.std.proofs.Common.{rules as std_rules, ◌≡◌, refl, sym, ap, ◌∙◌, ℕ, zero, suc, Bool, true, false, cond, List, ◌∷◌, Option, Some, None}
+use Rattle.std.proofs.Common.{rules as std_rules, ◌≡◌, refl, sym, ap, ◌∙◌, ℕ, zero, suc, Bool, false, cond, List, ◌∷◌, Option, Some, None}
 use Rattle.comp_bytes.specs.{Raw.Declaration, Form.Spellings, Laws.IsReadBy, Spelling.IsDeclaration}
 use Rattle.comp_bytes.specs.{Levels.import_free, Levels.held_at, Reading.◌>>=◌, Reading.u32_at, Reading.sequence_at, Reading.vector_at, Reading.declaration_at}
 use Rattle.comp_bytes.proofs.{Readers.bind_some, DeclarationLaws.declaration_law}
@@ -36,13 +36,10 @@ unfolding sequence_at held_declaration_at
 held_sequence zero bytes = refl
 held_sequence (suc n) bytes = by_first n (held_sequence n) (declaration_at bytes)
 
-by_count : (o : Option (ℕ × List ℕ)) → free (o >>= λ n. sequence_at declaration_at n.0 n.1) ≡ (o >>= λ n. sequence_at held_declaration_at n.0 n.1)
-by_count x = search (std_rules, held_sequence)
-
 -- the declarations of an instance type behind their number
 pub held_behind : (bytes : List ℕ) (o : Option (ℕ × List ℕ)) → u32_at bytes ≡ o → held_at bytes ≡ (o >>= λ n. sequence_at held_declaration_at n.0 n.1)
 unfolding held_at vector_at
-held_behind bytes o e = by_count (u32_at bytes) ∙ ap (λ p. p >>= λ n. sequence_at held_declaration_at n.0 n.1) e
+held_behind bytes o e = (search (std_rules, held_sequence)) ∙ ap (λ p. p >>= λ n. sequence_at held_declaration_at n.0 n.1) e
 
 -- what spells a declaration of an instance type
 abbrev pub IsHeld : Declaration → Spellings
@@ -60,8 +57,4 @@ held_declaration_law = record {
 }
   where
     unless : (x y : Declaration × List ℕ) → cond (is_import x.0) None (Some x) ≡ Some y → (is_import x.0 ≡ false) × (x ≡ y)
-    unless x y e = by (is_import x.0) refl e
-      where
-        by : (b : Bool) → is_import x.0 ≡ b → cond b None (Some x) ≡ Some y → (is_import x.0 ≡ false) × (x ≡ y)
-        by true is h = absurd cc
-        by false is h = (is, cc)
+    unless x y e = search std_rules

@@ -6,13 +6,10 @@ use Rattle.read_follow.specs.Functions.{AreApart, Joins, stays, comes}
 use Rattle.base_lemmas.proofs.Lists.{last_or}
 
 module _ {X : Type 0} (old : List X) (x : X) (apart : AreApart old) where
-  apart_more : ((n : ℕ) → slice_get old n ≡ Some x → ⊥) → AreApart (old ++ x ∷ [])
-  apart_more fresh n m y en em = search (std_rules, last_or)
-
   -- none stands twice where one that did not stand there comes behind
   pub joined_apart : (new : List X) → Joins old x new → AreApart new
   joined_apart new stays = apart
-  joined_apart new (comes fresh) = apart_more fresh
+  joined_apart new (comes fresh) = λ n m y en em. search (std_rules, last_or)
 
 module _ {K S : Type 0} (shape : K → S) (eq : K → K → Bool) (again : (a b : K) → shape a ≡ shape b → eq a b ≡ true) where
   either_true : (a b : Bool) → b ≡ true → (a || b) ≡ true

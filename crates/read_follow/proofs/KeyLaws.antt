@@ -27,8 +27,7 @@ labels_same : (xs ys : List (Bor (List ℕ) × Bool)) → pointwise same_label x
 labels_same [] [] e = refl
 labels_same [] (y ∷ ys) e = absurd (true≢false (sym e))
 labels_same (x ∷ xs) [] e = absurd (true≢false (sym e))
-labels_same (x ∷ xs) (y ∷ ys) e =
-    search (std_rules, first_true, text_same, beq_same, second_true, labels_same xs ys (second_true (same_label x y) (pointwise same_label xs ys) e))
+labels_same (x ∷ xs) (y ∷ ys) e = search (std_rules, first_true, text_same, beq_same, second_true, labels_same xs ys (second_true (same_label x y) (pointwise same_label xs ys) e))
 
 labels_again : (xs ys : List (Bor (List ℕ) × Bool)) → map label_of xs ≡ map label_of ys → pointwise same_label xs ys ≡ true
 labels_again [] [] e = refl
@@ -36,20 +35,12 @@ labels_again [] (y ∷ ys) e = absurd cc
 labels_again (x ∷ xs) [] e = absurd cc
 labels_again (x ∷ xs) (y ∷ ys) e =
     let pair : label_of x ≡ label_of y = cc in
-    let text : x.0.now ≡ y.0.now = ap (λ (p : Text × Bool). p.0) pair in
-    let mark : x.1 ≡ y.1 = ap (λ (p : Text × Bool). p.1) pair in
-    let rest : map label_of xs ≡ map label_of ys = cc in
-    both (same_label x y) (pointwise same_label xs ys)
-    (both (text_eq x.0.now y.0.now) (beq x.1 y.1) ((bytes_eq-Decides x.0.now y.0.now).1 text) (ap (beq x.1) (sym mark) ∙ beq_again x.1))
-    (labels_again xs ys rest)
+    both _ _ (both _ _ ((bytes_eq-Decides x.0.now y.0.now).1 (ap (λ (p : Text × Bool). p.0) pair)) (ap (beq x.1) (sym (ap (λ (p : Text × Bool). p.1) pair)) ∙ beq_again x.1)) (labels_again xs ys cc)
 
 pub key_same : (a b : Key) → same_key a b ≡ true → shape_of a ≡ shape_of b
 key_same a b e = search (std_rules, eqb-true, first_true, second_true, labels_same, text_same)
 
 pub key_again : (a b : Key) → shape_of a ≡ shape_of b → same_key a b ≡ true
-key_again a b e =
-    let sort : a.sort ≡ b.sort = ap (λ (s : Shape). s.sort) e in
-    let number : a.number ≡ b.number = ap (λ (s : Shape). s.number) e in
-    let labels = labels_again a.labels.items b.labels.items (ap (λ (s : Shape). s.labels) e) in
-    let parts : pointwise nat_eq a.parts.items b.parts.items ≡ true = (bytes_eq-Decides a.parts.items b.parts.items).1 (ap (λ (s : Shape). s.parts) e) in
-    both (a.sort == b.sort) _ (eq-eqb a.sort b.sort sort) (both (a.number == b.number) _ (eq-eqb a.number b.number number) (both _ _ labels parts))
+key_again a b e = both (a.sort == b.sort) _ (eq-eqb a.sort b.sort (ap (λ (s : Shape). s.sort) e))
+    (both (a.number == b.number) _ (eq-eqb a.number b.number (ap (λ (s : Shape). s.number) e))
+    (both _ _ (labels_again a.labels.items b.labels.items (ap (λ (s : Shape). s.labels) e)) ((bytes_eq-Decides a.parts.items b.parts.items).1 (ap (λ (s : Shape). s.parts) e))))

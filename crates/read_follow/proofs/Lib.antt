@@ -16,7 +16,7 @@ pub mod OverLaws
 pub mod PlacedLaws
 -- A refusal is passed on. Serves bodies::entries_alone, bodies::entries_from, bodies::entry_items, bodies::entry_of and 24 more; crates above.
 pub mod Refusing
--- A scope of an instance type in tables that grow, and what each declaration does to it. Serves components::enter, components::see, components::step, instances::step and 2 more; crates above.
+-- A scope of an instance type in tables that grow, and what each declaration does to it. Serves components::step, instances::step, seeing::see_instance, shows::show; crates above.
 pub mod FollowingLaws
 -- What is put into a list of things that each stand once. Serves functions::put, places::put.
 pub mod JoinLaws
@@ -24,7 +24,7 @@ pub mod JoinLaws
 pub mod SlotLaws
 -- Places that are put into a table, each once. Serves instance_keys::path_number, places::are_apart, places::new_place, places::number_of and 2 more.
 pub mod PlaceLaws
--- A scope of a component type in tables that grow, with something more in it. Serves ComponentLaws, PlacedScopes, ScopedLaws, SeeLaws and 1 more; crates above.
+-- A scope of a component type in tables that grow, with something more in it. Serves components::follow_entries, seeing::see_function, seeing::see_instance, seeing::see_type; crates above.
 pub mod ScopeLaws
 -- Names stay in their places as a scope of a component type goes on. Serves ComponentLaws, SeeLaws, UsedLaws; crates above.
 pub mod PlacedScopes
@@ -41,7 +41,7 @@ pub mod StepLaws
 pub mod ReadKeyLaws
 -- Sections in front of bytes, and those behind them. Serves instances::follow_body, sections::component_of, sections::custom_of, sections::frame_of and 1 more; crates above.
 pub mod SectionLaws
--- One entry of a component type after the other. Serves components::enter, components::enter_front, components::enter_read, components::follow_component and 3 more; crates above.
+-- One entry of a component type after the other. Serves components::enter, components::enter_front, components::enter_read, components::follow_component and 2 more; crates above.
 pub mod ComponentLaws
 -- The key of each form, from the parts that its indexes stand for. Serves definition_keys::borrow_key, definition_keys::definition_of, definition_keys::enum_key, definition_keys::fixed_list_key and 8
 -- more.

@@ -28,8 +28,7 @@ found_last q (s ∷ ts) t other = ap (λ o. cond (text_eq q s.name.now) (Some s.
 -- one more type in the table
 pub behind_on : (rest ts : List ShownType) (t : ShownType) (old new : BTreeMap (Bor Text) Slot) → IsTableBehind (rest ++ t ∷ []) ts old
     → Updates (λ x y. slice_cmp nat_cmp x.now y.now) old new t.name (Some t.slot) → IsTableBehind rest ts new
-behind_on rest ts t old new h u q =
-    search (std_rules, btree_map_updates_str t.name.now old new (Some t.slot) u q, found_last q rest t (get_by (λ k. slice_cmp nat_cmp q k.now) old))
+behind_on rest ts t old new h u q = search (std_rules, btree_map_updates_str t.name.now old new (Some t.slot) u q, found_last q rest t (get_by (λ k. slice_cmp nat_cmp q k.now) old))
 
 -- ---- instances
 

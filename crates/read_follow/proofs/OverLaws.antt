@@ -6,7 +6,7 @@ use Rattle.wit_model.specs.{Meaning.Signature, Text.Text, Tree.Place, Tree.Tree,
 use Rattle.comp_bytes.specs.declared.forms.{ComponentValType.ComponentValType, ComponentTypeRef.ComponentTypeRef}
 use Rattle.comp_bytes.specs.{Raw.Labeled, Raw.DefinedType, Raw.FunctionType, Reading.◌>>=◌}
 use Rattle.comp_bytes.proofs.Readers.{bind_some, when_some}
-use Rattle.comp_meaning.specs.Follow.{Slot as Meant, value, resource, function, instance, each, given, provided, is_filled, is_key, primitive_of_type, value_in, resource_in, value_type, field_type, case_type, declared_by, definition, function_signature, named_like, named_type}
+use Rattle.comp_meaning.specs.Follow.{Slot as Meant, resource, each, given, provided, is_filled, is_key, primitive_of_type, value_in, resource_in, value_type, field_type, case_type, declared_by, definition, function_signature, named_like, named_type}
 use Rattle.read_follow.specs.{Facts.places, Facts.places_in, Placed.DeclarationOver, Placed.SignatureOver, Placed.SlotOver, Placed.TreeOver}
 use Rattle.read_follow.proofs.DefiningLaws.{all_at}
 use Rattle.base_lemmas.proofs.{Elements.none_in, Elements.seconds, Options.some_is}
@@ -50,22 +50,13 @@ module _ (P : Place → Type 0) where
     value_over n t e = by (slice_get slots n) refl e
       where
         by : (o : Option Meant) → slice_get slots n ≡ o → value_in o ≡ Some t → TreeOver P t
-        by None at h = absurd cc
-        by (Some (value u)) at h = subst (TreeOver P) (some_is u t h) (all_at (SlotOver P) slots n (value u) all at)
-        by (Some (resource place name)) at h = absurd cc
-        by (Some (function f)) at h = absurd cc
-        by (Some (instance ds around)) at h = absurd cc
+        by x at h = search (std_rules, some_is, all_at)
 
     resource_over : (n : ℕ) (t : Tree) → resource_in (slice_get slots n) ≡ Some t → AllByRecursion (TreeOver P) (t ∷ [])
     resource_over n t e = by (slice_get slots n) refl e
       where
         by : (o : Option Meant) → slice_get slots n ≡ o → resource_in o ≡ Some t → AllByRecursion (TreeOver P) (t ∷ [])
-        by None at h = absurd cc
-        by (Some (value u)) at h = absurd cc
-        by (Some (resource place name)) at h = subst (λ u. AllByRecursion (TreeOver P) (u ∷ [])) (some_is (Tree.named place name) t h)
-            (name_over place name (all_at (SlotOver P) slots n (resource place name) all at), tt)
-        by (Some (function f)) at h = absurd cc
-        by (Some (instance ds around)) at h = absurd cc
+        by x at h = search (std_rules, some_is, name_over, all_at)
 
     type_over : (v : ComponentValType) (t : Tree) → value_type slots v ≡ Some t → TreeOver P t
     type_over (values.Primitive p) t e = subst (TreeOver P) (some_is (Tree.primitive (primitive_of_type p)) t e) (λ x c. absurd (none_in x c))
@@ -90,31 +81,24 @@ module _ (P : Place → Type 0) where
     definition_over (DefinedType.primitive p) t e = subst (TreeOver P) (some_is (Tree.primitive (primitive_of_type p)) t e) (λ x c. absurd (none_in x c))
     definition_over (DefinedType.record_of fields) t e =
         let b = bind_some (each (field_type slots) fields) (λ fs. provided (is_filled fields) (tree.record_tree fs)) t e in
-        let w = when_some (is_filled fields) (Some (tree.record_tree b.0)) t b.2 in
-        subst (TreeOver P) (some_is (tree.record_tree b.0) t w.1)
+        subst (TreeOver P) (some_is (tree.record_tree b.0) t (when_some (is_filled fields) (Some (tree.record_tree b.0)) t b.2).1)
         (parts_over (map (λ f. f.1) b.0) (seconds (TreeOver P) b.0 (each_over (field_type slots) (λ (f : Text × Tree). TreeOver P f.1) field_over fields b.0 b.1)))
     definition_over (DefinedType.variant_of cases) t e =
         let b = bind_some (each (case_type slots) cases) (λ cs. provided (is_filled cases) (tree.variant_tree cs)) t e in
-        let w = when_some (is_filled cases) (Some (tree.variant_tree b.0)) t b.2 in
-        subst (TreeOver P) (some_is (tree.variant_tree b.0) t w.1)
+        subst (TreeOver P) (some_is (tree.variant_tree b.0) t (when_some (is_filled cases) (Some (tree.variant_tree b.0)) t b.2).1)
         (given_parts (map (λ c. c.1) b.0) (seconds (λ o. IfSome o (TreeOver P)) b.0 (each_over (case_type slots) (λ (c : Text × Option Tree). IfSome c.1 (TreeOver P)) case_over cases b.0 b.1)))
     definition_over (DefinedType.list_of v) t e =
         let b = bind_some (value_type slots v) (λ u. Some (tree.list_tree u)) t e in
         subst (TreeOver P) (some_is (tree.list_tree b.0) t b.2) (parts_over (b.0 ∷ []) (type_over v b.0 b.1, tt))
     definition_over (DefinedType.fixed_length_list_of v n) t e =
         let b = bind_some (value_type slots v) (λ u. provided (nat_le 1 n) (tree.fixed_list_tree u n)) t e in
-        let w = when_some (nat_le 1 n) (Some (tree.fixed_list_tree b.0 n)) t b.2 in
-        subst (TreeOver P) (some_is (tree.fixed_list_tree b.0 n) t w.1) (parts_over (b.0 ∷ []) (type_over v b.0 b.1, tt))
+        subst (TreeOver P) (some_is (tree.fixed_list_tree b.0 n) t (when_some (nat_le 1 n) (Some (tree.fixed_list_tree b.0 n)) t b.2).1) (parts_over (b.0 ∷ []) (type_over v b.0 b.1, tt))
     definition_over (DefinedType.tuple_of vs) t e =
         let b = bind_some (each (value_type slots) vs) (λ ts. provided (is_filled vs) (tree.tuple_tree ts)) t e in
         let w = when_some (is_filled vs) (Some (tree.tuple_tree b.0)) t b.2 in
         subst (TreeOver P) (some_is (tree.tuple_tree b.0) t w.1) (parts_over b.0 (each_over (value_type slots) (TreeOver P) type_over vs b.0 b.1))
-    definition_over (DefinedType.flags_of names) t e =
-        let w = when_some (is_filled names) (Some (tree.flags_tree names)) t e in
-        subst (TreeOver P) (some_is (tree.flags_tree names) t w.1) (parts_over [] tt)
-    definition_over (DefinedType.enum_of names) t e =
-        let w = when_some (is_filled names) (Some (tree.enum_tree names)) t e in
-        subst (TreeOver P) (some_is (tree.enum_tree names) t w.1) (parts_over [] tt)
+    definition_over (DefinedType.flags_of names) t e = subst (TreeOver P) (some_is (tree.flags_tree names) t (when_some (is_filled names) (Some (tree.flags_tree names)) t e).1) (parts_over [] tt)
+    definition_over (DefinedType.enum_of names) t e = subst (TreeOver P) (some_is (tree.enum_tree names) t (when_some (is_filled names) (Some (tree.enum_tree names)) t e).1) (parts_over [] tt)
     definition_over (DefinedType.option_of v) t e =
         let b = bind_some (value_type slots v) (λ u. Some (tree.option_tree u)) t e in
         subst (TreeOver P) (some_is (tree.option_tree b.0) t b.2) (parts_over (b.0 ∷ []) (type_over v b.0 b.1, tt))
@@ -142,12 +126,9 @@ module _ (P : Place → Type 0) where
 
     pub signature_over : (f : FunctionType) (s : Signature) → function_signature slots f ≡ Some s → SignatureOver P s
     signature_over f s e =
-        let ps = bind_some (each (field_type slots) f.parameters) (λ ps. given (value_type slots) f.result_type >>= λ r. Some (record { is_async = f.is_async; params = ps; result = r })) s e in
-        let r = bind_some (given (value_type slots) f.result_type) (λ r. Some (record { is_async = f.is_async; params = ps.0; result = r })) s ps.2 in
-        subst (SignatureOver P) (some_is (record { is_async = f.is_async; params = ps.0; result = r.0 }) s r.2) (
-          each_over (field_type slots) (λ (p : Text × Tree). TreeOver P p.1) field_over f.parameters ps.0 ps.1,
-          optional_over f.result_type r.0 r.1,
-        )
+        let ps = bind_some _ _ s e in
+        let r = bind_some _ _ s ps.2 in
+        subst (SignatureOver P) (some_is _ s r.2) (each_over (field_type slots) (λ (p : Text × Tree). TreeOver P p.1) field_over f.parameters ps.0 ps.1, optional_over f.result_type r.0 r.1)
 
     -- ---- imports and exports of types
 
@@ -158,9 +139,6 @@ module _ (P : Place → Type 0) where
         first d slot h same = subst (λ (x : tree.Declaration × Meant). DeclarationOver P x.0) (some_is (d, slot) found same) h
 
         by : (o : Option Meant) → slice_get slots n ≡ o → (o >>= λ slot. declared_by slot >>= λ d. Some (d, named_like slot place name)) ≡ Some found → DeclarationOver P found.0
-        by (Some (value u)) at h = first (tree.Declaration.type_ u) (named_like (value u) place name) (all_at (SlotOver P) slots n (value u) all at) h
-        by (Some (resource q x)) at h = first (tree.Declaration.type_ (Tree.named q x)) (named_like (resource q x) place name) (name_over q x (all_at (SlotOver P) slots n (resource q x) all at)) h
-        by (Some (function f)) at h = absurd cc
-        by _ at h = absurd cc
+        by x at h = search (std_rules, first, all_at, name_over)
     named_over place name refs.SubResource found e = subst (λ (x : tree.Declaration × Meant). DeclarationOver P x.0) (some_is (tree.Declaration.resource, resource place name) found e) tt
     named_over place name _ found e = absurd cc

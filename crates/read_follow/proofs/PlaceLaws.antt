@@ -31,8 +31,7 @@ pub mark_is : (x : Text × ℕ) (b : Bool) → (x.1 == 0) ≡ b → b ≡ has_pa
 mark_is x y e = search std_rules
 
 pub kept_more : (shapes : List (Text × ℕ)) (marks : List Bool) (x : Text × ℕ) → ArePlaces shapes marks → x.1 ≤ length shapes + 1 → IsReadIfGiven (path_in x)
-    → ((n : ℕ) → slice_get shapes n ≡ Some x → ⊥)
-    → ArePlaces (shapes ++ x ∷ []) (marks ++ has_path (path_in x) ∷ [])
+    → ((n : ℕ) → slice_get shapes n ≡ Some x → ⊥) → ArePlaces (shapes ++ x ∷ []) (marks ++ has_path (path_in x) ∷ [])
 kept_more shapes marks x kept few given fresh = search (std_rules, joined_apart, last_or, map-append)
 
 -- ---- their paths
@@ -78,18 +77,11 @@ none_read x n e path given = let none : None ≡ Some path = sym (no_path x n e)
 
 -- the places whose keys have a path, each once
 pub paths_apart : (shapes : List (Text × ℕ)) (marks : List Bool) → ArePlaces shapes marks → ArePathsApart (map path_in shapes)
-paths_apart shapes marks kept m n path em en =
-    let a = shape_of_path shapes m em in
-    let b = shape_of_path shapes n en in
-    kept.apart m n (path, 0) a b
+paths_apart shapes marks kept m n path em en = kept.apart m n (path, 0) (shape_of_path shapes m em) (shape_of_path shapes n en)
   where
-    is_shape : (x : Text × ℕ) (b : Bool) → (x.1 == 0) ≡ b → cond b (Some x.0) None ≡ Some path → x ≡ (path, 0)
-    is_shape x true e same = let text : x.0 ≡ path = cc in let zero = eqb-true x.1 0 e in λ i. (text i, zero i)
-    is_shape x false e same = absurd cc
-
     shape_of_path : (xs : List (Text × ℕ)) (k : ℕ) → slice_get (map path_in xs) k ≡ Some (Some path) → slice_get xs k ≡ Some (path, 0)
     shape_of_path [] k e = absurd cc
-    shape_of_path (x ∷ xs) zero e = let same : path_in x ≡ Some path = cc in ap Some (is_shape x (x.1 == 0) refl same)
+    shape_of_path (x ∷ xs) zero e = let same : path_in x ≡ Some path = cc in ap Some ((search (std_rules, eqb-true)))
     shape_of_path (x ∷ xs) (suc k) e = shape_of_path xs k e
 
 -- what is known of a number is known of it as it is counted
@@ -98,8 +90,7 @@ counted_as x number y e h = search std_rules
 
 module _ (ks : List PlaceKey) (paths : List (Option Text)) (view : map path_in (map place_shape ks) ≡ paths) (n : ℕ) where
   pub path_at : (k : PlaceKey) (b : Bool) → Some k ≡ slice_get ks n → (k.number == 0) ≡ b → cond b (Some (text_of k.path)) None ≡ unwrap_or (slice_get paths n) None
-  path_at k b at is =
-      search (std_rules, mapped_get path_in (map place_shape ks) n (place_shape k) (mapped_get place_shape ks n k (sym at)), mapped_get place_shape ks n k (sym at))
+  path_at k b at is = search (std_rules, mapped_get path_in (map place_shape ks) n (place_shape k) (mapped_get place_shape ks n k (sym at)), mapped_get place_shape ks n k (sym at))
 
   pub path_nowhere : None ≡ slice_get ks n → None ≡ unwrap_or (slice_get paths n) None
   path_nowhere none = search (std_rules, unwrap_or, mapped_none)

@@ -47,9 +47,6 @@ named_at shapes place [] h n t e = absurd cc
 named_at shapes place (u ∷ ts) h zero t e = search (std_rules, name_part_below shapes place u.name.now (slot_part u.slot) h.0)
 named_at shapes place (u ∷ ts) h (suc n) t e = named_at shapes place ts h.1 n t e
 
-among_more : (old new : List ShownType) → Grows old new → (name : Text) (part : ℕ) → IsShownAmong old name part → IsShownAmong new name part
-among_more old new g name part h = record { number = h.number; type = h.type; at = stands_on old new g h.number h.type h.at; named = h.named; is = h.is }
-
 -- ---- a scope that goes on
 
 module _ (marks : List Bool) (before : List Shape) (here : ℕ) (old new : State) (p : IsPlacedState marks before here old) (g : Grows old.shapes new.shapes) where
@@ -61,21 +58,17 @@ module _ (marks : List Bool) (before : List Shape) (here : ℕ) (old new : State
       ⊎ ((q ≡ here) × IsShownAmong ts name (14 + n))
   stood_before ts gt n q name below e = elim (p.names n q name (stood old.shapes new.shapes g n (named_shape q name) below e)) [
     | inl h ↦ inl h
-    | inr h ↦ inr (h.0, among_more old.types ts gt name (14 + n) h.1)
+    | inr h ↦ inr (h.0, (record { number = h.1.number; type = h.1.type; at = stands_on old.types ts gt h.1.number h.1.type h.1.at; named = h.1.named; is = h.1.is }))
   ]
 
   -- the forms, where each that came may be one
   still_formed : ((n : ℕ) (form : Form) (parts : List ℕ) → slice_get new.shapes n ≡ Some (node_shape form parts) → (n < length old.shapes) ⊎ (is_form form parts ≡ true))
       → (n : ℕ) (form : Form) (parts : List ℕ) → slice_get new.shapes n ≡ Some (node_shape form parts) → (n < length before) ⊎ (is_form form parts ≡ true)
-  still_formed forms n form parts e = elim (forms n form parts e) [
-    | inl below ↦ p.formed n form parts (stood old.shapes new.shapes g n (node_shape form parts) below e)
-    | inr formed ↦ inr formed
-  ]
+  still_formed forms n form parts e = elim (forms n form parts e) [ inl below ↦ p.formed n form parts (stood old.shapes new.shapes g n (node_shape form parts) below e) | inr formed ↦ inr formed ]
 
   module _ (slots_over : AllByRecursion (SlotOver (MayMeet marks here)) (slots_at apart new new.slots)) where
     -- no type is shown, and no name comes into the table
-    pub same_types : ViewOver (MayMeet marks here) (view_at apart new new.types new.functions) → new.types ≡ old.types
-        → AddsForms old.shapes new.shapes → IsPlacedState marks before here new
+    pub same_types : ViewOver (MayMeet marks here) (view_at apart new new.types new.functions) → new.types ≡ old.types → AddsForms old.shapes new.shapes → IsPlacedState marks before here new
     same_types shown same forms = record {
       grows = grown_on;
       slots = slots_over;
@@ -97,29 +90,30 @@ module _ (marks : List Bool) (before : List Shape) (here : ℕ) (old new : State
       types_grow : Grows old.types longer
       types_grow = record { more = t ∷ []; is = refl }
 
-      one_named : IsTypeNamed new.shapes here t
-      one_named = record { number = number; is = is; at = at }
-
       new_names : (n q : ℕ) (name : Text) → slice_get new.shapes n ≡ Some (named_shape q name) → (n < length before) ⊎ ((q ≡ here) × IsShownAmong longer name (14 + n))
       new_names n q name e = elim (adds_cases old.shapes new.shapes (named_shape here t.name.now) adds) [
         | inl same ↦ stood_before longer types_grow n q name (found_below old.shapes n (named_shape q name) (ap (λ (ss : List Shape). slice_get ss n) (sym same) ∙ e)) e
         | inr came ↦ elim (last_or old.shapes (named_shape here t.name.now) n (named_shape q name) (ap (λ (ss : List Shape). slice_get ss n) (sym came) ∙ e)) [
           | inl h ↦ stood_before longer types_grow n q name h.0 e
           | inr h ↦
-              let own : q ≡ here = ap (λ (s : Shape). s.number) (sym h.1) in
               let named : t.name.now ≡ name = ap (λ (s : Shape). first_label s.labels) h.1 in
-              let one : number ≡ n = table.apart number n (named_shape q name) (at ∙ ap Some h.1) e in
-              inr (own, record { number = length old.types; type = t; at = at_last old.types t; named = named; is = is ∙ ap (λ m. 14 + m) one })
+              inr (
+                ap (λ (s : Shape). s.number) (sym h.1),
+                record {
+                  number = length old.types;
+                  type = t;
+                  at = at_last old.types t;
+                  named = named;
+                  is = is ∙ ap (λ m. 14 + m) (table.apart number n (named_shape q name) (at ∙ ap Some h.1) e);
+                },
+              )
         ]
       ]
 
       -- where the own place had no names before
       module _ (none : HasNoNames here before) where
         came_behind : (j : ℕ) (u : ShownType) → ComesBehind old.types j u → j < length old.types → ComesBehind longer j u
-        came_behind j u h below = record {
-          declared = h.declared;
-          others = λ i v e less. h.others i v (stood old.types longer types_grow i v (omega (arith, less, below)) e) less;
-        }
+        came_behind j u h below = record { declared = h.declared; others = λ i v e less. h.others i v (stood old.types longer types_grow i v (omega (arith, less, below)) e) less }
 
         again : (j : ℕ) (u : ShownType) → IsRepeated old.types j u → IsRepeated longer j u
         again j u h = record { number = h.number; other = h.other; earlier = h.earlier; at = stands_on old.types longer types_grow h.number h.other h.at; same = h.same }
@@ -144,18 +138,14 @@ module _ (marks : List Bool) (before : List Shape) (here : ℕ) (old new : State
         behind : length old.shapes ≤ number → ComesBehind longer (length old.types) t
         behind le = record {
           declared = subst (λ k. IfSome t.declared (λ d. d < k)) (sym is) (declared_below number le t.declared declared);
-          others = λ i v e less.
-              let small = named_at old.shapes here old.types p.named i v (stood old.types longer types_grow i v less e) in
-              omega (arith, small, is, le);
+          others = λ i v e less. omega (arith, named_at old.shapes here old.types p.named i v (stood old.types longer types_grow i v less e), is, le);
         }
-
-        last_rises : IsRepeated longer (length old.types) t ⊎ ComesBehind longer (length old.types) t
-        last_rises = elim (cases_lt number (length old.shapes)) [ inl below ↦ inl (repeated below) | inr le ↦ inr (behind le) ]
 
         rises : Rise longer
         rises j u e = elim (last_or old.types t j u e) [
           | inl h ↦ elim (p.rise none j u h.1) [ inl r ↦ inl (again j u r) | inr b ↦ inr (came_behind j u b h.0) ]
-          | inr h ↦ subst (λ (v : ShownType). IsRepeated longer j v ⊎ ComesBehind longer j v) h.1 (subst (λ (m : ℕ). IsRepeated longer m t ⊎ ComesBehind longer m t) (sym h.0) last_rises)
+          | inr h ↦ subst (λ (v : ShownType). IsRepeated longer j v ⊎ ComesBehind longer j v) h.1
+              (subst (λ (m : ℕ). IsRepeated longer m t ⊎ ComesBehind longer m t) (sym h.0) (elim (cases_lt number (length old.shapes)) [ inl below ↦ inl (repeated below) | inr le ↦ inr (behind le) ]))
         ]
 
       pub type_more : ViewOver (MayMeet marks here) (view_at apart new new.types new.functions) → IsPlacedState marks before here new
@@ -164,7 +154,7 @@ module _ (marks : List Bool) (before : List Shape) (here : ℕ) (old new : State
         slots = slots_over;
         shown = shown;
         named = subst (λ (ts : List ShownType). AllByRecursion (IsTypeNamed new.shapes here) ts) (sym last)
-            (all_end (IsTypeNamed new.shapes here) old.types t (types_named_wider old.shapes new.shapes g here old.types p.named) one_named);
+            (all_end (IsTypeNamed new.shapes here) old.types t (types_named_wider old.shapes new.shapes g here old.types p.named) (record { number = number; is = is; at = at }));
         names = λ n q name e. subst (λ (ts : List ShownType). (n < length before) ⊎ ((q ≡ here) × IsShownAmong ts name (14 + n))) (sym last) (new_names n q name e);
         rise = λ none. subst (λ (ts : List ShownType). Rise ts) (sym last) (rises none);
         formed = still_formed (adds_name old.shapes new.shapes here t.name.now adds);

@@ -1,5 +1,5 @@
 -- Names stay in their places as a scope of a component type goes on.
-use Rattle.std.proofs.Common.{rules as std_rules, ◌≡◌, ◌⊎◌, inl, inr, refl, sym, ap, ◌∙◌, subst, ℕ, zero, suc, ◌+◌, ◌<◌, ◌≤◌, arith, Bool, true, false, cond, List, [], ◌∷◌, ◌++◌, map, length, length-append, Option, Some, None, IfSome, slice_get, unwrap_or, append_assoc}
+use Rattle.std.proofs.Common.{rules as std_rules, ◌≡◌, ◌⊎◌, inl, inr, refl, sym, ap, ◌∙◌, subst, ℕ, zero, suc, ◌+◌, ◌<◌, ◌≤◌, arith, Bool, true, false, cond, List, [], ◌∷◌, ◌++◌, map, length, length-append, Option, Some, None, slice_get, unwrap_or, append_assoc}
 use Rattle.std.proofs.lemmas.{Bool.cases_lt, Bool.false≢true, List.append-nil, Option.slice_get_within as found_below}
 use Rattle.std.specs.List.{AllByRecursion}
 use Rattle.wit_model.specs.{Meaning.FunctionMeaning, Meaning.Signature, Text.Text, Text.text_eq, Tree.Form, Tree.Place, Tree.Tree}
@@ -8,13 +8,14 @@ use Rattle.read_follow.specs.declared.{instance_keys.InstanceKey.InstanceKey, sc
 use Rattle.read_follow.specs.declared.{scopes.Seen.Seen, slots.Slot.Slot}
 use Rattle.read_follow.specs.{Defining.Grows, Functions.functions_in, Functions.FunctionShape, Places.has_path}
 use Rattle.read_follow.specs.{Following.AreTables, Following.IsShownIn, Following.IsTypeSlot, Slots.resource_slot, Slots.slot_in, Slots.slots_in}
-use Rattle.read_follow.specs.Placed.{apart, slot_part, DeclarationOver, FunctionOver, IsNameAs, IsTypeNamed, MayMeet, SignatureOver, SlotOver, TreeOver, TypeOver, ViewOver}
+use Rattle.read_follow.specs.Placed.{apart, slot_part, DeclarationOver, IsNameAs, IsTypeNamed, MayMeet, SignatureOver, SlotOver, TreeOver, ViewOver}
 use Rattle.read_follow.specs.Scopes.{find_slot, meant_at, seen_in, view_in, IsCounted, IsCountedAs, IsFirstOf, IsImportNamed, IsKeyPlaced, IsInlinePlace, IsInstanceIn, IsInstanceSeen, as_export, as_import, IsPlacedAmong, IsPlacedInstance, IsShownAs, IsShownBy, by_instance, by_import, IsWorld, ShownOver, World}
 use Rattle.plan_meaning.specs.{PlanRules.is_form, Shapes.Shape, Shapes.named_shape, Shapes.node_shape, Shapes.shape_trees, Shapes.IsTable}
 use Rattle.read_follow.proofs.{DefiningLaws.all_at, DefiningLaws.longer, FollowingLaws.name_part, OverLaws.name_over}
 use Rattle.read_follow.proofs.PlacedLaws.{met_wider, name_wider, stands_on, stood, types_named_wider}
 use Rattle.read_follow.proofs.ScopeLaws.{exported, extended, extended_meant, imported, view_stays, F, G, T, U}
 use Rattle.base_lemmas.proofs.{Elements.all_both, Lists.at_last, Lists.last_or, Lists.within_there as slice_there}
+use Rattle.plan_meaning.proofs.Lists.{each_so}
 use Rattle.wit_model.specs.Tree as tree
 use Rattle.read_follow.specs.declared.scopes.Shown.TheVariants as shown
 use Rattle.read_follow.specs.declared.slots.Slot.TheVariants as slots
@@ -22,15 +23,8 @@ use Rattle.read_follow.specs.declared.slots.Slot.TheVariants as slots
 -- ---- what is over fewer places is over more
 
 module _ (P Q : Place → Type 0) (weaker : (x : Place) → P x → Q x) where
-  params_weaker : (ps : List (Text × Tree)) → AllByRecursion (λ (p : Text × Tree). TreeOver P p.1) ps → AllByRecursion (λ (p : Text × Tree). TreeOver Q p.1) ps
-  params_weaker [] h = tt
-  params_weaker (p ∷ ps) h = ((λ x c. weaker x (h.0 x c)), params_weaker ps h.1)
-
-  result_weaker : (o : Option Tree) → IfSome o (TreeOver P) → IfSome o (TreeOver Q)
-  result_weaker y h = search std_rules
-
   signature_weaker : (f : Signature) → SignatureOver P f → SignatureOver Q f
-  signature_weaker f h = (params_weaker f.params h.0, result_weaker f.result h.1)
+  signature_weaker f h = (each_so (λ (p : Text × Tree). TreeOver P p.1) (λ (p : Text × Tree). TreeOver Q p.1) (λ p t x c. weaker x (t x c)) f.params h.0, (search std_rules))
 
   declaration_weaker : (d : tree.Declaration) → DeclarationOver P d → DeclarationOver Q d
   declaration_weaker y h = search std_rules
@@ -38,27 +32,14 @@ module _ (P Q : Place → Type 0) (weaker : (x : Place) → P x → Q x) where
   slot_weaker : (s : Meant) → SlotOver P s → SlotOver Q s
   slot_weaker y h = search (std_rules, signature_weaker)
 
-  slots_weaker : (ss : List Meant) → AllByRecursion (SlotOver P) ss → AllByRecursion (SlotOver Q) ss
-  slots_weaker [] h = tt
-  slots_weaker (s ∷ ss) h = (slot_weaker s h.0, slots_weaker ss h.1)
-
-  types_weaker : (ts : List MeantType) → AllByRecursion (TypeOver P) ts → AllByRecursion (TypeOver Q) ts
-  types_weaker [] h = tt
-  types_weaker (t ∷ ts) h = (declaration_weaker t.meaning.declaration h.0, types_weaker ts h.1)
-
-  functions_weaker : (fs : List (Text × FunctionMeaning)) → AllByRecursion (FunctionOver P) fs → AllByRecursion (FunctionOver Q) fs
-  functions_weaker [] h = tt
-  functions_weaker (f ∷ fs) h = (signature_weaker f.1.signature h.0, functions_weaker fs h.1)
-
-  view_weaker : (v : MeantView) → ViewOver P v → ViewOver Q v
-  view_weaker v h = record { types = types_weaker v.types h.types; functions = functions_weaker v.functions h.functions }
-
   shown_weaker : (s : MeantShown) → ShownOver P s → ShownOver Q s
   shown_weaker x h = search (std_rules, signature_weaker, declaration_weaker)
 
-  all_shown_weaker : (ss : List MeantSeen) → AllByRecursion (λ (s : MeantSeen). ShownOver P s.shown) ss → AllByRecursion (λ (s : MeantSeen). ShownOver Q s.shown) ss
-  all_shown_weaker [] h = tt
-  all_shown_weaker (s ∷ ss) h = (shown_weaker s.shown h.0, all_shown_weaker ss h.1)
+  view_weaker : (v : MeantView) → ViewOver P v → ViewOver Q v
+  view_weaker v h = record {
+    types = each_so _ _ (λ (t : MeantType). declaration_weaker t.meaning.declaration) v.types h.types;
+    functions = each_so _ _ (λ (f : Text × FunctionMeaning). signature_weaker f.1.signature) v.functions h.functions;
+  }
 
 -- ---- a scope with something more
 
@@ -83,15 +64,9 @@ module _ (old : World) (st : IsWorld old) (more : List Shape) (more_fs : List Fu
   imports_grow : Grows old.imports (old.imports ++ im)
   imports_grow = record { more = im; is = refl }
 
-  exports_grow : Grows old.exports (old.exports ++ ex)
-  exports_grow = record { more = ex; is = refl }
-
   seen_still : (j : ℕ) → IsInstanceSeen old j → IsInstanceSeen new j
   seen_still j (as_import n s key at is) = as_import n s key (stands_on old.imports (old.imports ++ im) imports_grow n s at) is
-  seen_still j (as_export n s key at is) = as_export n s key (stands_on old.exports (old.exports ++ ex) exports_grow n s at) is
-
-  first_still : (j : ℕ) (x : Instance) → j < length old.instances → IsFirstOf old.instances j x → IsFirstOf (old.instances ++ xs) j x
-  first_still j x below first i y at less = first i y (stood old.instances (old.instances ++ xs) instances_grow i y (omega (arith, less, below)) at) less
+  seen_still j (as_export n s key at is) = as_export n s key (stands_on old.exports (old.exports ++ ex) (record { more = ex; is = refl }) n s at) is
 
   first_then : (j : ℕ) (x : Instance) → IsFirstOf (old.instances ++ xs) j x → IsFirstOf old.instances j x
   first_then j x first i y at less = first i y (stands_on old.instances (old.instances ++ xs) instances_grow i y at) less
@@ -100,23 +75,15 @@ module _ (old : World) (st : IsWorld old) (more : List Shape) (more_fs : List Fu
   still_shown q name part (by_instance j x at is among) = by_instance j x (stands_on old.instances (old.instances ++ xs) instances_grow j x at) is among
   still_shown q name part (by_import j s label d at is named own) = by_import j s label d (stands_on old.imports (old.imports ++ im) imports_grow j s at) is named own
 
-  imports_named : (seen : List Seen) → AllByRecursion (λ (s : Seen). IsImportNamed old.shapes old.home s.shown) seen → AllByRecursion (λ (s : Seen). IsImportNamed more old.home s.shown) seen
-  imports_named [] h = tt
-  imports_named (s ∷ seen) h = (one s.shown h.0, imports_named seen h.1)
-    where
-      one : (x : Shown) → IsImportNamed old.shapes old.home x → IsImportNamed more old.home x
-      one (shown.Instance key n) h = tt
-      one (shown.Function name f) h = tt
-      one (shown.Type name part d) h = name_wider old.shapes more gs old.home name.now part h
+  import_named : (x : Shown) → IsImportNamed old.shapes old.home x → IsImportNamed more old.home x
+  import_named (shown.Instance key n) h = tt
+  import_named (shown.Function name f) h = tt
+  import_named (shown.Type name part d) h = name_wider old.shapes more gs old.home name.now part h
 
   key_still : (x : Shown) → IsKeyPlaced old.instances x → IsKeyPlaced (old.instances ++ xs) x
   key_still (shown.Instance key n) h = (h.0, stands_on old.instances (old.instances ++ xs) instances_grow n h.0 h.1, h.2)
   key_still (shown.Function name f) h = tt
   key_still (shown.Type name part d) h = tt
-
-  keys_still : (seen : List Seen) → AllByRecursion (λ (s : Seen). IsKeyPlaced old.instances s.shown) seen → AllByRecursion (λ (s : Seen). IsKeyPlaced (old.instances ++ xs) s.shown) seen
-  keys_still [] h = tt
-  keys_still (s ∷ seen) h = (key_still s.shown h.0, keys_still seen h.1)
 
   module _ (base : List Shape) (count till : ℕ) (p : IsPlacedAmong base count till old) where
     own_still : (j : ℕ) (x : Instance) → j < length old.instances → ((path : Text) × (slice_get old.paths x.place ≡ Some (Some path))) ⊎ IsInlinePlace count old j x
@@ -126,7 +93,7 @@ module _ (old : World) (st : IsWorld old) (more : List Shape) (more_fs : List Fu
       none = stands_on old.paths more_paths gp x.place None inline.none;
       new = inline.new;
       not_home = inline.not_home;
-      first = first_still j x below inline.first;
+      first = λ i y at less. inline.first i y (stood old.instances (old.instances ++ xs) instances_grow i y (omega (arith, less, below)) at) less;
     })
 
     instance_still : (j : ℕ) (x : Instance) → slice_get old.instances j ≡ Some x → IsPlacedInstance base count new j x
@@ -134,9 +101,8 @@ module _ (old : World) (st : IsWorld old) (more : List Shape) (more_fs : List Fu
         let h = p.instances j x at in
         let inside = all_at (IsInstanceIn old.shapes old.signatures old.paths) old.instances j x st.instances at in
         let below = found_below old.instances j x at in
-        let same = view_stays old st more more_fs more_paths gs gf gp tables ss xs im ex us apart x.view inside.types inside.functions in
         record {
-          shown = subst (λ (v : MeantView). ViewOver (New x.place) v) (sym same)
+          shown = subst (λ (v : MeantView). ViewOver (New x.place) v) (sym (view_stays old st more more_fs more_paths gs gf gp tables ss xs im ex us apart x.view inside.types inside.functions))
               (view_weaker (Old x.place) (New x.place) (met_still x.place) (view_in (T old st more more_fs more_paths gs gf gp tables ss xs im ex us apart)
               (F old st more more_fs more_paths gs gf gp tables ss xs im ex us apart) x.view) h.shown);
           named = types_named_wider old.shapes more gs x.place x.view.types.items h.named;
@@ -174,10 +140,8 @@ module _ (old : World) (st : IsWorld old) (more : List Shape) (more_fs : List Fu
       counted_still j s c at here =
           let h = p.counted j s c at here in
           let below = found_below p.counts j c here in
-          let small = h.below in
-          let long = longer old.shapes more gs in
           record {
-            below = omega (arith, small, long);
+            below = omega (arith, h.below, longer old.shapes more gs);
             rising = λ i b e less. h.rising i b (stood p.counts (p.counts ++ cs) counts_grow i b (omega (arith, less, below)) e) less;
             kind = kind_still j c below s.shown (all_at (λ (y : Seen). IsShownAs old.shapes old.signatures old.paths (length old.instances) y.shown) old.imports j s st.imports at) h.kind;
           }
@@ -190,34 +154,33 @@ module _ (old : World) (st : IsWorld old) (more : List Shape) (more_fs : List Fu
           (map (seen_in apart (U old st more more_fs more_paths gs gf gp tables ss xs im ex us apart) (G old st more more_fs more_paths gs gf gp tables ss xs im ex us apart) (old.instances ++ xs)) im)
           → AllByRecursion (λ (s : MeantSeen). ShownOver (New old.home) s.shown)
           (map (seen_in apart (U old st more more_fs more_paths gs gf gp tables ss xs im ex us apart) (G old st more more_fs more_paths gs gf gp tables ss xs im ex us apart) (old.instances ++ xs)) ex)
-          → AllByRecursion (λ (s : Seen). IsImportNamed more old.home s.shown) im
-          → AllByRecursion (λ (s : Seen). IsKeyPlaced (old.instances ++ xs) s.shown) im × AllByRecursion (λ (s : Seen). IsKeyPlaced (old.instances ++ xs) s.shown) ex
+          → AllByRecursion (λ (s : Seen). IsImportNamed more old.home s.shown) im → AllByRecursion (λ (s : Seen). IsKeyPlaced (old.instances ++ xs) s.shown) im
+          × AllByRecursion (λ (s : Seen). IsKeyPlaced (old.instances ++ xs) s.shown) ex
           → ((j : ℕ) (x : Instance) → slice_get (old.instances ++ xs) j ≡ Some x → length old.instances ≤ j → IsInstanceSeen new j)
           → ((n q : ℕ) (name : Text) → n < now → slice_get more n ≡ Some (named_shape q name) → (n < till) ⊎ IsShownBy new q name (14 + n))
-          → ((n : ℕ) (form : Form) (parts : List ℕ) → n < now → slice_get more n ≡ Some (node_shape form parts) → (n < till) ⊎ (is_form form parts ≡ true))
-          → length cs ≡ length im → ((j : ℕ) (s : Seen) (c : ℕ) → slice_get (old.imports ++ im) j ≡ Some s → slice_get (p.counts ++ cs) j ≡ Some c → length old.imports ≤ j
-          → IsCounted new (p.counts ++ cs) j s c)
+          → ((n : ℕ) (form : Form) (parts : List ℕ) → n < now → slice_get more n ≡ Some (node_shape form parts) → (n < till) ⊎ (is_form form parts ≡ true)) → length cs ≡ length im
+          → ((j : ℕ) (s : Seen) (c : ℕ) → slice_get (old.imports ++ im) j ≡ Some s → slice_get (p.counts ++ cs) j ≡ Some c → length old.imports ≤ j → IsCounted new (p.counts ++ cs) j s c)
           → IsPlacedAmong base count now new
       extended_placed now within hs hx hi he hn hk seen names forms many counted =
           let meant = extended_meant old st more more_fs more_paths gs gf gp tables ss xs im ex us apart in
           let before = meant_at apart old in
           let was = p.many in
-          let grew = length-append p.counts cs in
-          let grown = length-append old.imports im in
           record {
             grows = record { more = p.grows.more ++ gs.more; is = gs.is ∙ (ap (λ zs. zs ++ gs.more) p.grows.is ∙ append_assoc base p.grows.more gs.more) };
             within = within;
             home = p.home;
             fresh = p.fresh;
             slots = subst (λ (zs : List Meant). AllByRecursion (SlotOver (New old.home)) zs) (sym (ap (λ (m : MeantScope). m.slots) meant))
-                (all_both (SlotOver (New old.home)) before.slots _ (slots_weaker (Old old.home) (New old.home) (met_still old.home) before.slots p.slots) hs);
+                (all_both (SlotOver (New old.home)) before.slots _ (each_so _ _ (slot_weaker (Old old.home) (New old.home) (met_still old.home)) before.slots p.slots) hs);
             imports = subst (λ (zs : List MeantSeen). AllByRecursion (λ (s : MeantSeen). ShownOver (New old.home) s.shown) zs) (sym (ap (λ (m : MeantScope). m.imports) meant))
-                (all_both (λ (s : MeantSeen). ShownOver (New old.home) s.shown) before.imports _ (all_shown_weaker (Old old.home) (New old.home) (met_still old.home) before.imports p.imports) hi);
+                (all_both (λ (s : MeantSeen). ShownOver (New old.home) s.shown) before.imports _
+                (each_so _ _ (λ (s : MeantSeen). shown_weaker (Old old.home) (New old.home) (met_still old.home) s.shown) before.imports p.imports) hi);
             exports = subst (λ (zs : List MeantSeen). AllByRecursion (λ (s : MeantSeen). ShownOver (New old.home) s.shown) zs) (sym (ap (λ (m : MeantScope). m.exports) meant))
-                (all_both (λ (s : MeantSeen). ShownOver (New old.home) s.shown) before.exports _ (all_shown_weaker (Old old.home) (New old.home) (met_still old.home) before.exports p.exports) he);
-            named = all_both (λ (s : Seen). IsImportNamed more old.home s.shown) old.imports im (imports_named old.imports p.named) hn;
-            imports_keyed = all_both (λ (s : Seen). IsKeyPlaced (old.instances ++ xs) s.shown) old.imports im (keys_still old.imports p.imports_keyed) hk.0;
-            exports_keyed = all_both (λ (s : Seen). IsKeyPlaced (old.instances ++ xs) s.shown) old.exports ex (keys_still old.exports p.exports_keyed) hk.1;
+                (all_both (λ (s : MeantSeen). ShownOver (New old.home) s.shown) before.exports _
+                (each_so _ _ (λ (s : MeantSeen). shown_weaker (Old old.home) (New old.home) (met_still old.home) s.shown) before.exports p.exports) he);
+            named = all_both (λ (s : Seen). IsImportNamed more old.home s.shown) old.imports im (each_so _ _ (λ (s : Seen). import_named s.shown) old.imports p.named) hn;
+            imports_keyed = all_both (λ (s : Seen). IsKeyPlaced (old.instances ++ xs) s.shown) old.imports im (each_so _ _ (λ (s : Seen). key_still s.shown) old.imports p.imports_keyed) hk.0;
+            exports_keyed = all_both (λ (s : Seen). IsKeyPlaced (old.instances ++ xs) s.shown) old.exports ex (each_so _ _ (λ (s : Seen). key_still s.shown) old.exports p.exports_keyed) hk.1;
             formed = λ n form parts low at. elim (forms n form parts low at) [
               | inl below ↦ p.formed n form parts below (stood old.shapes more gs n (node_shape form parts) (let inside = p.within in omega (arith, below, inside)) at)
               | inr formed ↦ inr formed
@@ -236,7 +199,7 @@ module _ (old : World) (st : IsWorld old) (more : List Shape) (more_fs : List Fu
               | inr by ↦ inr by
             ];
             counts = p.counts ++ cs;
-            many = omega (arith, was, grew, grown, many);
+            many = omega (arith, was, length-append p.counts cs, length-append old.imports im, many);
             counted = λ j s c at here. elim (cases_lt j (length old.imports)) [
               | inl below ↦ counted_still j s c (stood old.imports (old.imports ++ im) imports_grow j s below at) (stood p.counts (p.counts ++ cs) counts_grow j c (omega (arith, below, was)) here)
               | inr past ↦ counted j s c at here past
@@ -274,16 +237,13 @@ module _ (base : List Shape) (count till : ℕ) (old : World) (p : IsPlacedAmong
   -- no count is above the length of the table
   pub counts_below : (i b : ℕ) → slice_get p.counts i ≡ Some b → b ≤ length old.shapes
   counts_below i b at =
-      let was = p.many in
-      let inside = found_below p.counts i b at in
-      let s = slice_there old.imports i (omega (arith, inside, was)) in
+      let s = slice_there old.imports i (omega (arith, found_below p.counts i b at, p.many)) in
       (p.counted i s.0 b s.1 at).below
 
   -- an import that is counted, where one comes behind the others
   pub one_counted : (new : World) (b : Bool) (s : Seen) (c : ℕ) → new.imports ≡ old.imports ++ imported b s → length old.shapes ≤ c → c ≤ length new.shapes
-      → IsCountedAs new (p.counts ++ imported b c) (length old.imports) c s.shown
-      → (j : ℕ) (t : Seen) (d : ℕ) → slice_get (old.imports ++ imported b s) j ≡ Some t → slice_get (p.counts ++ imported b c) j ≡ Some d → length old.imports ≤ j
-      → IsCounted new (p.counts ++ imported b c) j t d
+      → IsCountedAs new (p.counts ++ imported b c) (length old.imports) c s.shown → (j : ℕ) (t : Seen) (d : ℕ) → slice_get (old.imports ++ imported b s) j ≡ Some t
+      → slice_get (p.counts ++ imported b c) j ≡ Some d → length old.imports ≤ j → IsCounted new (p.counts ++ imported b c) j t d
   one_counted new false s c is least most kind j t d at here past = absurd (none_past old.imports j t at past)
   one_counted new true s c is least most kind j t d at here past =
       let was = p.many in
@@ -297,8 +257,7 @@ module _ (base : List Shape) (count till : ℕ) (old : World) (p : IsPlacedAmong
         kind = kind;
       } in
       subst (λ (n : ℕ). IsCounted new (p.counts ++ c ∷ []) n t d) (sym last.0)
-      (subst (λ (x : Seen). IsCounted new (p.counts ++ c ∷ []) (length old.imports) x d) last.1
-      (subst (λ (e : ℕ). IsCounted new (p.counts ++ c ∷ []) (length old.imports) s e) counted.1 one))
+      (subst (λ (x : Seen). IsCounted new (p.counts ++ c ∷ []) (length old.imports) x d) last.1 (subst (λ (e : ℕ). IsCounted new (p.counts ++ c ∷ []) (length old.imports) s e) counted.1 one))
 
 -- ---- slots of types under their names
 

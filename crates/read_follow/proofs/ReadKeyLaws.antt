@@ -1,5 +1,5 @@
 -- Types of functions that are followed as they are read: what they stand for is what those stand for that are read first.
-use Rattle.std.proofs.Common.{◌≡◌, refl, sym, ap, ◌∙◌, ℕ, zero, suc, Bool, true, false, List, [], ◌∷◌, map, Option, Some, None, option_map}
+use Rattle.std.proofs.Common.{rules as std_rules, ◌≡◌, refl, sym, ap, ◌∙◌, ℕ, zero, suc, Bool, true, false, List, [], ◌∷◌, map, Option, Some, None, option_map}
 use Rattle.std.specs.{Borrow.Bor}
 use Rattle.std.proofs.lemmas.{Option.same_Some as some_same}
 use Rattle.wit_model.specs.{Meaning.Signature, Text.Text, Tree.Tree}
@@ -43,8 +43,7 @@ module _ {A B : Type 0} (f : A → Option B) (reader : Reader A) where
   first_row x (Some xs) (Some y) e = ap (λ m. (m >>= λ y. each f xs.0 >>= λ ys. Some (y ∷ ys)) >>= λ ys. Some (ys, xs.1)) e ∙ by (each f xs.0)
     where
       by : (o : Option (List B)) → ((o >>= λ ys. Some (y ∷ ys)) >>= λ ys. Some (ys, xs.1)) ≡ headed y (o >>= λ ys. Some (ys, xs.1))
-      by None = refl
-      by (Some ys) = refl
+      by x = search std_rules
 
   pub sequence_made : (n : ℕ) (bytes : List ℕ) → sequence_at (made_at f reader) n bytes ≡ rows (sequence_at reader n bytes)
   unfolding sequence_at
@@ -57,16 +56,14 @@ module _ {A B : Type 0} (f : A → Option B) (reader : Reader A) where
 
       by : (o : Option (A × List ℕ)) → ((behind : List ℕ) → sequence_at (made_at f reader) n behind ≡ rows (sequence_at reader n behind))
           → after_first (made_at f reader) n (o >>= λ x. f x.0 >>= λ y. Some (y, x.1)) ≡ rows (after_first reader n o)
-      by None h = refl
-      by (Some x) h = made x.1 (f x.0) ∙ (ap (λ o. f x.0 >>= λ y. headed y o) (h x.1) ∙ sym (first_row x.0 (sequence_at reader n x.1) (f x.0) refl))
+      by x h = search (std_rules, made, headed, first_row)
 
   pub vector_made : (bytes : List ℕ) → vector_at (made_at f reader) bytes ≡ rows (vector_at reader bytes)
   unfolding vector_at
   vector_made bytes = by (u32_at bytes)
     where
       by : (o : Option (ℕ × List ℕ)) → (o >>= λ n. sequence_at (made_at f reader) n.0 n.1) ≡ rows (o >>= λ n. sequence_at reader n.0 n.1)
-      by None = refl
-      by (Some n) = sequence_made n.0 n.1
+      by x = search (std_rules, sequence_made)
 
 -- ---- the type of a function
 
@@ -105,24 +102,14 @@ module _ (slots : List Meant) (is_async : Bool) where
       last ps rest None = refl
       last ps rest (Some t) = refl
 
-      unended : (behind : List ℕ) → result_list_at behind ≡ None → (m : Option (List (Text × Tree))) → None ≡ with_outcome (followed_by behind m)
-      unended behind e None = refl
-      unended behind e (Some ps) = sym (ap (ended_by ps) (made_unread (given (value_type slots)) result_list_at behind e))
-
-      ended : (v : Option ComponentValType) (behind rest : List ℕ) → result_list_at behind ≡ Some (v, rest) → (m : Option (List (Text × Tree)))
-          → followed_by rest (m >>= λ ps. given (value_type slots) v >>= λ t. Some (signed ps t)) ≡ with_outcome (followed_by behind m)
-      ended v behind rest e None = refl
-      ended v behind rest e (Some ps) = last ps rest (given (value_type slots) v) ∙ sym (ap (ended_by ps) (made_on (given (value_type slots)) result_list_at behind v rest e))
-
       parts : (fs : List (Labeled ComponentValType)) (behind : List ℕ) (o : Option (Option ComponentValType × List ℕ)) → result_list_at behind ≡ o
           → meant_as (function_signature slots) (typed_as is_async (both_read fs o)) ≡ with_outcome (followed_by behind (each (field_type slots) fs))
-      parts fs behind None e = unended behind e (each (field_type slots) fs)
-      parts fs behind (Some v) e = ended v.0 behind v.1 e (each (field_type slots) fs)
+      parts fs behind None e = search (std_rules, made_unread)
+      parts fs behind (Some v) e = search (std_rules, last, made_on)
 
       by : (o : Option (List (Labeled ComponentValType) × List ℕ))
           → meant_as (function_signature slots) (typed_as is_async (o >>= λ x. both_read x.0 (result_list_at x.1))) ≡ with_outcome (meant_as (each (field_type slots)) o)
-      by None = refl
-      by (Some fs) = parts fs.0 fs.1 (result_list_at fs.1) refl
+      by x = search (std_rules, parts)
 
 -- the parameters and what is given back make the whole
 module _ (T : List Tree) (slots : List Meant) (is_async : Bool) (bytes : List ℕ) where
@@ -130,44 +117,36 @@ module _ (T : List Tree) (slots : List Meant) (is_async : Bool) (bytes : List �
   meant_params [] = refl
   meant_params (p ∷ ps) = ap (λ rest. param_meant T p ∷ rest) (meant_params ps)
 
-  pub key_found : (k : FunctionKey) (behind rest : List ℕ) → k.is_async ≡ is_async
-      → vector_at (made_at (field_type slots) field_at) bytes ≡ Some (map (param_meant T) k.params.items, behind)
+  pub key_found : (k : FunctionKey) (behind rest : List ℕ) → k.is_async ≡ is_async → vector_at (made_at (field_type slots) field_at) bytes ≡ Some (map (param_meant T) k.params.items, behind)
       → made_at (given (value_type slots)) result_list_at behind ≡ Some (option_map (part_tree T) k.result, rest)
       → made_at (function_signature slots) (function_type_at is_async) bytes ≡ Some (signature_in T (function_shape k), rest)
   unfolding signature_in
-  key_found k behind rest kind ps r =
-      function_made slots is_async bytes
-      ∙ (ap (with_outcome slots is_async) ps
-      ∙ (ap (ended_by slots is_async (map (param_meant T) k.params.items)) r
+  key_found k behind rest kind ps r = function_made slots is_async bytes
+      ∙ (ap (with_outcome slots is_async) ps ∙ (ap (ended_by slots is_async (map (param_meant T) k.params.items)) r
       ∙ (λ i. Some (record { is_async = sym kind i; params = meant_params k.params.items i; result = option_map (part_tree T) k.result }, rest))))
 
   pub no_key : vector_at (made_at (field_type slots) field_at) bytes ≡ None → made_at (function_signature slots) (function_type_at is_async) bytes ≡ None
   no_key e = function_made slots is_async bytes ∙ ap (with_outcome slots is_async) e
 
   pub no_end : (ps : List (Bor (List ℕ) × ℕ)) (behind : List ℕ) → vector_at (made_at (field_type slots) field_at) bytes ≡ Some (map (param_meant T) ps, behind)
-      → made_at (given (value_type slots)) result_list_at behind ≡ None
-      → made_at (function_signature slots) (function_type_at is_async) bytes ≡ None
+      → made_at (given (value_type slots)) result_list_at behind ≡ None → made_at (function_signature slots) (function_type_at is_async) bytes ≡ None
   no_end ps behind e none = function_made slots is_async bytes ∙ (ap (with_outcome slots is_async) e ∙ ap (ended_by slots is_async (map (param_meant T) ps)) none)
 
 -- ---- the type that is in front
 
 module _ (slots : List Meant) (is_async : Bool) (bytes : List ℕ) (f : FunctionType) (behind : List ℕ) (at : function_type_at is_async bytes ≡ Some (f, behind)) where
   -- what was found is what it stands for, and what is behind it
-  pub signature_read : (s : Signature) (rest : List ℕ) → made_at (function_signature slots) (function_type_at is_async) bytes ≡ Some (s, rest)
-      → (function_signature slots f ≡ Some s) × (rest ≡ behind)
+  pub signature_read : (s : Signature) (rest : List ℕ) → made_at (function_signature slots) (function_type_at is_async) bytes ≡ Some (s, rest) → (function_signature slots f ≡ Some s) × (rest ≡ behind)
   signature_read s rest e = by (function_signature slots f) (sym (made_on (function_signature slots) (function_type_at is_async) bytes f behind at) ∙ e)
     where
       by : (o : Option Signature) → followed_by behind o ≡ Some (s, rest) → (o ≡ Some s) × (rest ≡ behind)
-      by None h = absurd cc
-      by (Some y) h = let same : (y, behind) ≡ (s, rest) = some_same (y, behind) (s, rest) h in
-          (ap (λ (p : Signature × List ℕ). Some p.0) same, ap (λ (p : Signature × List ℕ). p.1) (sym same))
+      by x h = search (std_rules, some_same)
 
   pub signature_unread : made_at (function_signature slots) (function_type_at is_async) bytes ≡ None → function_signature slots f ≡ None
   signature_unread e = by (function_signature slots f) (sym (made_on (function_signature slots) (function_type_at is_async) bytes f behind at) ∙ e)
     where
       by : (o : Option Signature) → followed_by behind o ≡ None → o ≡ None
-      by None h = refl
-      by (Some y) h = absurd cc
+      by x h = search std_rules
 
 -- ---- the declaration of a function's type is in front
 
@@ -193,5 +172,4 @@ function_entry is_async bytes rest e = ap entry_at e ∙ (at is_async ∙ by (fu
     at true = plain_front (1 ∷ 0x43 ∷ rest) (declared_as (function_type_at true rest)) refl (function_declared true (1 ∷ 0x43 ∷ rest) rest refl)
 
     by : (o : Option (FunctionType × List ℕ)) → as_plain (declared_as o) ≡ entered_as o
-    by None = refl
-    by (Some f) = refl
+    by x = search std_rules

@@ -40,8 +40,7 @@ module _ {A Y : Type 0} (f : A → Option Y) (labs : Y → List (Text × Bool)) 
       ys = so_far.ys;
       found = sym so_far.kept ∙ (ap (λ xs. behind_rows so_far.ys (each f xs)) none ∙ ap Some (append-nil so_far.ys));
       labels_are = so_far.labels_are;
-      trees_are =
-          so_far.trees_are;
+      trees_are = so_far.trees_are;
     }
 
 -- ---- what is made of them
@@ -81,20 +80,18 @@ module _ (ss : List Slot) (ks : List ℕ) (ranges : (n : ℕ) → AreInRange n s
       → IsNodeOf (record { sort = 1; number = 0; labels = labels; parts = ks }) ss (DefinedType.record_of fields)
   record_is fields labels filled rows =
       let first = rows [] [] in
-      let marks : labels ≡ marked true (map (λ l. l.0) labels) = subst (λ (ls : List (Text × Bool)). ls ≡ marked true (map (λ l. l.0) ls)) first.labels_are (field_marks first.ys) in
       record {
         form = Form.record_of (map (λ l. l.0) labels);
         parts = ks;
-        shape = λ i. record { sort = 1; number = 0; labels = marks i; parts = ks };
+        shape = λ i. record { sort = 1; number = 0; labels = (subst (λ (ls : List (Text × Bool)). ls ≡ marked true (map (λ l. l.0) ls)) first.labels_are (field_marks first.ys)) i; parts = ks };
         ranges = ranges;
         formed = mapped_items (λ (l : Text × Bool). l.0) labels ∙ (ap has_items (sym first.labels_are) ∙ flat_items (λ (f : Text × Tree). (f.0, true)) first.ys
             (rows_filled (field_type (slots_in [] [] ss)) fields first.ys first.found filled));
         found = λ T F named apart.
             let r = rows T F in
-            let names : map (λ f. f.0) r.ys ≡ map (λ l. l.0) labels = field_names r.ys ∙ ap (map (λ l. l.0)) r.labels_are in
-            let ts : map (λ f. f.1) r.ys ≡ map (part_tree T) ks = sym (flat_map_single (λ f. f.1) r.ys) ∙ r.trees_are in
             ap (λ o. o >>= λ fs. provided (is_filled fields) (record_tree fs)) r.found
-            ∙ (ap (λ b. provided b (record_tree r.ys)) filled ∙ (λ i. Some (Tree.node (Form.record_of (names i)) (children (ts i)))));
+            ∙ (ap (λ b. provided b (record_tree r.ys)) filled ∙ (λ i. Some (Tree.node (Form.record_of ((field_names r.ys ∙ ap (map (λ l. l.0)) r.labels_are) i))
+            (children ((sym (flat_map_single (λ f. f.1) r.ys) ∙ r.trees_are) i)))));
       }
 
   pub variant_is : (cases : List (Labeled (Option ComponentValType))) (labels : List (Text × Bool)) → is_filled cases ≡ true
@@ -111,8 +108,7 @@ module _ (ss : List Slot) (ks : List ℕ) (ranges : (n : ℕ) → AreInRange n s
         let r = rows T F in
         let names : map (λ c. (c.0, is_given c.1)) r.ys ≡ labels = sym (flat_map_single (λ c. (c.0, is_given c.1)) r.ys) ∙ r.labels_are in
         let ts : given (map (λ c. c.1) r.ys) ≡ children (map (part_tree T) ks) = payloads r.ys ∙ ap children r.trees_are in
-        ap (λ o. o >>= λ cs. provided (is_filled cases) (variant_tree cs)) r.found
-        ∙ (ap (λ b. provided b (variant_tree r.ys)) filled ∙ (λ i. Some (Tree.node (Form.variant_of (names i)) (ts i))));
+        ap (λ o. o >>= λ cs. provided (is_filled cases) (variant_tree cs)) r.found ∙ (ap (λ b. provided b (variant_tree r.ys)) filled ∙ (λ i. Some (Tree.node (Form.variant_of (names i)) (ts i))));
   }
 
   pub tuple_is : (vs : List ComponentValType) (labels : List (Text × Bool)) → labels ≡ [] → is_filled vs ≡ true
@@ -128,8 +124,7 @@ module _ (ss : List Slot) (ks : List ℕ) (ranges : (n : ℕ) → AreInRange n s
     found = λ T F named apart.
         let r = rows T F in
         let ts : r.ys ≡ map (part_tree T) ks = sym (value_list r.ys) ∙ r.trees_are in
-        ap (λ o. o >>= λ xs. provided (is_filled vs) (tuple_tree xs)) r.found
-        ∙ (ap (λ b. provided b (tuple_tree r.ys)) filled ∙ (λ i. Some (Tree.node Form.tuple_of (children (ts i)))));
+        ap (λ o. o >>= λ xs. provided (is_filled vs) (tuple_tree xs)) r.found ∙ (ap (λ b. provided b (tuple_tree r.ys)) filled ∙ (λ i. Some (Tree.node Form.tuple_of (children (ts i)))));
   }
 
 pub all_filled : {A B : Type 0} (f : A → B) (xs : List A) → false ≡ (length xs == 0) → is_filled (map f xs) ≡ true
@@ -146,12 +141,6 @@ pub part_more : (ss : List Slot) (ks : List ℕ) (p : Option ℕ) → ((n : ℕ)
     → (n : ℕ) → AreInRange n ss → AllByRecursion (λ k. k < 14 + n) (ks ++ option_to_list p)
 part_more ss ks x all one n ranges = search (std_rules, append-nil, all_end)
 
-given_mark : (f : ℕ → Tree) (p : Option ℕ) → is_given (option_map f p) ≡ is_some p
-given_mark f x = search std_rules
-
-given_list : (f : ℕ → Tree) (p : Option ℕ) → map f (option_to_list p) ≡ option_to_list (option_map f p)
-given_list f x = search std_rules
-
 module _ {X A : Type 0} (raw : X → A) (all : List X) (i : ℕ) where
   pub raw_at : (d : X) → i < length all → drop i (map raw all) ≡ raw (get_or all i d) ∷ drop (i + 1) (map raw all)
   raw_at d more = drop-map raw i all ∙ (ap (map raw) (drop_more all i d more) ∙ ap (λ xs. raw (get_or all i d) ∷ xs) (sym (drop-map raw (i + 1) all)))
@@ -165,8 +154,7 @@ module _ (ss : List Slot) (all : List ComponentValType) (i : ℕ) (ks : List ℕ
     pub value_row : (k : ℕ) (nks : List ℕ) → ((T : List Tree) (F : List Signature) → value_type (slots_in T F ss) (get_or all i d) ≡ Some (part_tree T k)) → nks ≡ ks ++ k ∷ []
         → (T : List Tree) (F : List Signature) → RowsSoFar (value_type (slots_in T F ss)) value_labels value_trees all (i + 1) [] (map (part_tree T) nks)
     value_row k nks e ek T F = rows_more (value_type (slots_in T F ss)) value_labels value_trees all i [] (map (part_tree T) ks) (kept T F) (get_or all i d) (drop_more all i d more) (part_tree T k) []
-        (map (part_tree T) nks)
-        (e T F) refl (ap (map (part_tree T)) ek ∙ map-append (part_tree T) ks (k ∷ []))
+        (map (part_tree T) nks) (e T F) refl (ap (map (part_tree T)) ek ∙ map-append (part_tree T) ks (k ∷ []))
 
     pub value_refused : (e : Refusal) → ((T : List Tree) (F : List Signature) → Refuses e (value_type (slots_in T F ss) (get_or all i d))) → (T : List Tree) (F : List Signature)
         → Refuses e (each (value_type (slots_in T F ss)) all)
@@ -185,8 +173,7 @@ module _ (ss : List Slot) (all : List (Bor (List ℕ) × ComponentValType)) (i :
     field_row k nls nks e el ek T F =
         let x = get_or all i d in
         rows_more (field_type (slots_in T F ss)) field_labels field_trees (map labeled all) i labels (map (part_tree T) ks) (kept T F) (labeled x) (raw_at labeled all i d more)
-        (x.0.now, part_tree T k) nls (map (part_tree T) nks)
-        (ap (λ o. o >>= λ t. Some (x.0.now, t)) (e T F)) el (ap (map (part_tree T)) ek ∙ map-append (part_tree T) ks (k ∷ []))
+        (x.0.now, part_tree T k) nls (map (part_tree T) nks) (ap (λ o. o >>= λ t. Some (x.0.now, t)) (e T F)) el (ap (map (part_tree T)) ek ∙ map-append (part_tree T) ks (k ∷ []))
 
     pub field_refused : (e : Refusal) → ((T : List Tree) (F : List Signature) → Refuses e (value_type (slots_in T F ss) (get_or all i d).1)) → (T : List Tree) (F : List Signature)
         → Refuses e (each (field_type (slots_in T F ss)) (map labeled all))
@@ -209,10 +196,9 @@ module _ (ss : List Slot) (all : List (Bor (List ℕ) × Option ComponentValType
     case_row p b nls nks e mark el ek T F =
         let x = get_or all i d in
         rows_more (case_type (slots_in T F ss)) case_labels case_trees (map labeled all) i labels (map (part_tree T) ks) (kept T F) (labeled x) (raw_at labeled all i d more)
-        (x.0.now, option_map (part_tree T) p) nls (map (part_tree T) nks)
-        (ap (λ o. o >>= λ t. Some (x.0.now, t)) (e T F))
-        (el ∙ ap (λ c. labels ++ (x.0.now, c) ∷ []) (mark ∙ sym (given_mark (part_tree T) p)))
-        (ap (map (part_tree T)) ek ∙ (map-append (part_tree T) ks (option_to_list p) ∙ ap (λ ts. map (part_tree T) ks ++ ts) (given_list (part_tree T) p)))
+        (x.0.now, option_map (part_tree T) p) nls (map (part_tree T) nks) (ap (λ o. o >>= λ t. Some (x.0.now, t)) (e T F))
+        (el ∙ ap (λ c. labels ++ (x.0.now, c) ∷ []) (mark ∙ sym ((search std_rules))))
+        (ap (map (part_tree T)) ek ∙ (map-append (part_tree T) ks (option_to_list p) ∙ ap (λ ts. map (part_tree T) ks ++ ts) ((search std_rules))))
 
     pub case_refused : (e : Refusal) → ((T : List Tree) (F : List Signature) → Refuses e (payload (value_type (slots_in T F ss)) (get_or all i d).1)) → (T : List Tree) (F : List Signature)
         → Refuses e (each (case_type (slots_in T F ss)) (map labeled all))

@@ -5,24 +5,22 @@ use Rattle.std.specs.List.{AllByRecursion, flat_map, list_any}
 use Rattle.wit_model.specs.{Meaning.Signature, Tree.Place, Tree.Tree}
 use Rattle.comp_bytes.specs.RawOf.{text_of}
 use Rattle.comp_meaning.specs.Follow.{Scope as MeantScope, Seen as MeantSeen, Shown as MeantShown, Instance as MeantInstance, Slot as Meant, in_scope, see}
-use Rattle.read_follow.specs.declared.{instance_keys.InstanceKey.InstanceKey, scopes.Instance.Instance, scopes.Seen.Seen, scopes.Shown.Shown, slots.Slot.Slot}
+use Rattle.read_follow.specs.declared.{scopes.Instance.Instance, scopes.Seen.Seen, scopes.Shown.Shown, slots.Slot.Slot}
 use Rattle.read_follow.specs.declared.views.View.{View}
 use Rattle.read_follow.specs.{Defining.Grows, Following.AreSlotsIn, Following.AreTables, Following.IsShownFunctionIn, Following.IsShownIn, Following.IsSlotIn}
 use Rattle.read_follow.specs.Functions.{functions_in, FunctionShape}
 use Rattle.read_follow.specs.Numbering.{all_in, bare_parts, scoped_trees, slot_trees, trees_since, used_trees, CountUp}
-use Rattle.read_follow.specs.{Places.key_at, Places.ArePlacesOf, Places.IsKeyIn, Slots.no_signature, Slots.slot_in, Slots.slots_in}
+use Rattle.read_follow.specs.{Places.key_at, Places.ArePlacesOf, Slots.no_signature, Slots.slot_in, Slots.slots_in}
 use Rattle.read_follow.specs.Scopes.{direction, instance_in, meant_at, seen_in, shown_in, view_in, viewed, waiting, ArePathsInOrder, ArePathsMet, AreScopedIn, AreSeenIn, Goes, IsInstanceIn, IsPlaceMet, IsPlaceMetBefore, IsPlacedWorld, IsShownAs, IsWorld, Numbers, World}
 use Rattle.plan_meaning.specs.Shapes.{Shape, shape_trees}
-use Rattle.read_follow.proofs.{DefiningLaws.all_at, DefiningLaws.longer, NumberingLaws.since_plus, PlacedLaws.stands_on, PlacedLaws.stood}
+use Rattle.read_follow.proofs.{DefiningLaws.all_at, DefiningLaws.longer, DefiningLaws.map_so, NumberingLaws.since_plus, PlacedLaws.stands_on, PlacedLaws.stood}
 use Rattle.read_follow.proofs.FollowingLaws.{declared_stays, functions_stay, signature_stays, slots_stay, types_stay, wider_declared, wider_functions, wider_number, wider_part, wider_slots, wider_types}
-use Rattle.base_lemmas.proofs.{Elements.all_both, Lists.length_of_map, Lists.slice_front, Lists.split_at}
+use Rattle.base_lemmas.proofs.{Bools.or_true, Elements.all_both, Lists.length_of_map, Lists.slice_front, Lists.split_at}
+use Rattle.plan_meaning.proofs.Lists.{each_so}
 use Rattle.read_follow.specs.declared.scopes.Shown.TheVariants as shown
 use Rattle.read_follow.specs.declared.slots.Slot.TheVariants as slots
 
 -- ---- what is well-formed stays so
-
-key_wider : (paths more : List (Option (List ℕ))) → Grows paths more → (k : InstanceKey) → IsKeyIn paths k → IsKeyIn more k
-key_wider paths more g k h = search (std_rules, slice_front, found_below)
 
 -- what a scope stands for, with these more
 abbrev pub plus : MeantScope → List Meant → List MeantInstance → List MeantSeen → List MeantSeen → List ℕ → MeantScope
@@ -60,8 +58,7 @@ all_before paths is q path at = inl (found_below paths q (Some path) at)
 
 -- places that were met, and more of them
 pub paths_met : (old more : List (Option (List ℕ))) → Grows old more → (is all : List Instance) → Grows is all
-    → ((q : ℕ) (path : List ℕ) → slice_get more q ≡ Some (Some path) → (q < length old) ⊎ IsPlaceMet all q)
-    → (before : ℕ) → ArePathsMet before old is → ArePathsMet before more all
+    → ((q : ℕ) (path : List ℕ) → slice_get more q ≡ Some (Some path) → (q < length old) ⊎ IsPlaceMet all q) → (before : ℕ) → ArePathsMet before old is → ArePathsMet before more all
 paths_met old more gp is all gi new before h q path at = elim (new q path at) [
   | inl below ↦ elim (h q path (stood old more gp q (Some path) below at)) [ inl first ↦ inl first | inr met ↦ inr (met_still is all gi q met) ]
   | inr met ↦ inr met
@@ -104,40 +101,29 @@ module _ (old more : List (Option (List ℕ))) (gp : Grows old more) (is xs : Li
 
 -- ---- a scope with something more
 
+-- a world by its parts
+abbrev pub world_with : ℕ → List Shape → List FunctionShape → List (Option (List ℕ)) → List Slot → List Instance → List Seen → List Seen → List ℕ → World
+world_with home shapes fs paths ss is im ex us = record { home = home; shapes = shapes; signatures = fs; paths = paths; slots = ss; instances = is; imports = im; exports = ex; used = us }
+
 module _ (old : World) (st : IsWorld old) (more : List Shape) (more_fs : List FunctionShape) (more_paths : List (Option (List ℕ)))
     (gs : Grows old.shapes more) (gf : Grows old.signatures more_fs) (gp : Grows old.paths more_paths) (tables : AreTables (length more_paths) more more_fs)
     (ss : List Slot) (xs : List Instance) (im ex : List Seen) (us : List ℕ) where
   abbrev pub extended : World
-  extended = record {
-    home = old.home;
-    shapes = more;
-    signatures = more_fs;
-    paths = more_paths;
-    slots = old.slots ++ ss;
-    instances = old.instances ++ xs;
-    imports = old.imports ++ im;
-    exports = old.exports ++ ex;
-    used = old.used ++ us;
-  }
+  extended = world_with old.home more more_fs more_paths (old.slots ++ ss) (old.instances ++ xs) (old.imports ++ im) (old.exports ++ ex) (old.used ++ us)
 
   abbrev m : ℕ
   m = length old.paths
 
-  wider_instances : (is : List Instance) → AllByRecursion (IsInstanceIn old.shapes old.signatures old.paths) is → AllByRecursion (IsInstanceIn more more_fs more_paths) is
-  wider_instances [] h = tt
-  wider_instances (i ∷ is) h = search (std_rules, longer, wider_types, wider_functions, wider_instances is h.1)
+  wider_instance : (i : Instance) → IsInstanceIn old.shapes old.signatures old.paths i → IsInstanceIn more more_fs more_paths i
+  wider_instance i h = search (std_rules, longer, wider_types, wider_functions)
 
   more_instances : length old.instances ≤ length (old.instances ++ xs)
   more_instances = let long = length-append old.instances xs in omega (arith, long)
 
   wider_shown : (s : Shown) → IsShownAs old.shapes old.signatures old.paths (length old.instances) s → IsShownAs more more_fs more_paths (length (old.instances ++ xs)) s
-  wider_shown (shown.Instance key n) h = (key_wider old.paths more_paths gp key h.0, (let below = h.1 in let long = more_instances in omega (arith, below, long)))
+  wider_shown (shown.Instance key n) h = ((search (std_rules, slice_front, found_below)), (let below = h.1 in let long = more_instances in omega (arith, below, long)))
   wider_shown (shown.Function name f) h = wider_number m old.shapes more old.signatures more_fs st.tables gs gf f h
   wider_shown (shown.Type name part d) h = (wider_part m old.shapes more old.signatures more_fs st.tables gs gf part h.0, wider_declared m old.shapes more old.signatures more_fs st.tables gs gf d h.1)
-
-  wider_seen : (seen : List Seen) → AreSeenIn old.shapes old.signatures old.paths (length old.instances) seen → AreSeenIn more more_fs more_paths (length (old.instances ++ xs)) seen
-  wider_seen [] h = tt
-  wider_seen (s ∷ seen) h = (wider_shown s.shown h.0, wider_seen seen h.1)
 
   pub extended_world : AreSlotsIn more more_fs ss → AllByRecursion (IsInstanceIn more more_fs more_paths) xs → AreSeenIn more more_fs more_paths (length (old.instances ++ xs)) im
       → AreSeenIn more more_fs more_paths (length (old.instances ++ xs)) ex → IsWorld extended
@@ -145,9 +131,11 @@ module _ (old : World) (st : IsWorld old) (more : List Shape) (more_fs : List Fu
     tables = tables;
     own = ap (λ (ps : List (Option (List ℕ))). slice_get ps old.home) gp.is ∙ (slice_front old.paths gp.more old.home (found_below old.paths old.home None st.own) ∙ st.own);
     slots = all_both (IsSlotIn more more_fs) old.slots ss (wider_slots m old.shapes more old.signatures more_fs st.tables gs gf old.slots st.slots) hs;
-    instances = all_both (IsInstanceIn more more_fs more_paths) old.instances xs (wider_instances old.instances st.instances) hx;
-    imports = all_both (λ (s : Seen). IsShownAs more more_fs more_paths (length (old.instances ++ xs)) s.shown) old.imports im (wider_seen old.imports st.imports) hi;
-    exports = all_both (λ (s : Seen). IsShownAs more more_fs more_paths (length (old.instances ++ xs)) s.shown) old.exports ex (wider_seen old.exports st.exports) he;
+    instances = all_both (IsInstanceIn more more_fs more_paths) old.instances xs (each_so _ _ wider_instance old.instances st.instances) hx;
+    imports = all_both (λ (s : Seen). IsShownAs more more_fs more_paths (length (old.instances ++ xs)) s.shown) old.imports im
+        (each_so _ _ (λ (s : Seen). wider_shown s.shown) old.imports st.imports) hi;
+    exports = all_both (λ (s : Seen). IsShownAs more more_fs more_paths (length (old.instances ++ xs)) s.shown) old.exports ex
+        (each_so _ _ (λ (s : Seen). wider_shown s.shown) old.exports st.exports) he;
   }
 
   module _ (place : ℕ → Place) where
@@ -171,25 +159,22 @@ module _ (old : World) (st : IsWorld old) (more : List Shape) (more_fs : List Fu
     }
 
     instances_stay : (is : List Instance) → AllByRecursion (IsInstanceIn old.shapes old.signatures old.paths) is → map (instance_in place U G) is ≡ map (instance_in place T F) is
-    instances_stay [] h = refl
-    instances_stay (x ∷ is) h = λ i. record { interface = (instance_in place T F x).interface; view = view_stays x.view h.0.types h.0.functions i } ∷ instances_stay is h.1 i
+    instances_stay is h = map_so (IsInstanceIn old.shapes old.signatures old.paths) (instance_in place U G) (instance_in place T F)
+        (λ x b i. record { interface = (instance_in place T F x).interface; view = view_stays x.view b.types b.functions i }) is h
 
     viewed_same : (o : Option Instance) (n : ℕ) → slice_get old.instances n ≡ o → viewed U G o ≡ viewed T F o
     viewed_same None n e = refl
     viewed_same (Some x) n e = let h = all_at (IsInstanceIn old.shapes old.signatures old.paths) old.instances n x st.instances e in view_stays x.view h.types h.functions
 
-    viewed_stays : (n : ℕ) → n < length old.instances → viewed U G (slice_get (old.instances ++ xs) n) ≡ viewed T F (slice_get old.instances n)
-    viewed_stays n below = ap (viewed U G) (slice_front old.instances xs n below) ∙ viewed_same (slice_get old.instances n) n refl
-
     shown_stays : (s : Shown) → IsShownAs old.shapes old.signatures old.paths (length old.instances) s → shown_in place U G (old.instances ++ xs) s ≡ shown_in place T F old.instances s
-    shown_stays (shown.Instance key n) h = ap (MeantShown.instance (key_at place key)) (viewed_stays n h.1)
+    shown_stays (shown.Instance key n) h = ap (MeantShown.instance (key_at place key)) ((ap (viewed U G) (slice_front old.instances xs n h.1) ∙ viewed_same (slice_get old.instances n) n refl))
     shown_stays (shown.Function name f) h = ap (λ o. MeantShown.function (unwrap_or o no_signature)) (signature_stays m old.shapes more old.signatures more_fs st.tables gs gf place f h)
     shown_stays (shown.Type name part d) h = ap MeantShown.declares (declared_stays m old.shapes more old.signatures more_fs st.tables gs gf place d h.1)
 
     seen_stays : (seen : List Seen) → AreSeenIn old.shapes old.signatures old.paths (length old.instances) seen
         → map (seen_in place U G (old.instances ++ xs)) seen ≡ map (seen_in place T F old.instances) seen
-    seen_stays [] h = refl
-    seen_stays (s ∷ seen) h = λ i. record { key = (seen_in place T F old.instances s).key; shown = shown_stays s.shown h.0 i; external_id = option_map text_of s.external_id } ∷ seen_stays seen h.1 i
+    seen_stays seen h = map_so (λ (s : Seen). IsShownAs old.shapes old.signatures old.paths (length old.instances) s.shown) (seen_in place U G (old.instances ++ xs)) (seen_in place T F old.instances)
+        (λ s b i. record { key = (seen_in place T F old.instances s).key; shown = shown_stays s.shown b i; external_id = option_map text_of s.external_id }) seen h
 
     slots_plus : slots_in U G (old.slots ++ ss) ≡ slots_in T F old.slots ++ slots_in U G ss
     slots_plus = map-append (slot_in U G) old.slots ss ∙ ap (λ zs. zs ++ slots_in U G ss) (slots_stay m old.shapes more old.signatures more_fs st.tables gs gf place old.slots st.slots)
@@ -216,8 +201,7 @@ module _ (old : World) (st : IsWorld old) (more : List Shape) (more_fs : List Fu
   IsNumbered parts = CountUp (length old.shapes) (bare_parts parts) (length more)
       × ((place : ℕ → Place) → ArePlacesOf more_paths place
       → all_in None (flat_map slot_trees (slots_in (U place) (G place) ss))
-      ++ used_trees (slots_in (U place) (G place) (old.slots ++ ss)) (length old.instances) (map (instance_in place (U place) (G place)) xs) us
-      ≡ scoped_trees (U place) parts)
+      ++ used_trees (slots_in (U place) (G place) (old.slots ++ ss)) (length old.instances) (map (instance_in place (U place) (G place)) xs) us ≡ scoped_trees (U place) parts)
       × ((base : List Shape) (places : ℕ) → IsPlacedWorld base places extended → AreScopedIn extended parts)
 
   numbers_on : (parts : List (Option ℕ × ℕ)) → IsNumbered parts → Numbers old extended
@@ -227,24 +211,20 @@ module _ (old : World) (st : IsWorld old) (more : List Shape) (more_fs : List Fu
     trees = λ place of.
         let S = slots_in (U place) (G place) ss in
         let X = map (instance_in place (U place) (G place)) xs in
-        ap (trees_since (meant_at place old)) (extended_meant place)
-        ∙ (since_plus (meant_at place old) S X (map (seen_in place (U place) (G place) (old.instances ++ xs)) im) (map (seen_in place (U place) (G place) (old.instances ++ xs)) ex) us
-        ∙ ((λ i. all_in None (flat_map slot_trees S) ++ used_trees (sym (slots_plus place) i) (length_of_map (instance_in place (T place) (F place)) old.instances i) X us)
-        ∙ is.1 place of));
+        ap (trees_since (meant_at place old)) (extended_meant place) ∙ (since_plus (meant_at place old) S X (map (seen_in place (U place) (G place) (old.instances ++ xs)) im)
+        (map (seen_in place (U place) (G place) (old.instances ++ xs)) ex) us
+        ∙ ((λ i. all_in None (flat_map slot_trees S) ++ used_trees (sym (slots_plus place) i) (length_of_map (instance_in place (T place) (F place)) old.instances i) X us) ∙ is.1 place of));
     scoped = is.2;
   }
 
   -- the step of the definition makes the scope that stands for it
   pub goes_on : (few : ℕ) (step : MeantScope → Option MeantScope) (new : World) → new ≡ extended → IsWorld extended
       → ((base : List Shape) (places : ℕ) → IsPlacedWorld base places old → IsPlacedWorld base places extended)
-      → ((q : ℕ) (path : List ℕ) → slice_get more_paths q ≡ Some (Some path) → (q < length old.paths) ⊎ IsPlaceMet (old.instances ++ xs) q)
-      → StandBehind (length old.paths) more_paths xs
-      → length more + waiting (old.used ++ us) 0 (old.slots ++ ss) ≤ length old.shapes + waiting old.used 0 old.slots + few
-      → (parts : List (Option ℕ × ℕ)) → IsNumbered parts
+      → ((q : ℕ) (path : List ℕ) → slice_get more_paths q ≡ Some (Some path) → (q < length old.paths) ⊎ IsPlaceMet (old.instances ++ xs) q) → StandBehind (length old.paths) more_paths xs
+      → length more + waiting (old.used ++ us) 0 (old.slots ++ ss) ≤ length old.shapes + waiting old.used 0 old.slots + few → (parts : List (Option ℕ × ℕ)) → IsNumbered parts
       → ((place : ℕ → Place) → ArePlacesOf more_paths place
       → step (meant_at place old) ≡ Some (plus (meant_at place old) (slots_in (U place) (G place) ss) (map (instance_in place (U place) (G place)) xs)
-      (map (seen_in place (U place) (G place) (old.instances ++ xs)) im) (map (seen_in place (U place) (G place) (old.instances ++ xs)) ex) us))
-      → Goes few step old new
+      (map (seen_in place (U place) (G place) (old.instances ++ xs)) im) (map (seen_in place (U place) (G place) (old.instances ++ xs)) ex) us)) → Goes few step old new
   goes_on few step new e world placed met behind count parts numbered follows = subst (λ (w : World). Goes few step old w) (sym e) (record {
     world = world;
     shapes_grow = gs;
@@ -253,8 +233,7 @@ module _ (old : World) (st : IsWorld old) (more : List Shape) (more_fs : List Fu
     count = count;
     placed = placed;
     met = paths_met old.paths more_paths gp old.instances (old.instances ++ xs) (record { more = xs; is = refl }) met;
-    order = λ before was. paths_in_order old.paths more_paths gp old.instances xs (λ j x at. (all_at (IsInstanceIn old.shapes old.signatures old.paths) old.instances j x st.instances at).place)
-        behind before was;
+    order = λ before was. paths_in_order old.paths more_paths gp old.instances xs (λ j x at. (all_at _ _ j x st.instances at).place) behind before was;
     numbers = numbers_on parts numbered;
     home = refl;
     instances_grow = record { more = xs; is = refl };
@@ -269,6 +248,13 @@ waits (slots.Value part) = 0
 waits (slots.Resource part) = 0
 waits (slots.Function f) = 0
 waits (slots.Instance b around) = b.count
+
+none_either : (b : Bool) (n : ℕ) → cond b n n ≡ n
+none_either x n = search std_rules
+
+-- one slot behind the other
+waiting_more : (used : List ℕ) (n : ℕ) (x : Slot) (ss : List Slot) → waiting used n (x ∷ ss) ≡ cond (list_any (λ m. m == n) used) 0 (waits x) + waiting used (suc n) ss
+waiting_more used n x ss = search (std_rules, none_either)
 
 pub waiting_push : (used : List ℕ) (n : ℕ) (ss : List Slot) (s : Slot) → waiting used n (ss ++ s ∷ []) ≤ waiting used n ss + waits s
 waiting_push used n [] (slots.Value part) = omega arith
@@ -289,47 +275,23 @@ fewer x b k = search std_rules
 
 waiting_fewer : (used : List ℕ) (m n : ℕ) (ss : List Slot) → waiting (used ++ m ∷ []) n ss ≤ waiting used n ss
 waiting_fewer used m n [] = omega arith
-waiting_fewer used m n (slots.Value part ∷ ss) = waiting_fewer used m (suc n) ss
-waiting_fewer used m n (slots.Resource part ∷ ss) = waiting_fewer used m (suc n) ss
-waiting_fewer used m n (slots.Function f ∷ ss) = waiting_fewer used m (suc n) ss
-waiting_fewer used m n (slots.Instance b around ∷ ss) = search (std_rules, any_more, fewer, waiting_fewer used m (suc n) ss)
+waiting_fewer used m n (x ∷ ss) =
+    let same = ap (λ u. cond u 0 (waits x)) (any_more used m n) in
+    omega (arith, same, waiting_more (used ++ m ∷ []) n x ss, waiting_more used n x ss, fewer (list_any (λ k. k == n) used) (m == n) (waits x), waiting_fewer used m (suc n) ss)
 
 -- what is used waits no more
 pub waiting_used : (used : List ℕ) (k n : ℕ) (ss : List Slot) (s : Slot) → slice_get ss k ≡ Some s → list_any (λ m. m == n + k) used ≡ false
     → waiting (used ++ (n + k) ∷ []) n ss + waits s ≤ waiting used n ss
 waiting_used used k n [] s at unused = absurd cc
-waiting_used used zero n (x ∷ ss) s at unused = here x (let same : x ≡ s = cc in same)
-  where
-    zeroth : n + 0 ≡ n
-    zeroth = omega arith
-
-    here : (x : Slot) → x ≡ s → waiting (used ++ (n + 0) ∷ []) n (x ∷ ss) + waits s ≤ waiting used n (x ∷ ss)
-    here (slots.Value part) e = let none = ap waits (sym e) in let rest = waiting_fewer used (n + 0) (suc n) ss in omega (arith, none, rest)
-    here (slots.Resource part) e = let none = ap waits (sym e) in let rest = waiting_fewer used (n + 0) (suc n) ss in omega (arith, none, rest)
-    here (slots.Function f) e = let none = ap waits (sym e) in let rest = waiting_fewer used (n + 0) (suc n) ss in omega (arith, none, rest)
-    here (slots.Instance b around) e =
-        let count = ap waits (sym e) in
-        let rest = waiting_fewer used (n + 0) (suc n) ss in
-        let now = ap (λ u. cond u 0 b.count) (any_more used (n + 0) n ∙ (ap (λ u. list_any (λ m. m == n) used || u) (eq-eqb (n + 0) n zeroth) ∙ last (list_any (λ m. m == n) used))) in
-        let before = ap (λ u. cond u 0 b.count) (ap (λ j. list_any (λ m. m == j) used) (sym zeroth) ∙ unused) in
-        omega (arith, count, rest, now, before)
-      where
-        last : (u : Bool) → (u || true) ≡ true
-        last true = refl
-        last false = refl
-waiting_used used (suc k) n (x ∷ ss) s at unused = there x (waiting_used used k (suc n) ss s at (ap (λ j. list_any (λ m. m == j) used) moved ∙ unused))
-  where
-    moved : suc n + k ≡ n + suc k
-    moved = omega arith
-
-    there : (x : Slot) → waiting (used ++ (suc n + k) ∷ []) (suc n) ss + waits s ≤ waiting used (suc n) ss → waiting (used ++ (n + suc k) ∷ []) n (x ∷ ss) + waits s ≤ waiting used n (x ∷ ss)
-    there x h = by x (subst (λ j. waiting (used ++ j ∷ []) (suc n) ss + waits s ≤ waiting used (suc n) ss) moved h)
-      where
-        by : (x : Slot) → waiting (used ++ (n + suc k) ∷ []) (suc n) ss + waits s ≤ waiting used (suc n) ss → waiting (used ++ (n + suc k) ∷ []) n (x ∷ ss) + waits s ≤ waiting used n (x ∷ ss)
-        by (slots.Value part) h = h
-        by (slots.Resource part) h = h
-        by (slots.Function f) h = h
-        by (slots.Instance b around) h =
-            let same = ap (λ u. cond u 0 b.count) (any_more used (n + suc k) n) in
-            let less = fewer (list_any (λ j. j == n) used) ((n + suc k) == n) b.count in
-            omega (arith, h, same, less)
+waiting_used used zero n (x ∷ ss) s at unused =
+    let same : x ≡ s = cc in
+    let zeroth : n + 0 ≡ n = omega arith in
+    let count = ap waits same in
+    let now = ap (λ u. cond u 0 (waits x)) (any_more used (n + 0) n ∙ (ap (λ u. list_any (λ m. m == n) used || u) (eq-eqb (n + 0) n zeroth) ∙ or_true (list_any (λ m. m == n) used))) in
+    let before = ap (λ u. cond u 0 (waits x)) (ap (λ j. list_any (λ m. m == j) used) (sym zeroth) ∙ unused) in
+    omega (arith, count, waiting_fewer used (n + 0) (suc n) ss, now, before, waiting_more (used ++ (n + 0) ∷ []) n x ss, waiting_more used n x ss)
+waiting_used used (suc k) n (x ∷ ss) s at unused =
+    let moved : suc n + k ≡ n + suc k = omega arith in
+    let h = subst (λ j. waiting (used ++ j ∷ []) (suc n) ss + waits s ≤ waiting used (suc n) ss) moved (waiting_used used k (suc n) ss s at (ap (λ j. list_any (λ m. m == j) used) moved ∙ unused)) in
+    let same = ap (λ u. cond u 0 (waits x)) (any_more used (n + suc k) n) in
+    omega (arith, h, same, fewer (list_any (λ j. j == n) used) ((n + suc k) == n) (waits x), waiting_more (used ++ (n + suc k) ∷ []) n x ss, waiting_more used n x ss)

@@ -6,7 +6,7 @@ use Rattle.wit_model.specs.{Meaning.Signature, Text.Text, Tree.Place, Tree.Tree}
 use Rattle.read_follow.specs.declared.{scopes.Instance.Instance, scopes.Seen.Seen, slots.Slot.Slot}
 use Rattle.read_follow.specs.{Defining.Grows, Facts.places}
 use Rattle.read_follow.specs.{Following.AreTables, Following.IsSlotIn, Placed.apart, Placed.MayMeet, Placed.SlotOver, Placed.TreeOver, Places.has_path}
-use Rattle.read_follow.specs.{Functions.functions_in, Functions.FunctionShape, Slots.resource_slot, Slots.slot_in, Slots.slots_in, Slots.AreNames, Slots.IsName}
+use Rattle.read_follow.specs.{Functions.functions_in, Functions.FunctionShape, Slots.slot_in, Slots.slots_in, Slots.AreNames}
 use Rattle.read_follow.specs.Numbering.{all_in, bare_parts, parts_in, slot_parts, slot_trees, CountUp}
 use Rattle.read_follow.specs.Scopes.{meant_at, AreScopedIn, IsPartOver, IsScopedIn, IsWorld, World}
 use Rattle.plan_meaning.specs.Shapes.{Shape, part_tree, shape_trees}
@@ -17,15 +17,12 @@ use Rattle.read_follow.specs.declared.slots.Slot.TheVariants as slots
 
 -- ---- slots
 
-name_part_over : (P : Place → Type 0) (t : Tree) → IsName t → SlotOver P (resource_slot t) → TreeOver P t
-name_part_over x y h over = search std_rules
-
 -- the parts of slots are over what the slots are over
 pub parts_over : (P : Place → Type 0) (T : List Tree) (F : List Signature) (ss : List Slot) → AreNames T ss → AllByRecursion (SlotOver P) (slots_in T F ss)
     → AllByRecursion (λ part. TreeOver P (part_tree T part)) (parts_in ss)
 parts_over P T F [] h over = tt
 parts_over P T F (slots.Value part ∷ ss) h over = (over.0, parts_over P T F ss h over.1)
-parts_over P T F (slots.Resource part ∷ ss) h over = (name_part_over P (part_tree T part) h.0 over.0, parts_over P T F ss h.1 over.1)
+parts_over P T F (slots.Resource part ∷ ss) h over = ((search std_rules), parts_over P T F ss h.1 over.1)
 parts_over P T F (slots.Function n ∷ ss) h over = parts_over P T F ss h over.1
 parts_over P T F (slots.Instance b n ∷ ss) h over = parts_over P T F ss h over.1
 
@@ -42,8 +39,7 @@ instance_scoped w j x at (p ∷ ps) h = ((x, at, h.0), instance_scoped w j x at 
 -- they stay in it when it goes on
 module _ (old new : World) (gs : Grows old.shapes new.shapes) (gp : Grows old.paths new.paths) (home : new.home ≡ old.home) (gi : Grows old.instances new.instances) where
   still_over : (q part : ℕ) → part < 14 + length old.shapes → IsPartOver old q part → IsPartOver new q part
-  still_over q part low over x c =
-      met_wider old.paths new.paths gp q x (over x (subst (λ (t : Tree). Contains (places t) x) (part_grown apart old.shapes new.shapes gs part low) c))
+  still_over q part low over x c = met_wider old.paths new.paths gp q x (over x (subst (λ (t : Tree). Contains (places t) x) (part_grown apart old.shapes new.shapes gs part low) c))
 
   pub still_scoped : (s : Option ℕ) (part : ℕ) → part < 14 + length old.shapes → IsScopedIn old s part → IsScopedIn new s part
   still_scoped None part low over = subst (λ (q : ℕ). IsPartOver new q part) (sym home) (still_over old.home part low over)
@@ -66,8 +62,7 @@ module _ (old : World) (st : IsWorld old) (more : List Shape) (more_fs : List Fu
         let U = shape_trees place more in
         let G = functions_in U more_fs in
         append-nil (all_in None (flat_map slot_trees (slots_in U G (s ∷ []))))
-        ∙ (ap (all_in None) (slots_declare U G (s ∷ []) (names_of place more more_fs (s ∷ []) tables.table (inside, tt)))
-        ∙ scoped_all U None (parts_in (s ∷ [])))),
+        ∙ (ap (all_in None) (slots_declare U G (s ∷ []) (names_of place more more_fs (s ∷ []) tables.table (inside, tt))) ∙ scoped_all U None (parts_in (s ∷ [])))),
     (λ base places p.
         let U = shape_trees apart more in
         let G = functions_in U more_fs in

@@ -85,5 +85,4 @@ module _ (bytes : List ℕ) where
 
   pub behind_preamble : (rest : List ℕ) (found : Option (List Piece)) → starts_with nat_eq bytes preamble ≡ true → length bytes ≤ 4294967295 → rest ≡ drop 8 bytes → pieces_in rest ≡ found
       → levels_of bytes ≡ found
-  behind_preamble rest found begins short is e =
-      tested true true begins (lt-ltb _ _ (omega (arith, short))) ∙ (ap pieces_in (sym is) ∙ e)
+  behind_preamble rest found begins short is e = tested true true begins (lt-ltb _ _ (omega (arith, short))) ∙ (ap pieces_in (sym is) ∙ e)

@@ -9,7 +9,7 @@ use Rattle.comp_meaning.specs.Follow.{InstanceScope as MeantScope, Slot as Meant
 use Rattle.read_follow.specs.declared.{names.ExternName.ExternName, refusal.Refusal.Refusal, views.ShownFunction.ShownFunction, views.ShownType.ShownType}
 use Rattle.read_follow.specs.declared.{shows.NewName.NewName, slots.Slot.Slot}
 use Rattle.read_follow.specs.{ExternNames.raw_name, Found.Refuses, Functions.functions_in}
-use Rattle.read_follow.specs.Following.{declared_in, scope_at, shown_function, shown_type, signatures_at, slots_at, trees_at, AreTables, Halts, IsShownFunctionIn, IsShownIn, IsSlotIn, IsState, IsTypeSlot, State, Steps}
+use Rattle.read_follow.specs.Following.{scope_at, shown_function, shown_type, signatures_at, slots_at, trees_at, AreTables, Halts, IsShownFunctionIn, IsShownIn, IsSlotIn, IsState, IsTypeSlot, State, Steps}
 use Rattle.read_follow.specs.{InstanceScopes.name_meant, InstanceScopes.name_slot, InstanceScopes.named_by, Numbering.slot_parts, Numbering.CountUp}
 use Rattle.read_follow.specs.Placed.{apart, slot_part, DeclarationOver, MayMeet, SlotOver, ViewOver}
 use Rattle.read_follow.specs.Slots.{no_signature, resource_slot, slot_in, slots_in, AreInRange, AreNames, IsName}
@@ -58,14 +58,13 @@ module _ (marks : List Bool) (old : State) (st : IsState (length marks) old) (na
         → Steps marks here 1 (λ place. show_function (raw_name name) n) old (record { shapes = old.shapes; signatures = old.signatures; slots = old.slots; types = old.types; functions = fs })
     function_shown here k fs at found last =
         let f : ShownFunction = record { name = name.text; function = k; external_id = name.external_id } in
-        let inside : k < length old.signatures = all_at (IsSlotIn old.shapes old.signatures) old.slots n (slots.Function k) st.slots at in
         record {
           state = record {
             tables = st.tables;
             slots = st.slots;
             types = st.types;
             functions = subst (λ (xs : List ShownFunction). AllByRecursion (IsShownFunctionIn old.signatures) xs) (sym last)
-                (all_end (IsShownFunctionIn old.signatures) old.functions f st.functions inside);
+                (all_end (IsShownFunctionIn old.signatures) old.functions f st.functions (all_at (IsSlotIn old.shapes old.signatures) old.slots n (slots.Function k) st.slots at));
           };
           shapes_grow = same_list old.shapes;
           signatures_grow = same_list old.signatures;
@@ -81,27 +80,24 @@ module _ (marks : List Bool) (old : State) (st : IsState (length marks) old) (na
               (function_over_more P (scope_at apart old).shown p.shown (shown_function F f)
               (all_at (SlotOver P) (slots_at apart old old.slots) n (slot_in T F (slots.Function k)) p.slots (at_slot old.slots n T F (slots.Function k) at))))
               refl (no_shapes old.shapes);
-          follows = λ place marked.
-              ap (λ o. o >>= λ g. Some (record {
-                slots = slots_at place old old.slots;
-                shown = record {
-                  types = (scope_at place old).shown.types;
-                  functions = map (shown_function (signatures_at place old)) old.functions ++ (name.text.now, record { signature = g; external_id = (raw_name name).external_id }) ∷ [];
-                };
-              })) (found (trees_at place old) (signatures_at place old))
-              ∙ (λ i. Some (record {
-                slots = slots_at place old old.slots;
-                shown = record {
-                  types = (scope_at place old).shown.types;
-                  functions = sym (ap (map (shown_function (signatures_at place old))) last ∙ map-append (shown_function (signatures_at place old)) old.functions (f ∷ [])) i;
-                };
-              }));
+          follows = λ place marked. ap (λ o. o >>= λ g. Some (record {
+            slots = slots_at place old old.slots;
+            shown = record {
+              types = (scope_at place old).shown.types;
+              functions = map (shown_function (signatures_at place old)) old.functions ++ (name.text.now, record { signature = g; external_id = (raw_name name).external_id }) ∷ [];
+            };
+          })) (found (trees_at place old) (signatures_at place old)) ∙ (λ i. Some (record {
+            slots = slots_at place old old.slots;
+            shown = record {
+              types = (scope_at place old).shown.types;
+              functions = sym (ap (map (shown_function (signatures_at place old))) last ∙ map-append (shown_function (signatures_at place old)) old.functions (f ∷ [])) i;
+            };
+          }));
         }
 
     pub function_absent : (e : Refusal) → ((T : List Tree) (F : List Signature) → Refuses e (function_in (slice_get (slots_in T F old.slots) n)))
         → Halts marks (λ place. show_function (raw_name name) n) old e
-    function_absent e r place marked =
-        refused e (function_in (slice_get (slots_at place old old.slots) n)) (show_function (raw_name name) n (scope_at place old))
+    function_absent e r place marked = refused e (function_in (slice_get (slots_at place old old.slots) n)) (show_function (raw_name name) n (scope_at place old))
         (λ none. ap (λ o. o >>= λ g. Some (record {
           slots = slots_at place old old.slots;
           shown = record {
@@ -124,8 +120,7 @@ module _ (marks : List Bool) (old : State) (st : IsState (length marks) old) (na
 
     pub type_absent : (e : Refusal) → ((T : List Tree) (F : List Signature) (place : Place) (x : Text) → AreNames T old.slots → Refuses e (named_type (slots_in T F old.slots) place x kind))
         → Halts marks (λ place. show_type (place here) (raw_name name) kind) old e
-    type_absent e r place marked =
-        refused e (named_type (slots_at place old old.slots) (place here) name.text.now kind) (show_type (place here) (raw_name name) kind (scope_at place old))
+    type_absent e r place marked = refused e (named_type (slots_at place old old.slots) (place here) name.text.now kind) (show_type (place here) (raw_name name) kind (scope_at place old))
         (λ none. ap (with_named (scope_at place old)) none)
         (r (trees_at place old) (signatures_at place old) (place here) name.text.now (names_of place old.shapes old.signatures old.slots st.tables.table st.slots))
 
@@ -197,27 +192,24 @@ module _ (marks : List Bool) (old : State) (st : IsState (length marks) old) (na
               let P = MayMeet marks here in
               let U = shape_trees apart more in
               let G = functions_in U old.signatures in
-              let new : State = record { shapes = more; signatures = old.signatures; slots = ss; types = ts; functions = old.functions } in
               let meant = shown_scope (length marks) old st more old.signatures gs gf tables s inside ss next t shown ts last apart in
-              let stands : slot_in U G s ≡ name_meant made.is_resource (apart here) name.text.now = ap (slot_in U G) is ∙ name_stands apart made.is_resource more number table at in
-              let over : DeclarationOver P (declared_in U made.declared) = subst (λ d. DeclarationOver P d)
-              (sym (declared_stays (length marks) old.shapes more old.signatures old.signatures st.tables gs gf apart made.declared (old_range made.declared range)))
-              (named_over P (slots_at apart old old.slots) p.slots (apart here) name.text.now kind (named_by (trees_at apart old) (apart here) name.text.now made)
-              (found (trees_at apart old) (signatures_at apart old) (apart here) name.text.now (names_of apart old.shapes old.signatures old.slots st.tables.table st.slots))) in
-              type_more marks before here old new p gs
+              type_more marks before here old (record { shapes = more; signatures = old.signatures; slots = ss; types = ts; functions = old.functions }) p gs
               (subst (λ (xs : List Meant). AllByRecursion (SlotOver P) xs) (sym (ap (λ (x : MeantScope). x.slots) meant))
-              (all_end (SlotOver P) (scope_at apart old).slots (slot_in U G s) p.slots (subst (λ x. SlotOver P x) (sym stands) (own_over made.is_resource))))
+              (all_end (SlotOver P) (scope_at apart old).slots (slot_in U G s) p.slots
+              (subst (λ x. SlotOver P x) (sym (ap (slot_in U G) is ∙ name_stands apart made.is_resource more number table at)) (own_over made.is_resource))))
               t number (ap slot_part is ∙ part_of_name made.is_resource (14 + number)) at adds table (old_range made.declared range) last
-              (subst (λ (v : follow.View). ViewOver P v) (sym (ap (λ (x : MeantScope). x.shown) meant)) (type_over_more P (scope_at apart old).shown p.shown (shown_type U G t) over));
+              (subst (λ (v : follow.View). ViewOver P v) (sym (ap (λ (x : MeantScope). x.shown) meant))
+              (type_over_more P (scope_at apart old).shown p.shown (shown_type U G t)
+              (subst (λ d. DeclarationOver P d) (sym (declared_stays (length marks) old.shapes more old.signatures old.signatures st.tables gs gf apart made.declared (old_range made.declared range)))
+              (named_over P (slots_at apart old old.slots) p.slots (apart here) name.text.now kind (named_by (trees_at apart old) (apart here) name.text.now made)
+              (found (trees_at apart old) (signatures_at apart old) (apart here) name.text.now (names_of apart old.shapes old.signatures old.slots st.tables.table st.slots))))));
           follows = λ place marked.
               let U = shape_trees place more in
-              let stands : slot_in U (functions_in U old.signatures) s ≡ name_meant made.is_resource (place here) name.text.now =
-              ap (slot_in U (functions_in U old.signatures)) is ∙ name_stands place made.is_resource more number table at in
-              let declared = declared_stays (length marks) old.shapes more old.signatures old.signatures st.tables gs gf place made.declared (old_range made.declared range) in
               ap (with_named (scope_at place old)) (found (trees_at place old) (signatures_at place old) (place here) name.text.now
-              (names_of place old.shapes old.signatures old.slots st.tables.table st.slots))
-              ∙ ((λ i. with_named (scope_at place old) (Some (sym declared i, sym stands i)))
-              ∙ ap Some (sym (shown_scope (length marks) old st more old.signatures gs gf tables s inside ss next t shown ts last place)));
+              (names_of place old.shapes old.signatures old.slots st.tables.table st.slots)) ∙ ((λ i. with_named (scope_at place old) (Some (
+                sym (declared_stays (length marks) old.shapes more old.signatures old.signatures st.tables gs gf place made.declared (old_range made.declared range)) i,
+                sym (ap (slot_in U (functions_in U old.signatures)) is ∙ name_stands place made.is_resource more number table at) i,
+              ))) ∙ ap Some (sym (shown_scope (length marks) old st more old.signatures gs gf tables s inside ss next t shown ts last place)));
         }
 
 -- ---- either of them

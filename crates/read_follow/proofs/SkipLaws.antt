@@ -14,9 +14,6 @@ behind_as f x = search std_rules
 -- ---- items, one behind the other
 
 module _ {A : Type 0} (reader : Reader A) (n i : ℕ) (bytes rest : List ℕ) (kept : behind (sequence_at reader (n - i) rest) ≡ behind (sequence_at reader n bytes)) where
-  front_dropped : (x : A) (found : Option (List A × List ℕ)) → behind (found >>= λ xs. Some (x ∷ xs.0, xs.1)) ≡ behind found
-  front_dropped x y = search std_rules
-
   one_left : (k : ℕ) (found : Option (A × List ℕ)) → reader rest ≡ found → sequence_at reader (suc k) rest ≡ (found >>= λ y. sequence_at reader k y.1 >>= λ ys. Some (y.0 ∷ ys.0, ys.1))
   unfolding sequence_at
   one_left k found e = ap (λ o. o >>= λ y. sequence_at reader k y.1 >>= λ ys. Some (y.0 ∷ ys.0, ys.1)) e
@@ -25,8 +22,7 @@ module _ {A : Type 0} (reader : Reader A) (n i : ℕ) (bytes rest : List ℕ) (k
   less h = omega (arith, h)
 
   one_passed : i < n → (x : A) (after : List ℕ) → reader rest ≡ Some (x, after) → behind (sequence_at reader (n - (i + 1)) after) ≡ behind (sequence_at reader n bytes)
-  one_passed more x after e = sym (front_dropped x (sequence_at reader (n - (i + 1)) after))
-      ∙ (sym (ap behind (ap (λ k. sequence_at reader k rest) (less more) ∙ one_left (n - (i + 1)) (Some (x, after)) e)) ∙ kept)
+  one_passed more x after e = sym ((search std_rules)) ∙ (sym (ap behind (ap (λ k. sequence_at reader k rest) (less more) ∙ one_left (n - (i + 1)) (Some (x, after)) e)) ∙ kept)
 
   pub skip_one : i < n → (after : List ℕ) → behind (reader rest) ≡ Some after → behind (sequence_at reader (n - (i + 1)) after) ≡ behind (sequence_at reader n bytes)
   skip_one more after e = let found = found_before (reader rest) after e in one_passed more found.0 after found.1

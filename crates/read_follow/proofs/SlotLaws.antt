@@ -22,9 +22,6 @@ mapped_none f [] n e = refl
 mapped_none f (y ∷ ys) zero e = absurd cc
 mapped_none f (y ∷ ys) (suc n) e = mapped_none f ys n e
 
-no_value : (t : Tree) → value_in (Some (resource_slot t)) ≡ None
-no_value x = search std_rules
-
 named_resource : (t : Tree) → IsName t → resource_in (Some (resource_slot t)) ≡ Some t
 named_resource x h = search std_rules
 
@@ -55,7 +52,7 @@ module _ (ss : List Slot) (n : ℕ) (T : List Tree) (F : List Signature) where
   value_part part e = ap value_in (at_slot (slots.Value part) e)
 
   pub value_resource : (part : ℕ) → slice_get ss n ≡ Some (slots.Resource part) → value_type (slots_in T F ss) (values.Type_ n) ≡ None
-  value_resource part e = ap value_in (at_slot (slots.Resource part) e) ∙ no_value (part_tree T part)
+  value_resource part e = ap value_in (at_slot (slots.Resource part) e) ∙ (search std_rules)
 
   pub value_function : (m : ℕ) → slice_get ss n ≡ Some (slots.Function m) → value_type (slots_in T F ss) (values.Type_ n) ≡ None
   value_function m e = ap value_in (at_slot (slots.Function m) e)

@@ -13,19 +13,10 @@ use Rattle.base_lemmas.proofs.Lists.{last_or, slice_front}
 
 table_more : (ss : List Shape) (s : Shape) → IsTable ss → IsShape (length ss) s → ((n : ℕ) → slice_get ss n ≡ Some s → ⊥) → IsTable (ss ++ s ∷ [])
 table_more ss s table shape fresh = record {
-  each = λ n x e. elim (last_or ss s n x e) [
-    | inl h ↦ table.each n x h.1
-    | inr h ↦ subst (λ m. IsShape m x) (sym h.0) (subst (IsShape (length ss)) h.1 shape)
-  ];
+  each = λ n x e. elim (last_or ss s n x e) [ inl h ↦ table.each n x h.1 | inr h ↦ subst (λ m. IsShape m x) (sym h.0) (subst (IsShape (length ss)) h.1 shape) ];
   apart = λ n m x en em. elim (last_or ss s n x en) [
-    | inl h ↦ elim (last_or ss s m x em) [
-      | inl k ↦ table.apart n m x h.1 k.1
-      | inr k ↦ absurd (fresh n (h.1 ∙ ap Some (sym k.1)))
-    ]
-    | inr h ↦ elim (last_or ss s m x em) [
-      | inl k ↦ absurd (fresh m (k.1 ∙ ap Some (sym h.1)))
-      | inr k ↦ h.0 ∙ sym k.0
-    ]
+    | inl h ↦ elim (last_or ss s m x em) [ inl k ↦ table.apart n m x h.1 k.1 | inr k ↦ absurd (fresh n (h.1 ∙ ap Some (sym k.1))) ]
+    | inr h ↦ elim (last_or ss s m x em) [ inl k ↦ absurd (fresh m (k.1 ∙ ap Some (sym h.1))) | inr k ↦ h.0 ∙ sym k.0 ]
   ];
 }
 
@@ -48,8 +39,7 @@ pub part_kept : (T U : List Tree) (k : ℕ) → k < 14 + length T → part_tree 
 part_kept T U k h = elim (split_part k) [
   | inl small ↦ part_front (T ++ U) k small ∙ sym (part_front T k small)
   | inr m ↦
-      let below : m.0 < length T = omega (arith, h, m.1) in
-      ap (part_tree (T ++ U)) m.1 ∙ (part_behind (T ++ U) m.0 ∙ (ap (λ o. unwrap_or o no_tree) (slice_front T U m.0 below) ∙ (sym (part_behind T m.0) ∙ ap (part_tree T) (sym m.1))))
+      ap (part_tree (T ++ U)) m.1 ∙ (part_behind (T ++ U) m.0 ∙ (ap (λ o. unwrap_or o no_tree) (slice_front T U m.0 (omega (arith, h, m.1))) ∙ (sym (part_behind T m.0) ∙ ap (part_tree T) (sym m.1))))
 ]
 
 at_last : (T : List Tree) (t : Tree) → unwrap_or (slice_get (T ++ t ∷ []) (length T)) no_tree ≡ t
@@ -72,15 +62,11 @@ kept_more ss fs s f kept shape fresh one = record {
   table = table_more ss s kept.table shape fresh;
   many = length-append fs (f ∷ []) ∙ (ap (λ n. n + 1) kept.many ∙ sym (length-append ss (s ∷ [])));
   hold = λ n g e. elim (last_or fs f n g e) [
-    | inl h ↦
-        let inside : 14 + n < 14 + length ss = omega (arith, h.0, kept.many) in
-        tells_along g (λ place. part_tree (shape_trees place ss) (14 + n)) (λ place. part_tree (shape_trees place (ss ++ s ∷ [])) (14 + n)) (λ place. sym (parts_stay place ss s (14 + n) inside))
-        (kept.hold n g h.1)
-    | inr h ↦
-        let at_end : n ≡ length ss = h.0 ∙ kept.many in
-        subst (λ (x : Fact). Tells x (λ place. part_tree (shape_trees place (ss ++ s ∷ [])) (14 + n))) h.1
+    | inl h ↦ tells_along g (λ place. part_tree (shape_trees place ss) (14 + n)) (λ place. part_tree (shape_trees place (ss ++ s ∷ [])) (14 + n))
+        (λ place. sym (parts_stay place ss s (14 + n) (omega (arith, h.0, kept.many)))) (kept.hold n g h.1)
+    | inr h ↦ subst (λ (x : Fact). Tells x (λ place. part_tree (shape_trees place (ss ++ s ∷ [])) (14 + n))) h.1
         (tells_along f (λ place. shape_tree place (shape_trees place ss) s) (λ place. part_tree (shape_trees place (ss ++ s ∷ [])) (14 + n))
-        (λ place. sym (ap (λ m. part_tree (shape_trees place (ss ++ s ∷ [])) (14 + m)) at_end ∙ part_last place ss s)) one)
+        (λ place. sym (ap (λ m. part_tree (shape_trees place (ss ++ s ∷ [])) (14 + m)) (h.0 ∙ kept.many) ∙ part_last place ss s)) one)
   ];
 }
 

@@ -16,9 +16,6 @@ apart_once : (ns : List ℕ) → are_apart ◌==◌ ns ≡ are_once ns
 apart_once [] = refl
 apart_once (n ∷ ns) = λ i. not (any_flip n ns i) && apart_once ns i
 
-pub adds_once : (ns : List ℕ) → adds_new ◌==◌ [] ns ≡ are_once ns
-adds_once ns = adds_apart ◌==◌ same_flip ns ∙ apart_once ns
-
 abbrev pub itself : ℕ → ℕ
 itself n = n
 
@@ -27,7 +24,7 @@ all_itself [] = refl
 all_itself (n ∷ ns) = ap (λ ms. n ∷ ms) (all_itself ns)
 
 once_itself : (ns : List ℕ) → adds_new ◌==◌ [] (map itself ns) ≡ are_once ns
-once_itself ns = ap (adds_new ◌==◌ []) (all_itself ns) ∙ adds_once ns
+once_itself ns = ap (adds_new ◌==◌ []) (all_itself ns) ∙ (adds_apart ◌==◌ same_flip ns ∙ apart_once ns)
 
 module _ (ns : List ℕ) (i d : ℕ) (more : i < length ns) (ks : List ℕ) (r : Bool) (tells : r ≡ not (list_any (λ o. get_or ns i d == o) ks))
     (kept : adds_new ◌==◌ (map itself ks) (drop i (map itself ns)) ≡ adds_new ◌==◌ [] (map itself ns)) where

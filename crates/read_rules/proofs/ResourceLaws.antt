@@ -1,17 +1,13 @@
 -- Names of resources, added to a set one by one.
 use Rattle.std.proofs.Common.{rules as std_rules, ◌≡◌, refl, sym, ap, ◌∙◌, ℕ, ◌+◌, ◌<◌, ◌≤◌, Bool, true, false, ◌&&◌, ◌||◌, cond, List, [], ◌∷◌, ◌++◌, map, drop, length, get_or}
 use Rattle.std.proofs.Math.ListN.{drop_of_length-le}
-use Rattle.std.proofs.lemmas.{List.drop_more, List.map-append, List.Folds.list_any-append, Bool.or_right as second_of}
+use Rattle.std.proofs.lemmas.{List.drop_more, List.map-append, List.Folds.list_any-append}
 use Rattle.std.specs.{Borrow.Bor, List.list_any}
 use Rattle.wit_model.specs.Text.{Text, text_eq}
 use Rattle.plan_meaning.specs.NumberedRules.{is_no_part, resources_of}
 use Rattle.read_rules.specs.declared.views.ViewType.{ViewType}
 use Rattle.read_rules.specs.{Tables.now_of, Views.numbered_type}
 use Rattle.base_lemmas.proofs.Bools.{absorbed, or_false, or_line}
-use Rattle.wit_model.proofs.TextLemmas.{text_same as same_text}
-
-or_no : (a b : Bool) → b ≡ false → a ≡ (a || b)
-or_no x b e = search std_rules
 
 -- what passes is found where it stands
 stands : (test : Text → Bool) (a : Text) (ks : List (Bor (List ℕ))) → list_any (λ o. text_eq a o.now) ks ≡ true → test a ≡ true → list_any test (map now_of ks) ≡ true
@@ -20,25 +16,19 @@ stands test a (k ∷ ks) among passes = go (λ later. stands test a ks later pas
   where
     go : (list_any (λ o. text_eq a o.now) ks ≡ true → list_any test (map now_of ks) ≡ true) → (v : Bool) → text_eq a k.now ≡ v → (v || list_any (λ o. text_eq a o.now) ks) ≡ true
         → (test k.now || list_any test (map now_of ks)) ≡ true
-    go again true e h = ap (λ b. b || list_any test (map now_of ks)) (ap test (sym (same_text a k.now e)) ∙ passes)
-    go again false e h = second_of (test k.now) (list_any test (map now_of ks)) (again h)
+    go again x e h = search std_rules
 
 pub nothing_added : (test : Text → Bool) (ks : List (Bor (List ℕ))) (name : Bor (List ℕ)) (r : Bool) → r ≡ false
     → list_any test (map now_of ks) ≡ (list_any test (map now_of ks) || (r && test name.now))
-nothing_added test ks name r e = or_no (list_any test (map now_of ks)) (r && test name.now) (ap (λ b. b && test name.now) e)
+nothing_added test ks name r e = search std_rules
 
 pub name_added : (test : Text → Bool) (ks new : List (Bor (List ℕ))) (name : Bor (List ℕ)) (r : Bool) → r ≡ true → new ≡ cond (list_any (λ o. text_eq name.now o.now) ks) ks (ks ++ name ∷ [])
     → list_any test (map now_of new) ≡ (list_any test (map now_of ks) || (r && test name.now))
 name_added test ks new name r e added = go (list_any (λ o. text_eq name.now o.now) ks) refl ∙ ap (λ b. list_any test (map now_of ks) || (b && test name.now)) (sym e)
   where
     go : (v : Bool) → list_any (λ o. text_eq name.now o.now) ks ≡ v → list_any test (map now_of new) ≡ (list_any test (map now_of ks) || test name.now)
-    go true h =
-        ap (λ xs. list_any test (map now_of xs)) (added ∙ ap (λ b. cond b ks (ks ++ name ∷ [])) h)
-        ∙ absorbed (list_any test (map now_of ks)) (test name.now) (stands test name.now ks h)
-    go false h =
-        ap (λ xs. list_any test (map now_of xs)) (added ∙ ap (λ b. cond b ks (ks ++ name ∷ [])) h)
-        ∙ (ap (list_any test) (map-append now_of ks (name ∷ []))
-        ∙ (list_any-append test (map now_of ks) (name.now ∷ []) ∙ ap (λ b. list_any test (map now_of ks) || b) (or_false (test name.now))))
+    go true h = search (std_rules, absorbed (list_any test (map now_of ks)) (test name.now) (stands test name.now ks h), stands test name.now ks h)
+    go false h = search (std_rules, map-append, list_any-append, or_false)
 
 pub one_or_none : (test : Text → Bool) (name : Text) (others : List Text) (v : Bool) → list_any test (cond v (name ∷ others) others) ≡ ((v && test name) || list_any test others)
 one_or_none test name others x = search std_rules

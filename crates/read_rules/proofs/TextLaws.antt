@@ -11,13 +11,10 @@ use Rattle.wit_model.proofs.TextLemmas.{text_same as same_text}
 
 -- ---- one text among several
 
-one_or : (h q v : Bool) → v ≡ (h && q) → (q || v) ≡ q
-one_or x y v e = search std_rules
-
 -- of several texts, one alone can be this one
 pub any_same : (a : Text) (q : Text → Bool) (rs : List Text) → list_any (λ r. text_eq a r && q r) rs ≡ (list_any (text_eq a) rs && q a)
 any_same a q [] = refl
-any_same a q (r ∷ rs) = search (std_rules, same_text, one_or, any_same a q rs)
+any_same a q (r ∷ rs) = search (std_rules, same_text, any_same a q rs)
 
 exchange : (a b c d : Bool) → ((a || b) || (c || d)) ≡ ((a || c) || (b || d))
 exchange x b c d = search std_rules

@@ -6,7 +6,7 @@ use Rattle.std.specs.{Borrow.Bor, List.flat_map, List.list_all, List.list_any, O
 use Rattle.wit_model.specs.{Text.Text, Uses.has, Names.is_label}
 use Rattle.comp_meaning.specs.Rules.{distinct}
 use Rattle.plan_meaning.specs.{NumberedRules.is_declared, NumberedRules.is_function, NumberedRules.is_interface, NumberedViews.function_at}
-use Rattle.plan_meaning.specs.NumberedWorlds.{NumberedSeen, NumberedShown, are_imports, is_item, is_resource_seen, others_than, path_seen, place_of_key, resources_seen, stand_earlier, used_by, uses_of}
+use Rattle.plan_meaning.specs.NumberedWorlds.{NumberedSeen, are_imports, is_item, is_resource_seen, others_than, path_seen, place_of_key, resources_seen, stand_earlier, used_by, uses_of}
 use Rattle.read_rules.specs.declared.{scopes.Seen.Seen, scopes.Shown.Shown, views.View.View}
 use Rattle.read_rules.specs.declared.{tables.Tables.Tables, views.ViewType.ViewType, scopes.InstanceKey.InstanceKey, tables.FunctionType.FunctionType}
 use Rattle.read_rules.specs.{Places.places_of, Resources.AreSame, Uses.IsPlaceAdded, Uses.item_stands}
@@ -27,10 +27,6 @@ seen_behind test (x ∷ xs) s = search (std_rules, one_or_none, or_line, seen_be
 -- ---- imports
 
 module _ (t : Tables) (home : ℕ) where
-  pub same_item : (rs ss : List Text) → AreSame rs ss → (key : Text) (s : NumberedShown)
-      → is_item (numbered_tables t) (known_in t) home rs key s ≡ is_item (numbered_tables t) (known_in t) home ss key s
-  same_item rs ss same key x = search std_rules
-
   module _ (xs : List Seen) (i : ℕ) where
     abbrev before : ℕ → List NumberedSeen
     before n = map numbered_seen (take n xs)
@@ -49,7 +45,7 @@ module _ (t : Tables) (home : ℕ) where
         here : (may_be_imported t home ks (numbered_seen one) && are_imports (numbered_tables t) (known_in t) home (before i ++ numbered_seen one ∷ []) (later (i + 1))) ≡ v
         here =
             ap (λ b. b && are_imports (numbered_tables t) (known_in t) home (before i ++ numbered_seen one ∷ []) (later (i + 1)))
-            (same_item ks (resources_seen (before i)) same one.key.now (numbered_shown one.shown))
+            (search std_rules)
             ∙ (sym (ap (λ ys. are_imports (numbered_tables t) (known_in t) home (before i) (map numbered_seen ys)) (drop_more xs i d more)) ∙ kept)
 
         pub import_fails : may_be_imported t home ks (numbered_seen one) ≡ false → false ≡ v

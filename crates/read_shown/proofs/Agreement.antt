@@ -1,12 +1,10 @@
 -- Views of one path declare the same under the same names, none of which stands twice.
-use Rattle.std.proofs.Common.{rules as std_rules, ◌≡◌, ◌⊎◌, inl, inr, refl, sym, ap, subst, ◌∙◌, ℕ, zero, suc, Bool, true, false, not, ◌&&◌, ◌||◌, List, [], ◌∷◌, ◌++◌, map, length, flat_map, Option, Some, None, slice_get}
+use Rattle.std.proofs.Common.{rules as std_rules, ◌≡◌, inl, inr, refl, sym, ap, subst, ◌∙◌, ℕ, zero, suc, Bool, true, false, not, ◌&&◌, ◌||◌, List, [], ◌∷◌, ◌++◌, map, flat_map, Option, Some, None, slice_get}
 use Rattle.std.proofs.lemmas.List.Elements.{Contains-append_left, Contains-append_right}
 use Rattle.std.specs.{List.Contains, List.list_all, List.list_any, Cmp.Lexicographic.pointwise}
-use Rattle.wit_model.specs.{Text.Text, Text.text_eq, Names.PackageIdentity, Names.path_in, Meaning.TypeMeaning}
-use Rattle.wit_model.specs.Tree.{Place}
+use Rattle.wit_model.specs.{Text.Text, Names.PackageIdentity, Names.path_in, Meaning.TypeMeaning, Tree.Place}
 use Rattle.wit_model.proofs.{Elements.contains-flat, Elements.contains-get, VersionLaws.same_text}
-use Rattle.comp_meaning.specs.Follow.{View, ShownType, Instance}
-use Rattle.comp_meaning.specs.{Rules.distinct, Rules.is_interface, SameLaws.named_meaning}
+use Rattle.comp_meaning.specs.{Follow.View, Follow.ShownType, Follow.Instance, Rules.distinct, Rules.is_interface, SameLaws.named_meaning}
 use Rattle.comp_meaning.specs.Reads.{Part, Member, Sight, agree, all_agree, are_interfaces, of_instance, same_functions, same_shown, sights}
 use Rattle.comp_meaning.proofs.SameLaws.{shown_types_decide}
 use Rattle.read_shown.specs.Parts.{named_instance, instances_of}
@@ -31,26 +29,16 @@ alike_at v w same n t at =
 
 -- a name stands at one number
 pub one_number : (v : View) → NamesDiffer v → (m n : ℕ) (t u : ShownType) → slice_get v.types m ≡ Some t → slice_get v.types n ≡ Some u → t.name ≡ u.name → m ≡ n
-one_number v apart m n t u at there same =
-    one_place (map (λ (x : ShownType). x.name) v.types) apart m n u.name (mapped_get (λ (x : ShownType). x.name) v.types m t at ∙ ap Some same)
+one_number v apart m n t u at there same = one_place (map (λ (x : ShownType). x.name) v.types) apart m n u.name (mapped_get (λ (x : ShownType). x.name) v.types m t at ∙ ap Some same)
     (mapped_get (λ (x : ShownType). x.name) v.types n u there)
 
 any_front : {A : Type 0} (test : A → Bool) (xs ys : List A) → list_any test (xs ++ ys) ≡ false → list_any test xs ≡ false
 any_front test [] ys e = refl
-any_front test (x ∷ xs) ys e = by (test x) e (any_front test xs ys)
-  where
-    by : (b : Bool) → (b || list_any test (xs ++ ys)) ≡ false → (list_any test (xs ++ ys) ≡ false → list_any test xs ≡ false) → (b || list_any test xs) ≡ false
-    by true h rest = h
-    by false h rest = rest h
+any_front test (x ∷ xs) ys e = search (std_rules, any_front test xs ys)
 
 pub distinct_front : (xs ys : List Text) → distinct (xs ++ ys) ≡ true → distinct xs ≡ true
 distinct_front [] ys e = refl
-distinct_front (x ∷ xs) ys e = by (list_any (text_eq x) (xs ++ ys)) refl e (distinct_front xs ys)
-  where
-    by : (b : Bool) → list_any (text_eq x) (xs ++ ys) ≡ b → (not b && distinct (xs ++ ys)) ≡ true → (distinct (xs ++ ys) ≡ true → distinct xs ≡ true)
-        → (not (list_any (text_eq x) xs) && distinct xs) ≡ true
-    by true is h rest = absurd cc
-    by false is h rest = ap (λ c. not c && distinct xs) (any_front (text_eq x) xs ys is) ∙ rest h
+distinct_front (x ∷ xs) ys e = search (std_rules, any_front, distinct_front xs ys)
 
 -- the names of an interface differ
 pub names_differ : (place : Place) (v : View) → is_interface place v ≡ true → NamesDiffer v
@@ -59,12 +47,10 @@ names_differ place v e = search (std_rules, distinct_front)
 -- ---- all views of one path
 
 all_at : (s : Sight) (rest : List Sight) (n : ℕ) (t : Sight) → list_all (agree s) rest ≡ true → slice_get rest n ≡ Some t → s.path ≡ t.path → Alike s.view t.view
-all_at s rest n t e at same =
-    let agrees : agree s t ≡ true = all-contained (agree s) rest t e (get-contains rest n t at) in
+all_at s _ n t e at same =
     let types = pointwise same_shown s.view.types t.view.types in
     let functions = not (s.whole && t.whole) || same_functions s.view.functions t.view.functions in
-    let paths : text_eq s.path t.path ≡ true = same_text s.path t.path same in
-    (shown_types_decide s.view.types t.view.types).0 (first_true types functions (sym (ap (λ b. not b || (types && functions)) paths) ∙ agrees))
+    (shown_types_decide s.view.types t.view.types).0 (first_true _ _ (sym (ap (λ b. not b || (types && functions)) (same_text _ _ same)) ∙ all-contained _ _ t e (get-contains _ n t at)))
 
 pub sights_alike : (seen : List Sight) → all_agree seen ≡ true → (m n : ℕ) (s t : Sight) → slice_get seen m ≡ Some s → slice_get seen n ≡ Some t → s.path ≡ t.path → Alike s.view t.view
 sights_alike [] e m n s t at there same = absurd cc
@@ -83,12 +69,7 @@ pub record IsSeenIn (seen : List Sight) (path : Text) (v : View) : Type 0 where
   pub view : sight.view ≡ v
 
 of_scope : (xs : List Instance) (n : ℕ) (x : Instance) (path : Text) → slice_get xs n ≡ Some x → x.interface ≡ Some path → IsSeenIn (flat_map of_instance xs) path x.view
-of_scope xs n x path at is = record {
-  sight = s;
-  there = contains-flat of_instance xs x s (get-contains xs n x at) (by x.interface is);
-  of_path = refl;
-  view = refl;
-}
+of_scope xs n x path at is = record { sight = s; there = contains-flat of_instance xs x s (get-contains xs n x at) (by x.interface is); of_path = refl; view = refl }
   where
     s : Sight
     s = record { path = path; view = x.view; whole = true }
@@ -101,7 +82,15 @@ seen_in_part : (label : Text) (package_ : PackageIdentity) (p : Part) (n : ℕ) 
     → slice_get (instances_of (record { label = label; package_ = package_; part = p })) n ≡ Some x → x.interface ≡ Some path
     → IsSeenIn (sights (record { label = label; package_ = package_; part = p })) path x.view
 seen_in_part label package_ (Part.world scope) n x path at is = of_scope scope.instances n x path at is
-seen_in_part label package_ (Part.interface exported imports) n x path at is = by (at_end (map named_instance imports) itself x n at)
+seen_in_part label package_ (Part.interface exported imports) n x path at is = elim (at_end (map named_instance imports) itself x n at) [
+  | inl before ↦ (let i = unmapped_get named_instance imports n x before in
+      let s : Sight = record { path = i.0.0; view = i.0.1; whole = false } in
+      let seen = contains-map (λ (y : Text × View). record { path = y.0; view = y.1; whole = false }) imports i.0 (get-contains imports n i.0 i.1) in
+      let of_path = some_is i.0.0 path (ap (λ (y : Instance). y.interface) i.2 ∙ is) in
+      record { sight = s; there = Contains-append_left front (last ∷ []) s seen; of_path = of_path; view = ap (λ (y : Instance). y.view) i.2 })
+  | inr end ↦ (let of_path = some_is (path_in package_ label) path (ap (λ (y : Instance). y.interface) end.1 ∙ is) in
+      record { sight = last; there = Contains-append_right front (last ∷ []) last (contains-one last); of_path = of_path; view = ap (λ (y : Instance). y.view) end.1 })
+]
   where
     itself : Instance
     itself = named_instance (path_in package_ label, exported)
@@ -111,24 +100,6 @@ seen_in_part label package_ (Part.interface exported imports) n x path at is = b
 
     last : Sight
     last = record { path = path_in package_ label; view = exported; whole = true }
-
-    by : (slice_get (map named_instance imports) n ≡ Some x) ⊎ ((n ≡ length (map named_instance imports)) × (itself ≡ x))
-        → IsSeenIn (sights (record { label = label; package_ = package_; part = Part.interface exported imports })) path x.view
-    by (inl before) =
-        let i = unmapped_get named_instance imports n x before in
-        let s : Sight = record { path = i.0.0; view = i.0.1; whole = false } in
-        record {
-          sight = s;
-          there = Contains-append_left front (last ∷ []) s (contains-map (λ (y : Text × View). record { path = y.0; view = y.1; whole = false }) imports i.0 (get-contains imports n i.0 i.1));
-          of_path = some_is i.0.0 path (ap (λ (y : Instance). y.interface) i.2 ∙ is);
-          view = ap (λ (y : Instance). y.view) i.2;
-        }
-    by (inr end) = record {
-      sight = last;
-      there = Contains-append_right front (last ∷ []) last (contains-one last);
-      of_path = some_is (path_in package_ label) path (ap (λ (y : Instance). y.interface) end.1 ∙ is);
-      view = ap (λ (y : Instance). y.view) end.1;
-    }
 
 -- each instance of a part with a path is a sight of it
 pub seen_in_member : (m : Member) (n : ℕ) (x : Instance) (path : Text) → slice_get (instances_of m) n ≡ Some x → x.interface ≡ Some path → IsSeenIn (sights m) path x.view
@@ -147,5 +118,4 @@ paths_alike seen e path v w s t =
 
 -- and each may be an interface
 pub paths_differ : (seen : List Sight) → are_interfaces seen ≡ true → (path : Text) (v : View) → IsSeenIn seen path v → NamesDiffer v
-paths_differ seen e path v s =
-    subst NamesDiffer s.view (names_differ (Place.of_interface s.sight.path) s.sight.view (all-contained (λ (x : Sight). is_interface (Place.of_interface x.path) x.view) seen s.sight e s.there))
+paths_differ seen e path v s = subst NamesDiffer s.view (names_differ (Place.of_interface s.sight.path) s.sight.view (all-contained _ _ s.sight e s.there))

@@ -18,8 +18,7 @@ found_kind ts name = option_map slot_kind (find_type name ts)
 
 type_there : (name : Text) (ts : List ShownType) (n : ℕ) (t : ShownType) → slice_get ts n ≡ Some t → t.name ≡ name → (s : Slot) × (find_type name ts ≡ Some s)
 type_there name [] n t at is = absurd cc
-type_there name (u ∷ ts) zero t at is =
-    (u.slot, ap (λ b. cond b (Some u.slot) (find_type name ts)) (same_text name u.name (sym (ap (λ (x : ShownType). x.name) (some_is u t at) ∙ is))))
+type_there name (u ∷ ts) zero t at is = (u.slot, ap (λ b. cond b (Some u.slot) (find_type name ts)) (same_text name u.name (sym (ap (λ (x : ShownType). x.name) (some_is u t at) ∙ is))))
 type_there name (u ∷ ts) (suc n) t at is = by (text_eq name u.name) (type_there name ts n t at is)
   where
     by : (b : Bool) → (s : Slot) × (find_type name ts ≡ Some s) → (s : Slot) × (cond b (Some u.slot) (find_type name ts) ≡ Some s)
@@ -53,9 +52,6 @@ kind_shown path name x = by x.interface
     by : Option Text → Option Bool
     by None = None
     by (Some p) = cond (text_eq path p) (found_kind x.view.types name) None
-
-of_named : (path name : Text) (p : Option Text) (v : View) → p ≡ Some path → kind_shown path name (record { interface = p; view = v }) ≡ found_kind v.types name
-of_named path name x v e = search std_rules
 
 named_of : (path name : Text) (p : Option Text) (v : View) (c : Bool) → kind_shown path name (record { interface = p; view = v }) ≡ Some c → (p ≡ Some path) × (found_kind v.types name ≡ Some c)
 named_of path name x v c e = search std_rules
@@ -91,7 +87,7 @@ module _ (parts : List (List Instance)) (stand : AllStand parts)
   kinds_are path name b w =
       let o = w.there in
       let c = kind_there name w.instance_.view.types w.shows.number w.shows.shown w.shows.at w.shows.named in
-      let d = first_there (kind_shown path name) o.instances o.number w.instance_ c.0 o.at (of_named path name w.instance_.interface w.instance_.view o.of_path ∙ c.1) in
+      let d = first_there (kind_shown path name) o.instances o.number w.instance_ c.0 o.at ((search std_rules) ∙ c.1) in
       let e = first_there (first_some (kind_shown path name)) parts o.part o.instances d.0 o.part_at d.1 in
       one_kind parts stand alike once path name b e.0 w (found_somewhere path name e.0 e.1) ∙ sym (ap (λ p. unwrap_or p false) e.1)
 
@@ -130,6 +126,5 @@ module _ (parts : List (List Instance)) (stand : AllStand parts)
           (declaration_wider (IsMetInView (IsShownBefore xs n) (place_of x.interface) x.view k) (OfKind (kind_at kinds (own_kind x.view))) (met k) t.meaning.declaration st.is_resource st.declared)
 
       functions : (k : ℕ) (f : Text × FunctionMeaning) → slice_get x.view.functions k ≡ Some f → SignatureStands (OfKind (kind_at kinds (own_kind x.view))) f.1.signature
-      functions k f e =
-          signature_wider (IsMetInView (IsShownBefore xs n) (place_of x.interface) x.view (length x.view.types)) (OfKind (kind_at kinds (own_kind x.view))) (met (length x.view.types)) f.1.signature
-          ((stand m xs there n x at).functions k f e)
+      functions k f e = signature_wider (IsMetInView (IsShownBefore xs n) (place_of x.interface) x.view (length x.view.types)) (OfKind (kind_at kinds (own_kind x.view))) (met (length x.view.types))
+          f.1.signature ((stand m xs there n x at).functions k f e)

@@ -2,7 +2,7 @@
 use Rattle.std.proofs.Common.{rules as std_rules, ◌≡◌, refl, sym, ap, ◌∙◌, ℕ, List, [], ◌∷◌, ◌++◌, Some}
 use Rattle.std.proofs.lemmas.{Grind.flat_map-append, List.append-nil, List.map-append}
 use Rattle.comp_bytes.specs.Raw.{Declarations}
-use Rattle.comp_meaning.specs.Follow.{Slot, Instance, Seen, Shown, Scope, Direction, import_, export_, component_scope, in_scope, new_scope, see}
+use Rattle.comp_meaning.specs.Follow.{Slot, Instance, Seen, Shown, Scope, Direction, import_, export_, component_scope, in_scope, see}
 use Rattle.comp_meaning.proofs.StepLaws.{StepOf, defines, signs, aliases, sees_function, sees_type, sees_instance, seen_under, seen_instance, step_of}
 use Rattle.read_shown.specs.Instances.{instance_of, instances_in, going, InstancesAreSeen}
 use Rattle.read_shown.proofs.Scopes.{scope_keeps}
@@ -50,8 +50,6 @@ step_seen scope _ (sees_function direction name n f e) h = plain_seen direction 
 step_seen scope _ (sees_type name described found e) h = plain_seen import_ (seen_under name (Shown.declares found.0)) (in_scope found.1 scope) refl (in_slot scope found.1 h)
 step_seen scope _ (sees_instance direction name n key view new e) h = search (std_rules, one_seen, seen_instance)
 
-new_seen : InstancesAreSeen new_scope
-new_seen = record { seen = []; all = refl; imported = refl; exported = refl }
-
 pub instances_seen : (ds : Declarations) (scope : Scope) → component_scope ds ≡ Some scope → InstancesAreSeen scope
-instances_seen ds scope e = scope_keeps InstancesAreSeen (λ s next d e h. step_seen s next (step_of s next d e) h) (λ s inner n h. in_slot s (Slot.instance inner n) h) new_seen ds scope e
+instances_seen ds scope e = scope_keeps InstancesAreSeen (λ s next d e h. step_seen s next (step_of s next d e) h) (λ s inner n h. in_slot s (Slot.instance inner n) h)
+    (record { seen = []; all = refl; imported = refl; exported = refl }) ds scope e

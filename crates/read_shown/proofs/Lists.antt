@@ -1,20 +1,17 @@
 -- Lists by the numbers of their items, and what is found in each.
-use Rattle.std.proofs.Common.{rules as std_rules, ◌≡◌, ◌⊎◌, inl, inr, refl, ap, subst, ◌∙◌, ℕ, zero, suc, ◌<◌, ◌≤◌, arith, take, length-append, true, List, [], ◌∷◌, ◌++◌, length, Option, Some, None, slice_get, IfSome}
+use Rattle.std.proofs.Common.{rules as std_rules, ◌≡◌, ◌⊎◌, refl, ap, subst, ◌∙◌, ℕ, zero, suc, ◌<◌, ◌≤◌, arith, take, length-append, true, List, [], ◌∷◌, ◌++◌, length, Option, Some, None, slice_get, IfSome}
 use Rattle.std.proofs.lemmas.Option.{slice_get_within}
 use Rattle.std.specs.List.{AllByRecursion}
 use Rattle.wit_model.specs.Text.{Text}
 use Rattle.comp_bytes.proofs.Readers.{bind_some}
 use Rattle.comp_meaning.specs.{Follow.each, Follow.given, Follow.is_filled, Rules.distinct}
 use Rattle.read_shown.specs.Trees.{AllAt}
-use Rattle.base_lemmas.proofs.{Lists.front_at as at_front, Options.some_is}
+use Rattle.base_lemmas.proofs.{Lists.front_at as at_front, Lists.front_or_end, Options.some_is}
 use Rattle.comp_meaning.proofs.RulesLemmas.{not_twice as twice}
 
 -- an item of the front, or the last
 pub at_end : {A : Type 0} (xs : List A) (x y : A) (n : ℕ) → slice_get (xs ++ x ∷ []) n ≡ Some y → (slice_get xs n ≡ Some y) ⊎ ((n ≡ length xs) × (x ≡ y))
-at_end [] x y zero e = inr (refl, some_is x y e)
-at_end [] x y (suc n) e = absurd cc
-at_end (z ∷ zs) x y zero e = inl e
-at_end (z ∷ zs) x y (suc n) e = elim (at_end zs x y n e) [ inl before ↦ inl before | inr last ↦ inr (ap suc last.0, last.1) ]
+at_end xs x y n e = front_or_end xs x n y e
 
 pub in_front : {A : Type 0} (xs : List A) (k n : ℕ) (x : A) → slice_get (take k xs) n ≡ Some x → slice_get xs n ≡ Some x
 in_front (y ∷ xs) (suc k) zero x e = e

@@ -8,12 +8,12 @@ use Rattle.comp_meaning.specs.Follow.{each, Instance, Seen, Shown, Scope, Direct
 use Rattle.comp_meaning.specs.Rules.{are_imports, distinct, is_interface, is_item, is_world, resources_seen}
 use Rattle.comp_meaning.specs.Reads.{Part, Member, all_agree, are_interfaces, sights}
 use Rattle.read_shown.specs.{Trees.AllAt, Views.ViewStands}
-use Rattle.read_shown.specs.{Scopes.IsShownBefore, Parts.named_instance, Parts.instances_of, Parts.WorldStands, Parts.PartStands, Parts.MemberStands}
+use Rattle.read_shown.specs.{Scopes.IsShownBefore, Parts.named_instance, Parts.instances_of, Parts.PartStands, Parts.MemberStands}
 use Rattle.read_shown.specs.{Instances.instance_of, Instances.instances_in, Instances.going, Kinds.PartHasKinds, Kinds.MemberHasKinds, Kinds.NamesHaveKinds}
 use Rattle.read_shown.proofs.Agreement.{names_differ, paths_alike, paths_differ, seen_in_all, seen_in_member, Alike, IsSeenIn, NamesDiffer}
 use Rattle.read_shown.proofs.{FoundKinds.kinds, FoundKinds.kinds_are, FoundKinds.view_kinds, OneKind.before_somewhere, OneKind.AllStand, OneKind.IsOfPath}
 use Rattle.read_shown.proofs.{Lists.at_end, Uses.path_once, WorldKinds.export_is, WorldKinds.import_is, WorldKinds.met_is, WorldKinds.own_kind}
-use Rattle.base_lemmas.proofs.{Bools.left_of as first_true, Bools.right_of as second_true, Elements.contains-later}
+use Rattle.base_lemmas.proofs.{Bools.left_of as first_true, Bools.right_of as second_true, Elements.all_at_too, Elements.contains-later}
 use Rattle.base_lemmas.proofs.{Lists.get_back as unmapped_get, Lists.mapped_get, Options.some_is}
 
 -- ---- the views of a world obey the rules on interfaces
@@ -51,19 +51,11 @@ one_way ((export_, y) ∷ seen) zero x e = inr (0, omega arith, some_is y x e)
 one_way ((import_, y) ∷ seen) (suc n) x e = elim (one_way seen n x e) [ inl h ↦ inl (contains-later y (going import_ seen) x h) | inr h ↦ inr h ]
 one_way ((export_, y) ∷ seen) (suc n) x e = elim (one_way seen n x e) [ inl h ↦ inl h | inr h ↦ inr (contains-later y (going export_ seen) x h) ]
 
-world_obeys : (scope : Scope) → WorldStands scope → (n : ℕ) (x : Instance) → slice_get scope.instances n ≡ Some x → Obeys x
-world_obeys scope w n x at = search (std_rules, world_parts, one_way, imports_obey, exports_obey)
-
 -- ---- the names of each view differ
 
 module _ (members : List Member) (stand : AllByRecursion MemberStands members) (agree : all_agree (flat_map sights members) ≡ true) (interfaces : are_interfaces (flat_map sights members) ≡ true) where
   member_at : (k : ℕ) (m : Member) → slice_get members k ≡ Some m → MemberStands m
-  member_at = along members stand
-    where
-      along : (ms : List Member) → AllByRecursion MemberStands ms → (k : ℕ) (m : Member) → slice_get ms k ≡ Some m → MemberStands m
-      along [] all k m e = absurd cc
-      along (x ∷ ms) all zero m e = subst MemberStands (some_is x m e) all.0
-      along (x ∷ ms) all (suc k) m e = along ms all.1 k m e
+  member_at = all_at_too MemberStands members stand
 
   abbrev parts : List (List Instance)
   parts = map instances_of members
@@ -95,7 +87,7 @@ module _ (members : List Member) (stand : AllByRecursion MemberStands members) (
         -- an instance without a path is one of a world
         inline : (label : Text) (package_ : PackageIdentity) (p : Part) → PartStands p → slice_get (instances_of (record { label = label; package_ = package_; part = p })) n ≡ Some x
             → x.interface ≡ None → NamesDiffer x.view
-        inline label package_ (Part.world scope) w e none = names_differ (place_of x.interface) x.view (world_obeys scope w n x e)
+        inline label package_ (Part.world scope) w e none = names_differ (place_of x.interface) x.view (search (std_rules, world_parts, one_way, imports_obey, exports_obey))
         inline label package_ (Part.interface exported imports) w e none = elim (at_end (map named_instance imports) (named_instance (path_in package_ label, exported)) x n e) [
           | inl before ↦ (let i = unmapped_get named_instance imports n x before in let wrong : Some i.0.0 ≡ None = ap (λ (y : Instance). y.interface) i.2 ∙ none in absurd cc)
           | inr end ↦ (let wrong : Some (path_in package_ label) ≡ None = ap (λ (y : Instance). y.interface) end.1 ∙ none in absurd cc)
@@ -121,15 +113,11 @@ module _ (members : List Member) (stand : AllByRecursion MemberStands members) (
         here = part_there ∙ ap (λ p. Some (instances_of (record { label = m.label; package_ = m.package_; part = p }))) e
 
         are : (path name : Text) (b : Bool) → IsShownBefore scope.instances (length scope.instances) (Place.of_interface path) name b → b ≡ kinds parts all_stand alike once path name
-        are path name b s =
-            kinds_are parts all_stand alike once s.path name b (before_somewhere parts k scope.instances here (length scope.instances) (Place.of_interface path) name b s)
+        are path name b s = kinds_are parts all_stand alike once s.path name b (before_somewhere parts k scope.instances here (length scope.instances) (Place.of_interface path) name b s)
             ∙ ap (λ p. kinds parts all_stand alike once p name) (sym (path_once path s.path s.stands))
 
     member_kinds : MemberHasKinds (kinds parts all_stand alike once) m
-    member_kinds = record {
-      views = λ n x at. view_kinds parts all_stand alike once k (instances_of m) part_there n x at (differ n x at);
-      world = world_kinds m.part refl (member_at k m there).part;
-    }
+    member_kinds = record { views = λ n x at. view_kinds parts all_stand alike once k (instances_of m) part_there n x at (differ n x at); world = world_kinds m.part refl (member_at k m there).part }
 
   pub have_kinds : NamesHaveKinds members
   have_kinds = record { kinds = kinds parts all_stand alike once; each = along members member_kinds }

@@ -63,13 +63,12 @@ module _ (parts : List (List Instance)) (stand : AllStand parts)
 
     settle : (n k : ℕ) → ((i : ℕ) → i < n → (j : ℕ) → Settled i j) → Settled n k → Settled n (suc k)
     settle n k earlier before x at path of_path name b s c w =
-        let le : s.number ≤ k = (let below = s.below in omega (arith, below)) in
         let t = (stand m xs there n x at).types s.number s.shown s.at in
         let u = (stand w.there.part w.there.instances w.there.part_at w.there.number w.instance_ w.there.at).types w.shows.number w.shows.shown w.shows.at in
-        let same_b : t.is_resource ≡ b = one_slot (place_of x.interface) (Place.of_interface path) s.shown.name name t.is_resource b (sym t.slot ∙ s.slot) in
-        let same_c : u.is_resource ≡ c = one_slot (place_of w.instance_.interface) (Place.of_interface path) w.shows.shown.name name u.is_resource c (sym u.slot ∙ w.shows.slot) in
-        sym same_b ∙ (declared_once (MetHere s.number) MetThere s.shown.meaning.declaration t.is_resource u.is_resource t.declared
-        (subst (λ d. DeclarationStands MetThere d u.is_resource) one_declaration u.declared) (meet s.number le t.is_resource u.is_resource) ∙ same_c)
+        sym (one_slot (place_of x.interface) (Place.of_interface path) s.shown.name name t.is_resource b (sym t.slot ∙ s.slot))
+        ∙ (declared_once (MetHere s.number) MetThere s.shown.meaning.declaration t.is_resource u.is_resource t.declared
+        (subst (λ d. DeclarationStands MetThere d u.is_resource) one_declaration u.declared) (meet s.number (let below = s.below in omega (arith, below)) t.is_resource u.is_resource)
+        ∙ (one_slot (place_of w.instance_.interface) (Place.of_interface path) w.shows.shown.name name u.is_resource c (sym u.slot ∙ w.shows.slot)))
       where
         MetHere : ℕ → Place → Text → Bool → Type 0
         MetHere count = IsMetInView (IsShownBefore xs n) (place_of x.interface) x.view count
@@ -80,12 +79,11 @@ module _ (parts : List (List Instance)) (stand : AllStand parts)
         -- the other view declares the same under the name
         one_declaration : w.shows.shown.meaning.declaration ≡ s.shown.meaning.declaration
         one_declaration =
-            let o : IsOfPath parts path x = record { part = m; instances = xs; part_at = there; number = n; at = at; of_path = of_path } in
-            let v = alike_at x.view w.instance_.view (alike path x w.instance_ o w.there) s.number s.shown s.at in
-            let number : s.number ≡ w.shows.number = one_number w.instance_.view (once path w.instance_ w.there) s.number w.shows.number v.0 w.shows.shown v.1 w.shows.at
-            (v.2 ∙ (s.named ∙ sym w.shows.named)) in
-            let is : v.0 ≡ w.shows.shown = some_is v.0 w.shows.shown (sym v.1 ∙ (ap (λ i. slice_get w.instance_.view.types i) number ∙ w.shows.at)) in
-            ap (λ (z : ShownType). z.meaning.declaration) (sym is) ∙ ap (λ z. z.declaration) v.3
+            let v = alike_at x.view w.instance_.view (alike path x w.instance_ (record { part = m; instances = xs; part_at = there; number = n; at = at; of_path = of_path }) w.there) s.number
+            s.shown s.at in
+            ap (λ (z : ShownType). z.meaning.declaration) (sym (some_is v.0 w.shows.shown
+            (sym v.1 ∙ (ap (λ i. slice_get w.instance_.view.types i) (one_number w.instance_.view (once path w.instance_ w.there) s.number w.shows.number v.0 w.shows.shown v.1 w.shows.at
+            (v.2 ∙ (s.named ∙ sym w.shows.named))) ∙ w.shows.at)))) ∙ ap (λ z. z.declaration) v.3
 
         other : (q more : Text) (e : Bool) → MetThere (Place.of_interface q) more e → IsShownSomewhere parts q more e
         other q more e h = met_somewhere path w.instance_ w.there w.shows.number
@@ -94,12 +92,10 @@ module _ (parts : List (List Instance)) (stand : AllStand parts)
         meet : (count : ℕ) → count ≤ k → (d e : Bool) (place : Place) (more : Text) → MetHere count place more d → MetThere place more e → d ≡ e
         meet count low d e place more (inside here v) h =
             let own : place_of x.interface ≡ Place.of_interface path = ap place_of of_path in
-            before x at path of_path more d
-            (subst (λ p. ShowsName p x.view k more d) own (shows_wider (place_of x.interface) x.view x.view (front_same x.view.types) count k low more d v)) e
+            before x at path of_path more d (subst (λ p. ShowsName p x.view k more d) own (shows_wider (place_of x.interface) x.view x.view (front_same x.view.types) count k low more d v)) e
             (other path more e (subst (λ p. MetThere p more e) (here ∙ own) h))
-        meet count low d e place more (outside v) h =
-            earlier v.number v.below (length v.shown.view.types) v.shown v.at v.path v.of_path more d (subst (λ p. ShowsName p v.shown.view (length v.shown.view.types) more d) v.stands v.shows) e
-            (other v.path more e (subst (λ p. MetThere p more e) v.stands h))
+        meet count low d e place more (outside v) h = earlier v.number v.below (length v.shown.view.types) v.shown v.at v.path v.of_path more d
+            (subst (λ p. ShowsName p v.shown.view (length v.shown.view.types) more d) v.stands v.shows) e (other v.path more e (subst (λ p. MetThere p more e) v.stands h))
 
     settled : (n : ℕ) → ((i : ℕ) → i < n → (j : ℕ) → Settled i j) → (k : ℕ) → Settled n k
     settled n earlier zero = λ x at path of_path name b s c w. let below = s.below in absurd (omega (arith, below))

@@ -1,7 +1,7 @@
 -- Parts at the top are well-formed, and the component type of an interface has its export behind its imports.
-use Rattle.std.proofs.Common.{rules as std_rules, ◌≡◌, ◌⊎◌, inl, inr, refl, sym, ap, subst, ◌∙◌, ℕ, zero, suc, ◌+◌, ◌≤◌, arith, true, not, ◌&&◌, List, [], ◌∷◌, ◌++◌, map, length, length-append, Option, Some, None, slice_get, is_none}
+use Rattle.std.proofs.Common.{rules as std_rules, ◌≡◌, inl, inr, refl, sym, ap, subst, ◌∙◌, ℕ, zero, suc, ◌+◌, ◌≤◌, arith, true, not, ◌&&◌, List, [], ◌∷◌, ◌++◌, map, length, length-append, Option, Some, None, slice_get, is_none}
 use Rattle.std.proofs.{Math.ListN.length-map, lemmas.List.append-nil}
-use Rattle.std.specs.List.{AllByRecursion, flat_map, list_any}
+use Rattle.std.specs.List.{AllByRecursion, list_any}
 use Rattle.wit_model.specs.{Text.Text, Text.text_eq, Names.PackageIdentity, Names.path_in, Names.read_path}
 use Rattle.wit_model.proofs.{NameLaws.read_path_is_spelled, TextLemmas.text_same, TextLemmas.text_there}
 use Rattle.comp_bytes.specs.Raw.{ExternName, Declarations}
@@ -10,7 +10,7 @@ use Rattle.comp_meaning.specs.Follow.{each, View, Instance, Seen, Shown, Scope, 
 use Rattle.comp_meaning.specs.Rules.{distinct, is_world, used_by_view}
 use Rattle.comp_meaning.specs.Reads.{Part, Member, are_reached, exported_view, imported_view, interface_part, labelled_path, member, part_of, world_part, wrapped}
 use Rattle.read_shown.specs.{Trees.AllAt, Views.ViewStands, Instances.instance_of, Instances.instances_in, Instances.going, Instances.InstancesAreSeen}
-use Rattle.read_shown.specs.{Scopes.IsInstanceBefore, Scopes.IsShownBefore, Scopes.ScopeStands, Parts.named_instance, Parts.MemberStands}
+use Rattle.read_shown.specs.{Scopes.IsShownBefore, Scopes.ScopeStands, Parts.named_instance, Parts.MemberStands}
 use Rattle.read_shown.proofs.{Instances.instances_seen, Lists.each_found, Lists.last_of, Scopes.scope_stands, Uses.use_stands_before}
 use Rattle.base_lemmas.proofs.Bools.{left_of as first_true, right_of as second_true}
 use Rattle.base_lemmas.proofs.{Lists.get_back as unmapped_get, Lists.mapped_get, Lists.middle_get, Lists.slice_front as front_get, Options.some_is}
@@ -28,9 +28,6 @@ path_is label path package_ e =
 export_found : (key : Text) (shown : Shown) (id : Option Text) (exported : Text × View) → exported_view (record { key = key; shown = shown; external_id = id } ∷ []) ≡ Some exported
     → instance_of shown ≡ named_instance exported ∷ []
 export_found key y id exported e = search std_rules
-
-exports_found : (exports : List Seen) (exported : Text × View) → exported_view exports ≡ Some exported → instances_in exports ≡ named_instance exported ∷ []
-exports_found x exported e = search std_rules
 
 import_found : (key : Text) (shown : Shown) (id : Option Text) (x : Text × View) → imported_view (record { key = key; shown = shown; external_id = id }) ≡ Some x
     → instance_of shown ≡ named_instance x ∷ []
@@ -64,8 +61,7 @@ around_export ((export_, y) ∷ seen) x e = search (std_rules, none_exported)
 -- the last import is used by the export
 last_used : (front : List (Text × View)) (last : Text × View) (exported : View) → are_reached (front ++ last ∷ []) exported ≡ true → list_any (text_eq last.0) (used_by_view exported) ≡ true
 last_used [] last exported e = first_true (list_any (text_eq last.0) (used_by_view exported)) true e
-last_used (i ∷ front) last exported e =
-    last_used front last exported (second_true (list_any (text_eq i.0) (flat_map (λ l. used_by_view l.1) (front ++ last ∷ []) ++ used_by_view exported)) (are_reached (front ++ last ∷ []) exported) e)
+last_used (i ∷ front) last exported e = last_used front last exported (second_true _ _ e)
 
 module _ (scope : Scope) (st : ScopeStands scope) (exported : Text × View) (imports : List (Text × View))
     (apart : distinct (exported.0 ∷ map (λ i. i.0) imports) ≡ true) (reached : are_reached imports exported.1 ≡ true)
@@ -74,25 +70,17 @@ module _ (scope : Scope) (st : ScopeStands scope) (exported : Text × View) (imp
   unused : (last : Text × View) (n : ℕ) → slice_get imports n ≡ Some last → length before ≤ n → list_any (text_eq last.0) (used_by_view exported.1) ≡ true → ⊥
   unused last n at late used =
       let view = st.instances (length before) (named_instance exported) (ap (λ (xs : List Instance). slice_get xs (length before)) all ∙ middle_get before (named_instance exported) behind) in
-      by (use_stands_before scope.instances (length before) (named_instance exported) view last.0 (text_there last.0 (used_by_view exported.1) used))
+      elim (use_stands_before scope.instances (length before) (named_instance exported) view last.0 (text_there last.0 (used_by_view exported.1) used)) [
+        | inl same ↦ twice (exported.0 ∷ map (λ i. i.0) imports) apart zero (suc n) last.0 (omega arith) same (path_at n last at refl)
+        | inr s ↦ (let low = s.below in let i = unmapped_get named_instance imports s.number s.shown
+            (ap (λ (xs : List Instance). slice_get xs s.number) seen ∙ (front_get before behind s.number low
+            ∙ (sym (front_get before (named_instance exported ∷ behind) s.number low) ∙ (ap (λ (xs : List Instance). slice_get xs s.number) (sym all) ∙ s.at)))) in
+            twice (map (λ i. i.0) imports) (second_true (not (list_any (text_eq exported.0) (map (λ i. i.0) imports))) (distinct (map (λ i. i.0) imports)) apart) s.number n last.0
+            (omega (arith, low, late)) (path_at s.number i.0 i.1 (some_is i.0.0 last.0 (ap (λ (x : Instance). x.interface) i.2 ∙ s.of_path))) (path_at n last at refl))
+      ]
     where
       path_at : (k : ℕ) (i : Text × View) → slice_get imports k ≡ Some i → i.0 ≡ last.0 → slice_get (map (λ (x : Text × View). x.0) imports) k ≡ Some last.0
       path_at k i there same = mapped_get (λ (x : Text × View). x.0) imports k i there ∙ ap Some same
-
-      by : (Some exported.0 ≡ Some last.0) ⊎ IsInstanceBefore scope.instances (length before) last.0 → ⊥
-      by (inl same) = twice (exported.0 ∷ map (λ i. i.0) imports) apart zero (suc n) last.0 (omega arith) same (path_at n last at refl)
-      by (inr s) =
-          let low = s.below in
-          let there : slice_get (map named_instance imports) s.number ≡ Some s.shown =
-          ap (λ (xs : List Instance). slice_get xs s.number) seen
-          ∙ (front_get before behind s.number low
-          ∙ (sym (front_get before (named_instance exported ∷ behind) s.number low)
-          ∙ (ap (λ (xs : List Instance). slice_get xs s.number) (sym all) ∙ s.at))) in
-          let i = unmapped_get named_instance imports s.number s.shown there in
-          let same : i.0.0 ≡ last.0 = some_is i.0.0 last.0 (ap (λ (x : Instance). x.interface) i.2 ∙ s.of_path) in
-          twice (map (λ i. i.0) imports) (second_true (not (list_any (text_eq exported.0) (map (λ i. i.0) imports))) (distinct (map (λ i. i.0) imports)) apart) s.number n last.0
-          (omega (arith, low, late))
-          (path_at s.number i.0 i.1 same) (path_at n last at refl)
 
   -- so no import stands behind the export
   none_behind : behind ≡ []
@@ -103,20 +91,13 @@ module _ (scope : Scope) (st : ScopeStands scope) (exported : Text × View) (imp
 
       by : (xs : List Instance) → behind ≡ xs → (is : List (Text × View)) → imports ≡ is → xs ≡ []
       by [] e is f = refl
-      by (x ∷ xs) e [] f =
-          let none : length imports ≡ 0 = ap (λ (ys : List (Text × View)). length ys) f in
-          let some : length behind ≡ suc (length xs) = ap (λ (ys : List Instance). length ys) e in
-          let total = counted in
-          absurd (omega (arith, none, some, total))
+      by (x ∷ xs) e [] f = absurd (omega (arith, (ap (λ (ys : List (Text × View)). length ys) f), ap (λ (ys : List Instance). length ys) e, counted))
       by (x ∷ xs) e (i ∷ is) f =
           let last = last_of i is in
           let whole : imports ≡ last.0 ++ last.1 ∷ [] = f ∙ last.2 in
-          let some : length behind ≡ suc (length xs) = ap (λ (ys : List Instance). length ys) e in
-          let long : length imports ≡ length (last.0 ++ last.1 ∷ []) = ap (λ (ys : List (Text × View)). length ys) whole in
-          let parts = length-append last.0 (last.1 ∷ []) in
-          let total = counted in
-          let at : slice_get imports (length last.0) ≡ Some last.1 = ap (λ (ys : List (Text × View)). slice_get ys (length last.0)) whole ∙ middle_get last.0 last.1 [] in
-          absurd (unused last.1 (length last.0) at (omega (arith, some, long, parts, total)) (last_used last.0 last.1 exported.1 (ap (λ ys. are_reached ys exported.1) (sym whole) ∙ reached)))
+          absurd (unused last.1 (length last.0) (ap (λ (ys : List (Text × View)). slice_get ys (length last.0)) whole ∙ middle_get last.0 last.1 [])
+          (omega (arith, ap (λ (ys : List Instance). length ys) e, (ap (λ (ys : List (Text × View)). length ys) whole), (length-append last.0 (last.1 ∷ [])), counted))
+          (last_used last.0 last.1 exported.1 (ap (λ ys. are_reached ys exported.1) (sym whole) ∙ reached)))
 
 -- ---- parts
 
@@ -132,8 +113,7 @@ interface_instances scope st are exported out imports in_ apart reached =
     let all : scope.instances ≡ around.0 ++ named_instance exported ∷ around.1 = sym are.all ∙ around.2 in
     let seen : map named_instance imports ≡ around.0 ++ around.1 = sym in_ ∙ (sym are.imported ∙ around.3) in
     let none = none_behind scope st exported imports apart reached around.0 around.1 all seen in
-    let before : map named_instance imports ≡ around.0 = seen ∙ (ap (λ xs. around.0 ++ xs) none ∙ append-nil around.0) in
-    all ∙ (λ i. sym before i ++ named_instance exported ∷ none i)
+    all ∙ (λ i. sym (seen ∙ (ap (λ xs. around.0 ++ xs) none ∙ append-nil around.0)) i ++ named_instance exported ∷ none i)
 
 -- so they are its imports, and then the interface of its label in the package
 pub interface_shows : (label : Text) (scope : Scope) → ScopeStands scope → InstancesAreSeen scope → (exported : Text × View) → exported_view scope.exports ≡ Some exported
@@ -141,7 +121,7 @@ pub interface_shows : (label : Text) (scope : Scope) → ScopeStands scope → I
     → distinct (exported.0 ∷ map (λ i. i.0) imports) ≡ true → are_reached imports exported.1 ≡ true
     → scope.instances ≡ map named_instance imports ++ named_instance (path_in package_ label, exported.1) ∷ []
 interface_shows label scope st seen exported out imports in_ package_ path apart reached =
-    interface_instances scope st seen exported (exports_found scope.exports exported out) imports (imports_found scope.imports imports in_) apart reached
+    interface_instances scope st seen exported (search std_rules) imports (imports_found scope.imports imports in_) apart reached
     ∙ ap (λ q. map named_instance imports ++ named_instance (q, exported.1) ∷ []) (path_is label exported.0 package_ path)
 
 interface_read : (label : Text) (ds : Declarations) (p : PackageIdentity × Part) (scope : Scope) → component_scope ds ≡ Some scope → (exported : Text × View)
@@ -149,14 +129,11 @@ interface_read : (label : Text) (ds : Declarations) (p : PackageIdentity × Part
     → (imports : List (Text × View)) → each imported_view scope.imports ≡ Some imports → (package_ : PackageIdentity) → labelled_path label exported.0 ≡ Some package_
     → provided (distinct (exported.0 ∷ map (λ i. i.0) imports) && are_reached imports exported.1) (package_, Part.interface exported.1 imports) ≡ Some p → MemberStands (member_of label p)
 interface_read label ds p scope follows exported out imports in_ package_ path e =
-    let w = when_some (distinct (exported.0 ∷ map (λ i. i.0) imports) && are_reached imports exported.1) (Some (package_, Part.interface exported.1 imports)) p e in
-    let apart = first_true (distinct (exported.0 ∷ map (λ i. i.0) imports)) (are_reached imports exported.1) w.0 in
-    let reached = second_true (distinct (exported.0 ∷ map (λ i. i.0) imports)) (are_reached imports exported.1) w.0 in
+    let w = when_some _ _ p e in
     let st = scope_stands ds scope follows in
-    let same : scope.instances ≡ map named_instance imports ++ named_instance (path_in package_ label, exported.1) ∷ [] =
-    interface_shows label scope st (instances_seen ds scope follows) exported out imports in_ package_ path apart reached in
-    subst (λ (q : PackageIdentity × Part). MemberStands (member_of label q)) (some_is (package_, Part.interface exported.1 imports) p w.1) (record {
-      views = subst (λ (xs : List Instance). AllAt (λ n (x : Instance). ViewStands (IsShownBefore xs n) (place_of x.interface) x.view) xs) same st.instances;
+    subst (λ (q : PackageIdentity × Part). MemberStands (member_of label q)) (some_is _ p w.1) (record {
+      views = subst (λ (xs : List Instance). AllAt (λ n (x : Instance). ViewStands (IsShownBefore xs n) (place_of x.interface) x.view) xs)
+          (interface_shows label scope st (instances_seen ds scope follows) exported out imports in_ package_ path (first_true _ _ w.0) (second_true _ _ w.0)) st.instances;
       part = tt;
     })
 
@@ -191,12 +168,8 @@ member_stands x m e =
     subst MemberStands (some_is (member_of x.0 part.0) m part.2) (by (wrapped x.1) refl part.0 part.1)
   where
     by : (o : Option (Declarations × ExternName)) → wrapped x.1 ≡ o → (p : PackageIdentity × Part) → part_of x.0 x.1 ≡ Some p → MemberStands (member_of x.0 p)
-    by None is p found =
-        let plain : part_of x.0 x.1 ≡ interface_part x.0 x.1 = rw is refl in
-        interface_stands x.0 x.1 p (sym plain ∙ found)
-    by (Some w) is p found =
-        let wraps : part_of x.0 x.1 ≡ world_part x.0 w = rw is refl in
-        world_stands x.0 w p (sym wraps ∙ found)
+    by None is p found = interface_stands x.0 x.1 p (sym (rw is refl) ∙ found)
+    by (Some w) is p found = world_stands x.0 w p (sym (rw is refl) ∙ found)
 
 pub members_stand : (types : List (Text × Declarations)) (members : List Member) → each member types ≡ Some members → AllByRecursion MemberStands members
 members_stand types members e = each_found member MemberStands member_stands types members e

@@ -87,15 +87,12 @@ type_stands name described scope found e st =
     let seen : Seen = seen_under name (Shown.declares found.0) in
     let is = named_type_stands (Met scope) scope.slots st.slots Place.here name.text described found e in
     let more : Scope = see import_ seen scope in
-    let fi = front_same scope.instances in
-    let fm = front_more scope.imports (seen ∷ []) in
-    let by = imported_at more.imports (length scope.imports) seen (get_last scope.imports seen) name.text found.0 refl refl in
-    let good : DeclarationStands (IsMetInScope more.instances more.imports (length scope.imports)) found.0 is.0 =
-    declaration_wider (Met scope) (IsMetInScope more.instances more.imports (length scope.imports))
-    (met_wider scope.instances scope.instances scope.imports more.imports fi fm (length scope.imports) (length scope.imports) (omega arith)) found.0 is.0 is.2 in
-    let named : SlotStands (Met more) (named_slot Place.here name.text is.0) =
-    named_stands (Met more) Place.here name.text is.0 (by_import refl (declared_last more.instances more.imports (length more.imports) name.text found.0 is.0 by good)) in
-    pushed more found.1 (import_stands seen scope st (is.0, is.2)) (subst (SlotStands (Met more)) (sym is.1) named)
+    pushed more found.1 (import_stands seen scope st (is.0, is.2)) (subst (SlotStands (Met more)) (sym is.1)
+    (named_stands (Met more) Place.here name.text is.0 (by_import refl (declared_last more.instances more.imports (length more.imports) name.text found.0 is.0
+    (imported_at more.imports (length scope.imports) seen (get_last scope.imports seen) name.text found.0 refl refl)
+    (declaration_wider (Met scope) (IsMetInScope more.instances more.imports (length scope.imports))
+    (met_wider scope.instances scope.instances scope.imports more.imports (front_same scope.instances) (front_more scope.imports (seen ∷ [])) (length scope.imports) (length scope.imports)
+    (omega arith)) found.0 is.0 is.2)))))
 
 -- ---- an instance
 
@@ -143,8 +140,7 @@ type_found name [] slot e = absurd cc
 type_found name (t ∷ ts) slot e = by (text_eq name t.name) refl (type_found name ts slot) e
   where
     by : (b : Bool) → text_eq name t.name ≡ b → (find_type name ts ≡ Some slot → (n : ℕ) × (u : ShownType) × (slice_get ts n ≡ Some u) × (u.slot ≡ slot) × (text_eq name u.name ≡ true))
-        → cond b (Some t.slot) (find_type name ts) ≡ Some slot
-        → (n : ℕ) × (u : ShownType) × (slice_get (t ∷ ts) n ≡ Some u) × (u.slot ≡ slot) × (text_eq name u.name ≡ true)
+        → cond b (Some t.slot) (find_type name ts) ≡ Some slot → (n : ℕ) × (u : ShownType) × (slice_get (t ∷ ts) n ≡ Some u) × (u.slot ≡ slot) × (text_eq name u.name ≡ true)
     by true same rest h = (zero, t, refl, some_is t.slot slot h, same)
     by false same rest h = let r = rest h in (suc r.0, r.1, r.2, r.3, r.4)
 
@@ -155,20 +151,11 @@ exported_stands scope st m name slot e = by (slice_get scope.instances m) refl e
         → is_some o ≡ true → SlotStands (Met scope) slot
     of_path x at n t there is None path some = absurd cc
     of_path x at n t there is (Some path) path_is some =
-        let place : place_of x.interface ≡ Place.of_interface path = ap place_of path_is in
         let h = (st.instances m x at).types n t there in
-        let named : t.slot ≡ named_slot (Place.of_interface path) t.name h.is_resource = h.slot ∙ ap (λ p. named_slot p t.name h.is_resource) place in
-        let before : IsShownBefore scope.instances (length scope.instances) (Place.of_interface path) t.name h.is_resource = record {
-          number = m;
-          below = slice_get_within scope.instances m x at;
-          shown = x;
-          at = at;
-          path = path;
-          of_path = path_is;
-          stands = refl;
-          shows = shows_at (Place.of_interface path) x.view n t there t.name h.is_resource refl named;
-        } in
-        subst (SlotStands (Met scope)) (sym named ∙ is) (named_stands (Met scope) (Place.of_interface path) t.name h.is_resource (by_instance before))
+        let named : t.slot ≡ named_slot (Place.of_interface path) t.name h.is_resource = h.slot ∙ ap (λ p. named_slot p t.name h.is_resource) (ap place_of path_is) in
+        let shows = shows_at (Place.of_interface path) x.view n t there t.name h.is_resource refl named in
+        subst (SlotStands (Met scope)) (sym named ∙ is) (named_stands (Met scope) (Place.of_interface path) t.name h.is_resource (by_instance
+        (record { number = m; below = slice_get_within scope.instances m x at; shown = x; at = at; path = path; of_path = path_is; stands = refl; shows = shows })))
 
     by : (o : Option Instance) → slice_get scope.instances m ≡ o → exported_slot name o ≡ Some slot → SlotStands (Met scope) slot
     by None at h = absurd cc
@@ -209,11 +196,7 @@ pub scope_keeps : (P : Scope → Type 0) → ((scope next : Scope) (d : raw.Decl
     → component_scope ds ≡ Some scope → P scope
 scope_keeps P step type_ new ds scope e =
     let b = bind_some (component_steps new_scope ds) _ scope e in
-    let w = when_some (length b.0.used == instance_types b.0.slots) (Some b.0) scope b.2 in
-    subst P (some_is b.0 scope w.1) (steps_keep P step type_ ds new_scope b.0 b.1 new)
-
-new_stands : ScopeStands new_scope
-new_stands = search std_rules
+    subst P (some_is b.0 scope (when_some (length b.0.used == instance_types b.0.slots) (Some b.0) scope b.2).1) (steps_keep P step type_ ds new_scope b.0 b.1 new)
 
 pub scope_stands : (ds : Declarations) (scope : Scope) → component_scope ds ≡ Some scope → ScopeStands scope
-scope_stands ds scope e = scope_keeps ScopeStands (λ s next d e st. step_stands s next (step_of s next d e) st) (λ s inner n st. pushed s (Slot.instance inner n) st tt) new_stands ds scope e
+scope_stands ds scope e = scope_keeps ScopeStands (λ s next d e st. step_stands s next (step_of s next d e) st) (λ s inner n st. pushed s (Slot.instance inner n) st tt) (search std_rules) ds scope e

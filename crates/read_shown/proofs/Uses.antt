@@ -1,5 +1,5 @@
 -- Each interface that a well-formed view uses was seen before it.
-use Rattle.std.proofs.Common.{rules as std_rules, ◌≡◌, ◌⊎◌, inl, inr, refl, sym, ap, subst, ◌∙◌, ℕ, zero, suc, Bool, List, [], ◌∷◌, flat_map, Option, Some, slice_get}
+use Rattle.std.proofs.Common.{rules as std_rules, ◌≡◌, ◌⊎◌, inl, inr, refl, sym, ap, subst, ◌∙◌, ℕ, zero, suc, Bool, List, [], ◌∷◌, flat_map, Some, slice_get}
 use Rattle.std.proofs.lemmas.List.Elements.{Contains-append_cases as in_either}
 use Rattle.std.specs.List.{Contains}
 use Rattle.wit_model.specs.{Text.Text, Tree.Place, Tree.Tree, Tree.Declaration}
@@ -23,9 +23,6 @@ name_used path x c = search std_rules
 pub path_once : (p q : Text) → Place.of_interface p ≡ Place.of_interface q → p ≡ q
 path_once p q e = cc
 
-path_there : (o : Option Text) (path : Text) → place_of o ≡ Place.of_interface path → o ≡ Some path
-path_there x path e = search std_rules
-
 pub use_stands_before : (instances : List Instance) (count : ℕ) (x : Instance) → ViewStands (IsShownBefore instances count) (place_of x.interface) x.view
     → (path : Text) → Contains (used_by_view x.view) path → (x.interface ≡ Some path) ⊎ IsInstanceBefore instances count path
 use_stands_before instances count x st path c =
@@ -36,6 +33,6 @@ use_stands_before instances count x st path c =
   where
     by : (n : ℕ) (name : Text) (b : Bool) → IsMetInView (IsShownBefore instances count) (place_of x.interface) x.view n (Place.of_interface path) name b → (x.interface ≡ Some path)
         ⊎ IsInstanceBefore instances count path
-    by n name b (inside here s) = inl (path_there x.interface path (sym here))
+    by n name b (inside here s) = inl (search std_rules)
     by n name b (outside s) =
         inr (record { number = s.number; below = s.below; shown = s.shown; at = s.at; of_path = s.of_path ∙ ap Some (path_once s.path path (sym s.stands)) })

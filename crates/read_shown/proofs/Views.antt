@@ -5,7 +5,7 @@ use Rattle.wit_model.specs.{Text.Text, Tree.Place, Meaning.Signature, Meaning.Fu
 use Rattle.comp_bytes.specs.declared.forms.ComponentTypeRef.{ComponentTypeRef}
 use Rattle.comp_bytes.specs.Raw.{Alias, ExternName, Declaration}
 use Rattle.comp_bytes.proofs.Readers.{bind_some, when_some}
-use Rattle.comp_meaning.specs.Follow.{Slot, View, ShownType, InstanceScope, declared_by, definition, function_in, function_signature, in_instance, instance_step, instance_steps, instance_view, is_foreign_name, is_simple, named_like, named_type, new_instance, show, show_function, show_type}
+use Rattle.comp_meaning.specs.Follow.{Slot, View, ShownType, InstanceScope, declared_by, function_in, in_instance, instance_step, instance_steps, instance_view, is_foreign_name, is_simple, named_like, named_type, new_instance, show, show_function, show_type}
 use Rattle.read_shown.specs.Trees.{AllAt, DeclarationStands, SignatureStands, SlotStands}
 use Rattle.read_shown.specs.Views.{named_slot, ShowsName, IsMetInView, inside, outside, TypeStands, ViewStands, InstanceScopeStands}
 use Rattle.read_shown.proofs.Definitions.{definition_stands, function_stands, signature_stands}
@@ -51,16 +51,13 @@ module _ (Outside : Place → Text → Bool → Type 0) (own : Place) where
       → IsMetInView Outside own more m place name b
   met_wider view more front k m le place name b x = search std_rules
 
-  type_wider : (view more : View) → Front view.types more.types → (k : ℕ) (t : ShownType) → TypeStands Outside own view k t → TypeStands Outside own more k t
-  type_wider view more front k t h = search (std_rules, declaration_wider, met_wider)
-
   -- all types of the view and more are met
   whole_wider : (view more : View) → Front view.types more.types → (place : Place) (name : Text) (b : Bool)
       → IsMetInView Outside own view (length view.types) place name b → IsMetInView Outside own more (length more.types) place name b
   whole_wider view more front = met_wider view more front (length view.types) (length more.types) front.long
 
   types_wider : (view more : View) → Front view.types more.types → AllAt (TypeStands Outside own view) view.types → AllAt (TypeStands Outside own more) view.types
-  types_wider view more front all = all_weaker (TypeStands Outside own view) (TypeStands Outside own more) view.types (λ k t within h. type_wider view more front k t h) all
+  types_wider view more front all = all_weaker (TypeStands Outside own view) (TypeStands Outside own more) view.types (λ k t within h. (search (std_rules, declaration_wider, met_wider))) all
 
   functions_wider : (view more : View) → Front view.types more.types → (fs : List (Text × FunctionMeaning))
       → AllAt (λ n (f : Text × FunctionMeaning). SignatureStands (IsMetInView Outside own view (length view.types)) f.1.signature) fs
@@ -95,8 +92,7 @@ module _ (Outside : Place → Text → Bool → Type 0) (own : Place) where
         shown = record {
           types = types_wider scope.shown more same st.shown.types;
           functions = all_more (λ n (f : Text × FunctionMeaning). SignatureStands (Met more) f.1.signature) scope.shown.functions last
-              (functions_wider scope.shown more same scope.shown.functions st.shown.functions)
-              (signature_wider (Met scope.shown) (Met more) (whole_wider scope.shown more same) b.0 good);
+              (functions_wider scope.shown more same scope.shown.functions st.shown.functions) (signature_wider (Met scope.shown) (Met more) (whole_wider scope.shown more same) b.0 good);
         };
       })
 
@@ -111,19 +107,13 @@ module _ (Outside : Place → Text → Bool → Type 0) (own : Place) where
       let b = bind_some (named_type scope.slots own name.text described) _ next e in
       let more : View = (after b.0).shown in
       let front : Front scope.shown.types more.types = front_more scope.shown.types (type_of b.0 ∷ []) in
+      let longer = length-append scope.shown.types (type_of b.0 ∷ []) in
+      let last = get_last scope.shown.types (type_of b.0) in
       let is = named_type_stands (Met scope.shown) scope.slots st.slots own name.text described b.0 b.1 in
-      let count = length-append scope.shown.types (type_of b.0 ∷ []) in
-      let shows : ShowsName own more (length more.types) name.text is.0 = record {
-        number = length scope.shown.types;
-        below = omega (arith, count);
-        shown = type_of b.0;
-        at = get_last scope.shown.types (type_of b.0);
-        named = refl;
-        slot = is.1;
-      } in
-      let good : SlotStands (Met more) b.0.1 = subst (SlotStands (Met more)) (sym is.1) (named_stands (Met more) own name.text is.0 (inside refl shows)) in
       subst (InstanceScopeStands Outside own) (some_is (after b.0) next b.2) (record {
-        slots = all_more (λ n (s : Slot). SlotStands (Met more) s) scope.slots b.0.1 (slots_wider scope.shown more front scope.slots st.slots) good;
+        slots = all_more (λ n (s : Slot). SlotStands (Met more) s) scope.slots b.0.1 (slots_wider scope.shown more front scope.slots st.slots)
+            (subst (SlotStands (Met more)) (sym is.1) (named_stands (Met more) own name.text is.0
+            (inside refl (record { number = length scope.shown.types; below = omega (arith, longer); shown = type_of b.0; at = last; named = refl; slot = is.1 }))));
         shown = record {
           types = all_more (TypeStands Outside own more) scope.shown.types (type_of b.0) (types_wider scope.shown more front st.shown.types) (record {
             is_resource = is.0;
@@ -148,21 +138,17 @@ module _ (Outside : Place → Text → Bool → Type 0) (own : Place) where
     pub instance_step_stands : (d : Declaration) (scope next : InstanceScope) → instance_step own outer scope d ≡ Some next → InstanceScopeStands Outside own scope
         → InstanceScopeStands Outside own next
     instance_step_stands (Declaration.defined d) scope next e st =
-        let b = bind_some (definition scope.slots d) _ next e in
-        subst (InstanceScopeStands Outside own) (some_is (in_instance (Slot.value b.0) scope) next b.2)
-        (pushed scope (Slot.value b.0) st (definition_stands (Met scope.shown) scope.slots st.slots d b.0 b.1))
+        let b = bind_some _ _ _ e in
+        subst (InstanceScopeStands Outside own) (some_is _ _ b.2) (pushed scope (Slot.value b.0) st (definition_stands (Met scope.shown) scope.slots st.slots d b.0 b.1))
     instance_step_stands (Declaration.function f) scope next e st =
-        let b = bind_some (function_signature scope.slots f) _ next e in
-        subst (InstanceScopeStands Outside own) (some_is (in_instance (Slot.function b.0) scope) next b.2)
-        (pushed scope (Slot.function b.0) st (signature_stands (Met scope.shown) scope.slots st.slots f b.0 b.1))
+        let b = bind_some _ _ _ e in
+        subst (InstanceScopeStands Outside own) (some_is _ _ b.2) (pushed scope (Slot.function b.0) st (signature_stands (Met scope.shown) scope.slots st.slots f b.0 b.1))
     instance_step_stands (Declaration.alias_of (Alias.of_outer scopes n)) scope next e st =
         let b = bind_some (slice_get outer n) _ next e in
         let w = when_some (scopes == 1 && is_foreign_name b.0) (Some (in_instance b.0 scope)) next b.2 in
         let good = around n b.0 b.1 (second_true (scopes == 1) (is_foreign_name b.0) w.0) in
         subst (InstanceScopeStands Outside own) (some_is (in_instance b.0 scope) next w.1) (pushed scope b.0 st (slot_wider Outside (Met scope.shown) (λ place name k h. outside h) b.0 good))
-    instance_step_stands (Declaration.exported name described) scope next e st =
-        let w = when_some (is_simple name) (show own name described scope) next e in
-        shown_stands name described scope next w.1 st
+    instance_step_stands (Declaration.exported name described) scope next e st = shown_stands name described scope next (when_some (is_simple name) (show own name described scope) next e).1 st
     instance_step_stands _ scope next e st = absurd cc
 
     pub instance_steps_stand : (ds : List Declaration) (scope next : InstanceScope) → instance_steps own outer scope ds ≡ Some next → InstanceScopeStands Outside own scope
@@ -175,17 +161,13 @@ module _ (Outside : Place → Text → Bool → Type 0) (own : Place) where
     pub new_instance_stands : InstanceScopeStands Outside own new_instance
     new_instance_stands = record {
       slots = none_at (λ n (s : Slot). SlotStands (Met new_instance.shown) s);
-      shown = record {
-        types = none_at (TypeStands Outside own new_instance.shown);
-        functions = none_at (λ n (f : Text × FunctionMeaning). SignatureStands (Met new_instance.shown) f.1.signature);
-      };
+      shown = record { types = none_at (TypeStands Outside own new_instance.shown); functions = none_at (λ n (f : Text × FunctionMeaning). SignatureStands (Met new_instance.shown) f.1.signature) };
     }
 
     pub view_stands : (ds : List Declaration) (view : View) → instance_view own outer ds ≡ Some view → ViewStands Outside own view
     view_stands ds view e =
         let b = bind_some (instance_steps own outer new_instance ds) _ view e in
-        let st = instance_steps_stand ds new_instance b.0 b.1 new_instance_stands in
-        subst (ViewStands Outside own) (some_is b.0.shown view b.2) st.shown
+        subst (ViewStands Outside own) (some_is b.0.shown view b.2) (instance_steps_stand ds new_instance b.0 b.1 new_instance_stands).shown
 
 -- a view stays well-formed where more was shown outside
 pub view_wider : (Outside More : Place → Text → Bool → Type 0) → ((place : Place) (name : Text) (b : Bool) → Outside place name b → More place name b) → (own : Place) (view : View)
@@ -193,15 +175,13 @@ pub view_wider : (Outside More : Place → Text → Bool → Type 0) → ((place
 view_wider Outside More wider own view st =
     let met : (k : ℕ) (place : Place) (name : Text) (b : Bool) → IsMetInView Outside own view k place name b → IsMetInView More own view k place name b = met_more in
     record {
-      types = all_weaker (TypeStands Outside own view) (TypeStands More own view) view.types
-          (λ k t within h. record {
-            is_resource = h.is_resource;
-            slot = h.slot;
-            declared = declaration_wider (IsMetInView Outside own view k) (IsMetInView More own view k) (met k) t.meaning.declaration h.is_resource h.declared;
-          }) st.types;
-      functions = all_weaker (λ n (f : Text × FunctionMeaning). SignatureStands (IsMetInView Outside own view (length view.types)) f.1.signature)
-          (λ n f. SignatureStands (IsMetInView More own view (length view.types)) f.1.signature) view.functions
-          (λ k f within h. signature_wider (IsMetInView Outside own view (length view.types)) (IsMetInView More own view (length view.types)) (met (length view.types)) f.1.signature h) st.functions;
+      types = all_weaker _ _ view.types (λ k t within h. record {
+        is_resource = h.is_resource;
+        slot = h.slot;
+        declared = declaration_wider (IsMetInView Outside own view k) (IsMetInView More own view k) (met k) t.meaning.declaration h.is_resource h.declared;
+      }) st.types;
+      functions = all_weaker _ _ view.functions (λ k f within h. signature_wider (IsMetInView Outside own view (length view.types)) (IsMetInView More own view (length view.types))
+          (met (length view.types)) f.1.signature h) st.functions;
     }
   where
     met_more : (k : ℕ) (place : Place) (name : Text) (b : Bool) → IsMetInView Outside own view k place name b → IsMetInView More own view k place name b

@@ -1,16 +1,12 @@
 -- What is well-formed stays so where more names are met.
-use Rattle.std.proofs.Common.{rules as std_rules}
-use Rattle.std.proofs.{Common.Bool, Common.true, Common.false, ByRecursion.All-weaker as recursion_weaker}
+use Rattle.std.proofs.{Common.rules as std_rules, Common.Bool, Common.true, Common.false, ByRecursion.All-weaker as recursion_weaker}
 use Rattle.wit_model.specs.{Text.Text, Tree.Place, Tree.Tree, Tree.Trees, Meaning.Signature}
 use Rattle.comp_meaning.specs.Follow.{Slot}
-use Rattle.read_shown.specs.Trees.{is_handle, HandleStands, TreeStands, PartsStand, SignatureStands, DeclarationStands, SlotStands}
+use Rattle.read_shown.specs.Trees.{is_handle, TreeStands, PartsStand, SignatureStands, DeclarationStands, SlotStands}
 use Rattle.read_shown.proofs.Lists.{some_weaker}
 use Rattle.wit_model.specs.Tree as tree
 
 module _ (Met More : Place → Text → Bool → Type 0) (wider : (place : Place) (name : Text) (b : Bool) → Met place name b → More place name b) where
-  handle_wider : (ts : Trees) → HandleStands Met ts → HandleStands More ts
-  handle_wider x h = search std_rules
-
   mutual
     pub tree_wider : (t : Tree) → TreeStands Met t → TreeStands More t
     tree_wider (Tree.primitive p) h = tt
@@ -18,15 +14,12 @@ module _ (Met More : Place → Text → Bool → Type 0) (wider : (place : Place
     tree_wider (Tree.node form ts) h = (h.0, parts_wider (is_handle form) ts h.1)
 
     parts_wider : (handle : Bool) (ts : Trees) → PartsStand Met handle ts → PartsStand More handle ts
-    parts_wider true ts h = handle_wider ts h
+    parts_wider true ts h = search std_rules
     parts_wider false Trees.no_children h = tt
     parts_wider false (Trees.child t ts) h = (tree_wider t h.0, parts_wider false ts h.1)
 
   pub signature_wider : (f : Signature) → SignatureStands Met f → SignatureStands More f
-  signature_wider f h = (
-    recursion_weaker (λ (p : Text × Tree). TreeStands Met p.1) (λ p. TreeStands More p.1) (λ p. tree_wider p.1) f.params h.0,
-    some_weaker (TreeStands Met) (TreeStands More) tree_wider f.result h.1,
-  )
+  signature_wider f h = search (std_rules, recursion_weaker, tree_wider, some_weaker)
 
   pub declaration_wider : (d : tree.Declaration) (b : Bool) → DeclarationStands Met d b → DeclarationStands More d b
   declaration_wider (tree.Declaration.type_ (Tree.named place name)) b h = wider place name b h

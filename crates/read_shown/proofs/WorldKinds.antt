@@ -15,12 +15,9 @@ module _ (instances : List Instance) (imports : List Seen) (apart : distinct (ma
     (kinds : Text → Text → Bool) (are : (path name : Text) (b : Bool) → IsShownBefore instances (length instances) (Place.of_interface path) name b → b ≡ kinds path name) where
   -- one name, one declaration
   imported_once : (m n : ℕ) (x y : Text) (d e : Declaration) → x ≡ y → IsImported imports m x d → IsImported imports n y e → d ≡ e
-  imported_once m n x y d e same i j =
-      let at_i : slice_get (map (λ (z : Seen). z.key) imports) i.number ≡ Some y = mapped_get (λ (z : Seen). z.key) imports i.number i.seen i.at ∙ ap Some (i.key ∙ same) in
-      let at_j : slice_get (map (λ (z : Seen). z.key) imports) j.number ≡ Some y = mapped_get (λ (z : Seen). z.key) imports j.number j.seen j.at ∙ ap Some j.key in
-      let number : i.number ≡ j.number = one_place (map (λ (z : Seen). z.key) imports) apart i.number j.number y at_i at_j in
-      let seen : i.seen ≡ j.seen = some_is i.seen j.seen (sym i.at ∙ (ap (λ k. slice_get imports k) number ∙ j.at)) in
-      declared_is d e (sym i.shown ∙ (ap (λ (z : Seen). z.shown) seen ∙ j.shown))
+  imported_once m n x y d e same i j = declared_is d e (sym i.shown ∙ (ap (λ (z : Seen). z.shown) (some_is _ _
+      (sym i.at ∙ (ap (λ k. slice_get imports k) (one_place (map (λ (z : Seen). z.key) imports) apart i.number j.number y
+      (mapped_get (λ (z : Seen). z.key) imports i.number i.seen i.at ∙ ap Some (i.key ∙ same)) (mapped_get (λ (z : Seen). z.key) imports j.number j.seen j.at ∙ ap Some j.key)) ∙ j.at))) ∙ j.shown))
 
   -- what the import of a name declares
   declaration_of : {m : ℕ} {x : Text} {b : Bool} → IsDeclared instances imports m x b → (d : Declaration) × IsImported imports m x d
@@ -93,22 +90,19 @@ module _ (instances : List Instance) (imports : List Seen) (apart : distinct (ma
       where
         by : (e : Declaration) → IsImported imports n name e → b ≡ own_kind name
         by e i =
-            let found : (k : ℕ) (s : Seen) → slice_get imports k ≡ Some s → Option Bool = λ k s h. kind_shown k s.shown (stand k s h) in
-            let first = keyed_is imports found name i.number i.seen i.at i.key in
-            let number : first.0 ≡ i.number = one_place (map (λ (z : Seen). z.key) imports) apart first.0 i.number name
-            (mapped_get (λ (z : Seen). z.key) imports first.0 first.1 first.2 ∙ ap Some first.3) (mapped_get (λ (z : Seen). z.key) imports i.number i.seen i.at ∙ ap Some i.key) in
-            let seen : first.1 ≡ i.seen = some_is first.1 i.seen (sym first.2 ∙ (ap (λ k. slice_get imports k) number ∙ i.at)) in
-            let shown : first.1.shown ≡ Shown.declares e = ap (λ (z : Seen). z.shown) seen ∙ i.shown in
+            let first = keyed_is imports (λ k s h. kind_shown k s.shown (stand k s h)) name i.number i.seen i.at i.key in
+            let shown : first.1.shown ≡ Shown.declares e = ap (λ (z : Seen). z.shown)
+            (some_is first.1 i.seen (sym first.2 ∙ (ap (λ k. slice_get imports k)
+            (one_place (map (λ (z : Seen). z.key) imports) apart first.0 i.number name (mapped_get (λ (z : Seen). z.key) imports first.0 first.1 first.2 ∙ ap Some first.3)
+            (mapped_get (λ (z : Seen). z.key) imports i.number i.seen i.at ∙ ap Some i.key)) ∙ i.at))) ∙ i.shown in
             let kind = kind_shown_is first.0 first.1.shown (stand first.0 first.1 first.2) e shown in
-            let there = imported_at imports first.0 first.1 first.2 name e first.3 shown in
-            let last = declared_last instances imports (length imports) name e kind.0 there kind.2 in
+            let last = declared_last instances imports (length imports) name e kind.0 (imported_at imports first.0 first.1 first.2 name e first.3 shown) kind.2 in
             let same = imported_once n (length imports) name name (declaration_of d).0 (declaration_of last).0 refl (declaration_of d).1 (declaration_of last).1 in
             declared_alike d last same (ap names_another same) ∙ sym (ap (λ o. unwrap_or o false) (first.4 ∙ kind.1))
 
     pub met_is : (n : ℕ) (place : Place) (name : Text) (b : Bool) → IsMetInScope instances imports n place name b → b ≡ kind_at kinds own_kind place name
     met_is n place name b (by_import here d) = own_is d ∙ ap (λ p. kind_at kinds own_kind p name) (sym here)
-    met_is n place name b (by_instance s) =
-        are s.path name b (subst (λ p. IsShownBefore instances (length instances) p name b) s.stands s) ∙ ap (λ p. kind_at kinds own_kind p name) (sym s.stands)
+    met_is n place name b (by_instance s) = are s.path name b (subst (λ p. IsShownBefore instances (length instances) p name b) s.stands s) ∙ ap (λ p. kind_at kinds own_kind p name) (sym s.stands)
 
     -- what the imports and the exports declare and use
     pub import_is : (n : ℕ) (s : Seen) → slice_get imports n ≡ Some s → ShownHasKind (kind_at kinds own_kind) s.key s.shown
@@ -118,8 +112,7 @@ module _ (instances : List Instance) (imports : List Seen) (apart : distinct (ma
         by (Shown.instance key view) e h = tt
         by (Shown.function f) e h = signature_wider (IsMetInScope instances imports n) (OfKind (kind_at kinds own_kind)) (met_is n) f h
         by (Shown.declares d) e h =
-            let there = imported_at imports n s at s.key d refl e in
-            subst (DeclarationStands (OfKind (kind_at kinds own_kind)) d) (own_is (declared_last instances imports (length imports) s.key d h.0 there h.1))
+            subst (DeclarationStands (OfKind (kind_at kinds own_kind)) d) (own_is (declared_last instances imports (length imports) s.key d h.0 (imported_at imports n s at s.key d refl e) h.1))
             (declaration_wider (IsMetInScope instances imports n) (OfKind (kind_at kinds own_kind)) (met_is n) d h.0 h.1)
 
     pub export_is : (s : Seen) → ShownStands instances imports (length imports) s.shown → is_type s.shown ≡ false → ShownHasKind (kind_at kinds own_kind) s.key s.shown

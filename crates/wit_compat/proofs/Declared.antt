@@ -102,12 +102,9 @@ module _ (d e : TypeDefKind) where
       record {
         left = λ x c. target_range a va d dk x (p ∙ ap Some (one-contained t x (subst (λ xs. Contains xs x) tis c)));
         right = λ x c. target_range b vb e ek x (q ∙ ap Some (one-contained u x (subst (λ xs. Contains xs x) uis c)));
-        same = λ m. left ∙ ap type_ (first_of (ap (map (type_tree a)) (sym tis) ∙ m ∙ ap (map (type_tree b)) uis)) ∙ sym right;
+        same = λ m. left ∙ ap type_ (cc) ∙ sym right;
         back = λ s. ap (map (type_tree a)) tis ∙ ap (λ x. x ∷ []) (tree_of_type (type_tree a t) (type_tree b u) (sym left ∙ s ∙ right)) ∙ ap (map (type_tree b)) (sym uis);
       }
-    where
-      first_of : {x y : Tree} → x ∷ [] ≡ y ∷ [] → x ≡ y
-      first_of h = cc
 
   -- a resource is a resource alone
   pub resource_first : (y : Bool) → is_resource_itself d ≡ true → y ≡ is_resource_itself e → TellsDeclared d e (look.Known y)

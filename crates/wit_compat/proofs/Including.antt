@@ -61,15 +61,12 @@ module _ (r : Resolve) (back : Bool) (large : List (Name × Thing)) where
   pub stand_more : (old new : List Pair) (es : List Entry) (e : Entry) → AllStand r back large old es → AreAmong old new → Stands r back large new e → AllStand r back large new (es ++ e ∷ [])
   stand_more old new es e h kept s x c = search (std_rules, Contains-push_cases es e x c)
 
-  pub entry_among : (es : List Entry) (e : Entry) → Contains es e → AreAmong (pairs_of_entry r back large (named_thing e)) (pairs_shared r back (map named_thing es) large)
-  entry_among es e c p q = contains-flat (pairs_of_entry r back large) (map named_thing es) (named_thing e) p (contains_mapped named_thing es e c) q
-
   -- what is reached from what has been reached, and one entry's pairs
   pub reached_more : (roots mid new : List Pair) (es : List Entry) (e : Entry) → Contains es e → AreReached r (roots ++ pairs_shared r back (map named_thing es) large) mid
       → AreReached r (mid ++ pairs_of_entry r back large (named_thing e)) new → AreReached r (roots ++ pairs_shared r back (map named_thing es) large) new
   reached_more roots mid new es e c h j =
       reached_join r (roots ++ pairs_shared r back (map named_thing es) large) mid (pairs_of_entry r back large (named_thing e)) new h
-      (λ q x. Contains-append_right roots _ q (entry_among es e c q x)) j
+      (λ q x. Contains-append_right roots _ q (contains-flat (pairs_of_entry r back large) (map named_thing es) (named_thing e) q (contains_mapped named_thing es e c) x)) j
 
   -- an entry that doesn't stand, after those that do
   pub first_fault : (keys : List Pair) (front rest : List Entry) (e : Entry) (x : Error) → AllStand r back large keys front → IsEntryFault (all_shown r large) (shown_entry r e) x

@@ -1,5 +1,5 @@
 -- Texts by number: a number is one text's, and stays.
-use Rattle.std.proofs.Common.{rules as std_rules, ◌≡◌, refl, sym, ap, ◌∙◌, ℕ, ◌+◌, ◌==◌, suc, ◌↔◌, IsTrue, Bool, true, false, cond, not, ◌||◌, List, [], ◌∷◌, ◌++◌, map, Option, Some, None, option_map, slice_get, subst, true≢false}
+use Rattle.std.proofs.Common.{rules as std_rules, ◌≡◌, refl, sym, ap, ◌∙◌, ℕ, ◌+◌, ◌==◌, suc, ◌↔◌, IsTrue, Bool, true, false, cond, not, ◌||◌, List, [], ◌∷◌, ◌++◌, map, Option, Some, None, option_map, slice_get, true≢false}
 use Rattle.std.proofs.lemmas.{Bool.eqb-true, Bool.eq-eqb, List.map-append}
 use Rattle.std.specs.{Borrow.Bor, List.list_any, List.position_or_len}
 use Rattle.wit_model.specs.Text.{Text, text_eq}
@@ -11,9 +11,6 @@ use Rattle.base_lemmas.proofs.Options.{some_is, some_same}
 abbrev is_text : Text → Bor (List ℕ) → Bool
 is_text t k = text_eq t k.now
 
-some_suc : (o : Option ℕ) (n : ℕ) → option_map suc o ≡ Some n → (m : ℕ) × (o ≡ Some m) × (suc m ≡ n)
-some_suc x n h = search std_rules
-
 -- ---- a text more
 
 -- what is appended changes no number
@@ -23,8 +20,7 @@ number-append (k ∷ ks) ls t n h = by (text_eq t k.now) h (number-append ks ls 
   where
     by : (b : Bool) → cond b (Some 0) (option_map suc (number_in ks t)) ≡ Some n → ((m : ℕ) → number_in ks t ≡ Some m → number_in (ks ++ ls) t ≡ Some m)
         → cond b (Some 0) (option_map suc (number_in (ks ++ ls) t)) ≡ Some n
-    by true e later = e
-    by false e later = let w = some_suc (number_in ks t) n e in ap (option_map suc) (later w.0 w.1) ∙ ap Some w.2
+    by x e later = search std_rules
 
 step : (b : Bool) (o : Option ℕ) (m : ℕ) → (b ≡ false → o ≡ Some m) → cond b (Some 0) (option_map suc o) ≡ Some (cond (not b) (1 + m) 0)
 step x o m h = search std_rules
@@ -69,8 +65,7 @@ number_there (k ∷ ks) t n h = by (text_eq t k.now) refl h (number_there ks t)
   where
     by : (b : Bool) → text_eq t k.now ≡ b → cond b (Some 0) (option_map suc (number_in ks t)) ≡ Some n
         → ((m : ℕ) → number_in ks t ≡ Some m → slice_get (map (λ k. k.now) ks) m ≡ Some t) → slice_get (k.now ∷ map (λ k. k.now) ks) n ≡ Some t
-    by true e h later = subst (λ m. slice_get (k.now ∷ map (λ k. k.now) ks) m ≡ Some t) (some_same 0 n h) (ap Some (sym (text_same t k.now e)))
-    by false e h later = let w = some_suc (number_in ks t) n h in subst (λ m. slice_get (k.now ∷ map (λ k. k.now) ks) m ≡ Some t) w.2 (later w.0 w.1)
+    by x e h later = search std_rules
 
 one_text : (ks : BorrowedTexts) (t u : Text) (n : ℕ) → number_in ks t ≡ Some n → number_in ks u ≡ Some n → t ≡ u
 one_text ks t u n h g = some_is t u (sym (number_there ks t n h) ∙ number_there ks u n g)

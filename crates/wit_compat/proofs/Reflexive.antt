@@ -12,7 +12,7 @@ use Rattle.wit_model.specs.Valid.{IsValid, as_interface, functions_of_interface,
 use Rattle.wit_model.proofs.Entries.{each_from_all, each_from_at, lists_pass, none_breaks}
 use Rattle.wit_model.proofs.Listings.{interface_fits, misnamed_in_interface_breaks}
 use Rattle.wit_compat.specs.{Compatible.Accepts, Compatible.HasKeysOnce, Compatible.IsIncluded, Compatible.bare_keys, Opened.bare_key}
-use Rattle.wit_compat.specs.Flat.{Name, Shown, Thing, interface, of_type, of_function, entry_things, find_named, flat, function_member, item_things, members, same_name, shown, things_of, type_member}
+use Rattle.wit_compat.specs.Flat.{Name, Shown, Thing, interface, of_type, of_function, entry_things, find_named, flat, function_member, members, same_name, shown, things_of, type_member}
 use Rattle.wit_compat.proofs.{Including.found_shown, Indexing.same_name_is, Keyed.item_key, Keyed.of_members, Validity.interface_numbers}
 use Rattle.wit_compat.proofs.Either.{flat_from, of_first, of_two}
 use Rattle.base_lemmas.proofs.{Bools.left_of as first_true, Bools.right_of as second_true, Lists.within_there as found_at}
@@ -172,9 +172,6 @@ module _ (r : Resolve) (v : IsValid r) where
   optional_apart k n None at = one_apart ((k, []), interface)
   optional_apart k n (Some i) at = (members_not_empty n i at k, interface_members_apart n i at k)
 
-  item_apart : (k : Text) (i : WorldItem) → AreApart (item_things r k i)
-  item_apart k x = search (std_rules, one_apart, optional_apart)
-
   entry_key : (es : List (WorldKey × WorldItem)) (x : Name × Thing) → Contains (things_of r es) x → (e : WorldKey × WorldItem) × Contains es e × (x.0.0 ≡ bare_key r e.0)
   entry_key es x c = let w = flat_from (entry_things r) es x c in (w.0, w.1, item_key r (bare_key r w.0.0) w.0.1 x w.2)
 
@@ -183,7 +180,7 @@ module _ (r : Resolve) (v : IsValid r) where
   things_apart : (es : List (WorldKey × WorldItem)) → IsDistinct text_eq (bare_keys r es) → AreApart (things_of r es)
   unfolding IsDistinct
   things_apart [] d = tt
-  things_apart (e ∷ es) d = apart_two (entry_things r e) (things_of r es) (item_apart (bare_key r e.0) e.1) (things_apart es d.1) across
+  things_apart (e ∷ es) d = apart_two (entry_things r e) (things_of r es) (search (std_rules, one_apart, optional_apart)) (things_apart es d.1) across
     where
       across : (x y : Name × Thing) → Contains (entry_things r e) x → Contains (things_of r es) y → x.0 ≡ y.0 → ⊥
       across x y a b q =

@@ -46,8 +46,7 @@ module _ {X : Type 0} where
   found_by fs (e ∷ es) a q x h = by (text_eq q e.0) refl h (found_by fs es a.1 q x)
     where
       by : (b : Bool) → text_eq q e.0 ≡ b → cond b (Some e.1) (under q es) ≡ Some x → (under q es ≡ Some x → under q fs ≡ Some x) → under q fs ≡ Some x
-      by true t h later = ap (λ k. under k fs) (text-same q e.0 t) ∙ a.0 ∙ h
-      by false t h later = later h
+      by x t h later = search std_rules
 
   -- a name among those of the list
   key_some : (q : Text) (es : List (Text × X)) → list_any (text_eq q) (keys_of es) ≡ true → IsSome (under q es)

@@ -13,7 +13,7 @@ use Rattle.wit_model.proofs.{Entries.each_from_at, Entries.lists_pass, TreeTable
 use Rattle.wit_compat.specs.declared.{look.Look.Look, side.Path.Path}
 use Rattle.wit_compat.specs.{Opened.form_of, Opened.is_there, Opened.opened_kind, Opened.places_of, Table.AllInRange, Table.InRange, Table.is_alias, Walk.Pair}
 use Rattle.wit_compat.specs.TwoSides.{path_text, IsKnown, name_leaf, rank, AllSame, IsParted, SameType, Says}
-use Rattle.wit_compat.proofs.Alike.{below_number, is_below, node_children, node_form, places_below, primitive_back, primitive_in, tree_of_number}
+use Rattle.wit_compat.proofs.Alike.{below_number, is_below, node_children, node_form, places_below, primitive_back, primitive_in}
 use Rattle.wit_compat.proofs.OpenedTable.{built, opened_built}
 use Rattle.base_lemmas.proofs.{Bools.left_of as first_true, Bools.not_or, Elements.all-contained as all_contained, Elements.get-contains as contains_at}
 use Rattle.base_lemmas.proofs.Lists.{take_found as take_more_at, within_there as found_at}
@@ -106,9 +106,6 @@ module _ (r : Resolve) (v : IsValid r) (n : ℕ) (def : TypeDef) (at : type_at r
 
 -- ---- two types
 
-primitive_trees : (t : ValueType) → number_of t ≡ None → (trees more : List Tree) → tree_of trees t ≡ tree_of more t
-primitive_trees x e trees more = search std_rules
-
 name_no_node : (p : Place) (name : Text) (f : Form) (ts : Trees) → named p name ≡ node f ts → ⊥
 name_no_node p name f ts e = cc
 
@@ -124,11 +121,8 @@ module _ (a b : Resolve) (va : IsValid a) (vb : IsValid b) where
           let tree : tree_of (trees_of b) u ≡ number_tree b id.0 = ap (tree_of (trees_of b)) e in
           no_some t (sym (ap primitive_in (same ∙ tree) ∙ no_primitive_at b vb id.0 found.0 found.1) ∙ primitive_back (trees_of a) t none)
 
-  pub primitive_same : (t u : ValueType) → number_of t ≡ None → t ≡ u → SameType a b t u
-  primitive_same t u none e = primitive_trees t none (trees_of a) (trees_of b) ∙ ap (tree_of (trees_of b)) e
-
   pub primitive_exact : (t u : ValueType) (y : Bool) → (y ≡ true → t ≡ u) → (y ≡ false → t ≡ u → ⊥) → number_of t ≡ None → InRange b u → IsTrue y ↔ SameType a b t u
-  primitive_exact t u true same differ none range = (λ h. primitive_same t u none (same refl), λ h. refl)
+  primitive_exact t u true same differ none range = (λ h. ((search std_rules) ∙ ap (tree_of (trees_of b)) (same refl)), λ h. refl)
   primitive_exact t u false same differ none range = (λ h. absurd (let z : ⊥ = cc in z), λ h. absurd (differ refl (primitive_alone t u none range h)))
 
   module _ (n m : ℕ) (d e : TypeDef) (dat : type_at a n ≡ Some d) (eat : type_at b m ≡ Some e) where
@@ -248,8 +242,7 @@ pub remembered : (a b : Resolve) (t u : ValueType) (old new : List Pair) (n m : 
 remembered a b t u old new n m tn um same h k p c = by (k p c)
   where
     by : Contains old p ⊎ ((n, m) ≡ p) → number_tree a p.0 ≡ number_tree b p.1
-    by (inl d) = h p d
-    by (inr e) = subst (λ (q : Pair). number_tree a q.0 ≡ number_tree b q.1) e (sym (tree_of_number (trees_of a) t n tn) ∙ same ∙ tree_of_number (trees_of b) u m um)
+    by x = search std_rules
 
 pub inserted : (c : Bool) (old : List Pair) (k p : Pair) → Contains (cond c old (old ++ k ∷ [])) p → Contains old p ⊎ (k ≡ p)
 inserted true old k p d = inl d

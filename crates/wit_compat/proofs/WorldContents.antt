@@ -26,10 +26,6 @@ module _ {X : Type 0} where
   last_put q [] e o = search std_rules
   last_put q (d ∷ ds) e o = search (std_rules, under, last_put q ds e o)
 
-  -- a name that is there already stays as it is
-  stays_put : (q : Text) (es : List (Text × X)) (e : Text × X) (o : Option X) (y : X) → under e.0 es ≡ Some y → or_first (under q es) o ≡ or_first (under q es) (cond (text_eq q e.0) (Some e.1) o)
-  stays_put q es e o y h = search std_rules
-
 none_over : {X : Type 0} (o : Option X) → or_first o None ≡ o
 none_over x = search std_rules
 
@@ -77,7 +73,7 @@ module _ (r : Resolve) where
         ∙ opened q
 
     made_stays : (y : Entry InterfaceSense) → under (key_text r k) (map (sense_entry r) made) ≡ Some y → IsSplit made next all
-    made_stays y h q = stays_put q (map (sense_entry r) made) (key_entry (k, i)) (under q (map key_entry next)) y h ∙ opened q
+    made_stays y h q = (search std_rules) ∙ opened q
 
     found_again : (key : String Global) → IsSome (lookup (λ k. text_eq (text_of key) (text_of k)) made) → (y : Entry InterfaceSense) × (under (text_of key) (map (sense_entry r) made) ≡ Some y)
     found_again key h =

@@ -23,8 +23,7 @@ returns-in-Ok-clause-whole c =
       whole = is_body entry_law c.args.count c.args.bytes.now c.in-Ok.rest.now passed c.cut-body.result c.cut-body.ensures.count c.cut-body.ensures.bytes;
       first = (
         c.requires.first.0,
-        ap entry_at c.cut-body.ensures.bytes
-            ∙ (still_first c.args.bytes.now (c.args.count - 1) e c.args.others.now c.requires.first.1 c.in-Ok.rest.now c.in-Ok.ensures
+        ap entry_at c.cut-body.ensures.bytes ∙ (still_first c.args.bytes.now (c.args.count - 1) e c.args.others.now c.requires.first.1 c.in-Ok.rest.now c.in-Ok.ensures
             ∙ ap (λ (ys : List ℕ). Some (e, ys)) (sym c.cut.ensures.bytes)),
       );
     }

@@ -28,7 +28,6 @@ returns-in_ok-push-in-Ok-Keyed-clause-defined c =
     n.table.0 n.table.1 c.requires node n.found n.adds c.in_ok-push-in-Ok-Keyed.ensures.items
 
 pub returns-in-Err-clause-refused : goal.returns-in-Err-clause-refused
-returns-in-Err-clause-refused c =
-    undefined c.args.table.now c.args.slots.now.items (raw_defined c.args.definition.now) c.in-Err.refusal c.is_well_formed.ensures
+returns-in-Err-clause-refused c = undefined c.args.table.now c.args.slots.now.items (raw_defined c.args.definition.now) c.in-Err.refusal c.is_well_formed.ensures
     (subst (λ (ss : List Slot). IsDefinitionOf ss (raw_defined c.args.definition.now) (Err c.in-Err.refusal)) c.deref.ensures.value
     (subst (λ (x : Refusal). IsDefinitionOf c.deref.result.now (raw_defined c.args.definition.now) (Err x)) c.in-Err.refusal-is c.in-Err.ensures))

@@ -21,6 +21,5 @@ returns-in_ok-push-in-Ok-clause-defined c =
     }
 
 pub returns-in-Err-clause-refused : goal.returns-in-Err-clause-refused
-returns-in-Err-clause-refused c =
-    subst (λ (ss : List Slot). (T : List Tree) (F : List Signature) → Refuses c.in-Err.refusal (function_signature (slots_in T F ss) (raw_function c.args.function.now))) c.deref.ensures.value
-    c.in-Err.ensures
+returns-in-Err-clause-refused c = subst (λ (ss : List Slot). (T : List Tree) (F : List Signature) → Refuses c.in-Err.refusal (function_signature (slots_in T F ss) (raw_function c.args.function.now)))
+    c.deref.ensures.value c.in-Err.ensures

@@ -4,9 +4,8 @@ use Rattle.read_follow.proofs.RowLaws.{case_refused, case_row, case_rows, part_m
 use Rattle.read_follow.proofs.definition_keys.case_parts.Goals as goal
 
 pub returns-in-Err-clause-absent : goal.returns-in-Err-clause-absent
-returns-in-Err-clause-absent c =
-    case_refused c.args.slots.now c.args.cases.now c.loop-case.case-index (map label_of c.loop-case.labels.items) c.loop-case.parts.items c.loop-case.invariant.so_far _ c.loop-case-test.true
-    c.in-Err.refusal c.in-Err.ensures.found
+returns-in-Err-clause-absent c = case_refused c.args.slots.now c.args.cases.now c.loop-case.case-index (map label_of c.loop-case.labels.items) c.loop-case.parts.items c.loop-case.invariant.so_far _
+    c.loop-case-test.true c.in-Err.refusal c.in-Err.ensures.found
 
 pub loop-case-preserved : goal.loop-case-preserved
 loop-case-preserved c = record {

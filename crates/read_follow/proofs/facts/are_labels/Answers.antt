@@ -9,5 +9,4 @@ returns c = labels_good c.are_distinct_by.result (map (λ l. l.0.now) c.args.lab
     c.are_distinct_by.ensures
 
 pub returns-then-not-are_all_labels : goal.returns-then-not-are_all_labels
-returns-then-not-are_all_labels c =
-    sym (ap (λ b. b && distinct (map (λ l. l.0.now) c.args.labels.now)) (list_all-map is_label (λ l. l.0.now) c.args.labels.now ∙ sym c.if-not-are_all_labels.ensures))
+returns-then-not-are_all_labels c = sym (ap (λ b. b && distinct (map (λ l. l.0.now) c.args.labels.now)) (list_all-map is_label (λ l. l.0.now) c.args.labels.now ∙ sym c.if-not-are_all_labels.ensures))

@@ -14,6 +14,5 @@ pub returns-clause-joins : goal.returns-clause-joins
 returns-clause-joins c = joins function_shape same_function function_again c.args.keys.now.keys c.insert_full.new.self.keys c.args.key _ refl c.in_ok-number.ensures.keys
 
 pub returns-clause-apart : goal.returns-clause-apart
-returns-clause-apart c =
-    joined_apart (map function_shape c.args.keys.now.keys) (function_shape c.args.key) c.requires (map function_shape c.insert_full.new.self.keys)
+returns-clause-apart c = joined_apart (map function_shape c.args.keys.now.keys) (function_shape c.args.key) c.requires (map function_shape c.insert_full.new.self.keys)
     (joins function_shape same_function function_again c.args.keys.now.keys c.insert_full.new.self.keys c.args.key _ refl c.in_ok-number.ensures.keys)

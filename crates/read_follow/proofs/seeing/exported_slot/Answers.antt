@@ -12,8 +12,7 @@ returns-in_err-slot-in-Some-clause-names c = names_stay c.args.names.now c.find_
     (rw c.deref.ensures.value at c.find_type.ensures.adds)
 
 pub returns-in_ok-slot-in-Some-clause-found : goal.returns-in_ok-slot-in-Some-clause-found
-returns-in_ok-slot-in-Some-clause-found c paths e =
-    subst (λ (o : Option Instance). Gives (λ s. s) c.marked.result (slot_of_instance paths c.args.name.now o)) c.in-Some.ensures
+returns-in_ok-slot-in-Some-clause-found c paths e = subst (λ (o : Option Instance). Gives (λ s. s) c.marked.result (slot_of_instance paths c.args.name.now o)) c.in-Some.ensures
     (subst (λ (o : Option Slot). Gives (λ s. s) c.marked.result (marked_slot paths c.in-Some.instance.now.place o))
     (c.in_ok-slot-in-Some.ensures.found ∙ ap (find_slot c.args.name.now) c.deref.ensures.value) (c.marked.ensures paths e))
 

@@ -3,6 +3,7 @@ use Rattle.read_follow.specs.{Defining.Grows, ExternNames.raw_name, InstanceScop
 use Rattle.read_follow.specs.Scopes.{direction, world_of, Goes, HasNoUsedView, IsInstanceAdded, IsUsedView}
 use Rattle.comp_meaning.specs.Follow.{see_instance}
 use Rattle.read_follow.proofs.{FollowingLaws.on_ok, UsedLaws.instance_goes, UsedLaws.instance_stops}
+use Rattle.read_follow.proofs.ScopeLaws.{world_with}
 use Rattle.read_follow.proofs.seeing.see_instance.Goals as goal
 
 pub returns-in-Ok-used_view-clause-seen : goal.returns-in-Ok-used_view-clause-seen
@@ -19,17 +20,8 @@ returns-in-Ok-used_view-clause-seen c =
     (Goes 0 (see_instance (direction c.args.is_import) (raw_name c.args.name) c.args.n) old new) c.push_instance.result
     (λ a. instance_goes old c.requires c.args.is_import c.args.name c.args.n c.key_of.new.places c.in-Ok.key c.in-Ok.ensures.key c.in-Ok.ensures.grows c.in-Ok.ensures.fresh c.in-Ok.ensures.only
     c.in-Ok-used_view.view c.used_view.new.table c.used_view.new.functions shown new
-    (λ i. record {
-      home = a.home i;
-      shapes = c.used_view.new.table;
-      signatures = c.used_view.new.functions;
-      paths = c.key_of.new.places;
-      slots = (a.slots i).items;
-      instances = a.instances i;
-      imports = a.imports i;
-      exports = a.exports i;
-      used = a.used i;
-    })) c.push_instance.ensures.added
+    (λ i. world_with (a.home i) c.used_view.new.table c.used_view.new.functions c.key_of.new.places ((a.slots i).items) (a.instances i) (a.imports i) (a.exports i) (a.used i)))
+    c.push_instance.ensures.added
 
 pub returns-in-Err-used_view-clause-absent : goal.returns-in-Err-used_view-clause-absent
 returns-in-Err-used_view-clause-absent c =
@@ -42,7 +34,6 @@ returns-in-Err-used_view-clause-absent c =
     instance_stops old c.requires c.args.is_import c.args.name c.args.n c.key_of.new.places c.in-Ok.key c.in-Ok.ensures.key c.in-Err-used_view.refusal none
 
 pub returns-in-Ok-used_view-clause-instances : goal.returns-in-Ok-used_view-clause-instances
-returns-in-Ok-used_view-clause-instances c =
-    on_ok (IsInstanceAdded c.args.scope.now c.push_instance.new.scope c.args.is_import c.in-Ok.key c.args.name.external_id c.args.n c.in-Ok-used_view.view)
+returns-in-Ok-used_view-clause-instances c = on_ok (IsInstanceAdded c.args.scope.now c.push_instance.new.scope c.args.is_import c.in-Ok.key c.args.name.external_id c.args.n c.in-Ok-used_view.view)
     (Grows c.args.scope.now.instances.items c.push_instance.new.scope.instances.items) c.push_instance.result
     (λ a. record { more = record { place = place_number c.in-Ok.key; view = c.in-Ok-used_view.view } ∷ []; is = a.instances }) c.push_instance.ensures.added

@@ -1,4 +1,4 @@
-use Rattle.std.proofs.Common.{◌∙◌, ap, sym, refl, ℕ, Option}
+use Rattle.std.proofs.Common.{sym, refl, ℕ, Option}
 use Rattle.wit_model.specs.Tree.{Place}
 use Rattle.comp_bytes.specs.declared.forms.ComponentTypeRef.{ComponentTypeRef}
 use Rattle.comp_meaning.specs.Follow.{InstanceScope as MeantScope, is_simple, show, show_function, show_type, when}
@@ -18,23 +18,10 @@ abbrev shows_type_of : ExternName → ComponentTypeRef → ℕ → (ℕ → Plac
 shows_type_of name kind here place = show_type (place here) (raw_name name) kind
 
 pub returns-in-Func-clause-shown : goal.returns-in-Func-clause-shown
-returns-in-Func-clause-shown c = λ marks fs st below.
-    let old = state_of c.args.table.now fs c.args.scope.now in
-    let new = state_of c.args.table.now fs c.show_function.new.scope in
-    on_ok (Steps marks c.args.here 1 (shows_function c.args.name c.in-Func.n) old new) (Steps marks c.args.here 1 (shows c.args.name c.args.kind c.args.here) old new) c.show_function.result
-    (steps_as marks c.args.here 1 (shows_function c.args.name c.in-Func.n) (shows c.args.name c.args.kind c.args.here) old new
-    (λ place meant. ap (λ b. when b (show (place c.args.here) (raw_name c.args.name) c.args.kind meant)) (sym c.if-not-is_simple.ensures) ∙ ap
-    (λ k. show (place c.args.here) (raw_name c.args.name) k meant) c.in-Func.is))
-    (c.show_function.ensures.shown marks c.args.here c.args.table.now fs st)
+returns-in-Func-clause-shown c = λ marks fs st below. rw (sym c.if-not-is_simple.ensures) (rw c.in-Func.is (c.show_function.ensures.shown marks c.args.here c.args.table.now fs st))
 
 pub returns-in-Func-clause-absent : goal.returns-in-Func-clause-absent
-returns-in-Func-clause-absent c = λ marks fs st.
-    let old = state_of c.args.table.now fs c.args.scope.now in
-    if_err (Halts marks (shows_function c.args.name c.in-Func.n) old) (Halts marks (shows c.args.name c.args.kind c.args.here) old) c.show_function.result
-    (λ e. halts_as marks (shows_function c.args.name c.in-Func.n) (shows c.args.name c.args.kind c.args.here) old e
-    (λ place meant. ap (λ b. when b (show (place c.args.here) (raw_name c.args.name) c.args.kind meant)) (sym c.if-not-is_simple.ensures) ∙ ap
-    (λ k. show (place c.args.here) (raw_name c.args.name) k meant) c.in-Func.is))
-    (c.show_function.ensures.absent marks c.args.table.now fs st)
+returns-in-Func-clause-absent c = λ marks fs st. rw (sym c.if-not-is_simple.ensures) (rw c.in-Func.is (c.show_function.ensures.absent marks c.args.table.now fs st))
 
 pub returns-in_default-clause-shown : goal.returns-in_default-clause-shown
 returns-in_default-clause-shown c = λ marks fs st below.

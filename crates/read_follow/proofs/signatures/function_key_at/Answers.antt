@@ -19,8 +19,7 @@ returns-in-Ok-outcome_in-clause-found c = λ T F.
 pub returns-in-Ok-clause-found : goal.returns-in-Ok-clause-found
 returns-in-Ok-clause-found c = λ T F.
     let slots = slots_in T F c.args.slots.now in
-    refused c.in-Err-outcome_in.refusal (made_at (given (value_type slots)) result_list_at c.in-Ok.behind.now)
-    (made_at (function_signature slots) (function_type_at c.args.is_async) c.args.bytes.now)
+    refused c.in-Err-outcome_in.refusal (made_at (given (value_type slots)) result_list_at c.in-Ok.behind.now) (made_at (function_signature slots) (function_type_at c.args.is_async) c.args.bytes.now)
     (no_end T slots c.args.is_async c.args.bytes.now c.in-Ok.params.items c.in-Ok.behind.now (c.in-Ok.ensures.found T F)) (c.in-Err-outcome_in.ensures.found T F)
 
 pub returns-clause-found : goal.returns-clause-found

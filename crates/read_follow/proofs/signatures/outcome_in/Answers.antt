@@ -7,9 +7,8 @@ use Rattle.read_follow.proofs.{ReadKeyLaws.made_some, ReadKeyLaws.made_unmeant, 
 use Rattle.read_follow.proofs.signatures.outcome_in.Goals as goal
 
 pub returns-in-Ok-given_in-clause-found : goal.returns-in-Ok-given_in-clause-found
-returns-in-Ok-given_in-clause-found c = λ T F.
-    made_some (given (value_type (slots_in T F c.args.slots.now))) result_list_at c.args.bytes.now c.in-Ok.v c.in-Ok.rest.now (option_map (part_tree T) c.in-Ok-given_in.part)
-    c.in-Ok.ensures (c.in-Ok-given_in.ensures.found T F)
+returns-in-Ok-given_in-clause-found c = λ T F. made_some (given (value_type (slots_in T F c.args.slots.now))) result_list_at c.args.bytes.now c.in-Ok.v c.in-Ok.rest.now
+    (option_map (part_tree T) c.in-Ok-given_in.part) c.in-Ok.ensures (c.in-Ok-given_in.ensures.found T F)
 
 pub returns-in-Err-given_in-clause-found : goal.returns-in-Err-given_in-clause-found
 returns-in-Err-given_in-clause-found c = λ T F.

@@ -36,6 +36,5 @@ loop-preserved c = record {
 }
 
 pub returns-clause-found : goal.returns-clause-found
-returns-clause-found c = λ T F.
-    all_items (made_at (field_type (slots_in T F c.args.slots.now)) field_at) (map (param_meant T) c.loop.params.items) c.args.count c.loop.counter c.args.bytes.now c.loop.rest.now
-    (c.loop.invariant.so_far T F) c.loop-test.false
+returns-clause-found c = λ T F. all_items (made_at (field_type (slots_in T F c.args.slots.now)) field_at) (map (param_meant T) c.loop.params.items) c.args.count c.loop.counter c.args.bytes.now
+    c.loop.rest.now (c.loop.invariant.so_far T F) c.loop-test.false

@@ -6,8 +6,7 @@ use Rattle.comp_bytes.proofs.builder.ComponentBuilder.custom_section.Goals as go
 pub returns-in_err-put_custom-clause-size : goal.returns-in_err-put_custom-clause-size
 returns-in_err-put_custom-clause-size c is =
     let long = rw c.deref.ensures.value at (c.in_err-put_custom.ensures.size (size_passed c.from_residual.result c.in_err-put_custom.field-0.0 c.from_residual.ensures.1 is)) in
-    rw (← c.self.view_is)
-    (custom_refused c.self.inside.done.items c.self.inside.items.items c.self.inside.count c.self.inside.exports c.self.inside.types c.self.invariant c.args.name.now c.args.contents.now long)
+    rw (← c.self.view_is) (custom_refused _ _ _ _ _ c.self.invariant c.args.name.now c.args.contents.now long)
 
 grown : (c : goal.After-self-2-1)
     → Grown c.self.inside.done.items c.self.inside.items.items c.self.inside.count c.self.inside.exports (Part.custom c.args.name.now c.args.contents.now)
@@ -15,8 +14,8 @@ grown : (c : goal.After-self-2-1)
     [] 0 false c.self.inside.types
 grown c =
     let few : c.self.inside.count < 2 ^ 32 = omega arith in
-    add_custom c.self.inside.done.items c.self.inside.items.items c.self.inside.count c.self.inside.exports c.self.inside.types c.self.invariant few
-    (rw c.deref.ensures.value at c.in_ok-put_custom.ensures.open_small) c.args.name.now c.args.contents.now c.in_ok-put_custom.ensures.spelled c.in_ok-put_custom.ensures.small
+    add_custom _ _ _ _ _ c.self.invariant few (rw c.deref.ensures.value at c.in_ok-put_custom.ensures.open_small) c.args.name.now c.args.contents.now c.in_ok-put_custom.ensures.spelled
+    c.in_ok-put_custom.ensures.small
 
 pub invariant_of-self-2 : goal.invariant_of-self-2
 invariant_of-self-2 c = rw (c.in_ok-put_custom.ensures.ok, c.deref.ensures.value, c.clear.ensures.items) (grown c).builds

@@ -9,9 +9,8 @@ pub returns-in_err-number-clause-apart : goal.returns-in_err-number-clause-apart
 returns-in_err-number-clause-apart c = paths_apart (map place_shape c.put.new.keys.keys) c.put.new.marks.items c.put.ensures.places
 
 pub returns-clause-found : goal.returns-clause-found
-returns-clause-found c =
-    counted_as c.counted.result c.in_ok-number.number (λ n. slice_get (map path_in (map place_shape c.put.new.keys.keys)) n ≡ Some (Some (text_of c.args.path))) c.counted.ensures.same
-    (mapped_get path_in (map place_shape c.put.new.keys.keys) c.in_ok-number.number (text_of c.args.path, 0) c.in_ok-number.ensures.found)
+returns-clause-found c = counted_as c.counted.result c.in_ok-number.number (λ n. slice_get (map path_in (map place_shape c.put.new.keys.keys)) n ≡ Some (Some (text_of c.args.path)))
+    c.counted.ensures.same (mapped_get path_in (map place_shape c.put.new.keys.keys) c.in_ok-number.number (text_of c.args.path, 0) c.in_ok-number.ensures.found)
 
 pub returns-clause-only : goal.returns-clause-only
 returns-clause-only c =
