@@ -34,8 +34,6 @@ tokens-unique (no_tokens p) y = sym (begin_at y _ p)
 tokens-unique (skip p a) y = tokens-unique a (begin_at y _ p)
 tokens-unique (token p a) y = let r = begin_at y _ p in cc (tokens-unique a r.2, r.1)
 
--- ---- what the page is for
-
 -- ---- which of two things stands there
 
 use_or_declared : {x y z : List Token} {p : PathTree} {names : List UsedName} {d : Declared} → ReadsUse x p names y → ReadsDeclared x d z → ⊥

@@ -129,8 +129,6 @@ quoted_at cs rest {ts} h more =
     subst (λ x. Tokens (34 ∷ x) (Quoted cs ∷ ts)) (append_assoc (body cs) (34 ∷ []) rest)
     (token_at 34 (body cs ++ (34 ∷ [])) rest (Quoted cs) refl refl (quoted_whole cs h) (quoted_ends cs rest h) more)
 
--- ---- what the page is for
-
 -- ---- documentation
 
 comment_ends : (line rest : List ℕ) → is_one_line line ≡ true → after_comment (line ++ 10 ∷ rest) ≡ 10 ∷ rest

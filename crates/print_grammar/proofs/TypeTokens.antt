@@ -111,7 +111,7 @@ mutual
       let r = types_reads (AndTypes other types) (right_of (is_well_type ty) _ h) e in
       let i = type_reads ty (left_of _ _ h) (comma_call r.1) in relist (i.0, i.1, next_type i.2 r.2) (simp append_assoc)
 
--- ---- what the page is for
+-- ---- A token is at most one name.
 
 pub id-unique : {t : Token} {a b : List ℕ} → IsId t a → IsId t b → a ≡ b
 id-unique plain plain = refl

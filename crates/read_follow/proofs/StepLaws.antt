@@ -98,8 +98,6 @@ module _ (marks : List Bool) (here : ℕ) (shapes : List Shape) (table : IsTable
   pub foreign_over : (fs : List FunctionShape) (F : List Signature) (s : Slot) → IsSlotIn shapes fs s → foreign_slot marks shapes s ≡ true → SlotOver (MayMeet marks here) (slot_in U F s)
   foreign_over fs x y h e = search (std_rules, value_met, resource_met, false≢true)
 
--- ---- what the page is for
-
 -- ---- aliases
 
 pub guarded : {A B : Type 0} (b : Bool) (x : A) (g : A → B) → provided b (g x) ≡ (provided b x >>= λ y. Some (g y))
