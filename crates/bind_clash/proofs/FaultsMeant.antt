@@ -38,8 +38,7 @@ first-differs sense y p h = search std_rules
 
 -- two that are known differ where their senses do
 known : {X S : Type 0} (sense : X → S) (o p : Option X) (x y : X) → o ≡ Some x → p ≡ Some y → Differ sense o p ↔ (sense x ≢ sense y)
-known {X} sense o p x y e f =
-    subst (λ (z : Option X). Differ sense z p ↔ (sense x ≢ sense y)) (sym e)
+known {X} sense o p x y e f = subst (λ (z : Option X). Differ sense z p ↔ (sense x ≢ sense y)) (sym e)
     (subst (λ (z : Option X). Differ sense (Some x) z ↔ (sense x ≢ sense y)) (sym f) ((λ d. d), (λ d. d)))
 
 -- ---- senses of places
@@ -138,13 +137,11 @@ module _ (own other : Resolve) (m : Matches) (n k : ℕ) (w z : World) (s : AreW
     interfaces-differ id e =
         let ours = own-interface-has own other s.own_valid s.other_valid m.packages.items s.matched.packages p i at t path id e in
         let by_place = differ-as of_interface one-interface (sense_of own (place.Interface id)) (sense_of other (place.Interface (record { 0 = p }))) (interface_sense (interface_meaning_at own id.0))
-        (interface_sense (interface_meaning_at other p))
-        (interface-sensed-at own id t ours) (interface-sensed-at other (record { 0 = p }) t their-path) in
+        (interface_sense (interface_meaning_at other p)) (interface-sensed-at own id t ours) (interface-sensed-at other (record { 0 = p }) t their-path) in
         let by_path = known interface_sense (get A.interfaces t) (get B.interfaces t) (interface_meaning_at own id.0) (interface_meaning_at other p) (interface-found own s.own_valid id.0 t ours)
         their-interface in
         subst (λ (o : Option InterfaceId). OtherSense own other (option_map place.Interface o) (place.Interface (record { 0 = p }))
-        ↔ Differ interface_sense (get A.interfaces t) (get B.interfaces t)) (sym e)
-        ((λ x. by_path.1 (by_place.0 x)), (λ x. by_place.1 (by_path.0 x)))
+        ↔ Differ interface_sense (get A.interfaces t) (get B.interfaces t)) (sym e) ((λ x. by_path.1 (by_place.0 x)), (λ x. by_place.1 (by_path.0 x)))
 
     interface-differs-forth : InterfaceDiffers own other m p i → Differ interface_sense (get A.interfaces t) (get B.interfaces t)
     interface-differs-forth x = by (own_interface_of own m.packages.items i) refl
@@ -199,8 +196,7 @@ module _ (own other : Resolve) (m : Matches) (n k : ℕ) (w z : World) (s : AreW
     worlds-differ f id e =
         let ours = world-in-has own other s.own_valid s.other_valid m.packages.items s.matched.packages y.«package» (text_of y.name) t place-of id e in
         let by_place = differ-as of_world one-world (sense_of own (place.World id)) (sense_of other (place.World (record { 0 = p }))) (world_sense (world_meaning_at own id.0))
-        (world_sense (world_meaning_at other p))
-        (world-sensed-at own id t ours) (world-sensed-at other (record { 0 = p }) t world-their-path) in
+        (world_sense (world_meaning_at other p)) (world-sensed-at own id t ours) (world-sensed-at other (record { 0 = p }) t world-their-path) in
         let by_path = known world_sense (get A.worlds t) (get (carried_worlds B) t) (world_meaning_at own id.0) (world_meaning_at other p) (world-found own s.own_valid id.0 t ours) (their-world f) in
         subst (λ (o : Option WorldId). OtherSense own other (option_map place.World o) (place.World (record { 0 = p })) ↔ Differ world_sense (get A.worlds t) (get (carried_worlds B) t)) (sym e)
         ((λ x. by_path.1 (by_place.0 x)), (λ x. by_place.1 (by_path.0 x)))
@@ -260,10 +256,7 @@ module _ (own other : Resolve) (m : Matches) (n k : ℕ) (w z : World) (s : AreW
       record { number = h.number; def = i.0; there = i.1; path = i.2; apart = given_.1 }
 
   interface-forth : (t : Text) → InterfaceFaultIn own other m t → InterfaceFault A B t
-  interface-forth t (inl h) = elim h.2.3 [
-    | inl x ↦ inr (inr (own-world-forth h.0 h.2.0 h.2.1 t h.2.2 x))
-    | inr x ↦ inl (interface-differs-forth h.0 h.2.0 h.2.1 t h.2.2 x)
-  ]
+  interface-forth t (inl h) = elim h.2.3 [ inl x ↦ inr (inr (own-world-forth h.0 h.2.0 h.2.1 t h.2.2 x)) | inr x ↦ inl (interface-differs-forth h.0 h.2.0 h.2.1 t h.2.2 x) ]
   interface-forth t (inr h) = inr (inl (crossing-forth h.0 h.2.0 h.2.1 t h.2.2.0 h.2.2.1 h.2.2.2))
 
   interface-back : (t : Text) → InterfaceFault A B t → InterfaceFaultIn own other m t
@@ -381,5 +374,4 @@ module _ (own other : Resolve) (m : Matches) (n k : ℕ) (w z : World) (s : AreW
       (λ t g. second-stands (find text_cmp t (entries_meaning own w.exports.entries)) (find text_cmp t (entries_meaning other z.exports.entries)) g) o h))
 
 pub faults_are_of_bindings : FaultsAreOfBindings
-faults_are_of_bindings own other m n k w v s a b c d =
-    search (std_rules, interface-forth, interface-back, world-forth, world-back, imports-first, exports-first)
+faults_are_of_bindings own other m n k w v s a b c d = search (std_rules, interface-forth, interface-back, world-forth, world-back, imports-first, exports-first)

@@ -25,8 +25,7 @@ one-text r x y e = search std_rules
 pub no-entry : (r : Resolve) (t : Text) (es : List (WorldKey × WorldItem)) → ((e : WorldKey × WorldItem) → Contains es e → text_eq t (key_text r e.0) ≡ false)
     → find text_cmp t (entries_meaning r es) ≡ None
 no-entry r t [] none = refl
-no-entry r t (e ∷ es) none =
-    ap (λ b. cond b (Some (entry_meaning r e.1)) (find text_cmp t (entries_meaning r es))) (sym (eq_by_text t (key_text r e.0)) ∙ none e (first-contained e es))
+no-entry r t (e ∷ es) none = ap (λ b. cond b (Some (entry_meaning r e.1)) (find text_cmp t (entries_meaning r es))) (sym (eq_by_text t (key_text r e.0)) ∙ none e (first-contained e es))
     ∙ no-entry r t es (λ x c. none x (contains-later e es x c))
 
 -- where no key stands twice, each finds its own

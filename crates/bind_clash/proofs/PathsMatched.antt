@@ -120,8 +120,7 @@ module _ (own other : Resolve) (v : IsValid own) (u : IsValid other) (packages :
         let f = own_package_of own.packages.items in
         ap (option_and_then (λ (id : PackageId). given (slice_get packages id.0))) is.home_is
         ∙ (ap (λ (xs : List (Option PackageId)). given (slice_get xs is.id.0)) are
-        ∙ (ap given (slice_get-map f other.packages.items is.id.0)
-        ∙ ap (λ (o : Option Package). given (option_map f o)) is.stands))
+        ∙ (ap given (slice_get-map f other.packages.items is.id.0) ∙ ap (λ (o : Option Package). given (option_map f o)) is.stands))
 
     record IsOwnHome (g : PackageId) : Type 0 where
       package_ : Package
@@ -137,8 +136,7 @@ module _ (own other : Resolve) (v : IsValid own) (u : IsValid other) (packages :
         record {
           package_ = z.package_;
           stands = stands;
-          identity = sym
-              ((same_name is.package_.name z.package_.name (package-name other u is.id.0 is.package_ is.stands).version (package-name own v g.0 z.package_ stands).version).0 z.named);
+          identity = sym ((same_name is.package_.name z.package_.name (package-name other u is.id.0 is.package_ is.stands).version (package-name own v g.0 z.package_ stands).version).0 z.named);
         }
 
     home-there : (j : ℕ) (p : Package) → package_at own j ≡ Some p → identity_of p.name ≡ identity_of is.package_.name → (g : PackageId) × ((home_in packages home ≡ Some g) × (g.0 ≡ j))
@@ -167,10 +165,8 @@ module _ (own other : Resolve) (v : IsValid own) (u : IsValid other) (packages :
         let b = unpacked (λ (p : Package). get_by_text p.interfaces name) (package_at own a.0.0) id a.2 in
         let held = under_contains name (interface_names b.0) id.0 (sym (interfaces_by_name b.0 name) ∙ ap (option_map (λ (x : InterfaceId). x.0)) b.2) in
         let i = found_option _ (interface_at own id.0) (all-contained (is_interface_of own a.0.0) (interface_names b.0) (name, id.0) (interfaces_stand own v.rules a.0.0 b.0 b.1) held) in
-        ap (option_and_then (path_of_interface own)) i.1
-        ∙ (path_parts own i.0
-        ∙ ((λ z. path_by own (some_name i.0.name name (first_true _ _ i.2) z) (some_id a.0.0 (package_number i.0.«package») (second_true (text_is i.0.name name) _ i.2) z))
-        ∙ own-path a.0 b.0 a.1 b.1))
+        ap (option_and_then (path_of_interface own)) i.1 ∙ (path_parts own i.0
+        ∙ ((λ z. path_by own (some_name i.0.name name (first_true _ _ i.2) z) (some_id a.0.0 (package_number i.0.«package») (second_true (text_is i.0.name name) _ i.2) z)) ∙ own-path a.0 b.0 a.1 b.1))
 
     pub interface-in-there : (j : ℕ) → interface_path own j ≡ Some t → (id : InterfaceId) × ((interface_in own packages home name ≡ Some id) × (id.0 ≡ j))
     interface-in-there j e =
@@ -196,10 +192,8 @@ module _ (own other : Resolve) (v : IsValid own) (u : IsValid other) (packages :
         let held = under_contains name (world_names b.0) id.0 (sym (worlds_by_name b.0 name) ∙ ap (option_map (λ (x : WorldId). x.0)) b.2) in
         let w = found_option _ (world_at own id.0) (all-contained (is_world_of own a.0.0) (world_names b.0) (name, id.0) (worlds_stand own v.rules a.0.0 b.0 b.1) held) in
         let same : text_of w.0.name ≡ name = text-same (text_of w.0.name) name (first_true _ _ w.2) in
-        ap (option_and_then (path_of_world own)) w.1
-        ∙ (world_path own w.0
-        ∙ ((λ z. path_by own (Some (same z)) (some_id a.0.0 (package_number w.0.«package») (second_true (text_eq (text_of w.0.name) name) _ w.2) z))
-        ∙ own-path a.0 b.0 a.1 b.1))
+        ap (option_and_then (path_of_world own)) w.1 ∙ (world_path own w.0 ∙ ((λ z. path_by own (Some (same z))
+        (some_id a.0.0 (package_number w.0.«package») (second_true (text_eq (text_of w.0.name) name) _ w.2) z)) ∙ own-path a.0 b.0 a.1 b.1))
 
     pub world-in-there : (j : ℕ) → path_at own j ≡ Some t → (id : WorldId) × ((world_in own packages home name ≡ Some id) × (id.0 ≡ j))
     world-in-there j e =
@@ -281,7 +275,6 @@ module _ (r : Resolve) (v : IsValid r) (w : World) (t : Text) (is : IsPathOf r w
       let namespace : text_of d.namespace ≡ root = ap (λ (p : PackageIdentity). p.namespace) parts.0 in
       let label : text_of d.name ≡ root = ap (λ (p : PackageIdentity). p.name) parts.0 in
       let version : optional_version_text d.version ≡ None = ap (λ (p : PackageIdentity). p.version) parts.0 in
-      root-test
-      ∙ both (text_eq (text_of w.name) root) (is_root_name d) ((bytes_eq-Decides (text_of w.name) root).1 parts.1)
+      root-test ∙ both (text_eq (text_of w.name) root) (is_root_name d) ((bytes_eq-Decides (text_of w.name) root).1 parts.1)
       (both (text_eq (text_of d.namespace) root) (text_eq (text_of d.name) root && is_none d.version) ((bytes_eq-Decides (text_of d.namespace) root).1 namespace)
       (both (text_eq (text_of d.name) root) (is_none d.version) ((bytes_eq-Decides (text_of d.name) root).1 label) (versionless d.version version)))

@@ -107,8 +107,7 @@ ends-reached input rest n b h none = subst (IsReached input b) (no-bytes rest no
 
 -- a refusal that is of a section
 pub to-blame : (input : List ℕ) (n : ℕ) (e : Error) → (e ≡ errors.Memory → ⊥) → (e ≡ errors.Size → ⊥) → (e ≡ errors.NotAModule → ⊥) → ((offset : ℕ) → e ≡ errors.BadModule offset → ⊥)
-    → Blames input n e
-    → IsRefusedSection input n
+    → Blames input n e → IsRefusedSection input n
 to-blame input n e memory size module_ frame h = search std_rules
 
 -- the same refusal is of size where the other is
@@ -123,16 +122,14 @@ no-module-blamed input n e is none = subst (Blames input n) (sym is) (RefusesNoS
 
 pub left-over : (input bytes : List ℕ) (n : ℕ) (b : Bindgen) (offset : ℕ) (e : Error) → IsBoundTo input b n bytes → bytes ≢ [] → IsFrontless bytes → offset + length bytes ≡ length input
     → e ≡ errors.BadModule offset → RefusesBindings input e
-left-over input bytes n b offset e h some none at is =
-    subst (RefusesBindings input) (sym is) (left_overs_end input bytes (binding_of b) (errors.BadModule offset) h.read.0 none (some, at))
+left-over input bytes n b offset e h some none at is = subst (RefusesBindings input) (sym is) (left_overs_end input bytes (binding_of b) (errors.BadModule offset) h.read.0 none (some, at))
 
 pub left-over-blamed : (input bytes : List ℕ) (n : ℕ) (b : Bindgen) (offset : ℕ) (e : Error) → IsBoundTo input b n bytes → IsFrontless bytes → e ≡ errors.BadModule offset → Blames input n e
 left-over-blamed input bytes n b offset e h none is = subst (Blames input n) (sym is) (RefusesNoSection.through (binding_of b) bytes h.read.0 none)
 
 -- a module that binds something has no section that is refused
 pub bound-blames-none : (input : List ℕ) (c : Binding) → IsBound input c → RefusesNoSection input
-bound-blames-none input c bound =
-    RefusesNoSection.through c [] (record {
+bound-blames-none input c bound = RefusesNoSection.through c [] (record {
       sections = bound.sections;
       front = bound.stand.front;
       parts = bound.stand.parts;

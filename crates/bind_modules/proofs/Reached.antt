@@ -38,8 +38,7 @@ strip-otherwise input e r so = subst (RefusesModule input) so r
 -- ---- merges
 
 pub outgrown : (input bytes rest d : List ℕ) (n : ℕ) (own b : Bindgen) → IsBoundTo input own n bytes → IsDataInFront bytes d rest → IsBoundBy d b → (e : Error) → IsMergeRefusal own b e
-    → e ≡ errors.Size
-    → OutgrowsLists input
+    → e ≡ errors.Size → OutgrowsLists input
 outgrown input bytes rest d n own b h x bound e why so = record {
   own = own;
   bytes = bytes;

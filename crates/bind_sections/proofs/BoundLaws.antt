@@ -115,8 +115,7 @@ nothing-left input left x none over = search std_rules
 binds-or-refuses : (input left : List ℕ) (a c : Binding) (ds : List (List ℕ)) (error : Error) → left ≡ [] → Binds a ds c → Refuses (IsLeftOver input left) a ds error → error ≡ errors.Memory
 binds-or-refuses input left a c [] error none x over = absurd (nothing-left input left error none over)
 binds-or-refuses input left a c (d ∷ ds) error none (m, e, means, u, x) (inl refused) = means-is-let-through d m e error means refused
-binds-or-refuses input left a c (d ∷ ds) error none (m, e, means, u, x) (inr (n, f, other, inl clash)) =
-    search (std_rules, sections_mean_once d m n e f means other)
+binds-or-refuses input left a c (d ∷ ds) error none (m, e, means, u, x) (inr (n, f, other, inl clash)) = search (std_rules, sections_mean_once d m n e f means other)
 binds-or-refuses input left a c (d ∷ ds) error none (m, e, means, u, x) (inr (n, f, other, inr (v, y))) =
     let same = sections_mean_once d m n e f means other in
     binds-or-refuses input left (union a (binding_of_world n f)) c ds error none
@@ -173,10 +172,8 @@ refuses-once input left a (d ∷ ds) e f p q (inr (m, g, means, rest)) (inl y) =
 refuses-once input left a (d ∷ ds) e f p q (inr (m, g, means, inl x)) (inr (n, h, other, inl y)) =
     let same = sections_mean_once d m n g h means other in
     clashes-once a (binding_of_world n h) e f (subst (λ w. IsClashError a (binding_of_world w h) e) same.0 (subst (λ w. IsClashError a (binding_of_world m w) e) same.1 x)) y
-refuses-once input left a (d ∷ ds) e f p q (inr (m, g, means, inl x)) (inr (n, h, other, inr (v, y))) =
-    search (std_rules, sections_mean_once d m n g h means other)
-refuses-once input left a (d ∷ ds) e f p q (inr (m, g, means, inr (u, x))) (inr (n, h, other, inl y)) =
-    search (std_rules, sections_mean_once d m n g h means other)
+refuses-once input left a (d ∷ ds) e f p q (inr (m, g, means, inl x)) (inr (n, h, other, inr (v, y))) = search (std_rules, sections_mean_once d m n g h means other)
+refuses-once input left a (d ∷ ds) e f p q (inr (m, g, means, inr (u, x))) (inr (n, h, other, inl y)) = search (std_rules, sections_mean_once d m n g h means other)
 refuses-once input left a (d ∷ ds) e f p q (inr (m, g, means, inr (u, x))) (inr (n, h, other, inr (v, y))) =
     let same = sections_mean_once d m n g h means other in
     refuses-once input left (union a (binding_of_world n h)) ds e f p q

@@ -120,8 +120,7 @@ module _ (r : Resolve) (v : IsValid r) (w : World)
   shown-at n path is =
       let entry = shown-entry n path is in
       let found = contains-find shown_entries path (interface_meaning_at r n) entry in
-      get-from_entries nat_list_cmp_total shown_entries path
-      ∙ (found.1 ∙ ap Some (one-value path found.0 (interface_meaning_at r n) (find-contains shown_entries path found.0 found.1) entry))
+      get-from_entries nat_list_cmp_total shown_entries path ∙ (found.1 ∙ ap Some (one-value path found.0 (interface_meaning_at r n) (find-contains shown_entries path found.0 found.1) entry))
 
   -- ---- their paths
 
@@ -153,9 +152,7 @@ filled (x ∷ xs) e = (x, first-contained x xs)
 module _ (r : Resolve) (v : IsValid r) where
   -- the package in which a path is
   pub package-of : (n : ℕ) (path : Text) (h : HasPath r n path) → package_of_path path ≡ package_text (identity_of h.package_.name) ∷ []
-  package-of n path h =
-      ap package_of_path h.spelled
-      ∙ ap (λ o. option_map_or (λ p. package_text p.0 ∷ []) o [])
+  package-of n path h = ap package_of_path h.spelled ∙ ap (λ o. option_map_or (λ p. package_text p.0 ∷ []) o [])
       (spelled_path_reads (identity_of h.package_.name) (text_of h.name) (package-name r v h.home.0 h.package_ h.stands).identity (path-label r v n path h))
 
   -- an interface that a package lists has a path in it
@@ -206,8 +203,7 @@ module _ (r : Resolve) (v : IsValid r) where
     name_of q = package_text (identity_of q.name)
 
     of-listed : (q : Package) → IsListedIn q → Contains shown_packages (name_of q)
-    of-listed q h =
-        contains-later (package_text (identity_of p.name)) (flat_map package_of_path (keys (shown_map r v w alone))) (name_of q)
+    of-listed q h = contains-later (package_text (identity_of p.name)) (flat_map package_of_path (keys (shown_map r v w alone))) (name_of q)
         (contains-flat package_of_path (keys (shown_map r v w alone)) h.path (name_of q) (path-shown r v w alone h.number h.path h.under)
         (subst (λ ts. Contains ts (name_of q)) (sym (package-of h.number h.path h.has_path ∙ ap (λ (x : Package). name_of x ∷ []) h.is)) (contains-one (name_of q))))
 
@@ -301,12 +297,10 @@ module _ (r : Resolve) (v : IsValid r) where
       let p = package-name r v h.home.0 h.package_ h.stands in
       let canonical : canonical_identity (identity_of h.package_.name) ≡ canonical_identity_of h.package_.name
       = λ i. record { namespace = text_of h.package_.name.namespace; name = text_of h.package_.name.name; version = canonical-version h.package_.name.version p.version i } in
-      canonical-by-name r id.0
-      ∙ (ap (option_map (λ (e : PackageName × String Global). path_in (canonical_identity_of e.0) (text_of e.1))) (full-name-of id.0 path h)
+      canonical-by-name r id.0 ∙ (ap (option_map (λ (e : PackageName × String Global). path_in (canonical_identity_of e.0) (text_of e.1))) (full-name-of id.0 path h)
       ∙ ap Some (sym (ap (λ (o : Option Text). scope_under (unwrap_or o [])) is
-      ∙ (ap scope_under h.spelled
-      ∙ (ap (λ (o : Option (PackageIdentity × Text)). option_map_or (λ (q : PackageIdentity × Text). path_in (canonical_identity q.0) q.1) o (path_in (identity_of h.package_.name) (text_of h.name)))
-      (spelled_path_reads (identity_of h.package_.name) (text_of h.name) p.identity (path-label r v id.0 path h))
+      ∙ (ap scope_under h.spelled ∙ (ap (λ (o : Option (PackageIdentity × Text)). option_map_or (λ (q : PackageIdentity × Text). path_in (canonical_identity q.0) q.1) o
+      (path_in (identity_of h.package_.name) (text_of h.name))) (spelled_path_reads (identity_of h.package_.name) (text_of h.name) p.identity (path-label r v id.0 path h))
       ∙ ap (λ q. path_in q (text_of h.name)) canonical)))))
 
   -- An interface stands under a label, or under its own number and with a name. Anything else stands under a name.
@@ -368,13 +362,10 @@ module _ (r : Resolve) (v : IsValid r) where
     of-member scope (item.Type_ id) n owner name f k c of at in_owner is = let no : ⊥ = cc in absurd no
 
     pub to-meant : (k : Text) → IsFunctionKey r items k → Contains keys_meant k
-    to-meant k (of_item i) =
-        contains-flat (keys_of_entry shown_here) (entries_meaning r items) (meant_entry (key.Name i.name, item.Function i.function)) k
+    to-meant k (of_item i) = contains-flat (keys_of_entry shown_here) (entries_meaning r items) (meant_entry (key.Name i.name, item.Function i.function)) k
         (contains-map meant_entry items (key.Name i.name, item.Function i.function) i.stands)
         (subst (Contains (text_under (text_of i.name) (text_of i.name) ∷ [])) (sym i.is) (contains-one (text_under (text_of i.name) (text_of i.name))))
-    to-meant k (of_interface i) =
-        contains-flat (keys_of_entry shown_here) (entries_meaning r items) (meant_entry (i.scope, i.shown)) k
-        (contains-map meant_entry items (i.scope, i.shown) i.stands)
+    to-meant k (of_interface i) = contains-flat (keys_of_entry shown_here) (entries_meaning r items) (meant_entry (i.scope, i.shown)) k (contains-map meant_entry items (i.scope, i.shown) i.stands)
         (of-member i.scope i.shown i.number i.owner i.name i.function k i.stands i.of i.at i.has i.is)
 
     -- and back

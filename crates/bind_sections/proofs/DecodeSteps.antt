@@ -40,8 +40,7 @@ module _ (input bytes rest d : List ℕ) (own : Bindgen) (h : IsReadTo input (bi
     merge-refused (errors.Clash kind key) why =
         let means = bound_sections_mean d b bound in
         let same = (sections_bind_their_worlds d b means.0 means.1 bound means.2).1 in
-        refusals_end input bytes rest d (binding_of own) (errors.Clash kind key) h x
-        (inr (means.0, means.1, means.2, subst (λ c. IsClash (binding_of own) c kind (text_of key)) same why))
+        refusals_end input bytes rest d (binding_of own) (errors.Clash kind key) h x (inr (means.0, means.1, means.2, subst (λ c. IsClash (binding_of own) c kind (text_of key)) same why))
     merge-refused _ why = absurd why
 
     -- so the section is to blame

@@ -31,13 +31,7 @@ nothing-in-front f rest h = search std_rules
 
 -- a preamble alone binds the empty root world
 preamble_alone : IsBound module_preamble root_binding
-preamble_alone = record {
-  sections = [];
-  stand = record { front = []; parts = refl; sections = (refl, tt); ends = nothing-in-front };
-  data_ = [];
-  carry = CarryData.none;
-  binds = refl;
-}
+preamble_alone = record { sections = []; stand = record { front = []; parts = refl; sections = (refl, tt); ends = nothing-in-front }; data_ = []; carry = CarryData.none; binds = refl }
 
 -- bytes that begin no module: none, and those of a component
 no_bytes : IsRefused [] errors.NotAModule
@@ -72,15 +66,12 @@ unfolding frames
 old_custom = let name = name_law.takes old_contents (codes "component-type") (3 ∷ []) refl in (name.front, 3 ∷ [], name.parts, name.spelled, refl)
 
 historical : IsRefused (module_preamble ++ old_section) errors.Historical
-historical = IsRefused.first ((0, old_contents) ∷ []) [] ((3 ∷ []) ∷ [])
-    (record {
+historical = IsRefused.first ((0, old_contents) ∷ []) [] ((3 ∷ []) ∷ []) (record {
       front = old_section;
       parts = ap (λ (t : List ℕ). module_preamble ++ t) (sym (append-nil old_section));
       sections = ((old_frame.front, [], old_frame.parts, old_frame.spelled, refl), ((λ is. ((codes "component-type", 3 ∷ []), old_custom)), tt));
       ends = nothing-in-front;
-    })
-    (CarryData.carrying (0, old_contents) [] (codes "component-type", 3 ∷ []) [] refl old_custom refl CarryData.none)
-    (inl (RefusesSection.historical [] refl refl))
+    }) (CarryData.carrying (0, old_contents) [] (codes "component-type", 3 ∷ []) [] refl old_custom refl CarryData.none) (inl (RefusesSection.historical [] refl refl))
 
 -- ---- a section without data
 
@@ -99,15 +90,12 @@ unfolding frames
 empty_custom = let name = name_law.takes empty_contents (codes "component-type") [] refl in (name.front, [], name.parts, name.spelled, refl)
 
 no_data : IsRefused (module_preamble ++ empty_section) (errors.NoReading Truncated 0)
-no_data = IsRefused.first ((0, empty_contents) ∷ []) [] ([] ∷ [])
-    (record {
+no_data = IsRefused.first ((0, empty_contents) ∷ []) [] ([] ∷ []) (record {
       front = empty_section;
       parts = ap (λ (t : List ℕ). module_preamble ++ t) (sym (append-nil empty_section));
       sections = ((empty_frame.front, [], empty_frame.parts, empty_frame.spelled, refl), ((λ is. ((codes "component-type", []), empty_custom)), tt));
       ends = nothing-in-front;
-    })
-    (CarryData.carrying (0, empty_contents) [] (codes "component-type", []) [] refl empty_custom refl CarryData.none)
-    (inl (RefusesSection.empty refl refl))
+    }) (CarryData.carrying (0, empty_contents) [] (codes "component-type", []) [] refl empty_custom refl CarryData.none) (inl (RefusesSection.empty refl refl))
 
 -- ---- what is said of the encoding
 

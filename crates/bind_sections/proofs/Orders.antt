@@ -37,7 +37,4 @@ pairwise [] all = tt
 pairwise (b ∷ bs) all = (all-united b bs all.0, pairwise bs all.1)
 
 pub binds_where_no_two_clash : BindsWhereNoTwoClash
-binds_where_no_two_clash bs = (
-  λ h. no-two (root_binding ∷ bs) ((pairwise_folds bs).0 h),
-  λ h. (pairwise_folds bs).1 (pairwise (root_binding ∷ bs) h),
-)
+binds_where_no_two_clash bs = (λ h. no-two (root_binding ∷ bs) ((pairwise_folds bs).0 h), λ h. (pairwise_folds bs).1 (pairwise (root_binding ∷ bs) h))

@@ -78,13 +78,11 @@ world_binding m e h =
     let exports = second_true (items && distinct (map (λ s. s.key) h.scope.imports)) _ both in
     let imports = second_true items _ (first_true (items && distinct (map (λ s. s.key) h.scope.imports)) _ both) in
     let none : get m.shown (world_path m) ≡ None
-    = ap (λ (f : _). get f (world_path m)) h.shown
-    ∙ (got (map (seen_meaning h.seen) h.seen) (world_path m)
+    = ap (λ (f : _). get f (world_path m)) h.shown ∙ (got (map (seen_meaning h.seen) h.seen) (world_path m)
     ∙ none_found (map (seen_meaning h.seen) h.seen) (world_path m) (unseen h.seen h.seen (world_path m) ∙ is_false (list_any (λ s. text_eq s.path (world_path m)) h.seen) h.elsewhere)) in
     record {
       stands = got ((world_path m, m.world) ∷ []) (world_path m) ∙ ap (λ is. cond is (Some m.world) None) (itself_ties (world_path m));
-      apart = λ t s. apart_at (eq_by_cmp text_cmp t (world_path m)) (get m.shown t) m.world
-          (λ is. subst (λ k. get m.shown k ≡ None) (sym (by_tie t (world_path m) is)) none)
+      apart = λ t s. apart_at (eq_by_cmp text_cmp t (world_path m)) (get m.shown t) m.world (λ is. subst (λ k. get m.shown k ≡ None) (sym (by_tie t (world_path m) is)) none)
           (subst (Stand (get m.shown t)) (got ((world_path m, m.world) ∷ []) t) s);
       imports = ap (λ (w : WorldMeaning). are_distinct (map (λ e. e.0) w.imports)) h.world ∙ keys_distinct h.scope.imports imports;
       exports = ap (λ (w : WorldMeaning). are_distinct (map (λ e. e.0) w.exports)) h.world ∙ keys_distinct h.scope.exports exports;

@@ -165,8 +165,7 @@ module _ (input bytes : List ℕ) (c : Binding) (h : IsReadTo input c bytes) whe
 
   -- what refuses the sections that follow refuses the module
   pub refused : (error : Error) (more : HasMore bytes) (es : List (List ℕ)) → CarryData more.sections es → Refuses (IsLeftOver input more.left) c es error → IsRefused input error
-  refused error more es carry refuses =
-      IsRefused.first (h.sections ++ more.sections) more.left (h.data_ ++ es) (whole more) (carry-both h.sections more.sections h.data_ es h.carry carry)
+  refused error more es carry refuses = IsRefused.first (h.sections ++ more.sections) more.left (h.data_ ++ es) (whole more) (carry-both h.sections more.sections h.data_ es h.carry carry)
       (refuses-behind (IsLeftOver input more.left) h.data_ es root_binding c error h.binds refuses)
 
 -- the sections that follow, of which this is the first

@@ -27,10 +27,9 @@ abbrev w-meaning : WorldMeaning
 w-meaning = record {
   imports = entry (codes "p") (Item.interface (codes "s:r/j")) ∷ entry (codes "t") (Item.declares (TreeDeclaration.type_ tree-jt))
       ∷ entry (codes "f") (Item.function (taking false (codes "x", Tree.named Place.here (codes "t")) None)) ∷ [];
-  exports = entry (codes "h")
-      (Item.inline (record { types = t_is tree-jt None; functions = from_entries ((codes "f", plain true (codes "x", Tree.named Place.here (codes "t")) None) ∷ []) }))
-      ∷ entry (codes "t") (Item.function (taking false (codes "x", Tree.named Place.here (codes "t")) None))
-      ∷ entry (codes "x") (Item.interface (codes "a:b/s")) ∷ entry (codes "a:b/s") (Item.interface (codes "a:b/s")) ∷ [];
+  exports = entry (codes "h") (Item.inline (record { types = t_is tree-jt None; functions = from_entries ((codes "f", plain true (codes "x", Tree.named Place.here (codes "t")) None) ∷ []) }))
+      ∷ entry (codes "t") (Item.function (taking false (codes "x", Tree.named Place.here (codes "t")) None)) ∷ entry (codes "x") (Item.interface (codes "a:b/s"))
+      ∷ entry (codes "a:b/s") (Item.interface (codes "a:b/s")) ∷ [];
 }
 
 abbrev whole-meaning : PackageMeaning

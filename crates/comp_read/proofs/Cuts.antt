@@ -319,8 +319,7 @@ module _ (ps qs : List ℕ) where
         arith,
         found_below (once ps) at.0 q at.1,
         past,
-        ((subst IsOnce (joined_behind [] (ps ++ qs)) (all_once [] (ps ++ qs) none_twice)) at.0 k q
-            (ap (λ (zs : List ℕ). slice_get zs at.0) behind.1 ∙ front_at (once ps) behind.0 at.0 q at.1) e),
+        ((subst IsOnce (joined_behind [] (ps ++ qs)) (all_once [] (ps ++ qs) none_twice)) at.0 k q (ap (λ (zs : List ℕ). slice_get zs at.0) behind.1 ∙ front_at (once ps) behind.0 at.0 q at.1) e),
       )
 
 -- ---- beginnings

@@ -66,8 +66,7 @@ of_views t w e is h =
     record {
       imports = zip-kept (λ s i. imported_view s ≡ Some i) IsPlacedAs (λ s i e. search std_rules) w.imports is (each_beside imported_view w.imports is all.imports_found);
       one = one.0;
-      alone =
-          one.1;
+      alone = one.1;
       exported = one.2;
     }
 

@@ -13,8 +13,7 @@ adds_all : (ts : List Text) → adds_new text_eq [] ts ≡ distinct ts
 adds_all ts = adds_distinct ts ∙ distinct_same ts
 
 module _ {A : Type 0} (name : A → Text) (items : List A) (i : ℕ) (x : A) (more : i < length items) (is : x ≡ get_or items i x) (k : Bor (List ℕ)) (is_name : k.now ≡ name x)
-    (ks : List (Bor (List ℕ))) (r : Bool)
-    (tells : r ≡ not (list_any (λ o. text_eq k.now o.now) ks))
+    (ks : List (Bor (List ℕ))) (r : Bool) (tells : r ≡ not (list_any (λ o. text_eq k.now o.now) ks))
     (kept : adds_new text_eq (map seen ks) (drop i (map name items)) ≡ adds_new text_eq [] (map name items)) where
   pub name_seen : r ≡ false → false ≡ distinct (map name items)
   name_seen old = sym (old_turn text_eq name seen items i x ks k r more is is_name tells old) ∙ (kept ∙ adds_all (map name items))

@@ -58,14 +58,12 @@ AreLabelled xs = list_all (λ x. is_label x.0) xs ≡ true
 -- one more component type and its export
 one_type : (ds : List Declarations) (slots : List ℕ) (es : List (Text × ℕ)) (name : Text) (d : Declarations) → IsFresh (length ds) es → is_label name ≡ true
     → (top_section (record { types = ds; slots = slots; exported = es }) (Section.types (TopType.component d ∷ [])) >>= λ next. top_section next
-    (Section.exports (plain_export name (length slots) ∷ [])))
-    ≡ Some (record { types = ds ++ d ∷ []; slots = (slots ++ length ds ∷ []) ++ length ds ∷ []; exported = es ++ (name, length ds) ∷ [] })
+    (Section.exports (plain_export name (length slots) ∷ []))) ≡ Some (record { types = ds ++ d ∷ []; slots = (slots ++ length ds ∷ []) ++ length ds ∷ []; exported = es ++ (name, length ds) ∷ [] })
 one_type ds slots es name d fresh label = search (std_rules, last_found)
 
 -- the same, by the number of indexes that are taken
 next_type : (ds : List Declarations) (slots : List ℕ) (es : List (Text × ℕ)) (k : ℕ) (name : Text) (d : Declarations) (rest : List Section) → length slots ≡ k → IsFresh (length ds) es
-    → is_label name ≡ true
-    → steps top_section (record { types = ds; slots = slots; exported = es }) (Section.types (TopType.component d ∷ []) ∷ Section.exports (plain_export name k ∷ []) ∷ rest)
+    → is_label name ≡ true → steps top_section (record { types = ds; slots = slots; exported = es }) (Section.types (TopType.component d ∷ []) ∷ Section.exports (plain_export name k ∷ []) ∷ rest)
     ≡ steps top_section (record { types = ds ++ d ∷ []; slots = (slots ++ length ds ∷ []) ++ length ds ∷ []; exported = es ++ (name, length ds) ∷ [] }) rest
 next_type ds slots es k name d rest taken fresh label = search (std_rules, one_type)
 
@@ -81,8 +79,7 @@ top_after (x ∷ xs) ds slots es k taken fresh labels =
     let later = top_after xs (ds ++ x.1 ∷ []) ((slots ++ length ds ∷ []) ++ length ds ∷ []) (es ++ (x.0, length ds) ∷ []) (suc (suc k)) slots_longer
     (subst P (sym longer) (fresh_next (length ds) es x.0 fresh)) (second_true (is_label x.0) (list_all (λ y. is_label y.0) xs) labels) in (
       later.0,
-      next_type ds slots es k x.0 x.1 (sections_from (suc (suc k)) xs) taken fresh (first_true (is_label x.0) (list_all (λ y. is_label y.0) xs) labels) ∙ later.1
-          ∙ λ i. Some (record {
+      next_type ds slots es k x.0 x.1 (sections_from (suc (suc k)) xs) taken fresh (first_true (is_label x.0) (list_all (λ y. is_label y.0) xs) labels) ∙ later.1 ∙ λ i. Some (record {
             types = append_assoc ds (x.1 ∷ []) (map (λ y. y.1) xs) i;
             slots = later.0;
             exported = (ap (λ (n : ℕ). (es ++ (x.0, length ds) ∷ []) ++ numbers_from n xs) longer ∙ append_assoc es ((x.0, length ds) ∷ []) (numbers_from (suc (length ds)) xs)) i;
@@ -112,8 +109,7 @@ pub types_exported : (xs : List (Text × Declarations)) → AreLabelled xs → d
 types_exported xs labels apart =
     let top = top_after xs [] [] [] 0 refl no_exports labels in
     ap (λ (o : Option Top). o >>= λ top. when (length top.exported == length top.types && distinct (map (λ x. x.0) top.exported)) (each (find_in top.types) top.exported)) top.1
-    ∙ ap (λ (b : Bool). when b (each (find_in (map (λ x. x.1) xs)) (numbers_from 0 xs))) (both_true _ _ (eq-eqb _ _ (as_many 0 xs)) (ap distinct (same_names 0 xs) ∙ apart))
-    ∙ each_found [] xs
+    ∙ ap (λ (b : Bool). when b (each (find_in (map (λ x. x.1) xs)) (numbers_from 0 xs))) (both_true _ _ (eq-eqb _ _ (as_many 0 xs)) (ap distinct (same_names 0 xs) ∙ apart)) ∙ each_found [] xs
 
 pub all_exported : TypesAreExported
 all_exported xs labels apart = ap exported_types (sections_are 0 xs) ∙ types_exported xs labels apart

@@ -36,13 +36,11 @@ module _ (r : Resolve) (place : Place) (ks : List Mark) (old : List Form) (x : F
   form-ok y ks' new h = search (std_rules, reversed, form-adds)
 
 pub definition-added : {E : Type 0} (res : Result ℕ E) (declarations : List (Text × TypeMeaning)) (ks ks' : List Mark) (old new : List Form) (def : ComponentDefinedType)
-    → IfOk res (AddsForm ks old (form.Definition def) ks' new)
-    → IfOk res (λ i. flat_definitions declarations ks' (reverse new) ≡ one_type_more i (flat_definitions declarations ks (reverse old)))
+    → IfOk res (AddsForm ks old (form.Definition def) ks' new) → IfOk res (λ i. flat_definitions declarations ks' (reverse new) ≡ one_type_more i (flat_definitions declarations ks (reverse old)))
 definition-added x declarations ks ks' old new def h = search (std_rules, reversed)
 
 pub function-added : {E : Type 0} (res : Result ℕ E) (declarations : List (Text × TypeMeaning)) (ks ks' : List Mark) (old new : List Form) (def : ComponentFuncType)
-    → IfOk res (AddsForm ks old (form.Function def) ks' new)
-    → IfOk res (λ i. flat_definitions declarations ks' (reverse new) ≡ one_function_more i (flat_definitions declarations ks (reverse old)))
+    → IfOk res (AddsForm ks old (form.Function def) ks' new) → IfOk res (λ i. flat_definitions declarations ks' (reverse new) ≡ one_function_more i (flat_definitions declarations ks (reverse old)))
 function-added x declarations ks ks' old new def h = search (std_rules, reversed)
 
 -- ---- names
@@ -65,8 +63,7 @@ name-added r place ks ks' old new i name m h e f =
 -- what is exported is one declaration more
 exports-one : (scope : Scope) (before : Definitions) (slot : Option ℕ) (name : ComponentExternName) (d : Text × TypeMeaning) → Contains scope.declarations d → raw_name name ≡ exported_name d
     → ExportsOne scope before (exports_more slot (option_to_list (find (is_name_of (raw_name name)) scope.declarations)) before) slot (raw_name name)
-exports-one scope before slot name d c e =
-    search (std_rules, found-in (is_name_of (raw_name name)) scope.declarations d c (name-passes (raw_name name) d e), name-passes (raw_name name) d e)
+exports-one scope before slot name d c e = search (std_rules, found-in (is_name_of (raw_name name)) scope.declarations d c (name-passes (raw_name name) d e), name-passes (raw_name name) d e)
 
 pub name-exported : (scope : Scope) (ks ks' : List Mark) (old new : List Form) (i : ℕ) (name : ComponentExternName) (d : Text × TypeMeaning) → Contains scope.declarations d
     → raw_name name ≡ exported_name d → ks' ≡ mark.Name i ∷ ks → new ≡ old ++ form.Export i name ∷ []

@@ -29,11 +29,9 @@ entries_are_rebuilt r done scope next more types h a z =
     let each : AreTypes types = second_true (list_all (λ s. is_type_shown s.shown) (types_seen scope.imports)) _
     (sym (list_all-append (λ (s : Seen). is_type_shown s.shown) (types_seen scope.imports) types) ∙ all) in
     let imports : next.imports ≡ scope.imports ++ types = types_come_last scope.imports next.imports types each a.others_stay a.more_types in
-    let brought : shown_instances ((scope.imports ++ types) ++ scope.exports) ≡ shown_instances (scope.imports ++ scope.exports) =
-    flat-appended (scope.imports ++ types) scope.exports
-    ∙ ap (λ t. t ++ shown_instances scope.exports) (flat-appended scope.imports types ∙ ap (λ t. shown_instances scope.imports ++ t) (none-of-types types each) ∙ append-nil
-    (shown_instances scope.imports))
-    ∙ sym (flat-appended scope.imports scope.exports) in
+    let brought : shown_instances ((scope.imports ++ types) ++ scope.exports) ≡ shown_instances (scope.imports ++ scope.exports) = flat-appended (scope.imports ++ types) scope.exports
+    ∙ ap (λ t. t ++ shown_instances scope.exports) (flat-appended scope.imports types ∙ ap (λ t. shown_instances scope.imports ++ t) (none-of-types types each)
+    ∙ append-nil (shown_instances scope.imports)) ∙ sym (flat-appended scope.imports scope.exports) in
     record {
       imports = subst (AllZip (ShowsItem r) (done.0 ++ more)) (sym imports) (zip-append (ShowsItem r) done.0 scope.imports more types h.imports z);
       exports = subst (AllZip (ShowsItem r) done.1) (sym a.exports_stay) h.exports;

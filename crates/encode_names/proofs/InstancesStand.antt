@@ -28,8 +28,7 @@ module _ (r : Resolve) (v : IsValid r) where
   stands-each [] [] is z = tt
   stands-each [] (s ∷ ss) is z = absurd z
   stands-each (e ∷ es) [] is z = absurd z
-  stands-each (e ∷ es) (s ∷ ss) is z =
-      zip-append (StandsAs r) (option_to_list (item_interface e.1)) (instances_of s.shown) (interfaces_among es) (flat_map (λ s. instances_of s.shown) ss)
+  stands-each (e ∷ es) (s ∷ ss) is z = zip-append (StandsAs r) (option_to_list (item_interface e.1)) (instances_of s.shown) (interfaces_among es) (flat_map (λ s. instances_of s.shown) ss)
       (stands-one e s (is e (Contains-append_left (e ∷ []) es e (contains-one e))) z.0) (stands-each es ss (λ x c. is x (contains-later e es x c)) z.1)
 
 pub instances_stand : InstancesStand
@@ -45,8 +44,7 @@ aliases_are_names r done scope m instance i interface n def name v there path at
     let slot = name_slot (is_resource r n) (home_of r i.0) (text_of name) in
     let found = types_are_found r i interface n def name instance.view v there at named owned stands.shows in
     record {
-      step = ap (λ o. exported_slot (text_of name) o >>= λ x. Some (in_scope x scope)) listed
-          ∙ ap (λ o. (o >>= λ x. provided (is_some instance.interface) x) >>= λ x. Some (in_scope x scope)) found
+      step = ap (λ o. exported_slot (text_of name) o >>= λ x. Some (in_scope x scope)) listed ∙ ap (λ o. (o >>= λ x. provided (is_some instance.interface) x) >>= λ x. Some (in_scope x scope)) found
           ∙ ap (λ b. provided b slot >>= λ x. Some (in_scope x scope)) (ap is_some stands.interface ∙ path);
       shows = slots_leave_entries r done scope slot (no-instance (is_resource r n) (home_of r i.0) (text_of name)) h;
     }

@@ -52,8 +52,7 @@ passed x e y p h = search std_rules
 module _ {X : Type 0} (r : Resolve) (before rest : List Text) (x y : Text) (e : Error) (given : Result X Error) where
   pub items_refused : (items : List (WorldKey × WorldItem)) → canonical_names_of r items ≡ before ++ (y ∷ rest) → x ≡ y → AreDifferent before → RefusesText before x e
       → IsErrAnd given (λ f. f ≡ e) → IfErr given (RefusesItems r items)
-  items_refused items split is different refuses h =
-      passed (RefusesItems r items) e given (items-refused r items before rest x e (split ∙ ap (λ z. before ++ (z ∷ rest)) (sym is)) different refuses) h
+  items_refused items split is different refuses h = passed (RefusesItems r items) e given (items-refused r items before rest x e (split ∙ ap (λ z. before ++ (z ∷ rest)) (sym is)) different refuses) h
 
   pub paths_refused : (numbers : List ℕ) → canonical_paths_of r numbers ≡ before ++ (y ∷ rest) → x ≡ y → AreDifferent before → RefusesText before x e
       → IsErrAnd given (λ f. f ≡ e) → IfErr given (RefusesPaths r numbers true)

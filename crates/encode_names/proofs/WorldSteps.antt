@@ -146,8 +146,7 @@ type-seen : (name : ExternName) (described : ComponentTypeRef) (scope : Scope) (
 type-seen name described scope d x e simple = ap (λ o. o >>= seen_next name scope) e ∙ ap (λ b. provided b (see import_ (seen_type name d) (in_scope x scope))) simple
 
 pub type-step : (name : ExternName) (described : ComponentTypeRef) (scope : Scope) (d : tree.Declaration) (x : Slot) → named_type scope.slots here name.text described ≡ Some (d, x)
-    → is_simple name ≡ true
-    → component_step scope (Declaration.imported name described) ≡ Some (see import_ (seen_type name d) (in_scope x scope))
+    → is_simple name ≡ true → component_step scope (Declaration.imported name described) ≡ Some (see import_ (seen_type name d) (in_scope x scope))
 type-step name y scope d x e simple = search std_rules
 
 pub types_are_shown : TypesAreShown
@@ -175,10 +174,8 @@ module _ (name : ExternName) (n : ℕ) (scope : Scope) where
 
   module _ (k : Key) (view : View) (named : key_of name ≡ Some k) (fresh : list_any (λ m. m == n) scope.used ≡ false) (used : used_view scope.slots (follow.place_of (interface_of k)) (slice_get scope.slots n) ≡ Some view) where
     instance-seen : (direction : Direction) → follow.see_instance direction name n scope ≡ seen-by direction k view
-    instance-seen direction =
-        ap (λ o. o >>= after direction) named
-        ∙ ap (λ b. when (not b) (used_view scope.slots (follow.place_of (interface_of k)) (slice_get scope.slots n)) >>= seen-by direction k) fresh
-        ∙ ap (λ o. o >>= seen-by direction k) used
+    instance-seen direction = ap (λ o. o >>= after direction) named ∙ ap (λ b. when (not b) (used_view scope.slots (follow.place_of (interface_of k)) (slice_get scope.slots n)) >>= seen-by direction
+        k) fresh ∙ ap (λ o. o >>= seen-by direction k) used
 
     pub instance-step : (direction : Direction) → component_step scope (declared_towards direction name (refs.Instance n)) ≡ seen-by direction k view
     instance-step import_ = instance-seen import_
@@ -263,8 +260,7 @@ interfaces_are_shown r canonical direction done scope e i ds view v is at h turn
     ∙ ap (λ around. instance_view (home_of r i) around ds) (take-append_seam scope.slots (x ∷ [])) ∙ viewed in
     record {
       step = instance-step name (length scope.slots) (in_scope x scope) k view (interface-named r e.0 e.1 i name at read.says) (unused (length scope.slots) scope.used h.in_range) slots direction;
-      shows = seen-instance r done scope ds h e k view name
-          (record {
+      shows = seen-instance r done scope ds h e k view name (record {
             view = view;
             is_view = sight.0;
             is = λ j. record { key = key-shown r e.0 i home (keyed-alike r is.number e.0 e.1 i entry at) j; shown = sym sight.1 j; external_id = read.external_id j };

@@ -84,8 +84,7 @@ module _ (r : Resolve) where
 
   -- an interface behind what it uses
   with-itself : (n user : ℕ) (old mid : List ℕ) → has (direct_deps r user) n ≡ true → has mid n ≡ false → Lists (direct_deps r n) n old mid → Lists (n ∷ []) user old (mid ++ n ∷ [])
-  with-itself n user old mid uses fresh l =
-      record {
+  with-itself n user old mid uses fresh l = record {
         more = l.more ++ n ∷ [];
         is = ap (λ k. k ++ n ∷ []) l.is ∙ append_assoc old l.more (n ∷ []);
         stand = λ m h. Contains-append_right mid (n ∷ []) m (has-contains (n ∷ []) m h);

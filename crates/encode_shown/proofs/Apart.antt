@@ -18,6 +18,5 @@ distinct-from (t ∷ ts) d = both _ _ (ap not (none-any t ts d.0)) (distinct-fro
 -- two lists, none of whose texts are the same
 pub distinct-both : (xs ys : List Text) → distinct xs ≡ true → distinct ys ≡ true → ((x : Text) → Contains xs x → list_any (text_eq x) ys ≡ false) → distinct (xs ++ ys) ≡ true
 distinct-both [] ys h g apart = g
-distinct-both (x ∷ xs) ys h g apart =
-    both _ _ (ap not (list_any-append (text_eq x) xs ys ∙ (λ i. no-longer (list_any (text_eq x) xs) (first_true _ _ h) i || apart x (0, omega arith, refl) i)))
+distinct-both (x ∷ xs) ys h g apart = both _ _ (ap not (list_any-append (text_eq x) xs ys ∙ (λ i. no-longer (list_any (text_eq x) xs) (first_true _ _ h) i || apart x (0, omega arith, refl) i)))
     (distinct-both xs ys (second_true (not (list_any (text_eq x) xs)) _ h) g (λ y c. apart y (contains-later x xs y c)))

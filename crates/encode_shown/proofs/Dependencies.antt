@@ -69,8 +69,7 @@ module _ (r : Resolve) (v : IsValid r) where
   -- the path of a dependency is used by a view of the types
   dependency-used : (m : ℕ) (view : View) → view.types ≡ option_map_or (types_of r m) (interface_at r m) [] → (k : ℕ) (path : Text) → Contains (direct_deps r m) k → interface_path r k ≡ Some path
       → Contains (used_by_view view) path
-  dependency-used m view types k path c e =
-      subst (λ (ts : List ShownType). Contains (flat_map (λ t. used_by t.meaning.declaration) ts) path) (sym types)
+  dependency-used m view types k path c e = subst (λ (ts : List ShownType). Contains (flat_map (λ t. used_by t.meaning.declaration) ts) path) (sym types)
       (go (interface_at r m) (once_from k _ (filter-contains (λ j. not (j == m)) (once (option_map_or (interfaces_used_by r) (interface_at r m) [])) k c).0))
     where
       go : (o : Option Interface) → Contains (option_map_or (interfaces_used_by r) o []) k → Contains (flat_map (λ t. used_by t.meaning.declaration) (option_map_or (types_of r m) o [])) path
@@ -84,9 +83,7 @@ module _ (r : Resolve) (v : IsValid r) where
   module _ (n : ℕ) (exported : View) (shows : ShowsInterface r n exported) where
     reached-are : (ns : List ℕ) (imports : List (Text × View)) → AllZip (ShowsImport r) ns imports → AreUsed r ns n → are_reached imports exported ≡ true
     reached-are [] [] z u = refl
-    reached-are (k ∷ ns) (i ∷ imports) z u = both _ _ (list_any-from_Contains nat_list_eq_equiv i.0 (flat_map (λ (l : Text × View). used_by_view l.1) imports ++ used_by_view exported)
-        (⊎_elim
-        (λ c.
+    reached-are (k ∷ ns) (i ∷ imports) z u = both _ _ (list_any-from_Contains nat_list_eq_equiv i.0 (flat_map (λ (l : Text × View). used_by_view l.1) imports ++ used_by_view exported) (⊎_elim (λ c.
         let later = zip-right (ShowsImport r) ns imports u.0.0 z.1 c in
         Contains-append_left (flat_map (λ (l : Text × View). used_by_view l.1) imports) (used_by_view exported) i.0
         (contains-flat (λ (l : Text × View). used_by_view l.1) imports later.0 i.0 later.1 (dependency-used u.0.0 later.0.1 later.2.shows.types k i.0 u.0.2 z.0.path)))
@@ -151,8 +148,7 @@ module _ (r : Resolve) (v : IsValid r) where
 
     -- a world of the package under a label that is its name
     pub world-read : (m : ℕ) (w : World) → world_at r m ≡ Some w → (label : Text) → text_of w.name ≡ label → (ds : Declarations) (scope : Scope) → component_scope ds ≡ Some scope
-        → ShowsWorld r w scope
-        → world_part label (ds, plain_name (path_in (identity_of p.name) (text_of w.name))) ≡ Some (identity_of p.name, Part.world scope)
+        → ShowsWorld r w scope → world_part label (ds, plain_name (path_in (identity_of p.name) (text_of w.name))) ≡ Some (identity_of p.name, Part.world scope)
     world-read m w there label is ds scope follows shows =
         let name = world-label r v m w there scope shows in
         let spelled = spelled_path_reads (identity_of p.name) (text_of w.name) (identity r v n p at) name in
@@ -160,6 +156,5 @@ module _ (r : Resolve) (v : IsValid r) where
         rw (spelled, read, follows, world-obeys r v m w there scope shows) refl
 
     pub world-part-read : (e : String Global × WorldId) → Contains p.worlds.entries e → (w : World) → world_at r e.1.0 ≡ Some w → (ds : Declarations) (scope : Scope) → component_scope ds ≡ Some scope
-        → ShowsWorld r w scope
-        → world_part (text_of e.0) (ds, plain_name (path_in (identity_of p.name) (text_of w.name))) ≡ Some (identity_of p.name, Part.world scope)
+        → ShowsWorld r w scope → world_part (text_of e.0) (ds, plain_name (path_in (identity_of p.name) (text_of w.name))) ≡ Some (identity_of p.name, Part.world scope)
     world-part-read e c w there ds scope follows shows = world-read e.1.0 w there (text_of e.0) (own-world r v n p at e c w there).0 ds scope follows shows

@@ -156,10 +156,8 @@ module _ (r : Resolve) (v : IsValid r) where
   module _ (o : TypeOwner) (f : Function) (resources : List Text) where
     -- A function of the owner may stand where its resource does.
     pub function-shown : function_in_range r f ≡ true → function_labels f ≡ true → function_stays r o f ≡ true → list_all (is_shallow r) (function_types f) ≡ true → is_member r o f ≡ true
-        → ((n : ℕ) (name : Text) → resource_of f.kind ≡ Some n → IsResourceOf o n name → Contains resources name)
-        → is_function (place_of r o) resources (text_of f.name) (signature_of r f) ≡ true
-    function-shown range labelled stay flat member home =
-        both _ _ (signature-from (place_of r o) r f (first_true (are_member_labels (map (λ p. text_of p.name) f.params.items)) _
+        → ((n : ℕ) (name : Text) → resource_of f.kind ≡ Some n → IsResourceOf o n name → Contains resources name) → is_function (place_of r o) resources (text_of f.name) (signature_of r f) ≡ true
+    function-shown range labelled stay flat member home = both _ _ (signature-from (place_of r o) r f (first_true (are_member_labels (map (λ p. text_of p.name) f.params.items)) _
         (second_true (not (is_freestanding f.kind) || is_label (text_of f.name)) _ labelled)) values)
         (go (resource_of f.kind) refl member)
       where

@@ -41,10 +41,8 @@ resource-declared r n def at h = ap (λ m. is_resource m.declaration) (meaning-t
 -- a named type of an owner obeys the rules in the owner's place
 pub named-type-obeys : (r : Resolve) → IsValid r → (o : TypeOwner) → same_owner o owner.None ≡ false → (n : ℕ) (name : Text) → IsNamedType r o n name
     → (is_label name && is_declared (place_of r o) (type_meaning_at r n).declaration) ≡ true
-named-type-obeys r v o owned n name is =
-    both _ _ (ap is_label is.name ∙ name-label r v n is.def is.string is.there is.named_)
-    (ap (λ m. is_declared (place_of r o) m.declaration) (meaning-there r n is.def is.there)
-    ∙ (λ j. is_declared (place_of r (sym is.owned j)) (declaration_of r is.def))
+named-type-obeys r v o owned n name is = both _ _ (ap is_label is.name ∙ name-label r v n is.def is.string is.there is.named_)
+    (ap (λ m. is_declared (place_of r o) m.declaration) (meaning-there r n is.def is.there) ∙ (λ j. is_declared (place_of r (sym is.owned j)) (declaration_of r is.def))
     ∙ number-declared r v n is.def is.there (ap (λ o. same_owner o owner.None) is.owned ∙ owned))
 
 module _ (r : Resolve) (v : IsValid r) (n : ℕ) (i : Interface) (there : interface_at r n ≡ Some i) where
@@ -81,12 +79,9 @@ module _ (r : Resolve) (v : IsValid r) (n : ℕ) (i : Interface) (there : interf
       let keyed = all-contained (λ e. text_eq (text_of e.0) (text_of e.1.name) && is_member r (as_interface n) e.1) i.functions.entries e
       (interface-passes function_names r v.rules.function_names n i there) c in
       ap (λ t. is_function (home_of r n) resources t (signature_of r e.1)) (text-same (text_of e.0) (text_of e.1.name) (first_true (text_eq (text_of e.0) (text_of e.1.name)) _ keyed))
-      ∙ function-shown r v (as_interface n) e.1 resources
-      (all-contained (function_in_range r) (functions_of_interface i) e.1 numbers listed)
-      (all-contained function_labels (functions_of_interface i) e.1 named listed)
-      (all-contained (function_stays r (as_interface n)) (functions_of_interface i) e.1 stay listed)
-      (all-contained (λ f. list_all (is_shallow r) (function_types f)) (functions_of_interface i) e.1 flat listed)
-      (second_true (text_eq (text_of e.0) (text_of e.1.name)) _ keyed)
+      ∙ function-shown r v (as_interface n) e.1 resources (all-contained (function_in_range r) (functions_of_interface i) e.1 numbers listed)
+      (all-contained function_labels (functions_of_interface i) e.1 named listed) (all-contained (function_stays r (as_interface n)) (functions_of_interface i) e.1 stay listed)
+      (all-contained (λ f. list_all (is_shallow r) (function_types f)) (functions_of_interface i) e.1 flat listed) (second_true (text_eq (text_of e.0) (text_of e.1.name)) _ keyed)
       (λ m name q is. resource-home m name is)
 
   -- ---- names
@@ -131,8 +126,7 @@ module _ (r : Resolve) (v : IsValid r) (n : ℕ) (i : Interface) (there : interf
         ap (λ (ts : List ShownType). distinct (map (λ t. t.name) ts ++ map (λ f. f.0) view.functions)) types_are
         ∙ distinct-both (map (λ (t : ShownType). t.name) (types_of r n i)) (map (λ f. f.0) view.functions) types-distinct
         (distinct-from _ (Rattle.std.proofs.lemmas.Map.Keys.IsDistinct-IsPermutation text_eq nat_list_eq_equiv.symm (map (λ f. f.0) (functions_of r i)) (map (λ f. f.0) view.functions) order
-        functions-distinct))
-        (λ t c. sym (list_any-IsPermutation (text_eq t) (map (λ f. f.0) (functions_of r i)) (map (λ f. f.0) view.functions) order) ∙ names-apart t c)
+        functions-distinct)) (λ t c. sym (list_any-IsPermutation (text_eq t) (map (λ f. f.0) (functions_of r i)) (map (λ f. f.0) view.functions) order) ∙ names-apart t c)
 
     shown-obeys : is_interface (home_of r n) view ≡ true
     shown-obeys = both _ _ (both _ _ (ap (list_all (λ t. is_label t.name && is_declared (home_of r n) t.meaning.declaration)) types_are ∙ types-pass) shown-functions) shown-names
@@ -154,8 +148,7 @@ interface-obeys r v n view shows = go (interface_at r n) refl shows.types shows.
 pub types-obey : (r : Resolve) (n : ℕ) (view : View) → ShowsTypes r n view → IsValid r → is_interface (home_of r n) view ≡ true
 types-obey r n view shows v = search (std_rules, both, types-pass, append-nil, types-distinct)
 
-types-meant : (r : Resolve) (n : ℕ) (o : Option Interface)
-    → map (λ t. (t.name, t.meaning)) (option_map_or (types_of r n) o []) ≡ (option_map_or (meant.interface_meaning r) o no_interface).types
+types-meant : (r : Resolve) (n : ℕ) (o : Option Interface) → map (λ t. (t.name, t.meaning)) (option_map_or (types_of r n) o []) ≡ (option_map_or (meant.interface_meaning r) o no_interface).types
 types-meant r n x = search (std_rules, map-map)
 
 pub types-mean : (r : Resolve) (n : ℕ) (view : View) → ShowsTypes r n view → interface_meaning view view.functions ≡ meant.types_alone (interface_meaning_at r n)

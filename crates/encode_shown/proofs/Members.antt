@@ -52,8 +52,7 @@ module _ (r : Resolve) (v : IsValid r) where
   -- a named type stands in its owner's list
   pub valid-listed : (n : ℕ) (def : TypeDef) (name : String Global) → type_at r n ≡ Some def → def.name ≡ Some name → is_listed r n (text_of name) def.owner ≡ true
   unfolding order_of_types
-  valid-listed n def name is named =
-      given-test (λ name. is_listed r n (text_of name) def.owner) def.name (same_owner def.owner owner.None) name named
+  valid-listed n def name is named = given-test (λ name. is_listed r n (text_of name) def.owner) def.name (same_owner def.owner owner.None) name named
       (second_true (list_all (λ m. nat_lt m n) (kind_numbers def.kind)) _ (type-passes order_of_types r v.rules.order_of_types n def is))
 
   -- its name is a label
@@ -98,8 +97,7 @@ module _ (r : Resolve) (v : IsValid r) where
             let place = contains-get interface.types.entries e c in
             let listed : is_listed_in_interface e.1.0 (text_of name) interface ≡ true =
             ap (passes (is_listed_in_interface e.1.0 (text_of name))) (sym there) ∙ ap (is_listed r e.1.0 (text_of name)) (sym own) ∙ valid-listed e.1.0 def name at named in
-            let fails =
-            (λ j. option_map_or (λ m. m == e.1.0) (sym (given_found (get_by_text interface.types (text_of name))) j) false &&
+            let fails = (λ j. option_map_or (λ m. m == e.1.0) (sym (given_found (get_by_text interface.types (text_of name))) j) false &&
             (count_by (λ m. m == e.1.0) (sym (given_all (values interface.types)) j) == 1))
             ∙ misfit (λ key. bytes_eq (text_of name) (string_bytes key)) (λ (id : TypeId). Some id.0) e.1.0 interface.types.entries place.0 e place.1 (same-number e.1.0) q in
             both_ways _ fails listed)))

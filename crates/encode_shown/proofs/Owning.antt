@@ -22,8 +22,7 @@ use Rattle.base_lemmas.proofs.Elements.{all-contained, contains-map}
 pub interface-unnamed : (r : Resolve) → IsValid r → (p : Package) (m : ℕ) (i : Interface) (name : String Global) → interface_at r m ≡ Some i → i.name ≡ Some name
     → option_and_then (package_at r) (package_number i.package) ≡ Some p → is_world_name p (text_of name) ≡ false
 unfolding places
-interface-unnamed r v p m i name there named home =
-    no-longer (is_world_name p (text_of name)) (second_true (interface_is_listed m (text_of name) p) _
+interface-unnamed r v p m i name there named home = no-longer (is_world_name p (text_of name)) (second_true (interface_is_listed m (text_of name) p) _
     (given-test (λ p. interface_is_listed m (text_of name) p && not (is_world_name p (text_of name))) (option_and_then (package_at r) (package_number i.package)) true p home
     (given-test (λ name. option_map_or (λ p. interface_is_listed m (text_of name) p && not (is_world_name p (text_of name))) (option_and_then (package_at r) (package_number i.package)) true)
     i.name _ name named (second_true (is_some i.package) _ (interface-passes places r v.rules.places m i there)))))
@@ -106,8 +105,7 @@ module _ (r : Resolve) (v : IsValid r) (n : ℕ) (p : Package) (at : package_at 
 
     -- a path is of the package where the interface's package is this one
     of-package : is_of (identity_of p.name) path ≡ (h.home.0 == n)
-    of-package = ap (λ o. is-of-read o) read ∙ either_way (same_identity (identity_of p.name) (identity_of h.package_.name)) (h.home.0 == n)
-        (λ e. ap (λ k. k == n) (same-package e) ∙ same-number n)
+    of-package = ap (λ o. is-of-read o) read ∙ either_way (same_identity (identity_of p.name) (identity_of h.package_.name)) (h.home.0 == n) (λ e. ap (λ k. k == n) (same-package e) ∙ same-number n)
         (λ e. let one : h.package_ ≡ p = some-same h.package_ p (sym h.stands ∙ ap (package_at r) (equal h.home.0 n e) ∙ at) in
         ap (λ (q : Package). same_identity (identity_of p.name) (identity_of q.name)) one ∙ (identities_decide (identity_of p.name) (identity_of p.name)).1 refl)
       where
@@ -116,8 +114,7 @@ module _ (r : Resolve) (v : IsValid r) (n : ℕ) (p : Package) (at : package_at 
         is-of-read (Some q) = same_identity (identity_of p.name) q.0
 
     pub foreign-path : is_foreign r n m ≡ not (is_of (identity_of p.name) path)
-    foreign-path =
-        (λ j. is_some (is j) && not (option_map_or (λ i. option_map_or (λ id. id.0 == n) i.package false) (h.there j) false))
+    foreign-path = (λ j. is_some (is j) && not (option_map_or (λ i. option_map_or (λ id. id.0 == n) i.package false) (h.there j) false))
         ∙ ap (λ o. not (option_map_or (λ id. id.0 == n) o false)) h.in_package ∙ ap not (sym of-package)
 
     -- and then it stands in the package under its name

@@ -210,8 +210,7 @@ module _ (r : Resolve) (v : IsValid r) where
     IsMet m = ((i : InterfaceMember) × Contains (i.shown.reached.numbers ++ i.entry.1.0 ∷ []) m) ⊎ ((w : WorldMember) × Contains (filter_map item_interface (items_of w.shown.world)) m)
 
     met-closed : (m k : ℕ) → IsMet m → Contains (direct_deps r m) k → IsMet k
-    met-closed m k (inl (i, among)) d =
-        ⊎_elim (λ c. none-in k c) (λ c. inl (i, c)) (earlier-used r [] (i.shown.reached.numbers ++ i.entry.1.0 ∷ []) i.shown.reached.reached.earlier m k among d)
+    met-closed m k (inl (i, among)) d = ⊎_elim (λ c. none-in k c) (λ c. inl (i, c)) (earlier-used r [] (i.shown.reached.numbers ++ i.entry.1.0 ∷ []) i.shown.reached.reached.earlier m k among d)
     met-closed m k (inr (w, among)) d =
         let given = given-contains item_interface (items_of w.shown.world) m among in
         inr (w, world-closed w.entry.1.0 w.shown.world w.shown.there given.0 given.1 k (interface-uses r given.0 m k given.2 d))
@@ -254,8 +253,7 @@ module _ (r : Resolve) (v : IsValid r) where
             let found = zip-right (ShowsImport r) i.shown.reached.numbers i.shown.imports m i.shown.reached.shown_imports c in
             record {
               sight = import_sight found.0;
-              there = stands (import_sight found.0)
-                  (Contains-append_left (map import_sight i.shown.imports) (export_sight i.entry i.shown.exported ∷ []) (import_sight found.0)
+              there = stands (import_sight found.0) (Contains-append_left (map import_sight i.shown.imports) (export_sight i.entry i.shown.exported ∷ []) (import_sight found.0)
                   (contains-map import_sight i.shown.imports found.0 found.1));
               is = import-seen m found.0 found.2;
             }

@@ -60,8 +60,7 @@ module _ (r : Resolve) (v : IsValid r) (n : ℕ) (p : Package) (at : package_at 
 
   interface-read : (e : String Global × InterfaceId) (x : Text × Declarations) → Contains p.interfaces.entries e → (is : IsInterfaceType r p e x)
       → member x ≡ Some (record { label = text_of e.0; package_ = named; part = Part.interface is.exported is.imports })
-  interface-read e x c is =
-      ap (as_member x.0) (search std_rules) ∙ ap (λ t. as_member t (interface_part t x.1)) is.label
+  interface-read e x c is = ap (as_member x.0) (search std_rules) ∙ ap (λ t. as_member t (interface_part t x.1)) is.label
       ∙ ap (as_member (text_of e.0)) (interface-part-read r v n p at e c x.1 is.scope is.imports is.exported is.follows is.shows)
 
   -- the wrapper of a world is read as a member
@@ -78,11 +77,9 @@ module _ (r : Resolve) (v : IsValid r) (n : ℕ) (p : Package) (at : package_at 
       (_, wrapper-read e.1.0 (text_of e.0) x is (own-world r v n p at e c is.world is.there).0, record { world = is.world; there = is.there; scope = is.scope; shows = is.shows; is = refl })) in
       let all : each member xs ≡ Some (interfaces.members ++ worlds.members) =
       ap (each member) types.are ∙ each-append member types.interface_types types.world_types interfaces.members worlds.members interfaces.read worlds.read in
-      ap (λ (o : Option (List (Text × Declarations))). o >>= λ ts. each member ts >>= λ ms. package_of_members ms) e
-      ∙ ap (λ (o : Option (List Member)). o >>= λ ms. package_of_members ms) all
-      ∙ members-mean r v n p at (interfaces.members ++ worlds.members)
-      (record { interface_members = interfaces.members; world_members = worlds.members; interfaces = interfaces.shown; worlds = worlds.shown; are = refl })
-      (search std_rules)
+      ap (λ (o : Option (List (Text × Declarations))). o >>= λ ts. each member ts >>= λ ms. package_of_members ms) e ∙ ap (λ (o : Option (List Member)). o >>= λ ms. package_of_members ms) all
+      ∙ members-mean r v n p at (interfaces.members ++ worlds.members) (record
+      { interface_members = interfaces.members; world_members = worlds.members; interfaces = interfaces.shown; worlds = worlds.shown; are = refl }) (search std_rules)
 
 -- ---- labels
 
@@ -99,17 +96,15 @@ module _ (r : Resolve) (v : IsValid r) (n : ℕ) (p : Package) (at : package_at 
   -- no label stands twice
   pub labels-apart : distinct (map (λ x. x.0) xs) ≡ true
   labels-apart = ap distinct names-are ∙ distinct-both (map text_of (keys p.interfaces)) (map text_of (keys p.worlds))
-      (distinct-from _ (distinct-texts (keys p.interfaces) (v.distinct_keys.packages n p at).0)) (distinct-from _ (distinct-texts (keys p.worlds) (v.distinct_keys.packages n p at).1))
-      (λ t c.
+      (distinct-from _ (distinct-texts (keys p.interfaces) (v.distinct_keys.packages n p at).0)) (distinct-from _ (distinct-texts (keys p.worlds) (v.distinct_keys.packages n p at).1)) (λ t c.
       let key = contains-mapped text_of (keys p.interfaces) t c in
       let entry = contains-mapped (λ (e : String Global × InterfaceId). e.0) p.interfaces.entries key.0 key.1 in
       list_any_mapped (text_eq t) text_of (keys p.worlds) ∙ ap (is_world_name p) (sym key.2 ∙ ap text_of (sym entry.2)) ∙ no-world-name r v n p at entry.0 entry.1)
 
   -- each is a label
   pub all-labels : list_all (λ x. is_label x.0) xs ≡ true
-  all-labels = all-from (λ x. is_label x.0) xs (λ x c. ⊎_elim
-      (λ c. let e = zip-left (IsInterfaceType r p) p.interfaces.entries types.interface_types x types.interfaces c in ap is_label e.2.label ∙ own-label r v n p at e.0 e.1)
-      (λ c.
+  all-labels = all-from (λ x. is_label x.0) xs (λ x c. ⊎_elim (λ c. let e = zip-left (IsInterfaceType r p) p.interfaces.entries types.interface_types x types.interfaces c in
+      ap is_label e.2.label ∙ own-label r v n p at e.0 e.1) (λ c.
       let e = zip-left (IsListedWorldType r p) p.worlds.entries types.world_types x types.worlds c in
       ap (λ (y : Text × Declarations). is_label y.0) e.2.is ∙ ap is_label (sym (own-world r v n p at e.0 e.1 e.2.world e.2.there).0) ∙ world-label r v e.0.1.0 e.2.world e.2.there e.2.scope e.2.shows)
       (Contains-append_cases types.interface_types types.world_types x (subst (λ (ys : List (Text × Declarations)). Contains ys x) types.are c)))
@@ -117,8 +112,7 @@ module _ (r : Resolve) (v : IsValid r) (n : ℕ) (p : Package) (at : package_at 
 -- ---- one world
 
 pub world-sections-mean : (r : Resolve) → IsValid r → (n : ℕ) (w : World) (p : Package) → world_at r n ≡ Some w → package_of_world r w ≡ Some p → (x : Text × Declarations) (sections : List Section)
-    → IsWorldType r p n (text_of w.name) x
-    → exported_types sections ≡ Some (x ∷ []) → reads.world_package sections ≡ Some (meant.world_package r p w)
+    → IsWorldType r p n (text_of w.name) x → exported_types sections ≡ Some (x ∷ []) → reads.world_package sections ≡ Some (meant.world_package r p w)
 world-sections-mean r v n w p there home x sections is e =
     let same : is.world ≡ w = same-some is.world w (sym is.there ∙ there) in
     let id = given-by (λ (q : PackageId). package_at r q.0) w.package p home in
@@ -134,8 +128,7 @@ meant-is r n p m at = search std_rules
 
 -- The bytes mean what the package means, and nothing else.
 pub bytes-mean : (r : Resolve) → IsValid r → (n : ℕ) (p : Package) → package_at r n ≡ Some p → (xs : List (Text × Declarations)) (sections : List Section) (bytes : List ℕ) → ArePackageTypes r p xs
-    → is_filled xs ≡ true
-    → exported_types sections ≡ Some xs → IsComponent sections bytes → (m : PackageMeaning) → Meant r n m ↔ Reads bytes m
+    → is_filled xs ≡ true → exported_types sections ≡ Some xs → IsComponent sections bytes → (m : PackageMeaning) → Meant r n m ↔ Reads bytes m
 bytes-mean r v n p at xs sections bytes types some e spelled m =
     let means = sections-mean r v n p at xs sections types some e in
     let read : Reads bytes (meant.package_meaning r n p) = record { sections = sections; spelled = spelled; means = means } in (

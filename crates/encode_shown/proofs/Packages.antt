@@ -41,8 +41,7 @@ module _ (r : Resolve) (v : IsValid r) (n : ℕ) (p : Package) (at : package_at 
   -- ---- one package
 
   member-package : (m : Member) → Contains members m → m.package_ ≡ named
-  member-package m c = ⊎_elim
-      (λ c. ap (λ (x : Member). x.package_) (zip-left (ShowsInterfaceMember r named) p.interfaces.entries shows.interface_members m shows.interfaces c).2.is)
+  member-package m c = ⊎_elim (λ c. ap (λ (x : Member). x.package_) (zip-left (ShowsInterfaceMember r named) p.interfaces.entries shows.interface_members m shows.interfaces c).2.is)
       (λ c. ap (λ (x : Member). x.package_) (zip-left (ShowsWorldMember r named) p.worlds.entries shows.world_members m shows.worlds c).2.is)
       (Contains-append_cases shows.interface_members shows.world_members m (subst (λ (ms : List Member). Contains ms m) shows.are c))
 
@@ -104,8 +103,7 @@ module _ (r : Resolve) (v : IsValid r) (n : ℕ) (p : Package) (at : package_at 
 
   -- a sight of an interface of another package means what the package says of it
   foreign-meant : (s : Sight) (m : ℕ) → IsSight r m s → is_of named s.path ≡ false → seen_meaning seen s ≡ foreign_entry m
-  foreign-meant s m is other =
-      sight-means r v numbered.0 seen numbered.1 m s is (is_shown_in r p m) (whole-shown r v n p at members shows m s.path is.has_path other)
+  foreign-meant s m is other = sight-means r v numbered.0 seen numbered.1 m s is (is_shown_in r p m) (whole-shown r v n p at members shows m s.path is.has_path other)
       ∙ (λ j. (unwrap_or (sym is.has_path j) [], foreign_meaning r p m))
 
   forth : (q : Text) (x : InterfaceMeaning) → Contains seen_entries (q, x) → Contains foreign_entries (q, x)
@@ -148,12 +146,7 @@ module _ (r : Resolve) (v : IsValid r) (n : ℕ) (p : Package) (at : package_at 
 
   pub package-means : package_with named members ≡ Some (meant.package_meaning r n p)
   package-means =
-      ap (λ b. provided b (record {
-        identity = named;
-        interfaces = flat_map interfaces_of members;
-        worlds = flat_map worlds_of members;
-        foreign = from_entries seen_entries;
-      }))
+      ap (λ b. provided b (record { identity = named; interfaces = flat_map interfaces_of members; worlds = flat_map worlds_of members; foreign = from_entries seen_entries }))
       (both _ _ one-package (both _ _ (all-from (stands_at_top named members) seen sight-at-top)
       (both _ _ (all-sights-agree r v numbered.0 seen numbered.1) (all-sights-obey r v numbered.0 seen numbered.1))))
       ∙ (λ j. Some (record { identity = named; interfaces = interfaces-meant j; worlds = worlds-meant j; foreign = (same-entries seen_entries foreign_entries forth back one-meaning) j }))
@@ -162,5 +155,4 @@ module _ (r : Resolve) (v : IsValid r) (n : ℕ) (p : Package) (at : package_at 
 pub members-mean : (r : Resolve) → IsValid r → (n : ℕ) (p : Package) → package_at r n ≡ Some p → (members : List Member) → ShowsPackage r p members → is_filled members ≡ true
     → package_of_members members ≡ Some (meant.package_meaning r n p)
 members-mean r v n p at [] shows h = absurd cc
-members-mean r v n p at (m ∷ ms) shows h =
-    ap (λ q. package_with q (m ∷ ms)) (member-package r v n p at (m ∷ ms) shows m (0, omega arith, refl)) ∙ package-means r v n p at (m ∷ ms) shows
+members-mean r v n p at (m ∷ ms) shows h = ap (λ q. package_with q (m ∷ ms)) (member-package r v n p at (m ∷ ms) shows m (0, omega arith, refl)) ∙ package-means r v n p at (m ∷ ms) shows

@@ -47,13 +47,11 @@ module _ (r : Resolve) (v : IsValid r) where
 
   -- a named type is its name where it is used
   pub named-tree : (n : ℕ) (def : TypeDef) (name : String Global) → type_at r n ≡ Some def → def.name ≡ Some name → number_tree r n ≡ named (place_of r def.owner) (text_of name)
-  named-tree n def name at is =
-      ap (λ x. unwrap_or x no_tree) (kept_trees_at r v.rules n def at)
+  named-tree n def name at is = ap (λ x. unwrap_or x no_tree) (kept_trees_at r v.rules n def at)
       ∙ ap (λ o. option_map_or (λ name. named (place_of r def.owner) (text_of name)) o (tree_of_declaration (declared_by (trees_of r) def.kind))) is
 
   pub unnamed-tree : (n : ℕ) (def : TypeDef) → type_at r n ≡ Some def → def.name ≡ None → number_tree r n ≡ tree_of_declaration (declared_by (trees_of r) def.kind)
-  unnamed-tree n def at none =
-      ap (λ x. unwrap_or x no_tree) (kept_trees_at r v.rules n def at)
+  unnamed-tree n def at none = ap (λ x. unwrap_or x no_tree) (kept_trees_at r v.rules n def at)
       ∙ ap (λ o. option_map_or (λ name. named (place_of r def.owner) (text_of name)) o (tree_of_declaration (declared_by (trees_of r) def.kind))) none
 
   -- ---- tests of the parts of a kind
@@ -68,8 +66,7 @@ module _ (r : Resolve) (v : IsValid r) where
         h id.0 (contains-filter_map number_of ts t id.0 c (subst (λ (u : ValueType). Contains (option_to_list (number_of u)) id.0) (sym e) (contains-one id.0)))))
 
     children-pass : (k : TypeDefKind) → is_alias k ≡ false → ((m : ℕ) → Contains (kind_numbers k) m → test (number_tree r m) ≡ true) → list_all test (child_trees (declared_by (trees_of r) k)) ≡ true
-    children-pass k e h =
-        ap (list_all test) (children-are (trees_of r) k e)
+    children-pass k e h = ap (list_all test) (children-are (trees_of r) k e)
         ∙ list_all-append test (map (tree_of (trees_of r)) (member_types k)) (map (tree_at (trees_of r)) (option_to_list (handled k)))
         ∙ both _ _ (values-pass (member_types k) (λ m c. h m (Contains-append_left (filter_map number_of (member_types k)) _ m c)))
         (list_all-map test (tree_at (trees_of r)) (option_to_list (handled k))
@@ -138,8 +135,7 @@ module _ (r : Resolve) (v : IsValid r) where
 
   shallow-children : (n : ℕ) (def : TypeDef) → type_at r n ≡ Some def → is_alias def.kind ≡ false → list_all (λ t. nat_le (levels t) 100) (child_trees (declared_by (trees_of r) def.kind)) ≡ true
   unfolding depths
-  shallow-children n def at e =
-      ap (list_all (λ t. nat_le (levels t) 100)) (children-are (trees_of r) def.kind e)
+  shallow-children n def at e = ap (list_all (λ t. nat_le (levels t) 100)) (children-are (trees_of r) def.kind e)
       ∙ list_all-append (λ t. nat_le (levels t) 100) (map (tree_of (trees_of r)) (member_types def.kind)) (map (tree_at (trees_of r)) (option_to_list (handled def.kind)))
       ∙ both _ _ (list_all-map (λ t. nat_le (levels t) 100) (tree_of (trees_of r)) (member_types def.kind) ∙ type-passes depths r v.rules.depths n def at)
       (list_all-map (λ t. nat_le (levels t) 100) (tree_at (trees_of r)) (option_to_list (handled def.kind)) ∙ all-from (λ m. nat_le (levels (tree_at (trees_of r) m)) 100)
@@ -170,9 +166,8 @@ module _ (r : Resolve) (v : IsValid r) where
   -- what else a type of an owner uses is the owner's
   stays : (n : ℕ) (def : TypeDef) → type_at r n ≡ Some def → same_owner def.owner owner.None ≡ false → is_use r def ≡ false → list_all (has_owner r def.owner) (used_by_type r def) ≡ true
   unfolding owners
-  stays n def at owned plain =
-      or-cases (same_owner def.owner owner.None) (list_all (has_owner r def.owner) (used_by_type r def) || (is_some def.name && is_use r def)) (type-passes owners r v.rules.owners n def at)
-      (λ e. absurd (both_ways _ owned e))
+  stays n def at owned plain = or-cases (same_owner def.owner owner.None) (list_all (has_owner r def.owner) (used_by_type r def) || (is_some def.name && is_use r def))
+      (type-passes owners r v.rules.owners n def at) (λ e. absurd (both_ways _ owned e))
       (λ e. or-cases (list_all (has_owner r def.owner) (used_by_type r def)) (is_some def.name && is_use r def) e (λ h. h) (λ h. absurd (both_ways _ plain (second_true (is_some def.name) _ h))))
 
   -- a name of an owner is declared as what it may be, in the owner's place
@@ -186,8 +181,6 @@ module _ (r : Resolve) (v : IsValid r) where
           let all : list_all (all_met def.owner) (kind_numbers def.kind) ≡ true = sym (all_flat (has_owner r def.owner) (met_by (met_of r)) (kind_numbers def.kind)) ∙ used in
           let inside : n < length r.types.items = slice_get_within r.types.items n def at in
           let names = second_true (passes (λ name. Rattle.wit_model.specs.Names.is_label (text_of name)) def.name) _ (type-passes labels r v.rules.labels n def at) in
-          declared-from (place_of r def.owner) (declaration_of r def)
-          (ap are_labels (labels-are (trees_of r) def.kind e) ∙ labels-from (kind_labels def.kind) (second_true (rules.is_stability def.stability) _ names))
-          (children-pass (is_part (place_of r def.owner)) (λ q. refl) def.kind e (λ m c.
-          number-part def.owner m (let below = smaller n def at m c in omega (arith, below, inside)) (all-contained (all_met def.owner) (kind_numbers def.kind) m all c)))
-          (shallow-children n def at e)
+          declared-from (place_of r def.owner) (declaration_of r def) (ap are_labels (labels-are (trees_of r) def.kind e)
+          ∙ labels-from (kind_labels def.kind) (second_true (rules.is_stability def.stability) _ names)) (children-pass (is_part (place_of r def.owner)) (λ q. refl) def.kind e (λ m c.
+          number-part def.owner m (let below = smaller n def at m c in omega (arith, below, inside)) (all-contained (all_met def.owner) (kind_numbers def.kind) m all c))) (shallow-children n def at e)

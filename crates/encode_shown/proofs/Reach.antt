@@ -98,6 +98,5 @@ module _ (r : Resolve) where
   pub earlier-used : (earlier ns : List ℕ) → UseEarlier r earlier ns → (n m : ℕ) → Contains ns n → Contains (direct_deps r n) m → Contains earlier m ⊎ Contains ns m
   earlier-used earlier [] u n m c d = none-in n c
   earlier-used earlier (x ∷ ns) u n m (zero, l, e) d = inl (u.0 m (subst (λ (j : ℕ). Contains (direct_deps r j) m) (sym e) d))
-  earlier-used earlier (x ∷ ns) u n m (suc k, l, e) d =
-      ⊎_elim (λ c. ⊎_elim inl (λ c. inr (0, omega arith, one-contained x m c)) (Contains-append_cases earlier (x ∷ []) m c)) (λ c. inr (contains-later x ns m c))
-      (earlier-used (earlier ++ x ∷ []) ns u.1 n m (k, omega (arith, l), e) d)
+  earlier-used earlier (x ∷ ns) u n m (suc k, l, e) d = ⊎_elim (λ c. ⊎_elim inl (λ c. inr (0, omega arith, one-contained x m c)) (Contains-append_cases earlier (x ∷ []) m c))
+      (λ c. inr (contains-later x ns m c)) (earlier-used (earlier ++ x ∷ []) ns u.1 n m (k, omega (arith, l), e) d)

@@ -14,9 +14,8 @@ module _ {X : Type 0} where
   module _ (es fs : List (Text × X)) (forth : (q : Text) (x : X) → Contains es (q, x) → Contains fs (q, x)) (back : (q : Text) (x : X) → Contains fs (q, x) → Contains es (q, x))
       (one : (q : Text) (x y : X) → Contains fs (q, x) → Contains fs (q, y) → x ≡ y) where
     same-found : (q : Text) → find text_cmp q es ≡ find text_cmp q fs
-    same-found q = option-cases (find text_cmp q es)
-        (λ e. option-cases (find text_cmp q fs) (λ f. e ∙ sym f) (λ y f. absurd (let some = (found-some es q y (back q y (found-there fs q y f))).1 in cc)))
-        (λ x e.
+    same-found q = option-cases (find text_cmp q es) (λ e. option-cases (find text_cmp q fs) (λ f. e ∙ sym f)
+        (λ y f. absurd (let some = (found-some es q y (back q y (found-there fs q y f))).1 in cc))) (λ x e.
         let c = forth q x (found-there es q x e) in
         let y = found-some fs q x c in
         e ∙ ap Some (one q x y.0 c (found-there fs q y.0 y.1)) ∙ sym y.1)

@@ -28,8 +28,7 @@ pub record UsesPath (r : Resolve) (used : Option ℕ) (path : Text) : Type 0 whe
 
 pub contains-flat-from : {A B : Type 0} (f : A → List B) (xs : List A) (y : B) → Contains (flat_map f xs) y → (x : A) × Contains xs x × Contains (f x) y
 contains-flat-from f [] y c = none-in y c
-contains-flat-from f (x ∷ xs) y c =
-    ⊎_elim (λ h. (x, (0, omega arith, refl), h)) (λ h. let rest = contains-flat-from f xs y h in (rest.0, contains-later x xs rest.0 rest.1, rest.2))
+contains-flat-from f (x ∷ xs) y c = ⊎_elim (λ h. (x, (0, omega arith, refl), h)) (λ h. let rest = contains-flat-from f xs y h in (rest.0, contains-later x xs rest.0 rest.1, rest.2))
     (Rattle.std.proofs.lemmas.List.Elements.Contains-append_cases (f x) (flat_map f xs) y c)
 
 module _ (r : Resolve) (v : IsValid r) where
@@ -53,9 +52,7 @@ module _ (r : Resolve) (v : IsValid r) where
 
   -- the same by the number of the type
   pub number-used : (n : ℕ) (path : Text) → Contains (used_by (type_meaning_at r n).declaration) path → UsesPath r (interface_used_by r n) path
-  number-used n path c = option-cases (type_at r n)
-      (λ e. none-in path (subst (λ o. Contains (used_by (option_map_or (type_meaning r) o no_type).declaration) path) e c))
-      (λ def e.
+  number-used n path c = option-cases (type_at r n) (λ e. none-in path (subst (λ o. Contains (used_by (option_map_or (type_meaning r) o no_type).declaration) path) e c)) (λ def e.
       let uses = path-used n def path e (subst (λ m. Contains (used_by m.declaration) path) (meaning-there r n def e) c) in
       record { number = uses.number; is = ap (option_and_then (used_interface r)) e ∙ uses.is; has_path = uses.has_path })
 

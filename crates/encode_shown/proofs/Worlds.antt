@@ -34,8 +34,7 @@ module _ (r : Resolve) (v : IsValid r) (n : ℕ) where
   -- ---- imports
 
   imports-obey : (before : List (WorldKey × WorldItem)) (ss : List Seen) → AllZip (ShowsItem r) before ss → AreEntries before → (es : List (WorldKey × WorldItem)) (ts : List Seen)
-      → AllZip (ShowsItem r) es ts
-      → AreEntries es → each_after (uses_stand_before r n) (map (λ e. e.1) before) (map (λ e. e.1) es) ≡ true → are_imports ss ts ≡ true
+      → AllZip (ShowsItem r) es ts → AreEntries es → each_after (uses_stand_before r n) (map (λ e. e.1) before) (map (λ e. e.1) es) ≡ true → are_imports ss ts ≡ true
   imports-obey before ss z entries [] [] w more h = refl
   imports-obey before ss z entries (e ∷ es) (t ∷ ts) w more h =
       let this = more e (0, omega arith, refl) in
@@ -62,8 +61,7 @@ module _ (r : Resolve) (v : IsValid r) (n : ℕ) where
       → list_all (has (filter_map item_interface before)) (used_interfaces r i) ≡ true → (t : Text) (o : Option Text)
       → list_all (λ p. list_any (text_eq p) earlier) (uses (record { key = t; shown = shown_item r k i view; external_id = o })) ≡ true
   uses-stand before earlier paths k (item.Function f) view is shows h t o = refl
-  uses-stand before earlier paths k (item.Type_ id) view is shows h t o =
-      all-from (λ p. list_any (text_eq p) earlier) (used_by (type_meaning_at r id.0).declaration) (λ p c.
+  uses-stand before earlier paths k (item.Type_ id) view is shows h t o = all-from (λ p. list_any (text_eq p) earlier) (used_by (type_meaning_at r id.0).declaration) (λ p c.
       let used = number-used r v id.0 p c in
       stands-among before earlier paths (item.Type_ id) h used.number p (subst (λ (o : Option ℕ). Contains (option_to_list o) used.number) (sym used.is) (contains-one used.number)) used.has_path)
   uses-stand before earlier paths k (item.Interface id stability docs external_id) view is shows h t o =
@@ -79,8 +77,7 @@ module _ (r : Resolve) (v : IsValid r) (n : ℕ) where
 
   more-paths : (before : List WorldItem) (earlier : List Text) → ArePaths before earlier → (e : WorldKey × WorldItem) (t : Seen) → IsEntry r n e → ShowsItem r e t
       → ArePaths (before ++ e.1 ∷ []) (earlier ++ path_seen t.shown)
-  more-paths before earlier paths e t is shows m path c p = ⊎_elim (λ c. Contains-append_left earlier (path_seen t.shown) path (paths m path c p))
-      (λ c.
+  more-paths before earlier paths e t is shows m path c p = ⊎_elim (λ c. Contains-append_left earlier (path_seen t.shown) path (paths m path c p)) (λ c.
       let given = given-contains item_interface (e.1 ∷ []) m c in
       let at : item_interface e.1 ≡ Some m = ap item_interface (one-contained e.1 given.0 given.1) ∙ given.2 in
       let shown : t.shown ≡ shown_item r e.0 e.1 shows.view = ap (λ (x : Seen). x.shown) shows.is in
@@ -128,8 +125,7 @@ module _ (r : Resolve) (v : IsValid r) (n : ℕ) where
 
     names : (es : List (WorldKey × WorldItem)) (ss : List Seen) → AllZip (ShowsItem r) es ss → AreEntries es → IsDistinct Rattle.wit_model.specs.Valid.key_eq (map (λ e. e.0) es)
         → distinct (map (λ s. s.key) ss) ≡ true
-    names es ss z entries d =
-        ap distinct (zip-same (ShowsItem r) (λ e. key_text r e.0) (λ (s : Seen). s.key) (key-seen r) es ss z ∙ sym (map-map (key_text r) (λ e. e.0) es))
+    names es ss z entries d = ap distinct (zip-same (ShowsItem r) (λ e. key_text r e.0) (λ (s : Seen). s.key) (key-seen r) es ss z ∙ sym (map-map (key_text r) (λ e. e.0) es))
         ∙ distinct-from _ (keys-distinct r v n (map (λ e. e.0) es) (λ k c.
         let e = contains-mapped (λ (e : WorldKey × WorldItem). e.0) es k c in
         subst (IsKey r) e.2 (entry-key r v n e.0.0 e.0.1 (entries e.0 e.1))) d)
@@ -145,6 +141,5 @@ module _ (r : Resolve) (v : IsValid r) (n : ℕ) where
         (ap (each_after (uses_stand_before r n) []) (map-append (λ e. e.1) w.imports.entries w.exports.entries) ∙ order)
 
     pub world-obeys : is_world scope ≡ true
-    world-obeys = both _ _ (both _ _ (both _ _ (both _ _ imports-pass exports-pass)
-        (names w.imports.entries scope.imports shows.imports imports-are (v.distinct_keys.worlds n w there).0))
+    world-obeys = both _ _ (both _ _ (both _ _ (both _ _ imports-pass exports-pass) (names w.imports.entries scope.imports shows.imports imports-are (v.distinct_keys.worlds n w there).0))
         (names w.exports.entries scope.exports shows.exports exports-are (v.distinct_keys.worlds n w there).1)) earlier

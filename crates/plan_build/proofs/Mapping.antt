@@ -27,8 +27,7 @@ module _ {C : Type 0} (same : C → C → Bool) (flips : (a b : C) → same a b 
   pub fresh : (cs : List C) (i : ℕ) (c : C) → differ same cs ≡ true → slice_get cs i ≡ Some c → list_any (same c) (take i cs) ≡ false
   fresh [] i c h e = absurd cc
   fresh (d ∷ ds) zero c h e = refl
-  fresh (d ∷ ds) (suc i) c h e =
-      search (std_rules, none_or, unlike, not_true, first_true, second_true, fresh ds i c (second_true (not (list_any (same d) ds)) (differ same ds) h) e)
+  fresh (d ∷ ds) (suc i) c h e = search (std_rules, none_or, unlike, not_true, first_true, second_true, fresh ds i c (second_true (not (list_any (same d) ds)) (differ same ds) h) e)
 
   module _ {K V W A : Type 0} (eq : K → K → Bool) (view : K → C) (agrees : (a b : K) → eq a b ≡ same (view a) (view b)) (f : V → W) (g : A → C × W) where
     -- an entry of the map as one of the list
@@ -42,9 +41,7 @@ module _ {C : Type 0} (same : C → C → Bool) (flips : (a b : C) → same a b 
     module _ (es new : List (K × V)) (xs : List A) (i : ℕ) (x : A) (k : K) (v : V) (within : i < length xs) (is : x ≡ get_or xs i x) (added : new ≡ insert_entry eq es k v) (key : view k ≡ (g x).0)
         (apart : differ same (map (λ a. (g a).0) xs) ≡ true) (before : map seen es ≡ map g (take i xs)) where
       keys : map (λ e. view e.0) es ≡ take i (map (λ a. (g a).0) xs)
-      keys =
-          sym (map_of_map (λ (c : C × W). c.0) seen es) ∙ (ap (map (λ (c : C × W). c.0)) before
-          ∙ (map_of_map (λ (c : C × W). c.0) g (take i xs) ∙ sym (take-map (λ a. (g a).0) i xs)))
+      keys = sym (map_of_map (λ (c : C × W). c.0) seen es) ∙ (ap (map (λ (c : C × W). c.0)) before ∙ (map_of_map (λ (c : C × W). c.0) g (take i xs) ∙ sym (take-map (λ a. (g a).0) i xs)))
 
       here : slice_get (map (λ a. (g a).0) xs) i ≡ Some ((g x).0)
       here = get_of_map (λ a. (g a).0) xs i ∙ ap (option_map (λ a. (g a).0)) (slice_get-get_or xs i x within ∙ ap Some (sym is))

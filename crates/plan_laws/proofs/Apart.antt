@@ -32,8 +32,7 @@ as_many_once xs ys once there many i j q at_i at_j = elim (cases_eq i j) [
   | inl same ↦ same
   | inr apart ↦ absurd (omega (
     arith,
-    no_longer xs (removed ys j) (different (λ x. x) xs (subst (λ zs. are_once zs ≡ true) (sym (identity xs)) once))
-        (λ x c. kept apart x (contains-get ys x (there x (contains-has xs x c)))),
+    no_longer xs (removed ys j) (different (λ x. x) xs (subst (λ zs. are_once zs ≡ true) (sym (identity xs)) once)) (λ x c. kept apart x (contains-get ys x (there x (contains-has xs x c)))),
     removed_many ys j q at_j,
     many,
   ))
@@ -98,15 +97,13 @@ module _ (t : Tables) (h : Homes) (known : ℕ → Fact) (n : ℕ) (ms : List Me
           → length (own (map (λ (i : NumberedInstance). i.place) (numbered_scope w).instances)) ≡ length (own shown)
           → length (own (map (λ (s : NumberedSight). s.place) (map whole_view (numbered_scope w).instances))) + length (own (w.home ∷ [])) ≡ length
           (own (w.home ∷ (places_of_seen (numbered_scope w).imports ++ places_of_seen (numbered_scope w).exports)))
-      by shown e many =
-          omega (
+      by shown e many = omega (
             arith,
             (ap (λ ps. length (own ps)) (map_of_map (λ (s : NumberedSight). s.place) whole_view (numbered_scope w).instances) ∙ many),
             (ap (λ b. length (cond b (w.home ∷ []) [])) home),
             (ap (λ ps. length (own (w.home ∷ ps))) e ∙ ap (λ b. length (cond b (w.home ∷ own shown) (own shown))) home),
           )
-  part_many m c (parts.Interface q v imports) is =
-      omega (
+  part_many m c (parts.Interface q v imports) is = omega (
         arith,
         ap length (none_pass (has_no_path t) (map (λ (s : NumberedSight). s.place) (views_of_part (numbered_part (parts.Interface q v imports))))
             (λ p there. outside p (subst (λ ps. Contains ps p) (places_of_views (numbered_part (parts.Interface q v imports))) there))),
@@ -134,8 +131,7 @@ module _ (t : Tables) (h : Homes) (known : ℕ → Fact) (n : ℕ) (ms : List Me
     arith,
     part_many m (among m (0, omega arith, refl)) m.part refl,
     all_many xs (λ y c. among y (contains-later m xs y c)),
-    (ap (λ ps. length (own ps)) (append_of_map _ _ _)
-        ∙ split_many (map (λ (s : NumberedSight). s.place) (views_of_part (numbered_part m.part))) (viewed xs)),
+    (ap (λ ps. length (own ps)) (append_of_map _ _ _) ∙ split_many (map (λ (s : NumberedSight). s.place) (views_of_part (numbered_part m.part))) (viewed xs)),
     split_many (home_of_part (numbered_part m.part)) (homes xs),
     split_many (places_of_part (numbered_part m.part)) (flat_map (λ (y : NumberedMember). places_of_part y.part) (numbered_members xs)),
   )

@@ -133,18 +133,15 @@ module _ (t : Tables) (h : Homes) (ms : List Member) (members : List reads.Membe
           place = refl;
           whole = λ f. f;
           types = λ x x_in. in_part (showing_of x) (Contains-append_left _ _ _ (contains-flat showings_of_import imports.now i.0 (showing_of x) i.1 (contains-map _ _ x x_in)));
-          functions =
-              λ f. let wrong : false ≡ true = f in absurd cc;
+          functions = λ f. let wrong : false ≡ true = f in absurd cc;
         })
         | inr own ↦ subst IsShownSo own (record {
           other = own_sight q v imports;
           among = subst (Contains (views_of_members (numbered_members ms))) (sym own) c;
           place = refl;
           whole = λ f. f;
-          types =
-              λ x x_in. in_part (showing_of x) (Contains-append_right _ _ _ (contains-map _ _ x x_in));
-          functions =
-              λ f g g_in. contains-flat (λ (x : Member). signatures_of_part x.part) ms m g.1.signature
+          types = λ x x_in. in_part (showing_of x) (Contains-append_right _ _ _ (contains-map _ _ x x_in));
+          functions = λ f g g_in. contains-flat (λ (x : Member). signatures_of_part x.part) ms m g.1.signature
               m_in (subst (λ a. Contains (signatures_of_part a) g.1.signature) (sym is) (contains-map _ _ g g_in));
         })
       ]

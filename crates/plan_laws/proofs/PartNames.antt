@@ -141,9 +141,7 @@ module _ (t : Tables) (tables : AreTables t) (h : Homes) (stand : HomesStand t h
 
       met_shows : (count : ℕ) (b : Bool) → (q ≡ w.home) ⊎ HasPath t q → IsMetInScope scope.instances scope.imports count (place_at t q) name b → Goal
       met_shows count b own (scopes.by_instance before) = inl (within_all (outside_shows t tables (map whole_view (map numbered_instance w.instances.now)) (view_in t (parts.World w) good) n q name at
-          scope.instances
-          (shows.instances ∙ sym (map_of_map (instance_tree t tables) whole_view (map numbered_instance w.instances.now)))
-          (length scope.instances) b before))
+          scope.instances (shows.instances ∙ sym (map_of_map (instance_tree t tables) whole_view (map numbered_instance w.instances.now))) (length scope.instances) b before))
       met_shows count b (inl home) (scopes.by_import here declared) = let found = imported declared in import_shows found.0 found.1 found.2 home
       met_shows count b (inr path) (scopes.by_import here declared) = absurd (let wrong : Place.of_interface path.0 ≡ Place.here = sym (ap place_of path.1) ∙ here in cc)
 

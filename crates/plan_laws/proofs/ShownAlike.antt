@@ -99,8 +99,7 @@ module _ (t : Tables) (h : Homes) (known : ℕ → Fact) (n : ℕ) (ms : List Me
     where
       by : (o : Option Text) → path_at t s.place ≡ o → Contains s.view.functions f
       by (Some path) e = function_shared (sights_of_members t (numbered_members ms)) ruled.agree functions_once r s (sight_there t (numbered_members ms) r c (path, ap (path_at t) same ∙ e))
-          (sight_there t (numbered_members ms) s d (path, e)) same r_whole
-          s_whole f there
+          (sight_there t (numbered_members ms) s d (path, e)) same r_whole s_whole f there
       by None e = subst (λ (v : NumberedView). Contains v.functions f) (ap (view_owned s.view)
           (one_owned t (numbered_members ms) given.placed.apart s.place e (a_view r.view) (a_view s.view)
           (subst (λ q. Contains (frames (numbered_members ms)) (q, a_view r.view)) same (view_frame t h ms members given.input given.placed.apart r c (ap (path_at t) same ∙ e)))

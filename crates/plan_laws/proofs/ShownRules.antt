@@ -76,8 +76,7 @@ import_items all earlier (s ∷ ss) ok before behind =
       record {
         resources = rules.resources_seen earlier;
         is = (first_true (rules.is_item (rules.resources_seen earlier) s.key s.shown) (rules.are_imports (earlier ++ s ∷ []) ss) ok);
-        from =
-            λ r any.
+        from = λ r any.
             let is = resource_in r earlier any in record { seen = is.seen; among = before is.seen is.among; shown = is.shown; named = is.named };
       },
       import_items all (earlier ++ s ∷ []) ss rest (λ z c. either z (Contains-append_cases earlier (s ∷ []) z c)) (λ z c. behind z (contains-later s ss z c)),

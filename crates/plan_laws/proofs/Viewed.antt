@@ -160,8 +160,7 @@ module _ (t : Tables) (h : Homes) (ms : List Member) (members : List reads.Membe
       used_before front back split new u c same =
           let r_there = subst (Contains (map (λ (s : NumberedSight). s.place) front)) same (contains-map _ _ u c) in
           let all = ap (joined_all []) (sym (places_of_all (numbered_members ms))
-          ∙ (ap (map (λ (s : NumberedSight). s.place)) split ∙ (append_of_map _ _ _
-          ∙ ap (λ x. map (λ (s : NumberedSight). s.place) front ++ x ∷ map (λ (s : NumberedSight). s.place) back) place))) in
+          ∙ (ap (map (λ (s : NumberedSight). s.place)) split ∙ (append_of_map _ _ _ ∙ ap (λ x. map (λ (s : NumberedSight). s.place) front ++ x ∷ map (λ (s : NumberedSight). s.place) back) place))) in
           let given = number_given (places_in ms) r (subst (λ ps. Contains ps r) (sym all)
           (all_joined [] (map (λ (s : NumberedSight). s.place) front ++ q ∷ map (λ (s : NumberedSight). s.place) back) r (inr (Contains-append_left _ _ r r_there)))) in
           smaller given.0 (owner_at given.0 r (number_there (places_in ms) r given.0 given.1))

@@ -66,9 +66,8 @@ module _ (t : Tables) (h : Homes) (known : ℕ → Fact) (n : ℕ) (ms : List Me
 
   -- a name that a view of the place shows is one of the interface
   of_interface : (q k : ℕ) (u : ℕ) (i : PlannedInterface) (e : interface_in p u ≡ Some i) → b.owners q ≡ as_interface u → (first sight : NumberedSight)
-      → Contains (views_of_members (numbered_members ms)) first → Contains (views_of_members (numbered_members ms)) sight
-      → first.place ≡ q → sight.place ≡ q → (views_read ms q).types ≡ first.view.types
-      → (x : NumberedType) → Contains sight.view.types x → slice_get t.shapes k ≡ Some (named_shape q x.name) → IsThere q k
+      → Contains (views_of_members (numbered_members ms)) first → Contains (views_of_members (numbered_members ms)) sight → first.place ≡ q → sight.place ≡ q
+      → (views_read ms q).types ≡ first.view.types → (x : NumberedType) → Contains sight.view.types x → slice_get t.shapes k ≡ Some (named_shape q x.name) → IsThere q k
   of_interface q k u i e owned first sight first_in sight_in first_place sight_place first_types x x_in named =
       let viewed = interfaces u i e in
       let is = viewed.read in

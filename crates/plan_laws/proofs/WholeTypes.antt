@@ -351,8 +351,7 @@ module _ (t : Tables) (h : Homes) (known : ℕ → Fact) (n : ℕ) (ms : List Me
   at_top q name c path home =
       let seen = sight_of_place t ms q c path in
       let found = any_get (λ (m : NumberedMember). is_interface_of q m.part) (numbered_members ms)
-      (ap (λ b. not b || list_any (λ (m : NumberedMember). is_interface_of q m.part) (numbered_members ms))
-      (sym (ap (λ o. option_map_or (λ (x : ℕ × Text). x.0 == n) o false) home ∙ eq-eqb n n refl))
+      (ap (λ b. not b || list_any (λ (m : NumberedMember). is_interface_of q m.part) (numbered_members ms)) (sym (ap (λ o. option_map_or (λ (x : ℕ × Text). x.0 == n) o false) home ∙ eq-eqb n n refl))
       ∙ subst (λ (x : ℕ). (not (is_of_package h n x) || list_any (λ (m : NumberedMember). is_interface_of x m.part) (numbered_members ms)) ≡ true) seen.2
       (all-contained (stands_at_top h n (numbered_members ms)) (sights_of_members t (numbered_members ms)) seen.0 (tests_hold t h known n ms members given).1 seen.1)) in
       (let back = get_back numbered_member ms found.0 found.1 found.2 in

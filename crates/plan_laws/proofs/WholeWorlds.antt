@@ -84,8 +84,7 @@ module _ (t : Tables) (h : Homes) (known : ℕ → Fact) (n : ℕ) (ms : List Me
 
     imports_stand : are_imports t known scope.home [] scope.imports ≡ true
     imports_stand = first_of (are_imports t known scope.home [] scope.imports) (list_all (λ (s : NumberedSeen). is_item t known scope.home [] s.key s.shown) scope.exports)
-        (distinct (map (λ (s : NumberedSeen). s.key) scope.imports))
-        (distinct (map (λ (s : NumberedSeen). s.key) scope.exports)) (stand_earlier t [] (scope.imports ++ scope.exports)) obeys
+        (distinct (map (λ (s : NumberedSeen). s.key) scope.imports)) (distinct (map (λ (s : NumberedSeen). s.key) scope.exports)) (stand_earlier t [] (scope.imports ++ scope.exports)) obeys
 
     -- ---- functions
 

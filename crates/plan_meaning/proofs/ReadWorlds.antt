@@ -89,8 +89,7 @@ module _ (t : Tables) (tables : AreTables t) (kept : List ℕ) (p : Plan) (are :
     exports_itself x (a_type d n shown entry is) obeys none = no_true (sym (ap (λ s. not (is_type_seen s)) shown) ∙ none)
 
     all_exports : (xs : List ReadItem) → AllByRecursion Item xs → list_all (λ s. is_item t b.known home [] s.key s.shown) (map (λ (x : ReadItem). x.seen) xs) ≡ true
-        → list_all (λ s. not (is_type_seen s.shown)) (map (λ (x : ReadItem). x.seen) xs) ≡ true
-        → list_all (export_stands p) (map (λ (x : ReadItem). x.entry) xs) ≡ true
+        → list_all (λ s. not (is_type_seen s.shown)) (map (λ (x : ReadItem). x.seen) xs) ≡ true → list_all (export_stands p) (map (λ (x : ReadItem). x.entry) xs) ≡ true
     all_exports [] a h k = refl
     all_exports (x ∷ xs) a h k = both _ _ (exports_itself x a.0 (first_true _ _ h) (first_true _ _ k)) (all_exports xs a.1 (second_true _ _ h) (second_true _ _ k))
 

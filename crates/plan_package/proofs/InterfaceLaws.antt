@@ -30,18 +30,15 @@ functions_of_first p (s ∷ rest) = search (std_rules, flip, functions_of_first 
 
 module _ (t : Tables) (kept : List ℕ) (main : ℕ) (homes : ℕ → Option Home) (seen : List NumberedSight) (p : ℕ) where
   pub place_planned : {E : Type 0} (r : Result CodeInterface E) (home : Option Home) (v : NumberedView) (fs : List (Text × NumberedFunction)) (s : NumberedSight) → home ≡ homes p
-      → first_at p seen ≡ Some s → s.view ≡ v
-      → fs ≡ option_map_or (λ (s : NumberedSight). s.view.functions) (first_whole_at p seen) [] → IfOk r (λ i. PlansInterface t kept main home v fs (stated_interface i))
-      → IfOk r (λ i. PlansPlace t kept main homes seen p (stated_interface i))
+      → first_at p seen ≡ Some s → s.view ≡ v → fs ≡ option_map_or (λ (s : NumberedSight). s.view.functions) (first_whole_at p seen) []
+      → IfOk r (λ i. PlansInterface t kept main home v fs (stated_interface i)) → IfOk r (λ i. PlansPlace t kept main homes seen p (stated_interface i))
   place_planned y home v fs s at first same functions is = search (std_rules, same-some, functions_of_first)
 
 -- one more of two lists that go together
 pub zip_more : {A B C : Type 0} (P : A → C → Type 0) (h : B → C) (xs : List A) (i : ℕ) (d : A) → i < length xs → (old new : List B) (y : B) → new ≡ old ++ y ∷ [] → P (get_or xs i d) (h y)
-    → AllZip P (take i xs) (map h old)
-    → AllZip P (take (i + 1) xs) (map h new)
-zip_more {A = A} P h xs i d within old new y added is before =
-    subst (λ (ns : List A). AllZip P ns (map h new)) (sym (take_more xs i d within)) (subst (AllZip P (take i xs ++ get_or xs i d ∷ [])) (sym (ap (map h) added ∙ map-append h old (y ∷ [])))
-    (zip-push P (take i xs) (map h old) (get_or xs i d) (h y) before is))
+    → AllZip P (take i xs) (map h old) → AllZip P (take (i + 1) xs) (map h new)
+zip_more {A = A} P h xs i d within old new y added is before = subst (λ (ns : List A). AllZip P ns (map h new)) (sym (take_more xs i d within))
+    (subst (AllZip P (take i xs ++ get_or xs i d ∷ [])) (sym (ap (map h) added ∙ map-append h old (y ∷ []))) (zip-push P (take i xs) (map h old) (get_or xs i d) (h y) before is))
 
 -- ---- places that were seen
 

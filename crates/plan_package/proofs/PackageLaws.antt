@@ -57,10 +57,8 @@ set_length (x ∷ xs) zero y = refl
 set_length (x ∷ xs) (suc k) y = ap suc (set_length xs k y)
 
 pub lists_entry : (old : List Entries) (k n : ℕ) (d y : Entries) (name : Bor Text) (id : InterfaceId) → k < length old → y.items ≡ (slice_index_or old k d).items ++ (name, id) ∷ [] → id.0 ≡ n
-    → (home : Option Home) → home ≡ Some (k, name.now)
-    → ListsEntry home n old (slice_set old k y)
-lists_entry old k n d y name id within added number home is =
-    search (std_rules, set_length, set_same, map-append, read_at, eqb-true, set_other, eq-eqb, append_none)
+    → (home : Option Home) → home ≡ Some (k, name.now) → ListsEntry home n old (slice_set old k y)
+lists_entry old k n d y name id within added number home is = search (std_rules, set_length, set_same, map-append, read_at, eqb-true, set_other, eq-eqb, append_none)
 
 -- one place more
 module _ (homes : ℕ → Option Home) (places : List ℕ) (i : ℕ) (old : List Entries) (kept : (q : ℕ) → q < length old → listed_at old q ++ entries_from homes q i (drop i places) ≡ entries_from homes q 0 places) where
@@ -74,15 +72,13 @@ module _ (homes : ℕ → Option Home) (places : List ℕ) (i : ℕ) (old : List
 -- ---- all packages
 
 pub main_planned : (packages : List PackageIdentity) (main : ℕ) (places : List ℕ) (ms : List Member) (es : List (Text × ℕ)) (n : ℕ) {E : Type 0} (r : Result CodePackage E) (identity : PackageIdentity)
-    → n ≡ main → slice_get packages n ≡ Some identity
-    → IfOk r (λ k. IsMainPackage identity places ms (stated_package k)) → IfOk r (λ k. PlansPackage packages main places ms es n (stated_package k))
+    → n ≡ main → slice_get packages n ≡ Some identity → IfOk r (λ k. IsMainPackage identity places ms (stated_package k)) → IfOk r (λ k. PlansPackage packages main places ms es n (stated_package k))
 main_planned packages main places ms es n (Ok k) identity own at is = the_main identity own at is
 main_planned packages main places ms es n (Err e) identity own at is = tt
 
 module _ (packages : List PackageIdentity) (main : ℕ) (places : List ℕ) (ms : List Member) (listed : ℕ → List (Text × ℕ)) where
   pub one_planned : (count : ℕ) (old new : List CodePackage) (y : CodePackage) → new ≡ old ++ y ∷ [] → PlansPackage packages main places ms (listed count) count (stated_package y)
-      → ArePlanned packages main places ms listed count (map stated_package old)
-      → ArePlanned packages main places ms listed (count + 1) (map stated_package new)
+      → ArePlanned packages main places ms listed count (map stated_package old) → ArePlanned packages main places ms listed (count + 1) (map stated_package new)
   one_planned count old new y added is before = record {
     many = ap length news ∙ (length-append (map stated_package old) (stated_package y ∷ []) ∙ ap (λ (m : ℕ). m + 1) before.many);
     each = λ n k e. by n k (front_or_end (map stated_package old) (stated_package y) n k (sym (ap (λ l. slice_get l n) news) ∙ e));
@@ -94,8 +90,7 @@ module _ (packages : List PackageIdentity) (main : ℕ) (places : List ℕ) (ms 
       by : (n : ℕ) (k : PlannedPackage) → (slice_get (map stated_package old) n ≡ Some k) ⊎ ((n ≡ length (map stated_package old)) × (stated_package y ≡ k))
           → PlansPackage packages main places ms (listed n) n k
       by n k (inl e) = before.each n k e
-      by n k (inr e) =
-          subst (λ (m : ℕ). PlansPackage packages main places ms (listed m) m k) (sym (e.0 ∙ before.many)) (subst (PlansPackage packages main places ms (listed count) count) e.1 is)
+      by n k (inr e) = subst (λ (m : ℕ). PlansPackage packages main places ms (listed m) m k) (sym (e.0 ∙ before.many)) (subst (PlansPackage packages main places ms (listed count) count) e.1 is)
 
   -- the same, by other lists that are the same for so many
   planned_by : (other : ℕ → List (Text × ℕ)) (count : ℕ) (ks : List PlannedPackage) → ((n : ℕ) → n < count → listed n ≡ other n) → ArePlanned packages main places ms listed count ks
@@ -106,9 +101,7 @@ module _ (packages : List PackageIdentity) (main : ℕ) (places : List ℕ) (ms 
   }
 
 pub planned_as : (packages : List PackageIdentity) (main : ℕ) (places : List ℕ) (ms : List Member) (homes : ℕ → Option Home) (ks : List PlannedPackage) (table items : List Entries) → table ≡ items
-    → length items ≡ length packages
-    → AreListed homes places items → ArePlanned packages main places ms (listed_at table) (length table) ks → PlansPackages packages homes main places ms ks
-planned_as packages main places ms homes ks table items same many listed all =
-    planned_by packages main places ms (listed_at table) (λ n. entries_from homes n 0 places) (length packages) ks
+    → length items ≡ length packages → AreListed homes places items → ArePlanned packages main places ms (listed_at table) (length table) ks → PlansPackages packages homes main places ms ks
+planned_as packages main places ms homes ks table items same many listed all = planned_by packages main places ms (listed_at table) (λ n. entries_from homes n 0 places) (length packages) ks
     (λ n h. ap (λ l. listed_at l n) same ∙ listed n (subst (λ (m : ℕ). n < m) (sym many) h))
     (subst (λ (m : ℕ). ArePlanned packages main places ms (listed_at table) m ks) (ap length same ∙ many) all)

@@ -60,8 +60,7 @@ interfaces_through P (m ∷ ms) f = by m.part f (interfaces_through P ms
     (λ q h. f q (has_right (places_of_part (numbered_part m.part)) (flat_map (λ m. places_of_part m.part) (numbered_members ms)) q h)))
   where
     by : (x : Part) → ((q : ℕ) → has (places_of_part (numbered_part x) ++ flat_map (λ m. places_of_part m.part) (numbered_members ms)) q ≡ true → P q)
-        → AllByRecursion (λ (x : Text × ℕ). P x.1) (interfaces_in ms)
-        → AllByRecursion (λ (x : Text × ℕ). P x.1) (interface_in_part m.label.now x ++ interfaces_in ms)
+        → AllByRecursion (λ (x : Text × ℕ). P x.1) (interfaces_in ms) → AllByRecursion (λ (x : Text × ℕ). P x.1) (interface_in_part m.label.now x ++ interfaces_in ms)
     by (parts.World w) f rest = rest
     by (parts.Interface p v imports) f rest =
         let views = map (λ (i : ℕ × NumberedView). i.0) (map numbered_import imports.now) in

@@ -26,8 +26,7 @@ number_there p [] h = absurd (omega (arith, h))
 number_there p (q ∷ ps) h = by (p == q) refl (number_there p ps) h
   where
     by : (b : Bool) → (p == q) ≡ b → (prefix_len (λ q. not (p == q)) ps < length ps → slice_get ps (prefix_len (λ q. not (p == q)) ps) ≡ Some p)
-        → cond (not b) (1 + prefix_len (λ q. not (p == q)) ps) 0 < suc (length ps)
-        → slice_get (q ∷ ps) (cond (not b) (1 + prefix_len (λ q. not (p == q)) ps) 0) ≡ Some p
+        → cond (not b) (1 + prefix_len (λ q. not (p == q)) ps) 0 < suc (length ps) → slice_get (q ∷ ps) (cond (not b) (1 + prefix_len (λ q. not (p == q)) ps) 0) ≡ Some p
     by true e later h = ap Some (sym (eqb-true p q e))
     by false e later h =
         let one : suc (prefix_len (λ q. not (p == q)) ps) ≡ 1 + prefix_len (λ q. not (p == q)) ps = omega arith in
@@ -37,8 +36,7 @@ pub number_at : (places : List ℕ) (p n : ℕ) → number_in places p ≡ Some 
 number_at places p n is = by (nat_lt (prefix_len (λ q. not (p == q)) places) (length places)) refl is
   where
     by : (b : Bool) → nat_lt (prefix_len (λ q. not (p == q)) places) (length places) ≡ b → cond b (Some (prefix_len (λ q. not (p == q)) places)) None ≡ Some n → slice_get places n ≡ Some p
-    by true e is =
-        subst (λ (m : ℕ). slice_get places m ≡ Some p) (same-some (prefix_len (λ q. not (p == q)) places) n is)
+    by true e is = subst (λ (m : ℕ). slice_get places m ≡ Some p) (same-some (prefix_len (λ q. not (p == q)) places) n is)
         (number_there p places (ltb-true (prefix_len (λ q. not (p == q)) places) (length places) e))
     by false e is = let wrong : None ≡ Some n = is in absurd cc
 
@@ -80,8 +78,7 @@ module _ (places : List ℕ) where
 -- ---- packages
 
 module _ (t : Tables) (h : Homes) (paths : (q : ℕ) (x : ℕ × Text) → home_at h q ≡ Some x → HasPath t q) (owners : ℕ → TypeOwner) (places : List ℕ)
-    (own : (m q : ℕ) → slice_get places m ≡ Some q → owners q ≡ as_interface m)
-    (p : Plan) (R : ℕ → PlannedInterface → Type 0) (interfaces : AllZip R places p.interfaces) where
+    (own : (m q : ℕ) → slice_get places m ≡ Some q → owners q ≡ as_interface m) (p : Plan) (R : ℕ → PlannedInterface → Type 0) (interfaces : AllZip R places p.interfaces) where
   listed_by : (m : ℕ) (e : Text × ℕ) (q : ℕ) → slice_get places e.1 ≡ Some q → home_at h q ≡ Some (m, e.0) → IsListedInterface t h p owners m e
   listed_by m e q there home = search (std_rules, zip_on)
 

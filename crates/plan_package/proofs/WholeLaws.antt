@@ -41,6 +41,5 @@ module _ (t : Tables) (packages : List PackageIdentity) (homes : ℕ → Option 
   pub plans_whole : (places : List ℕ) → places ≡ places_in ms → (kept : List ℕ) → AreKeptFor t ms kept → (p : Plan)
       → AllZip (PlansType t kept (shown_first ms) (owner_in places (homes_met (numbered_members ms)))) kept p.types
       → AllZip (PlansPlace t kept main homes (views_of_members (numbered_members ms))) places p.interfaces → AllZip (PlansWorld t kept places main) (worlds_in ms) p.worlds
-      → PlansPackages packages homes main places ms p.packages → p.main ≡ main
-      → PlansWhole t packages homes main ms p
+      → PlansPackages packages homes main places ms p.packages → p.main ≡ main → PlansWhole t packages homes main ms p
   plans_whole places same kept kept_for p types interfaces worlds listed main_is = search std_rules

@@ -17,8 +17,7 @@ use Rattle.plan_parts.specs.contracts.agreement.ToldFunctionPartialEq.TheImpl as
 module _ {A B : Type 0} (E : B → B → Bool) (g : A → B) (xs ys : List A) (i : ℕ) {v : Bool} (kept : pointwise E (map g (drop i xs)) (map g (drop i ys)) ≡ v) where
   module _ (d e : A) (more : i < length xs) (more_too : i < length ys) where
     here : (E (g (get_or xs i d)) (g (get_or ys i e)) && pointwise E (map g (drop (i + 1) xs)) (map g (drop (i + 1) ys))) ≡ v
-    here =
-        sym (ap (λ us. pointwise E (map g us) (map g (get_or ys i e ∷ drop (i + 1) ys))) (drop_more xs i d more))
+    here = sym (ap (λ us. pointwise E (map g us) (map g (get_or ys i e ∷ drop (i + 1) ys))) (drop_more xs i d more))
         ∙ (sym (ap (λ bs. pointwise E (map g (drop i xs)) (map g bs)) (drop_more ys i e more_too)) ∙ kept)
 
     pub pair_same : E (g (get_or xs i d)) (g (get_or ys i e)) ≡ true → pointwise E (map g (drop (i + 1) xs)) (map g (drop (i + 1) ys)) ≡ v

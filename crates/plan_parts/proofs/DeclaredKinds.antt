@@ -23,8 +23,7 @@ module _ (t : Tables) (tables : AreTables t) (kept : List ℕ) (p : Plan) (many 
   form_declared d kind old n s at is there form formed (is_name place name e) = let wrong : true ≡ false = sym form ∙ ap (λ (s : Shape). not (s.sort == 0)) e in absurd cc
   form_declared d kind old n s at is there form formed (is_node f parts e below) =
       declares_form old n f parts formed.news at is (there ∙ ap Some e) (subst (λ ks. AllZip (Becomes t kept p) ks formed.news) (ap (λ (s : Shape). s.parts) e)
-      (parts_become s.parts formed.news formed.parts))
-      (formed.is ∙ ap (λ g. formed_kind g formed.news) (ap shape_form e ∙ form_back f))
+      (parts_become s.parts formed.news formed.parts)) (formed.is ∙ ap (λ g. formed_kind g formed.news) (ap shape_form e ∙ form_back f))
 
   pub kinds_declared : (d : Option ℕ) (kind : PlannedKind) → IsKindFor t kept d kind → DeclaresKind t kept p d kind
   kinds_declared d kind (a_resource none is) = declares_resource none is

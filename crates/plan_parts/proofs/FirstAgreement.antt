@@ -85,8 +85,7 @@ function_join f a b one two three p q =
     let xs = map as_function f.view.functions in
     let ys = map as_function a.view.functions in
     let zs = map as_function b.view.functions in
-    sym (functions_alike a.view.functions b.view.functions)
-    ∙ (functions_make_one_map ys zs (once_alike a two) (once_alike b three)).1
+    sym (functions_alike a.view.functions b.view.functions) ∙ (functions_make_one_map ys zs (once_alike a two) (once_alike b three)).1
     (sym ((functions_make_one_map xs ys (once_alike f one) (once_alike a two)).0 (functions_alike f.view.functions a.view.functions ∙ p))
     ∙ (functions_make_one_map xs zs (once_alike f one) (once_alike b three)).0 (functions_alike f.view.functions b.view.functions ∙ q))
 
@@ -110,11 +109,9 @@ agree_from a b types functions = search std_rules
 into : (rest earlier : List NumberedSight) → ((x : NumberedSight) → Contains earlier x → list_all (agree x) rest ≡ true) → agree_in_numbers rest ≡ true
     → agree_with_first_in_numbers earlier rest ≡ true
 into [] earlier before all = refl
-into (s ∷ rest) earlier before all =
-    and_from (agrees_with_first earlier s) (agree_with_first_in_numbers (earlier ++ s ∷ []) rest)
+into (s ∷ rest) earlier before all = and_from (agrees_with_first earlier s) (agree_with_first_in_numbers (earlier ++ s ∷ []) rest)
     (and_from (option_map_or (λ f. same_types f s) (first_at s.place earlier) true) (not s.whole || option_map_or (λ f. same_whole f s) (first_whole_at s.place earlier) true)
-    (types (first_at s.place earlier) refl) (whole s.whole refl))
-    (into rest (earlier ++ s ∷ []) (λ x c. elim (Contains-append_cases earlier (s ∷ []) x c) [
+    (types (first_at s.place earlier) refl) (whole s.whole refl)) (into rest (earlier ++ s ∷ []) (λ x c. elim (Contains-append_cases earlier (s ∷ []) x c) [
       | inl there ↦ second_true (agree x s) (list_all (agree x) rest) (before x there)
       | inr last ↦ subst (λ (y : NumberedSight). list_all (agree y) rest ≡ true) (last_of s x last) (first_true (list_all (agree s) rest) (agree_in_numbers rest) all)
     ]) (second_true (list_all (agree s) rest) (agree_in_numbers rest) all))
@@ -152,11 +149,9 @@ module _ (earlier : List NumberedSight) (s : NumberedSight) (known : Known earli
 
   -- it agrees with each of them
   with_each : (x : NumberedSight) → Contains earlier x → agree x s ≡ true
-  with_each x c = agree_from x s
-      (λ path.
+  with_each x c = agree_from x s (λ path.
       let first = known.types x c in
-      type_join first.0 x s first.2 (with_types first.0 (ap (λ p. first_at p earlier) (sym path) ∙ first.1)))
-      (λ path mine yours.
+      type_join first.0 x s first.2 (with_types first.0 (ap (λ p. first_at p earlier) (sym path) ∙ first.1))) (λ path mine yours.
       let first = known.functions x c mine in
       let there = found_contains (λ y. x.place == y.place && y.whole) earlier first.0 first.1 in
       function_join first.0 x s (known.once first.0 there.1) (known.once x c) one first.2 (with_functions yours first.0 (ap (λ p. first_whole_at p earlier) (sym path) ∙ first.1)))
@@ -167,8 +162,7 @@ module _ (earlier : List NumberedSight) (s : NumberedSight) (known : Known earli
     types = λ x c. elim (Contains-append_cases earlier (s ∷ []) x c) [
       | inl there ↦ (let first = known.types x there in (
         first.0,
-        find-append (λ y. x.place == y.place) earlier (s ∷ []) ∙ ap (λ o. option_or o (find (λ y. x.place == y.place) (s ∷ [])))
-            first.1,
+        find-append (λ y. x.place == y.place) earlier (s ∷ []) ∙ ap (λ o. option_or o (find (λ y. x.place == y.place) (s ∷ []))) first.1,
         first.2,
       ))
       | inr last ↦ subst (λ (y : NumberedSight). (f : NumberedSight) × (first_at y.place (earlier ++ s ∷ []) ≡ Some f) × (same_types f y ≡ true)) (last_of s x last)
@@ -177,17 +171,13 @@ module _ (earlier : List NumberedSight) (s : NumberedSight) (known : Known earli
     functions = λ x c w. elim (Contains-append_cases earlier (s ∷ []) x c) [
       | inl there ↦ (let first = known.functions x there w in (
         first.0,
-        find-append (λ y. x.place == y.place && y.whole) earlier (s ∷ []) ∙ ap
-            (λ o. option_or o (find (λ y. x.place == y.place && y.whole) (s ∷ []))) first.1,
+        find-append (λ y. x.place == y.place && y.whole) earlier (s ∷ []) ∙ ap (λ o. option_or o (find (λ y. x.place == y.place && y.whole) (s ∷ []))) first.1,
         first.2,
       ))
       | inr last ↦ subst (λ (y : NumberedSight). (f : NumberedSight) × (first_whole_at y.place (earlier ++ s ∷ []) ≡ Some f) × (same_whole f y ≡ true)) (last_of s x last)
           (own_functions (ap (λ y. y.whole) (last_of s x last) ∙ w) (first_whole_at s.place earlier) refl)
     ];
-    once = λ x c. elim (Contains-append_cases earlier (s ∷ []) x c) [
-      | inl there ↦ known.once x there
-      | inr last ↦ subst IsOnce (last_of s x last) one
-    ];
+    once = λ x c. elim (Contains-append_cases earlier (s ∷ []) x c) [ inl there ↦ known.once x there | inr last ↦ subst IsOnce (last_of s x last) one ];
   }
     where
       own_types : (o : Option NumberedSight) → first_at s.place earlier ≡ o → (f : NumberedSight) × (first_at s.place (earlier ++ s ∷ []) ≡ Some f) × (same_types f s ≡ true)
@@ -240,8 +230,7 @@ module _ (t : Tables) (known : ℕ → Fact) where
           (second_true _ (distinct (map (λ x. x.name) s.view.types ++ map (λ f. f.0) s.view.functions)) i)
 
   first_agrees : (seen : List NumberedSight) → are_interfaces t known seen ≡ true → agree_in_numbers seen ≡ agree_with_first_in_numbers [] seen
-  first_agrees seen interfaces = either_way (agree_in_numbers seen) (agree_with_first_in_numbers [] seen)
-      (λ all. into seen [] (λ x c. absurd (none_contained x c)) all)
+  first_agrees seen interfaces = either_way (agree_in_numbers seen) (agree_with_first_in_numbers [] seen) (λ all. into seen [] (λ x c. absurd (none_contained x c)) all)
       (λ all. (back seen [] nothing_known (interfaces_once seen interfaces) all).1)
     where
       nothing_known : Known []

@@ -99,8 +99,7 @@ module _ (t : Tables) (known : ℕ → Fact) (q : ℕ) (name : Text) (f : Functi
       waits_not false e = refl
 
       by : (a b c d e g : Bool) → text_eq name (constructor_name r) ≡ a → not f.is_async ≡ b → constructs t known q r f.result ≡ c → is_label_behind (method_name r []) name ≡ d
-          → begins_with_self t known q r f.params ≡ e → is_label_behind (static_name r []) name ≡ g
-          → ((((a && b) && c) || (d && e)) || g) ≡ true → IsOf r
+          → begins_with_self t known q r f.params ≡ e → is_label_behind (static_name r []) name ≡ g → ((((a && b) && c) || (d && e)) || g) ≡ true → IsOf r
       by true true true d e g a1 a2 a3 a4 a5 a6 h = constructor_of ((bytes_eq-Decides name (constructor_name r)).0 a1) (waits_not f.is_async a2) a3
       by a b c true true g a1 a2 a3 a4 a5 a6 h = method_of a4 a5
       by a b c d e true a1 a2 a3 a4 a5 a6 h = static_of a6

@@ -20,8 +20,7 @@ mapped_at P g (x ∷ xs) (suc i) d h all = mapped_at P g xs i d (omega (arith, h
 
 -- one more of two lists that go together
 pub zip_next : {A B X Y : Type 0} (R : B → Y → Type 0) (g : A → B) (h : X → Y) (xs : List A) (i : ℕ) (d : A) (old new : List X) (y : X) → i < length xs → new ≡ old ++ y ∷ []
-    → R (g (get_or xs i d)) (h y)
-    → AllZip R (map g (take i xs)) (map h old) → AllZip R (map g (take (i + 1) xs)) (map h new)
+    → R (g (get_or xs i d)) (h y) → AllZip R (map g (take i xs)) (map h old) → AllZip R (map g (take (i + 1) xs)) (map h new)
 zip_next {B = B} {Y = Y} R g h xs i d old new y within added is before =
     let olds : map g (take (i + 1) xs) ≡ map g (take i xs) ++ g (get_or xs i d) ∷ [] = ap (map g) (take_more xs i d within) ∙ map-append g (take i xs) (get_or xs i d ∷ []) in
     let news : map h new ≡ map h old ++ h y ∷ [] = ap (map h) added ∙ map-append h old (y ∷ []) in
@@ -38,8 +37,7 @@ pub no_resources : (kept : List ℕ) (find : Text → Option TypeId) → ((r : T
 no_resources kept find none = search std_rules
 
 module _ (kept : List ℕ) (xs : List NumberedType) (find after : Text → Option TypeId) (have : AreResources kept xs find) (x : NumberedType) (id : TypeId)
-    (is : IsPart kept (slot_part x.slot) (14 + id.0))
-    (adds : (r : Text) → after r ≡ noted x id r (find r)) where
+    (is : IsPart kept (slot_part x.slot) (14 + id.0)) (adds : (r : Text) → after r ≡ noted x id r (find r)) where
   still_found : (name : Text) (before : (k : TypeId) × (find name ≡ Some k)) (b : Bool) → (is_no_part x.declared && text_eq x.name name) ≡ b → (k : TypeId) × (after name ≡ Some k)
   still_found name before x e = search std_rules
 
@@ -84,6 +82,5 @@ resources_next kept g xs i d find after id within is adds have =
 
 -- a function that was made over its type
 pub is_planned : (t : Tables) (kept : List ℕ) (find : Text → Option TypeId) (f : Text × NumberedFunction) (g : PlannedFunction) (shape : FunctionShape) → shape ≡ function_at t f.1.signature
-    → g.name ≡ f.0 → NamesKind find f.0 shape.is_async g.kind → TakesAndGives kept shape g → g.external_id ≡ f.1.external_id
-    → IsPlannedFunction t kept find f (g.name, g)
+    → g.name ≡ f.0 → NamesKind find f.0 shape.is_async g.kind → TakesAndGives kept shape g → g.external_id ≡ f.1.external_id → IsPlannedFunction t kept find f (g.name, g)
 is_planned t kept find f g shape same named kind parts id = search std_rules

@@ -27,13 +27,11 @@ so_many marks i within = length-take-le i marks (omega arith)
 
 pub next_shapes : (marks : List Bool) (i : ℕ) (d b : Bool) (old new : List ℕ) → i < length marks → get_or marks i d ≡ b → old ≡ marked_from 0 (take i marks) → new ≡ cond b (old ++ i ∷ []) old
     → new ≡ marked_from 0 (take (i + 1) marks)
-next_shapes marks i d b old new within is before added =
-    search (std_rules, so_many marks i within, append-nil old, marked_more 0 (take i marks) b, taken marks i d within)
+next_shapes marks i d b old new within is before added = search (std_rules, so_many marks i within, append-nil old, marked_more 0 (take i marks) b, taken marks i d within)
 
 pub next_numbers : (marks : List Bool) (i : ℕ) (d : Bool) (shapes old new : List ℕ) (k : ℕ) → i < length marks → shapes ≡ marked_from 0 (take i marks) → k ≡ length shapes
     → old ≡ counted_from 0 (take i marks) → new ≡ old ++ k ∷ [] → new ≡ counted_from 0 (take (i + 1) marks)
-next_numbers marks i d shapes old new k within found many before added =
-    search (std_rules, counted_more 0 0 (take i marks) (get_or marks i d), taken marks i d within)
+next_numbers marks i d shapes old new k within found many before added = search (std_rules, counted_more 0 0 (take i marks) (get_or marks i d), taken marks i d within)
 
 -- ---- what stands among the marked
 
@@ -46,12 +44,7 @@ pub record StandsAt (a c : ℕ) (marks : List Bool) (j n : ℕ) : Type 0 where
 
 stands_later : (a c : ℕ) (b : Bool) (marks : List Bool) (j n d : ℕ) → counted_from c (b ∷ marks) ≡ c ∷ counted_from d marks → (k : ℕ) → d + j ≡ c + k → StandsAt (a + 1) d marks j n
     → StandsAt a c (b ∷ marks) k n
-stands_later a c b marks j n d same k e s = record {
-  m = suc s.m;
-  is = omega (arith, s.is);
-  mark = s.mark;
-  count = ap (λ ns. slice_get ns (suc s.m)) same ∙ (s.count ∙ ap Some e);
-}
+stands_later a c b marks j n d same k e s = record { m = suc s.m; is = omega (arith, s.is); mark = s.mark; count = ap (λ ns. slice_get ns (suc s.m)) same ∙ (s.count ∙ ap Some e) }
 
 pub stands : (a c : ℕ) (marks : List Bool) (j n : ℕ) → slice_get (marked_from a marks) j ≡ Some n → StandsAt a c marks j n
 stands a c [] j n e = absurd cc

@@ -135,8 +135,7 @@ pub record CasesSoFar (kept ks : List ℕ) (xs : List (Bor Text × Bool)) (i nex
 
 module _ (kept ks : List ℕ) (xs : List (Bor Text × Bool)) (i next : ℕ) (d : Bor Text × Bool) (within : i < length xs) (old new : List (Bor Text × Option ValueType)) (before : CasesSoFar kept ks xs i next old) where
   case_named : (o : Option ValueType) → is_some o ≡ (get_or xs i d).1 → new ≡ old ++ ((get_or xs i d).0, o) ∷ [] → map stated_case new ≡ map label_of (take (i + 1) xs)
-  case_named o same added =
-      search (std_rules, map-append stated_case old (((get_or xs i d).0, o) ∷ []), map-append label_of (take i xs) (get_or xs i d ∷ []), take_more xs i d within)
+  case_named o same added = search (std_rules, map-append stated_case old (((get_or xs i d).0, o) ∷ []), map-append label_of (take i xs) (get_or xs i d ∷ []), take_more xs i d within)
 
   pub no_payload : (get_or xs i d).1 ≡ false → new ≡ old ++ ((get_or xs i d).0, None) ∷ [] → CasesSoFar kept ks xs (i + 1) next new
   no_payload e added = record {
@@ -158,8 +157,7 @@ module _ (kept ks : List ℕ) (xs : List (Bor Text × Bool)) (i next : ℕ) (d :
   one_payload ty e is added = record {
     count = omega (arith, before.count, count_one i xs d within e);
     names = case_named (Some ty) (sym e) added;
-    parts =
-        subst (λ ns. AllZip (IsPart kept) ns (given_parts (map (λ c. c.1) new))) (sym (take_more ks next 0 (payload_there e)))
+    parts = subst (λ ns. AllZip (IsPart kept) ns (given_parts (map (λ c. c.1) new))) (sym (take_more ks next 0 (payload_there e)))
         (subst (AllZip (IsPart kept) (take next ks ++ get_or ks next 0 ∷ [])) (sym (ap (λ cs. given_parts (map (λ c. c.1) cs)) added ∙ given_more old (get_or xs i d).0 (Some ty)))
         (zip-push (IsPart kept) (take next ks) (given_parts (map (λ c. c.1) old)) (get_or ks next 0) (part_of ty) before.parts is));
   }

@@ -37,8 +37,7 @@ listed [] r h = absurd cc
 listed (y ∷ ys) r h = first_or_later y ys r (listed ys r) (is_no_part y.declared) refl h
 
 module _ (t : Tables) (known : ℕ → Fact) (kept : List ℕ) (p : Plan) (many : length p.types ≡ length kept) (o : TypeOwner) (q : ℕ) (types : List NumberedType) (find : Text → Option TypeId)
-    (have : AreResources kept types find)
-    (stand : (n : ℕ) (x : NumberedType) (id : TypeId) → slice_get types n ≡ Some x → is_no_part x.declared ≡ true → IsPart kept (slot_part x.slot) (14 + id.0)
+    (have : AreResources kept types find) (stand : (n : ℕ) (x : NumberedType) (id : TypeId) → slice_get types n ≡ Some x → is_no_part x.declared ≡ true → IsPart kept (slot_part x.slot) (14 + id.0)
     → IsResource t known kept p o q x.name id.0) where
   abbrev Kind : Text × NumberedFunction → Text × PlannedFunction → Type 0
   Kind f e = IsKindOf t known kept p o q f.0 (function_at t f.1.signature) e.1.kind
@@ -74,7 +73,6 @@ middle_true : (a b c : Bool) → (a && b && c) ≡ true → b ≡ true
 middle_true x b c h = search std_rules
 
 pub functions_are_listed : FunctionsAreListed
-functions_are_listed t known kept p many o q v obeys find have stand es planned =
-    each_function t known kept p many o q v.types find have stand v.functions es
+functions_are_listed t known kept p many o q v obeys find have stand es planned = each_function t known kept p many o q v.types find have stand v.functions es
     (middle_true (list_all (is_type t known q) v.types) (list_all (λ f. is_function t known q (resources_of v.types) f.0 (function_at t f.1.signature)) v.functions)
     (distinct (map (λ x. x.name) v.types ++ map (λ f. f.0) v.functions)) obeys) planned

@@ -30,6 +30,5 @@ module _ {A : Type 0} (f : A → List ℕ) (xs : List A) (i : ℕ) where
   all_places past met v kept = sym (ap (λ l. joined_all met (flat_map f l)) (drop_of_length-le xs past)) ∙ kept
 
 pub interface_joined : {R E : Type 0} (r : Result R E) (part : Part) (p : ℕ) (v : View) (imports : Bor (List ImportedView)) → part ≡ parts.Interface p v imports → (old mid new : List ℕ)
-    → mid ≡ joined_all old (map (λ i. i.0) (map numbered_import imports.now))
-    → OnOk r (new ≡ joined mid p) → OnOk r (new ≡ joined_all old (places_of_part (numbered_part part)))
+    → mid ≡ joined_all old (map (λ i. i.0) (map numbered_import imports.now)) → OnOk r (new ≡ joined mid p) → OnOk r (new ≡ joined_all old (places_of_part (numbered_part part)))
 interface_joined x part p v imports is old mid new first second = search (std_rules, joined_both)

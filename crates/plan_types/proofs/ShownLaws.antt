@@ -15,8 +15,7 @@ find_one p (y ∷ ys) x = ap (cond (p y) (Some y)) (find_one p ys x) ∙ through
 
 -- one showing more
 pub told_next : (xs : List Showing) (i : ℕ) (d : Showing) → i < length xs → (old new : List (Option Showing)) → TellsFirst (map numbered_showing (take i xs)) old
-    → IsNoted (numbered_showing (get_or xs i d)) old new
-    → TellsFirst (map numbered_showing (take (i + 1) xs)) new
+    → IsNoted (numbered_showing (get_or xs i d)) old new → TellsFirst (map numbered_showing (take (i + 1) xs)) new
 told_next xs i d within old new before noted n few =
     let x = numbered_showing (get_or xs i d) in
     let here : n < length old = omega (arith, few, noted.many) in

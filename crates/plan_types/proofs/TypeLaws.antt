@@ -32,23 +32,20 @@ module _ (t : Tables) (kept : List ℕ) (find : ℕ → Option NumberedShowing) 
 
     module _ (owners : ℕ → TypeOwner) {E : Type 0} where
       pub unnamed_planned : (r : Result PlannedType E) → name_in s ≡ None → IfOk r (λ x. (stated_type x).name ≡ None) → IfOk r (λ x. (stated_type x).owner ≡ owner.None)
-          → IfOk r (λ x. (stated_type x).external_id ≡ None)
-          → IfOk r (λ x. IsFormed kept s (stated_type x).kind) → IfOk r (λ x. PlansType t kept find owners n (stated_type x))
+          → IfOk r (λ x. (stated_type x).external_id ≡ None) → IfOk r (λ x. IsFormed kept s (stated_type x).kind) → IfOk r (λ x. PlansType t kept find owners n (stated_type x))
       unnamed_planned (Ok x) none a b c d = unnamed s at none a b c d
       unnamed_planned (Err e) none a b c d = tt
 
       pub named_planned : (r : Result PlannedType E) (q : ℕ) (name : Text) → name_in s ≡ Some (q, name) → (y : NumberedShowing) → find n ≡ Some y → (o : TypeOwner) → o ≡ owners q
-          → IfOk r (λ x. (stated_type x).name ≡ Some name)
-          → IfOk r (λ x. (stated_type x).owner ≡ o) → IfOk r (λ x. (stated_type x).external_id ≡ y.external_id) → IfOk r (λ x. IsKindFor t kept y.declared (stated_type x).kind)
-          → IfOk r (λ x. PlansType t kept find owners n (stated_type x))
+          → IfOk r (λ x. (stated_type x).name ≡ Some name) → IfOk r (λ x. (stated_type x).owner ≡ o) → IfOk r (λ x. (stated_type x).external_id ≡ y.external_id)
+          → IfOk r (λ x. IsKindFor t kept y.declared (stated_type x).kind) → IfOk r (λ x. PlansType t kept find owners n (stated_type x))
       named_planned (Ok x) q name is y shown o own a b c d = named s q name y at is shown a (b ∙ own) c d
       named_planned (Err e) q name is y shown o own a b c d = tt
 
 -- one type more
 pub type_next : (t : Tables) (kept : List ℕ) (find : ℕ → Option NumberedShowing) (owners : ℕ → TypeOwner) (numbers : List ℕ) → numbers ≡ kept → (i d : ℕ) → i < length numbers
-    → (old new : List PlannedType) (y : PlannedType) → new ≡ old ++ y ∷ []
-    → PlansType t kept find owners (get_or numbers i d) (stated_type y) → AllZip (PlansType t kept find owners) (take i kept) (map stated_type old)
-    → AllZip (PlansType t kept find owners) (take (i + 1) kept) (map stated_type new)
+    → (old new : List PlannedType) (y : PlannedType) → new ≡ old ++ y ∷ [] → PlansType t kept find owners (get_or numbers i d) (stated_type y)
+    → AllZip (PlansType t kept find owners) (take i kept) (map stated_type old) → AllZip (PlansType t kept find owners) (take (i + 1) kept) (map stated_type new)
 type_next t kept find owners numbers same i d within old new y added is before =
     let P = PlansType t kept find owners in
     let olds : take (i + 1) kept ≡ take i kept ++ get_or numbers i d ∷ [] = sym (ap (take (i + 1)) same) ∙ (take_more numbers i d within ∙ ap (λ l. take i l ++ get_or numbers i d ∷ []) same) in

@@ -72,8 +72,7 @@ module _ (t : Tables) (known : ℕ → Fact) (home : ℕ) where
 module _ (t : Tables) (tables : AreTables t) (h : Homes) (stand : HomesStand t h) (wanted : Text) where
   -- what comes of its export and its imports
   abbrev found_of : Text × View → List (Text × View) → Option (PackageIdentity × Part)
-  found_of exported imports =
-      labelled_path wanted exported.0 >>= λ package_.
+  found_of exported imports = labelled_path wanted exported.0 >>= λ package_.
       provided (distinct (exported.0 ∷ map (λ i. i.0) imports) && reads.are_reached imports exported.1) (package_, reads.interface exported.1 imports)
 
   paths_stand : (is : List Placed) → AllByRecursion (PlacedStands t) is → AllByRecursion (HasPath t) (map (λ (i : Placed). i.0) is)
@@ -82,8 +81,7 @@ module _ (t : Tables) (tables : AreTables t) (h : Homes) (stand : HomesStand t h
 
   once_same : (e : Placed) → PlacedStands t e → (is : List Placed) → AllByRecursion (PlacedStands t) is
       → distinct (path_text t e.0 ∷ map (λ i. i.0) (map (shown_view t) is)) ≡ are_once (e.0 ∷ map (λ i. i.0) is)
-  once_same e s is all =
-      ap (λ ps. distinct (path_text t e.0 ∷ ps)) (map_of_map (λ (i : Text × View). i.0) (shown_view t) is ∙ sym (map_of_map (path_text t) (λ (i : Placed). i.0) is))
+  once_same e s is all = ap (λ ps. distinct (path_text t e.0 ∷ ps)) (map_of_map (λ (i : Text × View). i.0) (shown_view t) is ∙ sym (map_of_map (path_text t) (λ (i : Placed). i.0) is))
       ∙ paths_in_numbers t tables (e.0 ∷ map (λ i. i.0) is) (s.0, paths_stand is all)
 
   test_same : (e : Placed) → PlacedStands t e → (is : List Placed) → AllByRecursion (PlacedStands t) is
@@ -101,11 +99,9 @@ module _ (t : Tables) (tables : AreTables t) (h : Homes) (stand : HomesStand t h
   placed e is home test passes found f = by (text_eq home.name wanted) refl
     where
       by : (b : Bool) → text_eq home.name wanted ≡ b → IsPartOf t h wanted e is found
-      by true same =
-          at_home home.package_ home.identity (home.home ∙ ap (λ name. Some (home.package_, name)) (text_same home.name wanted same)) home.stands
+      by true same = at_home home.package_ home.identity (home.home ∙ ap (λ name. Some (home.package_, name)) (text_same home.name wanted same)) home.stands
           (f ∙ λ i. provided (same i) home.identity >>= λ package_. provided (passes i) (package_, reads.interface (view_of t e.1) (map (shown_view t) is)))
-      by false other =
-          elsewhere (λ n at. differs (same_text home.name wanted (ap (λ (x : ℕ × Text). x.1) (same-some (home.package_, home.name) (n, wanted) (sym home.home ∙ at)))))
+      by false other = elsewhere (λ n at. differs (same_text home.name wanted (ap (λ (x : ℕ × Text). x.1) (same-some (home.package_, home.name) (n, wanted) (sym home.home ∙ at)))))
           (f ∙ λ i. provided (other i) home.identity >>= λ package_. provided test (package_, reads.interface (view_of t e.1) (map (shown_view t) is)))
         where
           differs : text_eq home.name wanted ≡ true → ⊥
@@ -130,13 +126,11 @@ module _ (t : Tables) (tables : AreTables t) (h : Homes) (stand : HomesStand t h
         (option_map (shown_view t) exported >>= λ e. option_map (map (shown_view t)) imports >>= λ is. found_of e is)
     by_views None f imports g = refl
     by_views (Some e) f None g = refl
-    by_views (Some e) f (Some is) g =
-        followed e (export_stands t known w.home w.exports stands.exports e f) is (imports_stand t known w.home w.imports stands.imports is g)
+    by_views (Some e) f (Some is) g = followed e (export_stands t known w.home w.exports stands.exports e f) is (imports_stand t known w.home w.imports stands.imports is g)
         (are_once (e.0 ∷ map (λ i. i.0) is) && are_reached t is e.1) refl
 
 pub scopes_are_parts : InterfaceScopesInNumbers
-scopes_are_parts t tables h stand known w stands scope shows wanted =
-    subst (IsInterfacePart t h wanted (shown_interface t w))
+scopes_are_parts t tables h stand known w stands scope shows wanted = subst (IsInterfacePart t h wanted (shown_interface t w))
     (sym (λ i. export_in_numbers t w scope shows i >>= λ exported. imports_in_numbers t w scope shows i >>= λ imports. found_of t tables h stand wanted exported imports))
     (by_views t tables h stand wanted known w stands (exported_view w.exports) refl (each imported_view w.imports) refl)
 

@@ -39,6 +39,5 @@ none_left y not_some = search std_rules
 
 -- the same, where what is added is the item itself
 pub one_pushed : {A B C : Type 0} (f : A → B) (g : B → C) (xs : List A) (i : ℕ) (front : List C) {v : List C} (kept : front ++ map g (drop i (map f xs)) ≡ v) (d : A) → i < length xs
-    → (new : List C) (y : C) → y ≡ g (f (get_or xs i d)) → new ≡ front ++ y ∷ []
-    → new ++ map g (drop (i + 1) (map f xs)) ≡ v
+    → (new : List C) (y : C) → y ≡ g (f (get_or xs i d)) → new ≡ front ++ y ∷ [] → new ++ map g (drop (i + 1) (map f xs)) ≡ v
 one_pushed f g xs i front kept d more new y is added = search (std_rules, append_line, drop_mapped, drop_more)

@@ -37,16 +37,12 @@ home_reason old new packages path (Err e) reads takes = tt
 reasons_more : (first old new : List PackageIdentity) (homes : List (Option (ℕ × Text))) (home : Option (ℕ × Text)) → HaveReasons first old homes → IsReason old new home
     → HaveReasons first new (homes ++ home ∷ [])
 reasons_more first old new homes home have reason n below = elim (reason n below) [
-  | inl before ↦ elim (have n before) [
-    | inl earlier ↦ inl earlier
-    | inr at ↦ inr (record { place = at.place; name = at.name; home = front_more homes home at.place (Some (n, at.name)) at.home })
-  ]
+  | inl before ↦ elim (have n before) [ inl earlier ↦ inl earlier | inr at ↦ inr (record { place = at.place; name = at.name; home = front_more homes home at.place (Some (n, at.name)) at.home }) ]
   | inr own ↦ inr (record { place = length homes; name = own.0; home = last_there homes home ∙ ap Some own.1 })
 ]
 
 pub more_reasons : (first old new : List PackageIdentity) (homes : List (Option (ℕ × Bor (List ℕ)))) (home : Option (ℕ × Bor (List ℕ))) (after : List (Option (ℕ × Bor (List ℕ))))
-    → after ≡ homes ++ home ∷ []
-    → HaveReasons first old (map given_home homes) → IsReason old new (given_home home) → HaveReasons first new (map given_home after)
+    → after ≡ homes ++ home ∷ [] → HaveReasons first old (map given_home homes) → IsReason old new (given_home home) → HaveReasons first new (map given_home after)
 more_reasons first old new homes home after added have reason =
     search (std_rules, map-append given_home homes (home ∷ []), reasons_more first old new (map given_home homes) (given_home home) have reason)
 
@@ -55,8 +51,7 @@ home_below : (packages : List PackageIdentity) (path : Option Text) (n : ℕ) (n
 home_below packages x n name is = search (std_rules, found_below)
 
 in_order_more : (first old new : List PackageIdentity) (path : Option Text) (homes : List (Option (ℕ × Text))) (home : Option (ℕ × Text)) → IsHomeOf new path home → HaveReasons first old homes
-    → IsReason old new home → ComeInOrder first homes
-    → ComeInOrder first (homes ++ home ∷ [])
+    → IsReason old new home → ComeInOrder first homes → ComeInOrder first (homes ++ home ∷ [])
 in_order_more first old new path homes home is have reason order p n name at c less = elim (last_or homes home p (Some (n, name)) at) [
   | inl h ↦ elim (order p n name h.1 c less) [
     | inl before ↦ inl before
@@ -81,8 +76,7 @@ in_order_more first old new path homes home is have reason order p n name at c l
 ]
 
 pub more_in_order : (first old new : List PackageIdentity) (path : Option Text) (homes : List (Option (ℕ × Bor (List ℕ)))) (home : Option (ℕ × Bor (List ℕ))) (after : List (Option (ℕ × Bor (List ℕ))))
-    → after ≡ homes ++ home ∷ []
-    → IsHomeOf new path (given_home home) → HaveReasons first old (map given_home homes) → IsReason old new (given_home home) → ComeInOrder first (map given_home homes)
+    → after ≡ homes ++ home ∷ [] → IsHomeOf new path (given_home home) → HaveReasons first old (map given_home homes) → IsReason old new (given_home home) → ComeInOrder first (map given_home homes)
     → ComeInOrder first (map given_home after)
 more_in_order first old new path homes home after added is have reason order =
     search (std_rules, map-append given_home homes (home ∷ []), in_order_more first old new path (map given_home homes) (given_home home) is have reason order)

@@ -26,8 +26,7 @@ by_members pieces = package_by_scopes pieces ∙ by (scopes_of pieces)
 
 module _ (pieces : List Piece) (x : Followed) (f : IsFollowed pieces x) (facts : List KeptFact) (are : AreKnown x facts) (h : Homes) (stand : HomesStand (tables_of x) h) where
   decided : (ms : List (NumberedMember × List (Option ℕ))) → AreRead (tables_of x) (known_by facts) h x.members.items ms → (members : List reads.Member) → members_meant pieces ≡ Some members
-      → AllZip (IsMember (tables_of x) h) (map (λ m. m.0) ms) members
-      → ArePackageDecided pieces (tables_of x) h (known_by facts) (map (λ m. m.0) ms)
+      → AllZip (IsMember (tables_of x) h) (map (λ m. m.0) ms) members → ArePackageDecided pieces (tables_of x) h (known_by facts) (map (λ m. m.0) ms)
   decided [] read [] found shown = by_members pieces ∙ ap (λ o. o >>= package_of_members) found
   decided [] read (z ∷ zs) found shown = absurd shown
   decided (m ∷ ms) read [] found shown = absurd shown
@@ -36,8 +35,7 @@ module _ (pieces : List Piece) (x : Followed) (f : IsFollowed pieces x) (facts :
     at = shown.0.package_;
     members = z ∷ zs;
     shown = shown;
-    decided =
-        by_members pieces ∙ (ap (λ o. o >>= package_of_members) found
+    decided = by_members pieces ∙ (ap (λ o. o >>= package_of_members) found
         ∙ packages_in_numbers (tables_of x) (input_in_numbers pieces x f).tables h stand (known_by facts) m.0.package_ z.package_ shown.0.package_ (map (λ k. k.0) (m ∷ ms)) (z ∷ zs) shown
         (members_are_known pieces x f facts are h (m ∷ ms) read));
   }

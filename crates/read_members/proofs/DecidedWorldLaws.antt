@@ -50,10 +50,8 @@ module _ (t : Tables) (known : ℕ → Fact) (h : Homes) (label : Text) where
 
 module _ (pieces : List Piece) (t : Tables) (tables : AreTables t) (h : Homes) (stand : HomesStand t h) (known : ℕ → Fact) where
   part_decided : (x : FollowedMember) (m : NumberedMember) (label_is : m.label ≡ x.label.now) (p : NumberedPart) → IsPartRead t known h x.label.now x.part m.package_ p
-      → AllByRecursion (IsKnownSight t known) (sights_of_part t p)
-      → (z : reads.Member) → z.label ≡ m.label → slice_get h.packages m.package_ ≡ Some z.package_ → (q : reads.Part) → ShowsPart t h m p q
-      → world_of_pieces pieces ≡ world_of_members (record { label = z.label; package_ = z.package_; part = q } ∷ [])
-      → IsPartDecided pieces t h known m p
+      → AllByRecursion (IsKnownSight t known) (sights_of_part t p) → (z : reads.Member) → z.label ≡ m.label → slice_get h.packages m.package_ ≡ Some z.package_ → (q : reads.Part) → ShowsPart t h m p q
+      → world_of_pieces pieces ≡ world_of_members (record { label = z.label; package_ = z.package_; part = q } ∷ []) → IsPartDecided pieces t h known m p
   part_decided x m label_is (world w) read sights z named at (reads.world scope) shows found =
       let path = subst (λ (l : Text). read_path (path_in z.package_ l) ≡ Some (z.package_, l)) (sym label_is) (world_path t known h x.label.now x.part m.package_ w read z.package_ at) in
       record {
@@ -76,9 +74,8 @@ module _ (pieces : List Piece) (t : Tables) (tables : AreTables t) (h : Homes) (
   decided xs (m ∷ n ∷ ms) read sights (z ∷ y ∷ zs) shown found = found
   decided xs (m ∷ []) read sights (z ∷ y ∷ zs) shown found = absurd shown.1
   decided [] (m ∷ []) read sights (z ∷ []) shown found = absurd read
-  decided (x ∷ xs) (m ∷ []) read sights (z ∷ []) shown found =
-      part_decided x m.0 read.0.label_is m.0.part read.0.part_is (subst (AllByRecursion (IsKnownSight t known)) (append-nil (sights_of_part t m.0.part)) sights) z shown.0.label shown.0.package_ z.part
-      shown.0.part found
+  decided (x ∷ xs) (m ∷ []) read sights (z ∷ []) shown found = part_decided x m.0 read.0.label_is m.0.part read.0.part_is
+      (subst (AllByRecursion (IsKnownSight t known)) (append-nil (sights_of_part t m.0.part)) sights) z shown.0.label shown.0.package_ z.part shown.0.part found
 
 pub worlds_are_decided : WorldsAreDecided
 worlds_are_decided pieces x f facts are h stand ms read =

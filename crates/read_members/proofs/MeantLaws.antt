@@ -49,8 +49,7 @@ module _ (t : Tables) (tables : AreTables t) (known : ℕ → Fact) (h : Homes) 
   }
 
   interface_meant : (w : NumberedScope) (meant : MeantScope) → Shows t w meant → ScopeStands t known w → (n : ℕ) (e : Placed) (is : List Placed) → shown_interface t w ≡ Some (e, is)
-      → home_at h e.0 ≡ Some (n, label)
-      → IsPartMeant t h (numbered n (interface e.0 e.1 is)) (part_of_scope label (scopes.interface meant))
+      → home_at h e.0 ≡ Some (n, label) → IsPartMeant t h (numbered n (interface e.0 e.1 is)) (part_of_scope label (scopes.interface meant))
   interface_meant w meant shows stands n e is shown home =
       by (subst (λ (o : Option (Placed × List Placed)). IsInterfacePart t h label o (interface_of_scope label meant)) shown (scopes_are_parts t tables h stand known w stands meant shows label))
     where
@@ -130,8 +129,7 @@ module _ (t : Tables) (tables : AreTables t) (known : ℕ → Fact) (h : Homes) 
       }
 
   one_none : (x : FollowedMember) (y : Text × PartScope) → MemberShown t x y → Stands x → IsNoMember t known h x → member_of_scope y ≡ None
-  one_none x y shown stands none =
-      ap (λ o. o >>= λ p. Some (record { label = y.0; package_ = p.0; part = p.1 }))
+  one_none x y shown stands none = ap (λ o. o >>= λ p. Some (record { label = y.0; package_ = p.0; part = p.1 }))
       (no_part t tables known h stand y.0 x.part y.1 shown.1 stands (subst (λ (l : Text). IsNoPart t known h l x.part) (sym shown.0) none))
 
   -- ---- all members
@@ -160,8 +158,7 @@ module _ (t : Tables) (tables : AreTables t) (known : ℕ → Fact) (h : Homes) 
   none_meant (z ∷ xs) (y ∷ ys) shown stands zero x at none =
       let same : z ≡ x = cc in
       λ i. one_none z y shown.0 stands.0 (subst (IsNoMember t known h) (sym same) none) i >>= λ m. each member_of_scope ys >>= λ ms. Some (m ∷ ms)
-  none_meant (z ∷ xs) (y ∷ ys) shown stands (suc n) x at none =
-      (λ i. member_of_scope y >>= λ m. none_meant xs ys shown.1 stands.1 n x at none i >>= λ ms. Some (m ∷ ms)) ∙ nothing (member_of_scope y)
+  none_meant (z ∷ xs) (y ∷ ys) shown stands (suc n) x at none = (λ i. member_of_scope y >>= λ m. none_meant xs ys shown.1 stands.1 n x at none i >>= λ ms. Some (m ∷ ms)) ∙ nothing (member_of_scope y)
     where
       nothing : (o : Option reads.Member) → (o >>= λ m. let none : Option (List reads.Member) = None in none) ≡ None
       nothing None = refl
@@ -184,6 +181,5 @@ read_members_are_meant pieces x f facts known h stand ms read =
 pub no_members_are_meant : NoMembersAreMeant
 no_members_are_meant pieces x f facts known h stand one =
     let n = input_in_numbers pieces x f in
-    ap (λ o. o >>= each member_of_scope) n.found
-    ∙ none_meant (tables_of x) n.tables (known_by facts) h stand x.members.items n.scopes n.shown
+    ap (λ o. o >>= each member_of_scope) n.found ∙ none_meant (tables_of x) n.tables (known_by facts) h stand x.members.items n.scopes n.shown
     (all_stand (tables_of x) n.tables (known_by facts) h stand x.members.items (λ m w at. (scopes_are_known pieces x f facts known m w at).0)) one.number one.member one.at one.none

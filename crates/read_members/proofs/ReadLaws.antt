@@ -58,8 +58,7 @@ module _ (t : Tables) (known : ℕ → Fact) (hs : List (Option (ℕ × Text))) 
     pub one_more : (xs : List FollowedMember) (i : ℕ) (d : FollowedMember) → i < length xs → (ms : List ReadMember) (m : ReadMember) (after : List ReadMember) → after ≡ ms ++ m ∷ []
         → AreRead t known (among old) (take i xs) (map read_member ms) → IsMemberRead t known (among new) (get_or xs i d) (read_member m)
         → AreRead t known (among new) (take (i + 1) xs) (map read_member after)
-    one_more xs i d within ms m after added before read =
-        subst (λ (ys : List FollowedMember). AreRead t known (among new) ys (map read_member after)) (sym (take_more xs i d within))
+    one_more xs i d within ms m after added before read = subst (λ (ys : List FollowedMember). AreRead t known (among new) ys (map read_member after)) (sym (take_more xs i d within))
         (subst (λ (ns : List (NumberedMember × List (Option ℕ))). AreRead t known (among new) (take i xs ++ get_or xs i d ∷ []) ns)
         (sym (ap (map read_member) added ∙ map-append read_member ms (m ∷ [])))
         (zip-push (IsMemberRead t known (among new)) (take i xs) (map read_member ms) (get_or xs i d) (read_member m) (all_on (take i xs) (map read_member ms) before) read))
@@ -81,10 +80,7 @@ labelled_added old new are label path takes n is = joined old new is.0 (subst (�
 for_more : (first old new : List PackageIdentity) (ms : List (NumberedMember × List (Option ℕ))) (m : NumberedMember × List (Option ℕ)) → AreForMembers first old ms → IsForMember old new m
     → AreForMembers first new (ms ++ m ∷ [])
 for_more first old new ms m all one k low = elim (one k low) [
-  | inl before ↦ elim (all k before) [
-    | inl earlier ↦ inl earlier
-    | inr of ↦ inr (record { number = of.number; member = of.member; at = front_more ms m of.number of.member of.at; is = of.is })
-  ]
+  | inl before ↦ elim (all k before) [ inl earlier ↦ inl earlier | inr of ↦ inr (record { number = of.number; member = of.member; at = front_more ms m of.number of.member of.at; is = of.is }) ]
   | inr own ↦ inr (record { number = length ms; member = m; at = last_there ms m; is = own })
 ]
 

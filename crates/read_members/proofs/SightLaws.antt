@@ -71,8 +71,7 @@ module _ (pieces : List Piece) (x : Followed) (f : IsFollowed pieces x) (facts :
       (imports_known w.home is (imports_placed t w.home w.imports placed.imports is views.1)) (views_are_known pieces x f facts are e.0 export.0 e.1 export.1 true, tt)
 
   part_known : (h : Homes) (text : Text) (p : FollowedPart) (n : ℕ) (q : NumberedPart) → IsPlacedScope t (followed_scope x.places (scope_of p))
-      → AllByRecursion IsKnownOne (sights_of_scope t (followed_scope x.places (scope_of p)))
-      → IsPartRead t known h text p n q → AllByRecursion IsKnownOne (sights_of_part t q)
+      → AllByRecursion IsKnownOne (sights_of_scope t (followed_scope x.places (scope_of p))) → IsPartRead t known h text p n q → AllByRecursion IsKnownOne (sights_of_part t q)
   part_known h text (followed.World named s) n (world w) placed sights read = subst (λ (v : NumberedScope). AllByRecursion IsKnownOne (sights_of_scope t v)) (sym read.0) sights
   part_known h text (followed.World named s) n (interface p v is) placed sights read = absurd read
   part_known h text (followed.Interface s) n (world w) placed sights read = absurd read
@@ -85,8 +84,7 @@ module _ (pieces : List Piece) (x : Followed) (f : IsFollowed pieces x) (facts :
 
   all_known : (h : Homes) (xs : List FollowedMember)
       → ((n : ℕ) (w : NumberedScope) → slice_get (map (λ (y : FollowedMember). followed_scope x.places (scope_of y.part)) xs) n ≡ Some w → IsScopeKnown w)
-      → (ms : List (NumberedMember × List (Option ℕ)))
-      → AreRead t known h xs ms → AllByRecursion IsKnownOne (sights_of_members t (map (λ m. m.0) ms))
+      → (ms : List (NumberedMember × List (Option ℕ))) → AreRead t known h xs ms → AllByRecursion IsKnownOne (sights_of_members t (map (λ m. m.0) ms))
   all_known h [] scopes [] read = tt
   all_known h [] scopes (m ∷ ms) read = absurd read
   all_known h (y ∷ xs) scopes [] read = absurd read

@@ -31,13 +31,11 @@ mutual
       last : (b : Bool) → b ≡ (true && (b && true))
       last true = refl
       last false = refl
-  part_split p (Tree.node form ts) =
-      ap (λ b. not (is_named_form form) && b) (parts_split p ts) ∙ under (not (is_named_form form)) (are_plain ts) (list_all (same_place p) (places_in ts))
+  part_split p (Tree.node form ts) = ap (λ b. not (is_named_form form) && b) (parts_split p ts) ∙ under (not (is_named_form form)) (are_plain ts) (list_all (same_place p) (places_in ts))
 
   parts_split : (p : Place) (ts : Trees) → rules.are_parts p ts ≡ (are_plain ts && list_all (same_place p) (places_in ts))
   parts_split p Trees.no_children = refl
-  parts_split p (Trees.child t ts) =
-      (λ i. part_split p t i && parts_split p ts i)
+  parts_split p (Trees.child t ts) = (λ i. part_split p t i && parts_split p ts i)
       ∙ (exchange (is_plain t) (list_all (same_place p) (places t)) (are_plain ts) (list_all (same_place p) (places_in ts))
       ∙ ap (λ b. (is_plain t && are_plain ts) && b) (sym (all_both (same_place p) (places t) (places_in ts))))
 
@@ -77,29 +75,20 @@ module _ (shapes : List Shape) (fs : List FunctionShape) (paths : List (Option T
   stands (names.In q) h = by (p == q) refl
     where
       by : (b : Bool) → (p == q) ≡ b → b ≡ list_all (same_place (place_at t p)) (met (place_at t))
-      by true e =
-          sym (all_pass (same_place (place_at t p)) (met (place_at t))
-          (λ x c. (places_decide (place_at t p) x).1 (ap (place_at t) (eqb-true p q e) ∙ sym ((h (place_at t)).1 x c))))
-      by false e =
-          sym (one_fails (same_place (place_at t p)) (met (place_at t)) (place_at t q) (h (place_at t)).0
-          (other_place q (h apart).0 (λ same. false≢true (sym e ∙ eq-eqb p q (sym same)))))
+      by true e = sym (all_pass (same_place (place_at t p)) (met (place_at t)) (λ x c. (places_decide (place_at t p) x).1 (ap (place_at t) (eqb-true p q e) ∙ sym ((h (place_at t)).1 x c))))
+      by false e = sym (one_fails (same_place (place_at t p)) (met (place_at t)) (place_at t q) (h (place_at t)).0 (other_place q (h apart).0 (λ same. false≢true (sym e ∙ eq-eqb p q (sym same)))))
   stands names.InSeveral h = by (h.0 == p) refl
     where
       by : (b : Bool) → (h.0 == p) ≡ b → false ≡ list_all (same_place (place_at t p)) (met (place_at t))
-      by true e =
-          sym (one_fails (same_place (place_at t p)) (met (place_at t)) (place_at t h.1) (h.3 (place_at t)).1
-          (other_place h.1 (h.3 apart).1 (λ same. h.2 (eqb-true h.0 p e ∙ sym same))))
-      by false e =
-          sym (one_fails (same_place (place_at t p)) (met (place_at t)) (place_at t h.0) (h.3 (place_at t)).0
-          (other_place h.0 (h.3 apart).0 (λ same. false≢true (sym e ∙ eq-eqb h.0 p same))))
+      by true e = sym (one_fails (same_place (place_at t p)) (met (place_at t)) (place_at t h.1) (h.3 (place_at t)).1 (other_place h.1 (h.3 apart).1 (λ same. h.2 (eqb-true h.0 p e ∙ sym same))))
+      by false e = sym (one_fails (same_place (place_at t p)) (met (place_at t)) (place_at t h.0) (h.3 (place_at t)).0 (other_place h.0 (h.3 apart).0 (λ same. false≢true (sym e ∙ eq-eqb h.0 p same))))
 
   pub known : (g : Fact) → Tells (followed_fact g) (λ place. part_tree (shape_trees place shapes) k) → numbered.Tells t p k (numbered_fact g)
   known g h = record {
     levels = h.levels (place_at t);
     part = (λ i. h.plain (place_at t) i && stands g.names h.names i) ∙ sym (part_split (place_at t p) (tree_at t k));
     labels = λ form ts e. h.labels (place_at t) ∙ ap (λ x. are_labels (labels_of x)) e;
-    parts = λ form ts e.
-        (λ i. (h.parts (place_at t) ∙ ap (λ x. are_plain (below x)) e) i && (stands g.names h.names ∙ ap (λ x. list_all (same_place (place_at t p)) (places x)) e) i)
+    parts = λ form ts e. (λ i. (h.parts (place_at t) ∙ ap (λ x. are_plain (below x)) e) i && (stands g.names h.names ∙ ap (λ x. list_all (same_place (place_at t p)) (places x)) e) i)
         ∙ sym (parts_split (place_at t p) ts);
   }
 
@@ -123,8 +112,7 @@ facts_in_numbers shapes fs paths table facts many hold p k range seen = record {
   part = range;
   tells =
       let long = length-map facts followed_fact in
-      known shapes fs paths table p k range seen (fact_of facts k)
-      (subst (λ (f : FollowedFact). Tells f (λ place. part_tree (shape_trees place shapes) k)) (same_fact facts k)
+      known shapes fs paths table p k range seen (fact_of facts k) (subst (λ (f : FollowedFact). Tells f (λ place. part_tree (shape_trees place shapes) k)) (same_fact facts k)
       (tells_part (map followed_fact facts) (λ place. shape_trees place shapes) hold k (omega (arith, range, long, many))));
   seen = seen;
 }

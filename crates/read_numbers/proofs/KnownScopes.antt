@@ -39,8 +39,7 @@ module _ (P Q : ℕ → Type 0) (more : (k : ℕ) → P k → Q k) where
 -- ---- what is known
 
 module _ (shapes : List Shape) (fs : List FunctionShape) (paths : List (Option Text)) (table : IsTable shapes) (tables : AreTables (tables_in shapes fs paths)) (facts : List Fact)
-    (many : length facts ≡ length shapes)
-    (hold : FactsHold (map followed_fact facts) (λ place. shape_trees place shapes)) where
+    (many : length facts ≡ length shapes) (hold : FactsHold (map followed_fact facts) (λ place. shape_trees place shapes)) where
   abbrev t : Tables
   t = tables_in shapes fs paths
 

@@ -57,10 +57,8 @@ module _ (place : ℕ → Place) (ss : List Shape) (table : IsTable ss) where
         | inr n ↦
             let below : n.0 < length ss = omega (arith, small, n.1, le) in
             let found = slice_there ss n.0 below in
-            let stands : part_tree T k ≡ shape_tree place T found.0 =
-            ap (part_tree T) n.1 ∙ (part_behind T n.0 ∙ ap (λ o. unwrap_or o no_tree) (tree_at_number place ss table n.0 found.0 found.1)) in
-            by_shape n.0 x (λ j smaller d. rec j (omega (arith, smaller, small, n.1)) x d) k found.0 n.1 found.1 (table.each n.0 found.0 found.1)
-            (subst (λ (t : Tree). Contains (places t) x) stands c)
+            let stands : part_tree T k ≡ shape_tree place T found.0 = ap (part_tree T) n.1 ∙ (part_behind T n.0 ∙ ap (λ o. unwrap_or o no_tree) (tree_at_number place ss table n.0 found.0 found.1)) in
+            by_shape n.0 x (λ j smaller d. rec j (omega (arith, smaller, small, n.1)) x d) k found.0 n.1 found.1 (table.each n.0 found.0 found.1) (subst (λ (t : Tree). Contains (places t) x) stands c)
       ]
 
 -- a place of its own for each number

@@ -68,15 +68,13 @@ module _ (shapes : List Shape) (fs : List FunctionShape) (paths : List (Option T
         let x = placed.0 in
         let place : x.place ≡ place_of_key (numbered_key key) = placed.2 ∙ sym (key_place key) in (
           keys_in_numbers shapes fs paths key h.0,
-          subst (λ (v : NumberedView). IsPlacedView t (place_of_key (numbered_key key)) v) (shown_view n x placed.1)
-              (subst (λ q. IsPlacedView t q (instance_view x)) place (view_placed n x placed.1)),
+          subst (λ (v : NumberedView). IsPlacedView t (place_of_key (numbered_key key)) v) (shown_view n x placed.1) (subst (λ q. IsPlacedView t q (instance_view x)) place (view_placed n x placed.1)),
         )
     item_placed (shown.Function name f) h over placed = function_met shapes fs paths tables.table tables.signatures scope.home f h over
     item_placed (shown.Type name part d) h over placed = declared_met shapes fs paths tables.table tables.signatures scope.home d h.1 over
 
     items_placed : (ss : List Seen) → AreSeenIn shapes fs paths (length is) ss → AllByRecursion (λ (s : MeantSeen). ShownOver P s.shown) (map (seen_in apart T (functions_in T fs) is) ss)
-        → AllByRecursion (λ (s : Seen). IsKeyPlaced is s.shown) ss
-        → AllByRecursion (λ (s : NumberedSeen). IsPlacedItem t scope.home s.shown) (map (numbered_seen paths vs) ss)
+        → AllByRecursion (λ (s : Seen). IsKeyPlaced is s.shown) ss → AllByRecursion (λ (s : NumberedSeen). IsPlacedItem t scope.home s.shown) (map (numbered_seen paths vs) ss)
     items_placed [] h over placed = tt
     items_placed (s ∷ ss) h over placed = (item_placed s.shown h.0 over.0 placed.0, items_placed ss h.1 over.1 placed.1)
 
@@ -96,8 +94,7 @@ module _ (shapes : List Shape) (fs : List FunctionShape) (paths : List (Option T
 
     -- the place of an instance is that of the key under which it is seen
     key_of_seen : (ss : List Seen) → AllByRecursion (λ (s : Seen). IsKeyPlaced is s.shown) ss → (n : ℕ) (s : Seen) (key : InstanceKey) (j : ℕ) (x : Instance) → slice_get ss n ≡ Some s
-        → s.shown ≡ shown.Instance key j → slice_get is j ≡ Some x
-        → (numbered_shown vs s.shown ≡ worlds.instance (numbered_key key) (instance_view x)) × (place_of_key (numbered_key key) ≡ x.place)
+        → s.shown ≡ shown.Instance key j → slice_get is j ≡ Some x → (numbered_shown vs s.shown ≡ worlds.instance (numbered_key key) (instance_view x)) × (place_of_key (numbered_key key) ≡ x.place)
     key_of_seen ss placed n s key j x there shows at =
         let k = subst (λ (y : Shown). IsKeyPlaced is y) shows (all_at (λ (y : Seen). IsKeyPlaced is y.shown) ss n s placed there) in
         let same = one_item is j k.0 x k.1 at in
@@ -178,10 +175,8 @@ module _ (shapes : List Shape) (fs : List FunctionShape) (paths : List (Option T
 
     -- a name that it shows
     pub shows_name : (q n : ℕ) (name : Text) → IsShownBy (world_of shapes fs paths scope) q name (14 + n) → ShowsName w q n name
-    shows_name q n name (scopes.by_instance j x at of among) =
-        by_instance j among.number (numbered_instance x) (numbered_type among.type) (mapped_get numbered_instance is j x at) of
-        (mapped_get numbered_type x.view.types.items among.number among.type among.at) among.named
-        (slot_number among.type.slot ∙ among.is)
+    shows_name q n name (scopes.by_instance j x at of among) = by_instance j among.number (numbered_instance x) (numbered_type among.type) (mapped_get numbered_instance is j x at) of
+        (mapped_get numbered_type x.view.types.items among.number among.type among.at) among.named (slot_number among.type.slot ∙ among.is)
     shows_name q n name (scopes.by_import j s label d at same named own) =
         by_import j (numbered_seen paths vs s) d (mapped_get (numbered_seen paths vs) scope.imports.items j s at) (ap (numbered_shown vs) same) (ap (name_in paths) same ∙ named) own
 
@@ -277,8 +272,7 @@ module _ (shapes : List Shape) (fs : List FunctionShape) (paths : List (Option T
         let t = at_mapped numbered_type o.view.types.items a u u_at in
         let w = at_mapped numbered_type x.view.types.items b v v_at in
         let less = before a b t.0 w.0 t.1 w.1 in
-        subst (λ (z : NumberedType). part_of z.slot < part_of v.slot) t.2
-        (subst (λ (z : NumberedType). part_of (numbered_type t.0).slot < part_of z.slot) w.2
+        subst (λ (z : NumberedType). part_of z.slot < part_of v.slot) t.2 (subst (λ (z : NumberedType). part_of (numbered_type t.0).slot < part_of z.slot) w.2
         (subst (λ (k : ℕ). k < part_of (numbered_type w.0).slot) (sym (slot_number t.0.slot)) (subst (λ (k : ℕ). slot_part t.0.slot < k) (sym (slot_number w.0.slot)) less)))
 
     pathless : (m j : ℕ) (y : Member) (x : Instance) → (at : slice_get ms m ≡ Some y) → slice_get (scope_of y.part).instances.items j ≡ Some x → path_at t x.place ≡ None
@@ -293,8 +287,7 @@ module _ (shapes : List Shape) (fs : List FunctionShape) (paths : List (Option T
 
     -- instances of inline interfaces in two scopes
     apart_scopes : (m n j k : ℕ) (y z : Member) (x u : Instance) → slice_get ms m ≡ Some y → (there : slice_get ms n ≡ Some z) → slice_get (scope_of y.part).instances.items j ≡ Some x
-        → slice_get (scope_of z.part).instances.items k ≡ Some u
-        → path_at t u.place ≡ None → x.place ≡ u.place → m < n → ⊥
+        → slice_get (scope_of z.part).instances.items k ≡ Some u → path_at t u.place ≡ None → x.place ≡ u.place → m < n → ⊥
     apart_scopes m n j k y z x u at there x_at u_at none same less =
         let low = ((placed n z there).earlier m y at less).instances j x x_at in
         let new = (pathless n k z u there u_at none).new in
@@ -302,15 +295,13 @@ module _ (shapes : List Shape) (fs : List FunctionShape) (paths : List (Option T
 
     -- and in one
     apart_instances : (m j k : ℕ) (y z : Member) (x u : Instance) → slice_get ms m ≡ Some y → slice_get ms m ≡ Some z → slice_get (scope_of y.part).instances.items j ≡ Some x
-        → slice_get (scope_of z.part).instances.items k ≡ Some u
-        → path_at t u.place ≡ None → x.place ≡ u.place → j < k → ⊥
+        → slice_get (scope_of z.part).instances.items k ≡ Some u → path_at t u.place ≡ None → x.place ≡ u.place → j < k → ⊥
     apart_instances m j k y z x u at there x_at u_at none same less =
         let one = one_item ms m y z at there in
         (pathless m k z u there u_at none).first j x (subst (λ (v : Member). slice_get (scope_of v.part).instances.items j ≡ Some x) one x_at) less same
 
     inline_apart : (m n j k : ℕ) (y z : Member) (x u : Instance) → slice_get ms m ≡ Some y → slice_get ms n ≡ Some z → slice_get (scope_of y.part).instances.items j ≡ Some x
-        → slice_get (scope_of z.part).instances.items k ≡ Some u
-        → path_at t x.place ≡ None → x.place ≡ u.place → (m ≡ n) × (j ≡ k)
+        → slice_get (scope_of z.part).instances.items k ≡ Some u → path_at t x.place ≡ None → x.place ≡ u.place → (m ≡ n) × (j ≡ k)
     inline_apart m n j k y z x u at there x_at u_at none same =
         let none_there : path_at t u.place ≡ None = ap (path_at t) (sym same) ∙ none in
         let not_less : m < n → ⊥ = apart_scopes m n j k y z x u at there x_at u_at none_there same in

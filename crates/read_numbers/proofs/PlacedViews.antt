@@ -152,5 +152,4 @@ module _ (shapes : List Shape) (fs : List FunctionShape) (paths : List (Option T
 
   pub placed_view : (v : View) → AllByRecursion (IsShownIn shapes fs) v.types.items → AllByRecursion (IsShownFunctionIn fs) v.functions.items → ViewOver P (view_in T (functions_in T fs) v)
       → AllByRecursion (IsTypeNamed shapes place) v.types.items → IsPlacedView tabled place (numbered_view v)
-  placed_view v ht hf over named =
-      search (std_rules, types_met v.types.items ht over.types, functions_met v.functions.items hf over.functions, are_numbered shapes fs paths place v.types.items named)
+  placed_view v ht hf over named = search (std_rules, types_met v.types.items ht over.types, functions_met v.functions.items hf over.functions, are_numbered shapes fs paths place v.types.items named)

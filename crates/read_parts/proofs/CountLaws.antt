@@ -103,8 +103,7 @@ record IsAlong (top : Top) (many : ℕ) : Type 0 where
 along_part : (top next : Top) (many : ℕ) (p : PartType) → IsAlong top many → top_part top p ≡ Some next → IsAlong next (many + part_weight p)
 along_part top next many p a e =
     let same : record { types = top.types ++ p ∷ []; slots = top.slots ++ length top.types ∷ []; exported = top.exported } ≡ next = some_same _ _ e in
-    subst (λ (t : Top). IsAlong t (many + part_weight p)) same
-    (record { all = (let both = types_both top.types (p ∷ []) in let before = a.all in omega (arith, both, before)); once = a.once })
+    subst (λ (t : Top). IsAlong t (many + part_weight p)) same (record { all = (let both = types_both top.types (p ∷ []) in let before = a.all in omega (arith, both, before)); once = a.once })
 
 along_parts : (ps : List PartType) (top next : Top) (many : ℕ) → IsAlong top many → steps top_part top ps ≡ Some next → IsAlong next (many + types_weight ps)
 along_parts [] top next many a e = search std_rules

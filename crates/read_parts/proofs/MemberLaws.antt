@@ -125,8 +125,7 @@ places_below : (shapes : List Shape) (fs : List FunctionShape) (paths : Paths) (
 places_below shapes fs paths p st = search (std_rules, found_below, all_at)
 
 types_below : (shapes : List Shape) (fs : List FunctionShape) (paths : Paths) (p : FollowedPart) (base : List Shape) (count till : ℕ)
-    → IsPlacedAmong base count till (world_of shapes fs paths (scope_of p))
-    → AreTypesBelow (length shapes) p
+    → IsPlacedAmong base count till (world_of shapes fs paths (scope_of p)) → AreTypesBelow (length shapes) p
 types_below shapes fs paths p base count till placed j x at n t t_at =
     let name = all_at (IsTypeNamed shapes x.place) x.view.types.items n t (placed.instances j x at).named t_at in
     let low = found_below shapes name.number (named_shape x.place t.name.now) name.at in
@@ -149,8 +148,7 @@ module _ (shapes : List Shape) (fs : List FunctionShape) (paths : Paths) (ms : L
     number = h.number;
     below = (let low = h.below in omega (arith, low, le));
     member = h.member;
-    at =
-        stands_on ms more_members front h.number h.member h.at;
+    at = stands_on ms more_members front h.number h.member h.at;
     by = h.by;
   }
 
@@ -256,8 +254,7 @@ module _ (before : ℕ) (xs : List ExportedPart) where
           let weight = ap parts_weight (ap (map raw_exported) first) in
           let number : length ms ≡ i = (let a = f.many in let b = length_of_map raw_exported (drop i xs) in let c = length_of_map raw_exported xs in
           let e = left_long xs i one (drop (i + 1) xs) first in omega (arith, a, b, c, e)) in
-          let here : slice_get raws (length ms) ≡ Some (raw_exported one) =
-          ap (slice_get raws) number ∙ mapped_get raw_exported xs i one (left_first xs i one (drop (i + 1) xs) first) in
+          let here : slice_get raws (length ms) ≡ Some (raw_exported one) = ap (slice_get raws) number ∙ mapped_get raw_exported xs i one (left_first xs i one (drop (i + 1) xs) first) in
           let before_count = f.count in
           let step = s.count in
           subst (λ (ns : List Member). AreFollowedTo before raws (left (i + 1)) shapes' fs' paths' ns) (sym last) (record {
@@ -270,8 +267,7 @@ module _ (before : ℕ) (xs : List ExportedPart) where
               count = length paths;
               till = length shapes';
               placed = s.placed;
-              names = λ n q name e.
-                  some_more shapes' fs' paths' ms m (length ms) (length ms) q name (14 + n) (omega arith)
+              names = λ n q name e. some_more shapes' fs' paths' ms m (length ms) (length ms) q name (14 + n) (omega arith)
                   (some_still shapes fs paths shapes' fs' paths' s.shapes_grow s.signatures_grow s.paths_grow tables ms (length ms) q name (14 + n) (f.names n q name e));
               earlier = λ k x e less. places_below shapes fs paths x.part (all_at (λ (y : Member). StandsIn shapes fs paths y.part) ms k x f.stand
                   (stood ms (ms ++ m ∷ []) (record { more = m ∷ []; is = refl }) k x less e));
@@ -290,8 +286,7 @@ module _ (before : ℕ) (xs : List ExportedPart) where
                   base = shapes;
                   count = length paths;
                   stages = s.stages;
-                  names = λ n q name e.
-                      some_more shapes' fs' paths' ms m (length ms) (length ms) q name (14 + n) (omega arith)
+                  names = λ n q name e. some_more shapes' fs' paths' ms m (length ms) (length ms) q name (14 + n) (omega arith)
                       (some_still shapes fs paths shapes' fs' paths' s.shapes_grow s.signatures_grow s.paths_grow tables ms (length ms) q name (14 + n) (f.names n q name e));
                   types_below = λ k x e less.
                       let h = f.placed k x (stood ms (ms ++ m ∷ []) (record { more = m ∷ []; is = refl }) k x less e) in
@@ -306,8 +301,7 @@ module _ (before : ℕ) (xs : List ExportedPart) where
             names = λ n q name at.
                 let long = length-append ms (m ∷ []) in
                 elim (s.placed.names n q name (found_below shapes' n (named_shape q name) at) at) [
-                  | inl below ↦
-                      some_more shapes' fs' paths' ms m (length ms) (length (ms ++ m ∷ [])) q name (14 + n) (omega (arith, long))
+                  | inl below ↦ some_more shapes' fs' paths' ms m (length ms) (length (ms ++ m ∷ [])) q name (14 + n) (omega (arith, long))
                       (some_still shapes fs paths shapes' fs' paths' s.shapes_grow s.signatures_grow s.paths_grow tables ms (length ms) q name (14 + n)
                       (f.names n q name (stood shapes shapes' s.shapes_grow n (named_shape q name) below at)))
                   | inr by ↦ record { number = length ms; below = omega (arith, long); member = m; at = at_last ms m; by = by }

@@ -57,8 +57,7 @@ module _ (xs : List ExportedPart) where
       let low = count_below 0 (bare_parts n.parts) (length shapes) n.counted in
       subst (λ (ns : List Member). AreNumberedTo raws (left (i + 1)) shapes' fs' paths' ns) (sym last) (record {
         parts = n.parts ++ in_part k s.parts;
-        counted =
-            count_scoped 0 n.parts (length shapes) (in_part k s.parts) (length shapes') n.counted
+        counted = count_scoped 0 n.parts (length shapes) (in_part k s.parts) (length shapes') n.counted
             (subst (λ (ks : List ℕ). CountUp (length shapes) ks (length shapes')) (sym (bare_in k s.parts)) s.counted);
         trees = λ place of.
             let T = shape_trees place shapes in
@@ -66,8 +65,7 @@ module _ (xs : List ExportedPart) where
             let behind = trees_from (suc k) (left (i + 1)) in
             let kept = scoped_grown place shapes shapes' s.shapes_grow n.parts low in
             let next : length (ms ++ m ∷ []) ≡ suc k = (let long = length-append ms (m ∷ []) in omega (arith, long)) in
-            let here : trees_from k (left i) ≡ scoped_trees U (in_part k s.parts) ++ behind =
-            ap (λ ys. trees_from k (map raw_exported ys)) first
+            let here : trees_from k (left i) ≡ scoped_trees U (in_part k s.parts) ++ behind = ap (λ ys. trees_from k (map raw_exported ys)) first
             ∙ ap (λ ts. ts ++ behind) (ap (in_part k) (sym (s.trees place of)) ∙ sym (scoped_in U k s.parts)) in
             ap (λ j. scoped_trees U (n.parts ++ in_part k s.parts) ++ trees_from j (left (i + 1))) next
             ∙ (ap (λ ts. ts ++ behind) (append_of_map (λ p. (p.0, part_tree U p.1)) n.parts (in_part k s.parts) ∙ ap (λ ts. ts ++ scoped_trees U (in_part k s.parts)) kept)

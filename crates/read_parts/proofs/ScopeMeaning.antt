@@ -37,8 +37,7 @@ module _ {M : Type 0} (whole : List Member → Option M) (empty : whole [] ≡ N
   joined : (o : Option (List (Text × PartScope))) → ((o >>= each member_of_scope) >>= whole) ≡ (o >>= λ scopes. each member_of_scope scopes >>= whole)
   joined x = search std_rules
 
-  by_scopes : (o : Option (List (Text × PartType)))
-      → (o >>= λ parts. each member_by_levels parts >>= whole) ≡ ((o >>= scopes_in) >>= λ scopes. each member_of_scope scopes >>= whole)
+  by_scopes : (o : Option (List (Text × PartType))) → (o >>= λ parts. each member_by_levels parts >>= whole) ≡ ((o >>= scopes_in) >>= λ scopes. each member_of_scope scopes >>= whole)
   by_scopes None = refl
   by_scopes (Some []) = empty
   by_scopes (Some (x ∷ xs)) = ap (λ q. q >>= whole) (each_both labelled_scope member_of_scope member_by_levels member_law (x ∷ xs)) ∙ joined (each labelled_scope (x ∷ xs))

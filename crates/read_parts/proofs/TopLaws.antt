@@ -71,8 +71,7 @@ module _ (old : Tops) (st : AreTops old) (e : TopExport) where
         let types : map raw_type old.types.items ≡ map raw_type new.types.items = ap (λ ts. map raw_type ts.items) (sym added.types) in
         let exported : map label_and_number old.exported.items ++ (e.name.text.now, n) ∷ [] ≡ map label_and_number new.exported.items =
         sym (ap (map label_and_number) added.exported ∙ map-append label_and_number old.exported.items (record { label = e.name.text; number = n } ∷ [])) in
-        export_law (slice_get old.slots.items e.index) refl
-        ∙ (ap (λ o. o >>= λ k. Some (with_export k)) found
+        export_law (slice_get old.slots.items e.index) refl ∙ (ap (λ o. o >>= λ k. Some (with_export k)) found
         ∙ (λ i. Some (record { types = types i; slots = sym added.slots i; exported = exported i })))
 
     pub tops_with_export : AreTops new

@@ -31,15 +31,13 @@ module _ (t : Tables) (p : ℕ) (rs : List Text) (name : Text) (f : FunctionShap
 
   pub constructor_some : (rest : Text) → Some rest ≡ after_prefix (codes "[constructor]") name → constructs_one t p rs name f ≡ (list_any (text_eq rest) rs && (not f.is_async && makes rest))
   constructor_some rest found =
-      let named : (r : Text) → text_eq name (constructor_name r) ≡ text_eq rest r =
-      λ r. is_joined (codes "[constructor]") r name ∙ ap (λ o. option_map_or (λ x. text_eq x r) o false) (sym found) in
+      let named : (r : Text) → text_eq name (constructor_name r) ≡ text_eq rest r = λ r. is_joined (codes "[constructor]") r name ∙ ap (λ o. option_map_or (λ x. text_eq x r) o false) (sym found) in
       let each : (r : Text) → ((text_eq name (constructor_name r) && not f.is_async) && makes r) ≡ (text_eq rest r && (not f.is_async && makes r)) =
       λ r. ap (λ v. (v && not f.is_async) && makes r) (named r) ∙ regroup (text_eq rest r) (not f.is_async) (makes r) in
       ap (λ (g : Text → Bool). list_any g rs) (λ i r. each r i) ∙ any_same rest (λ r. not f.is_async && makes r) rs
 
   pub constructor_none : None ≡ after_prefix (codes "[constructor]") name → constructs_one t p rs name f ≡ false
-  constructor_none none =
-      any_none (λ r. (text_eq name (constructor_name r) && not f.is_async) && makes r) (λ r.
+  constructor_none none = any_none (λ r. (text_eq name (constructor_name r) && not f.is_async) && makes r) (λ r.
       ap (λ v. (v && not f.is_async) && makes r) (is_joined (codes "[constructor]") r name ∙ ap (λ o. option_map_or (λ x. text_eq x r) o false) (sym none))) rs
 
   pub method_some : (resource : Text) → ((r : Text) → is_label_behind (method_name r []) name ≡ text_eq resource r)

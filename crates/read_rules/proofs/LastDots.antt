@@ -6,14 +6,11 @@ use Rattle.read_rules.specs.FunctionNames.{IsLastCut}
 
 lacks : (xs : List ℕ) → ((i : ℕ) → i < length xs → get_or xs i 0 ≡ 46 → ⊥) → list_all (λ b. not (b == 46)) xs ≡ true
 lacks [] h = refl
-lacks (x ∷ xs) h =
-    ap (λ b. not b && list_all (λ y. not (y == 46)) xs) (ne_eqb x 46 (h 0 (omega arith)))
-    ∙ lacks xs (λ i below e. h (suc i) (omega (arith, below)) e)
+lacks (x ∷ xs) h = ap (λ b. not b && list_all (λ y. not (y == 46)) xs) (ne_eqb x 46 (h 0 (omega arith))) ∙ lacks xs (λ i below e. h (suc i) (omega (arith, below)) e)
 
 pub last_dot_found : (text : List ℕ) (r : Option (Bor (List ℕ) × Bor (List ℕ)))
     → MatchOption r (RFindsChar 46 text None) (λ x. (i : ℕ) × (j : ℕ) × RFindsChar 46 text (Some (i, j)) × (x.0.now ≡ take i text) × (x.1.now ≡ drop j text) × (i ≤ j) × (length x.0.now ≡ i)
-    × (length x.1.now + j ≡ length text))
-    → IsLastCut text r
+    × (length x.1.now + j ≡ length text)) → IsLastCut text r
 last_dot_found text None h = lacks text (λ i below. NoCharPasses-char 46 text i h (lit< tt) below)
 last_dot_found text (Some x) h =
     let i = h.0 in

@@ -81,8 +81,7 @@ module _ (mark name : Text) (r : Text) where
 
     -- the name of a member says its resource up to the last dot
     pub last_dot : (s : Text × Text) → rest ≡ s.0 ++ (46 ∷ s.1) → Lacks s.1 → is_label_behind (mark ++ (r ++ (46 ∷ []))) name ≡ (text_eq s.0 r && is_label s.1)
-    last_dot s cut lacks =
-        at_rest ∙ either_way _ _ (forward r rest (after_prefix (r ++ (46 ∷ [])) rest) refl s cut lacks) (backward r rest s cut)
+    last_dot s cut lacks = at_rest ∙ either_way _ _ (forward r rest (after_prefix (r ++ (46 ∷ [])) rest) refl s cut lacks) (backward r rest s cut)
 
 pub and_true : (a b : Bool) → b ≡ true → (a && b) ≡ a
 and_true x b e = search std_rules

@@ -56,8 +56,7 @@ same_all p q same xs = ap (λ test. list_all test xs) (λ i x. same x i)
 pub same_before : (a b : List ℕ) → ((n : ℕ) → has a n ≡ has b n) → (xs : List (List ℕ × List ℕ)) → use_before a xs ≡ use_before b xs
 same_before a b same [] = refl
 same_before a b same (x ∷ xs) =
-    let later : (n : ℕ) → has (a ++ x.1) n ≡ has (b ++ x.1) n =
-    λ n. list_any-append (λ m. m == n) a x.1 ∙ (ap (λ v. v || has x.1 n) (same n) ∙ sym (list_any-append (λ m. m == n) b x.1)) in
+    let later : (n : ℕ) → has (a ++ x.1) n ≡ has (b ++ x.1) n = λ n. list_any-append (λ m. m == n) a x.1 ∙ (ap (λ v. v || has x.1 n) (same n) ∙ sym (list_any-append (λ m. m == n) b x.1)) in
     λ i. same_all (has a) (has b) same x.0 i && same_before (a ++ x.1) (b ++ x.1) later xs i
 
 pub stands_earlier : (t : Tables) (before : List ℕ) (seen : List NumberedSeen) → stand_earlier t before seen ≡ use_before before (map (places_of t) seen)

@@ -43,9 +43,7 @@ module _ (t : Tables) (e : NumberedView) where
     cut = drop_more xs k d more ∙ ap (λ j. get_or xs k d ∷ drop j xs) (sym next)
 
     here : are_reached t (map numbered_import (drop k xs)) e ≡ (has ks (numbered_import (get_or xs k d)).0 && true)
-    here =
-        ap (λ ys. are_reached t (map numbered_import ys) e) (cut)
-        ∙ λ j. sym (used (numbered_import (get_or xs k d)).0) j && reached j
+    here = ap (λ ys. are_reached t (map numbered_import ys) e) (cut) ∙ λ j. sym (used (numbered_import (get_or xs k d)).0) j && reached j
 
     pub import_missed : has ks (numbered_import (get_or xs k d)).0 ≡ false → false ≡ are_reached t (map numbered_import xs) e
     import_missed misses = sym (suffix_fails xs k (here ∙ ap (λ b. b && true) misses))
@@ -56,10 +54,8 @@ module _ (t : Tables) (e : NumberedView) where
       λ n.
           let one = used_by_types t (numbered_import (get_or xs k d)).1.types in
           let later = flat_map (λ l. used_by_view t l.1) (map numbered_import (drop m xs)) in
-          added n
-          ∙ (ap (λ b. b || has one n) (used n ∙ has_append later (used_by_view t e) n)
-          ∙ (or_turn (has later n) (has (used_by_view t e) n) (has one n)
-          ∙ (ap (λ b. b || has (used_by_view t e) n) (sym (has_append one later n))
+          added n ∙ (ap (λ b. b || has one n) (used n ∙ has_append later (used_by_view t e) n)
+          ∙ (or_turn (has later n) (has (used_by_view t e) n) (has one n) ∙ (ap (λ b. b || has (used_by_view t e) n) (sym (has_append one later n))
           ∙ (sym (has_append (one ++ later) (used_by_view t e) n) ∙ ap (λ ys. has (used_behind ys) n) (sym (cut)))))),
       here ∙ ap (λ b. b && true) hits,
     )

@@ -42,8 +42,7 @@ module _ (test : Text → Bool) (xs : List ViewType) (i : ℕ) where
   left n = list_any test (resources_of (map numbered_type (drop n xs)))
 
   pub resource_turn : (d : ViewType) → i < length xs → (old new : List Text) (r : Bool) → r ≡ is_no_part (get_or xs i d).declared
-      → list_any test new ≡ (list_any test old || (r && test (get_or xs i d).name.now))
-      → {v : Bool} → (list_any test old || left i) ≡ v → (list_any test new || left (i + 1)) ≡ v
+      → list_any test new ≡ (list_any test old || (r && test (get_or xs i d).name.now)) → {v : Bool} → (list_any test old || left i) ≡ v → (list_any test new || left (i + 1)) ≡ v
   resource_turn d more old new r is added kept = search (std_rules, drop_more, first_resource, or_line)
 
   pub resources_end : (ks : List Text) → length xs ≤ i → {v : Bool} → (list_any test ks || left i) ≡ v → list_any test ks ≡ v

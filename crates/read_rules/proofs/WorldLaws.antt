@@ -43,9 +43,7 @@ module _ (t : Tables) (home : ℕ) where
 
       module _ {v : Bool} (kept : are_imports (numbered_tables t) (known_in t) home (before i) (later i) ≡ v) where
         here : (may_be_imported t home ks (numbered_seen one) && are_imports (numbered_tables t) (known_in t) home (before i ++ numbered_seen one ∷ []) (later (i + 1))) ≡ v
-        here =
-            ap (λ b. b && are_imports (numbered_tables t) (known_in t) home (before i ++ numbered_seen one ∷ []) (later (i + 1)))
-            (search std_rules)
+        here = ap (λ b. b && are_imports (numbered_tables t) (known_in t) home (before i ++ numbered_seen one ∷ []) (later (i + 1))) (search std_rules)
             ∙ (sym (ap (λ ys. are_imports (numbered_tables t) (known_in t) home (before i) (map numbered_seen ys)) (drop_more xs i d more)) ∙ kept)
 
         pub import_fails : may_be_imported t home ks (numbered_seen one) ≡ false → false ≡ v
@@ -54,9 +52,7 @@ module _ (t : Tables) (home : ℕ) where
         pub import_passes : may_be_imported t home ks (numbered_seen one) ≡ true → (new : List Text) → IsAdded ks (numbered_seen one) new
             → AreSame new (resources_seen (before (i + 1))) × (are_imports (numbered_tables t) (known_in t) home (before (i + 1)) (later (i + 1)) ≡ v)
         import_passes passes new added = (
-          λ test.
-              added test
-              ∙ ((λ j. same test j || (is_resource_seen (numbered_seen one).shown && test one.key.now))
+          λ test. added test ∙ ((λ j. same test j || (is_resource_seen (numbered_seen one).shown && test one.key.now))
               ∙ (sym (seen_behind test (before i) (numbered_seen one)) ∙ ap (λ ss. list_any test (resources_seen ss)) (sym next))),
           ap (λ ss. are_imports (numbered_tables t) (known_in t) home ss (later (i + 1))) next
               ∙ (sym (ap (λ b. b && are_imports (numbered_tables t) (known_in t) home (before i ++ numbered_seen one ∷ []) (later (i + 1))) passes) ∙ here),
@@ -103,10 +99,8 @@ module _ (t : views.Tables) (xs : List Seen) (i : ℕ) (ks : List ℕ) (rest : L
     pub use_fails : item_stands t ks (numbered_seen two) ≡ false → v ≡ false
     use_fails fails = sym at_one ∙ ap (λ b. b && stand_earlier t (ks ++ path_seen (numbered_shown two.shown)) (map numbered_seen (drop (i + 1) xs) ++ rest)) fails
 
-    pub use_passes : item_stands t ks (numbered_seen two) ≡ true → (new : List ℕ) → IsPlaceAdded ks (numbered_seen two) new
-        → stand_earlier t new (map numbered_seen (drop (i + 1) xs) ++ rest) ≡ v
-    use_passes passes new same =
-        same_stand t new (ks ++ path_seen (numbered_shown two.shown)) same (map numbered_seen (drop (i + 1) xs) ++ rest)
+    pub use_passes : item_stands t ks (numbered_seen two) ≡ true → (new : List ℕ) → IsPlaceAdded ks (numbered_seen two) new → stand_earlier t new (map numbered_seen (drop (i + 1) xs) ++ rest) ≡ v
+    use_passes passes new same = same_stand t new (ks ++ path_seen (numbered_shown two.shown)) same (map numbered_seen (drop (i + 1) xs) ++ rest)
         ∙ (sym (ap (λ b. b && stand_earlier t (ks ++ path_seen (numbered_shown two.shown)) (map numbered_seen (drop (i + 1) xs) ++ rest)) passes) ∙ at_one)
 
   pub uses_end : length xs ≤ i → v ≡ stand_earlier t ks rest
@@ -122,9 +116,8 @@ module _ (t : views.Tables) (before between after : List ℕ) (none : before ≡
       → false ≡ stand_earlier t [] (imports ++ exports)
   imports_late b first late = sym (ap (λ ks. stand_earlier t ks (imports ++ exports)) (sym none) ∙ (first exports ∙ ap (λ c. c && stand_earlier t between exports) late))
 
-  pub exports_decide : (b : Bool) → ((rest : List NumberedSeen) → stand_earlier t before (imports ++ rest) ≡ (b && stand_earlier t between rest)) → b ≡ true
-      → {E : Type 0} (r : Result Bool E) → IfOk r (λ c. (rest : List NumberedSeen) → stand_earlier t between (exports ++ rest) ≡ (c && stand_earlier t after rest))
-      → IfOk r (λ c. c ≡ stand_earlier t [] (imports ++ exports))
+  pub exports_decide : (b : Bool) → ((rest : List NumberedSeen) → stand_earlier t before (imports ++ rest) ≡ (b && stand_earlier t between rest)) → b ≡ true → {E : Type 0} (r : Result Bool E)
+      → IfOk r (λ c. (rest : List NumberedSeen) → stand_earlier t between (exports ++ rest) ≡ (c && stand_earlier t after rest)) → IfOk r (λ c. c ≡ stand_earlier t [] (imports ++ exports))
   exports_decide b first stands (Ok c) second = search (std_rules, append-nil exports, and_true c)
   exports_decide b first stands (Err e) second = tt
 
@@ -149,6 +142,5 @@ module _ (t : Tables) (home : ℕ) (rs : List Text) (key : Text) (s : Shown) {E 
   function_item n is shape at y h = search std_rules
 
 pub declared_item : (t : Tables) (home : ℕ) (rs : List Text) (key : Text) (s : Shown) (part : ℕ) (d : Option ℕ) → s ≡ variants.Declares part d → (b : Bool)
-    → b ≡ (is_label key && is_declared (numbered_tables t) (known_in t) home d)
-    → b ≡ is_item (numbered_tables t) (known_in t) home rs key (numbered_shown s)
+    → b ≡ (is_label key && is_declared (numbered_tables t) (known_in t) home d) → b ≡ is_item (numbered_tables t) (known_in t) home rs key (numbered_shown s)
 declared_item t home rs key s part d is b h = h ∙ ap (λ x. is_item (numbered_tables t) (known_in t) home rs key (numbered_shown x)) (sym is)

@@ -38,5 +38,4 @@ have_members bytes s k p decoded is =
     let same : meaning_of s k p ≡ decoded.meaning = some_is _ _ (sym (ap (option_map (meaning_of s k)) is) ∙ meant) in
     let shows : (is_filled (meaning_of s k p).interfaces || is_filled (meaning_of s k p).worlds) ≡ true
     = subst (λ (m : PackageMeaning). (is_filled m.interfaces || is_filled m.worlds) ≡ true) (sym same) (read_show bytes decoded.meaning decoded.read) in
-    ap (λ b. b || is_filled p.worlds.entries) (sym (mapped _ p.interfaces.entries))
-    ∙ ap (λ b. is_filled (meaning_of s k p).interfaces || b) (sym (mapped _ p.worlds.entries)) ∙ shows
+    ap (λ b. b || is_filled p.worlds.entries) (sym (mapped _ p.interfaces.entries)) ∙ ap (λ b. is_filled (meaning_of s k p).interfaces || b) (sym (mapped _ p.worlds.entries)) ∙ shows

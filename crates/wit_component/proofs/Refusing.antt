@@ -52,9 +52,7 @@ module _ (r : Resolve) (n : ℕ) (p : Package) (bytes : List ℕ) (at : package_
   refused_decoding x h = search (std_rules, has_meaning r n p)
 
   pub read_back : (HasNoMembers p → bytes ≡ preamble) → (s : Resolve) (k : ℕ) → IsDecoded bytes s k → IsReadBack r n s k
-  read_back empty s k decoded =
-      split (is_filled p.interfaces.entries || is_filled p.worlds.entries)
-      (λ some. gives_that_meaning r n p bytes at (means some) s k decoded)
+  read_back empty s k decoded = split (is_filled p.interfaces.entries || is_filled p.worlds.entries) (λ some. gives_that_meaning r n p bytes at (means some) s k decoded)
       (λ none. absurd (preamble_means_nothing decoded.meaning (subst (λ (bs : List ℕ). Reads bs decoded.meaning) (empty none) decoded.read)))
 
 -- bytes are not refused for what doesn't fit
@@ -62,8 +60,6 @@ pub never_too_large : {X Q : Type 0} (bytes : List ℕ) (given : Result X Error)
 never_too_large bytes x h refused = search std_rules
 
 -- what is decoded of the bytes of a package
-pub read_of : (r : Resolve) (n : ℕ) (bytes : List ℕ) (x : Result (Resolve × PackageId) Error) → SpellsPackageAt r false n bytes
-    → IfOk x (λ y. IsDecoded bytes y.0 y.1.0)
-    → IfOk x (λ y. FollowsBytes bytes y.0)
-    → IfOk x (λ y. IsReadOf r n y.0 y.1.0)
+pub read_of : (r : Resolve) (n : ℕ) (bytes : List ℕ) (x : Result (Resolve × PackageId) Error) → SpellsPackageAt r false n bytes → IfOk x (λ y. IsDecoded bytes y.0 y.1.0)
+    → IfOk x (λ y. FollowsBytes bytes y.0) → IfOk x (λ y. IsReadOf r n y.0 y.1.0)
 read_of r n bytes x spelled decoded order = search std_rules

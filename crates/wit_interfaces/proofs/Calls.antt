@@ -103,9 +103,8 @@ pub stays-as-it-is : (e : InterfaceEncoder) → CanEncodeInterfaces (interface_e
 stays-as-it-is e h = record { packages_ = refl; names = refl; maps_ = refl; stands = λ i m s. s; instances = λ j s. s; can = h }
 
 pub encode-leaves : {E : Type 0} (res : Result ℕ E) (e : InterfaceEncoder) (h : CanEncodeInterfaces (interface_encoder_view e)) (d : WorldEncoder)
-    (rest : d ≡ record e.encoder { outer = d.outer; foreign = d.foreign }) (i : InterfaceId)
-    → i.0 < length e.encoder.resolve.now.interfaces.items → IfOk res (DefinesInstance e.encoder d i) → OnErr res (AliasesFor e.encoder.resolve.now i (component_of e) (world_around d))
-    → LeavesInterfaces e (record e { encoder = d })
+    (rest : d ≡ record e.encoder { outer = d.outer; foreign = d.foreign }) (i : InterfaceId) → i.0 < length e.encoder.resolve.now.interfaces.items → IfOk res (DefinesInstance e.encoder d i)
+    → OnErr res (AliasesFor e.encoder.resolve.now i (component_of e) (world_around d)) → LeavesInterfaces e (record e { encoder = d })
 encode-leaves (Ok k) e h d rest i l ok err =
     let found = found-in e.encoder.resolve.now.interfaces.items i.0 (lt-ltb i.0 (length e.encoder.resolve.now.interfaces.items) l) in
     interface-leaves e h d rest i found.0 k (ok found.0 found.1)

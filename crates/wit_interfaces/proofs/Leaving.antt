@@ -108,8 +108,7 @@ module _ (r : Resolve) (w : WorldId) (count : ℕ) (maps : TypeEncodingMaps) whe
 
     -- with these listed, where the declarations can be followed, the interfaces stand that stand by themselves
     stand-typed : standing_instances r typed ≡ standing_instances r a
-    stand-typed =
-        ap (λ b. if b then filter (stands_around r a.instances (outer_instances typed.declared)) (below (length r.interfaces.items)) else [])
+    stand-typed = ap (λ b. if b then filter (stands_around r a.instances (outer_instances typed.declared)) (below (length r.interfaces.items)) else [])
         (ap (are_right r a.known) (slots-typed ∙ ap (λ xs. xs ++ x ∷ []) slots-there) ∙ right-slots (in_scope x s.scope) refl)
         ∙ ap (λ xs. filter (stands_around r a.instances xs) (below (length r.interfaces.items))) (ap (λ o. option_map_or (λ z. z.instances) o []) followed-typed ∙ sym instances-there)
         ∙ sym (ap (λ b. if b then filter (stands_around r a.instances (outer_instances a.declared)) (below (length r.interfaces.items)) else []) (ap (are_right r a.known) slots-there ∙ s.right))
@@ -147,8 +146,7 @@ module _ (r : Resolve) (w : WorldId) (count : ℕ) (maps : TypeEncodingMaps) whe
     -- ---- behind the import that uses it
 
     module _ (canonical : Bool) (i : InterfaceId) (path : Text) (is : interface_path r i.0 ≡ Some path) (view : InstanceView)
-        (viewed : instance_view (place_of r (owner.Interface i)) (outer_slots a.declared) es ≡ Some view) (shows : ShowsTypes r i.0 view)
-        (k : ℕ) (index : k ≡ type_slots_of a.declared) where
+        (viewed : instance_view (place_of r (owner.Interface i)) (outer_slots a.declared) es ≡ Some view) (shows : ShowsTypes r i.0 view) (k : ℕ) (index : k ≡ type_slots_of a.declared) where
       abbrev name : ExternName
       name = name_of_interface r canonical i.0
 
@@ -171,14 +169,12 @@ module _ (r : Resolve) (w : WorldId) (count : ℕ) (maps : TypeEncodingMaps) whe
           (ap (list_all (λ n. nat_lt n (length (outer_slots a.declared)))) (sym used-there) ∙ h.used)
 
       seen-as : used_view (in_scope x s.scope).slots (follow.place_of (Some path)) (slice_get (in_scope x s.scope).slots number) ≡ Some view
-      seen-as =
-          ap (used_view (in_scope x s.scope).slots (follow.place_of (Some path))) (slot-behind s.scope.slots x)
+      seen-as = ap (used_view (in_scope x s.scope).slots (follow.place_of (Some path))) (slot-behind s.scope.slots x)
           ∙ ap (λ slots. instance_view (follow.place_of (Some path)) slots es) (take-append_seam s.scope.slots (x ∷ []) ∙ sym slots-there)
           ∙ ap (λ o. instance_view (place_of_path o) (outer_slots a.declared) es) (sym is) ∙ viewed
 
       stepped : component_step (in_scope x s.scope) (declared_towards import_ name (refs.Instance k)) ≡ Some next
-      stepped =
-          ap (λ m. component_step (in_scope x s.scope) (declared_towards import_ name (refs.Instance m))) same-number
+      stepped = ap (λ m. component_step (in_scope x s.scope) (declared_towards import_ name (refs.Instance m))) same-number
           ∙ instance-step name number (in_scope x s.scope) (Key.path path) view (path-key r h.valid i.0 path is canonical) (unused number s.scope.used in-range) seen-as import_
 
       followed-imported : outer_scope imported.declared ≡ Some next
@@ -270,11 +266,7 @@ module _ (r : Resolve) (w : WorldId) (count : ℕ) (maps : TypeEncodingMaps) whe
 
 module _ (r : Resolve) (w : WorldId) (maps : TypeEncodingMaps) where
   both-go-on : (c d e : ℕ) (a b z : Around) → GoesOn r w c d maps a b → GoesOn r w d e maps b z → GoesOn r w c e maps a z
-  both-go-on c d e a b z first second = record {
-    can = second.can;
-    kept = λ i m s. second.kept i m (first.kept i m s);
-    stand = λ j s. second.stand j (first.stand j s);
-  }
+  both-go-on c d e a b z first second = record { can = second.can; kept = λ i m s. second.kept i m (first.kept i m s); stand = λ j s. second.stand j (first.stand j s) }
 
   module _ (count : ℕ) (a a' : Around) (h : CanEncodeInterfaces (world_view r w count a maps)) (i : InterfaceId) (def : Interface) (written : List (Text × Function)) (fs : List Function) (k : ℕ) (e : EncodesPart r a a' i def written fs k) where
     abbrev before : Around

@@ -16,19 +16,10 @@ module _ (r : Resolve) (v : IsValid r) (n : ℕ) (w : World) (there : world_at r
     (wraps : WrapsWorld r canonical (identity_of home.package_.name) n w ds) (bytes : List ℕ)
     (spelled : IsComponent (sections_of_parts (encoding_part e ∷ one_exported 0 (text_of w.name, ds))) bytes) where
   is-world : IsWorldType r home.package_ n (text_of w.name) (text_of w.name, ds)
-  is-world = record {
-    world = w;
-    there = there;
-    inner = wraps.inner;
-    is = λ j. (text_of w.name, wraps.is j);
-    scope = wraps.shows.scope;
-    follows = wraps.shows.follows;
-    shows = wraps.shows.shows;
-  }
+  is-world = record { world = w; there = there; inner = wraps.inner; is = λ j. (text_of w.name, wraps.is j); scope = wraps.shows.scope; follows = wraps.shows.follows; shows = wraps.shows.shows }
 
   pub world-meant : MeansWorld r n bytes
-  world-meant =
-      world-bytes-mean r v n w home.package_ there (home-is r w home) (text_of w.name, ds) (sections_of_parts (encoding_part e ∷ one_exported 0 (text_of w.name, ds))) bytes is-world
+  world-meant = world-bytes-mean r v n w home.package_ there (home-is r w home) (text_of w.name, ds) (sections_of_parts (encoding_part e ∷ one_exported 0 (text_of w.name, ds))) bytes is-world
       (all_exported ((text_of w.name, ds) ∷ []) (ap (λ b. Rattle.std.specs.Prelude.◌&&◌ b Rattle.std.specs.Prelude.true) (world-label r v n w there wraps.shows.scope wraps.shows.shows)) refl) spelled
 
   pub encoding-carried : CarriesEncoding e bytes

@@ -15,16 +15,14 @@ use Rattle.wit_model.specs.declared.error.Error.TheVariants as errors
 
 -- the contents of a custom section have one name, and one text behind it
 pub one-custom : (contents : List ℕ) (c d : List ℕ × List ℕ) → IsCustom c contents → IsCustom d contents → c ≡ d
-one-custom contents c d (front, rest, parts, spelled, is) (other, more, halves, written, are) =
-    search (std_rules, name_law.again c.0 front rest spelled, name_law.again d.0 other more written)
+one-custom contents c d (front, rest, parts, spelled, is) (other, more, halves, written, are) = search (std_rules, name_law.again c.0 front rest spelled, name_law.again d.0 other more written)
 
 one-name : (contents : List ℕ) (c d : List ℕ × List ℕ) → IsCustom c contents → IsCustom d contents → c.0 ≡ d.0
 one-name contents c d first second = ap (λ (x : List ℕ × List ℕ). x.0) (one-custom contents c d first second)
 
 -- one section stands in front of bytes
 pub one-frame : (f g : Framed) (front rest other more : List ℕ) → IsFrame f front → IsFrame g other → front ++ rest ≡ other ++ more → let x : Framed × List ℕ = (f, rest) in x ≡ (g, more)
-one-frame f g front rest other more spelled written same =
-    some-same (f, rest) (g, more) (sym (frame_law.again f front rest spelled) ∙ (ap frame_at same ∙ frame_law.again g other more written))
+one-frame f g front rest other more spelled written same = some-same (f, rest) (g, more) (sym (frame_law.again f front rest spelled) ∙ (ap frame_at same ∙ frame_law.again g other more written))
 
 -- ---- a section more
 
@@ -149,16 +147,14 @@ module _ (rest : List ℕ) (filled : length rest ≡ 0 → ⊥) (none : IsFrontl
 
   pub no-module : (bytes kept : List ℕ) (bound : Bool) → IsRead bytes rest kept bound → (fs : List Framed) → IsModule fs bytes → ⊥
   no-module bytes kept bound h fs (text, is, (spelled, named)) =
-      let same : h.front ++ rest ≡ text =
-      sym (drop-append_seam module_preamble (h.front ++ rest)) ∙ (ap (drop 8) (sym h.parts ∙ is) ∙ drop-append_seam module_preamble text) in
+      let same : h.front ++ rest ≡ text = sym (drop-append_seam module_preamble (h.front ++ rest)) ∙ (ap (drop 8) (sym h.parts ∙ is) ∙ drop-append_seam module_preamble text) in
       stuck h.sections fs h.front h.spelled (subst (λ (t : List ℕ). Sequence IsFrame fs t) (sym same) spelled) named
 
 -- ---- the section in front
 
 -- a frame that stands in front of bytes is the one that was read
 pub nameless-frontless : (bytes : List ℕ) (f : Framed) (front rest : List ℕ) → bytes ≡ front ++ rest → IsFrame f front → (IsNamed f → ⊥) → IsFrontless bytes
-nameless-frontless bytes f front rest parts spelled nameless g more h =
-    search (std_rules, one-frame f g front rest h.front more spelled h.framed_ (sym parts ∙ h.parts))
+nameless-frontless bytes f front rest parts spelled nameless g more h = search (std_rules, one-frame f g front rest h.front more spelled h.framed_ (sym parts ∙ h.parts))
 
 -- ---- whether a section carries a world
 

@@ -159,9 +159,8 @@ module _ (a b : Resolve) (alike : DifferInDocumentation a b) where
 
   declarations_alike : (o : TypeOwner) (fs gs : List Function) → AllZip AlikeFunctions fs gs → (types : List Listed)
       → map bare_with (shown_declarations a o fs types) ≡ map bare_with (shown_declarations b o gs types)
-  declarations_alike o fs gs functions types =
-      given_map_alike (λ x y. x ≡ y) bare_with (λ l. option_and_then (declared_with a o fs l) (type_at a l.id.0)) (λ l. option_and_then (declared_with b o gs l) (type_at b l.id.0)) each types types
-      (same_lists types)
+  declarations_alike o fs gs functions types = given_map_alike (λ x y. x ≡ y) bare_with (λ l. option_and_then (declared_with a o fs l) (type_at a l.id.0))
+      (λ l. option_and_then (declared_with b o gs l) (type_at b l.id.0)) each types types (same_lists types)
     where
       pick : (m n : Bool) → m ≡ n → (x y : DeclaredWith) → bare_with x ≡ bare_with y → option_map bare_with (if m then None else Some x) ≡ option_map bare_with (if n then None else Some y)
       pick true true e x y h = refl
@@ -174,14 +173,11 @@ module _ (a b : Resolve) (alike : DifferInDocumentation a b) where
       one l None None h = refl
       one l None (Some y) h = absurd h
       one l (Some x) None h = absurd h
-      one l (Some x) (Some y) h =
-          pick (is_some (used_of a o l.name x)) (is_some (used_of b o l.name y)) (ap is_some (use_alike o l.name x y h))
+      one l (Some x) (Some y) h = pick (is_some (used_of a o l.name x)) (is_some (used_of b o l.name y)) (ap is_some (use_alike o l.name x y h))
           (record { prefix = shown_prefix x.docs x.stability x.external_id; declared = shown_declared a fs l.id x })
-          (record { prefix = shown_prefix y.docs y.stability y.external_id; declared = shown_declared b gs l.id y })
-          (λ i. record {
+          (record { prefix = shown_prefix y.docs y.stability y.external_id; declared = shown_declared b gs l.id y }) (λ i. record {
             prefix = record { docs = []; gates = gates_alike x.stability y.stability h.gates i; external_id = external_id_alike x.external_id y.external_id h.external_id i };
-            declared =
-                declared_alike a b alike fs gs functions l.id x y h i;
+            declared = declared_alike a b alike fs gs functions l.id x y h i;
           })
 
       each : (x y : Listed) → x ≡ y
@@ -206,16 +202,12 @@ module _ (a b : Resolve) (alike : DifferInDocumentation a b) where
   entry_functions (e ∷ es) (f ∷ fs) h = (h.0.1, entry_functions es fs h.1)
 
   members_alike : (id : InterfaceId) (x y : Interface) → AlikeInterfaces x y → map (bare_member same) (shown_interface a id x) ≡ map (bare_member same) (shown_interface b id y)
-  members_alike id x y h =
-      joined_alike (bare_member same)
-      (map (λ used. UseMember used.prefix (path_from_owner a x.«package» used.interface) used.names) (shown_uses a (owner.Interface id) (listed_types x)) ++ map (λ d. TypeMember d.prefix d.declared)
-      (shown_declarations a (owner.Interface id) (listed_functions x) (listed_types x)))
-      (map (λ used. UseMember used.prefix (path_from_owner b y.«package» used.interface) used.names) (shown_uses b (owner.Interface id) (listed_types y)) ++ map (λ d. TypeMember d.prefix d.declared)
-      (shown_declarations b (owner.Interface id) (listed_functions y) (listed_types y)))
-      (map (shown_function a) (filter (λ f. is_freestanding f.kind) (listed_functions x)))
-      (map (shown_function b) (filter (λ f. is_freestanding f.kind) (listed_functions y)))
-      (joined_alike (bare_member same)
-      (map (λ used. UseMember used.prefix (path_from_owner a x.«package» used.interface) used.names) (shown_uses a (owner.Interface id) (listed_types x)))
+  members_alike id x y h = joined_alike (bare_member same) (map (λ used. UseMember used.prefix (path_from_owner a x.«package» used.interface) used.names)
+      (shown_uses a (owner.Interface id) (listed_types x)) ++ map (λ d. TypeMember d.prefix d.declared) (shown_declarations a (owner.Interface id) (listed_functions x) (listed_types x)))
+      (map (λ used. UseMember used.prefix (path_from_owner b y.«package» used.interface) used.names) (shown_uses b (owner.Interface id) (listed_types y))
+      ++ map (λ d. TypeMember d.prefix d.declared) (shown_declarations b (owner.Interface id) (listed_functions y) (listed_types y)))
+      (map (shown_function a) (filter (λ f. is_freestanding f.kind) (listed_functions x))) (map (shown_function b) (filter (λ f. is_freestanding f.kind) (listed_functions y)))
+      (joined_alike (bare_member same) (map (λ used. UseMember used.prefix (path_from_owner a x.«package» used.interface) used.names) (shown_uses a (owner.Interface id) (listed_types x)))
       (map (λ used. UseMember used.prefix (path_from_owner b y.«package» used.interface) used.names) (shown_uses b (owner.Interface id) (listed_types y)))
       (map (λ d. TypeMember d.prefix d.declared) (shown_declarations a (owner.Interface id) (listed_functions x) (listed_types x)))
       (map (λ d. TypeMember d.prefix d.declared) (shown_declarations b (owner.Interface id) (listed_functions y) (listed_types y)))
@@ -223,8 +215,8 @@ module _ (a b : Resolve) (alike : DifferInDocumentation a b) where
       (types_bare (shown_declarations a (owner.Interface id) (listed_functions x) (listed_types x))
       ∙ (ap (map (λ d. TypeMember d.prefix d.declared)) declared ∙ sym (types_bare (shown_declarations b (owner.Interface id) (listed_functions y) (listed_types y))))))
       (bare_map_alike AlikeFunctions (bare_member same) (shown_function a) (shown_function b) function_alike (filter (λ f. is_freestanding f.kind) (listed_functions x))
-      (filter (λ f. is_freestanding f.kind) (listed_functions y))
-      (filter_alike AlikeFunctions (λ f. is_freestanding f.kind) (λ f g k. ap is_freestanding k.kind) (listed_functions x) (listed_functions y) functions))
+      (filter (λ f. is_freestanding f.kind) (listed_functions y)) (filter_alike AlikeFunctions (λ f. is_freestanding f.kind) (λ f g k. ap is_freestanding k.kind) (listed_functions x)
+      (listed_functions y) functions))
     where
       functions : AllZip AlikeFunctions (listed_functions x) (listed_functions y)
       functions = entry_functions x.functions.entries y.functions.entries h.functions
@@ -260,9 +252,8 @@ module _ (a b : Resolve) (alike : DifferInDocumentation a b) where
 
       go : (o p : Option Interface) → Both AlikeInterfaces o p
           → bare_extern same (if option_map_or (λ i. is_some i.name) o false then NamedPath (text_of s) (shown_path a here id) else NamedInterface (text_of s)
-          (option_map_or (shown_interface a id) o []))
-          ≡ bare_extern same (if option_map_or (λ i. is_some i.name) p false then NamedPath (text_of t) (shown_path b here id) else NamedInterface (text_of t)
-          (option_map_or (shown_interface b id) p []))
+          (option_map_or (shown_interface a id) o [])) ≡ bare_extern same (if option_map_or (λ i. is_some i.name) p false then NamedPath (text_of t) (shown_path b here id) else NamedInterface
+          (text_of t) (option_map_or (shown_interface b id) p []))
       go None None h = λ i. NamedInterface (q i) []
       go None (Some v) h = absurd h
       go (Some u) None h = absurd h
@@ -285,8 +276,7 @@ module _ (a b : Resolve) (alike : DifferInDocumentation a b) where
 
   members_in_alike : (id : WorldId) (x y : World) (here : PackageId) → AlikeWorlds x y
       → map (bare_world_member same) (shown_world_in a id x here) ≡ map (bare_world_member same) (shown_world_in b id y here)
-  members_in_alike id x y here h =
-      joined_alike (bare_world_member same) _ _ (map (shown_export a here) x.exports.entries) (map (shown_export b here) y.exports.entries)
+  members_in_alike id x y here h = joined_alike (bare_world_member same) _ _ (map (shown_export a here) x.exports.entries) (map (shown_export b here) y.exports.entries)
       (joined_alike (bare_world_member same) _ _ (map (shown_import a here) (filter (λ e. is_freestanding_item e.1) x.imports.entries))
       (map (shown_import b here) (filter (λ e. is_freestanding_item e.1) y.imports.entries))
       (joined_alike (bare_world_member same) _ _ (map (λ d. WorldType d.prefix d.declared) (shown_declarations a (owner.World id) (imported_functions x) (listed_imports x)))

@@ -176,9 +176,8 @@ module _ (a b : Resolve) (alike : DifferInDocumentation a b) where
       go : (k l : TypeDefKind) → AlikeKinds k l → bare_declared same (shown_declared a fs id (record d { kind = k })) ≡ bare_declared same (shown_declared b gs id (record e { kind = l }))
       go (defined.Record x) (defined.Record y) (records q) = λ i. RecordOf (name i)
           (bare_map_alike AlikeFields (bare_field same) (shown_field a) (shown_field b) field_alike x.fields.items y.fields.items q i)
-      go k l resources =
-          λ i. ResourceOf (name i) (bare_map_alike AlikeFunctions (bare_resource_member same) (shown_resource_member a) (shown_resource_member b) resource_member_alike (filter (belongs_to id) fs)
-          (filter (belongs_to id) gs) (filter_alike AlikeFunctions (belongs_to id) (belongs_alike id) fs gs functions) i)
+      go k l resources = λ i. ResourceOf (name i) (bare_map_alike AlikeFunctions (bare_resource_member same) (shown_resource_member a) (shown_resource_member b) resource_member_alike
+          (filter (belongs_to id) fs) (filter (belongs_to id) gs) (filter_alike AlikeFunctions (belongs_to id) (belongs_alike id) fs gs functions) i)
       go (defined.Flags x) (defined.Flags y) (flags q) = λ i. FlagsOf (name i) (bare_map_alike AlikeFlags (bare_label same) shown_flag shown_flag flag_alike x.flags.items y.flags.items q i)
       go (defined.Variant x) (defined.Variant y) (variants q) = λ i. VariantOf (name i)
           (bare_map_alike AlikeCases (bare_case same) (shown_case a) (shown_case b) case_alike x.cases.items y.cases.items q i)

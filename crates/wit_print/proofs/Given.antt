@@ -42,5 +42,4 @@ world_functions_can_be_given r id w valid at entries are =
     let all = given_well (is_known_entry r id.0) (λ e. item_function e.1) (is_listed_function r (owner.World id)) (λ e k. entry_function_known r valid id.0 e.0 e.1 k) w.imports.entries
     shown.imports in
     all-of (λ entry. list_all (is_listed_function r (owner.World id)) (behind entry.1)) entries
-    (λ e c. all-of (is_listed_function r (owner.World id)) (behind e.1)
-    (λ f d. all-contained (is_listed_function r (owner.World id)) (imported_functions w) f all (are e c f d)))
+    (λ e c. all-of (is_listed_function r (owner.World id)) (behind e.1) (λ f d. all-contained (is_listed_function r (owner.World id)) (imported_functions w) f all (are e c f d)))

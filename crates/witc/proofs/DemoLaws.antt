@@ -42,8 +42,7 @@ same-identity a b c d v w h k l = cc
 module _ (r : Resolve) (p : Package) (w : World) (name : String Global) (named : text_of name ≡ codes "foo") (worlds : p.worlds.entries ≡ (name, record { 0 = 0 }) ∷ [])
     (interfaces : p.interfaces.entries ≡ []) (all-interfaces : r.interfaces.items ≡ []) (all-worlds : r.worlds.items ≡ w ∷ []) (is-foo : IsFoo w) where
   its-worlds : worlds_of r p ≡ w ∷ []
-  its-worlds =
-      ap (λ (es : List (String Global × WorldId)). filter_map (λ (id : WorldId). world_at r id.0) (map (λ e. e.1) es)) worlds
+  its-worlds = ap (λ (es : List (String Global × WorldId)). filter_map (λ (id : WorldId). world_at r id.0) (map (λ e. e.1) es)) worlds
       ∙ ap (λ (ws : List World). filter_map (λ (id : WorldId). slice_get ws id.0) (record { 0 = 0 } ∷ [])) all-worlds
 
   reaches-none : reached r [] ≡ []
@@ -51,10 +50,8 @@ module _ (r : Resolve) (p : Package) (w : World) (name : String Global) (named :
   reaches-none = ap (λ (is : List Interface). reached_in r (length is) []) all-interfaces
 
   from-none : map (λ (id : InterfaceId). id.0) (values p.interfaces) ++ flat_map (interfaces_of_world r) (worlds_of r p) ≡ []
-  from-none =
-      ap (λ (es : List (String Global × InterfaceId)). map (λ (id : InterfaceId). id.0) (map (λ e. e.1) es) ++ flat_map (interfaces_of_world r) (worlds_of r p)) interfaces
-      ∙ ap (flat_map (interfaces_of_world r)) its-worlds
-      ∙ ap (λ (xs : List ℕ). xs ++ []) (is-foo.alone r)
+  from-none = ap (λ (es : List (String Global × InterfaceId)). map (λ (id : InterfaceId). id.0) (map (λ e. e.1) es) ++ flat_map (interfaces_of_world r) (worlds_of r p)) interfaces
+      ∙ ap (flat_map (interfaces_of_world r)) its-worlds ∙ ap (λ (xs : List ℕ). xs ++ []) (is-foo.alone r)
 
   no-foreign : foreign_of r 0 p ≡ []
   no-foreign = ap (filter (is_foreign r 0)) (ap (reached r) from-none ∙ reaches-none)
@@ -63,8 +60,7 @@ module _ (r : Resolve) (p : Package) (w : World) (name : String Global) (named :
   shown e = (text_of e.0, world_meaning_at r e.1.0)
 
   shown-worlds : map shown p.worlds.entries ≡ (codes "foo", foo) ∷ []
-  shown-worlds =
-      ap (map shown) worlds
+  shown-worlds = ap (map shown) worlds
       ∙ one-world (text_of name) (codes "foo") (world_meaning_at r 0) foo named (ap (λ (ws : List World). option_map_or (world_meaning r) (slice_get ws 0) no_world) all-worlds ∙ is-foo.means r)
 
   abbrev shown-interface : String Global × InterfaceId → Text × InterfaceMeaning
@@ -78,6 +74,5 @@ module _ (r : Resolve) (p : Package) (w : World) (name : String Global) (named :
       (by_path r (foreign_meaning r p) (foreign_of r 0 p)) (from_entries [])
       (same-identity (text_of p.name.namespace) (codes "a") (text_of p.name.name) (codes "b") (optional_version_text p.name.version) None namespace own (ap optional_version_text version))
       (ap (map shown-interface) interfaces)
-      shown-worlds
-      (ap (by_path r (foreign_meaning r p)) no-foreign) in
+      shown-worlds (ap (by_path r (foreign_meaning r p)) no-foreign) in
       found ∙ ap Some means

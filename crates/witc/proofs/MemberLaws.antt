@@ -13,8 +13,7 @@ use Rattle.witc.specs.Demo.{demo, foo}
 -- a package that means the demo's holds a world
 pub holds-world : (r : Resolve) (p : Package) → package_at r 0 ≡ Some p → Meant r 0 demo → HasMembers p
 unfolding Meant
-holds-world r p at means =
-    go p.worlds.entries (ap (λ (m : PackageMeaning). m.worlds) (same-some (package_meaning r 0 p) demo (sym (ap (option_map (package_meaning r 0)) at) ∙ means)))
+holds-world r p at means = go p.worlds.entries (ap (λ (m : PackageMeaning). m.worlds) (same-some (package_meaning r 0 p) demo (sym (ap (option_map (package_meaning r 0)) at) ∙ means)))
   where
     shown : String Global × WorldId → Text × WorldMeaning
     shown e = (text_of e.0, world_meaning_at r e.1.0)

@@ -25,8 +25,7 @@ other-end fs ds (CarryData.other g gs es never carry) f none = CarryData.other g
 
 module _ (bytes rest behind : List ℕ) (ds : List (List ℕ)) (h : BeginsWith bytes ds rest) (f : Framed) (stands : IsInFront rest f behind) where
   further : (es : List (List ℕ)) → CarryData (h.sections ++ f ∷ []) es → BeginsWith bytes es behind
-  further es carry =
-      search (std_rules, append_assoc h.front stands.front behind, sequence-end h.sections h.front h.are.0 f stands.front stands.framed_, named-end h.sections h.are.1 f stands.named_)
+  further es carry = search (std_rules, append_assoc h.front stands.front behind, sequence-end h.sections h.front h.are.0 f stands.front stands.framed_, named-end h.sections h.are.1 f stands.named_)
 
 -- A section that stands in front takes bytes.
 pub taken : (bytes rest : List ℕ) (o : Option (Bor (List ℕ))) → IsFrontData bytes o rest → (front : List ℕ) × (bytes ≡ front ++ rest) × (0 < length front)
@@ -77,8 +76,7 @@ module _ (bytes : List ℕ) (n : ℕ) (rest : List ℕ) (left : ℕ) (h : Walks 
     passed-over more is = record {
       data_ = h.data_ ++ found.now ∷ [];
       begins = begins-on;
-      counted =
-          (let long = length-append h.data_ (found.now ∷ []) in let counted = h.counted in omega (arith, long, counted, is));
+      counted = (let long = length-append h.data_ (found.now ∷ []) in let counted = h.counted in omega (arith, long, counted, is));
     }
 
     -- the one

@@ -48,8 +48,7 @@ one-more number old new some is pushed =
     let numbered : ℕ → PackageId = λ n. record { 0 = n } in
     let behind : 1 + (number - 1) ≡ number = omega (arith, some) in
     let longer : (number - 1) + 1 ≡ number + 1 - 1 = omega (arith, some) in
-    pushed
-    ∙ (ap (λ (ids : List PackageId). ids ++ numbered number ∷ []) is
+    pushed ∙ (ap (λ (ids : List PackageId). ids ++ numbered number ∷ []) is
     ∙ (sym (map-range_with_len_more numbered 1 (number - 1) number behind) ∙ ap (λ (k : ℕ). map numbered (range_with_len 1 k)) longer))
 
 pub others-there : (r : Resolve) → 0 < length r.packages.items → list_all (λ (id : PackageId). in_list r.packages.items id.0) (other_packages_of r) ≡ true

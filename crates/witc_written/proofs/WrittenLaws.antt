@@ -11,9 +11,8 @@ use Rattle.witc_written.specs.Written.{EncodesModule, EncodesPackage, RefusesEnc
 
 -- what the clauses of `encode` say of a package that was decoded
 pub encodes : EncodingKeepsMeaning → DecodedHaveMembers → (bytes : List ℕ) (r : Resolve) (id : PackageId) (canonical : Bool) → IsDecoded bytes r id.0 → FollowsBytes bytes r
-    → (x : Result (Vec ℕ Global) Error)
-    → IfOk x (λ out. MeansPackageAt r id.0 out.items) → IfOk x (λ out. SpellsPackageAt r canonical id.0 out.items) → (canonical ≡ true → OnOk x (HasNoClashesAt r id.0))
-    → IfOk x (λ out. EncodesPackage bytes canonical out.items)
+    → (x : Result (Vec ℕ Global) Error) → IfOk x (λ out. MeansPackageAt r id.0 out.items) → IfOk x (λ out. SpellsPackageAt r canonical id.0 out.items)
+    → (canonical ≡ true → OnOk x (HasNoClashesAt r id.0)) → IfOk x (λ out. EncodesPackage bytes canonical out.items)
 encodes keeps members bytes r id canonical decoded order (Ok out) means spells differ = search std_rules
 encodes keeps members bytes r id canonical decoded order (Err e) means spells differ = tt
 
@@ -26,8 +25,7 @@ refuses bytes r n canonical decoded order (Err e) refused size = RefusesEncoded.
 -- the same of what a module binds
 module _ (bytes : List ℕ) (b : Bindgen) (binds : IsBound bytes (binding_of b)) (reached : IsReached bytes b []) where
   pub module-encodes : IsBindgen b → BeginsWithRoot b.resolve → (x : Result (Vec ℕ Global) Error) → IfOk x (λ out. MeansPackageAt b.resolve 0 out.items)
-      → IfOk x (λ out. SpellsPackageAt b.resolve false 0 out.items)
-      → IfOk x (λ out. EncodesModule bytes out.items)
+      → IfOk x (λ out. SpellsPackageAt b.resolve false 0 out.items) → IfOk x (λ out. EncodesModule bytes out.items)
   module-encodes valid root (Ok out) means spells = record { bound = b; binds = binds; valid = valid; root = root; reached = reached; means = means; spelled = spells }
   module-encodes valid root (Err e) means spells = tt
 

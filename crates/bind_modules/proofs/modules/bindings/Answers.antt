@@ -12,30 +12,24 @@ pub named_by_bytes-requires : goal.named_by_bytes-requires
 named_by_bytes-requires c = (roots_are_roots c.in_ok-bound.bound c.in_ok-bound.ensures.root).0
 
 pub returns-in_err-named-clause-refuses : goal.returns-in_err-named-clause-refuses
-returns-in_err-named-clause-refuses c =
-    passed_on (RefusesBindings c.args.bytes.now) c.in_err-named.field-0.0 c.from_residual-in_err-named.result
+returns-in_err-named-clause-refuses c = passed_on (RefusesBindings c.args.bytes.now) c.in_err-named.field-0.0 c.from_residual-in_err-named.result
     (subst (RefusesBindings c.args.bytes.now) (sym c.in_err-named.ensures.refuses) tt) c.from_residual-in_err-named.ensures.1
 
 pub returns-in_err-named-clause-size : goal.returns-in_err-named-clause-size
-returns-in_err-named-clause-size c =
-    passed_on (λ (d : Error). d ≡ errors.Size → OutgrowsLists c.args.bytes.now) c.in_err-named.field-0.0 c.from_residual-in_err-named.result
-    (λ so. let is : errors.Memory ≡ errors.Size = sym c.in_err-named.ensures.refuses ∙ so in let no : ⊥ = cc in absurd no)
-    c.from_residual-in_err-named.ensures.1
+returns-in_err-named-clause-size c = passed_on (λ (d : Error). d ≡ errors.Size → OutgrowsLists c.args.bytes.now) c.in_err-named.field-0.0 c.from_residual-in_err-named.result
+    (λ so. let is : errors.Memory ≡ errors.Size = sym c.in_err-named.ensures.refuses ∙ so in let no : ⊥ = cc in absurd no) c.from_residual-in_err-named.ensures.1
 
 pub returns-in_err-rest-clause-blames : goal.returns-in_err-rest-clause-blames
 returns-in_err-rest-clause-blames c =
     let e = c.in_err-rest.field-0.0 in
-    passed_on (Blames c.args.bytes.now 0) e c.from_residual.result
-    (no-module-blamed c.args.bytes.now 0 e c.in_err-rest.ensures.refuses c.in_err-rest.ensures.none) c.from_residual.ensures.1
+    passed_on (Blames c.args.bytes.now 0) e c.from_residual.result (no-module-blamed c.args.bytes.now 0 e c.in_err-rest.ensures.refuses c.in_err-rest.ensures.none) c.from_residual.ensures.1
 
 pub returns-in_err-bound-clause-blames : goal.returns-in_err-bound-clause-blames
-returns-in_err-bound-clause-blames c =
-    passed_on (Blames c.args.bytes.now 0) c.in_err-bound.field-0.0 c.from_residual-in_err-bound.result
+returns-in_err-bound-clause-blames c = passed_on (Blames c.args.bytes.now 0) c.in_err-bound.field-0.0 c.from_residual-in_err-bound.result
     (subst (Blames c.args.bytes.now 0) (sym c.in_err-bound.ensures.refuses) tt) c.from_residual-in_err-bound.ensures.1
 
 pub returns-in_err-named-clause-blames : goal.returns-in_err-named-clause-blames
-returns-in_err-named-clause-blames c =
-    passed_on (Blames c.args.bytes.now 0) c.in_err-named.field-0.0 c.from_residual-in_err-named.result
+returns-in_err-named-clause-blames c = passed_on (Blames c.args.bytes.now 0) c.in_err-named.field-0.0 c.from_residual-in_err-named.result
     (subst (Blames c.args.bytes.now 0) (sym c.in_err-named.ensures.refuses) tt) c.from_residual-in_err-named.ensures.1
 
 pub loop-rest-init : goal.loop-rest-init
@@ -54,19 +48,16 @@ loop-rest-preserved c = (
 )
 
 pub returns-in_err-rest-2-clause-refuses : goal.returns-in_err-rest-2-clause-refuses
-returns-in_err-rest-2-clause-refuses c =
-    passed_on (RefusesBindings c.args.bytes.now) c.in_err-rest-2.field-0.0 c.from_residual-in_err-rest-2.result
+returns-in_err-rest-2-clause-refuses c = passed_on (RefusesBindings c.args.bytes.now) c.in_err-rest-2.field-0.0 c.from_residual-in_err-rest-2.result
     (c.in_err-rest-2.ensures.refuses c.args.bytes.now (begins-at c.args.bytes.now c.loop-rest.rest.now c.loop-rest.count c.loop-rest.bound c.loop-rest.invariant.0) c.loop-rest.invariant.0)
     c.from_residual-in_err-rest-2.ensures.1
 
 pub returns-in_err-rest-2-clause-blames : goal.returns-in_err-rest-2-clause-blames
-returns-in_err-rest-2-clause-blames c =
-    passed_on (Blames c.args.bytes.now c.bind_front.new.count) c.in_err-rest-2.field-0.0 c.from_residual-in_err-rest-2.result
+returns-in_err-rest-2-clause-blames c = passed_on (Blames c.args.bytes.now c.bind_front.new.count) c.in_err-rest-2.field-0.0 c.from_residual-in_err-rest-2.result
     (c.in_err-rest-2.ensures.blames c.args.bytes.now c.loop-rest.invariant.0) c.from_residual-in_err-rest-2.ensures.1
 
 pub returns-in_err-rest-2-clause-size : goal.returns-in_err-rest-2-clause-size
-returns-in_err-rest-2-clause-size c =
-    passed_on (λ (d : Error). d ≡ errors.Size → OutgrowsLists c.args.bytes.now) c.in_err-rest-2.field-0.0 c.from_residual-in_err-rest-2.result
+returns-in_err-rest-2-clause-size c = passed_on (λ (d : Error). d ≡ errors.Size → OutgrowsLists c.args.bytes.now) c.in_err-rest-2.field-0.0 c.from_residual-in_err-rest-2.result
     (c.in_err-rest-2.ensures.size c.args.bytes.now c.loop-rest.invariant.0) c.from_residual-in_err-rest-2.ensures.1
 
 pub returns-clause-bound : goal.returns-clause-bound

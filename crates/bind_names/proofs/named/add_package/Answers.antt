@@ -7,10 +7,8 @@ use Rattle.bind_names.proofs.named.add_package.Goals.{then-not-contains_key+in_o
 use Rattle.bind_names.proofs.named.add_package.Goals as goal
 
 pub returns-clause-gains : goal.returns-clause-gains
-returns-clause-gains c =
-    elim c.if-not-contains_key.branch [
-      | then-not-contains_key+in_ok-copy+in_ok-insert w ↦
-          λ x.
+returns-clause-gains c = elim c.if-not-contains_key.branch [
+      | then-not-contains_key+in_ok-copy+in_ok-insert w ↦ λ x.
           let old = c.args.named.now in
           let name = c.args.name.now in
           let copy = w.in_ok-copy.copy in

@@ -6,13 +6,10 @@ use Rattle.base_lemmas.proofs.Options.{passed}
 use Rattle.callers.proofs.merged.merged_with_root.Goals as goal
 
 pub returns-in_err-other-clause-refused : goal.returns-in_err-other-clause-refused
-returns-in_err-other-clause-refused c =
-    passed (RefusesWithRoot c.args.bytes.now c.args.encoding) _ _ c.from_residual-in_err-other.ensures.1
-    (RefusesWithRoot.no_world c.in_err-other.ensures.refused)
+returns-in_err-other-clause-refused c = passed (RefusesWithRoot c.args.bytes.now c.args.encoding) _ _ c.from_residual-in_err-other.ensures.1 (RefusesWithRoot.no_world c.in_err-other.ensures.refused)
 
 pub returns-in_err-merge-clause-refused : goal.returns-in_err-merge-clause-refused
-returns-in_err-merge-clause-refused c =
-    passed (RefusesWithRoot c.args.bytes.now c.args.encoding) _ _ c.from_residual-in_err-merge.ensures.1
+returns-in_err-merge-clause-refused c = passed (RefusesWithRoot c.args.bytes.now c.args.encoding) _ _ c.from_residual-in_err-merge.ensures.1
     (RefusesWithRoot.apart _ _ c.in_ok-bound.ensures.root c.in_ok-other.ensures.binds c.in_err-merge.ensures.refusal)
 
 pub returns-clause-merged : goal.returns-clause-merged

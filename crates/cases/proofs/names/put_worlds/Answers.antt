@@ -3,6 +3,5 @@ use Rattle.wit_compat.proofs.Ranges.{has_items}
 use Rattle.cases.proofs.names.put_worlds.Goals as goal
 
 pub put_world-requires : goal.put_world-requires
-put_world-requires c =
-    has_items c.args.resolve.now c.requires c.loop-number.number c.index.result.now
+put_world-requires c = has_items c.args.resolve.now c.requires c.loop-number.number c.index.result.now
     (slice_get_read c.args.resolve.now.worlds.items _ c.loop-number.number c.index.result.now refl (search rules) c.index.ensures)

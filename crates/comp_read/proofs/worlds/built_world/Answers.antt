@@ -15,9 +15,8 @@ built-requires-clause-whole c =
     let t = numbered_tables c.args.tables.now in
     let h = homes_in c.args.packages.now c.args.homes.now in
     let all = c.deref-2.ensures.value ∙ (c.in_ok-members.ensures ∙ ap (λ (own : List Member). c.args.world ∷ own) c.deref.ensures.value) in
-    subst (λ (ms : List Member). MayBeWhole t ms) (sym all)
-    (world_may_be_whole c.args.followed.now t c.args.tables.now.facts.now h c.args.world c.args.scope c.requires.read c.requires.followed.pieces c.requires.followed.followed c.in_ok-own.own.items
-    (c.in_ok-own.ensures.own c.args.packages.now))
+    subst (λ (ms : List Member). MayBeWhole t ms) (sym all) (world_may_be_whole c.args.followed.now t c.args.tables.now.facts.now h c.args.world c.args.scope c.requires.read c.requires.followed.pieces
+    c.requires.followed.followed c.in_ok-own.own.items (c.in_ok-own.ensures.own c.args.packages.now))
 
 pub built-requires-clause-buildable : goal.built-requires-clause-buildable
 built-requires-clause-buildable c =
@@ -55,8 +54,7 @@ returns-clause-follows c = λ pieces followed.
     let mean = world_plans_mean c.args.followed.now t facts h c.args.world c.args.scope c.requires.read pieces followed own beside in
     if_ok c.built.result (λ x. IsBuiltOf t c.args.packages.now (home_at h) n c.deref-2.result.now x.0 x.1.0) (λ x. FollowsLevels (Some pieces) x.0)
     (λ x is. world_in_order c.args.followed.now t facts h c.args.world c.args.scope c.requires.read pieces followed own beside (c.in_ok-own.ensures.order c.args.packages.now) (world_of_pieces pieces)
-    mean x.0 x.1.0
-    (subst (λ (ms : List Member). IsBuiltOf t c.args.packages.now (home_at h) n ms x.0 x.1.0) all is)) c.built.ensures.built
+    mean x.0 x.1.0 (subst (λ (ms : List Member). IsBuiltOf t c.args.packages.now (home_at h) n ms x.0 x.1.0) all is)) c.built.ensures.built
 
 pub returns-clause-few : goal.returns-clause-few
 returns-clause-few c =

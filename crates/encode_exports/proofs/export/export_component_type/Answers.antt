@@ -13,7 +13,6 @@ returns-clause-more c =
     let index : c.in_ok-index.index ≡ top_slots old = search rules in
     let first : c.type_component.new.self ≡ old ++ typed ∷ [] = search rules in
     let second : c.export.new.self ≡ c.type_component.new.self ++ Part.top_export (plain_export x.0 c.in_ok-index.index) ∷ [] = search rules in
-    let is : c.export.new.self ≡ old ++ one_exported (top_slots old) x =
-    second ∙ (ap (λ ps. ps ++ Part.top_export (plain_export x.0 c.in_ok-index.index) ∷ []) first
+    let is : c.export.new.self ≡ old ++ one_exported (top_slots old) x = second ∙ (ap (λ ps. ps ++ Part.top_export (plain_export x.0 c.in_ok-index.index) ∷ []) first
     ∙ (append_assoc old (typed ∷ []) (Part.top_export (plain_export x.0 c.in_ok-index.index) ∷ []) ∙ ap (λ k. old ++ one_exported k x) index)) in
     λ types begins. one_more old c.export.new.self types x is begins

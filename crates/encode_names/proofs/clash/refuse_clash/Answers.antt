@@ -8,10 +8,7 @@ use Rattle.encode_names.proofs.clash.refuse_clash.Goals as goal
 
 pub loop-key-init : goal.loop-key-init
 unfolding IsDistinct
-loop-key-init c = record {
-  split = search rules;
-  once = subst (λ ks. IsDistinct text_eq (map text_of ks)) (sym c.new-seen.ensures.empty) tt;
-}
+loop-key-init c = record { split = search rules; once = subst (λ ks. IsDistinct text_eq (map text_of ks)) (sym c.new-seen.ensures.empty) tt }
 
 pub see-requires : goal.see-requires
 see-requires c = record { once = c.loop-key.invariant.once }

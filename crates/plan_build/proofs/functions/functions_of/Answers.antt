@@ -19,10 +19,8 @@ loop-function-preserved c =
     let v = c.in_ok-value.value in
     record {
       built = λ apart. entry_more text_eq text_eq_flip string_eq text_of (λ a b. refl) planned_function named_function es new xs i x k v c.loop-function-test.true c.function-item.is
-          c.in_ok-insert.ensures.entries
-          c.in_ok-name.ensures (texts_differ (map (λ f. f.name.now) xs) ∙ apart) (c.loop-function.invariant.built apart) c.in_ok-value.ensures.built;
+          c.in_ok-insert.ensures.entries c.in_ok-name.ensures (texts_differ (map (λ f. f.name.now) xs) ∙ apart) (c.loop-function.invariant.built apart) c.in_ok-value.ensures.built;
       bare = λ apart. all_more is_bare_function (values c.loop-function.built) (values c.insert.new.self) v (c.loop-function.invariant.bare apart) c.in_ok-value.ensures.bare
           (values_more es new k v (goes_last text_eq text_eq_flip string_eq text_of (λ a b. refl) planned_function named_function es new xs i x k v c.loop-function-test.true c.function-item.is
-          c.in_ok-insert.ensures.entries
-          c.in_ok-name.ensures (texts_differ (map (λ f. f.name.now) xs) ∙ apart) (c.loop-function.invariant.built apart)));
+          c.in_ok-insert.ensures.entries c.in_ok-name.ensures (texts_differ (map (λ f. f.name.now) xs) ∙ apart) (c.loop-function.invariant.built apart)));
     }

@@ -14,8 +14,7 @@ type_names : (i : PlannedInterface) → interface_differs (stated_interface i) �
 type_names i h = first_true (are_distinct (names_of (stated_interface i).types)) (are_distinct (names_of (stated_interface i).functions)) h
 
 functions_apart : (i : PlannedInterface) (fs : List PlannedFunction) → fs ≡ i.functions.items → interface_differs (stated_interface i) ≡ true → are_distinct (map (λ f. f.name.now) fs) ≡ true
-functions_apart i fs is h =
-    ap (λ (ys : List PlannedFunction). are_distinct (map (λ f. f.name.now) ys)) is
+functions_apart i fs is h = ap (λ (ys : List PlannedFunction). are_distinct (map (λ f. f.name.now) ys)) is
     ∙ names_apart named_function i.functions.items (second_true (are_distinct (names_of (stated_interface i).types)) (are_distinct (names_of (stated_interface i).functions)) h)
 
 pub returns-clause-built : goal.returns-clause-built
@@ -26,6 +25,5 @@ returns-clause-built c = λ h.
     λ j. record { name = c.in_ok-name.ensures j; package_ = option_map (λ id. id.0) i.package; types = types j; functions = functions j }
 
 pub returns-clause-bare : goal.returns-clause-bare
-returns-clause-bare c = λ h.
-    both (is_undocumented c.no_docs.result && true) (list_all is_bare_function (values c.in_ok-functions.functions)) (both (is_undocumented c.no_docs.result) true c.no_docs.ensures refl)
-    (c.in_ok-functions.ensures.bare (functions_apart c.args.interface.now c.deref-2.result.now c.deref-2.ensures.value h))
+returns-clause-bare c = λ h. both (is_undocumented c.no_docs.result && true) (list_all is_bare_function (values c.in_ok-functions.functions))
+    (both (is_undocumented c.no_docs.result) true c.no_docs.ensures refl) (c.in_ok-functions.ensures.bare (functions_apart c.args.interface.now c.deref-2.result.now c.deref-2.ensures.value h))

@@ -16,10 +16,8 @@ loop-entry-preserved c =
     let v = c.in_ok-item.item in
     record {
       built = λ apart. entry_more same_key same_key_flip key_test planned_key same_keys planned_item stated_entry es new xs i x k v c.loop-entry-test.true c.entry-item.is
-          c.in_ok-insert.ensures.entries
-          c.in_ok-key.ensures (entries_apart xs apart) (c.loop-entry.invariant.built apart) c.in_ok-item.ensures.built;
+          c.in_ok-insert.ensures.entries c.in_ok-key.ensures (entries_apart xs apart) (c.loop-entry.invariant.built apart) c.in_ok-item.ensures.built;
       bare = λ apart. all_more is_bare_item (values c.loop-entry.built) (values c.insert.new.self) v (c.loop-entry.invariant.bare apart) c.in_ok-item.ensures.bare
           (values_more es new k v (goes_last same_key same_key_flip key_test planned_key same_keys planned_item stated_entry es new xs i x k v c.loop-entry-test.true c.entry-item.is
-          c.in_ok-insert.ensures.entries
-          c.in_ok-key.ensures (entries_apart xs apart) (c.loop-entry.invariant.built apart)));
+          c.in_ok-insert.ensures.entries c.in_ok-key.ensures (entries_apart xs apart) (c.loop-entry.invariant.built apart)));
     }

@@ -10,13 +10,11 @@ pub all_interfaces-requires-clause-seen : goal.all_interfaces-requires-clause-se
 all_interfaces-requires-clause-seen c = subst (AreSeen (map numbered_sight c.args.sights.now)) (sym (c.deref-3.ensures.value ∙ c.in_ok-places.ensures)) c.requires.seen
 
 pub all_interfaces-requires-clause-places : goal.all_interfaces-requires-clause-places
-all_interfaces-requires-clause-places c =
-    all_below (length c.deref.result.now) c.args.sights.now c.deref-3.result.now
+all_interfaces-requires-clause-places c = all_below (length c.deref.result.now) c.args.sights.now c.deref-3.result.now
     (subst (λ (n : ℕ). AllByRecursion (λ (s : Sight). s.place < n) c.args.sights.now) (sym (ap length c.deref.ensures.value)) c.in_ok-firsts.ensures.places)
     (subst (AreSeen (map numbered_sight c.args.sights.now)) (sym (c.deref-3.ensures.value ∙ c.in_ok-places.ensures)) c.requires.seen)
 
 pub all_interfaces-requires-clause-places_too : goal.all_interfaces-requires-clause-places_too
-all_interfaces-requires-clause-places_too c =
-    all_below (length c.deref-2.result.now) c.args.sights.now c.deref-3.result.now
+all_interfaces-requires-clause-places_too c = all_below (length c.deref-2.result.now) c.args.sights.now c.deref-3.result.now
     (subst (λ (n : ℕ). AllByRecursion (λ (s : Sight). s.place < n) c.args.sights.now) (sym (ap length c.deref-2.ensures.value ∙ c.in_ok-firsts.ensures.many)) c.in_ok-firsts.ensures.places)
     (subst (AreSeen (map numbered_sight c.args.sights.now)) (sym (c.deref-3.ensures.value ∙ c.in_ok-places.ensures)) c.requires.seen)

@@ -11,9 +11,7 @@ loop-number-preserved c =
       many = c.take_list-interfaces.auto.lists ∙ c.loop-number.invariant.many;
       left = λ q h. c.take_list-interfaces.ensures.others q (omega (arith, h)) ∙ c.loop-number.invariant.left q (omega (arith, h));
       planned = one_planned c.args.packages.now c.args.main c.args.places.now.keys c.args.members.now (listed_at c.args.lists.now) c.loop-number.number c.loop-number.all.items c.push.new.self.items
-          c.in_ok-package_at.field-0 c.in_ok-push.ensures.items
-          (subst (λ es. PlansPackage c.args.packages.now c.args.main c.args.places.now.keys c.args.members.now es c.loop-number.number (stated_package c.in_ok-package_at.field-0))
-          (c.take_list-interfaces.ensures.list ∙ c.loop-number.invariant.left c.loop-number.number itself)
-          c.in_ok-package_at.ensures)
+          c.in_ok-package_at.field-0 c.in_ok-push.ensures.items (subst (λ es. PlansPackage c.args.packages.now c.args.main c.args.places.now.keys c.args.members.now es c.loop-number.number
+          (stated_package c.in_ok-package_at.field-0)) (c.take_list-interfaces.ensures.list ∙ c.loop-number.invariant.left c.loop-number.number itself) c.in_ok-package_at.ensures)
           c.loop-number.invariant.planned;
     }

@@ -8,6 +8,5 @@ pub by_number-requires : goal.by_number-requires
 by_number-requires c = subst (AllByRecursion (IsPlaced c.args.places.now.keys)) (sym (ap (map labelled_place) c.deref.ensures.value ∙ c.in_ok-interfaces.ensures)) c.requires
 
 pub returns : goal.returns
-returns c =
-    subst (λ (xs : List (Text × ℕ)). IfOk c.by_number.result (λ all. AllZip (ListsPlace c.args.places.now.keys) xs (map numbered_interface all.items)))
+returns c = subst (λ (xs : List (Text × ℕ)). IfOk c.by_number.result (λ all. AllZip (ListsPlace c.args.places.now.keys) xs (map numbered_interface all.items)))
     (ap (map labelled_place) c.deref.ensures.value ∙ c.in_ok-interfaces.ensures) c.by_number.ensures

@@ -6,10 +6,7 @@ use Rattle.plan_package.proofs.PackageLaws.{all_listed, one_listed}
 use Rattle.plan_package.proofs.packages.list_interfaces.Goals as goal
 
 pub loop-number-init : goal.loop-number-init
-loop-number-init c = record {
-  many = refl;
-  listed = λ q h. ap (λ l. l ++ entries_from (home_at (homes_alone c.args.homes.now)) q 0 c.args.places.now) (c.requires q);
-}
+loop-number-init c = record { many = refl; listed = λ q h. ap (λ l. l ++ entries_from (home_at (homes_alone c.args.homes.now)) q 0 c.args.places.now) (c.requires q) }
 
 pub loop-number-preserved : goal.loop-number-preserved
 loop-number-preserved c = record {

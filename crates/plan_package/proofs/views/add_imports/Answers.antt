@@ -5,10 +5,8 @@ use Rattle.plan_package.specs.Views.{types_alone}
 use Rattle.plan_package.proofs.views.add_imports.Goals as goal
 
 pub loop-import-preserved : goal.loop-import-preserved
-loop-import-preserved c =
-    one_mapped numbered_import types_alone c.args.imports.now c.loop-import.import-index (map numbered_sight c.loop-import.views.items) c.loop-import.invariant _ c.loop-import-test.true numbered_sight
-    c.loop-import.views.items _ c.push.new.self.items refl refl
-    c.in_ok-push.ensures.items
+loop-import-preserved c = one_mapped numbered_import types_alone c.args.imports.now c.loop-import.import-index (map numbered_sight c.loop-import.views.items) c.loop-import.invariant _
+    c.loop-import-test.true numbered_sight c.loop-import.views.items _ c.push.new.self.items refl refl c.in_ok-push.ensures.items
 
 pub returns : goal.returns
 returns c = all_mapped numbered_import types_alone c.args.imports.now c.loop-import.import-index (map numbered_sight c.loop-import.views.items) c.loop-import.invariant c.loop-import-test.false

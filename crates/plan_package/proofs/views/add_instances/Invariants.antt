@@ -5,6 +5,5 @@ use Rattle.plan_package.proofs.views.add_instances.Given as goal
 
 -- those that were added, and those that are left, are all
 abbrev pub invariant-loop-instance : goal.invariant-loop-instance
-invariant-loop-instance l =
-    map numbered_sight l.views.items ++ map whole_view (drop l.instance-index (map numbered_instance l.instances)) ≡ map numbered_sight l.initial.views.items ++ map whole_view
+invariant-loop-instance l = map numbered_sight l.views.items ++ map whole_view (drop l.instance-index (map numbered_instance l.instances)) ≡ map numbered_sight l.initial.views.items ++ map whole_view
     (map numbered_instance l.instances)

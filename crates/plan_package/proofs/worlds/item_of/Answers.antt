@@ -14,9 +14,8 @@ pub instance_of-requires : goal.instance_of-requires
 instance_of-requires c = subst (ShownIsPlaced c.args.places.now.keys) c.in-Instance.is c.requires.placed
 
 pub returns-in-Instance : goal.returns-in-Instance
-returns-in-Instance c =
-    instance_planned (numbered_tables c.args.tables.now) c.args.kept.now c.args.places.now.keys (found_under c.args.resources.now.entries) c.args.seen c.instance_of.result c.in-Instance.key
-    c.in-Instance.field-1 c.in-Instance.is c.instance_of.ensures
+returns-in-Instance c = instance_planned (numbered_tables c.args.tables.now) c.args.kept.now c.args.places.now.keys (found_under c.args.resources.now.entries) c.args.seen c.instance_of.result
+    c.in-Instance.key c.in-Instance.field-1 c.in-Instance.is c.instance_of.ensures
 
 pub returns-in_ok-item-in-Function : goal.returns-in_ok-item-in-Function
 returns-in_ok-item-in-Function c = a_function c.in-Function.number c.in-Function.is refl c.in_ok-item-in-Function.ensures

@@ -13,7 +13,5 @@ pub item_of-requires-clause-placed : goal.item_of-requires-clause-placed
 item_of-requires-clause-placed c = each_at (SeenIsPlaced c.args.places.now.keys) c.args.all_seen.now c.loop-seen.seen-index _ c.loop-seen-test.true c.requires.placed
 
 pub loop-seen-preserved : goal.loop-seen-preserved
-loop-seen-preserved c =
-    zip_more (PlansItem (numbered_tables c.args.tables.now) c.args.kept.now c.args.places.now.keys (found_under c.args.resources.now.entries)) stated_entry c.args.all_seen.now c.loop-seen.seen-index _
-    c.loop-seen-test.true c.loop-seen.items.items
-    c.push.new.self.items _ c.in_ok-push.ensures.items c.in_ok-item_of.ensures c.loop-seen.invariant
+loop-seen-preserved c = zip_more (PlansItem (numbered_tables c.args.tables.now) c.args.kept.now c.args.places.now.keys (found_under c.args.resources.now.entries)) stated_entry c.args.all_seen.now
+    c.loop-seen.seen-index _ c.loop-seen-test.true c.loop-seen.items.items c.push.new.self.items _ c.in_ok-push.ensures.items c.in_ok-item_of.ensures c.loop-seen.invariant

@@ -10,7 +10,5 @@ returns-then-same_in_order c =
     sym (told_in_order (map numbered_function c.args.first.now) (map numbered_function c.args.functions.now) many (sym c.same_in_order.ensures ∙ c.if-same_in_order.true))
 
 pub returns : goal.returns
-returns c =
-    c.are_told.ensures
-    ∙ same_told_functions (map told_function c.in_ok-all.all.keys) (map numbered_function c.args.first.now) (map numbered_function c.args.functions.now) c.in_ok-all.ensures
+returns c = c.are_told.ensures ∙ same_told_functions (map told_function c.in_ok-all.all.keys) (map numbered_function c.args.first.now) (map numbered_function c.args.functions.now) c.in_ok-all.ensures
     (as_many numbered_function c.args.first.now c.args.functions.now c.if-first-functions.false)

@@ -7,8 +7,7 @@ use Rattle.plan_parts.proofs.InterfaceLaws.{is_planned, mapped_at, zip_next}
 use Rattle.plan_parts.proofs.interfaces.functions_of.Goals as goal
 
 pub function_of-requires : goal.function_of-requires
-function_of-requires c =
-    subst (λ (f : FunctionShape). PartsOf (IsKeptPart c.args.kept.now) f) (sym c.function_at-shape.ensures)
+function_of-requires c = subst (λ (f : FunctionShape). PartsOf (IsKeptPart c.args.kept.now) f) (sym c.function_at-shape.ensures)
     (mapped_at (IsFunctionOver (numbered_tables c.args.tables.now) c.args.kept.now) numbered_function c.args.functions.now c.loop-function.function-index _ c.loop-function-test.true c.requires)
 
 pub loop-function-preserved : goal.loop-function-preserved

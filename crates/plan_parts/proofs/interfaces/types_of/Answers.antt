@@ -11,8 +11,7 @@ number-id-requires-clause-type_ c =
     subst (λ (k : ℕ). 14 ≤ k) (sym c.slot_part.ensures) (mapped_at (IsKeptSlot c.args.kept.now) numbered_type c.args.types.now c.loop-ty.ty-index _ c.loop-ty-test.true c.requires).0
 
 pub number-id-requires-clause-kept : goal.number-id-requires-clause-kept
-number-id-requires-clause-kept c =
-    subst (λ (k : ℕ). IsKeptPart c.args.kept.now k) (sym c.slot_part.ensures)
+number-id-requires-clause-kept c = subst (λ (k : ℕ). IsKeptPart c.args.kept.now k) (sym c.slot_part.ensures)
     (mapped_at (IsKeptSlot c.args.kept.now) numbered_type c.args.types.now c.loop-ty.ty-index _ c.loop-ty-test.true c.requires).1
 
 pub loop-ty-preserved : goal.loop-ty-preserved
@@ -22,6 +21,5 @@ loop-ty-preserved c =
       types = zip_next (ListsType c.args.kept.now) numbered_type stated_number c.args.types.now c.loop-ty.ty-index _ c.loop-ty.planned.items c.push.new.self.items _ c.loop-ty-test.true
           c.in_ok-push.ensures.items (refl, is) c.loop-ty.invariant.types;
       resources = resources_next c.args.kept.now numbered_type c.args.types.now c.loop-ty.ty-index _ (found_under c.loop-ty.resources.entries) (found_under c.note_resource.new.resources.entries)
-          c.number-id.result c.loop-ty-test.true is c.in_ok-note_resource.ensures
-          c.loop-ty.invariant.resources;
+          c.number-id.result c.loop-ty-test.true is c.in_ok-note_resource.ensures c.loop-ty.invariant.resources;
     }

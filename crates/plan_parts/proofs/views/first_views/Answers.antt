@@ -9,7 +9,6 @@ returns-clause-told c seen same =
     let v = c.in_ok-table.table in
     let rest = drop (length new) v.items in
     let long : length new ≡ v.len = omega arith in
-    tells_first c.args.wholes c.args.places seen c.args.sights.now (take v.len (new ++ rest)) same
-    (λ p few.
+    tells_first c.args.wholes c.args.places seen c.args.sights.now (take v.len (new ++ rest)) same (λ p few.
     let room : p < length c.deref_mut.result.now = omega (arith, few, ap length c.deref_mut.ensures.value, c.in_ok-table.ensures.len) in
     ap (λ (ts : List (Option ℕ)). get_or ts p None) (take_at new rest v.len long) ∙ c.note_views.ensures p room)

@@ -7,8 +7,7 @@ use Rattle.plan_types.proofs.orders.homes_of_members.Goals as goal
 use Rattle.base_lemmas.proofs.Lists.{flat_mapped}
 
 pub loop-member-init : goal.loop-member-init
-loop-member-init c =
-    ap (λ ks. joined_all ks (flat_map (λ m. home_of_part (numbered_part m.part)) c.args.members.now)) c.new-homes.ensures.empty ∙ ap (joined_all [])
+loop-member-init c = ap (λ ks. joined_all ks (flat_map (λ m. home_of_part (numbered_part m.part)) c.args.members.now)) c.new-homes.ensures.empty ∙ ap (joined_all [])
     (flat_mapped (λ m. home_of_part m.part) numbered_member c.args.members.now)
 
 pub loop-member-preserved : goal.loop-member-preserved

@@ -7,5 +7,4 @@ use Rattle.plan_types.proofs.types.planned_types.Given as goal
 
 -- so many types
 abbrev pub invariant-loop-number : goal.invariant-loop-number
-invariant-loop-number l =
-    AllZip (PlansType (numbered_tables l.tables) l.kept (showing_at l.first) (owner_in l.places.keys l.homes.keys)) (take l.number-index l.kept) (map stated_type l.types.items)
+invariant-loop-number l = AllZip (PlansType (numbered_tables l.tables) l.kept (showing_at l.first) (owner_in l.places.keys l.homes.keys)) (take l.number-index l.kept) (map stated_type l.types.items)

@@ -6,6 +6,5 @@ use Rattle.print_calls.proofs.Rendered.{list-renders}
 use Rattle.print_calls.proofs.laws.listed_packages_read.Goals as goal
 
 pub returns : goal.returns
-returns c = λ emits_docs r main nested can list moved.
-    subst (λ (text : List ℕ). IsOnlyReading text (file_as_read (shown_file r main nested))) (sym (list-renders (file_calls emits_docs (shown_file r main nested)) list moved))
-    (packages_read emits_docs r main nested can.valid can.in_range can.nested_)
+returns c = λ emits_docs r main nested can list moved. subst (λ (text : List ℕ). IsOnlyReading text (file_as_read (shown_file r main nested)))
+    (sym (list-renders (file_calls emits_docs (shown_file r main nested)) list moved)) (packages_read emits_docs r main nested can.valid can.in_range can.nested_)

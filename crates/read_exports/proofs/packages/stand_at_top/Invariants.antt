@@ -6,6 +6,5 @@ use Rattle.read_exports.proofs.packages.stand_at_top.Given as goal
 
 -- those that are left decide
 abbrev pub invariant-loop-sight : goal.invariant-loop-sight
-invariant-loop-sight l =
-    list_all (λ s. stands_among (homes_alone l.homes) l.package_number l.places.keys (numbered_sight s)) (drop l.sight-index l.sights)
+invariant-loop-sight l = list_all (λ s. stands_among (homes_alone l.homes) l.package_number l.places.keys (numbered_sight s)) (drop l.sight-index l.sights)
     ≡ list_all (stands_among (homes_alone l.homes) l.package_number l.places.keys) (map numbered_sight l.sights)

@@ -7,6 +7,5 @@ use Rattle.read_exports.proofs.places.places_of.Goals as goal
 use Rattle.base_lemmas.proofs.Elements.{any_of_map as any_mapped}
 
 pub loop-member-init : goal.loop-member-init
-loop-member-init c = λ p.
-    ap (λ ks. has ks p || list_any (λ m. is_interface_of p (numbered_part m.part)) c.args.members.now) c.new-places.ensures.empty ∙ sym
-    (any_mapped (λ m. is_interface_of p m.part) numbered_member c.args.members.now)
+loop-member-init c = λ p. ap (λ ks. has ks p || list_any (λ m. is_interface_of p (numbered_part m.part)) c.args.members.now) c.new-places.ensures.empty
+    ∙ sym (any_mapped (λ m. is_interface_of p m.part) numbered_member c.args.members.now)

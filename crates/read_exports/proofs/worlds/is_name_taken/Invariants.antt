@@ -7,6 +7,5 @@ use Rattle.read_exports.proofs.worlds.is_name_taken.Given as goal
 
 -- those that are left decide
 abbrev pub invariant-loop-sight : goal.invariant-loop-sight
-invariant-loop-sight l =
-    list_any (λ s. is_named_in (homes_alone l.homes) l.package_number l.name s.place) (drop l.sight-index l.sights)
+invariant-loop-sight l = list_any (λ s. is_named_in (homes_alone l.homes) l.package_number l.name s.place) (drop l.sight-index l.sights)
     ≡ list_any (λ s. is_named_in (homes_alone l.homes) l.package_number l.name s.place) (map numbered_sight l.sights)

@@ -13,6 +13,5 @@ pub returns-clause-joins : goal.returns-clause-joins
 returns-clause-joins c = joins c.args.packages.now.keys c.insert_full.new.self.keys c.args.texts _ refl c.in_ok-number.ensures.keys
 
 pub returns-clause-packages : goal.returns-clause-packages
-returns-clause-packages c =
-    joined_packages (map identity_of c.args.packages.now.keys) (identity_of c.args.texts) c.requires.packages c.requires.read (map identity_of c.insert_full.new.self.keys)
+returns-clause-packages c = joined_packages (map identity_of c.args.packages.now.keys) (identity_of c.args.texts) c.requires.packages c.requires.read (map identity_of c.insert_full.new.self.keys)
     (joins c.args.packages.now.keys c.insert_full.new.self.keys c.args.texts _ refl c.in_ok-number.ensures.keys)

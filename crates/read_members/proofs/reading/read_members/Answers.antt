@@ -10,10 +10,8 @@ use Rattle.read_members.proofs.ReadLaws.{alike_at, at_index, because, more_for, 
 use Rattle.read_members.proofs.reading.read_members.Goals as goal
 
 pub read_one-requires : goal.read_one-requires
-read_one-requires c =
-    alike_at shown_owned (shown_of_member (numbered_tables c.args.tables.now).paths) c.args.scopes.now c.args.members.now c.requires c.loop-number.number _ c.index-scopes-number.result _
-    c.index-members-number.result
-    c.loop-number-test.true c.index-scopes-number.is c.index-members-number.is
+read_one-requires c = alike_at shown_owned (shown_of_member (numbered_tables c.args.tables.now).paths) c.args.scopes.now c.args.members.now c.requires c.loop-number.number _
+    c.index-scopes-number.result _ c.index-members-number.result c.loop-number-test.true c.index-scopes-number.is c.index-members-number.is
 
 pub returns-in-Err-clause-absent : goal.returns-in-Err-clause-absent
 returns-in-Err-clause-absent c =
@@ -35,8 +33,7 @@ loop-number-preserved c =
     let before = c.loop-number.invariant in
     let is = c.in-Ok.ensures in
     record {
-      read =
-          one_more t known (map given_home c.args.homes.now) old new is.grows c.args.members.now c.loop-number.number _ c.loop-number-test.true c.loop-number.all.items c.in-Ok.read
+      read = one_more t known (map given_home c.args.homes.now) old new is.grows c.args.members.now c.loop-number.number _ c.loop-number-test.true c.loop-number.all.items c.in-Ok.read
           c.push.new.self.items c.in_ok-push-in-Ok.ensures.items before.read
           (subst (λ (x : FollowedMember). IsMemberRead t known (homes_in new c.args.homes.now) x (read_member c.in-Ok.read)) c.index-members-number.is is.read);
       grows = grows_on first old new before.grows is.grows;

@@ -5,7 +5,4 @@ use Rattle.read_numbers.specs.Facts.{followed_fact}
 use Rattle.read_numbers.proofs.facts.facts_of.Given as goal
 
 abbrev pub invariant-loop-number : goal.invariant-loop-number
-invariant-loop-number l = record {
-  many : length l.facts.items ≡ l.number;
-  tell : FactsHold (map followed_fact l.facts.items) (λ place. shape_trees place l.table);
-}
+invariant-loop-number l = record { many : length l.facts.items ≡ l.number; tell : FactsHold (map followed_fact l.facts.items) (λ place. shape_trees place l.table) }

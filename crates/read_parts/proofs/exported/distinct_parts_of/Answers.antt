@@ -9,8 +9,7 @@ use Rattle.read_parts.proofs.TopLaws.{distinct_is}
 use Rattle.read_parts.proofs.exported.distinct_parts_of.Goals as goal
 
 pub returns-then-branch-clause-found : goal.returns-then-branch-clause-found
-returns-then-branch-clause-found c =
-    subst (λ (found : Option (List (Text × PartType))). Gives (λ v. map raw_exported v.items) c.parts_of.result found)
+returns-then-branch-clause-found c = subst (λ (found : Option (List (Text × PartType))). Gives (λ v. map raw_exported v.items) c.parts_of.result found)
     (ap (λ (xs : List Exported). each (part_under (top_of c.args.tops.now).types) (map label_and_number xs)) c.deref-then-branch.ensures.value
     ∙ sym (distinct_is c.args.tops.now c.deref.result.now c.in_ok-are_distinct.field-0 true c.deref.ensures.value c.in_ok-are_distinct.ensures c.if-branch.true)) c.parts_of.ensures.found
 

@@ -16,8 +16,7 @@ loop-export-preserved c =
     let rest = each f (map label_and_number (drop (c.loop-export.export-index + 1) all)) in
     record {
       whole = rw c.in_ok-push-in-Ok.ensures.items (all_end (λ (x : ExportedPart). IsWholePart x.part) items c.in-Ok.part c.loop-export.invariant.whole c.in-Ok.ensures.whole);
-      kept =
-          ap (λ (xs : List ExportedPart). with_front (map raw_exported xs) rest) c.in_ok-push-in-Ok.ensures.items
+      kept = ap (λ (xs : List ExportedPart). with_front (map raw_exported xs) rest) c.in_ok-push-in-Ok.ensures.items
           ∙ (ap (λ ys. with_front ys rest) (map-append raw_exported items (c.in-Ok.part ∷ []))
           ∙ each_more f label_and_number all c.loop-export.export-index (map raw_exported items) (each f (map label_and_number all)) c.loop-export.invariant.kept _ c.loop-export-test.true
           (raw_exported c.in-Ok.part) c.in-Ok.ensures.found);

@@ -28,8 +28,7 @@ returns-in-Ok-follow_component-clause-followed c =
       met = s.met;
       order = s.order;
       stages = s.stages;
-      shows = λ place of.
-          ap (λ (o : Option Text). o >>= λ path. entry_scope es >>= λ scope. Some (world path scope)) c.in-Ok.ensures
+      shows = λ place of. ap (λ (o : Option Text). o >>= λ path. entry_scope es >>= λ scope. Some (world path scope)) c.in-Ok.ensures
           ∙ ap (λ (o : Option MeantScope). o >>= λ scope. Some (world (text_of c.in-Ok.path) scope)) (s.shows place of);
     })
 

@@ -10,13 +10,11 @@ pub push_export-requires : goal.push_export-requires
 push_export-requires c = not_exported c.args.tops.now c.requires c.args.export c.in-Ok.number c.in-Ok.ensures
 
 pub returns-in-Ok-clause-tops : goal.returns-in-Ok-clause-tops
-returns-in-Ok-clause-tops c =
-    on_ok (IsExportAdded c.args.tops.now c.push_export.new.tops c.args.export.name.text c.in-Ok.number) (AreTops c.push_export.new.tops) c.push_export.result
+returns-in-Ok-clause-tops c = on_ok (IsExportAdded c.args.tops.now c.push_export.new.tops c.args.export.name.text c.in-Ok.number) (AreTops c.push_export.new.tops) c.push_export.result
     (λ added. tops_with_export c.args.tops.now c.requires c.args.export c.push_export.new.tops c.in-Ok.number added) c.push_export.ensures.added
 
 pub returns-in-Ok-clause-added : goal.returns-in-Ok-clause-added
-returns-in-Ok-clause-added c =
-    on_ok (IsExportAdded c.args.tops.now c.push_export.new.tops c.args.export.name.text c.in-Ok.number)
+returns-in-Ok-clause-added c = on_ok (IsExportAdded c.args.tops.now c.push_export.new.tops c.args.export.name.text c.in-Ok.number)
     (top_export (top_of c.args.tops.now) (raw_export c.args.export) ≡ Some (top_of c.push_export.new.tops)) c.push_export.result
     (λ added. export_added c.args.tops.now c.requires c.args.export c.push_export.new.tops c.in-Ok.number added c.in-Ok.ensures) c.push_export.ensures.added
 

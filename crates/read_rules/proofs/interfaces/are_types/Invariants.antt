@@ -6,6 +6,5 @@ use Rattle.read_rules.proofs.interfaces.are_types.Given as goal
 
 -- those that are left decide
 abbrev pub invariant-loop-ty : goal.invariant-loop-ty
-invariant-loop-ty l =
-    list_all (λ x. is_type (numbered_tables l.tables) (known_in l.tables) l.place (numbered_type x)) (drop l.ty-index l.types)
+invariant-loop-ty l = list_all (λ x. is_type (numbered_tables l.tables) (known_in l.tables) l.place (numbered_type x)) (drop l.ty-index l.types)
     ≡ list_all (is_type (numbered_tables l.tables) (known_in l.tables) l.place) (map numbered_type l.types)

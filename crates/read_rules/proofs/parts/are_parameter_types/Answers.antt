@@ -5,7 +5,5 @@ use Rattle.read_rules.specs.Tables.{known_in, param_of}
 use Rattle.read_rules.proofs.parts.are_parameter_types.Goals as goal
 
 pub returns : goal.returns
-returns c =
-    all_from_yields_List (λ x. is_parameter_type c.args.place (known_in c.args.tables.now x.1)) _ _ c.all.result c.all.ensures.ran (YieldsList-from_slice c.args.params.now c.iter.ensures.rest)
-    (λ x b q k. search (rules, tests))
-    ∙ sym (list_all-map (λ x. is_parameter_type c.args.place (known_in c.args.tables.now x.1)) param_of c.args.params.now)
+returns c = all_from_yields_List (λ x. is_parameter_type c.args.place (known_in c.args.tables.now x.1)) _ _ c.all.result c.all.ensures.ran (YieldsList-from_slice c.args.params.now c.iter.ensures.rest)
+    (λ x b q k. search (rules, tests)) ∙ sym (list_all-map (λ x. is_parameter_type c.args.place (known_in c.args.tables.now x.1)) param_of c.args.params.now)

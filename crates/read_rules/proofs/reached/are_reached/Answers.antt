@@ -25,8 +25,7 @@ back-preserved c =
     let some : 0 < c.back.left = c.back-test.true in
     let next : c.back.left ≡ (c.back.left - 1) + 1 = omega arith in
     let more : c.back.left - 1 < length c.args.imports.now = omega (arith, c.back.invariant.within) in
-    let turn =
-    import_reached (numbered_tables c.args.tables.now) (numbered_view c.args.exported) c.args.imports.now (c.back.left - 1) c.back.left next _ more c.back.used.keys c.back.invariant.used
+    let turn = import_reached (numbered_tables c.args.tables.now) (numbered_view c.args.exported) c.args.imports.now (c.back.left - 1) c.back.left next _ more c.back.used.keys c.back.invariant.used
     c.back.invariant.reached (sym c.if-not-is_reached.ensures)
     c.add_import.new.used.keys c.in_ok-add_import.ensures in
     record { within = omega (arith, more); used = turn.0; reached = turn.1 }

@@ -7,6 +7,5 @@ use Rattle.read_rules.proofs.resources.resources_of.Given as goal
 
 -- those that were seen and those that are left are all
 abbrev pub invariant-loop-ty : goal.invariant-loop-ty
-invariant-loop-ty l =
-    (test : Text → Bool) → (list_any test (map now_of l.resources.keys) || list_any test (resources_of (map numbered_type (drop l.ty-index l.types)))) ≡ list_any test
+invariant-loop-ty l = (test : Text → Bool) → (list_any test (map now_of l.resources.keys) || list_any test (resources_of (map numbered_type (drop l.ty-index l.types)))) ≡ list_any test
     (resources_of (map numbered_type l.types))

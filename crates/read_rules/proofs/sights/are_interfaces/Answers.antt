@@ -7,13 +7,11 @@ pub loop-sight-init : goal.loop-sight-init
 loop-sight-init c = sym (list_all-map (shows_interface c.args.tables.now) numbered_sight c.args.sights.now)
 
 pub returns-then-not-branch : goal.returns-then-not-branch
-returns-then-not-branch c =
-    one_fails (λ s. shows_interface c.args.tables.now (numbered_sight s)) c.args.sights.now c.loop-sight.sight-index c.loop-sight.invariant _ c.loop-sight-test.true
+returns-then-not-branch c = one_fails (λ s. shows_interface c.args.tables.now (numbered_sight s)) c.args.sights.now c.loop-sight.sight-index c.loop-sight.invariant _ c.loop-sight-test.true
     (sym c.in_ok-shows_interface.ensures ∙ c.if-not-branch.true)
 
 pub loop-sight-preserved : goal.loop-sight-preserved
-loop-sight-preserved c =
-    one_passes (λ s. shows_interface c.args.tables.now (numbered_sight s)) c.args.sights.now c.loop-sight.sight-index c.loop-sight.invariant _ c.loop-sight-test.true
+loop-sight-preserved c = one_passes (λ s. shows_interface c.args.tables.now (numbered_sight s)) c.args.sights.now c.loop-sight.sight-index c.loop-sight.invariant _ c.loop-sight-test.true
     (sym c.in_ok-shows_interface.ensures ∙ c.if-not-branch.false)
 
 pub returns : goal.returns

@@ -6,6 +6,5 @@ use Rattle.read_rules.proofs.sights.are_interfaces.Given as goal
 
 -- those that are left decide
 abbrev pub invariant-loop-sight : goal.invariant-loop-sight
-invariant-loop-sight l =
-    list_all (λ s. shows_interface l.tables (numbered_sight s)) (drop l.sight-index l.sights)
+invariant-loop-sight l = list_all (λ s. shows_interface l.tables (numbered_sight s)) (drop l.sight-index l.sights)
     ≡ are_interfaces (numbered_tables l.tables) (known_in l.tables) (map numbered_sight l.sights)

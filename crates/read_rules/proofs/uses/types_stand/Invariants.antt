@@ -7,6 +7,5 @@ use Rattle.read_rules.proofs.uses.types_stand.Given as goal
 
 -- those that are left decide
 abbrev pub invariant-loop-ty : goal.invariant-loop-ty
-invariant-loop-ty l =
-    list_all (λ x. list_all (has l.earlier.keys) (others_than l.own (used_by (numbered_tables l.tables) x.declared))) (drop l.ty-index l.types)
+invariant-loop-ty l = list_all (λ x. list_all (has l.earlier.keys) (others_than l.own (used_by (numbered_tables l.tables) x.declared))) (drop l.ty-index l.types)
     ≡ list_all (λ x. list_all (has l.earlier.keys) (others_than l.own (used_by (numbered_tables l.tables) x.declared))) l.types

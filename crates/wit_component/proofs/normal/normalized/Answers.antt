@@ -16,8 +16,7 @@ returns-in_err-bytes-clause-refuses c = λ p is.
     let r = c.args.resolve.now in
     let n = c.args.package.0 in
     let e = c.in_err-bytes.field-0.0 in
-    passed_on (RefusesReadBack p) e c.from_residual.result
-    (refused_encoding p e (memory_or_size r c.requires.valid n p is e (c.in_err-bytes.ensures.refuses p is)))
+    passed_on (RefusesReadBack p) e c.from_residual.result (refused_encoding p e (memory_or_size r c.requires.valid n p is e (c.in_err-bytes.ensures.refuses p is)))
     c.from_residual.ensures.1
 
 pub returns-clause-read_back : goal.returns-clause-read_back
@@ -27,8 +26,7 @@ returns-clause-read_back c =
     let own = stands r.packages.items n c.requires.in_range in
     let bytes = c.deref.result.now in
     IfOk-weaker c.decode.result (λ x. IsDecoded bytes x.0 x.1.0) (λ x. IsReadBack r n x.0 x.1.0)
-    (λ x decoded. read_back r n own.0 bytes own.1
-    (λ some. subst (λ (bs : List ℕ). MeansPackage r n bs) (sym c.deref.ensures.value) (c.in_ok-bytes.ensures.means own.0 own.1 some))
+    (λ x decoded. read_back r n own.0 bytes own.1 (λ some. subst (λ (bs : List ℕ). MeansPackage r n bs) (sym c.deref.ensures.value) (c.in_ok-bytes.ensures.means own.0 own.1 some))
     (λ none. c.deref.ensures.value ∙ c.in_ok-bytes.ensures.empty own.0 own.1 none)
     x.0 x.1.0 decoded)
     c.decode.ensures.decoded
@@ -37,8 +35,7 @@ pub returns-clause-read_of : goal.returns-clause-read_of
 returns-clause-read_of c =
     let r = c.args.resolve.now in
     let n = c.args.package.0 in
-    read_of r n c.deref.result.now c.decode.result
-    (subst (λ (bs : List ℕ). SpellsPackageAt r false n bs) (sym c.deref.ensures.value) c.in_ok-bytes.ensures.holds)
+    read_of r n c.deref.result.now c.decode.result (subst (λ (bs : List ℕ). SpellsPackageAt r false n bs) (sym c.deref.ensures.value) c.in_ok-bytes.ensures.holds)
     c.decode.ensures.decoded c.decode.ensures.order
 
 pub returns-clause-size : goal.returns-clause-size
@@ -50,6 +47,5 @@ returns-clause-refuses c = λ p is.
     let n = c.args.package.0 in
     let bytes = c.deref.result.now in
     IfErr-weaker c.decode.result (RefusesBytes bytes) (RefusesReadBack p)
-    (refused_decoding r n p bytes is
-    (λ some. subst (λ (bs : List ℕ). MeansPackage r n bs) (sym c.deref.ensures.value) (c.in_ok-bytes.ensures.means p is some)))
+    (refused_decoding r n p bytes is (λ some. subst (λ (bs : List ℕ). MeansPackage r n bs) (sym c.deref.ensures.value) (c.in_ok-bytes.ensures.means p is some)))
     c.decode.ensures.refuses

@@ -17,8 +17,7 @@ encode_record-requires c = λ _. (
   (refl, tt),
   record {
     encodable = encodes c.args.resolve.now _ (flat_view c.args.table.now) c.requires.table c.requires.met _ (subst (AllInRange c.args.resolve.now) (ap parts_of c.in-Record.is) c.requires.in_range);
-    formed =
-        formed-as c.args.resolve.now _ _ _ c.in-Record.is refl c.requires.formed;
+    formed = formed-as c.args.resolve.now _ _ _ c.in-Record.is refl c.requires.formed;
     agree = c.requires.table.agree;
   },
 )
@@ -28,8 +27,7 @@ encode_tuple-requires c = λ _. (
   (refl, tt),
   record {
     encodable = encodes c.args.resolve.now _ (flat_view c.args.table.now) c.requires.table c.requires.met _ (subst (AllInRange c.args.resolve.now) (ap parts_of c.in-Tuple.is) c.requires.in_range);
-    formed =
-        formed-as c.args.resolve.now _ _ _ c.in-Tuple.is refl c.requires.formed;
+    formed = formed-as c.args.resolve.now _ _ _ c.in-Tuple.is refl c.requires.formed;
     agree = c.requires.table.agree;
   },
 )
@@ -39,8 +37,7 @@ encode_variant-requires c = λ _. (
   (refl, tt),
   record {
     encodable = encodes c.args.resolve.now _ (flat_view c.args.table.now) c.requires.table c.requires.met _ (subst (AllInRange c.args.resolve.now) (ap parts_of c.in-Variant.is) c.requires.in_range);
-    formed =
-        formed-as c.args.resolve.now _ _ _ c.in-Variant.is refl c.requires.formed;
+    formed = formed-as c.args.resolve.now _ _ _ c.in-Variant.is refl c.requires.formed;
     agree = c.requires.table.agree;
   },
 )
@@ -50,8 +47,7 @@ encode_option-requires c = λ _. (
   (refl, tt),
   record {
     encodable = encodes c.args.resolve.now _ (flat_view c.args.table.now) c.requires.table c.requires.met _ (subst (AllInRange c.args.resolve.now) (ap parts_of c.in-Option.is) c.requires.in_range);
-    formed =
-        formed-as c.args.resolve.now _ _ _ c.in-Option.is refl c.requires.formed;
+    formed = formed-as c.args.resolve.now _ _ _ c.in-Option.is refl c.requires.formed;
     agree = c.requires.table.agree;
   },
 )
@@ -61,8 +57,7 @@ encode_result-requires c = λ _. (
   (refl, tt),
   record {
     encodable = encodes c.args.resolve.now _ (flat_view c.args.table.now) c.requires.table c.requires.met _ (subst (AllInRange c.args.resolve.now) (ap parts_of c.in-Result.is) c.requires.in_range);
-    formed =
-        formed-as c.args.resolve.now _ _ _ c.in-Result.is refl c.requires.formed;
+    formed = formed-as c.args.resolve.now _ _ _ c.in-Result.is refl c.requires.formed;
     agree = c.requires.table.agree;
   },
 )
@@ -72,8 +67,7 @@ encode_future-requires c = λ _. (
   (refl, tt),
   record {
     encodable = encodes c.args.resolve.now _ (flat_view c.args.table.now) c.requires.table c.requires.met _ (subst (AllInRange c.args.resolve.now) (ap parts_of c.in-Future.is) c.requires.in_range);
-    formed =
-        formed-as c.args.resolve.now _ _ _ c.in-Future.is refl c.requires.formed;
+    formed = formed-as c.args.resolve.now _ _ _ c.in-Future.is refl c.requires.formed;
     agree = c.requires.table.agree;
   },
 )
@@ -83,8 +77,7 @@ encode_stream-requires c = λ _. (
   (refl, tt),
   record {
     encodable = encodes c.args.resolve.now _ (flat_view c.args.table.now) c.requires.table c.requires.met _ (subst (AllInRange c.args.resolve.now) (ap parts_of c.in-Stream.is) c.requires.in_range);
-    formed =
-        formed-as c.args.resolve.now _ _ _ c.in-Stream.is refl c.requires.formed;
+    formed = formed-as c.args.resolve.now _ _ _ c.in-Stream.is refl c.requires.formed;
     agree = c.requires.table.agree;
   },
 )

@@ -5,8 +5,7 @@ use Rattle.wit_metadata.proofs.modules.stripped.Goals as goal
 use Rattle.base_lemmas.proofs.Lists.{some_left as some-left}
 
 pub loop-rest-init : goal.loop-rest-init
-loop-rest-init c =
-    nothing-read c.args.bytes.now c.split_at.result.1.now c.extend_from_slice.new.self.items
+loop-rest-init c = nothing-read c.args.bytes.now c.split_at.result.1.now c.extend_from_slice.new.self.items
     (behind-preamble c.args.bytes.now c.split_at.result.1.now (sym c.if-not-starts_with.ensures.value) c.split_at.ensures.back)
     (rw c.in_ok-extend_from_slice.ensures.items (rw c.new-kept.ensures.items refl))
 
@@ -24,6 +23,5 @@ loop-rest-preserved c =
     c.put_section.new.out.items c.in_ok-put_section-in-Ok.ensures.ok
 
 pub returns-in-Err-clause-refuses : goal.returns-in-Err-clause-refuses
-returns-in-Err-clause-refuses c =
-    rw c.bad_module.ensures (refused-at c.args.bytes.now c.loop-rest.rest.now c.loop-rest.kept.items c.loop-rest.is_bound c.loop-rest.invariant
+returns-in-Err-clause-refuses c = rw c.bad_module.ensures (refused-at c.args.bytes.now c.loop-rest.rest.now c.loop-rest.kept.items c.loop-rest.is_bound c.loop-rest.invariant
     (some-left c.loop-rest.rest.now c.loop-rest-test.ensures) c.in-Err.ensures)

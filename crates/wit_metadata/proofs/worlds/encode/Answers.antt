@@ -22,8 +22,7 @@ returns-in_err-component-clause-size c = λ h.
     heavy-world r n def at home (subst (λ (p : PackageName). IsHeavyWorld r (identity_of p) n) (c.package_name-package.ensures def home at) (c.wrapped_world.ensures.size (search rules)))
 
 pub returns-in_err-custom_section-clause-size : goal.returns-in_err-custom_section-clause-size
-returns-in_err-custom_section-clause-size c = λ h.
-    says-fits c.args.encoding _
+returns-in_err-custom_section-clause-size c = λ h. says-fits c.args.encoding _
     (subst (λ (ps : List Part). fits_component ps ≡ false) (said c.new-builder.result _ c.args.encoding c.encoding_byte.result c.new-builder.ensures refl c.encoding_byte.ensures)
     (c.custom_section.ensures.size (search rules)))
 
@@ -86,8 +85,7 @@ returns-clause-carries c =
     let whole = built c.custom_section.new.self c.export_component_type.new.builder e c.deref.result.now (text_of def.name) ds front c.deref.ensures c.in_ok-export_component_type.ensures.ok in
     let ps = c.export_component_type.new.builder in
     IfOk-weaker c.finish.result (λ bytes. (bytes.items ≡ component_bytes (sections_of_parts ps)) × IsComponent (sections_of_parts ps) bytes.items)
-    (λ bytes. CarriesWorld r c.args.canonical_names n e bytes.items)
-    (λ bytes written. world-carried r c.requires.valid n def at is.home e ds c.args.canonical_names is.wraps bytes.items
+    (λ bytes. CarriesWorld r c.args.canonical_names n e bytes.items) (λ bytes written. world-carried r c.requires.valid n def at is.home e ds c.args.canonical_names is.wraps bytes.items
     (subst (λ (ps : List Part). IsComponent (sections_of_parts ps) bytes.items) whole written.1) (subst (λ (ps : List Part). bytes.items ≡ component_bytes (sections_of_parts ps)) whole written.0))
     (both-of (λ bytes. bytes.items ≡ component_bytes (sections_of_parts ps)) (λ bytes. IsComponent (sections_of_parts ps) bytes.items) c.finish.result c.finish.ensures.ok c.finish.ensures.spelled)
 

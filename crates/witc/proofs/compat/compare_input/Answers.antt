@@ -24,6 +24,5 @@ returns-in_err-compat-clause-refused g c =
     (subst (λ (xs : List ℕ). RefusesCompared xs c.args.prev.now c.args.new.now e) c.deref.ensures.value c.in_err-compat.ensures.refused))
 
 pub returns-clause-compared : goal.returns-clause-compared
-returns-clause-compared g c =
-    compares (g.R.Read.remaining c.args.reader.now) (g.R.Read.remaining c.read_whole.new.reader) c.args.prev.now c.args.new.now c.in_ok-bytes.bytes.items c.in_ok-bytes.ensures.whole
-    _ c.deref.ensures.value _ c.in_ok-compat.ensures.compared
+returns-clause-compared g c = compares (g.R.Read.remaining c.args.reader.now) (g.R.Read.remaining c.read_whole.new.reader) c.args.prev.now c.args.new.now c.in_ok-bytes.bytes.items
+    c.in_ok-bytes.ensures.whole _ c.deref.ensures.value _ c.in_ok-compat.ensures.compared

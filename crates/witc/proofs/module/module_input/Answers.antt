@@ -11,8 +11,7 @@ pub returns-in_err-bytes-clause-refused : goal.returns-in_err-bytes-clause-refus
 returns-in_err-bytes-clause-refused g c =
     let left = g.R.Read.remaining c.args.reader.now in
     let rest = g.R.Read.remaining c.read_whole.new.reader in
-    passed (RefusesModuleInput left rest) c.from_residual.result c.in_err-bytes.field-0.0 c.from_residual.ensures.1
-    (no-reading left rest c.in_err-bytes.field-0.0 c.in_err-bytes.ensures.refused)
+    passed (RefusesModuleInput left rest) c.from_residual.result c.in_err-bytes.field-0.0 c.from_residual.ensures.1 (no-reading left rest c.in_err-bytes.field-0.0 c.in_err-bytes.ensures.refused)
 
 pub returns-in_err-module_text-clause-refused : goal.returns-in_err-module_text-clause-refused
 returns-in_err-module_text-clause-refused g c =
@@ -24,6 +23,5 @@ returns-in_err-module_text-clause-refused g c =
     (subst (λ xs. e ≡ Size → OutgrowsLists xs) c.deref.ensures.value c.in_err-module_text.ensures.size))
 
 pub returns-clause-printed : goal.returns-clause-printed
-returns-clause-printed g c =
-    binds (g.R.Read.remaining c.args.reader.now) (g.R.Read.remaining c.read_whole.new.reader) c.in_ok-bytes.bytes.items c.in_ok-bytes.ensures.whole _ c.deref.ensures.value _
+returns-clause-printed g c = binds (g.R.Read.remaining c.args.reader.now) (g.R.Read.remaining c.read_whole.new.reader) c.in_ok-bytes.bytes.items c.in_ok-bytes.ensures.whole _ c.deref.ensures.value _
     c.in_ok-module_text.ensures.printed

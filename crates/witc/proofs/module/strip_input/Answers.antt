@@ -11,8 +11,7 @@ pub returns-in_err-bytes-clause-refused : goal.returns-in_err-bytes-clause-refus
 returns-in_err-bytes-clause-refused g c =
     let left = g.R.Read.remaining c.args.reader.now in
     let rest = g.R.Read.remaining c.read_whole.new.reader in
-    passed (RefusesModuleInput left rest) c.from_residual.result c.in_err-bytes.field-0.0 c.from_residual.ensures.1
-    (no-reading left rest c.in_err-bytes.field-0.0 c.in_err-bytes.ensures.refused)
+    passed (RefusesModuleInput left rest) c.from_residual.result c.in_err-bytes.field-0.0 c.from_residual.ensures.1 (no-reading left rest c.in_err-bytes.field-0.0 c.in_err-bytes.ensures.refused)
 
 pub returns-in_err-stripped-clause-refused : goal.returns-in_err-stripped-clause-refused
 returns-in_err-stripped-clause-refused g c =
@@ -24,11 +23,9 @@ returns-in_err-stripped-clause-refused g c =
     (subst (λ xs. e ≡ Size → OutgrowsLists xs) c.deref.ensures.value c.in_err-stripped.ensures.size))
 
 pub returns-in-Some-clause-stripped : goal.returns-in-Some-clause-stripped
-returns-in-Some-clause-stripped g c =
-    strips-part (g.R.Read.remaining c.args.reader.now) (g.R.Read.remaining c.read_whole.new.reader) c.in_ok-bytes.bytes.items c.in_ok-bytes.ensures.whole _ c.deref.ensures.value _ _
-    c.in-Some.is c.in_ok-stripped.ensures.stripped
+returns-in-Some-clause-stripped g c = strips-part (g.R.Read.remaining c.args.reader.now) (g.R.Read.remaining c.read_whole.new.reader) c.in_ok-bytes.bytes.items c.in_ok-bytes.ensures.whole _
+    c.deref.ensures.value _ _ c.in-Some.is c.in_ok-stripped.ensures.stripped
 
 pub returns-in-None-clause-stripped : goal.returns-in-None-clause-stripped
-returns-in-None-clause-stripped g c =
-    strips-nothing (g.R.Read.remaining c.args.reader.now) (g.R.Read.remaining c.read_whole.new.reader) c.in_ok-bytes.bytes.items c.in_ok-bytes.ensures.whole _ c.deref.ensures.value _
-    c.in-None.is c.in_ok-stripped.ensures.stripped
+returns-in-None-clause-stripped g c = strips-nothing (g.R.Read.remaining c.args.reader.now) (g.R.Read.remaining c.read_whole.new.reader) c.in_ok-bytes.bytes.items c.in_ok-bytes.ensures.whole _
+    c.deref.ensures.value _ c.in-None.is c.in_ok-stripped.ensures.stripped

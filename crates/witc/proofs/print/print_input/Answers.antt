@@ -10,8 +10,7 @@ pub returns-in_err-bytes-clause-refused : goal.returns-in_err-bytes-clause-refus
 returns-in_err-bytes-clause-refused g c =
     let left = g.R.Read.remaining c.args.reader.now in
     let rest = g.R.Read.remaining c.read_whole.new.reader in
-    passed (RefusesInput left rest) c.from_residual.result c.in_err-bytes.field-0.0 c.from_residual.ensures.1
-    (from-reading left rest c.in_err-bytes.field-0.0 c.in_err-bytes.ensures.refused)
+    passed (RefusesInput left rest) c.from_residual.result c.in_err-bytes.field-0.0 c.from_residual.ensures.1 (from-reading left rest c.in_err-bytes.field-0.0 c.in_err-bytes.ensures.refused)
 
 pub returns-in_err-print-clause-refused : goal.returns-in_err-print-clause-refused
 returns-in_err-print-clause-refused g c =
@@ -22,6 +21,5 @@ returns-in_err-print-clause-refused g c =
     (bytes c.in_ok-bytes.bytes.items e c.in_ok-bytes.ensures.whole (subst (λ (xs : List ℕ). RefusesBytes xs e) c.deref.ensures.value c.in_err-print.ensures.refused))
 
 pub returns-clause-printed : goal.returns-clause-printed
-returns-clause-printed g c =
-    prints (g.R.Read.remaining c.args.reader.now) (g.R.Read.remaining c.read_whole.new.reader) c.in_ok-bytes.bytes.items c.in_ok-bytes.ensures.whole _ c.deref.ensures.value _
+returns-clause-printed g c = prints (g.R.Read.remaining c.args.reader.now) (g.R.Read.remaining c.read_whole.new.reader) c.in_ok-bytes.bytes.items c.in_ok-bytes.ensures.whole _ c.deref.ensures.value _
     c.in_ok-print.ensures.printed

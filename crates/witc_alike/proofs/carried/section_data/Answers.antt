@@ -26,10 +26,8 @@ pub loop-rest-preserved-else-left-eq0 : goal.loop-rest-preserved-else-left-eq0
 loop-rest-preserved-else-left-eq0 c =
     let some : c.in_ok-carried.carried ≡ Some c.in-Some.data = search rules in
     passed-over c.args.bytes.now c.args.number c.loop-rest.rest.now c.loop-rest.left c.loop-rest.invariant c.in_ok-carried.behind.now c.in_ok-carried.carried c.in-Some.data some
-    c.in_ok-carried.ensures.ok
-    (c.loop-rest.left - 1) (one-less c.loop-rest.left c.if-left-eq0.false)
+    c.in_ok-carried.ensures.ok (c.loop-rest.left - 1) (one-less c.loop-rest.left c.if-left-eq0.false)
 
 pub loop-rest-preserved : goal.loop-rest-preserved
-loop-rest-preserved c =
-    other-walked c.args.bytes.now c.args.number c.loop-rest.rest.now c.loop-rest.left c.loop-rest.invariant c.in_ok-carried.behind.now c.in_ok-carried.carried c.in_default.not-Some
+loop-rest-preserved c = other-walked c.args.bytes.now c.args.number c.loop-rest.rest.now c.loop-rest.left c.loop-rest.invariant c.in_ok-carried.behind.now c.in_ok-carried.carried c.in_default.not-Some
     c.in_ok-carried.ensures.ok

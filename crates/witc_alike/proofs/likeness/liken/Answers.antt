@@ -28,8 +28,7 @@ world_of-requires-2-clause-in_range c =
     slice_get_within c.in_ok-second.second.packages.items c.in_ok-second.second_id.0 is.package_ is.stands
 
 pub returns-in_default-world_of-clause-compared : goal.returns-in_default-world_of-clause-compared
-returns-in_default-world_of-clause-compared c =
-    no_second c.in_ok-resolve.resolve c.in-Some.world
+returns-in_default-world_of-clause-compared c = no_second c.in_ok-resolve.resolve c.in-Some.world
     (record { number = c.in_ok-resolve.id.0; decoded = c.in_ok-resolve.ensures.decoded; named = c.in-Some.ensures })
     (record { resolve = c.in_ok-second.second; number = c.in_ok-second.second_id.0; decoded = c.in_ok-second.ensures.decoded; named = c.in_default-world_of.ensures })
 

@@ -8,13 +8,11 @@ use Rattle.wit_component.specs.Bound.{RefusesBindings}
 use Rattle.witc_listed.proofs.listings.module_json.Goals as goal
 
 pub returns-in_err-bindgen_listing-clause-refused : goal.returns-in_err-bindgen_listing-clause-refused
-returns-in_err-bindgen_listing-clause-refused c =
-    err_is _ c.from_residual-in_err-bindgen_listing.result c.in_err-bindgen_listing.field-0.0 c.from_residual-in_err-bindgen_listing.ensures.1
+returns-in_err-bindgen_listing-clause-refused c = err_is _ c.from_residual-in_err-bindgen_listing.result c.in_err-bindgen_listing.field-0.0 c.from_residual-in_err-bindgen_listing.ensures.1
     (subst (RefusesBindings c.args.bytes.now) (sym c.in_err-bindgen_listing.ensures.refuses) tt)
 
 pub returns-in_err-bindgen_listing-clause-size : goal.returns-in_err-bindgen_listing-clause-size
-returns-in_err-bindgen_listing-clause-size c =
-    err_is _ c.from_residual-in_err-bindgen_listing.result c.in_err-bindgen_listing.field-0.0 c.from_residual-in_err-bindgen_listing.ensures.1
+returns-in_err-bindgen_listing-clause-size c = err_is _ c.from_residual-in_err-bindgen_listing.result c.in_err-bindgen_listing.field-0.0 c.from_residual-in_err-bindgen_listing.ensures.1
     (λ size. absurd (cc (sym c.in_err-bindgen_listing.ensures.refuses ∙ size)))
 
 pub returns-clause-listed : goal.returns-clause-listed

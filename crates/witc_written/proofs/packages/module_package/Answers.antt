@@ -13,10 +13,8 @@ pub encode-requires-clause-in_range : goal.encode-requires-clause-in_range
 encode-requires-clause-in_range c = some-packages c.in_ok-_module.bound.resolve c.in_ok-_module.ensures.root
 
 pub returns-clause-encoded : goal.returns-clause-encoded
-returns-clause-encoded c =
-    module-encodes c.args.bytes.now c.in_ok-_module.bound c.in_ok-_module.ensures.bound c.in_ok-_module.ensures.reached c.in_ok-_module.ensures.valid c.in_ok-_module.ensures.root c.encode.result
-    c.encode.ensures.means
-    c.encode.ensures.holds
+returns-clause-encoded c = module-encodes c.args.bytes.now c.in_ok-_module.bound c.in_ok-_module.ensures.bound c.in_ok-_module.ensures.reached c.in_ok-_module.ensures.valid
+    c.in_ok-_module.ensures.root c.encode.result c.encode.ensures.means c.encode.ensures.holds
 
 pub returns-clause-refused : goal.returns-clause-refused
 returns-clause-refused c = module-refuses c.args.bytes.now c.in_ok-_module.bound c.in_ok-_module.ensures.bound c.in_ok-_module.ensures.reached c.encode.result c.encode.ensures.refuses

@@ -15,11 +15,9 @@ encode-requires-clause-in_range c =
     slice_get_within c.in_ok-resolve.resolve.packages.items c.in_ok-resolve.id.0 is.package_ is.stands
 
 pub returns-clause-encoded : goal.returns-clause-encoded
-returns-clause-encoded c =
-    encodes c.encoding_keeps_that_meaning.ensures.encoded c.encoding_keeps_that_meaning.ensures.members c.args.bytes.now c.in_ok-resolve.resolve c.in_ok-resolve.id c.args.canonical_names
-    c.in_ok-resolve.ensures.decoded c.in_ok-resolve.ensures.order c.encode.result c.encode.ensures.means c.encode.ensures.holds c.encode.ensures.differ
+returns-clause-encoded c = encodes c.encoding_keeps_that_meaning.ensures.encoded c.encoding_keeps_that_meaning.ensures.members c.args.bytes.now c.in_ok-resolve.resolve c.in_ok-resolve.id
+    c.args.canonical_names c.in_ok-resolve.ensures.decoded c.in_ok-resolve.ensures.order c.encode.result c.encode.ensures.means c.encode.ensures.holds c.encode.ensures.differ
 
 pub returns-clause-refused : goal.returns-clause-refused
-returns-clause-refused c =
-    refuses c.args.bytes.now c.in_ok-resolve.resolve c.in_ok-resolve.id.0 c.args.canonical_names c.in_ok-resolve.ensures.decoded c.in_ok-resolve.ensures.order c.encode.result c.encode.ensures.refuses
-    c.encode.ensures.size
+returns-clause-refused c = refuses c.args.bytes.now c.in_ok-resolve.resolve c.in_ok-resolve.id.0 c.args.canonical_names c.in_ok-resolve.ensures.decoded c.in_ok-resolve.ensures.order c.encode.result
+    c.encode.ensures.refuses c.encode.ensures.size

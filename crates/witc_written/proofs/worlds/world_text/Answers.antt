@@ -25,8 +25,7 @@ pub returns-clause-printed : goal.returns-clause-printed
 returns-clause-printed c =
     let r = c.in_ok-resolve.resolve in
     let home = c.home_of-home.result in
-    if_ok (λ (text : Vec ℕ Global). IsTextOf r home c.deref.result.now text.items) (λ (text : Vec ℕ Global). PrintsWorld c.args.bytes.now text.items)
-    (λ text is. record {
+    if_ok (λ (text : Vec ℕ Global). IsTextOf r home c.deref.result.now text.items) (λ (text : Vec ℕ Global). PrintsWorld c.args.bytes.now text.items) (λ text is. record {
       resolve = r;
       home = home;
       has = has-world c.args.bytes.now r c.in_ok-resolve.world.0 home c.in_ok-resolve.ensures.decoded c.in_ok-resolve.ensures.order c.home_of-home.ensures.home;

@@ -7,8 +7,7 @@ use Rattle.plan_parts.proofs.kept.Kept.number.Goals as goal
 pub index-requires : goal.index-requires
 index-requires c =
     let stays = subst (λ (ns : List ℕ). IsKeptPart ns c.args.part) (sym c.self.view_is) c.requires.kept in
-    subst (λ (n : ℕ). c.args.part - 14 < n) (sym c.self.inside.numbers.ok.0)
-    (part_within c.self.inside.shapes.items c.self.inside.numbers.items c.self.invariant c.args.part stays c.requires.type_)
+    subst (λ (n : ℕ). c.args.part - 14 < n) (sym c.self.inside.numbers.ok.0) (part_within c.self.inside.shapes.items c.self.inside.numbers.items c.self.invariant c.args.part stays c.requires.type_)
 
 pub returns : goal.returns
 returns c =

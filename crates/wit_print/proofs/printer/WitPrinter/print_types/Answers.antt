@@ -8,12 +8,10 @@ pub returns-in_err-types-clause-err : goal.returns-in_err-types-clause-err
 returns-in_err-types-clause-err g c = at_err c.from_residual.result (nothing refl)
 
 pub print_given_types-requires-clause-known : goal.print_given_types-requires-clause-known
-print_given_types-requires-clause-known g c =
-    c.requires.known c.deref.result.now (subst (λ xs. Drains g.I.Iterator.next_gives c.args.types xs) (sym c.deref.ensures.value) c.in_ok-types.ensures)
+print_given_types-requires-clause-known g c = c.requires.known c.deref.result.now (subst (λ xs. Drains g.I.Iterator.next_gives c.args.types xs) (sym c.deref.ensures.value) c.in_ok-types.ensures)
 
 pub returns-in_err-printed-clause-err : goal.returns-in_err-printed-clause-err
-returns-in_err-printed-clause-err g c =
-    at_err c.from_residual-in_err-printed.result
+returns-in_err-printed-clause-err g c = at_err c.from_residual-in_err-printed.result
     (some c.deref.result.now (subst (λ xs. Drains g.I.Iterator.next_gives c.args.types xs) (sym c.deref.ensures.value) c.in_ok-types.ensures) c.in_err-printed.ensures.err)
 
 pub returns-clause-ok : goal.returns-clause-ok
