@@ -130,14 +130,14 @@ left-over-blamed input bytes n b offset e h none is = subst (Blames input n) (sy
 -- a module that binds something has no section that is refused
 pub bound-blames-none : (input : List ℕ) (c : Binding) → IsBound input c → RefusesNoSection input
 bound-blames-none input c bound = RefusesNoSection.through c [] (record {
-      sections = bound.sections;
-      front = bound.stand.front;
-      parts = bound.stand.parts;
-      are = bound.stand.sections;
-      data_ = bound.data_;
-      carry = bound.carry;
-      binds = bound.binds;
-    }) bound.stand.ends
+  sections = bound.sections;
+  front = bound.stand.front;
+  parts = bound.stand.parts;
+  are = bound.stand.sections;
+  data_ = bound.data_;
+  carry = bound.carry;
+  binds = bound.binds;
+}) bound.stand.ends
 
 -- A module that binds something is refused, where it is stripped, for want of memory alone.
 pub strip-refused : (input : List ℕ) (c : Binding) (e : Error) → IsBound input c → RefusesModule input e → RefusesBindings input e

@@ -67,11 +67,11 @@ old_custom = let name = name_law.takes old_contents (codes "component-type") (3 
 
 historical : IsRefused (module_preamble ++ old_section) errors.Historical
 historical = IsRefused.first ((0, old_contents) ∷ []) [] ((3 ∷ []) ∷ []) (record {
-      front = old_section;
-      parts = ap (λ (t : List ℕ). module_preamble ++ t) (sym (append-nil old_section));
-      sections = ((old_frame.front, [], old_frame.parts, old_frame.spelled, refl), ((λ is. ((codes "component-type", 3 ∷ []), old_custom)), tt));
-      ends = nothing-in-front;
-    }) (CarryData.carrying (0, old_contents) [] (codes "component-type", 3 ∷ []) [] refl old_custom refl CarryData.none) (inl (RefusesSection.historical [] refl refl))
+  front = old_section;
+  parts = ap (λ (t : List ℕ). module_preamble ++ t) (sym (append-nil old_section));
+  sections = ((old_frame.front, [], old_frame.parts, old_frame.spelled, refl), ((λ is. ((codes "component-type", 3 ∷ []), old_custom)), tt));
+  ends = nothing-in-front;
+}) (CarryData.carrying (0, old_contents) [] (codes "component-type", 3 ∷ []) [] refl old_custom refl CarryData.none) (inl (RefusesSection.historical [] refl refl))
 
 -- ---- a section without data
 
@@ -91,11 +91,11 @@ empty_custom = let name = name_law.takes empty_contents (codes "component-type")
 
 no_data : IsRefused (module_preamble ++ empty_section) (errors.NoReading Truncated 0)
 no_data = IsRefused.first ((0, empty_contents) ∷ []) [] ([] ∷ []) (record {
-      front = empty_section;
-      parts = ap (λ (t : List ℕ). module_preamble ++ t) (sym (append-nil empty_section));
-      sections = ((empty_frame.front, [], empty_frame.parts, empty_frame.spelled, refl), ((λ is. ((codes "component-type", []), empty_custom)), tt));
-      ends = nothing-in-front;
-    }) (CarryData.carrying (0, empty_contents) [] (codes "component-type", []) [] refl empty_custom refl CarryData.none) (inl (RefusesSection.empty refl refl))
+  front = empty_section;
+  parts = ap (λ (t : List ℕ). module_preamble ++ t) (sym (append-nil empty_section));
+  sections = ((empty_frame.front, [], empty_frame.parts, empty_frame.spelled, refl), ((λ is. ((codes "component-type", []), empty_custom)), tt));
+  ends = nothing-in-front;
+}) (CarryData.carrying (0, empty_contents) [] (codes "component-type", []) [] refl empty_custom refl CarryData.none) (inl (RefusesSection.empty refl refl))
 
 -- ---- what is said of the encoding
 

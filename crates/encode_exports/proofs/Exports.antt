@@ -80,10 +80,10 @@ top_after (x ∷ xs) ds slots es k taken fresh labels =
     (subst P (sym longer) (fresh_next (length ds) es x.0 fresh)) (second_true (is_label x.0) (list_all (λ y. is_label y.0) xs) labels) in (
       later.0,
       next_type ds slots es k x.0 x.1 (sections_from (suc (suc k)) xs) taken fresh (first_true (is_label x.0) (list_all (λ y. is_label y.0) xs) labels) ∙ later.1 ∙ λ i. Some (record {
-            types = append_assoc ds (x.1 ∷ []) (map (λ y. y.1) xs) i;
-            slots = later.0;
-            exported = (ap (λ (n : ℕ). (es ++ (x.0, length ds) ∷ []) ++ numbers_from n xs) longer ∙ append_assoc es ((x.0, length ds) ∷ []) (numbers_from (suc (length ds)) xs)) i;
-          }),
+        types = append_assoc ds (x.1 ∷ []) (map (λ y. y.1) xs) i;
+        slots = later.0;
+        exported = (ap (λ (n : ℕ). (es ++ (x.0, length ds) ∷ []) ++ numbers_from n xs) longer ∙ append_assoc es ((x.0, length ds) ∷ []) (numbers_from (suc (length ds)) xs)) i;
+      }),
     )
 
 as_many : (n : ℕ) (xs : List (Text × Declarations)) → length (numbers_from n xs) ≡ length (map (λ x. x.1) xs)

@@ -101,8 +101,8 @@ module _ (r : Resolve) (v : IsValid r) (n : ℕ) (path : Text) (is : interface_p
           let z : ⊥ = cc in absurd z
       go (Some version) q =
           ap (λ o. is_begun_version (cut 64 (path_in (record { namespace = text_of own.namespace; name = text_of own.name; version = option_map (λ x. canonical_version (parts_of x)) o })
-              (text_of home.name)))) q ∙ path-begun (text_of own.namespace) (text_of own.name) (text_of home.name) (canonical_version (parts_of version))
-              (canonical-filled (parts_of version) (valid_parts version (ap (passes is_version) (sym q) ∙ (package-name r v home.home.0 home.package_ home.stands).version)))
+          (text_of home.name)))) q ∙ path-begun (text_of own.namespace) (text_of own.name) (text_of home.name) (canonical_version (parts_of version))
+          (canonical-filled (parts_of version) (valid_parts version (ap (passes is_version) (sym q) ∙ (package-name r v home.home.0 home.package_ home.stands).version)))
 
   pub written-path : (canonical : Bool) → complete_path (written_path r canonical n) (written_suffix r canonical (Some n)) ≡ Some path
   written-path x = search (std_rules, unwrap_or, complete, append-nil, reads, canonical-there, same-some, canonical_paths_join, suffix-begins)

@@ -261,10 +261,10 @@ interfaces_are_shown r canonical direction done scope e i ds view v is at h turn
     record {
       step = instance-step name (length scope.slots) (in_scope x scope) k view (interface-named r e.0 e.1 i name at read.says) (unused (length scope.slots) scope.used h.in_range) slots direction;
       shows = seen-instance r done scope ds h e k view name (record {
-            view = view;
-            is_view = sight.0;
-            is = λ j. record { key = key-shown r e.0 i home (keyed-alike r is.number e.0 e.1 i entry at) j; shown = sym sight.1 j; external_id = read.external_id j };
-          }) direction turn;
+        view = view;
+        is_view = sight.0;
+        is = λ j. record { key = key-shown r e.0 i home (keyed-alike r is.number e.0 e.1 i entry at) j; shown = sym sight.1 j; external_id = read.external_id j };
+      }) direction turn;
     }
 
 -- ---- the whole world

@@ -85,13 +85,13 @@ module _ (r : Resolve) where
   -- an interface behind what it uses
   with-itself : (n user : ℕ) (old mid : List ℕ) → has (direct_deps r user) n ≡ true → has mid n ≡ false → Lists (direct_deps r n) n old mid → Lists (n ∷ []) user old (mid ++ n ∷ [])
   with-itself n user old mid uses fresh l = record {
-        more = l.more ++ n ∷ [];
-        is = ap (λ k. k ++ n ∷ []) l.is ∙ append_assoc old l.more (n ∷ []);
-        stand = λ m h. Contains-append_right mid (n ∷ []) m (has-contains (n ∷ []) m h);
-        earlier = earlier-more old l.more (n ∷ []) l.earlier ((λ m c. subst (λ k. Contains k m) l.is (l.stand m (contains-has (direct_deps r n) m c))), tt);
-        used = used-through l.more n user l.used uses;
-        once = λ d. distinct-more mid n fresh (l.once d);
-      }
+    more = l.more ++ n ∷ [];
+    is = ap (λ k. k ++ n ∷ []) l.is ∙ append_assoc old l.more (n ∷ []);
+    stand = λ m h. Contains-append_right mid (n ∷ []) m (has-contains (n ∷ []) m h);
+    earlier = earlier-more old l.more (n ∷ []) l.earlier ((λ m c. subst (λ k. Contains k m) l.is (l.stand m (contains-has (direct_deps r n) m c))), tt);
+    used = used-through l.more n user l.used uses;
+    once = λ d. distinct-more mid n fresh (l.once d);
+  }
 
   module _ (v : IsValid r) where
     listed : (k n user : ℕ) → n < k → has (direct_deps r user) n ≡ true → (l : List ℕ) → Lists (n ∷ []) user l (listed_with r k l n)

@@ -98,16 +98,16 @@ module _ (t : Tables) (h : Homes) (known : ℕ → Fact) (n : ℕ) (ms : List Me
           → length (own (map (λ (s : NumberedSight). s.place) (map whole_view (numbered_scope w).instances))) + length (own (w.home ∷ [])) ≡ length
           (own (w.home ∷ (places_of_seen (numbered_scope w).imports ++ places_of_seen (numbered_scope w).exports)))
       by shown e many = omega (
-            arith,
-            (ap (λ ps. length (own ps)) (map_of_map (λ (s : NumberedSight). s.place) whole_view (numbered_scope w).instances) ∙ many),
-            (ap (λ b. length (cond b (w.home ∷ []) [])) home),
-            (ap (λ ps. length (own (w.home ∷ ps))) e ∙ ap (λ b. length (cond b (w.home ∷ own shown) (own shown))) home),
-          )
-  part_many m c (parts.Interface q v imports) is = omega (
         arith,
-        ap length (none_pass (has_no_path t) (map (λ (s : NumberedSight). s.place) (views_of_part (numbered_part (parts.Interface q v imports))))
-            (λ p there. outside p (subst (λ ps. Contains ps p) (places_of_views (numbered_part (parts.Interface q v imports))) there))),
+        (ap (λ ps. length (own ps)) (map_of_map (λ (s : NumberedSight). s.place) whole_view (numbered_scope w).instances) ∙ many),
+        (ap (λ b. length (cond b (w.home ∷ []) [])) home),
+        (ap (λ ps. length (own (w.home ∷ ps))) e ∙ ap (λ b. length (cond b (w.home ∷ own shown) (own shown))) home),
       )
+  part_many m c (parts.Interface q v imports) is = omega (
+    arith,
+    ap length (none_pass (has_no_path t) (map (λ (s : NumberedSight). s.place) (views_of_part (numbered_part (parts.Interface q v imports))))
+        (λ p there. outside p (subst (λ ps. Contains ps p) (places_of_views (numbered_part (parts.Interface q v imports))) there))),
+  )
     where
       good : IsPartIn t (numbered_part (parts.Interface q v imports))
       good = subst (λ a. IsPartIn t (numbered_part a)) is (part_at t ms given.input.numbers m c)

@@ -16,7 +16,7 @@ returns-in-Some c =
     if-there (IsEmbedded bytes name number canonical) (RefusesEmbeddedIn bytes name number canonical) (LacksPart bytes name number) name (EmbedsIfThere bytes name e canonical)
     c.embed.result c.of_world.result (λ text is. record { is_text = c.requires; said = e; is = sym c.in-Some.ensures; embeds = is }) (λ is. no_world c.requires e (sym c.in-Some.ensures) is)
     c.embed.ensures.embedded (if-err (RefusesEmbedded bytes name canonical) (RefusesEmbeddedIn bytes name number canonical)
-        (λ error is. record { is_text = c.requires; said = e; is = sym c.in-Some.ensures; refuses = is })
+    (λ error is. record { is_text = c.requires; said = e; is = sym c.in-Some.ensures; refuses = is })
     c.embed.result c.embed.ensures.refused) c.of_world.ensures
 
 pub returns-in-None : goal.returns-in-None
