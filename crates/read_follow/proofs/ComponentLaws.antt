@@ -122,13 +122,14 @@ module _ (old : World) (st : IsWorld old) where
     placed = st.tables.placed;
     signatures = joins_all (IsFunctionIn (length old.shapes)) old.signatures more_fs is.shape is.joins st.tables.signatures
         (is.ranges (length old.shapes) (ranges_of old.shapes old.signatures old.slots st.slots));
-  }) (slots.Function is.number) (found_below more_fs is.number is.shape is.at)
-  (λ base places p. subst (λ (s : Signature). SignatureOver (MayMeet (map has_path old.paths) old.home) s)
-  (sym (ap (λ o. unwrap_or o no_signature) (mapped_get (signature_in (world_trees apart old)) more_fs is.number is.shape is.at)))
-  (signature_over (MayMeet (map has_path old.paths) old.home) (meant_at apart old).slots p.slots f (signature_in (world_trees apart old) is.shape)
-  (is.found (world_trees apart old) (world_signatures apart old)))) (no_shapes old.shapes) 1 (λ m. component_step m (Declaration.function f)) ss is.next (omega arith) refl
-  (λ place of. ap (λ o. o >>= λ s. Some (in_scope (follow.function s) (meant_at place old))) (is.found (world_trees place old) (world_signatures place old))
-  ∙ ap (λ s. Some (in_scope (follow.function s) (meant_at place old))) (sym (ap (λ o. unwrap_or o no_signature) (mapped_get (signature_in (world_trees place old)) more_fs is.number is.shape is.at))))
+  }) (slots.Function is.number) (found_below more_fs is.number is.shape is.at) (λ base places p.
+      subst (λ (s : Signature). SignatureOver (MayMeet (map has_path old.paths) old.home) s)
+      (sym (ap (λ o. unwrap_or o no_signature) (mapped_get (signature_in (world_trees apart old)) more_fs is.number is.shape is.at)))
+      (signature_over (MayMeet (map has_path old.paths) old.home) (meant_at apart old).slots p.slots f (signature_in (world_trees apart old) is.shape)
+      (is.found (world_trees apart old) (world_signatures apart old)))) (no_shapes old.shapes) 1 (λ m. component_step m (Declaration.function f)) ss is.next (omega arith) refl (λ place of.
+      ap (λ o. o >>= λ s. Some (in_scope (follow.function s) (meant_at place old))) (is.found (world_trees place old) (world_signatures place old))
+      ∙ ap (λ s. Some (in_scope (follow.function s) (meant_at place old)))
+      (sym (ap (λ o. unwrap_or o no_signature) (mapped_get (signature_in (world_trees place old)) more_fs is.number is.shape is.at))))
 
   pub signed_stops : (f : FunctionType) (e : Refusal) → ((T : List Tree) (F : List Signature) → Refuses e (function_signature (slots_in T F old.slots) f))
       → Stops (λ m. component_step m (Declaration.function f)) old old.paths e
