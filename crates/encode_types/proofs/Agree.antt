@@ -1,6 +1,6 @@
 -- Maps that agree with slots, over what a call adds.
-use Rattle.std.proofs.Common.{rules as std_rules, ◌≡◌, refl, sym, subst, ap, ◌∙◌, ℕ, Bool, true, false, List, ◌⊎◌, inl, inr, Result, OnOk, OnErr, Option, Some, None, nat_eq, [], ◌∷◌, ◌++◌, map, get_or}
-use Rattle.std.proofs.lemmas.{Cmp.nat_eq_equiv, List.Elements.Contains-get_or, List.Quantifiers.all_pairs_push, Bool.eqb-true}
+use Rattle.std.proofs.Common.{rules as std_rules, ◌≡◌, refl, sym, subst, ap, ◌∙◌, ℕ, true, false, List, ◌⊎◌, inl, inr, Result, OnOk, OnErr, Option, Some, None, nat_eq, [], ◌∷◌, ◌++◌, map, get_or}
+use Rattle.std.proofs.lemmas.{Cmp.nat_eq_equiv, List.Elements.Contains-get_or, List.Quantifiers.all_pairs_push, Bool.eqb-true, Bool.false_from_ne_true}
 use Rattle.std.specs.{Prelude.is_some, Prelude.IsSome, Prelude.IsPermutation, List.Contains, List.AllPairs, Borrow.Bor}
 use Rattle.wit_model.specs.{Text.Text, Tree.Declaration, Rules.is_named_kind, Types.trees_of, Types.tree_of_declaration, Meaning.Signature}
 use Rattle.wit_model.specs.declared.model.{Resolve.Resolve, TypeDefKind.TypeDefKind, TypeId.TypeId}
@@ -8,7 +8,7 @@ use Rattle.encode_types.specs.declared.{maps.TypeEncodingMaps.TypeEncodingMaps, 
 use Rattle.encode_types.specs.{Codes.kind_code, Codes.names_of, Codes.lists_of, Codes.IsKeyList, Codes.ListKey, Leaves.Leaves, Leaves.LeavesSlots}
 use Rattle.encode_types.specs.{Slots.Pairs, Slots.Standing, Slots.tree, Slots.function, Slots.Keeps, View.View, View.Agrees, View.SameRest, Counts.SameUnits}
 use Rattle.encode_types.specs.Maps.{Known, by_number, by_kind, by_key, by_unit_future, by_unit_stream, Holds, standing_of, IsOnce, IsKindList, IsSomeKeyList, MapsAgree, MapsGrow, IsKnown, LacksList, StandsAsKind, StandsAsKey, SameMaps, AddsNames, LearnsNumber, LearnsList, LearnsKeyList, LearnsOne}
-use Rattle.encode_types.proofs.{Tables.kept-in, Tables.new-in, Tables.one-more-in, Tables.pairs-permuted, Tables.key-grow}
+use Rattle.encode_types.proofs.{Tables.kept-in, Tables.new-in, Tables.entry-more, Tables.pairs-permuted, Tables.key-grow}
 use Rattle.encode_types.proofs.{EqualLists.kinds-of-lists, EqualLists.keys-of-lists, EqualLists.key-shrink, KindLaws.same_tree, KindLaws.same-signature}
 
 pub either : {A E : Type 0} (x : Result A E) (P Q : Type 0) → OnOk x P → OnErr x Q → P ⊎ Q
@@ -77,10 +77,7 @@ pub record Changes (r : Resolve) (m m' : TypeEncodingMaps) (S : Pairs) : Type 0 
   pub grow : MapsGrow m m'
 
 pub changes-names : (r : Resolve) (m m' : TypeEncodingMaps) (S : Pairs) → AddsNames m m' → MapsAgree r m S → Changes r m m' S
-changes-names r m m' S s a = record {
-  agree = record { says = λ k i h. a.says k i (adds-back m m' a.once s k i h); once = adds-once m m' s a.once };
-  grow = record { keeps = adds-holds m m' s };
-}
+changes-names r m m' S s a = record { agree = record { says = λ k i h. a.says k i (adds-back m m' a.once s k i h); once = adds-once m m' s a.once }; grow = record { keeps = adds-holds m m' s } }
 
 -- ---- one entry more
 
@@ -111,26 +108,21 @@ learns-number r m m' id i fresh l = record { grow = grow; only = λ o. only; onc
     grow k j h = same-holds m (record m' { id_to_index = m.id_to_index }) l.rest k j h
 
     only : (k : Known) (j : ℕ) → Holds m' k j → Holds m k j ⊎ ((standing_of r k ≡ standing_of r (by_number id.0)) × (j ≡ i))
-    only (by_number n) j h = elim (one-more-in m.id_to_index.entries m'.id_to_index.entries (id.0, i) l.more (n, j) h) [
-      | inl q ↦ inl q
-      | inr e ↦ inr (ap (λ (p : ℕ × ℕ). standing_of r (by_number p.0)) (sym e), ap (λ (p : ℕ × ℕ). p.1) (sym e))
-    ]
+    only (by_number n) j h = elim (entry-more m.id_to_index.entries m'.id_to_index.entries id.0 i l.more n j h) [ inl q ↦ inl q | inr e ↦ inr (ap (λ (k : ℕ). standing_of r (by_number k)) e.0, e.1) ]
     only k j h = inl (same-held m (record m' { id_to_index = m.id_to_index }) l.rest k j h)
 
-    apart : (e : ℕ × ℕ) → Contains m.id_to_index.entries e → (b : Bool) → nat_eq e.0 id.0 ≡ b → nat_eq e.0 id.0 ≡ false
-    apart e c false q = q
-    apart e c true q = absurd (fresh (e.1, subst (λ (n : ℕ). Contains m.id_to_index.entries (n, e.1)) (eqb-true e.0 id.0 q) c))
+    apart : (e : ℕ × ℕ) → Contains m.id_to_index.entries e → nat_eq e.0 id.0 ≡ false
+    apart e c = false_from_ne_true _ (λ q. fresh (e.1, subst (λ (n : ℕ). Contains m.id_to_index.entries (n, e.1)) (eqb-true e.0 id.0 q) c))
 
     once : IsOnce m → IsOnce m'
     once o =
         let z = same-once m (record m' { id_to_index = m.id_to_index }) l.rest o in
         let numbers = pairs-permuted (λ (x y : ℕ × ℕ). nat_eq x.0 y.0 ≡ false) numbers-apart _ m'.id_to_index.entries l.more
-        (all_pairs_push (λ x y. nat_eq x.0 y.0 ≡ false) m.id_to_index.entries (id.0, i) o.numbers (λ k d lt. apart _ (Contains-get_or _ k d lt) _ refl)) in
+        (all_pairs_push (λ x y. nat_eq x.0 y.0 ≡ false) m.id_to_index.entries (id.0, i) o.numbers (λ k d lt. apart _ (Contains-get_or _ k d lt))) in
         record { numbers = numbers; kinds = z.kinds; keys = z.keys; kind_lists = z.kind_lists; key_lists = z.key_lists; names_ = z.names_ }
 
 pub learns-kind : (r : Resolve) (m m' : TypeEncodingMaps) (kind : TypeDefKind) (xs : List ℕ) (i : ℕ) → is_named_kind kind ≡ false → xs ≡ kind_code kind → LacksList (lists_of m.def_to_index) xs
-    → LearnsList m m' xs i
-    → Learns r m m' i (standing_of r (by_kind kind))
+    → LearnsList m m' xs i → Learns r m m' i (standing_of r (by_kind kind))
 learns-kind r m m' kind xs i unnamed is lacks l = record { grow = grow; only = λ o. only; once = once }
   where
     grow : (k : Known) (j : ℕ) → Holds m k j → Holds m' k j
@@ -141,10 +133,7 @@ learns-kind r m m' kind xs i unnamed is lacks l = record { grow = grow; only = �
     same k n e = ap (λ (d : Declaration). tree (tree_of_declaration d)) (same_tree (trees_of r) k kind n (kinds-of-lists k kind n unnamed e))
 
     only : (k : Known) (j : ℕ) → Holds m' k j → Holds m k j ⊎ ((standing_of r k ≡ standing_of r (by_kind kind)) × (j ≡ i))
-    only (by_kind k) j h = elim (one-more-in (lists_of m.def_to_index) (lists_of m'.def_to_index) (xs, i) l.more (kind_code k, j) h.1) [
-      | inl q ↦ inl (h.0, q)
-      | inr e ↦ inr (same k h.0 (ap (λ (p : List ℕ × ℕ). p.0) (sym e) ∙ is), ap (λ (p : List ℕ × ℕ). p.1) (sym e))
-    ]
+    only (by_kind k) j h = elim (entry-more (lists_of m.def_to_index) (lists_of m'.def_to_index) xs i l.more (kind_code k) j h.1) [ inl q ↦ inl (h.0, q) | inr e ↦ inr (same k h.0 (e.0 ∙ is), e.1) ]
     only k j h = inl (same-held m (record m' { def_to_index = m.def_to_index }) l.rest k j h)
 
     once : IsOnce m → IsOnce m'
@@ -152,9 +141,9 @@ learns-kind r m m' kind xs i unnamed is lacks l = record { grow = grow; only = �
         let z = same-once m (record m' { def_to_index = m.def_to_index }) l.rest o in
         let kinds = new-pairs (lists_of m.def_to_index) (lists_of m'.def_to_index) xs i l.more lacks o.kinds in
         let lists : (ys : List ℕ) (j : ℕ) → Contains (lists_of m'.def_to_index) (ys, j) → IsKindList ys =
-        λ ys j c. elim (one-more-in (lists_of m.def_to_index) (lists_of m'.def_to_index) (xs, i) l.more (ys, j) c) [
+        λ ys j c. elim (entry-more (lists_of m.def_to_index) (lists_of m'.def_to_index) xs i l.more ys j c) [
           | inl q ↦ o.kind_lists ys j q
-          | inr e ↦ record { kind = kind; unnamed = unnamed; is = ap (λ (p : List ℕ × ℕ). p.0) (sym e) ∙ is }
+          | inr e ↦ record { kind = kind; unnamed = unnamed; is = e.0 ∙ is }
         ] in
         record { numbers = z.numbers; kinds = kinds; keys = z.keys; kind_lists = lists; key_lists = z.key_lists; names_ = z.names_ }
 
@@ -172,11 +161,9 @@ learns-key r m m' key xs i is lacks l = record { grow = grow; only = only; once 
     only : IsOnce m → (k : Known) (j : ℕ) → Holds m' k j → Holds m k j ⊎ ((standing_of r k ≡ standing_of r (by_key key)) × (j ≡ i))
     only o (by_key k) j h =
         let listed : IsKeyList (names_of m.names) k h.0 = subst (λ (ns : List (Bor Text × ℕ)). IsKeyList (map {B = Text × ℕ} (λ e. (e.0.now, e.1)) ns) k h.0) l.rest.names_ h.1 in
-        elim (one-more-in (lists_of m.func_type_map) (lists_of m'.func_type_map) (xs, i) l.more (h.0, j) h.2) [
+        elim (entry-more (lists_of m.func_type_map) (lists_of m'.func_type_map) xs i l.more h.0 j h.2) [
           | inl q ↦ inl (h.0, listed, q)
-          | inr e ↦
-              let q : h.0 ≡ xs = ap (λ (p : List ℕ × ℕ). p.0) (sym e) in
-              inr (ap (λ (s : Signature). function s) (same-signature r k key (keys-of-lists (names_of m.names) k key h.0 xs o.names_.table listed is q)), ap (λ (p : List ℕ × ℕ). p.1) (sym e))
+          | inr e ↦ inr (ap (λ (s : Signature). function s) (same-signature r k key (keys-of-lists (names_of m.names) k key h.0 xs o.names_.table listed is e.0)), e.1)
         ]
     only o k j h = inl (same-held m (record m' { func_type_map = m.func_type_map }) l.rest k j h)
 
@@ -185,9 +172,9 @@ learns-key r m m' key xs i is lacks l = record { grow = grow; only = only; once 
         let z = same-once m (record m' { func_type_map = m.func_type_map }) l.rest o in
         let keys = new-pairs (lists_of m.func_type_map) (lists_of m'.func_type_map) xs i l.more lacks o.keys in
         let lists : (ys : List ℕ) (j : ℕ) → Contains (lists_of m'.func_type_map) (ys, j) → IsSomeKeyList (names_of m'.names) ys =
-        λ ys j c. elim (one-more-in (lists_of m.func_type_map) (lists_of m'.func_type_map) (xs, i) l.more (ys, j) c) [
+        λ ys j c. elim (entry-more (lists_of m.func_type_map) (lists_of m'.func_type_map) xs i l.more ys j c) [
           | inl q ↦ z.key_lists ys j q
-          | inr e ↦ record { key = key; is = subst (IsKeyList (names_of m'.names) key) (ap (λ (p : List ℕ × ℕ). p.0) e) (named key xs is) }
+          | inr e ↦ record { key = key; is = rw e.0 (named key xs is) }
         ] in
         record { numbers = z.numbers; kinds = z.kinds; keys = keys; kind_lists = z.kind_lists; key_lists = lists; names_ = z.names_ }
 
@@ -230,23 +217,20 @@ leaves-changed r v v' s c u = search std_rules
 
 -- one that adds names alone
 pub leaves-listed : (r : Resolve) (v v' : View) → SameRest v v' → Agrees r v → AddsNames v.maps v'.maps → Leaves r v v'
-leaves-listed r v v' s a l = leaves-changed r v v' s
-    (changes-names r v.maps v'.maps v'.stands l (record { says = λ k j c. s.kept j (standing_of r k) (a.says k j c); once = a.once }))
+leaves-listed r v v' s a l = leaves-changed r v v' s (changes-names r v.maps v'.maps v'.stands l (record { says = λ k j c. s.kept j (standing_of r k) (a.says k j c); once = a.once }))
     (record { future_ = l.rest.unit_future_; stream_ = l.rest.unit_stream_ })
 
 -- one that adds an entry, or nothing
 module _ {E : Type 0} (x : Result (Unit {0}) E) (r : Resolve) (v v' : View) (i : ℕ) (s : SameRest v v') (a : Agrees r v) where
   leaves-call : (z : Standing) → v.stands i z → OnOk x (Learns r v.maps v'.maps i z × SameUnits v.maps v'.maps) → OnErr x (SameMaps v.maps v'.maps) → Leaves r v v'
   leaves-call z h ok err = elim (either x _ _ ok err) [
-    | inl l ↦ leaves-changed r v v' s
-        (changes-learns r v.maps v'.maps v'.stands i z l.0 (record { says = λ k j c. s.kept j (standing_of r k) (a.says k j c); once = a.once }) (s.kept i z h)) l.1
+    | inl l ↦ leaves-changed r v v' s (changes-learns r v.maps v'.maps v'.stands i z l.0 (record { says = λ k j c. s.kept j (standing_of r k) (a.says k j c); once = a.once }) (s.kept i z h)) l.1
     | inr l ↦ leaves-listed r v v' s a (same-adds v.maps v'.maps l)
   ]
 
   pub leaves-number : (id : TypeId) → (IsKnown v.maps id.0 → ⊥) → v.stands i (standing_of r (by_number id.0)) → OnOk x (LearnsNumber v.maps v'.maps id i) → OnErr x (SameMaps v.maps v'.maps)
       → Leaves r v v'
-  leaves-number id fresh h ok err = leaves-call _ h
-      (on_ok x _ _ (λ l. (learns-number r v.maps v'.maps id i fresh l, record { future_ = l.rest.unit_future_; stream_ = l.rest.unit_stream_ })) ok) err
+  leaves-number id fresh h ok err = leaves-call _ h (on_ok x _ _ (λ l. (learns-number r v.maps v'.maps id i fresh l, record { future_ = l.rest.unit_future_; stream_ = l.rest.unit_stream_ })) ok) err
 
   pub leaves-kind : (xs : List ℕ) → LacksList (lists_of v.maps.def_to_index) xs → StandsAsKind r v.stands xs i → OnOk x (LearnsList v.maps v'.maps xs i) → OnErr x (SameMaps v.maps v'.maps)
       → Leaves r v v'
@@ -268,13 +252,10 @@ pub not-known : (o : Option ℕ) → is_some o ≡ false → IsSome o → ⊥
 not-known o e h = let f : is_some o ≡ true = h in let z : ⊥ = cc in z
 
 pub learnt-one : (m m₁ m' : TypeEncodingMaps) (id : TypeId) (i : ℕ) → m₁.id_to_index.entries ≡ m.id_to_index.entries → LearnsNumber m₁ m' id i → LearnsOne m m' id.0
-learnt-one m m₁ m' id i e l = record { known = known-learnt m₁ m' id i l; only = record { each = only } }
-  where
-    only : (n j : ℕ) → Contains m'.id_to_index.entries (n, j) → Contains m.id_to_index.entries (n, j) ⊎ (n ≡ id.0)
-    only n j c = elim (one-more-in m₁.id_to_index.entries m'.id_to_index.entries (id.0, i) l.more (n, j) c) [
-      | inl q ↦ inl (subst (λ (xs : List (ℕ × ℕ)). Contains xs (n, j)) e q)
-      | inr q ↦ inr (sym (ap (λ (p : ℕ × ℕ). p.0) q))
-    ]
+learnt-one m m₁ m' id i e l = record {
+  known = known-learnt m₁ m' id i l;
+  only = record { each = λ n j c. elim (entry-more m₁.id_to_index.entries m'.id_to_index.entries id.0 i l.more n j c) [ inl q ↦ inl (rw e at q) | inr q ↦ inr q.0 ] };
+}
 
 -- maps that hold nothing agree with any slots
 pub empty-agrees : (r : Resolve) (m : TypeEncodingMaps) (S : Pairs) → m.id_to_index.entries ≡ [] → m.def_to_index.entries ≡ [] → m.func_type_map.entries ≡ [] → m.names.entries ≡ []

@@ -28,10 +28,7 @@ met-then {r} {own} {ts} {a} {b} {c} p q = record {
 -- of types that are met from others, too
 pub met-more : {r : Resolve} {own : Option InterfaceId} {ts us : List ValueType} {a b : Around} → ((n : ℕ) → ReachedFrom r own ts n → ReachedFrom r own us n) → AliasesMet r own ts a b
     → AliasesMet r own us a b
-met-more f p = record {
-  grown = p.grown;
-  met = λ x c. let m = p.met x c in record { met = f x.number.0 m.met; def = m.def; there = m.there; interface = m.interface; foreign = m.foreign };
-}
+met-more f p = record { grown = p.grown; met = λ x c. let m = p.met x c in record { met = f x.number.0 m.met; def = m.def; there = m.there; interface = m.interface; foreign = m.foreign } }
 
 -- one of this type, which is of another interface
 pub met-one : {r : Resolve} {own : Option InterfaceId} {id : TypeId} {a b : Around} (def : TypeDef) (interface : InterfaceId) → type_at r id.0 ≡ Some def → foreign_owner own def.owner ≡ Some interface

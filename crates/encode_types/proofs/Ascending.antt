@@ -34,10 +34,7 @@ ascending-push run e ascend below = all_pairs_push (λ x y. x.0 < y.0) run e asc
 
 -- in two lists
 pub in-either : (xs ys : List (ℕ × ℕ)) (n : ℕ) → ((i : ℕ) → Contains xs (n, i) → ⊥) → ((i : ℕ) → Contains ys (n, i) → ⊥) → (i : ℕ) → Contains (xs ++ ys) (n, i) → ⊥
-in-either xs ys n f g i c = elim (Contains-append_cases xs ys (n, i) c) [
-  | inl l ↦ f i l
-  | inr r ↦ g i r
-]
+in-either xs ys n f g i c = elim (Contains-append_cases xs ys (n, i) c) [ inl l ↦ f i l | inr r ↦ g i r ]
 
 -- what is pushed to the first of two lists, or to the second, is one more in both
 pub pushed-first : (xs ys : List (ℕ × ℕ)) (e : ℕ × ℕ) → IsPermutation ((xs ++ ys) ++ e ∷ []) ((xs ++ e ∷ []) ++ ys)
@@ -57,7 +54,5 @@ pub number-behind : (xs es : List (ℕ × ℕ)) (n : ℕ) (o : Option ℕ) → o
 number-behind xs es n o q = some-when o _ (λ v e. Contains-append_right xs es (n, v) (at-some o (λ i. Contains es (n, i)) v e (number-found es n o q)))
 
 -- where it finds nothing, and the first has no such number, neither do both
-pub number-nowhere : (xs es : List (ℕ × ℕ)) (n : ℕ) (o : Option ℕ) → o ≡ lookup (is_at (nat_cmp n)) es → ((i : ℕ) → Contains xs (n, i) → ⊥)
-    → IfNone o ((i : ℕ) → Contains (xs ++ es) (n, i) → ⊥)
-number-nowhere xs es n o q none = none-when o _
-    (λ e. in-either xs es n none (λ i c. absent (is_at (nat_cmp n)) es (sym q ∙ e) n i c (ap is_eq (equal-self nat_cmp_total n))))
+pub number-nowhere : (xs es : List (ℕ × ℕ)) (n : ℕ) (o : Option ℕ) → o ≡ lookup (is_at (nat_cmp n)) es → ((i : ℕ) → Contains xs (n, i) → ⊥) → IfNone o ((i : ℕ) → Contains (xs ++ es) (n, i) → ⊥)
+number-nowhere xs es n o q none = none-when o _ (λ e. in-either xs es n none (λ i c. absent (is_at (nat_cmp n)) es (sym q ∙ e) n i c (ap is_eq (equal-self nat_cmp_total n))))

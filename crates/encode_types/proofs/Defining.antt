@@ -62,8 +62,7 @@ pub shows-none : (r : Resolve) (scope : Scope) (m m' : TypeEncodingMaps) (d d' :
 shows-none r scope m m' d d' e f = record {
   learnt = [];
   shown = [];
-  numbers =
-      subst (λ (es : List (ℕ × ℕ)). IsPermutation (m.id_to_index.entries ++ []) es) (append-nil m.id_to_index.entries ∙ sym e) (IsPermutation-refl _);
+  numbers = subst (λ (es : List (ℕ × ℕ)). IsPermutation (m.id_to_index.entries ++ []) es) (append-nil m.id_to_index.entries ∙ sym e) (IsPermutation-refl _);
   exports = f ∙ sym (append-nil d.exports);
   declared = λ x c. none-in x c;
   names = refl;
@@ -102,13 +101,12 @@ counts-trans {r} {scope} {scope'} {a} {b} {c} {d} {e} {f} s p q =
     record {
       slots = slots-then p.slots q'.slots;
       functions = q'.functions ∙ p.functions;
-      keys =
-          record {
-            lists = q'.keys.lists ∙ p.keys.lists;
-            names_ = q'.keys.names_ ∙ p.keys.names_;
-            units =
-                record { future_ = q'.keys.units.future_ ∙ p.keys.units.future_; stream_ = q'.keys.units.stream_ ∙ p.keys.units.stream_ };
-          };
+      keys = record {
+        lists = q'.keys.lists ∙ p.keys.lists;
+        names_ = q'.keys.names_ ∙ p.keys.names_;
+        units =
+            record { future_ = q'.keys.units.future_ ∙ p.keys.units.future_; stream_ = q'.keys.units.stream_ ∙ p.keys.units.stream_ };
+      };
       shows = shows-trans p.shows q'.shows;
     }
 
@@ -133,8 +131,7 @@ counts-number r scope m m' d d' id i l n b e = record {
 
 -- a resource
 pub counts-resource : (r : Resolve) (scope : Scope) (m m' : TypeEncodingMaps) (d d' : Definitions) (id : TypeId) (i : ℕ) (name : ExternName) → LearnsNumber m m' id i
-    → own_name r scope id.0 ≡ Some name.text → is_defined_by_name r scope id.0 ≡ false → ExportsOne scope d d' None name
-    → AddsTypes r scope m m' d d'
+    → own_name r scope id.0 ≡ Some name.text → is_defined_by_name r scope id.0 ≡ false → ExportsOne scope d d' None name → AddsTypes r scope m m' d d'
 counts-resource r scope m m' d d' id i name l n b x = record {
   slots = slots-number r scope m m' d d' id i l b (ap (λ (z : Definitions). z.types) x.one_more) (ap (λ (z : Definitions). z.exported) x.one_more ∙ append-nil d.exported);
   functions = ap (λ (z : Definitions). z.functions) x.one_more;
@@ -152,7 +149,7 @@ pub counts-named : (r : Resolve) (scope : Scope) (m m' : TypeEncodingMaps) (d d�
     → own_name r scope id.0 ≡ Some name.text → is_defined_by_name r scope id.0 ≡ b → d₁ ≡ type_more_if b j d
     → ExportsOne scope d₁ d' (Some j) name → (b ≡ false → IsTarget r m j) → AddsTypes r scope m m' d d'
 counts-named r scope m m' d d₁ d' id i j b name l n q e x target = record {
-  slots = slots-named r scope m m' d d' id i j b l q (ap (λ (z : Definitions). z.types) x.one_more ∙ ap (λ (z : Definitions). z.types) e)
+  slots = slots-named r scope m m' d d' id i l j b q (ap (λ (z : Definitions). z.types) x.one_more ∙ ap (λ (z : Definitions). z.types) e)
       (ap (λ (z : Definitions). z.exported) x.one_more ∙ ap (λ (z : Definitions). z.exported ++ j ∷ []) e ∙ ap (λ xs. xs ++ j ∷ []) (same-but-types b j d).0) target;
   functions = ap (λ (z : Definitions). z.functions) x.one_more ∙ ap (λ (z : Definitions). z.functions) e ∙ (same-but-types b j d).1;
   keys = record { lists = l.rest.keys; names_ = l.rest.names_; units = record { future_ = l.rest.unit_future_; stream_ = l.rest.unit_stream_ } };

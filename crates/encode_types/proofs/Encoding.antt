@@ -1,5 +1,5 @@
 -- The loop that defines what types need, in order.
-use Rattle.std.proofs.Common.{◌≡◌, refl, sym, subst, ap, ◌∙◌, ℕ, ◌+◌, ◌<◌, ◌≤◌, false, ◌&&◌, List, [], ◌∷◌, ◌++◌, inl, inr, Option, Some, None, length, take, get_or, arith, unwrap_or}
+use Rattle.std.proofs.Common.{◌≡◌, refl, subst, ap, ◌∙◌, ℕ, ◌+◌, ◌<◌, ◌≤◌, false, ◌&&◌, List, ◌++◌, inl, inr, Option, Some, None, length, take, get_or, arith, unwrap_or}
 use Rattle.std.proofs.lemmas.List.{take_more, take_all}
 use Rattle.std.proofs.lemmas.List.Elements.{Contains-push_cases, Contains-push, Contains-append_left, Contains-append_right}
 use Rattle.std.specs.Prelude.{is_none, is_some, String, option_and_then, option_map, cond}
@@ -58,31 +58,23 @@ meets-before r own m m' g _ _ (further id def t n lacks at f c p) = further id d
 
 pub reaches-in_range : (r : Resolve) (own : Option InterfaceId) → IsLayered r → (t : ValueType) (n : ℕ) → InRange r t → Reaches r own t n → n < length r.types.items
 reaches-in_range r own l _ _ inside (itself id) = inside id refl
-reaches-in_range r own l _ _ inside (through id def t n at f c re) = reaches-in_range r own l t n
-    (λ id' e. let here : id.0 < length r.types.items = inside id refl in
+reaches-in_range r own l _ _ inside (through id def t n at f c re) = reaches-in_range r own l t n (λ id' e. let here : id.0 < length r.types.items = inside id refl in
     let below : id'.0 < id.0 = part-smaller r l id.0 def id' at (subst (λ (x : ValueType). Contains (parts_of def.kind) x) e c) in omega arith)
     re
 
 pub ready-now : (r : Resolve) (own : Option InterfaceId) (m₀ m : TypeEncodingMaps) (items : List ℕ) (k : ℕ) → IsOrdered r own m₀ items → k < length items → MapsGrow m₀ m
-    → ((j : ℕ) → Contains (take k items) j → IsKnown m j)
-    → (def : TypeDef) → type_at r (get_or items k 0) ≡ Some def → foreign_owner own def.owner ≡ None → AllReady m (parts_of def.kind)
+    → ((j : ℕ) → Contains (take k items) j → IsKnown m j) → (def : TypeDef) → type_at r (get_or items k 0) ≡ Some def → foreign_owner own def.owner ≡ None → AllReady m (parts_of def.kind)
 ready-now r own m₀ m items k o lt g known def at f t c id e =
     elim (o k lt def id at f (subst (λ (x : ValueType). Contains (parts_of def.kind) x) e c)) [ inl q ↦ known-grow m₀ m id.0 g q | inr q ↦ known id.0 q ]
 
 pub known-more : (m m' : TypeEncodingMaps) (items : List ℕ) (k : ℕ) → k < length items → MapsGrow m m' → ((j : ℕ) → Contains (take k items) j → IsKnown m j) → IsKnown m' (get_or items k 0)
     → (j : ℕ) → Contains (take (k + 1) items) j → IsKnown m' j
 known-more m m' items k lt g known here j h =
-    elim (Contains-push_cases _ _ _ (subst (λ (xs : List ℕ). Contains xs j) (take_more items k 0 lt) h)) [
-      | inl q ↦ known-grow m m' j g (known j q)
-      | inr e ↦ subst (λ (x : ℕ). IsKnown m' x) e here
-    ]
+    elim (Contains-push_cases _ _ _ (subst (λ (xs : List ℕ). Contains xs j) (take_more items k 0 lt) h)) [ inl q ↦ known-grow m m' j g (known j q) | inr e ↦ subst (λ (x : ℕ). IsKnown m' x) e here ]
 
 pub ready-at-last : (r : Resolve) (own : Option InterfaceId) (m₀ m : TypeEncodingMaps) (ts : List ValueType) (items : List ℕ) (k : ℕ) → IsOrderOf r own m₀ ts items → length items ≤ k → MapsGrow m₀ m
     → ((j : ℕ) → Contains (take k items) j → IsKnown m j) → AllReady m ts
-ready-at-last r own m₀ m ts items k p le g known t c id e = elim (p.stands t c id e) [
-  | inl q ↦ known-grow m₀ m id.0 g q
-  | inr q ↦ known id.0 (subst (λ (xs : List ℕ). Contains xs id.0) (sym (take_all k items le)) q)
-]
+ready-at-last r own m₀ m ts items k p le g known t c id e = elim (p.stands t c id e) [ inl q ↦ known-grow m₀ m id.0 g q | inr q ↦ known id.0 (rw (take_all k items le) q) ]
 
 pub learns-nothing : (P : ℕ → Type 0) (m : TypeEncodingMaps) → LearnsOnly P m m
 learns-nothing P m = record { each = λ id i c. inl c }
@@ -92,33 +84,21 @@ pub learns-more : (m m' m'' : TypeEncodingMaps) (items : List ℕ) (k : ℕ) →
     → LearnsOnly (λ n. Contains (take (k + 1) items) n) m m''
 learns-more m m' m'' items k lt l o = record {
   each = λ id i c. elim (o.only.each id i c) [
-    | inl q ↦ elim (l.each id i q) [
-      | inl p ↦ inl p
-      | inr p ↦ inr (subst (λ (xs : List ℕ). Contains xs id) (sym (take_more items k 0 lt)) (Contains-append_left _ _ id p))
-    ]
-    | inr e ↦ inr (subst (λ (xs : List ℕ). Contains xs id) (sym (take_more items k 0 lt))
-        (subst (λ (x : ℕ). Contains (take k items ++ get_or items k 0 ∷ []) x) (sym e) (Contains-push _ (get_or items k 0))))
+    | inl q ↦ elim (l.each id i q) [ inl p ↦ inl p | inr p ↦ inr (rw (take_more items k 0 lt) (Contains-append_left (take k items) _ id p)) ]
+    | inr e ↦ inr (rw (take_more items k 0 lt, e) (Contains-push (take k items) (get_or items k 0)))
   ];
 }
 
 pub learns-at-last : (r : Resolve) (own : Option InterfaceId) (m m' : TypeEncodingMaps) (ts : List ValueType) (items : List ℕ) (k : ℕ) → IsOrderOf r own m ts items → length items ≤ k
     → LearnsOnly (λ n. Contains (take k items) n) m m' → LearnsOnly (MetFrom r own m ts) m m'
-learns-at-last r own m m' ts items k o le l = record {
-  each = λ id i c. elim (l.each id i c) [
-    | inl q ↦ inl q
-    | inr q ↦ inr (o.added id (subst (λ (xs : List ℕ). Contains xs id) (take_all k items le) q))
-  ];
-}
+learns-at-last r own m m' ts items k o le l = record { each = λ id i c. elim (l.each id i c) [ inl q ↦ inl q | inr q ↦ inr (o.added id (rw (take_all k items le) at q)) ] }
 
 -- two lists of types, one after the other
 pub learns-both : (r : Resolve) (own own' : Option InterfaceId) (a b c : TypeEncodingMaps) (xs ys : List ValueType) → own' ≡ own → MapsGrow a b → LearnsOnly (MetFrom r own a xs) a b
     → LearnsOnly (MetFrom r own' b ys) b c → LearnsOnly (MetFrom r own a (xs ++ ys)) a c
 learns-both r own own' a b c xs ys e g p q = record {
   each = λ id i h. elim (q.each id i h) [
-    | inl x ↦ elim (p.each id i x) [
-      | inl y ↦ inl y
-      | inr y ↦ inr (y.0, Contains-append_left xs ys y.0 y.1, y.2)
-    ]
+    | inl x ↦ elim (p.each id i x) [ inl y ↦ inl y | inr y ↦ inr (y.0, Contains-append_left xs ys y.0 y.1, y.2) ]
     | inr y ↦ inr (y.0, Contains-append_right xs ys y.0 y.1, meets-before r own a b g y.0 id (subst (λ (o : Option InterfaceId). Meets r o b y.0 id) e y.2))
   ];
 }

@@ -9,8 +9,8 @@ use Rattle.encode_types.specs.declared.key.FunctionKey.{FunctionKey}
 use Rattle.encode_types.specs.{Key.same_type, Key.same_param, Key.same_key, Maps.same_kind, CodeLaws.EqualKinds, CodeLaws.EqualKeys}
 use Rattle.encode_types.specs.KeyLaws.{type_equiv, text_same}
 use Rattle.encode_types.specs.Codes.{type_code, optional_code, kind_code, Names, IsTable, AreListed, async_code, IsKeyList}
-use Rattle.encode_types.proofs.KindLaws.{same_types, optional_same, types_same, clash}
-use Rattle.base_lemmas.proofs.Bools.{left_of as first_true, right_of as second_true}
+use Rattle.encode_types.proofs.KindLaws.{same_types, optional_same, told_alike, clash}
+use Rattle.base_lemmas.proofs.{Bools.left_of as first_true, Bools.right_of as second_true, Lists.heads_equal as head-same, Lists.tails_equal as tail-same}
 use Rattle.wit_model.proofs.TextLemmas.{text_alike as text-refl}
 use Rattle.wit_model.specs.declared.model.TypeDefKind.TheVariants as kind
 use Rattle.wit_model.specs.declared.model.Handle.TheVariants as handle
@@ -29,16 +29,6 @@ code-back x = search rules
 
 pub type-of-code : (a b : ValueType) → type_code a ≡ type_code b → a ≡ b
 type-of-code a b e = sym (code-back a) ∙ ap type_at_code e ∙ code-back b
-
-head-same : (x y : ℕ) (xs ys : List ℕ) → x ∷ xs ≡ y ∷ ys → x ≡ y
-head-same x y xs ys e = ap (λ l. get_or l 0 x) e
-
-abbrev tail_of : List ℕ → List ℕ
-tail_of [] = []
-tail_of (x ∷ xs) = xs
-
-tail-same : (x y : ℕ) (xs ys : List ℕ) → x ∷ xs ≡ y ∷ ys → xs ≡ ys
-tail-same x y xs ys e = ap tail_of e
 
 same-refl : (a b : ValueType) → a ≡ b → same_type a b ≡ true
 same-refl a b e = subst (λ x. same_type a x ≡ true) e (type_equiv.refl a)
@@ -105,22 +95,7 @@ kinds-of-lists (kind.Stream a) (kind.Stream b) n m e = optional-alone a b (tail-
 kinds-of-lists a b n m e = clash (is_named_kind a) (nat_eq (case_number a) (case_number b)) n (same-case a b e) refl
 
 pub lists-of-kinds : (a b : TypeDefKind) → is_named_kind a ≡ false → same_kind a b ≡ true → kind_code a ≡ kind_code b
-lists-of-kinds (kind.Option a) (kind.Option b) n e = let h : same_type a b ≡ true = search rules in ap (λ t. kind_code (kind.Option t)) (same_types a b h)
-lists-of-kinds (kind.List a) (kind.List b) n e = let h : same_type a b ≡ true = search rules in ap (λ t. kind_code (kind.List t)) (same_types a b h)
-lists-of-kinds (kind.Handle a) (kind.Handle b) n e = let h : kind.Handle a ≡ kind.Handle b = search rules in ap kind_code h
-lists-of-kinds (kind.Tuple a) (kind.Tuple b) n e = let h : pointwise same_type a.types.items b.types.items ≡ true = search rules in ap (λ xs. 2 ∷ map type_code xs) (types_same _ _ h)
-lists-of-kinds (kind.Result a) (kind.Result b) n e =
-    let h = optional_same a.ok b.ok (first_true (option_eq same_type a.ok b.ok) (option_eq same_type a.err b.err) e) in
-    let k = optional_same a.err b.err (second_true (option_eq same_type a.ok b.ok) (option_eq same_type a.err b.err) e) in
-    λ i. 4 ∷ (optional_code (h i) ++ optional_code (k i))
-lists-of-kinds (kind.Map a x) (kind.Map b y) n e =
-    let h = same_types a b (first_true (same_type a b) (same_type x y) e) in
-    let k = same_types x y (second_true (same_type a b) (same_type x y) e) in
-    λ i. kind_code (kind.Map (h i) (k i))
-lists-of-kinds (kind.FixedLengthList a x) (kind.FixedLengthList b y) n e = search rules
-lists-of-kinds (kind.Future a) (kind.Future b) n e = let h : option_eq same_type a b ≡ true = search rules in ap (λ t. kind_code (kind.Future t)) (optional_same a b h)
-lists-of-kinds (kind.Stream a) (kind.Stream b) n e = let h : option_eq same_type a b ≡ true = search rules in ap (λ t. kind_code (kind.Stream t)) (optional_same a b h)
-lists-of-kinds a b n e = clash (is_named_kind a) (same_kind a b) n e refl
+lists-of-kinds = told_alike kind_code (λ a b e. ap (λ xs. 2 ∷ map type_code xs) e)
 
 pub equal_kinds : EqualKinds
 equal_kinds = λ a b n m. record { same = kinds-of-lists a b n m; equal = lists-of-kinds a b n }
@@ -164,8 +139,7 @@ lists-of-params names t ps qs xs ys l k e = absurd l
 
 -- A list that is that of parameters in a table, and of others in a smaller one: so it is that of the first in the smaller one.
 listed-shrink : (names names' : Names) → IsTable names' → ((t : Text) (n : ℕ) → Contains names (t, n) → Contains names' (t, n)) → (ps qs : List Param) (xs ys us vs : List ℕ) → AreListed names' ps xs
-    → AreListed names qs ys
-    → length ps ≡ length qs → xs ++ us ≡ ys ++ vs → AreListed names ps xs
+    → AreListed names qs ys → length ps ≡ length qs → xs ++ us ≡ ys ++ vs → AreListed names ps xs
 listed-shrink names names' t g [] qs [] ys us vs l k n e = tt
 listed-shrink names names' t g (p ∷ ps) [] xs ys us vs l k n e = absurd (omega (arith, n))
 listed-shrink names names' t g (p ∷ ps) (q ∷ qs) (x ∷ a ∷ xs) (y ∷ b ∷ ys) us vs l k n e =

@@ -44,14 +44,12 @@ encode-right r scope scope' xs ys e c = encode-some r scope' (xs ++ ys) ys (Cont
 -- ---- counts
 
 pub counts-key : (r : Resolve) (scope : Scope) (m m₁ m' : TypeEncodingMaps) (d d₁ d' : Definitions) (key : FunctionKey) (xs : List ℕ) (i : ℕ) → LacksKey m key → AddsTypes r scope m m₁ d d₁
-    → IsKeyList (names_of m₁.names) key xs → LearnsKeyList m₁ m' xs i → d' ≡ one_function_more i d₁
-    → AddsFunction r scope m m' d d' key i
+    → IsKeyList (names_of m₁.names) key xs → LearnsKeyList m₁ m' xs i → d' ≡ one_function_more i d₁ → AddsFunction r scope m m' d d' key i
 counts-key r scope m m₁ m' d d₁ d' key xs i lacks a is l e = search (std_rules, slots-none, names-same, slots-then, shows-trans, shows-none)
 
 -- a key whose list is there: its names had numbers, so none was added
 pub counts-found : (r : Resolve) (scope : Scope) (m m' : TypeEncodingMaps) (d d' : Definitions) (key : FunctionKey) (xs : List ℕ) (i : ℕ) → IsOnce m → AddsNames m m' → KeepsKnownNames key m m'
-    → IsKeyList (names_of m'.names) key xs → Contains (lists_of m'.func_type_map) (xs, i) → d' ≡ d
-    → AddsFunction r scope m m' d d' key i
+    → IsKeyList (names_of m'.names) key xs → Contains (lists_of m'.func_type_map) (xs, i) → d' ≡ d → AddsFunction r scope m m' d d' key i
 counts-found r scope m m' d d' key xs i once s keep is c e =
     let has : HasKey m key i = adds-back m m' once s (by_key key) i (xs, is, c) in
     let names : m'.names.entries ≡ m.names.entries = keep (λ p h. listed-names (names_of m.names) key.params.0.now has.1.middle p has.1.listed h) in

@@ -11,7 +11,7 @@ use Rattle.encode_types.specs.{Key.IsKeyOf, Kinds.parts_of, Codes.kind_code, Cod
 use Rattle.encode_types.specs.Maps.{IsKnown, IsReady, AllReady, HasKind, MapsGrow, AddsNames, LearnsOne, LearnsList, LearnsKeyList, by_kind}
 use Rattle.encode_types.specs.{Scope.Scope, Counts.Definitions, Counts.SameKeys, Counts.AddsTypes}
 use Rattle.encode_types.specs.MetKinds.{IsKnownKind, IsKnownList, IsReadyKey, KeepsNames, IsHeld, key_types, Learns, LearnsMet, LearnsKindOf}
-use Rattle.encode_types.proofs.{Tables.new-in, Tables.one-more-in, Tables.key-grow, Encoding.learns-nothing, Encoding.learns-both, Encoding.learns-same}
+use Rattle.encode_types.proofs.{Tables.new-in, Tables.entry-more, Tables.key-grow, Encoding.learns-nothing, Encoding.learns-both, Encoding.learns-same}
 use Rattle.encode_types.proofs.{Agree.known-grow, Agree.adds-holds, Lists.none-in, Writing.on-three}
 use Rattle.base_lemmas.proofs.Elements.{last_of as one-contained}
 
@@ -42,14 +42,8 @@ learns-then {r} {own} {own'} {a} {b} {c} e p q' =
     record {
       grow = record { keeps = λ k i h. q.grow.keeps k i (p.grow.keeps k i h) };
       names_ = record { kept_list = λ k ys h. q.names_.kept_list k ys (p.names_.kept_list k ys h) };
-      numbers = λ n def k at f. elim (q.numbers n def k at f) [
-        | inl x ↦ elim (p.numbers n def x at f) [ inl y ↦ inl y | inr h ↦ inr (held-grow b c def q.grow h) ]
-        | inr h ↦ inr h
-      ];
-      kinds = λ k i h. elim (q.kinds k i h) [
-        | inl x ↦ elim (p.kinds k i x) [ inl y ↦ inl y | inr z ↦ inr (known-list-grow r b c k q.grow z) ]
-        | inr z ↦ inr z
-      ];
+      numbers = λ n def k at f. elim (q.numbers n def k at f) [ inl x ↦ elim (p.numbers n def x at f) [ inl y ↦ inl y | inr h ↦ inr (held-grow b c def q.grow h) ] | inr h ↦ inr h ];
+      kinds = λ k i h. elim (q.kinds k i h) [ inl x ↦ elim (p.kinds k i x) [ inl y ↦ inl y | inr z ↦ inr (known-list-grow r b c k q.grow z) ] | inr z ↦ inr z ];
       keys = λ k i h. elim (q.keys k i h) [
         | inl x ↦ elim (p.keys k i x) [ inl y ↦ inl y | inr z ↦ inr (record { key = z.key; is = q.names_.kept_list z.key k z.is; ready = ready-grow b c (key_types z.key) q.grow z.ready }) ]
         | inr z ↦ inr z
@@ -68,12 +62,9 @@ module _ (r : Resolve) (own : Option InterfaceId) (m m' : TypeEncodingMaps) (n :
   only-here : IsHeld m' def ⊎ (foreign_owner own def.owner ≡ None → ⊥) → (k : ℕ) (d : TypeDef) → IsKnown m' k → type_at r k ≡ Some d → foreign_owner own d.owner ≡ None → IsKnown m k ⊎ IsHeld m' d
   only-here held k d known at' f = elim (one.only.each k known.0 known.1) [
     | inl c ↦ inl (known.0, c)
-    | inr e ↦ inr (here held (some-same def d (sym at ∙ ap (type_at r) (sym e) ∙ at')))
+    | inr e ↦ (let same : def ≡ d = some-same def d (sym at ∙ ap (type_at r) (sym e) ∙ at') in
+        inr (elim held [ inl h ↦ subst (IsHeld m') same h | inr no_home ↦ absurd (no_home (ap (λ (x : TypeDef). foreign_owner own x.owner) same ∙ f)) ]))
   ]
-    where
-      here : IsHeld m' def ⊎ (foreign_owner own def.owner ≡ None → ⊥) → def ≡ d → IsHeld m' d
-      here (inl h) e = subst (IsHeld m') e h
-      here (inr no_home) e = absurd (no_home (ap (λ (x : TypeDef). foreign_owner own x.owner) e ∙ f))
 
   -- an unnamed type, whose parts are known
   pub learns-unnamed : AllReady m (parts_of def.kind) → def.name ≡ None → LearnsKindOf m m' def.kind → Learns r own m m'
@@ -89,22 +80,22 @@ module _ (r : Resolve) (own : Option InterfaceId) (m m' : TypeEncodingMaps) (n :
   }
 
   module _ (kinds : m'.def_to_index.entries ≡ m.def_to_index.entries) where
-    old-kinds : (ys : List ℕ) (i : ℕ) → Contains (lists_of m'.def_to_index) (ys, i) → Contains (lists_of m.def_to_index) (ys, i) ⊎ IsKnownList r m' ys
-    old-kinds ys i c = inl (subst (λ (es : List (ListKey × ℕ)). Contains (map {B = List ℕ × ℕ} (λ e. (e.0.0.items, e.1)) es) (ys, i)) kinds c)
-
-    -- a named one
-    pub learns-named : AllReady m (parts_of def.kind) → (def.name ≡ None → ⊥) → Learns r own m m'
-    learns-named ready named = record {
+    learns-kept : IsHeld m' def ⊎ (foreign_owner own def.owner ≡ None → ⊥) → Learns r own m m'
+    learns-kept held = record {
       grow = grow;
       names_ = old-names;
-      numbers = only-here (inl (record { parts = ready-grow m m' (parts_of def.kind) grow ready; kind = λ e. absurd (named e) }));
-      kinds = old-kinds;
+      numbers = only-here held;
+      kinds = λ ys i c. inl (subst (λ (es : List (ListKey × ℕ)). Contains (map {B = List ℕ × ℕ} (λ e. (e.0.0.items, e.1)) es) (ys, i)) kinds c);
       keys = old-keys;
     }
 
+    -- a named one
+    pub learns-named : AllReady m (parts_of def.kind) → (def.name ≡ None → ⊥) → Learns r own m m'
+    learns-named ready named = learns-kept (inl (record { parts = ready-grow m m' (parts_of def.kind) grow ready; kind = λ e. absurd (named e) }))
+
     -- one of another interface
     pub learns-foreign : (foreign_owner own def.owner ≡ None → ⊥) → Learns r own m m'
-    learns-foreign no_home = record { grow = grow; names_ = old-names; numbers = only-here (inr no_home); kinds = old-kinds; keys = old-keys }
+    learns-foreign no_home = learns-kept (inr no_home)
 
 -- ---- one kind
 
@@ -113,10 +104,7 @@ kind-learnt m m₁ m' kind xs i e unnamed is l' =
     let l : LearnsList m m' xs i = subst (λ (z : TypeEncodingMaps). LearnsList z m' xs i) e l' in
     record {
       known = (i, (unnamed, subst (λ (ys : List ℕ). Contains (lists_of m'.def_to_index) (ys, i)) is (new-in (lists_of m.def_to_index) (lists_of m'.def_to_index) (xs, i) l.more)));
-      only = λ ys j c. elim (one-more-in (lists_of m.def_to_index) (lists_of m'.def_to_index) (xs, i) l.more (ys, j) c) [
-        | inl h ↦ inl h
-        | inr h ↦ inr (ap (λ (z : List ℕ × ℕ). z.0) (sym h) ∙ is)
-      ];
+      only = λ ys j c. elim (entry-more (lists_of m.def_to_index) (lists_of m'.def_to_index) xs i l.more ys j c) [ inl h ↦ inl h | inr h ↦ inr (h.0 ∙ is) ];
     }
 
 pub kind-had : (m : TypeEncodingMaps) (kind : TypeDefKind) (i : ℕ) → HasKind m kind i → LearnsKindOf m m kind
@@ -143,9 +131,8 @@ module _ {A E : Type 0} (x : Result A E) (r : Resolve) (scope : Scope) (m m' : T
 
   pub learns-call-foreign : OnOk x (LearnsOne m m' n) → MapsGrow m m' → OnOk x (AddsTypes r scope m m' d d') → OnOk x (m'.def_to_index.entries ≡ m.def_to_index.entries)
       → (i : InterfaceId) → foreign_owner scope.own_interface def.owner ≡ Some i → OnOk x (Learns r scope.own_interface m m')
-  learns-call-foreign one grow counts kinds i f = on-three x _ _ _ _
-      (λ one counts kinds. learns-foreign r scope.own_interface m m' n def at one grow counts.keys kinds (λ none. let e : None ≡ Some i = sym none ∙ f in let z : ⊥ = cc in z))
-      one counts kinds
+  learns-call-foreign one grow counts kinds i f = on-three x _ _ _ _ (λ one counts kinds. learns-foreign r scope.own_interface m m' n def at one grow counts.keys kinds
+      (λ none. let e : None ≡ Some i = sym none ∙ f in let z : ⊥ = cc in z)) one counts kinds
 
 -- ---- types
 
@@ -181,13 +168,9 @@ met-key r own m m₁ m₂ m' key xs i f is met ready e listed l' grow = record {
     names_ = record { kept_list = same-names };
     numbers = λ n def k at f. inl (k.0, subst (λ (xs : List (ℕ × ℕ)). Contains xs (n, k.0)) l.rest.numbers k.1);
     kinds = λ ys j c. inl (subst (λ (es : List (ListKey × ℕ)). Contains (map {B = List ℕ × ℕ} (λ e. (e.0.0.items, e.1)) es) (ys, j)) l.rest.kinds c);
-    keys = λ ys j c. elim (one-more-in (lists_of m₁.func_type_map) (lists_of m'.func_type_map) (xs, i) l.more (ys, j) c) [
+    keys = λ ys j c. elim (entry-more (lists_of m₁.func_type_map) (lists_of m'.func_type_map) xs i l.more ys j c) [
       | inl h ↦ inl h
-      | inr h ↦ inr (record {
-        key = key;
-        is = subst (IsKeyList (names_of m'.names) key) (ap (λ (z : List ℕ × ℕ). z.0) h) (same-names key xs listed);
-        ready = subst (AllReady m') (sym (key-types key f is)) (ready-grow m₁ m' (function_types f) more ready);
-      })
+      | inr h ↦ inr (record { key = key; is = rw h.0 (same-names key xs listed); ready = subst (AllReady m') (sym (key-types key f is)) (ready-grow m₁ m' (function_types f) more ready) })
     ];
   });
 }

@@ -24,5 +24,4 @@ pairs-map f R [] h i j d l n = absurd (omega (arith, n))
 pairs-map f R (x ∷ xs) h i j d l n =
     let m : j < length (x ∷ xs) = subst (λ (k : ℕ). j < k) (length-map (x ∷ xs) f) n in
     let k : i < length (x ∷ xs) = omega arith in
-    subst (λ y. R y (get_or (map f (x ∷ xs)) j d)) (sym (get_or-map f (x ∷ xs) i x d k))
-    (subst (λ y. R (f (get_or (x ∷ xs) i x)) y) (sym (get_or-map f (x ∷ xs) j x d m)) (h i j x l m))
+    subst (λ y. R y (get_or (map f (x ∷ xs)) j d)) (sym (get_or-map f (x ∷ xs) i x d k)) (subst (λ y. R (f (get_or (x ∷ xs) i x)) y) (sym (get_or-map f (x ∷ xs) j x d m)) (h i j x l m))

@@ -1,9 +1,9 @@
 -- How much an encoder holds, and what it has no room for, call after call.
-use Rattle.std.proofs.Common.{rules as std_rules, ◌≡◌, refl, sym, subst, ap, ◌∙◌, ℕ, suc, ◌+◌, ◌*◌, ◌<◌, ◌≤◌, ◌&&◌, ◌⊎◌, inl, inr, Bool, true, false, cond, List, [], ◌∷◌, ◌++◌, map, length, length-append, append-nil, take, drop, Option, Some, None, arith, nat_eq, Result, OnOk}
-use Rattle.std.proofs.lemmas.{List.Concat.flat_map-append, List.map-append, List.take-append-drop, List.Kept.AllPairs-cons, Bool.eqb-true, Bool.or_from as neither, Option.same_Some as some-same}
+use Rattle.std.proofs.Common.{rules as std_rules, ◌≡◌, refl, sym, subst, ap, ◌∙◌, ℕ, ◌+◌, ◌*◌, ◌<◌, ◌≤◌, ◌&&◌, ◌⊎◌, inl, inr, Bool, false, cond, List, [], ◌∷◌, ◌++◌, map, length, length-append, append-nil, take, drop, Option, Some, None, arith, nat_eq, Result, OnOk}
+use Rattle.std.proofs.lemmas.{List.Concat.flat_map-append, List.map-append, List.take-append-drop, List.Kept.AllPairs-cons, Bool.eqb-true, Bool.false_from_ne_true, Bool.or_from as neither, Option.same_Some as some-same}
 use Rattle.std.proofs.lemmas.List.{Sorted.IsPermutation-sym, Sorted.Contains-permutation, Sorted.length_permutation, Sums.sum_by-cons, Sums.sum_by-append}
 use Rattle.std.proofs.lemmas.List.Elements.{Contains-append_left, Contains-append_right, Contains-append_cases, Contains-get_or}
-use Rattle.std.specs.{Prelude.flat_map, Prelude.is_none, Prelude.option_and_then, Prelude.String, Prelude.IsPermutation, List.Contains, List.AllPairs, List.All}
+use Rattle.std.specs.{Prelude.flat_map, Prelude.is_none, Prelude.option_and_then, Prelude.String, Prelude.IsPermutation, List.Contains, List.AllPairs}
 use Rattle.std.specs.declared.alloc.Global.{Global}
 use Rattle.wit_model.specs.{Lookup.type_at, Rules.is_named_kind}
 use Rattle.wit_model.specs.declared.model.{Resolve.Resolve, TypeDef.TypeDef, TypeDefKind.TypeDefKind, InterfaceId.InterfaceId, «Type».«Type» as ValueType}
@@ -14,23 +14,15 @@ use Rattle.encode_types.specs.Plan.{foreign_owner, Reaches, itself, through, IsO
 use Rattle.encode_types.specs.Maps.{same_kind, IsKnown, HasKind, LacksKind, LearnsOnly, MapsGrow, by_kind}
 use Rattle.encode_types.specs.Room.{Request, Refusals, number_count, numbers_count, unnamed_kind, are_one_kind, share_declarations, IsNewKind, AreNew, HoldsFor, LacksPart, LacksOne, a_type, a_request, FindsNoRoom}
 use Rattle.encode_types.proofs.{Agree.known-grow, EqualLists.lists-of-kinds, Lists.none-in, Encoding.meets-reaches, Pairs.pairs-head, Pairs.pairs-tail}
-use Rattle.base_lemmas.proofs.{Bools.first_false as first-false, Elements.contains-one, Elements.last_of as one-contained}
+use Rattle.base_lemmas.proofs.{Bools.first_false as first-false, Elements.contains-one, Elements.contains-later, Elements.first-contained, Elements.last_of as one-contained}
 use Rattle.wit_model.specs.declared.model.«Type».TheVariants as ty
 
 -- ---- lists without repeats
 
 pub pairs-both : {X : Type 0} (R : X → X → Type 0) (xs ys : List X) → AllPairs R xs → AllPairs R ys → ((x y : X) → Contains xs x → Contains ys y → R x y) → AllPairs R (xs ++ ys)
 pairs-both R [] ys a b h = b
-pairs-both {X} R (x ∷ xs) ys a b h = AllPairs-cons R x (xs ++ ys) each (pairs-both R xs ys (pairs-tail R x xs a) b (λ y z c d. h y z (later y c) d))
-  where
-    later : (y : X) → Contains xs y → Contains (x ∷ xs) y
-    later y (i, l, e) = (suc i, omega (arith, l), e)
-
-    each : All (R x) (xs ++ ys)
-    each i d l = elim (Contains-append_cases xs ys _ (Contains-get_or (xs ++ ys) i d l)) [
-      | inl c ↦ pairs-head R x xs _ a c
-      | inr c ↦ h x _ (0, omega arith, refl) c
-    ]
+pairs-both {X} R (x ∷ xs) ys a b h = AllPairs-cons R x (xs ++ ys) (λ i d l. elim (Contains-append_cases xs ys _ (Contains-get_or (xs ++ ys) i d l))
+    [ inl c ↦ pairs-head R x xs _ a c | inr c ↦ h x _ (first-contained x xs) c ]) (pairs-both R xs ys (pairs-tail R x xs a) b (λ y z c d. h y z (contains-later x xs y c) d))
 
 -- ---- type numbers that are new
 
@@ -48,39 +40,26 @@ LacksItsKind r own m n = (kind : TypeDefKind) → unnamed_kind r own n ≡ Some 
 -- a number that is known, and one that is new
 known-apart : (r : Resolve) (own : Option InterfaceId) (m : TypeEncodingMaps) (x y : ℕ) → IsKnown m x → HasItsKind r own m x → (IsKnown m y → ⊥) → LacksItsKind r own m y
     → share_declarations r own x y ≡ false
-known-apart r own m x y known has unknown lacks = neither _ _ (differ (nat_eq x y) refl) (kinds-differ (unnamed_kind r own x) (unnamed_kind r own y) refl refl)
+known-apart r own m x y known has unknown lacks = neither _ _
+    (false_from_ne_true _ (λ e. unknown (subst (IsKnown m) (eqb-true x y e) known))) (differ (unnamed_kind r own x) (unnamed_kind r own y) has lacks)
   where
-    differ : (b : Bool) → nat_eq x y ≡ b → nat_eq x y ≡ false
-    differ false e = e
-    differ true e = absurd (unknown (subst (IsKnown m) (eqb-true x y e) known))
-
-    kinds-differ : (a b : Option TypeDefKind) → unnamed_kind r own x ≡ a → unnamed_kind r own y ≡ b → are_one_kind (unnamed_kind r own x) (unnamed_kind r own y) ≡ false
-    kinds-differ None b p q = ap (λ o. are_one_kind o (unnamed_kind r own y)) p
-    kinds-differ (Some k) None p q = (λ i. are_one_kind (p i) (q i))
-    kinds-differ (Some k) (Some l) p q = (λ i. are_one_kind (p i) (q i)) ∙ by (same_kind k l) refl
-      where
-        by : (b : Bool) → same_kind k l ≡ b → same_kind k l ≡ false
-        by false e = e
-        by true e = let h = has k p in absurd ((lacks l q).lacks h.0 (subst (λ (xs : List ℕ). Contains (lists_of m.def_to_index) (xs, h.0)) (lists-of-kinds k l h.1.0 e) h.1.1))
+    differ : (a b : Option TypeDefKind) → ((k : TypeDefKind) → a ≡ Some k → (i : ℕ) × HasKind m k i) → ((k : TypeDefKind) → b ≡ Some k → IsNewKind m k) → are_one_kind a b ≡ false
+    differ None b p q = refl
+    differ (Some k) None p q = refl
+    differ (Some k) (Some l) p q = false_from_ne_true (same_kind k l) (λ e. let h = p k refl in
+        (q l refl).lacks h.0 (subst (λ (xs : List ℕ). Contains (lists_of m.def_to_index) (xs, h.0)) (lists-of-kinds k l h.1.0 e) h.1.1))
 
 kind-before : (a b : TypeEncodingMaps) (kind : TypeDefKind) → MapsGrow a b → IsNewKind b kind → IsNewKind a kind
 kind-before a b kind g h = record { unnamed = h.unnamed; lacks = λ i c. h.lacks i (g.keeps (by_kind kind) i (h.unnamed, c)).1 }
 
 -- numbers that are new, one after the other
 new-both : {r : Resolve} {own : Option InterfaceId} {a b : TypeEncodingMaps} (xs ys : List ℕ) → MapsGrow a b → AreNew r own a xs → ((n : ℕ) → Contains xs n → IsKnown b n)
-    → ((n : ℕ) (kind : TypeDefKind) → Contains xs n → unnamed_kind r own n ≡ Some kind → (i : ℕ) × HasKind b kind i)
-    → AreNew r own b ys → AreNew r own a (xs ++ ys)
+    → ((n : ℕ) (kind : TypeDefKind) → Contains xs n → unnamed_kind r own n ≡ Some kind → (i : ℕ) × HasKind b kind i) → AreNew r own b ys → AreNew r own a (xs ++ ys)
 new-both {r} {own} {a} {b} xs ys g p known kinds q = record {
   apart = pairs-both (λ x y. share_declarations r own x y ≡ false) xs ys p.apart q.apart
       (λ x y c d. known-apart r own b x y (known x c) (λ k e. kinds x k c e) (q.unknown y d) (λ k e. q.kinds y k d e));
-  unknown = λ n c. elim (Contains-append_cases xs ys n c) [
-    | inl x ↦ p.unknown n x
-    | inr x ↦ (λ k. q.unknown n x (known-grow a b n g k))
-  ];
-  kinds = λ n k c e. elim (Contains-append_cases xs ys n c) [
-    | inl x ↦ p.kinds n k x e
-    | inr x ↦ kind-before a b k g (q.kinds n k x e)
-  ];
+  unknown = λ n c. elim (Contains-append_cases xs ys n c) [ inl x ↦ p.unknown n x | inr x ↦ (λ k. q.unknown n x (known-grow a b n g k)) ];
+  kinds = λ n k c e. elim (Contains-append_cases xs ys n c) [ inl x ↦ p.kinds n k x e | inr x ↦ kind-before a b k g (q.kinds n k x e) ];
 }
 
 new-none : (r : Resolve) (own : Option InterfaceId) (m : TypeEncodingMaps) → AreNew r own m []
@@ -160,8 +139,7 @@ holds-same {r} {own} {a} {b} {c} {h} {h'} {h''} k n e l p = subst (λ (m : TypeE
 
 -- one key of a function more, for which one more is held
 pub holds-key : {r : Resolve} {own : Option InterfaceId} {a b c : TypeEncodingMaps} {h h' h'' : ℕ} → MapsGrow b c → c.id_to_index.entries ≡ b.id_to_index.entries
-    → length c.func_type_map.entries ≡ length b.func_type_map.entries + 1 → h'' ≤ h' + 1
-    → HoldsFor r own a b h h' 0 → HoldsFor r own a c h h'' 0
+    → length c.func_type_map.entries ≡ length b.func_type_map.entries + 1 → h'' ≤ h' + 1 → HoldsFor r own a b h h' 0 → HoldsFor r own a c h h'' 0
 holds-key {r} {own} {a} {b} {c} g e k l p = record {
   numbers = p.numbers;
   new = p.new;
@@ -185,8 +163,7 @@ holds-shared {r} {own} {a} {b} {h} {h'} few keys l = record {
 
 -- one number more, for which what it takes is held
 pub holds-number : {r : Resolve} {own : Option InterfaceId} {a b : TypeEncodingMaps} {h h' : ℕ} (learnt : List (ℕ × ℕ)) (n : ℕ) → IsPermutation (a.id_to_index.entries ++ learnt) b.id_to_index.entries
-    → b.func_type_map.entries ≡ a.func_type_map.entries
-    → IsKnown b n → (IsKnown a n → ⊥) → ((kind : TypeDefKind) → unnamed_kind r own n ≡ Some kind → IsNewKind a kind)
+    → b.func_type_map.entries ≡ a.func_type_map.entries → IsKnown b n → (IsKnown a n → ⊥) → ((kind : TypeDefKind) → unnamed_kind r own n ≡ Some kind → IsNewKind a kind)
     → ((kind : TypeDefKind) → unnamed_kind r own n ≡ Some kind → (i : ℕ) × HasKind b kind i) → h' ≤ h + number_count r own n → HoldsFor r own a b h h' 0
 holds-number {r} {own} {a} {b} {h} {h'} learnt n e keys known unknown new has l = record {
   numbers = n ∷ [];
@@ -198,11 +175,7 @@ holds-number {r} {own} {a} {b} {h} {h'} learnt n e keys known unknown new has l 
 }
   where
     more : (xs : List (ℕ × ℕ)) → IsPermutation (a.id_to_index.entries ++ xs) b.id_to_index.entries → length a.id_to_index.entries + 1 ≤ length b.id_to_index.entries
-    more [] p = absurd (unknown (
-      known.0,
-      subst (λ (es : List (ℕ × ℕ)). Contains es (n, known.0)) (append-nil a.id_to_index.entries)
-          (Contains-permutation _ _ (n, known.0) (IsPermutation-sym _ _ p) known.1),
-    ))
+    more [] p = absurd (unknown (known.0, (rw append-nil at (Contains-permutation _ _ (n, known.0) (IsPermutation-sym _ _ p) known.1))))
     more (x ∷ xs) p = let s = length-append a.id_to_index.entries (x ∷ xs) in let t = length_permutation _ _ p in omega (arith, s, t)
 
 pub no-fewer : (a b learnt : List (ℕ × ℕ)) → IsPermutation (a ++ learnt) b → length a ≤ length b
@@ -210,9 +183,8 @@ no-fewer a b learnt p = let s = length-append a learnt in let t = length_permuta
 
 -- an unnamed number more, whose kind was known, or for which one more is held
 pub holds-unnamed : {r : Resolve} {own : Option InterfaceId} {a b : TypeEncodingMaps} {h h' : ℕ} {kind : TypeDefKind} (learnt : List (ℕ × ℕ)) (n : ℕ)
-    → IsPermutation (a.id_to_index.entries ++ learnt) b.id_to_index.entries → b.func_type_map.entries ≡ a.func_type_map.entries
-    → IsKnown b n → (IsKnown a n → ⊥) → unnamed_kind r own n ≡ Some kind → is_named_kind kind ≡ false → (i : ℕ) × HasKind b kind i → (h' ≤ h + 0) ⊎ (LacksKind a kind × (h' ≤ h + 1))
-    → HoldsFor r own a b h h' 0
+    → IsPermutation (a.id_to_index.entries ++ learnt) b.id_to_index.entries → b.func_type_map.entries ≡ a.func_type_map.entries → IsKnown b n → (IsKnown a n → ⊥) → unnamed_kind r own n ≡ Some kind
+    → is_named_kind kind ≡ false → (i : ℕ) × HasKind b kind i → (h' ≤ h + 0) ⊎ (LacksKind a kind × (h' ≤ h + 1)) → HoldsFor r own a b h h' 0
 holds-unnamed {r} {own} {a} {b} learnt n e keys known unknown is unnamed has (inl l) = holds-shared (no-fewer a.id_to_index.entries b.id_to_index.entries learnt e) keys (omega (arith, l))
 holds-unnamed {r} {own} {a} {b} {h} {h'} {kind} learnt n e keys known unknown is unnamed has (inr (lacks, l)) =
     holds-number learnt n e keys known unknown (new-kind a kind (unnamed_kind r own n) is unnamed lacks)
@@ -252,15 +224,13 @@ pub map-taken : {X Y : Type 0} (f : X → Y) (xs : List X) (i : ℕ) (y : Y) →
 map-taken f xs i y c = subst (λ zs. Contains zs y) (sym (map-append f (take i xs) (drop i xs)) ∙ ap (map f) (take-append-drop i xs)) (Contains-append_left _ _ y c)
 
 pub flat-taken : {X Y Z : Type 0} (f : Y → List Z) (g : X → Y) (xs : List X) (i : ℕ) (z : Z) → Contains (flat_map f (map g (take i xs))) z → Contains (flat_map f (map g xs)) z
-flat-taken f g xs i z c = subst (λ zs. Contains zs z)
-    (sym (flat_map-append f (map g (take i xs)) (map g (drop i xs))) ∙ ap (flat_map f) (sym (map-append g (take i xs) (drop i xs)) ∙ ap (map g) (take-append-drop i xs)))
-    (Contains-append_left _ _ z c)
+flat-taken f g xs i z c = subst (λ zs. Contains zs z) (sym (flat_map-append f (map g (take i xs)) (map g (drop i xs)))
+    ∙ ap (flat_map f) (sym (map-append g (take i xs) (drop i xs)) ∙ ap (map g) (take-append-drop i xs))) (Contains-append_left _ _ z c)
 
 -- what stands in an order is reached
 pub learns-reached : (r : Resolve) (own : Option InterfaceId) (m m' : TypeEncodingMaps) (ts : List ValueType) (items : List ℕ) (k : ℕ) → IsOrderOf r own m ts items
     → LearnsOnly (λ n. Contains (take k items) n) m m' → LearnsOnly (ReachedFrom r own ts) m m'
-learns-reached r own m m' ts items k o l = only-more
-    (λ n c. let a = o.added n (subst (λ xs. Contains xs n) (take-append-drop k items) (Contains-append_left (take k items) (drop k items) n c)) in
+learns-reached r own m m' ts items k o l = only-more (λ n c. let a = o.added n (subst (λ xs. Contains xs n) (take-append-drop k items) (Contains-append_left (take k items) (drop k items) n c)) in
     (a.0, a.1, meets-reaches r own m a.0 n a.2)) l
 
 -- ---- what has no room
@@ -272,8 +242,7 @@ lacks-more f g (a_request q c l) = a_request q (g q c) l
 
 -- the first number
 pub lacks-number : (r : Resolve) (own : Option InterfaceId) (id : TypeId) (def : TypeDef) (m : TypeEncodingMaps) (h h' : ℕ) (N : Refusals) → type_at r id.0 ≡ Some def → (IsKnown m id.0 → ⊥)
-    → ((kind : TypeDefKind) → unnamed_kind r own id.0 ≡ Some kind → IsNewKind m kind)
-    → h' < h + number_count r own id.0 → LacksPart r own N id.0 def → FindsNoRoom r own (ty.Id id ∷ []) [] 0 m h h' N
+    → ((kind : TypeDefKind) → unnamed_kind r own id.0 ≡ Some kind → IsNewKind m kind) → h' < h + number_count r own id.0 → LacksPart r own N id.0 def → FindsNoRoom r own (ty.Id id ∷ []) [] 0 m h h' N
 lacks-number r own id def m h h' N at unknown new l part = record {
   numbers = id.0 ∷ [];
   new = new-one r own m id.0 unknown new;
@@ -285,13 +254,7 @@ lacks-number r own id def m h h' N at unknown new l part = record {
 -- one request
 pub lacks-request : (r : Resolve) (own : Option InterfaceId) (ts : List ValueType) (q : Request) (m : TypeEncodingMaps) (h h' : ℕ) (N : Refusals) → h' ≤ h → N q
     → FindsNoRoom r own ts (q ∷ []) 1 m h h' N
-lacks-request r own ts q m h h' N l n = record {
-  numbers = [];
-  new = new-none r own m;
-  met = λ n c. none-in n c;
-  held = omega (arith, l);
-  lacks = a_request q (contains-one q) n;
-}
+lacks-request r own ts q m h h' N l n = record { numbers = []; new = new-none r own m; met = λ n c. none-in n c; held = omega (arith, l); lacks = a_request q (contains-one q) n }
 
 -- the same among more, by another measure of what is held
 pub room-more : {r : Resolve} {own own' : Option InterfaceId} {ts ts' : List ValueType} {qs qs' : List Request} {k k' : ℕ} {m : TypeEncodingMaps} {h x y : ℕ} {N : Refusals} → own' ≡ own
@@ -309,8 +272,7 @@ room-more {r} {own} {own'} {ts} {ts'} {qs} {qs'} {k} {k'} {m} {h} {x} {y} {N} e 
 
 -- after calls that have learnt what is met from the same types
 pub room-after : {r : Resolve} {own own' : Option InterfaceId} {ts ts' : List ValueType} {qs qs' : List Request} {a b : TypeEncodingMaps} {h h' x y j k k' : ℕ} {N : Refusals} → own' ≡ own
-    → MapsGrow a b → HoldsFor r own a b h h' j
-    → LearnsOnly (ReachedFrom r own ts) a b → ((n : ℕ) → ReachedFrom r own ts' n → ReachedFrom r own ts n) → ((q : Request) → Contains qs' q → Contains qs q)
+    → MapsGrow a b → HoldsFor r own a b h h' j → LearnsOnly (ReachedFrom r own ts) a b → ((n : ℕ) → ReachedFrom r own ts' n → ReachedFrom r own ts n) → ((q : Request) → Contains qs' q → Contains qs q)
     → y + (length b.func_type_map.entries + (j + k')) ≤ x + (length a.func_type_map.entries + k) → FindsNoRoom r own' ts' qs' k' b h' x N → FindsNoRoom r own ts qs k a h y N
 room-after {r} {own} {own'} {ts} {ts'} {qs} {qs'} {a} {b} {h} {h'} {x} {y} {j} {k} {k'} {N} e g holds only reach among count p' =
     let p : FindsNoRoom r own ts' qs' k' b h' x N = subst (λ (o : Option InterfaceId). FindsNoRoom r o ts' qs' k' b h' x N) e p' in
@@ -318,10 +280,7 @@ room-after {r} {own} {own'} {ts} {ts'} {qs} {qs'} {a} {b} {h} {h'} {x} {y} {j} {
       numbers = holds.numbers ++ p.numbers;
       new = new-both holds.numbers p.numbers g holds.new holds.known holds.kinds p.new;
       met = λ n c. elim (Contains-append_cases holds.numbers p.numbers n c) [
-        | inl d ↦ elim (only.each n (holds.known n d).0 (holds.known n d).1) [
-          | inl old ↦ absurd (holds.new.unknown n d ((holds.known n d).0, old))
-          | inr met ↦ met
-        ]
+        | inl d ↦ elim (only.each n (holds.known n d).0 (holds.known n d).1) [ inl old ↦ absurd (holds.new.unknown n d ((holds.known n d).0, old)) | inr met ↦ met ]
         | inr d ↦ reach n (p.met n d)
       ];
       held = (let u = holds.held in let v = p.held in let z = sum_by-append (number_count r own) holds.numbers p.numbers in omega (arith, u, v, z, count));

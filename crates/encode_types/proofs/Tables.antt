@@ -16,20 +16,12 @@ use Rattle.encode_types.specs.Codes.{names_of, lists_of, Names, ListKey, IsTable
 use Rattle.encode_types.specs.{Heads.head_of, Heads.name_order, KeyLaws.key_equiv}
 use Rattle.encode_types.specs.Maps.{AreNumbered, NamesGrow, AddsNames, IsOnce, LacksKey, LacksList}
 use Rattle.encode_types.proofs.{EqualLists.lists-of-keys, Lists.none-in}
-use Rattle.base_lemmas.proofs.Elements.{contains-map, map_from as contains-unmap}
+use Rattle.base_lemmas.proofs.Elements.{contains-map, lookup_stands as found, map_from as contains-unmap}
 
 pub equal-is : (o : Ordering) → is_eq o ≡ true → o ≡ Equal
 equal-is x h = search std_rules
 
 module _ {K X : Type 0} (test : K → Bool) where
-  -- what a look-up finds is an entry
-  pub found : (es : List (K × X)) (v : X) → lookup test es ≡ Some v → (k : K) × Contains es (k, v) × (test k ≡ true)
-  found [] v h = absurd (let z : ⊥ = cc in z)
-  found (e ∷ es) v h = elim (cases_Bool (test e.0)) [
-    | inl y ↦ let s : Some e.1 ≡ Some v = sym (cond-true _ _ _ y) ∙ h in let w : e.1 ≡ v = cc in (e.0, (0, (omega arith), ap (λ x. (e.0, x)) w), y)
-    | inr n ↦ let r = found es v (sym (cond-false _ _ _ n) ∙ h) in (r.0, (suc r.1.0, (let l = r.1.1 in omega (arith, l)), r.1.2), r.2)
-  ]
-
   -- where nothing is found, no entry passes
   pub absent : (es : List (K × X)) → lookup test es ≡ None → (k : K) (v : X) → Contains es (k, v) → test k ≡ true → ⊥
   absent [] h k v c t = none-in _ c
@@ -92,13 +84,9 @@ module _ {X : Type 0} (R : X → X → Type 0) (back : (x y : X) → R x y → R
       let s = swapped_from_swap xs (swap xs a b) a b d la lb refl in
       let m : length (swap xs a b) ≡ length xs = length_permutation xs (swap xs a b) (IsPermutation-swap xs (swap xs a b) a b la lb refl) in
       let place : (k : ℕ) → k < length xs → (p : ℕ) × (get_or (swap xs a b) k d ≡ get_or xs p d) × (p < length xs)
-      × (((k ≡ a) × (p ≡ b)) ⊎ (((k ≡ b) × (p ≡ a)) ⊎ ((k ≡ a → ⊥) × (k ≡ b → ⊥) × (p ≡ k)))) =
-      λ k lk. elim (cases_eq k a) [
+      × (((k ≡ a) × (p ≡ b)) ⊎ (((k ≡ b) × (p ≡ a)) ⊎ ((k ≡ a → ⊥) × (k ≡ b → ⊥) × (p ≡ k)))) = λ k lk. elim (cases_eq k a) [
         | inl e ↦ (b, ap (λ z. get_or (swap xs a b) z d) e ∙ s.0, lb, inl (e, refl))
-        | inr e ↦ elim (cases_eq k b) [
-          | inl f ↦ (a, ap (λ z. get_or (swap xs a b) z d) f ∙ s.1, la, inr (inl (f, refl)))
-          | inr f ↦ (k, s.2 k e f, lk, inr (inr (e, f, refl)))
-        ]
+        | inr e ↦ elim (cases_eq k b) [ inl f ↦ (a, ap (λ z. get_or (swap xs a b) z d) f ∙ s.1, la, inr (inl (f, refl))) | inr f ↦ (k, s.2 k e f, lk, inr (inr (e, f, refl))) ]
       ] in
       let p = place i (omega (arith, li, m)) in
       let q = place j (omega (arith, lj, m)) in
@@ -122,6 +110,10 @@ module _ {X : Type 0} (xs ys : List X) (x : X) (p : IsPermutation (xs ++ x ∷ [
 
   pub one-more-in : (y : X) → Contains ys y → Contains xs y ⊎ (x ≡ y)
   one-more-in y c = Contains-push_cases xs x y (Contains-permutation ys _ y (IsPermutation-sym _ ys p) c)
+
+-- of entries: another place among the values
+pub entry-more : {X : Type 0} (xs ys : List (X × ℕ)) (x : X) (i : ℕ) → IsPermutation (xs ++ (x, i) ∷ []) ys → (y : X) (j : ℕ) → Contains ys (y, j) → Contains xs (y, j) ⊎ ((y ≡ x) × (j ≡ i))
+entry-more xs ys x i p y j c = elim (one-more-in xs ys (x, i) p (y, j) c) [ inl q ↦ inl q | inr e ↦ inr (ap (λ z. z.0) (sym e), ap (λ z. z.1) (sym e)) ]
 
 -- ---- options
 
@@ -180,8 +172,7 @@ module _ {K : Type 0} (f : K → List ℕ) where
       absent test es h r.0.0 r.0.1 r.1 (finds r.0.0 r.0.1 r.1 (ap (λ (z : List ℕ × ℕ). z.0) r.2))
 
   pub list-inserted : (cmp : K → K → Ordering) (k : K) → ((j : K) → is_at (cmp k) j ≡ true → f j ≡ f k) → (es fs : List (K × ℕ)) (i : ℕ) → ((j : ℕ) → Contains (read es) (f k, j) → ⊥)
-      → fs ≡ insert_entry cmp es k i
-      → IsPermutation (read es ++ (f k, i) ∷ []) (read fs)
+      → fs ≡ insert_entry cmp es k i → IsPermutation (read es ++ (f k, i) ∷ []) (read fs)
   list-inserted cmp k tells es fs i none e =
       let p = inserted cmp k i es fs (none-or (lookup (is_at (cmp k)) es) (λ v h. none v (reads (f k) (is_at (cmp k)) tells es v h))) e in
       subst (λ xs. IsPermutation xs (read fs)) (map-append (λ (e : K × ℕ). (f e.0, e.1)) es ((k, i) ∷ [])) (IsPermutation-map (λ (e : K × ℕ). (f e.0, e.1)) _ _ p)
@@ -229,45 +220,24 @@ name-lacks es k h = lacks (λ (j : Bor Text). j.now) k.now (at_name k) es (λ j 
 pub names-grow : (names names' : Names) (t : Text) → IsPermutation (names ++ (t, length names) ∷ []) names' → ((n : ℕ) → Contains names (t, n) → ⊥) → NamesGrow names names'
 names-grow names names' t p none = record { kept = λ u n c. kept-in names names' (t, length names) p (u, n) c; numbered = numbered }
   where
-    cases_in : (u : Text) (n : ℕ) → Contains names' (u, n) → Contains names (u, n) ⊎ (◌≡◌ {A = Text × ℕ} (t, length names) (u, n))
-    cases_in u n c = one-more-in names names' (t, length names) p (u, n) c
-
-    text-is : (u : Text) (n : ℕ) → ◌≡◌ {A = Text × ℕ} (t, length names) (u, n) → t ≡ u
-    text-is u n e = ap (λ (z : Text × ℕ). z.0) e
-
-    number-is : (u : Text) (n : ℕ) → ◌≡◌ {A = Text × ℕ} (t, length names) (u, n) → length names ≡ n
-    number-is u n e = ap (λ (z : Text × ℕ). z.1) e
+    more : (u : Text) (n : ℕ) → Contains names' (u, n) → Contains names (u, n) ⊎ ((u ≡ t) × (n ≡ length names))
+    more u n c = entry-more names names' t (length names) p u n c
 
     numbered : AreNumbered names → AreNumbered names'
     numbered a = record {
       table = record {
-        one_number = λ u m n c d. elim (cases_in u m c) [
-          | inl c' ↦ elim (cases_in u n d) [
-            | inl d' ↦ a.table.one_number u m n c' d'
-            | inr e ↦ absurd (none m (subst (λ w. Contains names (w, m)) (sym (text-is u n e)) c'))
-          ]
-          | inr e ↦ elim (cases_in u n d) [
-            | inl d' ↦ absurd (none n (subst (λ w. Contains names (w, n)) (sym (text-is u m e)) d'))
-            | inr g ↦ sym (number-is u m e) ∙ number-is u n g
-          ]
+        one_number = λ u m n c d. elim (more u m c) [
+          | inl c' ↦ elim (more u n d) [ inl d' ↦ a.table.one_number u m n c' d' | inr e ↦ absurd (none m (rw e.0 at c')) ]
+          | inr e ↦ elim (more u n d) [ inl d' ↦ absurd (none n (rw e.0 at d')) | inr g ↦ e.1 ∙ sym g.1 ]
         ];
-        one_text = λ u w n c d. elim (cases_in u n c) [
-          | inl c' ↦ elim (cases_in w n d) [
-            | inl d' ↦ a.table.one_text u w n c' d'
-            | inr e ↦ absurd (let l = a.below u n c' in let k = number-is w n e in omega (arith, l, k))
-          ]
-          | inr e ↦ elim (cases_in w n d) [
-            | inl d' ↦ absurd (let l = a.below w n d' in let k = number-is u n e in omega (arith, l, k))
-            | inr g ↦ sym (text-is u n e) ∙ text-is w n g
-          ]
+        one_text = λ u w n c d. elim (more u n c) [
+          | inl c' ↦ elim (more w n d) [ inl d' ↦ a.table.one_text u w n c' d' | inr e ↦ absurd (omega (arith, a.below u n c', e.1)) ]
+          | inr e ↦ elim (more w n d) [ inl d' ↦ absurd (omega (arith, a.below w n d', e.1)) | inr g ↦ e.0 ∙ sym g.0 ]
         ];
       };
       below = λ u n c.
           let m : length names' ≡ length names + 1 = length_permutation (names ++ (t, length names) ∷ []) names' p ∙ length-append names ((t, length names) ∷ []) in
-          elim (cases_in u n c) [
-            | inl c' ↦ (let l = a.below u n c' in omega (arith, l, m))
-            | inr e ↦ (let k = number-is u n e in omega (arith, k, m))
-          ];
+          elim (more u n c) [ inl c' ↦ omega (arith, a.below u n c', m) | inr e ↦ omega (arith, e.1, m) ];
     }
 
 pub names-same : (names names' : Names) → names' ≡ names → NamesGrow names names'
@@ -282,16 +252,14 @@ pub record LearnsName (es fs : List (Bor Text × ℕ)) (k : Bor Text) (n : ℕ) 
   pub known : HasNumber (texts_of es) k.now → fs ≡ es
   pub there : Contains (texts_of fs) (k.now, n)
 
-pub name-learnt : (es fs : List (Bor Text × ℕ)) (k : Bor Text) (n : ℕ) → fs ≡ insert_entry name_order es k n
-    → n ≡ unwrap_or (lookup (is_at (name_order k)) es) (length es)
+pub name-learnt : (es fs : List (Bor Text × ℕ)) (k : Bor Text) (n : ℕ) → fs ≡ insert_entry name_order es k n → n ≡ unwrap_or (lookup (is_at (name_order k)) es) (length es)
     → (IsSome (lookup (is_at (name_order k)) es) → keys_of fs ≡ keys_of es) → LearnsName es fs k n
 name-learnt es fs k n e q s = by (lookup (at_name k) es) refl
   where
     by : (o : Option ℕ) → lookup (at_name k) es ≡ o → LearnsName es fs k n
     by None h =
         let long : n ≡ length (texts_of es) = q ∙ ap (λ o. unwrap_or o (length es)) h ∙ sym (length-map es (λ (e : Bor Text × ℕ). (e.0.now, e.1))) in
-        let more : IsPermutation (texts_of es ++ (k.now, n) ∷ []) (texts_of fs) =
-        list-inserted (λ (j : Bor Text). j.now) name_order k (λ j t. tells-name k j t) es fs n (name-lacks es k h) e in
+        let more : IsPermutation (texts_of es ++ (k.now, n) ∷ []) (texts_of fs) = list-inserted (λ (j : Bor Text). j.now) name_order k (λ j t. tells-name k j t) es fs n (name-lacks es k h) e in
         record {
           grow = names-grow (texts_of es) (texts_of fs) k.now (subst (λ (m : ℕ). IsPermutation (texts_of es ++ (k.now, m) ∷ []) (texts_of fs)) long more) (name-lacks es k h);
           known = λ has. absurd (name-lacks es k h has.0 has.1);
@@ -305,8 +273,7 @@ name-learnt es fs k n e q s = by (lookup (at_name k) es) refl
           grow = names-same (texts_of es) (texts_of fs) (ap texts_of stay);
           known = λ has. stay;
           there = subst (λ (m : ℕ). Contains (texts_of fs) (k.now, m)) (sym same)
-              (subst (λ (gs : List (Bor Text × ℕ)). Contains (texts_of gs) (k.now, v)) (sym stay)
-              (reads (λ (j : Bor Text). j.now) k.now (at_name k) (tells-name k) es v h));
+              (subst (λ (gs : List (Bor Text × ℕ)). Contains (texts_of gs) (k.now, v)) (sym stay) (reads (λ (j : Bor Text). j.now) k.now (at_name k) (tells-name k) es v h));
         }
 
 -- ---- lists of parameters

@@ -57,8 +57,7 @@ one-of-all f (y ∷ ys) x (suc i, l, e) = let s = sum_by-cons f y ys in let h = 
 
 -- a number that is new in the maps, and for which so much has been written
 pub writes-number : {r : Resolve} {u v : View} (learnt : List (ℕ × ℕ)) (n : ℕ) → IsPermutation (u.maps.id_to_index.entries ++ learnt) v.maps.id_to_index.entries → IsKnown v.maps n
-    → (IsKnown u.maps n → ⊥)
-    → v.extent ≤ u.extent + number_extent r u.scope.own_interface n → WritesLearnt r 0 u v
+    → (IsKnown u.maps n → ⊥) → v.extent ≤ u.extent + number_extent r u.scope.own_interface n → WritesLearnt r 0 u v
 writes-number {r} {u} {v} learnt n e known unknown l =
     let f : ℕ × ℕ → ℕ = λ e. number_extent r u.scope.own_interface e.0 in
     let all : sum_by f v.maps.id_to_index.entries ≡ sum_by f (u.maps.id_to_index.entries ++ learnt) = sum_by-IsPermutation f _ _ e in

@@ -28,15 +28,13 @@ returns-clause-counts g c = counts-kind _ _ _ _ _ _ c.args.list.0.items c.in_ok-
     (c.remember_kind.ensures.counts ∙ c.in_ok-index.ensures.counts)
 
 pub returns-clause-kinds : goal.returns-clause-kinds
-returns-clause-kinds g c =
-    kind-learnt _ _ _ _ c.args.list.0.items c.in_ok-index.index c.define_shape.ensures.maps_stay c.requires.unnamed c.requires.list c.in_ok-remember_kind.ensures.ok
+returns-clause-kinds g c = kind-learnt _ _ _ _ c.args.list.0.items c.in_ok-index.index c.define_shape.ensures.maps_stay c.requires.unnamed c.requires.list c.in_ok-remember_kind.ensures.ok
 
 pub returns-clause-leaves : goal.returns-clause-leaves
 returns-clause-leaves g c = leaves-trans (kept g (goal.at.returns-clause-leaves g c).In_ok-index) c.remember_kind.ensures.leaves
 
 pub returns-in_err-remember_kind-clause-leaves : goal.returns-in_err-remember_kind-clause-leaves
-returns-in_err-remember_kind-clause-leaves g c =
-    leaves-trans (kept g (goal.at.returns-in_err-remember_kind-clause-leaves g c).In_ok-index) c.remember_kind.ensures.leaves
+returns-in_err-remember_kind-clause-leaves g c = leaves-trans (kept g (goal.at.returns-in_err-remember_kind-clause-leaves g c).In_ok-index) c.remember_kind.ensures.leaves
 
 pub returns-clause-written : goal.returns-clause-written
 returns-clause-written g c = written-on (rw c.shape_of.ensures at c.in_ok-index.ensures.written) c.remember_kind.ensures.written

@@ -89,8 +89,7 @@ returns-in_err-define_number-clause-size g c = λ h.
     let before = g.E.ValtypeEncoder.view c.args.enc.now in
     let keys : length (g.E.ValtypeEncoder.view c.loop-n.enc).maps.func_type_map.entries ≡ length before.maps.func_type_map.entries = ap length c.loop-n.invariant.counts.keys.lists in
     room-after (ap (λ (x : Scope). x.own_interface) c.loop-n.invariant.leaves.scope_stays) c.loop-n.invariant.leaves.maps_grow c.loop-n.invariant.held
-    (learns-reached _ _ _ _ _ _ c.loop-n.n-index o c.loop-n.invariant.learns) (met-number o c.loop-n-test.true) (λ q c. none-in q c) (omega (arith, keys))
-    (c.define_number.ensures.size (search rules))
+    (learns-reached _ _ _ _ _ _ c.loop-n.n-index o c.loop-n.invariant.learns) (met-number o c.loop-n-test.true) (λ q c. none-in q c) (omega (arith, keys)) (c.define_number.ensures.size (search rules))
 
 pub returns-in_err-define_number-clause-aliases : goal.returns-in_err-define_number-clause-aliases
 returns-in_err-define_number-clause-aliases g c = makes-number (ap (λ (x : Scope). x.own_interface) c.loop-n.invariant.leaves.scope_stays)

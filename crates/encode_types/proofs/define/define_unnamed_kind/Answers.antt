@@ -9,8 +9,7 @@ use Rattle.encode_types.proofs.define.define_unnamed_kind.Goals as goal
 had : (g : Over) (c : In-Some g) → HasKind (g.E.ValtypeEncoder.view c.args.enc.now).maps c.args.kind.now c.in-Some.index
 had g c = (
   c.requires.unnamed,
-  subst (λ (xs : List ℕ). Contains (lists_of (g.E.ValtypeEncoder.view c.args.enc.now).maps.def_to_index) (xs, c.in-Some.index)) c.in_ok-kind_list.ensures
-      c.in-Some.ensures.some,
+  subst (λ (xs : List ℕ). Contains (lists_of (g.E.ValtypeEncoder.view c.args.enc.now).maps.def_to_index) (xs, c.in-Some.index)) c.in_ok-kind_list.ensures c.in-Some.ensures.some,
 )
 
 pub returns-in-Some-clause-ok : goal.returns-in-Some-clause-ok
@@ -25,13 +24,7 @@ define_new_kind-requires g c = λ _. (
   (refl, tt),
   rw c.index_of_kind.ensures.same (
     c.requires.unnamed,
-    (
-      c.in_ok-kind_list.ensures,
-      (
-        lacks g (goal.at.define_new_kind-requires g c).In_default,
-        (c.requires.ready, (c.requires.formed, c.requires.agree)),
-      ),
-    ),
+    (c.in_ok-kind_list.ensures, (lacks g (goal.at.define_new_kind-requires g c).In_default, (c.requires.ready, (c.requires.formed, c.requires.agree)))),
   ),
 )
 

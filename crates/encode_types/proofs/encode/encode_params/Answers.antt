@@ -6,8 +6,7 @@ pub params_of-requires : goal.params_of-requires
 params_of-requires g c = λ _. ((refl, tt), (rw (c.deref.ensures.value, c.in_ok-types.ensures) at c.in_ok-define_parts.ensures.ready))
 
 pub returns-clause-ok : goal.returns-clause-ok
-returns-clause-ok g c = rw c.params_of.ensures.same
-    (params-stand _ _ (g.E.ValtypeEncoder.view c.define_parts.new.enc).stands _ _ c.define_parts.ensures.leaves.agree c.in_ok-values.ensures.value)
+returns-clause-ok g c = rw c.params_of.ensures.same (params-stand _ _ (g.E.ValtypeEncoder.view c.define_parts.new.enc).stands _ _ c.define_parts.ensures.leaves.agree c.in_ok-values.ensures.value)
 
 pub returns-clause-learns : goal.returns-clause-learns
 returns-clause-learns g c = rw c.params_of.ensures.same (rw (c.deref.ensures.value, c.in_ok-types.ensures) at c.in_ok-define_parts.ensures.learns)

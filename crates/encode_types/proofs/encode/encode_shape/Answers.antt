@@ -17,10 +17,7 @@ define_parts-requires g c = λ _. ((refl, tt), (rw (c.deref.ensures.value, c.in_
 pub define_shape-requires : goal.define_shape-requires
 define_shape-requires g c = λ _. (
   (refl, tt),
-  (
-    (rw (c.deref.ensures.value, c.in_ok-parts.ensures) at c.in_ok-define_parts.ensures.ready),
-    (rw c.define_parts.ensures.leaves.scope_stays c.requires.formed, c.define_parts.ensures.leaves.agree),
-  ),
+  ((rw (c.deref.ensures.value, c.in_ok-parts.ensures) at c.in_ok-define_parts.ensures.ready), (rw c.define_parts.ensures.leaves.scope_stays c.requires.formed, c.define_parts.ensures.leaves.agree)),
 )
 
 learnt : (g : Over) (c : In_ok-define_parts g)
@@ -69,12 +66,9 @@ returns-in_err-parts g c =
     refused _ _ _ _ c.from_residual.result (search rules) (leaves-none c.requires.agree) (met-none refl) (imports-none refl) (λ h. absurd (let z : ⊥ = search rules in z)) (search rules)
 
 pub returns-in_err-define_parts : goal.returns-in_err-define_parts
-returns-in_err-define_parts g c =
-    refused c.args.resolve.now (kind_of c.args.shape) _ _ c.from_residual-in_err-define_parts.result (search rules) c.define_parts.ensures.leaves
+returns-in_err-define_parts g c = refused c.args.resolve.now (kind_of c.args.shape) _ _ c.from_residual-in_err-define_parts.result (search rules) c.define_parts.ensures.leaves
     (made g (goal.at.returns-in_err-define_parts g c).After-define_parts) (imported g (goal.at.returns-in_err-define_parts g c).After-define_parts)
-    (λ h.
-    room-more refl (λ n x. x) (λ q k. none-in q k) (omega arith) (rw (c.deref.ensures.value, c.in_ok-parts.ensures) at (c.define_parts.ensures.size (search rules))))
-    (search rules)
+    (λ h. room-more refl (λ n x. x) (λ q k. none-in q k) (omega arith) (rw (c.deref.ensures.value, c.in_ok-parts.ensures) at (c.define_parts.ensures.size (search rules)))) (search rules)
 
 pub returns-in_err-index : goal.returns-in_err-index
 returns-in_err-index g c =
@@ -83,12 +77,10 @@ returns-in_err-index g c =
     let between = g.E.ValtypeEncoder.view c.define_parts.new.enc in
     let after = g.E.ValtypeEncoder.view c.define_shape.new.enc in
     refused c.args.resolve.now (kind_of c.args.shape) before after c.from_residual-in_err-index.result (search rules) (leaves g at.After-branch-index)
-    (makes-same c.define_shape.ensures.around_stays (made g at.After-define_parts)) (imports-same c.define_shape.ensures.imports_stay (imported g at.After-define_parts))
-    (λ h.
+    (makes-same c.define_shape.ensures.around_stays (made g at.After-define_parts)) (imports-same c.define_shape.ensures.imports_stay (imported g at.After-define_parts)) (λ h.
     let keys : length between.maps.func_type_map.entries ≡ length before.maps.func_type_map.entries = ap length c.in_ok-define_parts.ensures.counts.keys.lists in
     let lacks = c.define_shape.ensures.size (search rules) in
     room-after (ap (λ (s : Scope). s.own_interface) c.define_parts.ensures.leaves.scope_stays) c.define_parts.ensures.leaves.maps_grow c.in_ok-define_parts.ensures.held
     (only-reached c.args.resolve.now before.scope.own_interface (parts_of (kind_of c.args.shape)) (learnt g at.In_ok-define_parts).only) (λ n x. x) (λ q k. k) (omega (arith, keys))
     (lacks-request c.args.resolve.now between.scope.own_interface (parts_of (kind_of c.args.shape)) (value_type (kind_tree c.args.resolve.now (kind_of c.args.shape))) between.maps between.held
-    after.held after.lacks_room lacks.held lacks.lacks))
-    (search rules)
+    after.held after.lacks_room lacks.held lacks.lacks)) (search rules)

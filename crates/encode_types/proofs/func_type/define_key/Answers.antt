@@ -44,29 +44,50 @@ remember_key-requires g c = λ _. (
   ),
 )
 
-pub returns-clause-ok : goal.returns-clause-ok
-returns-clause-ok g c = c.remember_key.ensures.leaves.grows.kept c.in_ok-index.index _ (stands g (goal.at.returns-clause-ok g c).In_ok-index)
-
-pub returns-clause-leaves : goal.returns-clause-leaves
-returns-clause-leaves g c = leaves-trans c.function_of.ensures.leaves (leaves-trans
-    (leaves-kept {v = g.E.ValtypeEncoder.view c.function_of.new.enc} {v' = g.E.ValtypeEncoder.view c.define_function_type.new.self} c.function_of.ensures.leaves.agree
-    c.define_function_type.ensures.grows c.define_function_type.ensures.scope_stays c.define_function_type.ensures.maps_stay) c.remember_key.ensures.leaves)
-
-pub returns-clause-counts : goal.returns-clause-counts
-returns-clause-counts g c =
-    counts-key c.args.resolve.now (g.E.ValtypeEncoder.view c.args.enc.now).scope (g.E.ValtypeEncoder.view c.args.enc.now).maps (g.E.ValtypeEncoder.view c.function_of.new.enc).maps
-    (g.E.ValtypeEncoder.view c.remember_key.new.enc).maps (g.E.ValtypeEncoder.view c.args.enc.now).definitions (g.E.ValtypeEncoder.view c.function_of.new.enc).definitions
-    (g.E.ValtypeEncoder.view c.remember_key.new.enc).definitions c.args.key c.args.list.0.items c.in_ok-index.index
-    c.requires.lacks c.in_ok-def.ensures.counts (listed g (goal.at.returns-clause-counts g c).In_ok-index)
-    (subst (λ (z : TypeEncodingMaps). LearnsKeyList z (g.E.ValtypeEncoder.view c.remember_key.new.enc).maps c.args.list.0.items c.in_ok-index.index) c.define_function_type.ensures.maps_stay
-    c.in_ok-remember_key.ensures.ok)
-    (c.remember_key.ensures.counts ∙ c.in_ok-index.ensures.counts)
-
-pub returns-clause-learns : goal.returns-clause-learns
-returns-clause-learns g c = met-key c.args.resolve.now (g.E.ValtypeEncoder.view c.args.enc.now).scope.own_interface (g.E.ValtypeEncoder.view c.args.enc.now).maps
-    (g.E.ValtypeEncoder.view c.function_of.new.enc).maps _ (g.E.ValtypeEncoder.view c.remember_key.new.enc).maps
-    c.args.key c.args.list.0.items c.in_ok-index.index c.args.func.now c.requires.is_key c.in_ok-def.ensures.learns c.in_ok-def.ensures.knows c.define_function_type.ensures.maps_stay
-    (listed g (goal.at.returns-clause-learns g c).In_ok-index) c.in_ok-remember_key.ensures.ok c.remember_key.ensures.leaves.maps_grow
+pub returns : goal.returns
+returns g c =
+    let at = goal.at.returns g c in
+    record {
+      ok = c.remember_key.ensures.leaves.grows.kept c.in_ok-index.index _ (stands g at.In_ok-index);
+      learns = met-key _ _ _ _ _ _ c.args.key c.args.list.0.items c.in_ok-index.index c.args.func.now c.requires.is_key c.in_ok-def.ensures.learns c.in_ok-def.ensures.knows
+          c.define_function_type.ensures.maps_stay
+          (listed g at.In_ok-index) c.in_ok-remember_key.ensures.ok c.remember_key.ensures.leaves.maps_grow;
+      leaves = leaves-trans c.function_of.ensures.leaves (leaves-trans (leaves-kept {v = g.E.ValtypeEncoder.view c.function_of.new.enc} {v' = g.E.ValtypeEncoder.view c.define_function_type.new.self}
+          c.function_of.ensures.leaves.agree c.define_function_type.ensures.grows c.define_function_type.ensures.scope_stays c.define_function_type.ensures.maps_stay) c.remember_key.ensures.leaves);
+      aliases = makes-same (c.remember_key.ensures.around_stays ∙ c.define_function_type.ensures.around_stays) c.function_of.ensures.aliases;
+      imports = imports-same (c.remember_key.ensures.imports_stay ∙ c.define_function_type.ensures.imports_stay) c.function_of.ensures.imports;
+      counts = counts-key _ _ _ _ _ _ _ _ _ c.args.list.0.items _ c.requires.lacks c.in_ok-def.ensures.counts (listed g at.In_ok-index)
+          (subst (λ (z : TypeEncodingMaps). LearnsKeyList z (g.E.ValtypeEncoder.view c.remember_key.new.enc).maps c.args.list.0.items c.in_ok-index.index) c.define_function_type.ensures.maps_stay
+          c.in_ok-remember_key.ensures.ok) (c.remember_key.ensures.counts ∙ c.in_ok-index.ensures.counts);
+      last =
+          let new = c.in_ok-index.ensures.ok in
+          record {
+            one_more = ap (λ (d : Definitions). d.functions) (c.remember_key.ensures.counts ∙ c.in_ok-index.ensures.counts)
+                ∙ ap (λ (is : List ℕ). is ++ c.in_ok-index.index ∷ []) c.in_ok-def.ensures.counts.functions;
+            last = c.remember_key.ensures.slots ∙ new.one_more ∙ ap (λ (n : ℕ). n + 1) (sym new.index);
+          };
+      held =
+          let same = c.define_function_type.ensures.maps_stay in
+          let after = (g.E.ValtypeEncoder.view c.remember_key.new.enc).maps in
+          let learns = subst (λ (z : TypeEncodingMaps). LearnsKeyList z (g.E.ValtypeEncoder.view c.remember_key.new.enc).maps c.args.list.0.items c.in_ok-index.index) same
+          c.in_ok-remember_key.ensures.ok in
+          let grow = subst (λ (z : TypeEncodingMaps). MapsGrow z (g.E.ValtypeEncoder.view c.remember_key.new.enc).maps) same c.remember_key.ensures.leaves.maps_grow in
+          let first = c.define_function_type.ensures.held in
+          let second = c.remember_key.ensures.held in
+          holds-key grow learns.rest.numbers (lists-longer (λ (v : ListKey). v.0.items) (g.E.ValtypeEncoder.view c.function_of.new.enc).maps.func_type_map.entries after.func_type_map.entries
+          (c.args.list.0.items, c.in_ok-index.index) learns.more) (omega (arith, first, second)) c.in_ok-def.ensures.held;
+      written =
+          let one = (c.in_ok-index.ensures.written (signature_of c.args.resolve.now c.args.func.now) c.in_ok-def.ensures.ok).extent in
+          let all : (g.E.ValtypeEncoder.view c.remember_key.new.enc).extent ≤ (g.E.ValtypeEncoder.view c.function_of.new.enc).extent + signature_extent
+          (signature_of c.args.resolve.now c.args.func.now) =
+          (let e = c.remember_key.ensures.written in omega (arith, one, e)) in
+          let w : WritesLearnt c.args.resolve.now (0 + signature_extent (signature_of c.args.resolve.now c.args.func.now)) (g.E.ValtypeEncoder.view c.args.enc.now)
+          (g.E.ValtypeEncoder.view c.remember_key.new.enc) = writes-beside (signature_extent (signature_of c.args.resolve.now c.args.func.now)) c.in_ok-def.ensures.written all
+          (c.in_ok-remember_key.ensures.ok.rest.numbers ∙ ap (λ (z : TypeEncodingMaps). z.id_to_index.entries) c.define_function_type.ensures.maps_stay) in
+          writes-most (omega arith) w;
+      size = λ h. absurd (let z : ⊥ = cc in z);
+      refuses = tt;
+    }
 
 pub returns-in_err-index-clause-leaves : goal.returns-in_err-index-clause-leaves
 returns-in_err-index-clause-leaves g c = leaves-trans c.function_of.ensures.leaves
@@ -77,18 +98,6 @@ pub returns-in_err-remember_key-clause-leaves : goal.returns-in_err-remember_key
 returns-in_err-remember_key-clause-leaves g c = leaves-trans c.function_of.ensures.leaves
     (leaves-trans (leaves-kept {v = g.E.ValtypeEncoder.view c.function_of.new.enc} {v' = g.E.ValtypeEncoder.view c.define_function_type.new.self} c.function_of.ensures.leaves.agree
     c.define_function_type.ensures.grows c.define_function_type.ensures.scope_stays c.define_function_type.ensures.maps_stay) c.remember_key.ensures.leaves)
-
-pub returns-clause-held : goal.returns-clause-held
-returns-clause-held g c =
-    let same = c.define_function_type.ensures.maps_stay in
-    let after = (g.E.ValtypeEncoder.view c.remember_key.new.enc).maps in
-    let learns = subst (λ (z : TypeEncodingMaps). LearnsKeyList z (g.E.ValtypeEncoder.view c.remember_key.new.enc).maps c.args.list.0.items c.in_ok-index.index) same c.in_ok-remember_key.ensures.ok in
-    let grow = subst (λ (z : TypeEncodingMaps). MapsGrow z (g.E.ValtypeEncoder.view c.remember_key.new.enc).maps) same c.remember_key.ensures.leaves.maps_grow in
-    let first = c.define_function_type.ensures.held in
-    let second = c.remember_key.ensures.held in
-    holds-key grow learns.rest.numbers (lists-longer (λ (v : ListKey). v.0.items) (g.E.ValtypeEncoder.view c.function_of.new.enc).maps.func_type_map.entries after.func_type_map.entries
-    (c.args.list.0.items, c.in_ok-index.index) learns.more)
-    (omega (arith, first, second)) c.in_ok-def.ensures.held
 
 pub returns-in_err-def-clause-size : goal.returns-in_err-def-clause-size
 returns-in_err-def-clause-size g c = λ h. record {
@@ -111,40 +120,14 @@ returns-in_err-index-clause-size g c = λ h.
           after.held after.lacks_room lacks.held lacks.lacks);
     }
 
-pub returns-clause-written : goal.returns-clause-written
-returns-clause-written g c =
-    let one = (c.in_ok-index.ensures.written (signature_of c.args.resolve.now c.args.func.now) c.in_ok-def.ensures.ok).extent in
-    let all : (g.E.ValtypeEncoder.view c.remember_key.new.enc).extent ≤ (g.E.ValtypeEncoder.view c.function_of.new.enc).extent + signature_extent (signature_of c.args.resolve.now c.args.func.now) =
-    (let e = c.remember_key.ensures.written in omega (arith, one, e)) in
-    let w : WritesLearnt c.args.resolve.now (0 + signature_extent (signature_of c.args.resolve.now c.args.func.now)) (g.E.ValtypeEncoder.view c.args.enc.now)
-    (g.E.ValtypeEncoder.view c.remember_key.new.enc) =
-    writes-beside (signature_extent (signature_of c.args.resolve.now c.args.func.now)) c.in_ok-def.ensures.written all
-    (c.in_ok-remember_key.ensures.ok.rest.numbers ∙ ap (λ (z : TypeEncodingMaps). z.id_to_index.entries) c.define_function_type.ensures.maps_stay) in
-    writes-most (omega arith) w
-
-pub returns-clause-aliases : goal.returns-clause-aliases
-returns-clause-aliases g c = makes-same (c.remember_key.ensures.around_stays ∙ c.define_function_type.ensures.around_stays) c.function_of.ensures.aliases
-
 pub returns-in_err-remember_key-clause-aliases : goal.returns-in_err-remember_key-clause-aliases
 returns-in_err-remember_key-clause-aliases g c = makes-same (c.remember_key.ensures.around_stays ∙ c.define_function_type.ensures.around_stays) c.function_of.ensures.aliases
 
 pub returns-in_err-index-clause-aliases : goal.returns-in_err-index-clause-aliases
 returns-in_err-index-clause-aliases g c = makes-same c.define_function_type.ensures.around_stays c.function_of.ensures.aliases
 
-pub returns-clause-imports : goal.returns-clause-imports
-returns-clause-imports g c = imports-same (c.remember_key.ensures.imports_stay ∙ c.define_function_type.ensures.imports_stay) c.function_of.ensures.imports
-
 pub returns-in_err-remember_key-clause-imports : goal.returns-in_err-remember_key-clause-imports
 returns-in_err-remember_key-clause-imports g c = imports-same (c.remember_key.ensures.imports_stay ∙ c.define_function_type.ensures.imports_stay) c.function_of.ensures.imports
 
 pub returns-in_err-index-clause-imports : goal.returns-in_err-index-clause-imports
 returns-in_err-index-clause-imports g c = imports-same c.define_function_type.ensures.imports_stay c.function_of.ensures.imports
-
-pub returns-clause-last : goal.returns-clause-last
-returns-clause-last g c =
-    let new = c.in_ok-index.ensures.ok in
-    record {
-      one_more = ap (λ (d : Definitions). d.functions) (c.remember_key.ensures.counts ∙ c.in_ok-index.ensures.counts)
-          ∙ ap (λ (is : List ℕ). is ++ c.in_ok-index.index ∷ []) c.in_ok-def.ensures.counts.functions;
-      last = c.remember_key.ensures.slots ∙ new.one_more ∙ ap (λ (n : ℕ). n + 1) (sym new.index);
-    }

@@ -50,8 +50,7 @@ pub returns-in_err-result-clause-leaves : goal.returns-in_err-result-clause-leav
 returns-in_err-result-clause-leaves g c = leaves-trans c.encode_params.ensures.leaves c.encode_optional_valtype.ensures.leaves
 
 pub returns-in_err-params-clause-size : goal.returns-in_err-params-clause-size
-returns-in_err-params-clause-size g c = λ h.
-    room-more refl (reached-left (map (λ p. p.ty) c.args.func.now.params.items) (option_to_list c.args.func.now.result)) (λ q k. k) (omega arith)
+returns-in_err-params-clause-size g c = λ h. room-more refl (reached-left (map (λ p. p.ty) c.args.func.now.params.items) (option_to_list c.args.func.now.result)) (λ q k. k) (omega arith)
     (rw c.deref.ensures.value at (c.encode_params.ensures.size (search rules)))
 
 pub returns-in_err-result-clause-size : goal.returns-in_err-result-clause-size

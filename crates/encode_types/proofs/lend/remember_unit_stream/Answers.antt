@@ -10,5 +10,4 @@ returns-clause-leaves g c =
     let after : (g.E.ValtypeEncoder.view (g.E.LendsMaps.with_maps c.args.enc.now c.remember_unit_stream.new.self)).maps ≡ c.remember_unit_stream.new.self = search rules in
     let rest : SameRest (g.E.ValtypeEncoder.view c.args.enc.now) (g.E.ValtypeEncoder.view (g.E.LendsMaps.with_maps c.args.enc.now c.remember_unit_stream.new.self)) = search rules in
     let is = after ∙ c.remember_unit_stream.ensures ∙ ap (λ (z : TypeEncodingMaps). record z { unit_stream = Some c.args.index }) before in
-    leaves-filled _ _ _ rest
-    (changes-unit _ _ _ _ _ by_unit_stream c.args.index rest.kept (learns-unit_stream _ _ _ c.args.index c.requires.fresh is) c.requires.agree c.requires.stands)
+    leaves-filled _ _ _ rest (changes-unit _ _ _ _ _ by_unit_stream c.args.index rest.kept (learns-unit_stream _ _ _ c.args.index c.requires.fresh is) c.requires.agree c.requires.stands)

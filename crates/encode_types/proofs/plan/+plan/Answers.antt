@@ -64,13 +64,7 @@ plan-requires-in-loop-part t c =
     let inside : c.in-Id.id.0 < length c.args.resolve.now.types.items = c.requires.in_range c.in-Id.id c.in-Id.is in
     let m : rank c.args.ty.now ≡ t = c.decreases in (
       rw (← m, c.in-Id.is) fall,
-      (
-        c.requires.layered,
-        (
-          (λ id q. let l : id.0 < c.in-Id.id.0 = below id q in omega arith),
-          (c.loop-part.invariant.ordered, (c.loop-part.invariant.met, c.loop-part.invariant.once)),
-        ),
-      ),
+      (c.requires.layered, ((λ id q. let l : id.0 < c.in-Id.id.0 = below id q in omega arith), (c.loop-part.invariant.ordered, (c.loop-part.invariant.met, c.loop-part.invariant.once)))),
     )
 
 pub loop-part-preserved : goal.loop-part-preserved

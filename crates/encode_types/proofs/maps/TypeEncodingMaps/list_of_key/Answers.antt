@@ -10,8 +10,7 @@ use Rattle.encode_types.proofs.maps.TypeEncodingMaps.list_of_key.Goals as goal
 same-next : (a b c : TypeEncodingMaps) (ps : List Param) (p : Param) → (HaveNumbers (names_of a.names) ps → b.names.entries ≡ a.names.entries)
     → (HasNumber (names_of b.names) (text_of p.name) → c.names.entries ≡ b.names.entries)
     → (HaveNumbers (names_of a.names) ps → HasNumber (names_of a.names) (text_of p.name)) → HaveNumbers (names_of a.names) ps → c.names.entries ≡ a.names.entries
-same-next a b c ps p before now has h =
-    now (subst (λ (ns : List (Bor Text × ℕ)). HasNumber (map (λ e. (e.0.now, e.1)) ns) (text_of p.name)) (sym (before h)) (has h)) ∙ before h
+same-next a b c ps p before now has h = now (subst (λ (ns : List (Bor Text × ℕ)). HasNumber (map (λ e. (e.0.now, e.1)) ns) (text_of p.name)) (sym (before h)) (has h)) ∙ before h
 
 pub returns-in_err-list-clause-names : goal.returns-in_err-list-clause-names
 returns-in_err-list-clause-names c = adds-same-names c.args.self.now
@@ -28,8 +27,7 @@ loop-i-preserved c = record {
   known = same-next c.args.self.now c.loop-i.self c.push_named.new.self c.args.key.now.params.0.now c.index-params-i.result c.loop-i.invariant.known c.push_named.ensures.known
       (λ h. h c.index-params-i.result (c.loop-i.i, c.loop-i-test.true, sym c.index-params-i.is));
   adds = adds-next (names_of c.push_named.new.self.names) c.args.key.now.params.0.now c.loop-i.i c.index-params-i.result _ c.loop-i.list.items c.push_named.new.list.items c.loop-i-test.true
-      c.index-params-i.is
-      (adds-grow (names_of c.loop-i.self.names) (names_of c.push_named.new.self.names) c.loop-i.i _ c.loop-i.list.items c.args.key.now.params.0.now c.push_named.ensures.names.grow
+      c.index-params-i.is (adds-grow (names_of c.loop-i.self.names) (names_of c.push_named.new.self.names) c.loop-i.i _ c.loop-i.list.items c.args.key.now.params.0.now c.push_named.ensures.names.grow
       c.loop-i.invariant.adds) c.in_ok-push_named.ensures.ok;
 }
 

@@ -10,5 +10,4 @@ returns-in-None-clause-some c = subst (λ (m : NumberEntries). IfSome c.copied.r
 
 pub returns-in-None-clause-none : goal.returns-in-None-clause-none
 returns-in-None-clause-none c = subst (λ (m : NumberEntries). IfNone c.copied.result ((i : ℕ) → Contains m.entries (c.args.number, i) → ⊥)) c.self.view_is
-    (number-nowhere c.self.inside.run.items c.self.inside.rest.entries c.args.number c.copied.result (c.copied.ensures ∙ c.get.ensures.value)
-    (rw c.deref.ensures.value at c.in-None.ensures.none))
+    (number-nowhere c.self.inside.run.items c.self.inside.rest.entries c.args.number c.copied.result (c.copied.ensures ∙ c.get.ensures.value) (rw c.deref.ensures.value at c.in-None.ensures.none))

@@ -10,8 +10,7 @@ invariant_of-self c = rw c.in_ok-push.ensures.items
     (ascending-push c.self.inside.run.items (c.args.number, c.args.index) c.self.invariant (rw c.deref.ensures.value at (c.is_above.ensures c.if-is_above.true)))
 
 pub returns-in_ok-push-clause-ok : goal.returns-in_ok-push-clause-ok
-returns-in_ok-push-clause-ok c =
-    subst (λ (m : NumberEntries). IsPermutation (m.entries ++ (c.args.number, c.args.index) ∷ []) (c.push.new.self.items ++ c.self.inside.rest.entries)) c.self.view_is
+returns-in_ok-push-clause-ok c = subst (λ (m : NumberEntries). IsPermutation (m.entries ++ (c.args.number, c.args.index) ∷ []) (c.push.new.self.items ++ c.self.inside.rest.entries)) c.self.view_is
     (rw c.in_ok-push.ensures.items (pushed-first c.self.inside.run.items c.self.inside.rest.entries (c.args.number, c.args.index)))
 
 pub returns-in_ok-insert-clause-ok : goal.returns-in_ok-insert-clause-ok
