@@ -17,9 +17,8 @@ pub function_all : (p : ℕ → Bool) (f : Function) →
 function_all p f = search (std_rules, list_all-append, numbers_all)
 
 -- the numbers of a kind: those of its members, a handle's target and an alias's
-pub kind_all : (p : ℕ → Bool) (k : TypeDefKind) →
-    list_all p (kind_numbers k)
-    ≡ (list_all p (filter_map number_of (member_types k)) && (list_all p (option_to_list (handled k)) && list_all p (option_to_list (alias_target k))))
+pub kind_all : (p : ℕ → Bool) (k : TypeDefKind)
+    → list_all p (kind_numbers k) ≡ (list_all p (filter_map number_of (member_types k)) && (list_all p (option_to_list (handled k)) && list_all p (option_to_list (alias_target k))))
 kind_all p k = search std_rules
 
 -- the numbers of the cases of a variant

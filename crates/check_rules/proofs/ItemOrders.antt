@@ -1,24 +1,21 @@
 -- The order of a world's items, by what is shown and by how far its functions reach.
-use Rattle.std.proofs.Common.{rules as std_rules, ◌≡◌, refl, sym, ap, subst, ◌∙◌, ℕ, ◌+◌, Bool, true, false, ◌&&◌, ◌||◌, not, nat_le, List, [], ◌∷◌, ◌++◌, take, length, map, filter, filter_map, option_to_list, position, slice_get, Some, None, Option, append_assoc, append-nil, length-append, is_some, arith, String}
+use Rattle.std.proofs.Common.{rules as std_rules, ◌≡◌, refl, sym, ap, subst, ◌∙◌, ℕ, ◌+◌, Bool, true, false, ◌&&◌, ◌||◌, not, nat_le, List, [], ◌∷◌, ◌++◌, take, length, map, filter, filter_map, option_to_list, Some, append_assoc, append-nil, length-append, arith}
 use Rattle.std.proofs.lemmas.List.{Elements.filter_map-append, Folds.list_any-append}
-use Rattle.std.specs.declared.alloc.Global.{Global}
-use Rattle.std.specs.{List.list_all, List.cons_option, Option.option_map_or, Map.keys_of, Map.values_of}
+use Rattle.std.specs.{List.list_all, List.cons_option, Map.values_of}
 use Rattle.indexmap.specs.IndexMap.{values}
-use Rattle.wit_model.specs.declared.model.{Resolve.Resolve, World.World, WorldKey.WorldKey, WorldItem.WorldItem, TypeDef.TypeDef, Function.Function}
-use Rattle.wit_model.specs.Text.{text_of}
-use Rattle.wit_model.specs.{Lookup.type_at, Lookup.world_at, Uses.has, Uses.item_interface, Uses.items_of, ItemOrders.uses_are_shown, ItemOrders.reaches_within}
-use Rattle.wit_model.specs.Parts.{function_numbers, met_by, met_of, used_by_function, same_owner, has_owner}
-use Rattle.wit_model.specs.Rules.{is_id, passes, each_from, each_after, is_name_key, item_type, world_type_numbers, is_listed, is_listed_in_world, are_in_order, used_by_number, used_interfaces, used_types, uses_stand_before, is_member}
+use Rattle.wit_model.specs.declared.model.{Resolve.Resolve, World.World, WorldKey.WorldKey, WorldItem.WorldItem, Function.Function}
+use Rattle.wit_model.specs.{Text.text_of, Lookup.world_at, Uses.has, Uses.item_interface, Uses.items_of, ItemOrders.uses_are_shown, ItemOrders.reaches_within}
+use Rattle.wit_model.specs.Parts.{function_numbers, met_by, met_of, used_by_function, has_owner}
+use Rattle.wit_model.specs.Rules.{passes, each_from, each_after, is_name_key, item_type, world_type_numbers, are_in_order, used_by_number, used_interfaces, used_types, uses_stand_before, is_member}
 use Rattle.wit_model.specs.Valid.{Keeps, as_world, item_function, functions_of_world, function_names, order_of_items, order_of_types, owners}
-use Rattle.wit_model.specs.Checks.{KeepsIn, references, listings, list_orders, rank_of, rank_in, reach_of}
-use Rattle.wit_model.proofs.{Lists.list_all_filter_map, Listed.misfit, Shown.after_both, Shown.after_append, Shown.interfaces_before, PartsLemmas.owner_same}
+use Rattle.wit_model.specs.Checks.{KeepsIn, references, listings, list_orders, rank_of, reach_of}
+use Rattle.wit_model.proofs.{Lists.list_all_filter_map, Shown.after_both, Shown.after_append, Shown.interfaces_before}
 use Rattle.wit_model.proofs.{Entries.each_from_at, Entries.free_passes, Entries.lists_pass, Checks.keeps_lists, Checks.keeps_three, Checks.references_kept}
-use Rattle.wit_model.proofs.{Owners.all_filter, Owners.function_home, InOrder.found, InOrder.fitting, InOrder.found_stands, InOrder.highest_within}
-use Rattle.check_rules.proofs.{Ordered.highest_flat, OwnerOrder.owned_named, OwnerOrder.owned_place, OwnerOrder.all_same, ListOrders.before_seam}
-use Rattle.base_lemmas.proofs.{Bools.left_of as first_true, Bools.right_of as second_true, Elements.all_by_number as all_at, Elements.all_weaker as all_imply}
+use Rattle.wit_model.proofs.{Owners.all_filter, Owners.function_home, InOrder.highest_within}
+use Rattle.check_rules.proofs.{Ordered.highest_flat, OwnerOrder.stands_in, OwnerOrder.owned_place, OwnerOrder.all_same, OwnerOrder.before_seam, ListOrders.world_listed, ListOrders.world_placed}
+use Rattle.base_lemmas.proofs.{Bools.left_of as first_true, Bools.right_of as second_true, Elements.all_weaker as all_imply}
 use Rattle.wit_model.specs.declared.error.EntryList.TheVariants as lists
 use Rattle.wit_model.specs.declared.model.WorldItem.TheVariants as item
-use Rattle.wit_model.specs.declared.model.TypeOwner.TheVariants as owner
 
 -- ---- the parts of the rule on the order of types
 
@@ -36,9 +33,7 @@ order_refers r kept = references_kept r (each_first (references.type_ r) (listin
 
 pub order_lists : (r : Resolve) → Keeps order_of_types r → Keeps listings r
 unfolding references listings list_orders order_of_types
-order_lists r kept =
-    keeps_three listings r refl
-    (each_first (listings.interface_ r) (list_orders.interface_ r) 0 r.interfaces.items (lists_pass order_of_types r kept).1)
+order_lists r kept = keeps_three listings r refl (each_first (listings.interface_ r) (list_orders.interface_ r) 0 r.interfaces.items (lists_pass order_of_types r kept).1)
     (each_first (listings.world_ r) (list_orders.world_ r) 0 r.worlds.items (lists_pass order_of_types r kept).2)
     (each_second (references.type_ r) (listings.type_ r) 0 r.types.items (lists_pass order_of_types r kept).3)
 
@@ -49,16 +44,13 @@ order_stands r kept n w at = second_true _ _ (each_from_at (order_of_types.world
 -- ---- lists
 
 -- a walk with what stands before is a walk with places
-places_before : {V : Type 0} (vs : List V) (q : List V → V → Bool) (t : ℕ → V → Bool) →
-    ((done : List V) (v : V) (rest : List V) → vs ≡ done ++ v ∷ rest → q done v ≡ t (length done) v) →
-    (done rest : List V) → vs ≡ done ++ rest → each_after q done rest ≡ each_from t (length done) rest
+places_before : {V : Type 0} (vs : List V) (q : List V → V → Bool) (t : ℕ → V → Bool) → ((done : List V) (v : V) (rest : List V) → vs ≡ done ++ v ∷ rest → q done v ≡ t (length done) v)
+    → (done rest : List V) → vs ≡ done ++ rest → each_after q done rest ≡ each_from t (length done) rest
 places_before vs q t same done [] e = refl
-places_before vs q t same done (v ∷ rest) e =
-    search (std_rules, length-append, append_assoc, places_before vs q t same (done ++ v ∷ []) rest (e ∙ sym (append_assoc done (v ∷ []) rest)))
+places_before vs q t same done (v ∷ rest) e = search (std_rules, length-append, append_assoc, places_before vs q t same (done ++ v ∷ []) rest (e ∙ sym (append_assoc done (v ∷ []) rest)))
 
 -- a walk whose test always passes behind a list
-passes_behind : {V : Type 0} (q : List V → V → Bool) (base : List V) → ((done : List V) (v : V) → q (base ++ done) v ≡ true) →
-    (done rest : List V) → each_after q (base ++ done) rest ≡ true
+passes_behind : {V : Type 0} (q : List V → V → Bool) (base : List V) → ((done : List V) (v : V) → q (base ++ done) v ≡ true) → (done rest : List V) → each_after q (base ++ done) rest ≡ true
 passes_behind q base all done [] = refl
 passes_behind q base all done (v ∷ rest) = search (std_rules, append_assoc, passes_behind q base all (done ++ v ∷ []) rest)
 
@@ -84,61 +76,16 @@ all_kept c p ns h = all_filter p c ns ∙ all_same c (λ m. not (c m) || p m) p 
 -- ---- the types of one world
 
 module _ (r : Resolve) (order : Keeps order_of_types r) (own : Keeps owners r) (names : Keeps function_names r) (n : ℕ) (w : World) (at : world_at r n ≡ Some w) where
-  listed_at : (m : ℕ) (def : TypeDef) (name : String Global) → type_at r m ≡ Some def → def.name ≡ Some name → is_listed r m (text_of name) def.owner ≡ true
-  unfolding listings
-  listed_at m def name is named =
-      let here : 0 + m ≡ m = omega arith in
-      let all : listings.type_ r m def ≡ true = subst (λ k. listings.type_ r k def ≡ true) here
-      (each_from_at (listings.type_ r) 0 r.types.items m def (lists_pass listings r (order_lists r order)).3 is) in
-      sym (ap (λ o. option_map_or (λ x. is_listed r m (text_of x) def.owner) o (same_owner def.owner owner.None)) named) ∙ all
-
-  listed_here : (m : ℕ) (def : TypeDef) (name : String Global) → type_at r m ≡ Some def → def.name ≡ Some name → def.owner ≡ as_world n → is_listed_in_world m (text_of name) w ≡ true
-  listed_here m def name is named mine = sym (ap (is_listed r m (text_of name)) mine ∙ ap (passes (is_listed_in_world m (text_of name))) at) ∙ listed_at m def name is named
-
-  -- a type that stands once under its name stands under no other key
-  fits_alone : (m : ℕ) (def : TypeDef) (name : String Global) → is_listed_in_world m (text_of name) w ≡ true → fitting (is_name_key (text_of name)) item_type m w.imports.entries ≡ true
-  fits_alone m def name listed = all_at (λ e. not (is_id m (item_type e.1)) || is_name_key (text_of name) e.0) w.imports.entries
-      (λ q e get. go q e get (is_id m (item_type e.1)) (is_name_key (text_of name) e.0) refl refl)
-    where
-      go : (q : ℕ) (e : WorldKey × WorldItem) → slice_get w.imports.entries q ≡ Some e → (a b : Bool) → is_id m (item_type e.1) ≡ a → is_name_key (text_of name) e.0 ≡ b → (not a || b) ≡ true
-      go q e get false b f g = refl
-      go q e get true true f g = refl
-      go q e get true false f g = sym (misfit (is_name_key (text_of name)) item_type m w.imports.entries q e get f g) ∙ listed
-
-  ranked : (m : ℕ) (def : TypeDef) (name : String Global) → type_at r m ≡ Some def → def.name ≡ Some name → def.owner ≡ as_world n → rank_of r m ≡ rank_in r (text_of name) (as_world n)
-  ranked m def name is named mine = search std_rules
-
-  stands : (m : ℕ) (def : TypeDef) (name : String Global) → type_at r m ≡ Some def → def.name ≡ Some name → def.owner ≡ as_world n →
-      (found (is_name_key (text_of name)) item_type m w.imports.entries ≡ true) × (fitting (is_name_key (text_of name)) item_type m w.imports.entries ≡ true)
-      × (rank_of r m ≡ option_map_or (λ k. k + 1) (position (is_name_key (text_of name)) (keys_of w.imports.entries)) 0)
-  stands m def name is named mine =
-      let listed = listed_here m def name is named mine in (
-        first_true _ _ listed,
-        fits_alone m def name listed,
-        ranked m def name is named mine ∙ ap (λ x. option_map_or (λ w. option_map_or (λ k. k + 1) (position (is_name_key (text_of name)) (keys_of w.imports.entries)) 0) x 0) at,
-      )
-
   -- a type of the world stands in its imports
-  stands_in : (m : ℕ) → has_owner r (as_world n) m ≡ true → has (world_type_numbers w) m ≡ true
-  stands_in m h = go (type_at r m) refl h
-    where
-      name_of : (def : TypeDef) → type_at r m ≡ Some def → def.owner ≡ as_world n → (x : Option (String Global)) → def.name ≡ x → is_some x ≡ true → has (world_type_numbers w) m ≡ true
-      name_of def is mine None named s = let wrong : ⊥ = cc in absurd wrong
-      name_of def is mine (Some name) named s = found_stands (is_name_key (text_of name)) item_type m w.imports.entries (stands m def name is named mine).0
-
-      go : (d : Option TypeDef) → type_at r m ≡ d → option_map_or (λ def. same_owner def.owner (as_world n)) d false ≡ true → has (world_type_numbers w) m ≡ true
-      go None is e = let wrong : ⊥ = cc in absurd wrong
-      go (Some def) is e =
-          let mine = owner_same def.owner (as_world n) e in
-          name_of def is mine def.name refl (owned_named r (order_lists r order) m def is (ap (λ x. same_owner x owner.None) mine))
+  stands : (m : ℕ) → has_owner r (as_world n) m ≡ true → has (world_type_numbers w) m ≡ true
+  stands = stands_in r (order_lists r order) item_type (as_world n) w.imports.entries is_name_key refl (world_listed r n w at) (world_placed r n w at)
 
   -- it stands before an import where its place is at most that of the import
   place_before : (done : List WorldItem) (v : WorldItem) (rest : List WorldItem) → values w.imports ≡ done ++ v ∷ rest → (m : ℕ) → has_owner r (as_world n) m ≡ true
       → has (filter_map item_type done) m ≡ nat_le (rank_of r m) (length done)
-  place_before done v rest e m h =
-      ap (λ vs. has (filter_map item_type vs) m) (sym (before_seam w.imports.entries done v rest e))
-      ∙ (ap (λ b. not b || has (filter_map item_type (values_of (take (length done) w.imports.entries))) m) (sym (stands_in m h))
-      ∙ owned_place r (order_lists r order) item_type (as_world n) w.imports.entries is_name_key refl stands (length done) m h)
+  place_before done v rest e m h = ap (λ vs. has (filter_map item_type vs) m) (sym (before_seam w.imports.entries done v rest e))
+      ∙ (ap (λ b. not b || has (filter_map item_type (values_of (take (length done) w.imports.entries))) m) (sym (stands m h))
+      ∙ owned_place r (order_lists r order) item_type (as_world n) w.imports.entries is_name_key refl (world_listed r n w at) (world_placed r n w at) (length done) m h)
 
   -- ---- what one import uses
 
@@ -148,8 +95,7 @@ module _ (r : Resolve) (order : Keeps order_of_types r) (own : Keeps owners r) (
   -- a type of the world's list uses what stands earlier in it
   type_ready : (done : List WorldItem) (k : ℕ) (rest : List WorldItem) (v : WorldItem) → values w.imports ≡ done ++ v ∷ rest → item_type v ≡ Some k →
       list_all (has (filter_map item_type done)) (filter (has_owner r (as_world n)) (used_by_number r k)) ≡ true
-  type_ready done k rest v e is =
-      all_filter (has (filter_map item_type done)) (has_owner r (as_world n)) (used_by_number r k)
+  type_ready done k rest v e is = all_filter (has (filter_map item_type done)) (has_owner r (as_world n)) (used_by_number r k)
       ∙ all_imply (λ m. not (has (world_type_numbers w) m) || has (filter_map item_type done) m) (λ m. not (has_owner r (as_world n) m) || has (filter_map item_type done) m) step
       (used_by_number r k) before
     where
@@ -165,7 +111,7 @@ module _ (r : Resolve) (order : Keeps order_of_types r) (own : Keeps owners r) (
         where
           go : (b : Bool) → has_owner r (as_world n) m ≡ b → (not b || has (filter_map item_type done) m) ≡ true
           go false f = refl
-          go true f = ap (λ b. not b || has (filter_map item_type done) m) (sym (stands_in m f)) ∙ h
+          go true f = ap (λ b. not b || has (filter_map item_type done) m) (sym (stands m f)) ∙ h
 
   -- what holds of each function of the world holds of an import
   of_import : (test : Function → Bool) → list_all test (functions_of_world w) ≡ true → (done : List WorldItem) (f : Function) (rest : List WorldItem)
@@ -203,8 +149,7 @@ module _ (r : Resolve) (order : Keeps order_of_types r) (own : Keeps owners r) (
       let home = home_of done f rest e in
       all_kept (has_owner r (as_world n)) (has (filter_map item_type done)) (used_by_function r f) home
       ∙ (all_same (has_owner r (as_world n)) (has (filter_map item_type done)) (λ m. nat_le (rank_of r m) (length done)) (place_before done (item.Function f) rest e) (used_by_function r f) home
-      ∙ (sym (highest_within (rank_of r) (length done) (used_by_function r f))
-      ∙ ap (λ k. nat_le k (length done)) (highest_flat (rank_of r) (met_by (met_of r)) (function_numbers f))))
+      ∙ (sym (highest_within (rank_of r) (length done) (used_by_function r f)) ∙ ap (λ k. nat_le k (length done)) (highest_flat (rank_of r) (met_by (met_of r)) (function_numbers f))))
 
   import_ready : (done : List WorldItem) (v : WorldItem) (rest : List WorldItem) → values w.imports ≡ done ++ v ∷ rest
       → ready done v ≡ passes (reaches_within (reach_of r) (length done)) (item_function v)
@@ -212,7 +157,7 @@ module _ (r : Resolve) (order : Keeps order_of_types r) (own : Keeps owners r) (
 
   -- all that is exported stands after the types
   behind : (done : List WorldItem) (m : ℕ) → has_owner r (as_world n) m ≡ true → has (filter_map item_type (values w.imports ++ done)) m ≡ true
-  behind done m h = search (std_rules, filter_map-append, list_any-append, stands_in)
+  behind done m h = search (std_rules, filter_map-append, list_any-append, stands)
 
   export_ready : (done : List WorldItem) (v : WorldItem) → ready (values w.imports ++ done) v ≡ true
   export_ready done x = search (std_rules, kept_pass, behind)
@@ -222,10 +167,8 @@ module _ (r : Resolve) (order : Keeps order_of_types r) (own : Keeps owners r) (
 
   -- the world's types stand before what uses them exactly where each imported function reaches no further than its place
   types_before : each_after ready [] (items_of w) ≡ each_from (λ p v. passes (reaches_within (reach_of r) p) (item_function v)) 0 (values w.imports)
-  types_before =
-      after_append ready [] (values w.imports) (values w.exports)
-      ∙ (ap (λ b. each_after ready [] (values w.imports) && b) exported
-      ∙ (and_true (each_after ready [] (values w.imports))
+  types_before = after_append ready [] (values w.imports) (values w.exports)
+      ∙ (ap (λ b. each_after ready [] (values w.imports) && b) exported ∙ (and_true (each_after ready [] (values w.imports))
       ∙ places_before (values w.imports) ready (λ p v. passes (reaches_within (reach_of r) p) (item_function v)) import_ready [] (values w.imports) refl))
     where
       exported : each_after ready (values w.imports) (values w.exports) ≡ true
@@ -234,9 +177,7 @@ module _ (r : Resolve) (order : Keeps order_of_types r) (own : Keeps owners r) (
   -- the rule on the order of a world's items
   pub items_stand : each_after (uses_stand_before r n) [] (items_of w)
       ≡ (uses_are_shown r (λ k. false) (items_of w) && each_from (λ p v. passes (reaches_within (reach_of r) p) (item_function v)) 0 (values w.imports))
-  items_stand =
-      after_both (λ b i. list_all (has (filter_map item_interface b)) (used_interfaces r i)) ready [] (items_of w)
-      ∙ (λ j. interfaces_before r [] (items_of w) j && types_before j)
+  items_stand = after_both (λ b i. list_all (has (filter_map item_interface b)) (used_interfaces r i)) ready [] (items_of w) ∙ (λ j. interfaces_before r [] (items_of w) j && types_before j)
 
 -- a rule on worlds alone
 pub items_kept : (r : Resolve) → KeepsIn order_of_items r lists.Worlds → Keeps order_of_items r

@@ -90,15 +90,13 @@ module _ (r : Resolve) where
       → min 101 (levels (option_map_or (λ name. named (place_of r def.owner) (text_of name)) o (tree_of_declaration (declared_by (trees_of r) def.kind)))) ≡ option_map_or (λ name. 0) o
       (min 101 (levels_above (highest capped (kind_numbers def.kind)) def.kind))
   defined def (Some name) = refl
-  defined def None =
-      ap (min 101) (declared_levels (trees_of r) def.kind)
+  defined def None = ap (min 101) (declared_levels (trees_of r) def.kind)
       ∙ (sym (cap_kind (highest (λ m. levels (number_tree r m)) (kind_numbers def.kind)) def.kind)
       ∙ ap (λ x. min 101 (levels_above x def.kind)) (sym (cap_highest (λ m. levels (number_tree r m)) (kind_numbers def.kind))))
 
   -- the levels of a number are those of its definition
   pub levels_step : Keeps references r → (n : ℕ) (def : TypeDef) → type_at r n ≡ Some def → capped n ≡ capped_levels capped def
-  levels_step below n def is =
-      ap (λ o. min 101 (levels (unwrap_or o no_tree))) (trees_at r n def is (below_at r below n def is)) ∙ defined def def.name
+  levels_step below n def is = ap (λ o. min 101 (levels (unwrap_or o no_tree))) (trees_at r n def is (below_at r below n def is)) ∙ defined def def.name
 
   -- a number past the list has none
   pub no_levels : (n : ℕ) → length r.types.items ≤ n → capped n ≡ 0
@@ -114,8 +112,8 @@ module _ (r : Resolve) (f : ℕ → ℕ) (same : (n : ℕ) → f n ≡ min 101 (
   shallow : (t : ValueType) → list_all (λ n. nat_le (f n) 100) (option_to_list (number_of t)) ≡ is_shallow r t
   shallow y = search std_rules
 
-  pub shallow_types : (ts : List ValueType) → list_all (λ n. nat_le (f n) 100) (filter_map number_of ts) ≡ list_all (is_shallow r) ts
-  shallow_types ts = types_test (λ n. nat_le (f n) 100) (is_shallow r) shallow ts
+  pub shallow_types : (ts : List ValueType) (ns : List ℕ) → ns ≡ filter_map number_of ts → list_all (λ n. nat_le (f n) 100) ns ≡ list_all (is_shallow r) ts
+  shallow_types ts ns e = ap (list_all (λ n. nat_le (f n) 100)) e ∙ types_test (λ n. nat_le (f n) 100) (is_shallow r) shallow ts
 
-  pub shallow_functions : (fs : List Function) → list_all (λ n. nat_le (f n) 100) (all_values fs) ≡ list_all (λ x. list_all (is_shallow r) (function_types x)) fs
-  shallow_functions fs = functions_test (λ n. nat_le (f n) 100) (is_shallow r) shallow fs
+  pub shallow_functions : (fs : List Function) (ns : List ℕ) → ns ≡ all_values fs → list_all (λ n. nat_le (f n) 100) ns ≡ list_all (λ x. list_all (is_shallow r) (function_types x)) fs
+  shallow_functions fs ns e = ap (list_all (λ n. nat_le (f n) 100)) e ∙ functions_test (λ n. nat_le (f n) 100) (is_shallow r) shallow fs

@@ -1,6 +1,6 @@
 -- The numbers that a function and a kind refer to are those of their parts. Serves numbers::cases_are_below, numbers::function_is_below, numbers::kind_is_below.
 pub mod Below
--- What a walk over the interfaces or the types found, and what the four walks of a rule say of it. Serves members::first_interface, numbers::first_interface, numbers::first_type.
+-- What a walk over a list of a `Resolve` has found, entry by entry and at its end. Serves item_orders::check_worlds, labels::check_interfaces, labels::check_types, labels::check_worlds and 42 more.
 pub mod Found
 -- The order of an owner's list, by the greatest place of what is met at each number. Serves list_orders::reach_at.
 pub mod Ordered

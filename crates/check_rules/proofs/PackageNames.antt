@@ -10,8 +10,7 @@ use Rattle.wit_model.specs.{Rules.each_from, Rules.same_package_name, Rules.same
 use Rattle.check_rules.specs.PackageNames.{distinct_names, well_named}
 use Rattle.wit_model.proofs.{Entries.each_from_all, Entries.packages_keep, RulesLemmas.name_flip}
 use Rattle.wit_model.proofs.Distinct.{adds_new, adds_apart, are_apart, not_is}
-use Rattle.base_lemmas.proofs.Bools.{left_of as first_true, right_of as second_true}
-use Rattle.base_lemmas.proofs.Numbers.{unequal as differ}
+use Rattle.base_lemmas.proofs.{Bools.left_of as first_true, Bools.right_of as second_true, Numbers.unequal as differ}
 use Rattle.wit_model.specs.declared.error.EntryList.TheVariants as lists
 
 no_some : {A B : Type 0} (x : A) → None ≡ Some x → B
@@ -64,11 +63,9 @@ version_flip a b = search std_rules
 -- no other package has the name
 only_at : (r : Resolve) → are_apart same_package_name (map (λ p. p.name) r.packages.items) ≡ true → (n : ℕ) (p : Package) → slice_get r.packages.items n ≡ Some p → distinct_names.package_ r n p ≡ true
 unfolding distinct_names
-only_at r apart n p at =
-    each_from_all (λ m other. (m == n) || not (same_package_name p.name other.name)) 0 r.packages.items (λ m other also.
+only_at r apart n p at = each_from_all (λ m other. (m == n) || not (same_package_name p.name other.name)) 0 r.packages.items (λ m other also.
     let here : m ≡ 0 + m = omega arith in
-    subst (λ k. ((k == n) || not (same_package_name p.name other.name)) ≡ true) here
-    (elim (cases_order m n) [
+    subst (λ k. ((k == n) || not (same_package_name p.name other.name)) ≡ true) here (elim (cases_order m n) [
       | inl same ↦ ap (λ b. b || not (same_package_name p.name other.name)) (eq-eqb m n same)
       | inr (inl before) ↦ or_right _ _ (ap not (name_flip p.name other.name ∙ pair_apart (λ p. p.name) same_package_name r.packages.items m n other p apart before also at))
       | inr (inr after) ↦ or_right _ _ (ap not (pair_apart (λ p. p.name) same_package_name r.packages.items n m p other apart after at also))

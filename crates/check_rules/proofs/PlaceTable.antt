@@ -81,6 +81,5 @@ module _ (n : ℕ) (p : Option PackageId) where
   -- shown once, in this package
   pub found_inline : (ws : List World) → is_once_in p (shown_by_all n ws) ≡ is_inline_in ws n p
   found_inline [] = refl
-  found_inline (w ∷ ws) =
-      never_step (times_shown n w) (sum_by (times_shown n) ws) w.package (shown_by_all n ws) (list_all fits ws) (once_more w.package ws) (found_inline ws) (none_fits ws)
+  found_inline (w ∷ ws) = never_step (times_shown n w) (sum_by (times_shown n) ws) w.package (shown_by_all n ws) (list_all fits ws) (once_more w.package ws) (found_inline ws) (none_fits ws)
       ∙ ap (λ k. (k == 1) && (fits w && list_all fits ws)) (sym (sum_by-cons (times_shown n) w ws))

@@ -1,7 +1,6 @@
-use Rattle.std.proofs.Common.{◌≡◌, ℕ, ◌<◌, true, Some}
-use Rattle.wit_model.specs.declared.error.EntryList.TheVariants as lists
-use Rattle.wit_model.specs.Valid.{entry_keeps, order_of_items}
+use Rattle.wit_model.specs.Valid.{order_of_items}
+use Rattle.check_rules.proofs.Found.{WorldsKeep}
 use Rattle.check_rules.proofs.item_orders.check_worlds.Given as goal
 
 abbrev pub invariant-loop-number : goal.invariant-loop-number
-invariant-loop-number l = (k : ℕ) → k < l.number → entry_keeps order_of_items l.resolve lists.Worlds k ≡ Some true
+invariant-loop-number l = WorldsKeep order_of_items l.resolve l.number

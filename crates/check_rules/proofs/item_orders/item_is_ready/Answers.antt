@@ -7,6 +7,5 @@ use Rattle.check_rules.proofs.item_orders.item_is_ready.Goals as goal
 pub returns-in-Interface : goal.returns-in-Interface
 returns-in-Interface c =
     let r = c.args.resolve.now in
-    c.interface_is_ready.ensures
-    ∙ (entry_ready r c.args.uses.now c.requires c.in-Interface.id.0 (holds c.args.shown.now)
+    c.interface_is_ready.ensures ∙ (entry_ready r c.args.uses.now c.requires c.in-Interface.id.0 (holds c.args.shown.now)
     ∙ ap (λ i. list_all (holds c.args.shown.now) (used_interfaces r i)) (sym c.in-Interface.is))

@@ -15,8 +15,7 @@ loop-def-preserved c =
     let at = slice_get_read r.types.items _ k c.def-item.result refl inside (search rules) in
     let same = levels_same (entry_of table) f k c.def-item.result c.loop-def.invariant.right (below_at r c.requires k c.def-item.result at) in
     let lent : c.deref.result.now ≡ table = search rules in
-    let fresh : c.in_ok-levels.levels ≡ f k =
-    c.in_ok-levels.ensures
+    let fresh : c.in_ok-levels.levels ≡ f k = c.in_ok-levels.ensures
     ∙ (ap (λ t. capped_levels (entry_of t) c.def-item.result) lent ∙ (same ∙ sym (levels_step r c.requires k c.def-item.result at)))
     in
     let pushed : c.push.new.self.items ≡ table ++ c.in_ok-levels.levels ∷ [] = search rules in

@@ -1,5 +1,4 @@
-use Rattle.std.proofs.Common.{◌≡◌, refl, sym, ap, ◌∙◌, rules, None}
-use Rattle.std.proofs.lemmas.Option.{slice_get_read}
+use Rattle.std.proofs.{Common.◌≡◌, Common.refl, Common.sym, Common.ap, Common.◌∙◌, Common.rules, Common.None, lemmas.Option.slice_get_read}
 use Rattle.wit_model.specs.{Parts.kind_numbers, Checks.entry_of, Checks.highest, Checks.reach_of}
 use Rattle.wit_model.proofs.Checks.{below_at}
 use Rattle.check_rules.proofs.{LevelTable.highest_same, Ordered.reach_named, Ordered.reach_unnamed}
@@ -20,7 +19,5 @@ returns c =
     let at = slice_get_read r.types.items _ c.args.number def refl c.requires.in_range c.index-def.ensures in
     let lent : c.deref.result.now ≡ kind_numbers def.kind = cc (c.in_ok-numbers.ensures) in
     let unnamed : def.name ≡ None = search rules in
-    c.highest.ensures
-    ∙ (ap (highest (entry_of table)) lent
-    ∙ (highest_same (entry_of table) (reach_of r) c.args.number (kind_numbers def.kind) c.requires.earlier (below_at r c.requires.below c.args.number def at)
-    ∙ sym (reach_unnamed r c.requires.below c.args.number def at unnamed)))
+    c.highest.ensures ∙ (ap (highest (entry_of table)) lent ∙ (highest_same (entry_of table) (reach_of r) c.args.number (kind_numbers def.kind) c.requires.earlier
+    (below_at r c.requires.below c.args.number def at) ∙ sym (reach_unnamed r c.requires.below c.args.number def at unnamed)))

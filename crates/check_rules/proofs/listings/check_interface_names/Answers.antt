@@ -1,9 +1,5 @@
-use Rattle.std.proofs.Common.{rules, ◌≤◌, length, arith}
-use Rattle.wit_model.specs.Checks.{names_fit}
-use Rattle.wit_model.proofs.Checks.{interfaces_pass}
+use Rattle.check_rules.proofs.Found.{walked}
 use Rattle.check_rules.proofs.listings.check_interface_names.Goals as goal
 
 pub returns-clause-kept : goal.returns-clause-kept
-returns-clause-kept c =
-    let past : length c.args.resolve.now.interfaces.items ≤ c.loop-number.number = search rules in
-    interfaces_pass names_fit c.args.resolve.now (λ n h. c.loop-number.invariant n (omega (arith, past, h)))
+returns-clause-kept c = search walked

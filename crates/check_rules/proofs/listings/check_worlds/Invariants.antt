@@ -1,7 +1,6 @@
-use Rattle.std.proofs.Common.{◌≡◌, ℕ, ◌<◌, true, Some}
-use Rattle.wit_model.specs.{Checks.listings, Valid.entry_keeps}
-use Rattle.wit_model.specs.declared.error.EntryList.TheVariants as lists
+use Rattle.wit_model.specs.Checks.{listings}
+use Rattle.check_rules.proofs.Found.{WorldsKeep}
 use Rattle.check_rules.proofs.listings.check_worlds.Given as goal
 
 abbrev pub invariant-loop-number : goal.invariant-loop-number
-invariant-loop-number l = (k : ℕ) → k < l.number → entry_keeps listings l.resolve lists.Worlds k ≡ Some true
+invariant-loop-number l = WorldsKeep listings l.resolve l.number

@@ -1,20 +1,14 @@
-use Rattle.std.proofs.Common.{refl, sym, ap, ◌∙◌, Some, option_map}
-use Rattle.std.proofs.lemmas.Option.{slice_get_read}
+use Rattle.std.proofs.{Common.refl, Common.sym, lemmas.Option.slice_get_read}
 use Rattle.wit_model.specs.Checks.{names_fit}
 use Rattle.wit_model.proofs.Listings.{world_fits, misnamed_in_world_breaks}
+use Rattle.check_rules.proofs.Found.{said}
 use Rattle.check_rules.proofs.listings.world_names.Goals as goal
 
 pub returns-in-Some-clause-broken : goal.returns-in-Some-clause-broken
 returns-in-Some-clause-broken c =
-    let r = c.args.resolve.now in
-    let x = c.index.result.now in
-    let at = slice_get_read r.worlds.items _ c.args.number x refl c.requires.in_range c.index.ensures in
-    misnamed_in_world_breaks r c.args.number x at c.requires.own c.in-Some.number c.in-Some.ensures
+    let at = slice_get_read c.args.resolve.now.worlds.items _ c.args.number c.index.result.now refl c.requires.in_range c.index.ensures in
+    misnamed_in_world_breaks c.args.resolve.now c.args.number c.index.result.now at c.requires.own c.in-Some.number c.in-Some.ensures
 
 pub returns-in-None-clause-kept : goal.returns-in-None-clause-kept
 unfolding names_fit
-returns-in-None-clause-kept c =
-    let r = c.args.resolve.now in
-    let x = c.index.result.now in
-    let at = slice_get_read r.worlds.items _ c.args.number x refl c.requires.in_range c.index.ensures in
-    ap (option_map (names_fit.world_ r c.args.number)) at ∙ ap Some (world_fits r x (sym c.in-None.ensures))
+returns-in-None-clause-kept c = said (names_fit.world_ c.args.resolve.now) _ _ _ _ c.requires.in_range c.index.ensures (sym (world_fits c.args.resolve.now c.index.result.now (sym c.in-None.ensures)))

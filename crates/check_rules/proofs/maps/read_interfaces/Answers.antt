@@ -1,25 +1,10 @@
-use Rattle.std.proofs.Common.{◌≡◌, refl, sym, ap, ◌∙◌, ◌≤◌, Some, length, slice_get, rules}
-use Rattle.std.specs.Prelude.{string_eq}
-use Rattle.std.proofs.lemmas.Option.{slice_get_read}
-use Rattle.indexmap.specs.IndexMap.{IsUnique}
-use Rattle.wit_model.specs.declared.model.Interface.{Interface}
-use Rattle.check_rules.proofs.Seen.{seen_more, seen_all}
+use Rattle.std.proofs.Common.{rules}
+use Rattle.check_rules.proofs.Seen.{InterfaceKeys, seen_more, seen_all}
 use Rattle.check_rules.proofs.maps.read_interfaces.Goals as goal
 
-abbrev AreUnique : Interface → Type 0
-AreUnique x = IsUnique string_eq x.types × IsUnique string_eq x.functions
-
 pub loop-entry-preserved : goal.loop-entry-preserved
-loop-entry-preserved c =
-    let xs = c.args.resolve.now.interfaces.items in
-    let at : slice_get xs c.loop-entry.entry-index ≡ Some c.entry-item.result =
-    ap (λ ys. slice_get ys c.loop-entry.entry-index) (sym c.deref-entry-items.ensures.value)
-    ∙ slice_get_read c.deref-entry-items.result.now (length c.deref-entry-items.result.now) c.loop-entry.entry-index c.entry-item.result refl (search rules) c.entry-item.is
-    in
-    seen_more AreUnique xs c.loop-entry.entry-index c.entry-item.result c.loop-entry.invariant at (c.len-types.ensures.unique, c.len-functions.ensures.unique)
+loop-entry-preserved c = seen_more InterfaceKeys c.args.resolve.now.interfaces.items c.deref-entry-items.result.now c.deref-entry-items.ensures.value c.loop-entry.entry-index c.entry-item.result
+    c.loop-entry.invariant (search rules) c.entry-item.is (c.len-types.ensures.unique, c.len-functions.ensures.unique)
 
 pub returns : goal.returns
-returns c =
-    let xs = c.args.resolve.now.interfaces.items in
-    let past : length xs ≤ c.loop-entry.entry-index = search rules in
-    seen_all AreUnique xs c.loop-entry.entry-index past c.loop-entry.invariant
+returns c = seen_all InterfaceKeys c.args.resolve.now.interfaces.items c.loop-entry.entry-index (search rules) c.loop-entry.invariant

@@ -8,14 +8,12 @@ returns-then-not-branch g c =
     let f = g.T.Named.name_of in
     let names = map f c.args.members.now in
     sym (old_turn text_eq f (λ k. k.now) c.args.members.now c.loop-member.member-index c.member-item.result c.loop-member.seen.keys c.name.result c.in_ok-insert.field-0
-    c.loop-member-test.true c.member-item.is c.name.ensures c.in_ok-insert.ensures.added c.if-not-branch.true)
-    ∙ (c.loop-member.invariant ∙ adds_distinct names)
+    c.loop-member-test.true c.member-item.is c.name.ensures c.in_ok-insert.ensures.added c.if-not-branch.true) ∙ (c.loop-member.invariant ∙ adds_distinct names)
 
 pub loop-member-preserved : goal.loop-member-preserved
-loop-member-preserved g c =
-    new_turn text_eq g.T.Named.name_of (λ k. k.now) c.args.members.now c.loop-member.member-index c.member-item.result c.loop-member.seen.keys c.name.result c.insert.new.self.keys
-    c.in_ok-insert.field-0 _
-    c.loop-member-test.true c.member-item.is c.name.ensures c.in_ok-insert.ensures.added c.if-not-branch.false c.in_ok-insert.ensures.keys c.loop-member.invariant
+loop-member-preserved g c = new_turn text_eq g.T.Named.name_of (λ k. k.now) c.args.members.now c.loop-member.member-index c.member-item.result c.loop-member.seen.keys c.name.result
+    c.insert.new.self.keys c.in_ok-insert.field-0 _ c.loop-member-test.true c.member-item.is c.name.ensures c.in_ok-insert.ensures.added c.if-not-branch.false c.in_ok-insert.ensures.keys
+    c.loop-member.invariant
 
 pub returns : goal.returns
 returns g c =

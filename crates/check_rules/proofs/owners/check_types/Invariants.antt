@@ -1,7 +1,6 @@
-use Rattle.std.proofs.Common.{◌≡◌, ℕ, ◌<◌, true, Some}
-use Rattle.wit_model.specs.Valid.{owners, entry_keeps}
-use Rattle.wit_model.specs.declared.error.EntryList.TheVariants as lists
+use Rattle.wit_model.specs.Valid.{owners}
+use Rattle.check_rules.proofs.Found.{TypesKeep}
 use Rattle.check_rules.proofs.owners.check_types.Given as goal
 
 abbrev pub invariant-loop-number : goal.invariant-loop-number
-invariant-loop-number l = (k : ℕ) → k < l.number → entry_keeps owners l.resolve lists.Types k ≡ Some true
+invariant-loop-number l = TypesKeep owners l.resolve l.number

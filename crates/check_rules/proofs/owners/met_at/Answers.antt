@@ -1,5 +1,4 @@
-use Rattle.std.proofs.Common.{◌≡◌, refl, ap, ◌∙◌, rules, true, false, is_some}
-use Rattle.std.proofs.lemmas.Option.{slice_get_read}
+use Rattle.std.proofs.{Common.◌≡◌, Common.refl, Common.ap, Common.◌∙◌, Common.rules, Common.true, Common.false, Common.is_some, lemmas.Option.slice_get_read}
 use Rattle.std.specs.List.{list_all}
 use Rattle.wit_model.specs.Parts.{kind_numbers, has_owner, met_by, met_of}
 use Rattle.check_rules.specs.Owners.{stays, met_entry}
@@ -23,8 +22,6 @@ returns c =
     let unnamed : is_some def.name ≡ false = search rules in
     let lent : c.deref.result.now ≡ kind_numbers def.kind = cc (c.in_ok-numbers.ensures) in
     λ o.
-    c.met_by_all.ensures o
-    ∙ (ap (list_all (λ n. stays (met_entry table n) o)) lent
+    c.met_by_all.ensures o ∙ (ap (list_all (λ n. stays (met_entry table n) o)) lent
     ∙ (all_same_below (λ n. stays (met_entry table n) o) (λ n. list_all (has_owner r o) (met_by (met_of r) n)) c.args.number (kind_numbers def.kind) (λ m low. c.requires.earlier m low o)
-    (below_at r c.requires.below c.args.number def at)
-    ∙ unnamed_met r c.requires.below c.args.number def at o unnamed))
+    (below_at r c.requires.below c.args.number def at) ∙ unnamed_met r c.requires.below c.args.number def at o unnamed))

@@ -13,8 +13,7 @@ loop-def-preserved c =
     let at = slice_get_read r.types.items _ k c.def-item.result refl inside (search rules) in
     let same = kind_same (flags c.loop-def.table.items) (is_resource r) k c.def-item.result.kind c.loop-def.invariant.right (below_at r c.requires k c.def-item.result at) in
     let lent : c.deref.result.now ≡ c.loop-def.table.items = search rules in
-    let fresh : c.is_resource_kind-is_resource.result ≡ is_resource r k =
-    c.is_resource_kind-is_resource.ensures
+    let fresh : c.is_resource_kind-is_resource.result ≡ is_resource r k = c.is_resource_kind-is_resource.ensures
     ∙ (ap (λ t. is_resource_kind (flags t) c.def-item.result.kind) lent ∙ (same ∙ sym (resource_step r c.requires k c.def-item.result at)))
     in
     let pushed : c.push.new.self.items ≡ c.loop-def.table.items ++ c.is_resource_kind-is_resource.result ∷ [] = search rules in

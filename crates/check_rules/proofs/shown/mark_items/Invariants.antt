@@ -7,7 +7,6 @@ use Rattle.check_rules.proofs.shown.mark_items.Given as goal
 
 -- what is left to mark
 abbrev pub invariant-loop-item : goal.invariant-loop-item
-invariant-loop-item l =
-    (n : ℕ) → n < length l.fn.table →
+invariant-loop-item l = (n : ℕ) → n < length l.fn.table →
     joined (shown_entry l.table n) (times (count_by (λ i. is_id n (item_interface i)) l.item-iterator) l.home)
     ≡ joined (shown_entry l.fn.table n) (times (count_by (λ i. is_id n (item_interface i)) (values l.items)) l.home)
