@@ -11,15 +11,14 @@ use Rattle.wit_model.specs.Checks.{highest, references, listings, rank_in, rank_
 use Rattle.wit_model.proofs.{Entries.each_from_at, Entries.lists_pass, InOrder.found, InOrder.fitting, InOrder.found_stands, InOrder.used_place, InOrder.highest_within}
 use Rattle.wit_model.proofs.{Chains.all_has, Listed.misfit, Owners.met_step, Owners.owned_stays, PartsLemmas.owner_same, UsesLemmas.alias_numbers}
 use Rattle.check_rules.proofs.Ordered.{highest_flat}
-use Rattle.base_lemmas.proofs.{Bools.left_of as first_true, Bools.right_of as second_true, Bools.or_true, Elements.all_by_number as all_at, Options.there}
+use Rattle.base_lemmas.proofs.{Bools.left_of as first_true, Bools.right_of as second_true, Bools.or_true, Elements.all_by_number as all_at, Options.there, Lists.given-some}
 use Rattle.wit_model.specs.declared.model.TypeOwner.TheVariants as owner
 
 -- ---- lists
 
--- what passes a test is there
-holder : {A : Type 0} (test : A → Bool) (o : Option A) → option_map_or test o false ≡ true → (x : A) × (o ≡ Some x) × (test x ≡ true)
-holder test None h = let wrong : ⊥ = cc in absurd wrong
-holder test (Some x) h = (x, refl, h)
+-- what is there passes the test
+held : {A : Type 0} (test : A → Bool) {o : Option A} (x : A) → o ≡ Some x → option_map_or test o false ≡ true → test x ≡ true
+held test x is h = ap (λ o. option_map_or test o false) (sym is) ∙ h
 
 take_map : {X Y : Type 0} (f : X → Y) (n : ℕ) (xs : List X) → map f (take n xs) ≡ take n (map f xs)
 take_map f zero [] = refl
@@ -89,8 +88,8 @@ module _ (r : Resolve) (kept : Keeps listings r) {K V : Type 0} (num : V → Opt
       ((m : ℕ) (t : Text) → found (tests t) num m es ≡ true → fitting (tests t) num m es ≡ true → rank_of r m ≡ option_map_or (λ k. k + 1) (position (tests t) (keys_of es)) 0 → P m) →
       (m : ℕ) → has_owner r o m ≡ true → P m
   each_owned P one m h =
-      let d = holder (λ (def : TypeDef). same_owner def.owner o) (type_at r m) h in
-      let own = owner_same d.0.owner o d.2 in
+      let d = there (type_at r m) (given-some _ (type_at r m) h) in
+      let own = owner_same d.0.owner o (held (λ (def : TypeDef). same_owner def.owner o) d.0 d.1 h) in
       let name = there d.0.name (owned_named r kept m d.0 d.1 (ap (λ x. same_owner x owner.None) own ∙ real)) in
       let t = text_of name.0 in
       let once = listed m t (ap (is_listed r m t) (sym own) ∙ listed_at r kept m d.0 name.0 d.1 name.1) in
@@ -129,13 +128,15 @@ module _ (r : Resolve) (kept : Keeps listings r) {K V : Type 0} (num : V → Opt
     -- a use asks nothing of the list
     use_stands : (p : ℕ) (def : TypeDef) → def.owner ≡ o → is_use r def ≡ true → list_all (passing p) (used_by_type r def) ≡ true
     use_stands p def mine h =
-        let a = holder (λ t. option_map_or (is_foreign r def.owner) (type_at r t) false) (alias_target def.kind) h in
-        let b = holder (is_foreign r def.owner) (type_at r a.0) a.2 in
-        let name = there b.0.name (owned_named r kept a.0 b.0 b.1 (foreign_real r b.0.owner (second_true _ _ b.2))) in
-        let met : met_by (met_of r) a.0 ≡ a.0 ∷ [] = met_step r refs a.0 b.0 b.1 ∙ ap (λ x. option_map_or (λ name. a.0 ∷ []) x (used_by_type r b.0)) name.1 in
-        let out = stranger a.0 b.0 b.1 (ap (same_owner b.0.owner) (sym mine) ∙ not_true _ (first_true _ _ b.2)) in
+        let a = there (alias_target def.kind) (given-some _ (alias_target def.kind) h) in
+        let met = held (λ t. option_map_or (is_foreign r def.owner) (type_at r t) false) a.0 a.1 h in
+        let b = there (type_at r a.0) (given-some _ (type_at r a.0) met) in
+        let foreign = held (is_foreign r def.owner) b.0 b.1 met in
+        let name = there b.0.name (owned_named r kept a.0 b.0 b.1 (foreign_real r b.0.owner (second_true _ _ foreign))) in
+        let met_alone : met_by (met_of r) a.0 ≡ a.0 ∷ [] = met_step r refs a.0 b.0 b.1 ∙ ap (λ x. option_map_or (λ name. a.0 ∷ []) x (used_by_type r b.0)) name.1 in
+        let out = stranger a.0 b.0 b.1 (ap (same_owner b.0.owner) (sym mine) ∙ not_true _ (first_true _ _ foreign)) in
         ap (λ ns. list_all (passing p) (flat_map (met_by (met_of r)) ns)) (alias_numbers def.kind a.0 a.1)
-        ∙ (ap (λ ns. list_all (passing p) (ns ++ [])) met ∙ ap (λ x. (not x || has (filter_map num (values_of (take p es))) a.0) && true) out)
+        ∙ (ap (λ ns. list_all (passing p) (ns ++ [])) met_alone ∙ ap (λ x. (not x || has (filter_map num (values_of (take p es))) a.0) && true) out)
 
     -- the test by places is the test by what stands before
     entry_stands : (p n : ℕ) → is_named_of r o n ≡ true → stands_in_order r (reach_of r) p n ≡ list_all (passing p) (used_by_number r n)
