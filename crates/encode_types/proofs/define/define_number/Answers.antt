@@ -72,45 +72,54 @@ returns-then-is_some g c =
       refuses = tt;
     })
 
+pub returns-in-Some-clause-learns : goal.returns-in-Some-clause-learns
+returns-in-Some-clause-learns g c =
+    let a = (goal.at.returns-in-Some-clause-learns g c).After-foreign in
+    let f : foreign_owner (g.E.ValtypeEncoder.view c.args.enc.now).scope.own_interface c.index-def.result.now.owner ≡ Some c.in-Some.interface = sym (owner_is g a) ∙ c.in-Some.is in
+    learns-call-foreign c.import.result c.args.resolve.now (g.E.ValtypeEncoder.view c.args.enc.now).scope (g.E.ValtypeEncoder.view c.args.enc.now).maps (g.E.ValtypeEncoder.view c.import.new.enc).maps
+    (g.E.ValtypeEncoder.view c.args.enc.now).definitions (g.E.ValtypeEncoder.view c.import.new.enc).definitions c.args.id.0 c.index-def.result.now (there g a)
+    (rw c.index_of.ensures.same at c.import.ensures.ok) (rw c.index_of.ensures.same at c.import.ensures.leaves.maps_grow) (rw c.index_of.ensures.same at c.import.ensures.counts)
+    (rw c.index_of.ensures.same at c.import.ensures.kinds) c.in-Some.interface f
+
 unkind : (g : Over) (c : After-foreign g) (i : InterfaceId) → c.foreign.result ≡ Some i
     → unnamed_kind c.args.resolve.now (g.E.ValtypeEncoder.view c.args.enc.now).scope.own_interface c.args.id.0 ≡ None
 unkind g c i e = foreign-unkind c.args.resolve.now (g.E.ValtypeEncoder.view c.args.enc.now).scope.own_interface (g.E.ValtypeEncoder.view c.args.enc.now).maps c.args.id.0 c.index-def.result.now i
     (there g c) (sym (owner_is g c) ∙ e)
 
-pub returns-in-Some : goal.returns-in-Some
-returns-in-Some g c =
-    let a = (goal.at.returns-in-Some g c).After-foreign in
-    let same = c.index_of.ensures.same in
-    let f : foreign_owner (g.E.ValtypeEncoder.view c.args.enc.now).scope.own_interface c.index-def.result.now.owner ≡ Some c.in-Some.interface = sym (owner_is g a) ∙ c.in-Some.is in
+pub returns-in-Some-clause-held : goal.returns-in-Some-clause-held
+returns-in-Some-clause-held g c =
+    let a = (goal.at.returns-in-Some-clause-held g c).After-foreign in
     let none = unkind g a c.in-Some.interface c.in-Some.is in
+    let held : (g.E.ValtypeEncoder.view c.import.new.enc).held ≤ (g.E.ValtypeEncoder.view c.args.enc.now).held + 1 = (rw c.index_of.ensures.same at c.import.ensures.held) in
     let count = counts-one c.args.resolve.now (g.E.ValtypeEncoder.view c.args.enc.now).scope.own_interface c.args.id.0 in
-    record {
-      ok = rw same at c.import.ensures.ok;
-      leaves = rw same at c.import.ensures.leaves;
-      aliases = met-one c.index-def.result.now c.in-Some.interface (there g a) f (rw (same, c.requires.packages) at c.import.ensures.reaches);
-      imports = imports-one c.index-def.result.now c.in-Some.interface (there g a) f (rw same at c.import.ensures.imports);
-      counts = rw same at c.import.ensures.counts;
-      learns = learns-call-foreign c.import.result _ _ _ _ _ _ _ _ (there g a) (rw same at c.import.ensures.ok) (rw same at c.import.ensures.leaves.maps_grow)
-          (rw same at c.import.ensures.counts) (rw same at c.import.ensures.kinds) c.in-Some.interface f;
-      held =
-          let held : (g.E.ValtypeEncoder.view c.import.new.enc).held ≤ (g.E.ValtypeEncoder.view c.args.enc.now).held + 1 = (rw same at c.import.ensures.held) in
-          on-both c.import.result _ _ _ (λ one counts. holds-number counts.shows.learnt c.args.id.0 counts.shows.numbers counts.keys.lists one.known (unknown g a) (none-new _ _ none)
-          (none-has _ _ none) (omega (arith, held, count))) c.import.ensures.ok (rw same at c.import.ensures.counts);
-      written =
-          let takes = foreign-extent c.args.resolve.now (g.E.ValtypeEncoder.view c.args.enc.now).scope.own_interface c.args.id.0 c.index-def.result.now c.in-Some.interface (there g a) f in
-          let at : type_at (g.E.ValtypeEncoder.view c.args.enc.now).scope.packages c.args.id.0 ≡ Some c.index-def.result.now = rw c.requires.packages (there g a) in
-          on-three c.import.result _ _ _ _
-          (λ one counts w. writes-number counts.shows.learnt c.args.id.0 counts.shows.numbers one.known (unknown g a) (let l = (w c.index-def.result.now at).extent in omega (arith, l, takes)))
-          c.import.ensures.ok (rw same at c.import.ensures.counts) (rw same at c.import.ensures.written);
-      size = λ h.
-          let refused = c.import.ensures.size h in
-          let held : (g.E.ValtypeEncoder.view c.import.new.enc).held ≤ (g.E.ValtypeEncoder.view c.args.enc.now).held = (rw same at refused.held) in
-          lacks-number _ _ _ _ _ _ _ _ (there g a) (unknown g a) (none-new _ _ none) (omega (arith, held, count)) (its_import c.in-Some.interface f refused.lacks);
-      refuses = search rules;
-    }
+    on-both c.import.result _ _ _ (λ one counts. holds-number counts.shows.learnt c.args.id.0 counts.shows.numbers counts.keys.lists one.known (unknown g a)
+    (none-new (g.E.ValtypeEncoder.view c.args.enc.now).maps _ none) (none-has (g.E.ValtypeEncoder.view c.import.new.enc).maps _ none) (omega (arith, held, count)))
+    c.import.ensures.ok (rw c.index_of.ensures.same at c.import.ensures.counts)
 
 pub returns-clause-held : goal.returns-clause-held
 returns-clause-held g c = rw c.index_of.ensures.same at c.define_own.ensures.held
+
+pub returns-in-Some-clause-size : goal.returns-in-Some-clause-size
+returns-in-Some-clause-size g c = λ h.
+    let a = (goal.at.returns-in-Some-clause-size g c).After-foreign in
+    let before = g.E.ValtypeEncoder.view c.args.enc.now in
+    let after = g.E.ValtypeEncoder.view c.import.new.enc in
+    let f : foreign_owner (g.E.ValtypeEncoder.view c.args.enc.now).scope.own_interface c.index-def.result.now.owner ≡ Some c.in-Some.interface = sym (owner_is g a) ∙ c.in-Some.is in
+    let refused = c.import.ensures.size h in
+    let held : (g.E.ValtypeEncoder.view c.import.new.enc).held ≤ (g.E.ValtypeEncoder.view c.args.enc.now).held = (rw c.index_of.ensures.same at refused.held) in
+    let one = counts-one c.args.resolve.now before.scope.own_interface c.args.id.0 in
+    lacks-number c.args.resolve.now before.scope.own_interface c.args.id c.index-def.result.now before.maps before.held after.held after.lacks_room
+    (there g a) (unknown g a) (none-new _ _ (unkind g a c.in-Some.interface c.in-Some.is)) (omega (arith, held, one)) (its_import c.in-Some.interface f refused.lacks)
+
+pub returns-in-Some-clause-written : goal.returns-in-Some-clause-written
+returns-in-Some-clause-written g c =
+    let a = (goal.at.returns-in-Some-clause-written g c).After-foreign in
+    let f : foreign_owner (g.E.ValtypeEncoder.view c.args.enc.now).scope.own_interface c.index-def.result.now.owner ≡ Some c.in-Some.interface = sym (owner_is g a) ∙ c.in-Some.is in
+    let takes = foreign-extent c.args.resolve.now (g.E.ValtypeEncoder.view c.args.enc.now).scope.own_interface c.args.id.0 c.index-def.result.now c.in-Some.interface (there g a) f in
+    let at : type_at (g.E.ValtypeEncoder.view c.args.enc.now).scope.packages c.args.id.0 ≡ Some c.index-def.result.now = rw c.requires.packages (there g a) in
+    on-three c.import.result _ _ _ _
+    (λ one counts w. writes-number counts.shows.learnt c.args.id.0 counts.shows.numbers one.known (unknown g a) (let l = (w c.index-def.result.now at).extent in omega (arith, l, takes)))
+    c.import.ensures.ok (rw c.index_of.ensures.same at c.import.ensures.counts) (rw c.index_of.ensures.same at c.import.ensures.written)
 
 pub returns-clause-written : goal.returns-clause-written
 returns-clause-written g c =
@@ -118,8 +127,20 @@ returns-clause-written g c =
     on-three c.define_own.result _ _ _ _ (λ one counts w. writes-number counts.shows.learnt c.args.id.0 counts.shows.numbers one.known (unknown g a) w.extent)
     c.define_own.ensures.ok (rw c.index_of.ensures.same at c.define_own.ensures.counts) (rw c.index_of.ensures.same at c.define_own.ensures.written)
 
+pub returns-in-Some-clause-aliases : goal.returns-in-Some-clause-aliases
+returns-in-Some-clause-aliases g c =
+    let a = (goal.at.returns-in-Some-clause-aliases g c).After-foreign in
+    let f : foreign_owner (g.E.ValtypeEncoder.view c.args.enc.now).scope.own_interface c.index-def.result.now.owner ≡ Some c.in-Some.interface = sym (owner_is g a) ∙ c.in-Some.is in
+    met-one c.index-def.result.now c.in-Some.interface (there g a) f (rw (c.index_of.ensures.same, c.requires.packages) at c.import.ensures.reaches)
+
 pub returns-clause-aliases : goal.returns-clause-aliases
 returns-clause-aliases g c = met-none (rw c.index_of.ensures.same at c.define_own.ensures.around_stays)
+
+pub returns-in-Some-clause-imports : goal.returns-in-Some-clause-imports
+returns-in-Some-clause-imports g c =
+    let a = (goal.at.returns-in-Some-clause-imports g c).After-foreign in
+    let f : foreign_owner (g.E.ValtypeEncoder.view c.args.enc.now).scope.own_interface c.index-def.result.now.owner ≡ Some c.in-Some.interface = sym (owner_is g a) ∙ c.in-Some.is in
+    imports-one c.index-def.result.now c.in-Some.interface (there g a) f (rw c.index_of.ensures.same at c.import.ensures.imports)
 
 pub returns-clause-imports : goal.returns-clause-imports
 returns-clause-imports g c = imports-none (rw c.index_of.ensures.same at c.define_own.ensures.imports_stay)

@@ -1,4 +1,4 @@
-use Rattle.std.proofs.Common.{inl, inr, arith}
+use Rattle.std.proofs.Common.{rules, inl, inr, arith}
 use Rattle.encode_types.proofs.{Learning.kind-same, Agree.on_ok, Agree.learnt-one, Defining.counts-number, Defining.counts-trans, Defining.leaves-trans}
 use Rattle.encode_types.proofs.Writing.{written-on}
 use Rattle.encode_types.proofs.define.define_unnamed.Goals as goal

@@ -1,4 +1,4 @@
-use Rattle.std.proofs.Common.{refl, ◌∙◌}
+use Rattle.std.proofs.Common.{rules, refl, ◌∙◌}
 use Rattle.encode_types.proofs.{Agree.on_ok, Agree.learnt-one, Defining.counts-number, Defining.leaves-before, Writing.written-on}
 use Rattle.encode_types.proofs.define.import.Goals as goal
 

@@ -76,48 +76,50 @@ define_key-requires g c = λ _. (
   ),
 )
 
-pub returns : goal.returns
-returns g c =
-    let at = goal.at.returns g c in
+pub returns-clause-counts : goal.returns-clause-counts
+returns-clause-counts g c = ok-map c.define_key.result _ _ (λ i h. (
+  c.key_of-key.result,
+  c.key_of-key.ensures,
+  counts-behind c.args.resolve.now (g.E.ValtypeEncoder.view c.args.enc.now).scope (g.E.ValtypeEncoder.view c.list_of_key.new.enc).scope (g.E.ValtypeEncoder.view c.args.enc.now).maps
+      (g.E.ValtypeEncoder.view c.list_of_key.new.enc).maps (g.E.ValtypeEncoder.view c.define_key.new.enc).maps (g.E.ValtypeEncoder.view c.args.enc.now).definitions
+      (g.E.ValtypeEncoder.view c.list_of_key.new.enc).definitions (g.E.ValtypeEncoder.view c.define_key.new.enc).definitions c.key_of-key.result i
+      c.list_of_key.ensures.leaves.scope_stays c.list_of_key.ensures.names c.list_of_key.ensures.counts (lacks g (goal.at.returns-clause-counts g c).In_default) h,
+)) (rw c.index_of_key.ensures.same at c.define_key.ensures.counts)
+
+pub returns-clause-learns : goal.returns-clause-learns
+returns-clause-learns g c = on_ok c.define_key.result _ _ (λ h. met-both c.args.resolve.now (g.E.ValtypeEncoder.view c.args.enc.now).scope.own_interface
+    (g.E.ValtypeEncoder.view c.list_of_key.new.enc).scope.own_interface (g.E.ValtypeEncoder.view c.args.enc.now).maps (g.E.ValtypeEncoder.view c.list_of_key.new.enc).maps
+    (g.E.ValtypeEncoder.view c.define_key.new.enc).maps [] (function_types c.args.func.now) (ap (λ (s : Scope). s.own_interface) c.list_of_key.ensures.leaves.scope_stays)
+    (met-names c.args.resolve.now (g.E.ValtypeEncoder.view c.args.enc.now).scope.own_interface [] (g.E.ValtypeEncoder.view c.args.enc.now).maps (g.E.ValtypeEncoder.view c.list_of_key.new.enc).maps
+    c.list_of_key.ensures.names) h) (rw c.index_of_key.ensures.same at c.define_key.ensures.learns)
+
+pub returns-clause-leaves : goal.returns-clause-leaves
+returns-clause-leaves g c = leaves-trans c.list_of_key.ensures.leaves (rw c.index_of_key.ensures.same at c.define_key.ensures.leaves)
+
+pub returns-clause-aliases : goal.returns-clause-aliases
+returns-clause-aliases g c = makes-then (ap (λ (s : Scope). s.own_interface) c.list_of_key.ensures.leaves.scope_stays) (met-none c.list_of_key.ensures.around_stays)
+    (rw c.index_of_key.ensures.same at c.define_key.ensures.aliases)
+
+pub returns-clause-held : goal.returns-clause-held
+returns-clause-held g c = on_ok c.define_key.result _ _ (λ h. holds-then (ap (λ (s : Scope). s.own_interface) c.list_of_key.ensures.leaves.scope_stays) c.list_of_key.ensures.leaves.maps_grow
+    (rw c.index_of_key.ensures.same at c.define_key.ensures.leaves.maps_grow) (held g (goal.at.returns-clause-held g c).In_ok-list) h) (rw c.index_of_key.ensures.same at c.define_key.ensures.held)
+
+pub returns-clause-written : goal.returns-clause-written
+returns-clause-written g c = on_ok c.define_key.result _ _
+    (λ h. (let w : WritesLearnt c.args.resolve.now (0 + signature_extent (signature_of c.args.resolve.now c.args.func.now)) (g.E.ValtypeEncoder.view c.args.enc.now)
+    (g.E.ValtypeEncoder.view c.define_key.new.enc) = writes-then c.list_of_key.ensures.leaves.scope_stays (written g (goal.at.returns-clause-written g c).In_ok-list) h in
+    writes-most (omega arith) w)) (rw c.index_of_key.ensures.same at c.define_key.ensures.written)
+
+pub returns-clause-size : goal.returns-clause-size
+returns-clause-size g c = λ e.
+    let q = (rw c.index_of_key.ensures.same at (c.define_key.ensures.size e)) in
+    let keys : length (g.E.ValtypeEncoder.view c.list_of_key.new.enc).maps.func_type_map.entries ≡ length (g.E.ValtypeEncoder.view c.args.enc.now).maps.func_type_map.entries =
+    ap length c.list_of_key.ensures.names.rest.keys in
     record {
-      ok = rw c.index_of_key.ensures.same at c.define_key.ensures.ok;
-      learns = on_ok c.define_key.result _ _ (λ h. met-both c.args.resolve.now (g.E.ValtypeEncoder.view c.args.enc.now).scope.own_interface
-          (g.E.ValtypeEncoder.view c.list_of_key.new.enc).scope.own_interface (g.E.ValtypeEncoder.view c.args.enc.now).maps (g.E.ValtypeEncoder.view c.list_of_key.new.enc).maps
-          (g.E.ValtypeEncoder.view c.define_key.new.enc).maps [] (function_types c.args.func.now) (ap (λ (s : Scope). s.own_interface) c.list_of_key.ensures.leaves.scope_stays)
-          (met-names c.args.resolve.now (g.E.ValtypeEncoder.view c.args.enc.now).scope.own_interface [] (g.E.ValtypeEncoder.view c.args.enc.now).maps
-          (g.E.ValtypeEncoder.view c.list_of_key.new.enc).maps
-          c.list_of_key.ensures.names) h) (rw c.index_of_key.ensures.same at c.define_key.ensures.learns);
-      leaves = leaves-trans c.list_of_key.ensures.leaves (rw c.index_of_key.ensures.same at c.define_key.ensures.leaves);
-      aliases = makes-then (ap (λ (s : Scope). s.own_interface) c.list_of_key.ensures.leaves.scope_stays) (met-none c.list_of_key.ensures.around_stays)
-          (rw c.index_of_key.ensures.same at c.define_key.ensures.aliases);
-      imports = imports-then (ap (λ (s : Scope). s.own_interface) c.list_of_key.ensures.leaves.scope_stays) (imports-none c.list_of_key.ensures.imports_stay)
-          (rw c.index_of_key.ensures.same at c.define_key.ensures.imports);
-      counts = ok-map c.define_key.result _ _ (λ i h. (
-        c.key_of-key.result,
-        c.key_of-key.ensures,
-        counts-behind c.args.resolve.now (g.E.ValtypeEncoder.view c.args.enc.now).scope (g.E.ValtypeEncoder.view c.list_of_key.new.enc).scope (g.E.ValtypeEncoder.view c.args.enc.now).maps
-            (g.E.ValtypeEncoder.view c.list_of_key.new.enc).maps (g.E.ValtypeEncoder.view c.define_key.new.enc).maps (g.E.ValtypeEncoder.view c.args.enc.now).definitions
-            (g.E.ValtypeEncoder.view c.list_of_key.new.enc).definitions (g.E.ValtypeEncoder.view c.define_key.new.enc).definitions c.key_of-key.result i
-            c.list_of_key.ensures.leaves.scope_stays c.list_of_key.ensures.names c.list_of_key.ensures.counts (lacks g at.In_default) h,
-      )) (rw c.index_of_key.ensures.same at c.define_key.ensures.counts);
-      last = ok-map c.define_key.result _ _ (λ i h. inr (record { one_more = h.one_more ∙ ap (λ (d : Definitions). d.functions ++ i ∷ []) c.list_of_key.ensures.counts; last = h.last }))
-          (rw c.index_of_key.ensures.same at c.define_key.ensures.last);
-      held = on_ok c.define_key.result _ _ (λ h. holds-then (ap (λ (s : Scope). s.own_interface) c.list_of_key.ensures.leaves.scope_stays) c.list_of_key.ensures.leaves.maps_grow
-          (rw c.index_of_key.ensures.same at c.define_key.ensures.leaves.maps_grow) (held g at.In_ok-list) h) (rw c.index_of_key.ensures.same at c.define_key.ensures.held);
-      written = on_ok c.define_key.result _ _ (λ h. (let w : WritesLearnt c.args.resolve.now (0 + signature_extent (signature_of c.args.resolve.now c.args.func.now))
-          (g.E.ValtypeEncoder.view c.args.enc.now) (g.E.ValtypeEncoder.view c.define_key.new.enc) = writes-then c.list_of_key.ensures.leaves.scope_stays (written g at.In_ok-list) h in
-          writes-most (omega arith) w)) (rw c.index_of_key.ensures.same at c.define_key.ensures.written);
-      size = λ e.
-          let q = (rw c.index_of_key.ensures.same at (c.define_key.ensures.size e)) in
-          let keys : length (g.E.ValtypeEncoder.view c.list_of_key.new.enc).maps.func_type_map.entries ≡ length (g.E.ValtypeEncoder.view c.args.enc.now).maps.func_type_map.entries =
-          ap length c.list_of_key.ensures.names.rest.keys in
-          record {
-            new_key = λ k. q.new_key (knows-more (g.E.ValtypeEncoder.view c.args.enc.now).maps (g.E.ValtypeEncoder.view c.list_of_key.new.enc).maps c.args.func.now c.list_of_key.ensures.names k);
-            room = room-after (ap (λ (s : Scope). s.own_interface) c.list_of_key.ensures.leaves.scope_stays) c.list_of_key.ensures.leaves.maps_grow (held g at.In_ok-list)
-                (learns-same (g.E.ValtypeEncoder.view c.args.enc.now).maps (g.E.ValtypeEncoder.view c.args.enc.now).maps (g.E.ValtypeEncoder.view c.list_of_key.new.enc).maps
-                (learns-nothing _ (g.E.ValtypeEncoder.view c.args.enc.now).maps) c.list_of_key.ensures.names.rest.numbers) (λ n x. x) (λ q k. k) (omega (arith, keys)) q.room;
-          };
-      refuses = c.define_key.ensures.refuses;
+      new_key = λ k. q.new_key (knows-more (g.E.ValtypeEncoder.view c.args.enc.now).maps (g.E.ValtypeEncoder.view c.list_of_key.new.enc).maps c.args.func.now c.list_of_key.ensures.names k);
+      room = room-after (ap (λ (s : Scope). s.own_interface) c.list_of_key.ensures.leaves.scope_stays) c.list_of_key.ensures.leaves.maps_grow (held g (goal.at.returns-clause-size g c).In_ok-list)
+          (learns-same (g.E.ValtypeEncoder.view c.args.enc.now).maps (g.E.ValtypeEncoder.view c.args.enc.now).maps (g.E.ValtypeEncoder.view c.list_of_key.new.enc).maps
+          (learns-nothing _ (g.E.ValtypeEncoder.view c.args.enc.now).maps) c.list_of_key.ensures.names.rest.numbers) (λ n x. x) (λ q k. k) (omega (arith, keys)) q.room;
     }
 
 -- ---- where there is no memory for the list
@@ -130,7 +132,15 @@ returns-in_err-list-clause-aliases g c = met-none c.list_of_key.ensures.around_s
 
 -- ---- imports
 
+pub returns-clause-imports : goal.returns-clause-imports
+returns-clause-imports g c = imports-then (ap (λ (s : Scope). s.own_interface) c.list_of_key.ensures.leaves.scope_stays) (imports-none c.list_of_key.ensures.imports_stay)
+    (rw c.index_of_key.ensures.same at c.define_key.ensures.imports)
+
 pub returns-in_err-list-clause-imports : goal.returns-in_err-list-clause-imports
 returns-in_err-list-clause-imports g c = imports-none c.list_of_key.ensures.imports_stay
 
 -- ---- the last slot
+
+pub returns-clause-last : goal.returns-clause-last
+returns-clause-last g c = ok-map c.define_key.result _ _ (λ i h. inr (record { one_more = h.one_more ∙ ap (λ (d : Definitions). d.functions ++ i ∷ []) c.list_of_key.ensures.counts; last = h.last }))
+    (rw c.index_of_key.ensures.same at c.define_key.ensures.last)
