@@ -55,8 +55,7 @@ formed _ e h = (_, refl, λ trees. refl)
 
 module _ (r : Resolve) (v : IsValid r) where
   target_range : (k : TypeDefKind) → IsKindOf r k → (t : ValueType) → aliased k ≡ Some t → InRange r t
-  target_range k (n, def, at, is) t e id same =
-      search (std_rules, is_below n t, alias_kind k t e, kept_numbers r v.rules n def at, below_length r.types.items n def at)
+  target_range k (n, def, at, is) t e id same = search (std_rules, is_below n t, alias_kind k t e, kept_numbers r v.rules n def at, below_length r.types.items n def at)
 
   number_named : (n : ℕ) (def : TypeDef) → type_at r n ≡ Some def → (t : ValueType) → def.kind ≡ kind.Type_ t → passes (is_named_number r) (number_of t) ≡ true
   unfolding named_kinds
@@ -132,8 +131,7 @@ module _ (d e : TypeDefKind) where
           let forms : (formed d da dr).0 ≡ (formed e ea er).0 = ap (λ o. unwrap_or o (formed d da dr).0) (sym (formed d da dr).1 ∙ f ∙ (formed e ea er).1) in
           (formed d da dr).2 (trees_of a) ∙ (λ i. type_ (node (forms i) (children (ts i)))) ∙ sym ((formed e ea er).2 (trees_of b))
 
-    pub looked : (x : Result Look AllocError)
-        → IfOk x (λ l. (y : Bool) → l ≡ look.Known y → (y ≡ false) × (form_of d ≡ form_of e → length (places_of d) ≡ length (places_of e) → ⊥))
+    pub looked : (x : Result Look AllocError) → IfOk x (λ l. (y : Bool) → l ≡ look.Known y → (y ≡ false) × (form_of d ≡ form_of e → length (places_of d) ≡ length (places_of e) → ⊥))
         → IfOk x (λ l. (ts us : Vec ValueType Global) → l ≡ look.Parts ts us → (form_of d ≡ form_of e) × (ts.items ≡ places_of d) × (us.items ≡ places_of e) × (length ts.items ≡ length us.items))
         → IfOk x (TellsDeclared d e)
     looked (Err x) h k = tt
@@ -148,8 +146,7 @@ module _ (d e : TypeDefKind) where
         }
 
 -- what a look says of the lists that it gives
-pub parts_told : (d e : TypeDefKind) (l : Look) (ts us : Vec ValueType Global) → TellsDeclared d e l → l ≡ look.Parts ts us → (a b : Resolve) → IsValid a
-    → IsValid b → IsKindOf a d → IsKindOf b e
+pub parts_told : (d e : TypeDefKind) (l : Look) (ts us : Vec ValueType Global) → TellsDeclared d e l → l ≡ look.Parts ts us → (a b : Resolve) → IsValid a → IsValid b → IsKindOf a d → IsKindOf b e
     → AreParted a b d e ts.items us.items
 parts_told d e l ts us told is = subst (TellsDeclared d e) is told
 

@@ -21,8 +21,7 @@ either e x y z h = search std_rules
 -- what is found by a key's number is what its text finds
 pub lookup_is : (d : Entry) (es : List (NumberedName × Entry)) → IsToldFrom d es → option_map thing_in (lookup (names_test d) es) ≡ find_named (named_thing d).0 (indexed es)
 lookup_is d [] h = refl
-lookup_is d (e ∷ es) h =
-    ap (λ b. option_map thing_in (cond (b && text_eq d.name.now e.0.1.now) (Some e.1) (lookup (names_test d) es))) (h e (first-contained e es))
+lookup_is d (e ∷ es) h = ap (λ b. option_map thing_in (cond (b && text_eq d.name.now e.0.1.now) (Some e.1) (lookup (names_test d) es))) (h e (first-contained e es))
     ∙ either e.1 _ _ (text_eq d.key.text.now e.1.key.text.now && text_eq d.name.now e.0.1.now) (lookup_is d es (λ x c. h x (contains-later e es x c)))
 
 -- what stands in an index is told from each entry of a list that tells the index's entries
@@ -65,8 +64,7 @@ module _ (es : List Entry) (i : ℕ) (e : Entry) (old : List (NumberedName × En
 
 -- one entry more under its number
 pub come_more : (es : List Entry) (e : Entry) (old new : List (NumberedName × Entry)) → Contains es e → ComeFrom old es → new ≡ old ++ ((e.key.number, e.name), e) ∷ [] → ComeFrom new es
-come_more es e old new at from n x c =
-    of_two old _ x (from x) (λ d. subst (λ (y : NumberedName × Entry). Contains es y.1 × (y.0.0 ≡ y.1.key.number)) (last_of _ x d) (at, refl))
+come_more es e old new at from n x c = of_two old _ x (from x) (λ d. subst (λ (y : NumberedName × Entry). Contains es y.1 × (y.0.0 ≡ y.1.key.number)) (last_of _ x d) (at, refl))
     (subst (λ ys. Contains ys x) n c)
 
 pub copied_none : {A : Type 0} (o : Option (Bor A)) → is_none o ≡ true → option_copied o ≡ None

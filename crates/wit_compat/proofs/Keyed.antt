@@ -19,8 +19,7 @@ use Rattle.wit_model.specs.declared.model.«Type».TheVariants as ty
 pub of_members : (P : Name × Thing → Type 0) (k : Text) (i : Interface) → ((e : String Global × TypeId) → Contains i.types.entries e → P (type_member k e))
     → ((e : String Global × Function) → Contains i.functions.entries e → P (function_member k e)) → (x : Name × Thing) → Contains (members k i) x → P x
 of_members P k i f g x c = of_two (map (type_member k) i.types.entries) (map (function_member k) i.functions.entries) x
-    (λ d. let w = contains_map (type_member k) i.types.entries x d in subst P w.2 (f w.0 w.1))
-    (λ d. let w = contains_map (function_member k) i.functions.entries x d in subst P w.2 (g w.0 w.1)) c
+    (λ d. let w = contains_map (type_member k) i.types.entries x d in subst P w.2 (f w.0 w.1)) (λ d. let w = contains_map (function_member k) i.functions.entries x d in subst P w.2 (g w.0 w.1)) c
 
 optional_key : (k : Text) (o : Option Interface) (x : Name × Thing) → Contains (option_map_or (members k) o []) x → x.0.0 ≡ k
 optional_key k None x c = absurd (none_in x c)
@@ -30,8 +29,7 @@ optional_key k (Some i) x c = of_members (λ y. y.0.0 ≡ k) k i (λ e d. refl) 
 pub item_key : (r : Resolve) (k : Text) (i : WorldItem) (x : Name × Thing) → Contains (item_things r k i) x → x.0.0 ≡ k
 item_key r k (item.Function f) x c = sym (ap (λ (z : Name × Thing). z.0.0) (contains_one ((k, []), of_function f) x c))
 item_key r k (item.Type_ id) x c = sym (ap (λ (z : Name × Thing). z.0.0) (contains_one ((k, []), of_type (ty.Id id)) x c))
-item_key r k (item.Interface id stability docs external_id) x c =
-    of_first ((k, []), interface) (option_map_or (members k) (interface_at r id.0) []) x (λ e. sym (ap (λ (z : Name × Thing). z.0.0) e))
+item_key r k (item.Interface id stability docs external_id) x c = of_first ((k, []), interface) (option_map_or (members k) (interface_at r id.0) []) x (λ e. sym (ap (λ (z : Name × Thing). z.0.0) e))
     (optional_key k (interface_at r id.0) x) c
 
 -- ---- things with their keys' numbers
@@ -56,8 +54,7 @@ module _ (old new : List Entry) (n : ℕ) (xs : List (Name × Thing)) (h : map n
   pub numbered_more : (ks js : BorrowedTexts) → KeepsNumbers ks js → AreNumbered ks old → ((x : Name × Thing) → Contains xs x → number_in js x.0.0 ≡ Some n) → AreNumbered js new
   numbered_more ks js kept before own e c = of_two (map numbered_thing old) (map (with_number n) xs) (numbered_thing e)
       (λ d. let w = contains_map numbered_thing old (numbered_thing e) d in has w.2 (kept w.0.key.text.now w.0.key.number (before w.0 w.1)))
-      (λ d. let w = contains_map (with_number n) xs (numbered_thing e) d in has w.2 (own w.0 w.1))
-      (subst (λ ys. Contains ys (numbered_thing e)) h (contains_mapped numbered_thing new e c))
+      (λ d. let w = contains_map (with_number n) xs (numbered_thing e) d in has w.2 (own w.0 w.1)) (subst (λ ys. Contains ys (numbered_thing e)) h (contains_mapped numbered_thing new e c))
     where
       has : {y : Numbered} → y ≡ numbered_thing e → number_in js y.1.0.0 ≡ Some y.0 → number_in js e.key.text.now ≡ Some e.key.number
       has q m = subst (λ (y : Numbered). number_in js y.1.0.0 ≡ Some y.0) q m

@@ -39,7 +39,7 @@ pub mod Numbering
 pub mod Outlines
 -- What a valid `Resolve` gives for comparing. Serves items::same_items, sides::compare_sides, worlds::compare, worlds::compare_anew and 1 more; crates above.
 pub mod Validity
--- What a valid `Resolve` has is in range. Serves interfaces::same_interfaces, senses::same_places, senses::same_worlds_at; crates above.
+-- What a valid `Resolve` has is in range. Serves contents::items, interfaces::same_interfaces, names::add_keys, repeats::repeated_key and 2 more; crates above.
 pub mod Ranges
 -- A world whose keys stand once shows nothing twice, so it may take its own place. Serves laws::reflexive.
 pub mod Reflexive

@@ -24,10 +24,8 @@ module _ {X Y : Type 0} (g : Y → X) (x : X) (find : Text → Option Y) (t name
   found : (p : Option (Bor Y)) → o ≡ p → option_map g (find name) ≡ option_map g (option_copied p)
   found p is = ap (λ u. option_map g (find u)) (sym same) ∙ ap (option_map g) (sym value) ∙ ap (λ q. option_map g (option_copied q)) is
 
-  pub found_exact : (y : Bor Y) → o ≡ Some y → {E : Type 0} (b : Result Bool E) → IfOk b (λ b. IsTrue b ↔ (x ≡ g y.now))
-      → IfOk b (λ b. IsTrue b ↔ (option_map g (find name) ≡ Some x))
-  found_exact y is b h =
-      if_ok _ _ (λ b e. (λ t. found (Some y) is ∙ ap Some (sym (e.0 t)), λ q. e.1 (sym (same-some (g y.now) x (sym (found (Some y) is) ∙ q))))) b h
+  pub found_exact : (y : Bor Y) → o ≡ Some y → {E : Type 0} (b : Result Bool E) → IfOk b (λ b. IsTrue b ↔ (x ≡ g y.now)) → IfOk b (λ b. IsTrue b ↔ (option_map g (find name) ≡ Some x))
+  found_exact y is b h = if_ok _ _ (λ b e. (λ t. found (Some y) is ∙ ap Some (sym (e.0 t)), λ q. e.1 (sym (same-some (g y.now) x (sym (found (Some y) is) ∙ q))))) b h
 
   pub missing_exact : o ≡ None → IsTrue false ↔ (option_map g (find name) ≡ Some x)
   missing_exact is = never _ (λ q. let wrong : None ≡ Some x = sym (found None is) ∙ q in let z : ⊥ = cc in z)

@@ -65,9 +65,7 @@ same_forms f g s l b n = sym (form_back f) ∙ (λ i. form_from (s i) (l i) (b i
 module _ {A : Type 0} (eq : A → A → Bool) where
   pub items_same : ((x y : A) → eq x y ≡ true → x ≡ y) → (xs ys : List A) → pointwise eq xs ys ≡ true → xs ≡ ys
   items_same one [] [] e = refl
-  items_same one (x ∷ xs) (y ∷ ys) e =
-      let rest = items_same one xs ys (second_true (eq x y) (pointwise eq xs ys) e) in
-      λ i. one x y (first_true (eq x y) (pointwise eq xs ys) e) i ∷ rest i
+  items_same one (x ∷ xs) (y ∷ ys) e = λ i. one x y (first_true (eq x y) (pointwise eq xs ys) e) i ∷ (items_same one xs ys (second_true (eq x y) (pointwise eq xs ys) e)) i
   items_same one _ _ e = absurd (let z : ⊥ = cc in z)
 
   items_alike : ((x : A) → eq x x ≡ true) → (xs : List A) → pointwise eq xs xs ≡ true

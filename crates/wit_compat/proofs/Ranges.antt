@@ -1,13 +1,25 @@
 -- What a valid `Resolve` has is in range.
-use Rattle.std.proofs.Common.{◌≡◌, refl, ap, ◌∙◌, sym, ℕ, true, ◌&&◌, length, slice_get, Option, Some, None, option_map, option_and_then}
-use Rattle.std.proofs.lemmas.{Bool.ltb-true as is_below, Option.same_Some as same-some}
+use Rattle.std.proofs.Common.{◌≡◌, refl, ap, ◌∙◌, sym, ℕ, true, ◌&&◌, List, Bor, length, slice_get, Option, Some, None, option_map, option_and_then}
+use Rattle.std.proofs.lemmas.{Bool.ltb-true as is_below, Map.Iter.rest_more, Option.same_Some as same-some}
+use Rattle.std.specs.Map.Iter.{TakesFirst, deref_pair}
 use Rattle.indexmap.specs.IndexMap.{values}
 use Rattle.wit_model.specs.declared.model.{Resolve.Resolve, Interface.Interface, World.World, WorldKey.WorldKey, WorldItem.WorldItem}
-use Rattle.wit_model.specs.{Lookup.interface_at, Lookup.world_at, Rules.function_in_range, Rules.in_list, Rules.item_in_range, Rules.key_in_range}
+use Rattle.wit_model.specs.{Lookup.interface_at, Lookup.world_at, Rules.entries_in_range, Rules.function_in_range, Rules.in_list, Rules.item_in_range, Rules.key_in_range}
 use Rattle.wit_model.specs.Valid.{IsValid}
 use Rattle.wit_compat.specs.{Compatible.HasItemsInRange, Senses.import_at, TwoSides.HasTypesInRange}
 use Rattle.wit_compat.proofs.Validity.{function_types_in_range, interface_numbers, world_numbers}
-use Rattle.base_lemmas.proofs.{Bools.right_of as second_true, Elements.all-contained as all_contained, Elements.get-contains}
+use Rattle.base_lemmas.proofs.{Bools.left_of as first_true, Bools.right_of as second_true, Elements.all-contained as all_contained, Elements.get-contains}
+
+-- what comes first of entries that are in range is so, and what follows it
+pub next_in_range : (r : Resolve) (rest next : List (WorldKey × WorldItem)) (o : Option (Bor WorldKey × Bor WorldItem)) (x : Bor WorldKey × Bor WorldItem) → o ≡ Some x
+    → TakesFirst deref_pair rest o next → entries_in_range r rest ≡ true → (key_in_range r x.0.now ≡ true) × (item_in_range r x.1.now ≡ true) × (entries_in_range r next ≡ true)
+next_in_range r rest next o x is steps h =
+    let all : ((key_in_range r x.0.now && item_in_range r x.1.now) && entries_in_range r next) ≡ true = ap (entries_in_range r) (sym (rest_more deref_pair rest next o x is steps)) ∙ h in
+    let both = first_true (key_in_range r x.0.now && item_in_range r x.1.now) (entries_in_range r next) all in (
+      first_true (key_in_range r x.0.now) (item_in_range r x.1.now) both,
+      second_true (key_in_range r x.0.now) (item_in_range r x.1.now) both,
+      second_true (key_in_range r x.0.now && item_in_range r x.1.now) (entries_in_range r next) all,
+    )
 
 module _ (r : Resolve) (v : IsValid r) where
   pub has_types : (n : ℕ) (i : Interface) → interface_at r n ≡ Some i → HasTypesInRange r i

@@ -2,8 +2,7 @@
 use Rattle.std.proofs.Common.{rules as std_rules, ◌≡◌, refl, sym, ap, subst, ◌∙◌, ℕ, ◌+◌, length, Bool, true, false, ◌&&◌, ◌||◌, not, cond, List, [], ◌∷◌, ◌++◌, map, Option, Some, None, String, option_map}
 use Rattle.std.proofs.lemmas.{Cmp.nat_list_eq_equiv, Slice.Eq.bytes_eq-Decides, Bool.ltb-true as is_below}
 use Rattle.std.specs.declared.alloc.Global.{Global}
-use Rattle.std.specs.List.{AllByRecursion, Contains, IsDistinct, find, list_all, list_any}
-use Rattle.std.specs.{Option.option_map_or, Prelude.string_eq}
+use Rattle.std.specs.{List.AllByRecursion, List.Contains, List.IsDistinct, List.find, List.list_all, List.list_any, Option.option_map_or, Prelude.string_eq}
 use Rattle.indexmap.specs.IndexMap.{keys, values}
 use Rattle.wit_model.specs.declared.model.{Resolve.Resolve, World.World, Function.Function, TypeDef.TypeDef, TypeId.TypeId, Interface.Interface, WorldKey.WorldKey, WorldItem.WorldItem, FunctionKind.FunctionKind, TypeOwner.TypeOwner}
 use Rattle.wit_model.specs.{Text.Text, Text.text_of, Text.text_eq, Lookup.interface_at, Lookup.type_at, Lookup.resource_of, Names.is_label, Checks.KeepsIn, Checks.has_name, Checks.listings}
@@ -32,8 +31,7 @@ same_itself n = λ i. nat_list_eq_equiv.refl n.0 i && nat_list_eq_equiv.refl n.1
 -- under its name each stands
 stands_once : {X : Type 0} (xs : List (Name × X)) → AreApart xs → (e : Name × X) → Contains xs e → find_named e.0 xs ≡ Some e.1
 stands_once [] h e c = absurd (none_contained e c)
-stands_once {X} (x ∷ xs) h e c = of_first x xs e
-    (λ q. subst (λ (z : Name × X). find_named z.0 (x ∷ xs) ≡ Some z.1) q (ap (λ b. cond b (Some x.1) (find_named x.0 xs)) (same_itself x.0)))
+stands_once {X} (x ∷ xs) h e c = of_first x xs e (λ q. subst (λ (z : Name × X). find_named z.0 (x ∷ xs) ≡ Some z.1) q (ap (λ b. cond b (Some x.1) (find_named x.0 xs)) (same_itself x.0)))
     (λ d. by d (stands_once xs h.1 e d) (same_name e.0 x.0) refl) c
   where
     by : Contains xs e → find_named e.0 xs ≡ Some e.1 → (b : Bool) → same_name e.0 x.0 ≡ b → cond b (Some x.1) (find_named e.0 xs) ≡ Some e.1
@@ -42,10 +40,7 @@ stands_once {X} (x ∷ xs) h e c = of_first x xs e
 
 apart_two : {X : Type 0} (xs ys : List (Name × X)) → AreApart xs → AreApart ys → ((x y : Name × X) → Contains xs x → Contains ys y → x.0 ≡ y.0 → ⊥) → AreApart (xs ++ ys)
 apart_two [] ys h k other = k
-apart_two (x ∷ xs) ys h k other = (
-  λ y c e. of_two xs ys y (λ d. h.0 y d e) (λ d. other x y (first-contained x xs) d e) c,
-  apart_two xs ys h.1 k (λ a b c d. other a b (contains-later x xs a c) d),
-)
+apart_two (x ∷ xs) ys h k other = (λ y c e. of_two xs ys y (λ d. h.0 y d e) (λ d. other x y (first-contained x xs) d e) c, apart_two xs ys h.1 k (λ a b c d. other a b (contains-later x xs a c) d))
 
 -- ---- entries under their keys
 
@@ -108,8 +103,7 @@ module _ (r : Resolve) (v : IsValid r) where
         × (list_all (λ name. not (list_any (λ other. text_eq (text_of name) (text_of other)) (keys i.functions))) (keys i.types) ≡ true)
     unfolding labels
     labelled =
-        let passed = each_from_at (labels.interface_ r) 0 r.interfaces.items n i (lists_pass labels r v.rules.labels).1 at in
-        let rest = second_true (passes (λ name. is_label (text_of name)) i.name) _ passed in
+        let rest = second_true (passes (λ name. is_label (text_of name)) i.name) _ (each_from_at (labels.interface_ r) 0 r.interfaces.items n i (lists_pass labels r v.rules.labels).1 at) in
         let both = second_true (is_stability i.stability) _ rest in
         (first_true (list_all function_labels (functions_of_interface i)) _ both, second_true (list_all function_labels (functions_of_interface i)) _ both)
 
@@ -137,9 +131,8 @@ module _ (r : Resolve) (v : IsValid r) where
         let same = first_true (text_eq (text_of e.0) (text_of e.1.name)) (is_member r (as_interface (0 + n)) e.1) one in
         let member = second_true (text_eq (text_of e.0) (text_of e.1.name)) (is_member r (as_interface (0 + n)) e.1) one in
         let label = all_contained function_labels (functions_of_interface i) e.1 labelled.0 (contains_mapped (λ (x : String Global × Function). x.1) i.functions.entries e c) in
-        function_not_empty r (as_interface (0 + n)) e.1 e.1.kind member
-        (first_true (not (is_freestanding e.1.kind) || is_label (text_of e.1.name)) (are_member_labels (map (λ p. text_of p.name) e.1.params.items) && is_stability e.1.stability) label)
-        (sym ((bytes_eq-Decides (text_of e.0) (text_of e.1.name)).0 same) ∙ q)
+        function_not_empty r (as_interface (0 + n)) e.1 e.1.kind member (first_true (not (is_freestanding e.1.kind) || is_label (text_of e.1.name))
+        (are_member_labels (map (λ p. text_of p.name) e.1.params.items) && is_stability e.1.stability) label) (sym ((bytes_eq-Decides (text_of e.0) (text_of e.1.name)).0 same) ∙ q)
 
     module _ (k : Text) where
       types_and_functions : (x y : Name × Thing) → Contains (map (type_member k) i.types.entries) x → Contains (map (function_member k) i.functions.entries) y → x.0 ≡ y.0 → ⊥
@@ -149,16 +142,14 @@ module _ (r : Resolve) (v : IsValid r) where
           let texts : text_of a.0.0 ≡ text_of b.0.0 = ap (λ (z : Name × Thing). z.0.1) a.2 ∙ ap (λ (m : Name). m.1) q ∙ sym (ap (λ (z : Name × Thing). z.0.1) b.2) in
           let none = all_contained (λ name. not (list_any (λ other. text_eq (text_of name) (text_of other)) (keys i.functions))) (keys i.types) a.0.0 labelled.1
           (contains_mapped (λ (z : String Global × TypeId). z.0) i.types.entries a.0 a.1) in
-          let some = any_contained (λ other. text_eq (text_of a.0.0) (text_of other)) (keys i.functions) b.0.0
-          (contains_mapped (λ (z : String Global × Function). z.0) i.functions.entries b.0 b.1) ((bytes_eq-Decides (text_of a.0.0) (text_of b.0.0)).1 texts) in
-          let wrong : false ≡ true = ap not (sym some) ∙ none in
+          let wrong : false ≡ true = ap not (sym (any_contained (λ other. text_eq (text_of a.0.0) (text_of other)) (keys i.functions) b.0.0
+          (contains_mapped (λ (z : String Global × Function). z.0) i.functions.entries b.0 b.1) ((bytes_eq-Decides (text_of a.0.0) (text_of b.0.0)).1 texts))) ∙ none in
           cc
 
       interface_members_apart : AreApart (members k i)
       interface_members_apart = apart_two (map (type_member k) i.types.entries) (map (function_member k) i.functions.entries)
           (members_apart k (λ (id : TypeId). of_type (ty.Id id)) i.types.entries (v.distinct_keys.interfaces n i at).0)
-          (members_apart k of_function i.functions.entries (v.distinct_keys.interfaces n i at).1)
-          types_and_functions
+          (members_apart k of_function i.functions.entries (v.distinct_keys.interfaces n i at).1) types_and_functions
 
       members_not_empty : (y : Name × Thing) → Contains (members k i) y → (k, []) ≡ y.0 → ⊥
       members_not_empty y c q = of_members (λ z. z.0.1 ≡ [] → ⊥) k i type_not_empty function_key_not_empty y c (sym (ap (λ (m : Name). m.1) q))
@@ -187,8 +178,7 @@ module _ (r : Resolve) (v : IsValid r) where
           let w = entry_key es y b in
           let texts : bare_key r e.0 ≡ bare_key r w.0.0 = sym (item_key r (bare_key r e.0) e.1 x a) ∙ ap (λ (m : Name). m.0) q ∙ w.2 in
           let differ : text_eq (bare_key r e.0) (bare_key r w.0.0) ≡ false = each_one (λ t. text_eq (bare_key r e.0) t ≡ false) (λ (z : WorldKey × WorldItem). bare_key r z.0) es d.0 w.0 w.1 in
-          let same = (bytes_eq-Decides (bare_key r e.0) (bare_key r w.0.0)).1 texts in
-          let wrong : true ≡ false = sym same ∙ differ in
+          let wrong : true ≡ false = sym ((bytes_eq-Decides (bare_key r e.0) (bare_key r w.0.0)).1 texts) ∙ differ in
           cc
 
   included_in_itself : (es : List (WorldKey × WorldItem)) → IsDistinct text_eq (bare_keys r es) → IsIncluded (flat r es) (flat r es)

@@ -13,10 +13,8 @@ no_fault name s _ _ is_missing e = let z : ⊥ = cc in z
 no_fault name s _ _ (is_other o other) e = other (ap (λ p. unwrap_or p s) e)
 
 fault_excludes : (small large : List (Name × Shown)) (f : Refusal) → IsFirstFault small large f → IsIncluded small large → ⊥
-fault_excludes small large f w i =
-    no_fault w.entry.0 w.entry.1 (find_named w.entry.0 large) f w.wrong
-    (i w.entry (subst (λ (xs : List (Name × Shown)). Contains xs w.entry) (sym w.split)
-    (Contains-append_right w.front (w.entry ∷ w.rest) w.entry (first-contained w.entry w.rest))))
+fault_excludes small large f w i = no_fault w.entry.0 w.entry.1 (find_named w.entry.0 large) f w.wrong
+    (i w.entry (subst (λ (xs : List (Name × Shown)). Contains xs w.entry) (sym w.split) (Contains-append_right w.front (w.entry ∷ w.rest) w.entry (first-contained w.entry w.rest))))
 
 pub refused_not_accepted : (r : Resolve) (a b : World) (f : Refusal) → Refuses r a b f → Accepts r a b → ⊥
 refused_not_accepted r a b _ (packages other) h = other h.comparable.packages

@@ -1,7 +1,6 @@
 -- Texts that stand once, and the first that repeats an earlier one.
 use Rattle.std.proofs.Common.{rules as std_rules, ◌≡◌, refl, sym, ap, subst, ◌∙◌, true, false, cond, List, [], ◌∷◌, ◌++◌, append_assoc, map, Bor, ℕ, Option, None, Some, MatchOption, Result, IfOk}
-use Rattle.std.proofs.lemmas.{List.map-append, Slice.Eq.bytes_eq-Decides, Bool.or_parts as neither}
-use Rattle.std.proofs.lemmas.List.Elements.{Contains-append_right}
+use Rattle.std.proofs.{lemmas.List.map-append, lemmas.Slice.Eq.bytes_eq-Decides, lemmas.Bool.or_parts as neither, lemmas.List.Elements.Contains-append_right}
 use Rattle.std.specs.List.{list_any, AllByRecursion, Contains, IsDistinct}
 use Rattle.wit_model.specs.declared.model.{Resolve.Resolve, World.World}
 use Rattle.wit_model.specs.Text.{Text, text_eq}
@@ -44,28 +43,18 @@ all_differ x xs y h c e = let wrong : true ≡ false = sym ((bytes_eq-Decides x 
 pub distinct_apart : (xs ys : List Text) (t : Text) → IsDistinct text_eq (xs ++ t ∷ ys) → Contains xs t → ⊥
 unfolding IsDistinct
 distinct_apart [] ys t d c = absurd (none_in t c)
-distinct_apart (x ∷ xs) ys t d c =
-    of_first x xs t (all_differ x (xs ++ t ∷ ys) t d.0 (Contains-append_right xs (t ∷ ys) t (first-contained t ys))) (distinct_apart xs ys t d.1) c
+distinct_apart (x ∷ xs) ys t d c = of_first x xs t (all_differ x (xs ++ t ∷ ys) t d.0 (Contains-append_right xs (t ∷ ys) t (first-contained t ys))) (distinct_apart xs ys t d.1) c
 
 -- a list with a repeat has a text twice
 pub repeat_excludes : (ts : List Text) (t : Text) → IsFirstRepeat ts t → IsDistinct text_eq ts → ⊥
 repeat_excludes ts t f d = distinct_apart f.front f.rest t (subst (IsDistinct text_eq) f.split d) f.again
 
 pub repeated_excludes : (lists : List (List Text)) (t : Text) → IsRepeatedIn lists t → ((ts : List Text) → Contains lists ts → IsDistinct text_eq ts) → ⊥
-repeated_excludes lists t f all =
-    repeat_excludes f.list t f.repeats
-    (all f.list (subst (λ (xs : List (List Text)). Contains xs f.list) (sym f.split)
-    (Contains-append_right f.front (f.list ∷ f.rest) f.list (first-contained f.list f.rest))))
+repeated_excludes lists t f all = repeat_excludes f.list t f.repeats (all f.list
+    (subst (λ (xs : List (List Text)). Contains xs f.list) (sym f.split) (Contains-append_right f.front (f.list ∷ f.rest) f.list (first-contained f.list f.rest))))
 
 pub repeated_first : (ts : List Text) (rest : List (List Text)) (t : Text) → IsFirstRepeat ts t → IsRepeatedIn (ts ∷ rest) t
-repeated_first ts rest t f = record {
-  front = [];
-  list = ts;
-  rest = rest;
-  split = refl;
-  before = λ xs c. absurd (none_in xs c);
-  repeats = f;
-}
+repeated_first ts rest t f = record { front = []; list = ts; rest = rest; split = refl; before = λ xs c. absurd (none_in xs c); repeats = f }
 
 pub repeated_in_front : (xs ys : List (List Text)) (t : Text) → IsRepeatedIn xs t → IsRepeatedIn (xs ++ ys) t
 repeated_in_front xs ys t f = search (std_rules, append_assoc)

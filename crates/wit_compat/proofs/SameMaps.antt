@@ -27,8 +27,7 @@ module _ {X : Type 0} where
   -- ---- maps and their look-ups
 
   pub maps_same : (es fs : List (Text × X)) → ((q : Text) → under q es ≡ under q fs) → as_map es ≡ as_map fs
-  maps_same es fs same =
-      same_map nat_list_cmp_total (slice_cmp-IsAntisymmetric nat_cmp-IsAntisymmetric) (as_map es) (as_map fs)
+  maps_same es fs same = same_map nat_list_cmp_total (slice_cmp-IsAntisymmetric nat_cmp-IsAntisymmetric) (as_map es) (as_map fs)
       (λ q. get-from_entries nat_list_cmp_total es q ∙ find_is q es ∙ same q ∙ sym (find_is q fs) ∙ sym (get-from_entries nat_list_cmp_total fs q))
 
   pub found_same : (es fs : List (Text × X)) → as_map es ≡ as_map fs → (q : Text) → under q es ≡ under q fs
@@ -123,8 +122,7 @@ module _ {K A X : Type 0} (text : K → Text) (meaning : A → X) where
     }
 
     -- an entry that isn't found tells the maps apart
-    not_found : IsDistinct text_eq (map text (keys_of es)) → (under (text k) fs ≡ Some (meaning a) → ⊥)
-        → from_entries (map entry es) ≡ from_entries {R = text_cmp} fs → ⊥
+    not_found : IsDistinct text_eq (map text (keys_of es)) → (under (text k) fs ≡ Some (meaning a) → ⊥) → from_entries (map entry es) ≡ from_entries {R = text_cmp} fs → ⊥
     not_found d differ same = differ (sym (found_same (map entry es) fs same (text k)) ∙ entry_found (map entry es) fs (subst (IsDistinct text_eq) (sym (keys_are es)) d) (text k) (meaning a)
         (contains-map entry es (k, a) next_there))
 
@@ -173,7 +171,4 @@ module _ {A X : Type 0} (f g : A → X) (es fs : List (String Global × A)) wher
 
     pub all_found : IsAlong text_of f (map (entry text_of g) fs) es rest → o ≡ None → TakesFirst deref_pair rest o next → length es ≡ length fs
         → IsDistinct string_eq (keys_of es) → IsTrue true ↔ AreSame
-    all_found along is steps same d = (
-      λ t. at_end text_of f _ es rest along (rest_all deref_pair rest next o is steps) (same ∙ sym (length-map fs (entry text_of g))) (distinct-texts _ d),
-      λ e. refl,
-    )
+    all_found along is steps same d = (λ t. at_end text_of f _ es rest along (rest_all deref_pair rest next o is steps) (same ∙ sym (length-map fs (entry text_of g))) (distinct-texts _ d), λ e. refl)

@@ -40,8 +40,7 @@ parts_known r v n e at =
 
 module _ (p q : Path) (known : IsKnown p) (known' : IsKnown q) where
   parts_back : path_text p ≡ path_text q → (identity_of p.home.now ≡ identity_of q.home.now) × (text_of p.name.now ≡ text_of q.name.now)
-  parts_back same =
-      one_path (identity_of p.home.now) (identity_of q.home.now) (text_of p.name.now) (text_of q.name.now) known.identity known.label known'.identity known'.label same
+  parts_back same = one_path (identity_of p.home.now) (identity_of q.home.now) (text_of p.name.now) (text_of q.name.now) known.identity known.label known'.identity known'.label same
 
   pub other_homes : (b : Bool) → b ≡ same_package_name p.home.now q.home.now → b ≡ false → IsTrue false ↔ (path_text p ≡ path_text q)
   other_homes b is differ = search (std_rules, same_name, parts_back)
@@ -161,29 +160,20 @@ module _ (a b : Resolve) (va : IsValid a) (vb : IsValid b) where
 
       pub parted : form_of d.kind ≡ form_of e.kind → length (places_of d.kind) ≡ length (places_of e.kind)
           → IsParted a b (ty.Id (record { 0 = n })) (ty.Id (record { 0 = m })) (places_of d.kind) (places_of e.kind)
-      parted f l = record {
-        alike = l;
-        left = places_in_range a va n d dat;
-        right = places_in_range b vb m e eat;
-        below = parts_below a va n d dat;
-        same = equal_again f;
-        back = parts_same;
-      }
+      parted f l = record { alike = l; left = places_in_range a va n d dat; right = places_in_range b vb m e eat; below = parts_below a va n d dat; same = equal_again f; back = parts_same }
 
       pub looked : (x : Result Look AllocError)
           → IfOk x (λ l. (y : Bool) → l ≡ look.Known y → (y ≡ false) × (form_of d.kind ≡ form_of e.kind → length (places_of d.kind) ≡ length (places_of e.kind) → ⊥))
           → IfOk x (λ l. (ts us : Vec ValueType Global) → l ≡ look.Parts ts us → (form_of d.kind ≡ form_of e.kind) × (ts.items ≡ places_of d.kind) × (us.items ≡ places_of e.kind)
-          × (length ts.items ≡ length us.items))
-          → IfOk x (Says a b (ty.Id (record { 0 = n })) (ty.Id (record { 0 = m })))
+          × (length ts.items ≡ length us.items)) → IfOk x (Says a b (ty.Id (record { 0 = n })) (ty.Id (record { 0 = m })))
       looked (Err x) h k = tt
       looked (Ok (look.Known y)) h k =
           let w = h y refl in
           (λ t. absurd (let z : true ≡ false = sym t ∙ w.0 in let o : ⊥ = cc in o), λ same. absurd (w.1 (forms_same same) (lengths_same same)))
       looked (Ok (look.Parts ts us)) h k =
           let w = k ts us refl in
-          let l = ap length (sym w.1) ∙ w.3 ∙ ap length w.2 in
           subst (λ xs. IsParted a b (ty.Id (record { 0 = n })) (ty.Id (record { 0 = m })) xs us.items) (sym w.1)
-          (subst (λ ys. IsParted a b (ty.Id (record { 0 = n })) (ty.Id (record { 0 = m })) (places_of d.kind) ys) (sym w.2) (parted w.0 l))
+          (subst (λ ys. IsParted a b (ty.Id (record { 0 = n })) (ty.Id (record { 0 = m })) (places_of d.kind) ys) (sym w.2) (parted w.0 (ap length (sym w.1) ∙ w.3 ∙ ap length w.2)))
 
 -- a number isn't like a primitive
 pub number_apart : (a b : Resolve) → IsValid a → IsValid b → (t u : ValueType) (n : ℕ) → number_of t ≡ Some n → InRange a t → number_of u ≡ None → SameType a b t u → ⊥
@@ -198,14 +188,11 @@ never P h = (λ t. absurd (let z : ⊥ = cc in z), λ p. absurd (h p))
 pub tree_at_place : (a b : Resolve) (xs ys : List ValueType) (i : ℕ) (x y : ValueType) → slice_get xs i ≡ Some x → slice_get ys i ≡ Some y → map (type_tree a) xs ≡ map (type_tree b) ys
     → SameType a b x y
 tree_at_place a b xs ys i x y xat yat e =
-    let maps = ap (λ zs. slice_get zs i) e in
-    let left = slice_get-map (type_tree a) xs i ∙ ap (option_map (type_tree a)) xat in
     let right = slice_get-map (type_tree b) ys i ∙ ap (option_map (type_tree b)) yat in
-    ap (λ o. unwrap_or o (type_tree a x)) (sym left ∙ maps ∙ right)
+    ap (λ o. unwrap_or o (type_tree a x)) (sym (slice_get-map (type_tree a) xs i ∙ ap (option_map (type_tree a)) xat) ∙ (ap (λ zs. slice_get zs i) e) ∙ right)
 
 -- what a look says of the lists that it gives
-pub parts_said : (a b : Resolve) (t u : ValueType) (l : Look) (xs ys : Vec ValueType Global) (zs : List ValueType) → Says a b t u l → l ≡ look.Parts xs ys
-    → zs ≡ xs.items
+pub parts_said : (a b : Resolve) (t u : ValueType) (l : Look) (xs ys : Vec ValueType Global) (zs : List ValueType) → Says a b t u l → l ≡ look.Parts xs ys → zs ≡ xs.items
     → IsParted a b t u zs ys.items
 parts_said a b t u l xs ys zs said is e = subst (λ ls. IsParted a b t u ls ys.items) (sym e) (subst (Says a b t u) is said)
 
@@ -227,8 +214,7 @@ module _ (a b : Resolve) (t u : ValueType) (xs ys : List ValueType) (w : IsParte
     part_differs n same = n (tree_at_place a b xs ys i x y xat yat (w.back same))
 
     pub part_more : map (type_tree a) (take i xs) ≡ map (type_tree b) (take i ys) → SameType a b x y → map (type_tree a) (take (i + 1) xs) ≡ map (type_tree b) (take (i + 1) ys)
-    part_more e same =
-        ap (map (type_tree a)) (take_more_at xs i x xat) ∙ map-append (type_tree a) (take i xs) (x ∷ []) ∙ (λ j. e j ++ same j ∷ [])
+    part_more e same = ap (map (type_tree a)) (take_more_at xs i x xat) ∙ map-append (type_tree a) (take i xs) (x ∷ []) ∙ (λ j. e j ++ same j ∷ [])
         ∙ sym (ap (map (type_tree b)) (take_more_at ys i y yat) ∙ map-append (type_tree b) (take i ys) (y ∷ []))
 
   pub all_parts : (i : ℕ) → length xs ≤ i → map (type_tree a) (take i xs) ≡ map (type_tree b) (take i ys) → SameType a b t u

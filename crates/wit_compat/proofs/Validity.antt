@@ -41,39 +41,30 @@ module _ (r : Resolve) where
         × (list_all (function_in_range r) (values i.functions) ≡ true)
     unfolding numbers_in_range
     interface_numbers n i at =
-        let passed = each_from_at (numbers_in_range.interface_ r) 0 r.interfaces.items n i (lists_pass numbers_in_range r v.rules.numbers_in_range).1 at in
-        let rest = second_true (is_place (0 + n)) _ passed in
+        let rest = second_true (is_place (0 + n)) _ (each_from_at (numbers_in_range.interface_ r) 0 r.interfaces.items n i (lists_pass numbers_in_range r v.rules.numbers_in_range).1 at) in
         let both = second_true (passes (in_list r.packages.items) (package_number i.«package»)) _ rest in
         (first_true (list_all (λ id. in_list r.types.items id.0) (values i.types)) _ both, second_true (list_all (λ id. in_list r.types.items id.0) (values i.types)) _ both)
 
     pub world_numbers : (n : ℕ) (w : World) → world_at r n ≡ Some w → (entries_in_range r w.imports.entries ≡ true) × (entries_in_range r w.exports.entries ≡ true)
     unfolding numbers_in_range
     world_numbers n w at =
-        let passed = each_from_at (numbers_in_range.world_ r) 0 r.worlds.items n w (lists_pass numbers_in_range r v.rules.numbers_in_range).2 at in
-        let rest = second_true (is_place (0 + n)) _ passed in
+        let rest = second_true (is_place (0 + n)) _ (each_from_at (numbers_in_range.world_ r) 0 r.worlds.items n w (lists_pass numbers_in_range r v.rules.numbers_in_range).2 at) in
         let both = second_true (passes (in_list r.packages.items) (package_number w.«package»)) _ rest in
         (first_true (entries_in_range r w.imports.entries) _ both, second_true (entries_in_range r w.imports.entries) _ both)
 
     type_numbers : (n : ℕ) (def : TypeDef) → type_at r n ≡ Some def → owner_in_range r def.owner ≡ true
     unfolding numbers_in_range
     type_numbers n def at =
-        let passed = each_from_at (numbers_in_range.type_ r) 0 r.types.items n def (lists_pass numbers_in_range r v.rules.numbers_in_range).3 at in
-        let rest = second_true (is_place (0 + n)) _ passed in
+        let rest = second_true (is_place (0 + n)) _ (each_from_at (numbers_in_range.type_ r) 0 r.types.items n def (lists_pass numbers_in_range r v.rules.numbers_in_range).3 at) in
         second_true (list_all (in_list r.types.items) (kind_numbers def.kind)) _ rest
 
     pub layered : IsLayered r
-    layered = record {
-      smaller = kept_numbers r v.rules;
-      owners = λ n def at id is. is_below id.0 (length r.interfaces.items) (ap (owner_in_range r) (sym is) ∙ type_numbers n def at);
-    }
+    layered = record { smaller = kept_numbers r v.rules; owners = λ n def at id is. is_below id.0 (length r.interfaces.items) (ap (owner_in_range r) (sym is) ∙ type_numbers n def at) }
 
     members_in_range : (k : Text) (i : Interface) (n : ℕ) → interface_at r n ≡ Some i → (x : Name × Thing) → Contains (members k i) x → ThingInRange r x.1
     members_in_range k i n at x c = of_members (λ y. ThingInRange r y.1) k i
-        (λ e d. number_in_range e.1
-        (all_contained (λ id. in_list r.types.items id.0) (values i.types) e.1 (interface_numbers n i at).0 (contains_mapped (λ e. e.1) i.types.entries e d)))
-        (λ e d. function_types_in_range e.1
-        (all_contained (function_in_range r) (values i.functions) e.1 (interface_numbers n i at).1 (contains_mapped (λ e. e.1) i.functions.entries e d)))
-        x c
+        (λ e d. number_in_range e.1 (all_contained (λ id. in_list r.types.items id.0) (values i.types) e.1 (interface_numbers n i at).0 (contains_mapped (λ e. e.1) i.types.entries e d)))
+        (λ e d. function_types_in_range e.1 (all_contained (function_in_range r) (values i.functions) e.1 (interface_numbers n i at).1 (contains_mapped (λ e. e.1) i.functions.entries e d))) x c
 
     optional_in_range : (k : Text) (n : ℕ) (o : Option Interface) → interface_at r n ≡ o → (x : Name × Thing) → Contains (option_map_or (members k) o []) x → ThingInRange r x.1
     optional_in_range k n None at x c = absurd (none_in x c)
@@ -89,8 +80,7 @@ module _ (r : Resolve) where
     pub things_in_range : (es : List (WorldKey × WorldItem)) → entries_in_range r es ≡ true → (x : Name × Thing) → Contains (things_of r es) x → ThingInRange r x.1
     things_in_range es h x c =
         let w = flat_from (entry_things r) es x c in
-        let own = all_contained (λ e. key_in_range r e.0 && item_in_range r e.1) es w.0 h w.1 in
-        item_things_in_range (bare_key r w.0.0) w.0.1 (second_true (key_in_range r w.0.0) (item_in_range r w.0.1) own) x w.2
+        item_things_in_range (bare_key r w.0.0) w.0.1 (second_true (key_in_range r w.0.0) (item_in_range r w.0.1) (all_contained (λ e. key_in_range r e.0 && item_in_range r e.1) es w.0 h w.1)) x w.2
 
     pub world_items : (n : ℕ) (w : World) → world_at r n ≡ Some w → HasItemsInRange r w
     world_items n w at = record { imports = (world_numbers n w at).0; exports = (world_numbers n w at).1 }
@@ -98,14 +88,12 @@ module _ (r : Resolve) where
     -- the numbers of types fit in 32 bits
     pub types_fit : length r.types.items < 4294967296
     unfolding numbers_in_range
-    types_fit =
-        fits r.types.items (λ x at. first_true (is_place 4294967295) (list_all (in_list r.types.items) (kind_numbers x.kind) && owner_in_range r x.owner)
+    types_fit = fits r.types.items (λ x at. first_true (is_place 4294967295) (list_all (in_list r.types.items) (kind_numbers x.kind) && owner_in_range r x.owner)
         (each_from_at (numbers_in_range.type_ r) 0 r.types.items 4294967295 x (lists_pass numbers_in_range r v.rules.numbers_in_range).3 at))
 
     -- the numbers of interfaces too
     pub interfaces_fit : length r.interfaces.items < 4294967296
     unfolding numbers_in_range
     interfaces_fit = fits r.interfaces.items (λ x at. first_true (is_place 4294967295)
-        (passes (in_list r.packages.items) (package_number x.«package»)
-        && (list_all (λ id. in_list r.types.items id.0) (values x.types) && list_all (function_in_range r) (values x.functions)))
+        (passes (in_list r.packages.items) (package_number x.«package») && (list_all (λ id. in_list r.types.items id.0) (values x.types) && list_all (function_in_range r) (values x.functions)))
         (each_from_at (numbers_in_range.interface_ r) 0 r.interfaces.items 4294967295 x (lists_pass numbers_in_range r v.rules.numbers_in_range).1 at))

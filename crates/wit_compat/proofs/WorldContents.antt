@@ -1,5 +1,5 @@
 -- Items of worlds of two `Resolve`s.
-use Rattle.std.proofs.Common.{rules as std_rules, ◌≡◌, ◌↔◌, refl, sym, ap, subst, ◌∙◌, inl, inr, ℕ, Bool, true, false, ◌&&◌, cond, List, [], ◌∷◌, ◌++◌, map, Option, Some, None, is_some, IsSome, option_map, IsTrue, String}
+use Rattle.std.proofs.Common.{rules as std_rules, ◌≡◌, ◌↔◌, refl, sym, ap, subst, ◌∙◌, inl, inr, ℕ, Bool, true, false, cond, List, [], ◌∷◌, ◌++◌, map, Option, Some, None, is_some, IsSome, option_map, IsTrue, String}
 use Rattle.std.proofs.lemmas.{Map.Made.Contains-from_values_of, List.map-append, List.Elements.Contains-push_cases}
 use Rattle.std.specs.{Borrow.Bor, Option.option_copied, Option.option_map_or, List.Contains, Map.lookup, Map.values_of}
 use Rattle.std.specs.declared.alloc.Global.{Global}
@@ -7,10 +7,10 @@ use Rattle.wit_model.specs.declared.model.{Resolve.Resolve, World.World, WorldKe
 use Rattle.wit_model.specs.{Lookup.key_text, Lookup.world_at, Lookup.interface_path, Text.Text, Text.text_eq, Text.text_of, Text.optional_text}
 use Rattle.wit_model.specs.Meaning.{Entry, InterfaceSense, WorldSense, entries_sense, entry_sense, world_sense, Item, interface, inline, interface_sense, item_sense}
 use Rattle.wit_model.specs.Meant.{entries_meaning, entry_meaning, world_meaning, world_meaning_at, interface_item, interface_meaning_at, type_meaning_at}
-use Rattle.wit_model.specs.Rules.{entries_in_range, item_in_range, key_in_range}
+use Rattle.wit_model.specs.Rules.{item_in_range}
 use Rattle.wit_compat.specs.TwoSides.{indexed_sense, sense_entry, AllItemsInRange, BorrowedEntry, PutsFirst, SameInterfaceEntries}
 use Rattle.wit_compat.proofs.{SameMaps.maps_same, SameMaps.under, SameMaps.under_is, Sided.never}
-use Rattle.base_lemmas.proofs.{Bools.left_of as first_true, Bools.right_of as second_true, Options.there as some-of}
+use Rattle.base_lemmas.proofs.{Options.there as some-of}
 use Rattle.wit_model.specs.declared.model.WorldItem.TheVariants as item
 
 -- ---- The contents of a world by the texts of their keys.
@@ -65,12 +65,10 @@ module _ (r : Resolve) where
     opened q = ap (λ es. or_first (under q (map (sense_entry r) made)) (under q (map key_entry es))) (sym split) ∙ s q
 
     made_more : (key : String Global) (item : Bor WorldItem) (new : List BorrowedEntry) → text_of key ≡ key_text r k → item.now ≡ i → new ≡ made ++ (key, item) ∷ [] → IsSplit new next all
-    made_more key item new text is n q =
-        ap (λ es. or_first (under q (map (sense_entry r) es)) (under q (map key_entry next))) n
+    made_more key item new text is n q = ap (λ es. or_first (under q (map (sense_entry r) es)) (under q (map key_entry next))) n
         ∙ ap (λ es. or_first (under q es) (under q (map key_entry next))) (map-append (sense_entry r) made ((key, item) ∷ []))
         ∙ last_put q (map (sense_entry r) made) (text_of key, entry_sense (entry_meaning r item.now)) (under q (map key_entry next))
-        ∙ (λ j. or_first (under q (map (sense_entry r) made)) (cond (text_eq q (text j)) (Some (entry_sense (entry_meaning r (is j)))) (under q (map key_entry next))))
-        ∙ opened q
+        ∙ (λ j. or_first (under q (map (sense_entry r) made)) (cond (text_eq q (text j)) (Some (entry_sense (entry_meaning r (is j)))) (under q (map key_entry next)))) ∙ opened q
 
     made_stays : (y : Entry InterfaceSense) → under (key_text r k) (map (sense_entry r) made) ≡ Some y → IsSplit made next all
     made_stays y h q = (search std_rules) ∙ opened q
@@ -87,13 +85,6 @@ module _ (r : Resolve) where
     put_split key item new text is (inl h) =
         let y = found_again key h.1 in
         subst (λ es. IsSplit es next all) (sym h.0) (made_stays y.0 (ap (λ t. under t (map (sense_entry r) made)) (sym text) ∙ y.1))
-
-    pub rest_in_range : entries_in_range r rest ≡ true → (item_in_range r i ≡ true) × (entries_in_range r next ≡ true)
-    rest_in_range h =
-        let all : (key_in_range r k && item_in_range r i) && entries_in_range r next ≡ true = ap (entries_in_range r) (sym split) ∙ h in (
-          second_true (key_in_range r k) (item_in_range r i) (first_true (key_in_range r k && item_in_range r i) (entries_in_range r next) all),
-          second_true (key_in_range r k && item_in_range r i) (entries_in_range r next) all,
-        )
 
   pushed_in_range : (made new : List BorrowedEntry) (key : String Global) (item : Bor WorldItem) → new ≡ made ++ (key, item) ∷ [] → AllItemsInRange r made → item_in_range r item.now ≡ true
       → AllItemsInRange r new
@@ -127,7 +118,7 @@ pub worlds_exact : (a b : Resolve) (n m : ℕ) (v w : World) → world_at a n �
     → (IsTrue y ↔ (world_sense (world_meaning a v) ≡ world_sense (world_meaning b w))) → IsTrue y ↔ (world_sense (world_meaning_at a n) ≡ world_sense (world_meaning_at b m))
 worlds_exact a b n m v w vat wat y h = search std_rules
 
--- ---- what the page is for
+-- ---- Items of two worlds, in pairs.
 
 module _ (a b : Resolve) where
   abbrev pub SameEntries : WorldItem → WorldItem → Type 0

@@ -6,9 +6,7 @@ use Rattle.wit_compat.proofs.WorldContents.{copied_there, copied_missing}
 use Rattle.wit_compat.proofs.contents.put.Goals as goal
 
 pub returns-then-is_some : goal.returns-then-is_some
-returns-then-is_some c =
-    let items = c.args.items.now in
-    inl (refl, ap (λ t. is_some (get_by_text items t)) (sym c.as_str.ensures.value) ∙ ap is_some (sym c.get.ensures.value) ∙ copied_there c.get.result (search rules))
+returns-then-is_some c = inl (refl, ap (λ t. is_some (get_by_text c.args.items.now t)) (sym c.as_str.ensures.value) ∙ ap is_some (sym c.get.ensures.value) ∙ copied_there c.get.result (search rules))
 
 pub returns : goal.returns
 returns c =

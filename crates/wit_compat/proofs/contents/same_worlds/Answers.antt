@@ -8,6 +8,5 @@ returns-then-not-branch-clause-exact c =
     never _ (λ same. not_same _ c.in_ok-same_lists.ensures.exact (search rules) (imports_back c.args.left.now.resolve.now c.args.right.now.resolve.now c.args.a.now c.args.b.now same))
 
 pub returns-clause-exact : goal.returns-clause-exact
-returns-clause-exact c =
-    in_ok _ _ (λ y. contents_exact c.args.left.now.resolve.now c.args.right.now.resolve.now c.args.a.now c.args.b.now y (c.in_ok-same_lists.ensures.exact.0 (search rules)))
+returns-clause-exact c = in_ok _ _ (λ y. contents_exact c.args.left.now.resolve.now c.args.right.now.resolve.now c.args.a.now c.args.b.now y (c.in_ok-same_lists.ensures.exact.0 (search rules)))
     c.same_lists-2.result c.same_lists-2.ensures.exact

@@ -9,6 +9,5 @@ pub returns-then-is_resource-2 : goal.returns-then-is_resource-2
 returns-then-is_resource-2 c = resource_second c.args.a.now c.args.b.now (sym c.is_resource.ensures ∙ c.if-is_resource.false) (sym c.is_resource-2.ensures ∙ c.if-is_resource-2.true)
 
 pub returns : goal.returns
-returns c =
-    looked c.args.a.now c.args.b.now c.requires.a c.requires.b (sym c.is_resource.ensures ∙ c.if-is_resource.false) (sym c.is_resource-2.ensures ∙ c.if-is_resource-2.false)
+returns c = looked c.args.a.now c.args.b.now c.requires.a c.requires.b (sym c.is_resource.ensures ∙ c.if-is_resource.false) (sym c.is_resource-2.ensures ∙ c.if-is_resource-2.false)
     c.look_into.result c.look_into.ensures.known c.look_into.ensures.parts

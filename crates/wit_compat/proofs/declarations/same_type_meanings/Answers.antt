@@ -11,8 +11,6 @@ same_declarations-requires-clause-b c = (c.args.b.0, c.index-other.result.now, s
 
 pub returns-clause-exact : goal.returns-clause-exact
 returns-clause-exact c =
-    let a = c.args.left.now.resolve.now in
     let b = c.args.right.now.resolve.now in
-    in_ok _ _ (meanings a b c.args.a.0 c.args.b.0 c.index-def.result.now c.index-other.result.now
-    (slice_get_read _ _ _ _ refl c.requires.a c.index-def.ensures) (slice_get_read _ _ _ _ refl c.requires.b c.index-other.ensures) (c.same_external_ids.ensures.0 (search rules)))
-    c.same_declarations.result c.same_declarations.ensures.exact
+    in_ok _ _ (meanings c.args.left.now.resolve.now b c.args.a.0 c.args.b.0 c.index-def.result.now c.index-other.result.now (slice_get_read _ _ _ _ refl c.requires.a c.index-def.ensures)
+    (slice_get_read _ _ _ _ refl c.requires.b c.index-other.ensures) (c.same_external_ids.ensures.0 (search rules))) c.same_declarations.result c.same_declarations.ensures.exact

@@ -6,22 +6,18 @@ use Rattle.wit_compat.proofs.SameMaps.{all_found, found_under, from_start, lengt
 use Rattle.wit_compat.proofs.interfaces.same_named_types.Goals as goal
 
 pub returns-then-len-clause-exact : goal.returns-then-len-clause-exact
-returns-then-len-clause-exact c =
-    lengths_apart (meaning_in c.args.left.now.resolve.now) (meaning_in c.args.right.now.resolve.now) _ _ c.len.ensures.unique c.len-2.ensures.unique
+returns-then-len-clause-exact c = lengths_apart (meaning_in c.args.left.now.resolve.now) (meaning_in c.args.right.now.resolve.now) _ _ c.len.ensures.unique c.len-2.ensures.unique
     (λ same. let e : c.len.result ≡ c.len-2.result = search rules in search (rules, c.if-len.true))
 
 pub loop-name-init : goal.loop-name-init
 loop-name-init c = record { along = from_start text_of _ _ _ _ (search rules); kept = c.requires.pairs }
 
 pub same_type_under-requires-clause-id : goal.same_type_under-requires-clause-id
-same_type_under-requires-clause-id c =
-    c.requires.types _ (contains-map (λ e. e.1) c.args.types.now.entries _
-    (stands (meaning_in c.args.left.now.resolve.now) (meaning_in c.args.right.now.resolve.now) _ _ _ _ _ _ c.loop-name.invariant.along c.in-Some.is
-    c.next.ensures.steps))
+same_type_under-requires-clause-id c = c.requires.types _ (contains-map (λ e. e.1) c.args.types.now.entries _
+    (stands (meaning_in c.args.left.now.resolve.now) (meaning_in c.args.right.now.resolve.now) _ _ _ _ _ _ c.loop-name.invariant.along c.in-Some.is c.next.ensures.steps))
 
 pub returns-then-not-branch-clause-exact : goal.returns-then-not-branch-clause-exact
-returns-then-not-branch-clause-exact c =
-    not_under (meaning_in c.args.left.now.resolve.now) (meaning_in c.args.right.now.resolve.now) _ _ _ _ _ _ c.loop-name.invariant.along c.in-Some.is
+returns-then-not-branch-clause-exact c = not_under (meaning_in c.args.left.now.resolve.now) (meaning_in c.args.right.now.resolve.now) _ _ _ _ _ _ c.loop-name.invariant.along c.in-Some.is
     c.next.ensures.steps c.len.ensures.unique _ c.in_ok-same_type_under.ensures.exact (search rules)
 
 pub loop-name-preserved : goal.loop-name-preserved
@@ -32,6 +28,5 @@ loop-name-preserved c = record {
 }
 
 pub returns-clause-exact : goal.returns-clause-exact
-returns-clause-exact c =
-    all_found (meaning_in c.args.left.now.resolve.now) (meaning_in c.args.right.now.resolve.now) _ _ _ _ _ c.loop-name.invariant.along c.in-None.is
+returns-clause-exact c = all_found (meaning_in c.args.left.now.resolve.now) (meaning_in c.args.right.now.resolve.now) _ _ _ _ _ c.loop-name.invariant.along c.in-None.is
     c.next.ensures.steps (search rules) c.len.ensures.unique

@@ -7,13 +7,11 @@ use Rattle.wit_compat.proofs.items.same_items.Goals as goal
 
 pub same_function_senses-requires-clause-f : goal.same_function_senses-requires-clause-f
 same_function_senses-requires-clause-f c =
-    let r = c.args.left.now.resolve.now in
-    function_types_in_range r c.in-Function.function (ap (item_in_range r) (sym c.in-Function.is) ∙ c.requires.a)
+    function_types_in_range c.args.left.now.resolve.now c.in-Function.function (ap (item_in_range c.args.left.now.resolve.now) (sym c.in-Function.is) ∙ c.requires.a)
 
 pub same_function_senses-requires-clause-g : goal.same_function_senses-requires-clause-g
 same_function_senses-requires-clause-g c =
-    let r = c.args.right.now.resolve.now in
-    function_types_in_range r c.in-Function-b-2.other (ap (item_in_range r) (sym c.in-Function-b-2.is) ∙ c.requires.b)
+    function_types_in_range c.args.right.now.resolve.now c.in-Function-b-2.other (ap (item_in_range c.args.right.now.resolve.now) (sym c.in-Function-b-2.is) ∙ c.requires.b)
 
 pub returns-in-Type_-b-3-clause-exact : goal.returns-in-Type_-b-3-clause-exact
 returns-in-Type_-b-3-clause-exact c =

@@ -12,7 +12,6 @@ loop-number-preserved c =
     let lt : n < length r.interfaces.items = search rules in
     let same : 0 + n ≡ n = omega arith in
     let next : n + 1 ≡ suc n = omega arith in
-    ap (map text_of) c.in_ok-push.ensures.items ∙ map-append text_of c.loop-number.names.items (c.in_ok-name.name ∷ [])
-    ∙ (λ i. c.loop-number.invariant i ++ c.in_ok-name.ensures i ∷ [])
-    ∙ ap (λ m. names_from r 0 (take n r.interfaces.items) ++ interface_name r m ∷ []) (sym same)
-    ∙ sym (names_more r 0 r.interfaces.items n lt) ∙ ap (λ m. names_from r 0 (take m r.interfaces.items)) (sym next)
+    ap (map text_of) c.in_ok-push.ensures.items ∙ map-append text_of c.loop-number.names.items (c.in_ok-name.name ∷ []) ∙ (λ i. c.loop-number.invariant i ++ c.in_ok-name.ensures i ∷ [])
+    ∙ ap (λ m. names_from r 0 (take n r.interfaces.items) ++ interface_name r m ∷ []) (sym same) ∙ sym (names_more r 0 r.interfaces.items n lt)
+    ∙ ap (λ m. names_from r 0 (take m r.interfaces.items)) (sym next)

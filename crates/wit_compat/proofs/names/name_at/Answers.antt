@@ -4,9 +4,7 @@ use Rattle.wit_compat.proofs.Outlines.{names_length, name_at as name_at_lem}
 use Rattle.wit_compat.proofs.names.name_at.Goals as goal
 
 pub index-requires : goal.index-requires
-index-requires c =
-    search (rules, names_length c.args.resolve.now c.args.names.now.texts.items c.requires.names.texts, c.requires.in_range)
+index-requires c = search (rules, names_length c.args.resolve.now c.args.names.now.texts.items c.requires.names.texts, c.requires.in_range)
 
 pub returns : goal.returns
-returns c =
-    c.as_str.ensures.value ∙ ap text_of c.index.ensures ∙ name_at_lem c.args.resolve.now c.args.names.now.texts.items c.args.id.0 _ c.requires.names.texts c.requires.in_range
+returns c = c.as_str.ensures.value ∙ ap text_of c.index.ensures ∙ name_at_lem c.args.resolve.now c.args.names.now.texts.items c.args.id.0 _ c.requires.names.texts c.requires.in_range

@@ -9,5 +9,4 @@ returns c = λ n.
     let w = c.args.world.now in
     let old = label_noted n c.args.labels.now.entries in
     c.in_ok-note_labels-2.ensures n ∙ ap (λ o. option_or o (label_among n w.exports.entries)) (c.in_ok-note_labels.ensures n)
-    ∙ or_assoc old (label_among n w.imports.entries) (label_among n w.exports.entries)
-    ∙ ap (option_or old) (sym (label_in_two n w.imports.entries w.exports.entries))
+    ∙ or_assoc old (label_among n w.imports.entries) (label_among n w.exports.entries) ∙ ap (option_or old) (sym (label_in_two n w.imports.entries w.exports.entries))

@@ -14,13 +14,10 @@ loop-text-preserved c =
     let js = c.key_of.new.keys.keys in
     let more : map text_of (take (i + 1) ts) ≡ map text_of (take i ts) ++ text_of t ∷ [] =
     ap (map text_of) (take_more ts i t lt ∙ ap (λ x. take i ts ++ x ∷ []) (sym c.text-item.is)) ∙ map-append text_of (take i ts) (t ∷ []) in
-    let number = ap (number_in js) (sym c.as_str.ensures.value) ∙ c.in_ok-key.ensures.number in
-    ap (map (number_in js)) more
-    ∙ numbers_more c.loop-text.keys.keys js (map text_of (take i ts)) c.loop-text.numbers.items (text_of t) c.in_ok-key.key.number c.in_ok-key.ensures.kept c.loop-text.invariant number
-    ∙ ap (map Some) (sym c.in_ok-push.ensures.items)
+    ap (map (number_in js)) more ∙ numbers_more c.loop-text.keys.keys js (map text_of (take i ts)) c.loop-text.numbers.items (text_of t) c.in_ok-key.key.number c.in_ok-key.ensures.kept
+    c.loop-text.invariant (ap (number_in js) (sym c.as_str.ensures.value) ∙ c.in_ok-key.ensures.number) ∙ ap (map Some) (sym c.in_ok-push.ensures.items)
 
 pub returns : goal.returns
 returns c =
-    let ts = c.args.texts.now in
-    let past : length ts ≤ c.loop-text.text-index = search rules in
-    (c.loop-text.keys.keys, ap (λ xs. map (number_in c.loop-text.keys.keys) (map text_of xs)) (sym (take_all c.loop-text.text-index ts past)) ∙ c.loop-text.invariant)
+    let past : length c.args.texts.now ≤ c.loop-text.text-index = search rules in
+    (c.loop-text.keys.keys, ap (λ xs. map (number_in c.loop-text.keys.keys) (map text_of xs)) (sym (take_all c.loop-text.text-index c.args.texts.now past)) ∙ c.loop-text.invariant)

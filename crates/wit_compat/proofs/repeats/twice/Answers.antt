@@ -16,6 +16,5 @@ returns-in-None c =
     let new = c.args.new.now in
     let once = none_given (HasKeysOnce r prev) (λ s. IsRepeatedIn (keys_of_world r prev) s.now) c.in_ok-key.field-0 c.in_ok-key.ensures c.in-None.is in
     ok_either_way (HasKeysOnce r new) (HasKeysOnce r prev × HasKeysOnce r new) (λ s. IsRepeatedIn (keys_of_world r new) s.now) (λ s. IsTwice r prev new s.now) c.repeated_in_world-in-None.result
-    (λ h. (once, h))
-    (λ s f. repeated_behind (keys_of_world r prev) (keys_of_world r new) s.now (keys_once r prev once) f)
+    (λ h. (once, h)) (λ s f. repeated_behind (keys_of_world r prev) (keys_of_world r new) s.now (keys_once r prev once) f)
     c.repeated_in_world-in-None.ensures

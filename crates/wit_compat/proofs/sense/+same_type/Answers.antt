@@ -18,32 +18,28 @@ same_type-requires t c =
 
 pub returns-then-not-branch-clause-exact : goal.returns-then-not-branch-clause-exact
 returns-then-not-branch-clause-exact t c =
-    let w = parts_said c.args.left.now.resolve.now c.args.right.now.resolve.now c.args.a c.args.b _ _ _ _ c.in_ok-known.ensures c.in-Parts.is
-    c.deref-x-items.ensures.value in
-    never _ (part_differs _ _ _ _ _ _ w c.loop-i.i c.index.result.now c.loop-i-test.true c.index.ensures
-    (not_same _ c.in_ok-same_type-in-Parts.ensures.exact (search rules)))
+    never _ (part_differs _ _ _ _ _ _ (parts_said c.args.left.now.resolve.now c.args.right.now.resolve.now c.args.a c.args.b _ _ _ _ c.in_ok-known.ensures c.in-Parts.is c.deref-x-items.ensures.value)
+    c.loop-i.i c.index.result.now c.loop-i-test.true c.index.ensures (not_same _ c.in_ok-same_type-in-Parts.ensures.exact (search rules)))
 
 pub loop-i-preserved : goal.loop-i-preserved
 loop-i-preserved t c =
     let w = parts_said c.args.left.now.resolve.now c.args.right.now.resolve.now c.args.a c.args.b _ _ _ _ c.in_ok-known.ensures c.in-Parts.is
     c.deref-x-items.ensures.value in
     record {
-      same = part_more _ _ _ _ _ _ w c.loop-i.i c.index.result.now c.loop-i-test.true c.index.ensures c.loop-i.invariant.same
-          (c.in_ok-same_type-in-Parts.ensures.exact.0 (search rules));
+      same = part_more _ _ _ _ _ _ w c.loop-i.i c.index.result.now c.loop-i-test.true c.index.ensures c.loop-i.invariant.same (c.in_ok-same_type-in-Parts.ensures.exact.0 (search rules));
       kept = c.same_type.ensures.kept;
     }
 
 pub remember-requires-clause-same : goal.remember-requires-clause-same
-remember-requires-clause-same t c =
-    let w = parts_said c.args.left.now.resolve.now c.args.right.now.resolve.now c.args.a c.args.b _ _ _ _ c.in_ok-known.ensures c.in-Parts.is
-    c.deref-x-items.ensures.value in
-    all_parts _ _ _ _ _ _ w c.loop-i.i (search rules) c.loop-i.invariant.same
+remember-requires-clause-same t c = all_parts _ _ _ _ _ _ (parts_said c.args.left.now.resolve.now c.args.right.now.resolve.now c.args.a c.args.b _ _ _ _ c.in_ok-known.ensures c.in-Parts.is
+    c.deref-x-items.ensures.value) c.loop-i.i (search rules) c.loop-i.invariant.same
 
 pub remember-requires-clause-pairs : goal.remember-requires-clause-pairs
 remember-requires-clause-pairs t c = c.loop-i.invariant.kept
 
 pub returns-in_ok-remember-in-Parts-clause-exact : goal.returns-in_ok-remember-in-Parts-clause-exact
-returns-in_ok-remember-in-Parts-clause-exact t c =
-    let w = parts_said c.args.left.now.resolve.now c.args.right.now.resolve.now c.args.a c.args.b _ _ _ _ c.in_ok-known.ensures c.in-Parts.is
-    c.deref-x-items.ensures.value in
-    (λ h. all_parts _ _ _ _ _ _ w c.loop-i.i (search rules) c.loop-i.invariant.same, λ same. refl)
+returns-in_ok-remember-in-Parts-clause-exact t c = (
+  λ h. all_parts _ _ _ _ _ _ (parts_said c.args.left.now.resolve.now c.args.right.now.resolve.now c.args.a c.args.b _ _ _ _ c.in_ok-known.ensures c.in-Parts.is c.deref-x-items.ensures.value)
+      c.loop-i.i (search rules) c.loop-i.invariant.same,
+  λ same. refl,
+)

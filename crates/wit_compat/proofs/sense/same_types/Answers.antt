@@ -1,20 +1,13 @@
-use Rattle.std.proofs.{Common.rules, Common.get_or, lemmas.Option.slice_get-get_or}
+use Rattle.std.proofs.{Common.rules, Common.get_or, lemmas.Option.slice_get-get_or, lemmas.List.Elements.Contains-get_or}
 use Rattle.wit_model.specs.declared.model.«Type».TheVariants as ty
 use Rattle.wit_compat.proofs.Sided.{never, not_same, tree_at_place}
 use Rattle.wit_compat.proofs.sense.same_types.Goals as goal
-use Rattle.base_lemmas.proofs.Elements.{get-contains}
 
 pub same_type-requires-clause-a : goal.same_type-requires-clause-a
-same_type-requires-clause-a c =
-    let xs = c.args.xs.now in
-    let i = c.loop-i.i in
-    c.requires.xs (get_or xs i ty.Bool) (get-contains xs i (get_or xs i ty.Bool) (slice_get-get_or xs i ty.Bool (search rules)))
+same_type-requires-clause-a c = c.requires.xs (get_or c.args.xs.now c.loop-i.i ty.Bool) (Contains-get_or c.args.xs.now c.loop-i.i ty.Bool (search rules))
 
 pub same_type-requires-clause-b : goal.same_type-requires-clause-b
-same_type-requires-clause-b c =
-    let ys = c.args.ys.now in
-    let i = c.loop-i.i in
-    c.requires.ys (get_or ys i ty.Bool) (get-contains ys i (get_or ys i ty.Bool) (slice_get-get_or ys i ty.Bool (search rules)))
+same_type-requires-clause-b c = c.requires.ys (get_or c.args.ys.now c.loop-i.i ty.Bool) (Contains-get_or c.args.ys.now c.loop-i.i ty.Bool (search rules))
 
 pub returns-then-not-branch-clause-exact : goal.returns-then-not-branch-clause-exact
 returns-then-not-branch-clause-exact c =

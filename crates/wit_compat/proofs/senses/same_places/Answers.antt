@@ -8,6 +8,5 @@ same_items-requires-clause-a c =
     import_in_range c.args.left.now.resolve.now c.requires.left.valid c.in-Import.a.0 c.in-Import.n c.in-Some.item.now (sym c.import_at.ensures ∙ ap option_copied c.in-Some.is)
 
 pub same_items-requires-clause-b : goal.same_items-requires-clause-b
-same_items-requires-clause-b c =
-    import_in_range c.args.right.now.resolve.now c.requires.right.valid c.in-Import-other-3.b.0 c.in-Import-other-3.m c.in-Some-import_at.found.now
+same_items-requires-clause-b c = import_in_range c.args.right.now.resolve.now c.requires.right.valid c.in-Import-other-3.b.0 c.in-Import-other-3.m c.in-Some-import_at.found.now
     (sym c.import_at-in-Some.ensures ∙ ap option_copied c.in-Some-import_at.is)

@@ -10,6 +10,5 @@ pub same_worlds-requires-clause-b : goal.same_worlds-requires-clause-b
 same_worlds-requires-clause-b c = has_items c.args.right.now.resolve.now c.requires.right.valid c.args.b.0 c.index-other.result.now (slice_get_read _ _ _ _ refl c.requires.b c.index-other.ensures)
 
 pub returns-clause-exact : goal.returns-clause-exact
-returns-clause-exact c =
-    in_ok _ _ (worlds_exact c.args.left.now.resolve.now c.args.right.now.resolve.now c.args.a.0 c.args.b.0 c.index-world.result.now c.index-other.result.now
+returns-clause-exact c = in_ok _ _ (worlds_exact c.args.left.now.resolve.now c.args.right.now.resolve.now c.args.a.0 c.args.b.0 c.index-world.result.now c.index-other.result.now
     (slice_get_read _ _ _ _ refl c.requires.a c.index-world.ensures) (slice_get_read _ _ _ _ refl c.requires.b c.index-other.ensures)) c.same_worlds.result c.same_worlds.ensures.exact

@@ -18,8 +18,7 @@ included-requires-clause-small c =
 pub included-requires-clause-large : goal.included-requires-clause-large
 included-requires-clause-large c =
     let r = c.args.resolve.now in
-    found_in_range r (indexed c.in-Ok.found.entries) (things_of r c.args.large.now.entries) c.in-Ok.ensures.large
-    (things_in_range r c.requires.valid c.args.large.now.entries c.requires.large)
+    found_in_range r (indexed c.in-Ok.found.entries) (things_of r c.args.large.now.entries) c.in-Ok.ensures.large (things_in_range r c.requires.valid c.args.large.now.entries c.requires.large)
 
 pub returns-in-Ok-clause-includes : goal.returns-in-Ok-clause-includes
 returns-in-Ok-clause-includes c =

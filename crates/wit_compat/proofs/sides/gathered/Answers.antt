@@ -12,6 +12,5 @@ pub returns-clause-told : goal.returns-clause-told
 returns-clause-told c =
     let entries = c.in_ok-entries.entries.items in
     let others = c.in_ok-others.others.items in
-    told_from entries others c.in_ok-found.found.entries
-    (all_tell c.things-2.new.keys.keys entries others (λ e x. c.in_ok-others.ensures.kept _ _ (c.in_ok-entries.ensures.numbered e x)) c.in_ok-others.ensures.numbered)
-    (subst (ComeFrom c.in_ok-found.found.entries) c.deref.ensures.value c.in_ok-found.ensures.from)
+    told_from entries others c.in_ok-found.found.entries (all_tell c.things-2.new.keys.keys entries others (λ e x. c.in_ok-others.ensures.kept _ _ (c.in_ok-entries.ensures.numbered e x))
+    c.in_ok-others.ensures.numbered) (subst (ComeFrom c.in_ok-found.found.entries) c.deref.ensures.value c.in_ok-found.ensures.from)

@@ -4,6 +4,5 @@ use Rattle.wit_compat.proofs.things.push_types.Given as goal
 
 -- what is there, and what is left
 abbrev pub invariant-loop-name : goal.invariant-loop-name
-invariant-loop-name l =
-    map numbered_thing l.entries.items ++ map (with_number l.key.number) (map (type_member l.key.text.now) l.name-iterator)
+invariant-loop-name l = map numbered_thing l.entries.items ++ map (with_number l.key.number) (map (type_member l.key.text.now) l.name-iterator)
     ≡ map numbered_thing l.fn.entries.items ++ map (with_number l.key.number) (map (type_member l.key.text.now) l.types.entries)

@@ -26,8 +26,7 @@ loop-key-preserved c =
     let next = rest_more deref_pair c.loop-key.key-iterator c.next.new.self c.next.result (c.in-Some.key, c.in-Some.item) c.in-Some.is c.next.ensures.steps in
     let number : number_in c.key_of.new.keys.keys key.text.now ≡ Some key.number = ap (number_in c.key_of.new.keys.keys) c.in_ok-key.ensures.text ∙ c.in_ok-key.ensures.number in
     record {
-      made = ap (λ ys. ys ++ things_of r c.next.new.self) made
-          ∙ append_assoc (map named_thing old) (item_things r (bare_key r c.in-Some.key.now) item) (things_of r c.next.new.self)
+      made = ap (λ ys. ys ++ things_of r c.next.new.self) made ∙ append_assoc (map named_thing old) (item_things r (bare_key r c.in-Some.key.now) item) (things_of r c.next.new.self)
           ∙ ap (λ es. map named_thing old ++ things_of r es) (sym next) ∙ c.loop-key.invariant.made;
       in_range = search rules;
       numbered = numbered_more old c.push_item.new.entries.items key.number xs c.in_ok-push_item.ensures c.loop-key.keys.keys c.key_of.new.keys.keys

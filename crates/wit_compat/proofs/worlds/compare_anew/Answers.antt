@@ -6,11 +6,8 @@ use Rattle.wit_compat.proofs.worlds.compare_anew.Goals as goal
 pub returns-clause-counted : goal.returns-clause-counted
 returns-clause-counted c =
     let r = c.args.resolve.now in
-    let prev = c.args.prev.now in
-    let new = c.args.new.now in
     let e = c.compare_contents-compared in
     let empty : c.new-pairs.result.keys ≡ [] = search rules in
-    counted r (layered r c.requires.valid) prev new e.new.pairs.keys e.new.steps.count (is_ok e.result) c.len-len.ensures.unique
-    (subst (λ (x : List Pair). AreReached r (x ++ pairs_of_worlds r prev new) e.new.pairs.keys) empty e.ensures.reached)
-    e.ensures.counted
+    counted r (layered r c.requires.valid) c.args.prev.now c.args.new.now e.new.pairs.keys e.new.steps.count (is_ok e.result) c.len-len.ensures.unique
+    (subst (λ (x : List Pair). AreReached r (x ++ pairs_of_worlds r c.args.prev.now c.args.new.now) e.new.pairs.keys) empty e.ensures.reached) e.ensures.counted
     (λ b. (ok_holds e.result b e.ensures.settled, ok_holds e.result b e.ensures.holds))

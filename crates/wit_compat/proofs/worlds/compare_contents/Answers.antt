@@ -13,10 +13,9 @@ returns-in-Err-clause-reached c =
 pub returns-clause-holds : goal.returns-clause-holds
 returns-clause-holds c =
     let r = c.args.resolve.now in
-    let imports = pairs_shared r false (things_of r c.args.prev.now.imports.entries) (things_of r c.args.new.now.imports.entries) in
     let exports = pairs_shared r true (things_of r c.args.new.now.exports.entries) (things_of r c.args.prev.now.exports.entries) in
-    ok_then c.compare_sides.result (among_two r imports exports c.compare_sides-imports.new.pairs.keys c.compare_sides.new.pairs.keys c.in_default.ensures.holds c.compare_sides.ensures.kept)
-    c.compare_sides.ensures.holds
+    ok_then c.compare_sides.result (among_two r (pairs_shared r false (things_of r c.args.prev.now.imports.entries) (things_of r c.args.new.now.imports.entries)) exports
+    c.compare_sides-imports.new.pairs.keys c.compare_sides.new.pairs.keys c.in_default.ensures.holds c.compare_sides.ensures.kept) c.compare_sides.ensures.holds
 
 pub returns-clause-reached : goal.returns-clause-reached
 returns-clause-reached c =
