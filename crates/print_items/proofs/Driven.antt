@@ -1,11 +1,12 @@
 -- Calls of a driver: one call, calls after calls, and what they come to at the end.
-use Rattle.std.proofs.Common.{rules as std_rules, Result, Ok, Err, OnOk, OnErr, ◌≡◌, ◌<◌, ◌+◌, ℕ, Bool, true, false, List, [], ◌∷◌, ◌++◌, refl, sym, subst, ◌∙◌, ap, inl, take, get_or, length, append-nil, append_assoc}
-use Rattle.std.proofs.lemmas.{Bool.true≢false, Result.on_err_weaker as on_err, Result.on_ok_weaker as on_ok}
+use Rattle.std.proofs.Common.{rules as std_rules, Result, Ok, Err, OnOk, OnErr, ◌≡◌, ◌<◌, ◌+◌, ℕ, Bool, true, false, List, [], ◌∷◌, ◌++◌, refl, sym, subst, ◌∙◌, ap, inl, take, drop, map, get_or, length, append_assoc}
+use Rattle.std.proofs.lemmas.{Bool.true≢false, Result.on_err_weaker as on_err, Result.on_ok_weaker as on_ok, Grind.flat_map-append, List.map-append}
+use Rattle.std.proofs.lemmas.List.{take-append-drop, Folds.flat_map-map}
 use Rattle.std.specs.{Prelude.is_err, List.flat_map}
 use Rattle.print_output.specs.OutputCall.{OutputCall, View, after, lines_begun_after, Counts, Reaches, Moves, Begins, body_calls}
-use Rattle.print_output.specs.OutputCall.{Moves.nothing_moved, Moves.then_moved, Begins.nothing_begun, Begins.begun_in}
+use Rattle.print_output.specs.OutputCall.{Moves.nothing_moved, Moves.then_moved, Begins.nothing_begun, Begins.begun_in, OutputCall.IndentEnd}
 use Rattle.print_items.specs.declared.driver.Driver.{Driver}
-use Rattle.print_items.specs.{Drives.Runs, Drives.Drives, Drives.Runs.all_made, Drives.Runs.one_refused, Drives.Runs.none_made}
+use Rattle.print_items.specs.{Drives.Runs, Drives.Drives, Drives.LineIs, Drives.Runs.all_made, Drives.Runs.one_refused, Drives.Runs.none_made}
 use Rattle.print_items.proofs.{Runs.flat_map-take_next, Moves.Moves-append, Moves.Begins-append, Moves.Begins-more, Moves.one_moved, Moves.Counts-line}
 
 module _ {Kept : Type 0} {keeps : View Kept → OutputCall → Kept} where
@@ -19,16 +20,6 @@ module _ {Kept : Type 0} {keeps : View Kept → OutputCall → Kept} where
   runs_none true u = none_made refl
   runs_none false u = all_made (nothing_moved refl)
 
-  -- a call of the output
-  called : {T E : Type 0} (r : Result T E) (u v : View Kept) (call : OutputCall) → OnOk r (Counts keeps u call v) → OnErr r (Reaches keeps u (body_calls call) v)
-      → Runs keeps false u (call ∷ []) (is_err r) v
-  called (Ok x) u v call h k = all_made (one_moved h)
-  called (Err e) u v call h k = one_refused (begun_in k)
-
-  runs_one : {T E : Type 0} (refused now : Bool) (r : Result T E) (u v : View Kept) (call : OutputCall) → refused ≡ false → now ≡ is_err r → OnOk r (Counts keeps u call v)
-      → OnErr r (Reaches keeps u (body_calls call) v) → Runs keeps refused u (call ∷ []) now v
-  runs_one refused now r u v call f n h k = subst (λ b. Runs keeps b u (call ∷ []) now v) (sym f) (subst (λ b. Runs keeps false u (call ∷ []) b v) (sym n) (called r u v call h k))
-
   by_result : {T E : Type 0} (r : Result T E) (u v : View Kept) (calls : List OutputCall) → OnOk r (Moves keeps u calls v) → OnErr r (Begins keeps u calls v) → Runs keeps false u calls (is_err r) v
   by_result (Ok x) u v calls h k = all_made h
   by_result (Err e) u v calls h k = one_refused k
@@ -37,11 +28,6 @@ module _ {Kept : Type 0} {keeps : View Kept → OutputCall → Kept} where
       → OnErr r (Begins keeps u calls v) → Runs keeps refused u calls now v
   runs_by refused now r u v calls f n h k = subst (λ b. Runs keeps b u calls now v) (sym f) (subst (λ b. Runs keeps false u calls b v) (sym n) (by_result r u v calls h k))
 
-  -- no call where one was refused
-  runs_past : (refused : Bool) (u : View Kept) (calls : List OutputCall) → refused ≡ true → Runs keeps refused u calls refused u
-  runs_past refused u calls r = subst (λ b. Runs keeps b u calls b u) (sym r) (none_made refl)
-
-module _ {Kept : Type 0} {keeps : View Kept → OutputCall → Kept} where
   runs_moved : {a b : Bool} {u v : View Kept} {calls : List OutputCall} → Runs keeps a u calls b v → a ≡ false → b ≡ false → Moves keeps u calls v
   runs_moved x f n = search std_rules
 
@@ -103,15 +89,15 @@ module _ {O Kept : Type 0} {view : O → View Kept} {keeps : View Kept → Outpu
       → Drives view keeps b (run x) c → Drives view keeps a (flat_map run (take (i + 1) xs)) c
   one_run run xs i x d within e more = driven_on d more (sym (flat_map-take_next run xs i x within e))
 
-  -- a call of the output, or none where one was refused
-  pub call_made : {T E : Type 0} (a b : Driver O) (r : Result T E) (call : OutputCall) → b.output.ghost_name ≡ a.output.ghost_name → a.refused ≡ false → b.refused ≡ is_err r
-      → OnOk r (Counts keeps (view a.output.now) call (view b.output.now)) → OnErr r (Reaches keeps (view a.output.now) (body_calls call) (view b.output.now)) → Drives view keeps a (call ∷ []) b
-  call_made a b r call s f n h k = record { same = s; runs = runs_one _ _ r _ _ call f n h k }
-
   -- calls made by a function of their own
   pub spelled_made : {T E : Type 0} (a b : Driver O) (r : Result T E) (call : OutputCall) → b.output.ghost_name ≡ a.output.ghost_name → a.refused ≡ false → b.refused ≡ is_err r
       → OnOk r (Moves keeps (view a.output.now) (call ∷ []) (view b.output.now)) → OnErr r (Begins keeps (view a.output.now) (call ∷ []) (view b.output.now)) → Drives view keeps a (call ∷ []) b
   spelled_made a b r call s f n h k = record { same = s; runs = runs_by _ _ r _ _ (call ∷ []) f n h k }
+
+  -- a call of the output, or none where one was refused
+  pub call_made : {T E : Type 0} (a b : Driver O) (r : Result T E) (call : OutputCall) → b.output.ghost_name ≡ a.output.ghost_name → a.refused ≡ false → b.refused ≡ is_err r
+      → OnOk r (Counts keeps (view a.output.now) call (view b.output.now)) → OnErr r (Reaches keeps (view a.output.now) (body_calls call) (view b.output.now)) → Drives view keeps a (call ∷ []) b
+  call_made a b r call s f n h k = spelled_made a b r call s f n (on_ok r (λ m. one_moved m) h) (on_err r (λ x. begun_in x) k)
 
   -- a call that counts as itself
   pub plain_made : {T E : Type 0} (a b : Driver O) (r : Result T E) (call : OutputCall) → b.output.ghost_name ≡ a.output.ghost_name → a.refused ≡ false → b.refused ≡ is_err r
@@ -120,7 +106,7 @@ module _ {O Kept : Type 0} {view : O → View Kept} {keeps : View Kept → Outpu
 
   -- no call where one was refused
   pub call_passed : (a : Driver O) (calls : List OutputCall) → a.refused ≡ true → Drives view keeps a calls a
-  call_passed a calls f = record { same = refl; runs = runs_past _ _ _ f }
+  call_passed a calls f = record { same = refl; runs = subst (λ b. Runs keeps b (view a.output.now) calls b (view a.output.now)) (sym f) (none_made refl) }
 
   -- what a driver that refused nothing did at its end, by whether it has refused a call
   pub all_moved : {a b : Driver O} {calls : List OutputCall} → Drives view keeps a calls b → a.refused ≡ false → b.refused ≡ false → Moves keeps (view a.output.now) calls (view b.output.now)
@@ -128,10 +114,6 @@ module _ {O Kept : Type 0} {view : O → View Kept} {keeps : View Kept → Outpu
 
   pub some_begun : {a b : Driver O} {calls : List OutputCall} → Drives view keeps a calls b → a.refused ≡ false → b.refused ≡ true → Begins keeps (view a.output.now) calls (view b.output.now)
   some_begun d f n = runs_begun d.runs f n
-
-pub ruleset driving = (driven_as, driven_none, driven_on, driven3, driven3_left, driven4, driven4_left, driven4_pairs, driven5, driven6, driven7)
-
-pub ruleset finishing = (all_moved, some_begun, on_ok, on_err)
 
 -- ---- whether a line has just begun
 
@@ -176,4 +158,40 @@ module _ {O Kept : Type 0} {view : O → View Kept} {keeps : View Kept → Outpu
 
   -- none was left
   pub driving_done : {left all : List OutputCall} {old now : Driver O} → Driving view keeps left all old now → left ≡ [] → Drives view keeps old all now
-  driving_done g e = driven_as g.driven (sym (append-nil g.made) ∙ ap (λ x. g.made ++ x) (sym e) ∙ g.whole)
+  driving_done g e = driven_on g.driven (driven_none _) (ap (λ x. g.made ++ x) (sym e) ∙ g.whole)
+
+-- ---- after a refusal: a driver that has refused a call stays as it is, and calls may be left out
+
+module _ {O Kept : Type 0} {view : O → View Kept} {keeps : View Kept → OutputCall → Kept} where
+  -- the others of these calls
+  pub driven_cut : {a b : Driver O} {made all : List OutputCall} (others : List OutputCall) → Drives view keeps a made b → b.refused ≡ true → made ++ others ≡ all → Drives view keeps a all b
+  driven_cut others d r e = driven_on d (call_passed _ others r) e
+
+  -- the runs of the other elements of a list
+  pub run_cut : {X : Type 0} (run : X → List OutputCall) (xs : List X) (i : ℕ) {a b : Driver O} → Drives view keeps a (flat_map run (take i xs)) b → b.refused ≡ true
+      → Drives view keeps a (flat_map run xs) b
+  run_cut run xs i d r = driven_cut (flat_map run (drop i xs)) d r (sym (flat_map-append run (take i xs) (drop i xs)) ∙ ap (flat_map run) (take-append-drop i xs))
+
+  -- the calls of the other elements of a list, one each
+  pub map_cut : {X : Type 0} (call : X → OutputCall) (xs : List X) (i : ℕ) {a b : Driver O} → Drives view keeps a (map call (take i xs)) b → b.refused ≡ true → Drives view keeps a (map call xs) b
+  map_cut call xs i d r = driven_cut (map call (drop i xs)) d r (sym (map-append call (take i xs) (drop i xs)) ∙ ap (map call) (take-append-drop i xs))
+
+  -- the calls that are left
+  pub driving_cut : {left all : List OutputCall} {old now : Driver O} → Driving view keeps left all old now → now.refused ≡ true → Drives view keeps old all now
+  driving_cut {left = left} g r = driven_cut left g.driven r g.whole
+
+-- what is said of a line unless a call was refused
+pub line_refused : {O Kept : Type 0} (view : O → View Kept) (begun : Bool) (a : Driver O) → a.refused ≡ true → LineIs view begun a
+line_refused view begun a r free = absurd (true≢false (sym r ∙ free))
+
+-- ---- blocks
+
+-- members in turn, which are these, as they are shown
+pub block_driven : {O Kept : Type 0} {view : O → View Kept} {keeps : View Kept → OutputCall → Kept} {X Y : Type 0} (start : List OutputCall) (run : Y → List OutputCall) (show : X → Y)
+    (members all : List X) {a b c d : Driver O} → Drives view keeps a start b → Drives view keeps b (flat_map (λ x. run (show x)) members) c → Drives view keeps c (IndentEnd ∷ []) d → members ≡ all
+    → Drives view keeps a (start ++ (flat_map run (map show all) ++ (IndentEnd ∷ []))) d
+block_driven start run show members all p q r e = search (std_rules, driven3, flat_map-map)
+
+pub ruleset driving = (driven_as, driven_none, driven_on, driven3, driven3_left, driven4, driven4_left, driven4_pairs, driven5, driven6, driven7)
+
+pub ruleset finishing = (all_moved, some_begun, on_ok, on_err)

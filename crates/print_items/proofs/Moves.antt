@@ -1,9 +1,9 @@
 -- How calls in turn move a view: one call and then the others, some calls and then some more.
-use Rattle.std.proofs.Common.{rules as std_rules, ◌≡◌, List, [], ◌∷◌, ◌++◌, refl, sym, inl, inr, ◌∙◌, ap, subst, append-nil, append_assoc}
+use Rattle.std.proofs.Common.{rules as std_rules, ◌≡◌, List, [], ◌∷◌, ◌++◌, refl, sym, inl, inr, ◌∙◌, ap, subst, append_assoc, ◌&&◌, Bool, IsTrue, ℕ}
 use Rattle.std.specs.List.{flat_map}
-use Rattle.print_output.specs.OutputCall.{OutputCall, View, after_all, body_calls, line_begun_after, Counts, Moves, Begins}
+use Rattle.print_output.specs.OutputCall.{OutputCall, View, after_all, body_calls, line_begun_after, Counts, Moves, Begins, is_one_line, may_begin}
 use Rattle.print_output.specs.OutputCall.{Moves.nothing_moved, Moves.then_moved, Begins.nothing_begun, Begins.begun_in, Begins.then_begun}
-use Rattle.base_lemmas.proofs.Options.{at_err}
+use Rattle.base_lemmas.proofs.{Options.at_err, Bools.right_of}
 
 module _ {Kept : Type 0} (keeps : View Kept → OutputCall → Kept) where
   -- some calls and then more
@@ -29,8 +29,6 @@ module _ {Kept : Type 0} (keeps : View Kept → OutputCall → Kept) where
   pub Counts-line : (u : View Kept) (call : OutputCall) (v : View Kept) → Counts keeps u call v → v.line_begun ≡ line_begun_after call u.line_begun
   Counts-line u call v h = elim h [ inl e ↦ ap (λ x. x.line_begun) e | inr e ↦ ap (λ x. x.line_begun) e ∙ line_after_body call u ]
 
--- a fact of a value, whichever result it is
-
 module _ {Kept : Type 0} {keeps : View Kept → OutputCall → Kept} where
   -- one call, as a list
   pub one_moved : {u v : View Kept} {call : OutputCall} → Counts keeps u call v → Moves keeps u (call ∷ []) v
@@ -48,7 +46,11 @@ module _ {Kept : Type 0} {keeps : View Kept → OutputCall → Kept} where
   pub begun_first : {u w : View Kept} {first : List OutputCall} (then : List OutputCall) {all : List OutputCall} → Begins keeps u first w → first ++ then ≡ all → Begins keeps u all w
   begun_first {u = u} {w = w} then b e = subst (λ x. Begins keeps u x w) e (Begins-more keeps then b)
 
-pub ruleset moving = (nothing_moved, then_moved, nothing_begun, begun_in, then_begun, one_moved, at_err)
+-- text that equals what a call may print may stand there
+pub front_of : (begun : Bool) (text other : List ℕ) → IsTrue (is_one_line text && may_begin begun text) → other ≡ text → IsTrue (may_begin begun other)
+front_of begun text other h e = subst (λ t. IsTrue (may_begin begun t)) (sym e) (right_of (is_one_line text) (may_begin begun text) h)
+
+pub ruleset moving = (nothing_moved, then_moved, nothing_begun, begun_in, then_begun, one_moved, at_err, front_of)
 
 -- ---- a run of calls for each element of a list
 
@@ -70,9 +72,7 @@ module _ {Kept X : Type 0} {keeps : View Kept → OutputCall → Kept} {run : X 
   -- a refusal in a run
   pub run_begun : {all left : List X} {old now new : View Kept} (x : X) (others : List X) → Underway keeps run all left old now → left ≡ x ∷ others → Begins keeps now (run x) new
       → Begins keeps old (flat_map run all) new
-  run_begun {old = old} {new = new} x others u e b =
-      let both : u.made ++ (run x ++ flat_map run others) ≡ flat_map run _ = ap (λ xs. u.made ++ flat_map run xs) (sym e) ∙ u.whole in
-      subst (λ calls. Begins keeps old calls new) both (Begins-append keeps u.moved (Begins-more keeps (flat_map run others) b))
+  run_begun x others u e b = begun_on u.moved (Begins-more keeps (flat_map run others) b) (ap (λ xs. u.made ++ flat_map run xs) (sym e) ∙ u.whole)
 
 -- ---- calls after calls
 
@@ -94,18 +94,16 @@ module _ {Kept : Type 0} {keeps : View Kept → OutputCall → Kept} where
   -- a refusal in those that were left
   pub refused_in : (run rest : List OutputCall) {left all : List OutputCall} {old now new : View Kept} → Going keeps left all old now → left ≡ run ++ rest → Begins keeps now run new
       → Begins keeps old all new
-  refused_in run rest {old = old} {new = new} g e b =
-      subst (λ calls. Begins keeps old calls new) (ap (λ x. g.made ++ x) (sym e) ∙ g.whole) (Begins-append keeps g.moved (Begins-more keeps rest b))
+  refused_in run rest g e b = begun_on g.moved (Begins-more keeps rest b) (ap (λ x. g.made ++ x) (sym e) ∙ g.whole)
 
   -- none was left
   pub made_all : {left all : List OutputCall} {old now : View Kept} → Going keeps left all old now → left ≡ [] → Moves keeps old all now
-  made_all {old = old} {now = now} g e =
-      subst (λ calls. Moves keeps old calls now) (sym (append-nil g.made) ∙ ap (λ x. g.made ++ x) (sym e) ∙ g.whole) g.moved
+  made_all g e = moved_on g.moved (nothing_moved refl) (ap (λ x. g.made ++ x) (sym e) ∙ g.whole)
 
   -- the last of them are made
   pub made_last : (run : List OutputCall) {all : List OutputCall} {old now new : View Kept} → Going keeps run all old now → Moves keeps now run new → Moves keeps old all new
-  made_last run {old = old} {new = new} g m = subst (λ calls. Moves keeps old calls new) g.whole (Moves-append keeps g.moved m)
+  made_last run g m = moved_on g.moved m g.whole
 
   -- a refusal in the last of them
   pub refused_last : (run : List OutputCall) {all : List OutputCall} {old now new : View Kept} → Going keeps run all old now → Begins keeps now run new → Begins keeps old all new
-  refused_last run {old = old} {new = new} g b = subst (λ calls. Begins keeps old calls new) g.whole (Begins-append keeps g.moved b)
+  refused_last run g b = begun_on g.moved b g.whole

@@ -11,6 +11,7 @@ use Rattle.wit_model.specs.Text.{Text}
 use Rattle.wit_model.specs.Names.{is_fragment, begins_with_letter, is_label, is_version_text}
 use Rattle.print_grammar.specs.Keyword.{escaped, is_keyword}
 use Rattle.print_output.specs.OutputCall.{is_one_line, has_no_space_first, may_begin}
+use Rattle.print_items.proofs.Driven.{spelled_made, call_passed}
 use Rattle.base_lemmas.proofs.Bools.{left_of as first_true, right_of as second_true}
 
 -- what passes a test that n fails is not n
@@ -36,8 +37,7 @@ joined_one_line (f ∷ []) h = fragment_one_line f (first_true _ _ h)
 joined_one_line (f ∷ g ∷ gs) h = one_line_append f _ (fragment_one_line f (first_true _ _ h)) (joined_one_line (g ∷ gs) (second_true _ _ h))
 
 label_one_line : (text : Text) → is_label text ≡ true → is_one_line text ≡ true
-label_one_line text h =
-    subst (λ t. is_one_line t ≡ true) (join_with_byte-slice_split 45 text) (joined_one_line (slice_split (λ b. b == 45) text) (second_true _ _ h))
+label_one_line text h = subst (λ t. is_one_line t ≡ true) (join_with_byte-slice_split 45 text) (joined_one_line (slice_split (λ b. b == 45) text) (second_true _ _ h))
 
 letter_front : (text : Text) → begins_with_letter text ≡ true → has_no_space_first text ≡ true
 letter_front x h = search std_rules
@@ -54,7 +54,7 @@ escaped_one_line text h = escaped_by (is_keyword text) text (label_one_line text
 pub escaped_may_begin : (begun : Bool) (text : Text) → is_label text ≡ true → IsTrue (may_begin begun (escaped text))
 escaped_may_begin x text h = search (std_rules, front_by, letter_front, first_true)
 
-pub ruleset labels = (escaped_one_line, escaped_may_begin)
+pub ruleset labels = (escaped_one_line, escaped_may_begin, spelled_made, call_passed)
 
 -- ---- versions
 
@@ -78,15 +78,14 @@ decimal_one_line n = digits_onto_one_line 64 n [] refl
 pub length_one_line : (n : ℕ) → IsTrue (is_one_line (44 ∷ 32 ∷ decimal n))
 length_one_line n = decimal_one_line n
 
-pub ruleset lengths = (length_one_line)
+pub ruleset lengths = (length_one_line, spelled_made, call_passed)
 
 -- parts between points, each of identifier bytes
 parts_one_line : (test : Text → Bool) → ((part : Text) → test part ≡ true → list_all is_identifier_byte part ≡ true) → (ps : List Text) → list_all test ps ≡ true
     → is_one_line (join_with_byte 46 ps) ≡ true
 parts_one_line test bytes [] h = refl
 parts_one_line test bytes (p ∷ []) h = one_line_of is_identifier_byte refl p (bytes p (first_true _ _ h))
-parts_one_line test bytes (p ∷ q ∷ qs) h =
-    one_line_append p _ (one_line_of is_identifier_byte refl p (bytes p (first_true _ _ h))) (parts_one_line test bytes (q ∷ qs) (second_true _ _ h))
+parts_one_line test bytes (p ∷ q ∷ qs) h = one_line_append p _ (one_line_of is_identifier_byte refl p (bytes p (first_true _ _ h))) (parts_one_line test bytes (q ∷ qs) (second_true _ _ h))
 
 points_one_line : (test : Text → Bool) → ((part : Text) → test part ≡ true → list_all is_identifier_byte part ≡ true) → (text : Text) → list_all test (parts text) ≡ true → is_one_line text ≡ true
 points_one_line test bytes text h = subst (λ t. is_one_line t ≡ true) (join_with_byte-slice_split 46 text) (parts_one_line test bytes (parts text) h)

@@ -8,8 +8,7 @@ use Rattle.print_grammar.specs.Calls.{separated}
 
 module _ {X Y : Type 0} (f : X → List Y) where
   pub flat_map-take_next : (xs : List X) (i : ℕ) (x : X) → i < length xs → x ≡ get_or xs i x → flat_map f (take (i + 1) xs) ≡ flat_map f (take i xs) ++ f x
-  flat_map-take_next xs i x within e =
-      search (std_rules, add-one, take-suc xs i x, flat_map-append f (take i xs) (get_or xs i x ∷ []), append-nil (f (get_or xs i x)))
+  flat_map-take_next xs i x within e = search (std_rules, add-one, take-suc xs i x, flat_map-append f (take i xs) (get_or xs i x ∷ []), append-nil (f (get_or xs i x)))
 
 -- an element of a list that passes
 pub passes_at : {X : Type 0} (test : X → Bool) (xs : List X) (i : ℕ) (x : X) → list_all test xs ≡ true → i < length xs → x ≡ get_or xs i x → test x ≡ true

@@ -1,7 +1,7 @@
 -- What is shown of a type number: its name, or the calls for its kind part by part.
-use Rattle.std.proofs.Common.{◌≡◌, refl, sym, ap, ◌∙◌, subst, ℕ, zero, suc, ◌+◌, ◌<◌, ◌≤◌, Bool, true, false, IsTrue, ◌&&◌, ◌||◌, not, nat_lt, List, [], ◌∷◌, ◌++◌, length, take, drop, Option, Some, None, slice_get, unwrap_or, arith, append-nil, append_assoc, add-one, codes, is_some}
-use Rattle.std.proofs.lemmas.Bool.{ltb-true, ltb-false, lt-ltb, and_from as both}
-use Rattle.std.proofs.lemmas.Option.{same_Some, slice_get_past, slice_get_within}
+use Rattle.std.proofs.Common.{◌≡◌, refl, sym, ap, ◌∙◌, subst, ℕ, zero, suc, ◌+◌, ◌<◌, ◌≤◌, Bool, true, false, IsTrue, ◌&&◌, ◌||◌, not, nat_lt, List, [], ◌∷◌, ◌++◌, length, take, drop, Option, Some, None, slice_get, get_or, unwrap_or, arith, append-nil, append_assoc, add-one, codes, is_some}
+use Rattle.std.proofs.lemmas.{Bool.ltb-true, Bool.lt-ltb, Bool.not-true, Bool.and_from as both, List.drop_all}
+use Rattle.std.proofs.lemmas.Option.{get_or_from_slice_get, slice_get_read, slice_get_within}
 use Rattle.std.specs.{Prelude.option_map, Prelude.option_to_list, Prelude.String, Option.option_map_or, List.list_all}
 use Rattle.std.specs.declared.alloc.Global.{Global}
 use Rattle.wit_model.specs.declared.model.{Resolve.Resolve, TypeDef.TypeDef, TypeDefKind.TypeDefKind, TypeId.TypeId, «Type».«Type» as ValueType}
@@ -15,7 +15,7 @@ use Rattle.print_grammar.specs.{Tree.TypeTrees.NoTypes, Tree.TypeTrees.AndTypes,
 use Rattle.print_items.specs.Shown.{shown_type, type_name, used_type, used_types, future_tree, stream_tree, result_tree, kind_tree, def_tree, trees_from, type_trees}
 use Rattle.print_items.specs.TypeParts.{kind_start, kind_end, result_start, result_end, carrier_end, types_from, comma_calls, handles_label, may_be_unnamed, kind_calls}
 use Rattle.print_output.specs.declared.type_kind.TypeKind.TheVariants.{Other}
-use Rattle.print_items.proofs.TypesWell.{is_below, below_of_numbers, IsShownType, type_is_shown, trees_count}
+use Rattle.print_items.proofs.{Runs.drop_next, TypesWell.is_below, TypesWell.below_of_numbers, TypesWell.IsShownType, TypesWell.type_is_shown, TypesWell.trees_count}
 use Rattle.base_lemmas.proofs.{Bools.left_of, Bools.right_of, Bools.unnamed_kind, Elements.all_get, Lists.slice_take as slice_get-take}
 use Rattle.wit_model.specs.declared.model.TypeDefKind.TheVariants as defined
 use Rattle.wit_model.specs.declared.model.Handle.TheVariants as handle
@@ -30,21 +30,8 @@ table r done (def ∷ defs) = table r (done ++ def_tree r done def ∷ []) defs
 
 module _ (n : ℕ) (trees : List TypeTree) where
   used_same : (t : ValueType) → is_below n t ≡ true → used_type (take n trees) t ≡ used_type trees t
-  used_same value.Bool h = refl
-  used_same value.U8 h = refl
-  used_same value.U16 h = refl
-  used_same value.U32 h = refl
-  used_same value.U64 h = refl
-  used_same value.S8 h = refl
-  used_same value.S16 h = refl
-  used_same value.S32 h = refl
-  used_same value.S64 h = refl
-  used_same value.F32 h = refl
-  used_same value.F64 h = refl
-  used_same value.Char h = refl
-  used_same value.String h = refl
-  used_same value.ErrorContext h = refl
   used_same (value.Id id) h = ap (λ o. unwrap_or o (Name [])) (slice_get-take trees n id.0 (ltb-true id.0 n h))
+  used_same _ h = refl
 
   all_same : (ts : List ValueType) → list_all (is_below n) ts ≡ true → used_types (take n trees) ts ≡ used_types trees ts
   all_same [] h = refl
@@ -77,12 +64,7 @@ module _ (n : ℕ) (trees : List TypeTree) where
   kind_same r (defined.FixedLengthList t m) u h = ap (λ x. FixedListOf x m) (used_same t (left_of _ _ h))
   kind_same r (defined.Future o) u h = ap future_tree (payload_same o h)
   kind_same r (defined.Stream o) u h = ap stream_tree (payload_same o h)
-  kind_same r (defined.Type_ t) u h = absurd cc
-  kind_same r (defined.Record x) u h = absurd cc
-  kind_same r (defined.Flags x) u h = absurd cc
-  kind_same r (defined.Variant x) u h = absurd cc
-  kind_same r (defined.Enum x) u h = absurd cc
-  kind_same r defined.Resource u h = absurd cc
+  kind_same r _ u h = absurd cc
 
 -- ---- the calls for a kind
 
@@ -97,24 +79,17 @@ then_stays xs ys h = begun-append false xs ys ∙ ap (λ b. lines_begun_after b 
 -- calls for a type that begin inside a line end inside it
 mutual
   pub type_stays : (t : TypeTree) → lines_begun_after false (type_calls t) ≡ false
-  type_stays (PrimitiveType p) = refl
-  type_stays (Name name) = refl
-  type_stays (Handle resource) = refl
-  type_stays (Own resource) = refl
-  type_stays (Borrow resource) = refl
   type_stays (TupleOf types) = then_stays (types_calls types) _ (types_stay types)
   type_stays (OptionOf ty) = then_stays (type_calls ty) _ (type_stays ty)
   type_stays (ListOf ty) = then_stays (type_calls ty) _ (type_stays ty)
   type_stays (FixedListOf ty length) = then_stays (type_calls ty) _ (type_stays ty)
   type_stays (MapOf key value) = then_stays (type_calls key) _ (type_stays key) ∙ then_stays (type_calls value) _ (type_stays value)
-  type_stays Result = refl
   type_stays (ResultOk ok) = then_stays (type_calls ok) _ (type_stays ok)
   type_stays (ResultErr err) = then_stays (type_calls err) _ (type_stays err)
   type_stays (ResultOf ok err) = then_stays (type_calls ok) _ (type_stays ok) ∙ then_stays (type_calls err) _ (type_stays err)
-  type_stays Future = refl
   type_stays (FutureOf ty) = then_stays (type_calls ty) _ (type_stays ty)
-  type_stays Stream = refl
   type_stays (StreamOf ty) = then_stays (type_calls ty) _ (type_stays ty)
+  type_stays _ = refl
 
   types_stay : (ts : TypeTrees) → lines_begun_after false (types_calls ts) ≡ false
   types_stay NoTypes = refl
@@ -128,8 +103,7 @@ one_part : (start calls end : List OutputCall) → (start ++ (calls ++ [])) ++ e
 one_part start calls end = ap (λ x. (start ++ x) ++ end) (append-nil calls) ∙ append_assoc start calls end
 
 two_parts : (start calls : List OutputCall) (comma : OutputCall) (more end : List OutputCall) → (start ++ (calls ++ (comma ∷ (more ++ [])))) ++ end ≡ start ++ (calls ++ (comma ∷ (more ++ end)))
-two_parts start calls comma more end =
-    append_assoc start (calls ++ (comma ∷ (more ++ []))) end
+two_parts start calls comma more end = append_assoc start (calls ++ (comma ∷ (more ++ []))) end
     ∙ ap (λ x. start ++ x) (append_assoc calls (comma ∷ (more ++ [])) end ∙ ap (λ x. calls ++ (comma ∷ (x ++ end))) (append-nil more))
 
 module _ (r : Resolve) (trees : List TypeTree) where
@@ -150,14 +124,6 @@ module _ (r : Resolve) (trees : List TypeTree) where
   result_whole (Some t) (Some u) = two_parts (result_start (Some t) (Some u)) (type_calls (used_type trees t)) (OutputCall.Str (codes ", ")) (type_calls (used_type trees u))
       (result_end (Some t) (Some u))
 
-  future_whole : (o : Option ValueType) → (kind_start r (defined.Future o) ++ types_from trees 0 (option_to_list o)) ++ carrier_end o ≡ type_calls (future_tree (option_map (used_type trees) o))
-  future_whole None = refl
-  future_whole (Some t) = one_part (kind_start r (defined.Future (Some t))) (type_calls (used_type trees t)) (carrier_end (Some t))
-
-  stream_whole : (o : Option ValueType) → (kind_start r (defined.Stream o) ++ types_from trees 0 (option_to_list o)) ++ carrier_end o ≡ type_calls (stream_tree (option_map (used_type trees) o))
-  stream_whole None = refl
-  stream_whole (Some t) = one_part (kind_start r (defined.Stream (Some t))) (type_calls (used_type trees t)) (carrier_end (Some t))
-
   -- the calls for a kind without a name of its own, part by part
   pub kind_whole : (k : TypeDefKind) → is_named_kind k ≡ false → (kind_start r k ++ types_from trees 0 (member_types k)) ++ kind_end k ≡ type_calls (kind_tree r trees k)
   kind_whole (defined.Handle (handle.Own id)) u = refl
@@ -169,14 +135,11 @@ module _ (r : Resolve) (trees : List TypeTree) where
   kind_whole (defined.Map k v) u = two_parts (kind_start r (defined.Map k v)) (type_calls (used_type trees k)) (OutputCall.Str (codes ", ")) (type_calls (used_type trees v))
       (kind_end (defined.Map k v))
   kind_whole (defined.FixedLengthList t n) u = one_part (kind_start r (defined.FixedLengthList t n)) (type_calls (used_type trees t)) (kind_end (defined.FixedLengthList t n))
-  kind_whole (defined.Future o) u = future_whole o
-  kind_whole (defined.Stream o) u = stream_whole o
-  kind_whole (defined.Type_ t) u = absurd cc
-  kind_whole (defined.Record x) u = absurd cc
-  kind_whole (defined.Flags x) u = absurd cc
-  kind_whole (defined.Variant x) u = absurd cc
-  kind_whole (defined.Enum x) u = absurd cc
-  kind_whole defined.Resource u = absurd cc
+  kind_whole (defined.Future None) u = refl
+  kind_whole (defined.Future (Some t)) u = one_part (kind_start r (defined.Future (Some t))) (type_calls (used_type trees t)) (carrier_end (Some t))
+  kind_whole (defined.Stream None) u = refl
+  kind_whole (defined.Stream (Some t)) u = one_part (kind_start r (defined.Stream (Some t))) (type_calls (used_type trees t)) (carrier_end (Some t))
+  kind_whole _ u = absurd cc
 
   parts_stay : (n : ℕ) (ts : List ValueType) → lines_begun_after false (types_from trees n ts) ≡ false
   parts_stay n [] = refl
@@ -203,13 +166,7 @@ module _ (r : Resolve) (trees : List TypeTree) where
   end_may_follow b (defined.Future (Some t)) = refl
   end_may_follow b (defined.Stream None) = refl
   end_may_follow b (defined.Stream (Some t)) = refl
-  end_may_follow b (defined.Handle h) = refl
-  end_may_follow b (defined.Type_ t) = refl
-  end_may_follow b (defined.Record x) = refl
-  end_may_follow b (defined.Flags x) = refl
-  end_may_follow b (defined.Variant x) = refl
-  end_may_follow b (defined.Enum x) = refl
-  end_may_follow b defined.Resource = refl
+  end_may_follow b _ = refl
 
 -- ---- a type number of a valid `Resolve`
 
@@ -220,24 +177,15 @@ rank ty = 0
 
 pub rank_below : (n : ℕ) (t : ValueType) → is_below n t ≡ true → rank t < n + 1
 rank_below n (value.Id id) h = (let l : id.0 < n = ltb-true id.0 n h in omega arith)
-rank_below n value.Bool h = omega arith
-rank_below n value.U8 h = omega arith
-rank_below n value.U16 h = omega arith
-rank_below n value.U32 h = omega arith
-rank_below n value.U64 h = omega arith
-rank_below n value.S8 h = omega arith
-rank_below n value.S16 h = omega arith
-rank_below n value.S32 h = omega arith
-rank_below n value.S64 h = omega arith
-rank_below n value.F32 h = omega arith
-rank_below n value.F64 h = omega arith
-rank_below n value.Char h = omega arith
-rank_below n value.String h = omega arith
-rank_below n value.ErrorContext h = omega arith
+rank_below n _ h = omega arith
 
 below_more : (n m : ℕ) → n < m → (o : Option ℕ) → passes (λ k. nat_lt k n) o ≡ true → passes (λ k. nat_lt k m) o ≡ true
 below_more n m less None h = refl
 below_more n m less (Some k) h = lt-ltb k m (let l : k < n = ltb-true k n h in omega arith)
+
+-- what is read at a number in range stands there
+pub read_at : {X : Type 0} (xs : List X) (n : ℕ) (x : X) → nat_lt n (length xs) ≡ true → x ≡ get_or xs n x → slice_get xs n ≡ Some x
+read_at xs n x h e = slice_get_read xs (length xs) n x refl (ltb-true n (length xs) h) e
 
 module _ (r : Resolve) (valid : IsValid r) (id : TypeId) (def : TypeDef) (at : type_at r id.0 ≡ Some def) where
   known : IsShownType r id.0 def
@@ -258,20 +206,7 @@ module _ (r : Resolve) (valid : IsValid r) (id : TypeId) (def : TypeDef) (at : t
       go : (k : TypeDefKind) → list_all (λ m. nat_lt m id.0) (kind_numbers k) ≡ true → passes (λ m. is_label (type_name r (record { 0 = m }))) (handled k) ≡ true → handles_label r k ≡ true
       go (defined.Handle h) b l = both (in_list r.types.items (handle_target h)) _
           (lt-ltb _ _ (let m : handle_target h < id.0 = ltb-true _ _ (left_of _ _ b) in let n : id.0 < length r.types.items = within in omega arith)) l
-      go (defined.Tuple x) b l = refl
-      go (defined.Option x) b l = refl
-      go (defined.Result x) b l = refl
-      go (defined.List x) b l = refl
-      go (defined.Map x y) b l = refl
-      go (defined.FixedLengthList x y) b l = refl
-      go (defined.Future x) b l = refl
-      go (defined.Stream x) b l = refl
-      go (defined.Type_ t) b l = refl
-      go (defined.Record x) b l = refl
-      go (defined.Flags x) b l = refl
-      go (defined.Variant x) b l = refl
-      go (defined.Enum x) b l = refl
-      go defined.Resource b l = refl
+      go _ b l = refl
 
   members_below : list_all (is_below id.0) (member_types def.kind) ≡ true
   members_below = below_of_numbers id.0 (member_types def.kind) (option_to_list (handled def.kind) ++ option_to_list (alias_target def.kind)) known.below
@@ -293,11 +228,8 @@ module _ (r : Resolve) (valid : IsValid r) (id : TypeId) (def : TypeDef) (at : t
 
   -- what is shown of it
   pub shown_at : shown_type r (value.Id id) ≡ def_tree r (type_trees r) def
-  shown_at =
-      ap (λ trees. unwrap_or (slice_get trees id.0) (Name [])) (table r [] r.types.items)
-      ∙ ap (λ o. unwrap_or o (Name [])) (grow_at (def_tree r) r.types.items id.0 def at)
-      ∙ ap (λ trees. def_tree r (take id.0 trees) def) (sym (table r [] r.types.items))
-      ∙ def_same (type_trees r) def.name refl
+  shown_at = ap (λ trees. unwrap_or (slice_get trees id.0) (Name [])) (table r [] r.types.items) ∙ ap (λ o. unwrap_or o (Name [])) (grow_at (def_tree r) r.types.items id.0 def at)
+      ∙ ap (λ trees. def_tree r (take id.0 trees) def) (sym (table r [] r.types.items)) ∙ def_same (type_trees r) def.name refl
 
   pub name_calls_at : (s : String Global) → def.name ≡ Some s → type_calls (shown_type r (value.Id id)) ≡ OutputCall.Ty (escaped (text_of s)) Other ∷ []
   name_calls_at s e = ap type_calls (shown_at ∙ ap (λ o. option_map_or (λ x. Name (text_of x)) o (kind_tree r (type_trees r) def.kind)) e)
@@ -307,16 +239,11 @@ module _ (r : Resolve) (valid : IsValid r) (id : TypeId) (def : TypeDef) (at : t
   unnamed_at e = ap (λ o. option_map_or (λ d. not (is_named_kind d.kind)) o false) at ∙ ap not (no_named_kind e)
 
   pub unnamed_calls_at : def.name ≡ None → kind_calls r id ≡ type_calls (shown_type r (value.Id id))
-  unnamed_calls_at e =
-      ap (λ o. option_map_or (λ d. type_calls (kind_tree r (type_trees r) d.kind)) o []) at
+  unnamed_calls_at e = ap (λ o. option_map_or (λ d. type_calls (kind_tree r (type_trees r) d.kind)) o []) at
       ∙ sym (ap type_calls (shown_at ∙ ap (λ o. option_map_or (λ x. Name (text_of x)) o (kind_tree r (type_trees r) def.kind)) e))
 
-  is_unnamed : (b : Bool) → not b ≡ true → b ≡ false
-  is_unnamed true e = absurd cc
-  is_unnamed false e = refl
-
   pub kind_at : may_be_unnamed r id ≡ true → is_named_kind def.kind ≡ false
-  kind_at h = is_unnamed (is_named_kind def.kind) (subst (λ o. option_map_or (λ d. not (is_named_kind d.kind)) o false ≡ true) at h)
+  kind_at h = not-true (is_named_kind def.kind) (subst (λ o. option_map_or (λ d. not (is_named_kind d.kind)) o false ≡ true) at h)
 
   pub kind_calls_at : may_be_unnamed r id ≡ true → (kind_start r def.kind ++ types_from (type_trees r) 0 (member_types def.kind)) ++ kind_end def.kind ≡ kind_calls r id
   kind_calls_at h = kind_whole r (type_trees r) def.kind (kind_at h) ∙ sym (ap (λ o. option_map_or (λ d. type_calls (kind_tree r (type_trees r) d.kind)) o []) at)
@@ -325,47 +252,20 @@ module _ (r : Resolve) (valid : IsValid r) (id : TypeId) (def : TypeDef) (at : t
 pub types_next : (trees : List TypeTree) (ts : List ValueType) (n : ℕ) (t : ValueType) → slice_get ts n ≡ Some t
     → types_from trees n (drop n ts) ≡ (comma_calls n ++ type_calls (used_type trees t)) ++ types_from trees (n + 1) (drop (n + 1) ts)
 types_next trees ts n t e =
-    rw (add-one, drop_at ts n t e) (sym (append_assoc (comma_calls n) (type_calls (used_type trees t)) (types_from trees (suc n) (drop (suc n) ts))))
-  where
-    drop_at : (xs : List ValueType) (m : ℕ) (x : ValueType) → slice_get xs m ≡ Some x → drop m xs ≡ x ∷ drop (suc m) xs
-    drop_at [] m x q = absurd cc
-    drop_at (y ∷ ys) zero x q = ap (λ z. z ∷ ys) (same_Some y x q)
-    drop_at (y ∷ ys) (suc m) x q = drop_at ys m x q
+    rw (drop_next ts n t (slice_get_within ts n t e) (sym (get_or_from_slice_get ts n t t e)), add-one)
+    (sym (append_assoc (comma_calls n) (type_calls (used_type trees t)) (types_from trees (suc n) (drop (suc n) ts))))
 
 pub types_past : (trees : List TypeTree) (ts : List ValueType) (n : ℕ) → length ts ≤ n → types_from trees n (drop n ts) ≡ []
-types_past trees ts n h = ap (types_from trees n) (drop_past ts n h)
-  where
-    drop_past : (xs : List ValueType) (m : ℕ) → length xs ≤ m → drop m xs ≡ []
-    drop_past [] zero l = refl
-    drop_past [] (suc m) l = refl
-    drop_past (x ∷ xs) zero l = absurd (omega arith)
-    drop_past (x ∷ xs) (suc m) l = drop_past xs m (omega arith)
+types_past trees ts n h = ap (types_from trees n) (drop_all n ts h)
 
 -- ---- types that are shown well
 
+there_if : (trees : List TypeTree) (n : ℕ) → is_well_type (unwrap_or (slice_get trees n) (Name [])) ≡ true → n < length trees
+there_if [] n h = absurd cc
+there_if (tree ∷ trees) zero h = omega arith
+there_if (tree ∷ trees) (suc n) h = (let l : n < length trees = there_if trees n h in omega arith)
+
 -- a type whose tree is well named is in range
 pub well_in_range : (r : Resolve) (t : ValueType) → is_well_type (shown_type r t) ≡ true → passes (in_list r.types.items) (number_of t) ≡ true
-well_in_range r (value.Id id) h = go (nat_lt id.0 (length r.types.items)) refl
-  where
-    count : length (type_trees r) ≡ length r.types.items
-    count = omega (arith, trees_count r [] r.types.items)
-
-    go : (b : Bool) → nat_lt id.0 (length r.types.items) ≡ b → nat_lt id.0 (length r.types.items) ≡ true
-    go true e = e
-    go false e =
-        let past : length (type_trees r) ≤ id.0 = (let l : length r.types.items ≤ id.0 = ltb-false id.0 (length r.types.items) e in omega (arith, count)) in
-        let wrong : is_well_type (Name []) ≡ true = subst (λ o. is_well_type (unwrap_or o (Name [])) ≡ true) (slice_get_past (type_trees r) id.0 past) h in absurd cc
-well_in_range r value.Bool h = refl
-well_in_range r value.U8 h = refl
-well_in_range r value.U16 h = refl
-well_in_range r value.U32 h = refl
-well_in_range r value.U64 h = refl
-well_in_range r value.S8 h = refl
-well_in_range r value.S16 h = refl
-well_in_range r value.S32 h = refl
-well_in_range r value.S64 h = refl
-well_in_range r value.F32 h = refl
-well_in_range r value.F64 h = refl
-well_in_range r value.Char h = refl
-well_in_range r value.String h = refl
-well_in_range r value.ErrorContext h = refl
+well_in_range r (value.Id id) h = lt-ltb _ _ (let l : id.0 < length (type_trees r) = there_if (type_trees r) id.0 h in omega (arith, trees_count r [] r.types.items))
+well_in_range r _ h = refl

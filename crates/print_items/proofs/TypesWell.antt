@@ -11,7 +11,7 @@ use Rattle.wit_model.proofs.Entries.{each_from_at, lists_pass}
 use Rattle.print_grammar.specs.{Tree.TypeTree, Tree.TypeTree.Name, WellNamed.is_well_type, WellNamed.are_well_types, WellNamed.are_well_more}
 use Rattle.print_items.specs.Shown.{present_name, shown_type, type_name, used_type, used_types, future_tree, stream_tree, result_tree, kind_tree, def_tree, trees_from, type_trees}
 use Rattle.print_items.proofs.ShownWell.{given_label}
-use Rattle.base_lemmas.proofs.{Bools.left_of, Bools.right_of, Elements.all_get, Lists.within_there as one_there}
+use Rattle.base_lemmas.proofs.{Bools.left_of, Bools.right_of, Bools.unnamed_kind, Bools.given-not, Elements.all_get, Lists.within_there as one_there}
 use Rattle.wit_model.specs.declared.model.TypeDefKind.TheVariants as defined
 use Rattle.wit_model.specs.declared.model.Handle.TheVariants as handle
 
@@ -84,14 +84,10 @@ pub record IsShownType (r : Resolve) (n : ℕ) (def : TypeDef) : Type 0 where
 def_well : (r : Resolve) (trees : List TypeTree) (def : TypeDef) → list_all is_well_type trees ≡ true → IsShownType r (length trees) def → is_well_type (def_tree r trees def) ≡ true
 def_well r trees def well h = go def.name h.label h.named
   where
-    no_kind : (b : Bool) → (not b || false) ≡ true → b ≡ false
-    no_kind true e = absurd cc
-    no_kind false e = refl
-
     go : (name : Option (String Global)) → passes (λ s. is_label (text_of s)) name ≡ true → (not (is_named_kind def.kind) || is_some name) ≡ true
         → is_well_type (option_map_or (λ s. Name (text_of s)) name (kind_tree r trees def.kind)) ≡ true
     go (Some s) label named = label
-    go None label named = kind_well trees well r def.kind h.below h.shape (no_kind _ named) h.handled_
+    go None label named = kind_well trees well r def.kind h.below h.shape (unnamed_kind _ named) h.handled_
 
 -- The trees of type numbers from the front are well named.
 pub trees_well : (r : Resolve) (trees : List TypeTree) (defs : List TypeDef) → list_all is_well_type trees ≡ true
@@ -141,14 +137,10 @@ module _ (r : Resolve) (valid : IsValid r) where
   resource_label zero n h = absurd cc
   resource_label (suc steps) n h = go (type_at r n) refl h
     where
-      has_name : (a b : Bool) → a ≡ true → (not a || b) ≡ true → b ≡ true
-      has_name true b q h = h
-      has_name false b q h = absurd cc
-
       go : (o : Option TypeDef) → type_at r n ≡ o → option_map_or (λ def. is_resource_kind (ends_in_resource r steps) def.kind) o false ≡ true
           → is_label (option_map_or (λ def. present_name def.name) o []) ≡ true
       go None e g = absurd cc
-      go (Some def) e g = name_well n def e (has_name (is_named_kind def.kind) (is_some def.name) (resource_kind (ends_in_resource r steps) def.kind g) (name_of_kind n def e))
+      go (Some def) e g = name_well n def e (given-not (is_named_kind def.kind) (is_some def.name) (resource_kind (ends_in_resource r steps) def.kind g) (name_of_kind n def e))
 
   -- a handle's target has a label
   pub handled_label : (n : ℕ) (def : TypeDef) → type_at r n ≡ Some def → passes (λ m. is_label (type_name r (record { 0 = m }))) (handled def.kind) ≡ true
@@ -171,8 +163,7 @@ module _ (r : Resolve) (valid : IsValid r) where
 
   -- The trees of the types of a valid `Resolve` are well named.
   types_well : list_all is_well_type (type_trees r) ≡ true
-  types_well =
-      trees_well r [] r.types.items refl (λ k def e.
+  types_well = trees_well r [] r.types.items refl (λ k def e.
       let number : k ≡ 0 + k = omega arith in
       subst (λ n. IsShownType r n def) number (type_is_shown k def e))
 

@@ -4,6 +4,5 @@ use Rattle.print_items.proofs.alias.write_type_alias.Goals as goal
 
 pub returns : goal.returns
 returns g c = record {
-  calls = driven3 c.write_alias_start.ensures.calls c.write_type.ensures.calls c.semicolon.ensures.calls
-      (word_alias c.args.name.now (shown_type c.args.resolve.now c.args.ty.now) c.requires.word);
+  calls = driven3 c.write_alias_start.ensures.calls c.write_type.ensures.calls c.semicolon.ensures.calls (word_alias c.args.name.now (shown_type c.args.resolve.now c.args.ty.now) c.requires.word);
 }

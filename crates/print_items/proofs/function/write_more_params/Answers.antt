@@ -1,6 +1,6 @@
 use Rattle.print_items.specs.Shown.{shown_param}
 use Rattle.print_grammar.specs.{WellNamed.is_well_param, Calls.param_calls}
-use Rattle.print_items.proofs.{Runs.passes_at, Driven.driven, Driven.one_run, Refusals.run_cut, Refusals.line_refused}
+use Rattle.print_items.proofs.{Runs.passes_at, Driven.driven, Driven.one_run, Driven.run_cut, Driven.line_refused}
 use Rattle.std.proofs.Common.{◌∷◌, false}
 use Rattle.std.specs.Prelude.{codes}
 use Rattle.print_output.specs.OutputCall.OutputCall.{Str}

@@ -1,25 +1,19 @@
-use Rattle.std.proofs.Common.{◌≡◌, ap, sym, subst, true}
 use Rattle.std.specs.List.{list_all}
-use Rattle.wit_model.specs.Names.{is_label}
 use Rattle.print_output.specs.OutputCall.{is_one_line}
 use Rattle.print_items.specs.Shown.{shown_docs, shown_flag}
 use Rattle.print_grammar.specs.{WellNamed.is_well_label, Calls.label_calls}
-use Rattle.print_items.proofs.{Runs.passes_at, Driven.driven_as, Driven.one_run, Refusals.run_cut}
+use Rattle.print_items.proofs.{Runs.passes_at, Driven.one_run, Driven.run_cut}
 use Rattle.base_lemmas.proofs.Bools.{right_of as second_true}
 use Rattle.print_items.proofs.labels.write_each_flag.Goals as goal
 
 pub write_label-requires : goal.write_label-requires
 write_label-requires g c =
-    record {
-      label =
-          let well = passes_at (λ x. is_well_label (shown_flag x)) c.args.flags.now c.loop-flag.flag-index c.flag-item.result c.requires.well c.loop-flag-test.true c.flag-item.is in
-          subst (λ text. is_label text ≡ true) (sym c.deref.ensures) (second_true (list_all is_one_line (shown_docs c.flag-item.result.docs)) _ well);
-    }
+    let well = passes_at (λ x. is_well_label (shown_flag x)) c.args.flags.now c.loop-flag.flag-index c.flag-item.result c.requires.well c.loop-flag-test.true c.flag-item.is in
+    record { label = rw c.deref.ensures (second_true (list_all is_one_line (shown_docs c.flag-item.result.docs)) _ well) }
 
 pub loop-flag-preserved : goal.loop-flag-preserved
 loop-flag-preserved g c = record {
-  calls = one_run (λ flag. label_calls c.args.emits_docs (shown_flag flag)) _ _ _ c.loop-flag.invariant.calls c.loop-flag-test.true c.flag-item.is
-      (driven_as c.write_label.ensures.calls (ap (λ name. label_calls c.args.emits_docs (record { docs = shown_docs c.flag-item.result.docs; name = name })) c.deref.ensures));
+  calls = one_run (λ flag. label_calls c.args.emits_docs (shown_flag flag)) _ _ _ c.loop-flag.invariant.calls c.loop-flag-test.true c.flag-item.is (rw c.deref.ensures at c.write_label.ensures.calls);
 }
 
 pub returns-then-driver : goal.returns-then-driver

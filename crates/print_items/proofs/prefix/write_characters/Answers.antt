@@ -1,7 +1,7 @@
 use Rattle.std.proofs.Common.{[], ◌∷◌, map, sym, ap, ◌∙◌, map-id, length}
 use Rattle.std.proofs.lemmas.{Iterator.YieldsList-from_chars, Iterator.Consumers.YieldsList-end, Iterator.Consumers.YieldsList-so_far, List.map-append}
 use Rattle.print_grammar.specs.Calls.{character_call}
-use Rattle.print_items.proofs.{Driven.driven_as, Driven.driven_on, Refusals.map_cut}
+use Rattle.print_items.proofs.{Driven.driven_as, Driven.driven_on, Driven.map_cut}
 use Rattle.std.specs.Str.{chars}
 use Rattle.print_items.proofs.prefix.write_characters.Goals as goal
 

@@ -1,6 +1,6 @@
 use Rattle.std.proofs.{Common.length, Common.[], Common.◌∷◌, Common.sym, lemmas.List.map-append}
 use Rattle.std.proofs.lemmas.Iterator.{Splits.YieldsList-from_lines, Consumers.YieldsList-turn, Consumers.YieldsList-end, Consumers.YieldsList-so_far}
-use Rattle.print_items.proofs.{DocLines.line_one_line, DocLines.lines_driven, Driven.driven_on, Refusals.map_cut}
+use Rattle.print_items.proofs.{DocLines.line_one_line, DocLines.lines_driven, Driven.driven_on, Driven.map_cut}
 use Rattle.print_output.specs.OutputCall.OutputCall.{Doc}
 use Rattle.std.specs.Str.Lines.{lines}
 use Rattle.print_items.proofs.prefix.write_lines.Goals as goal

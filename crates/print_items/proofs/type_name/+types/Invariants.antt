@@ -12,6 +12,5 @@ abbrev pub decreases-write_unnamed : goal.decreases-write_unnamed
 decreases-write_unnamed g l = 2 * l.id.0 + 1
 
 abbrev pub invariant-write_unnamed-loop-number : goal.invariant-write_unnamed-loop-number
-invariant-write_unnamed-loop-number g l =
-    Driving g.O.Output.view g.O.Output.keeps (types_from (type_trees l.resolve) l.number (drop l.number (member_types l.def.kind)))
+invariant-write_unnamed-loop-number g l = Driving g.O.Output.view g.O.Output.keeps (types_from (type_trees l.resolve) l.number (drop l.number (member_types l.def.kind)))
     (kind_start l.resolve l.def.kind ++ types_from (type_trees l.resolve) 0 (member_types l.def.kind)) l.fn.driver l.driver

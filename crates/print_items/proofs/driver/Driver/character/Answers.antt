@@ -1,11 +1,10 @@
 use Rattle.std.proofs.Common.{refl}
-use Rattle.print_grammar.specs.Calls.{character_call}
 use Rattle.print_items.proofs.Driven.{spelled_made, call_passed}
 use Rattle.print_items.proofs.driver.Driver.character.Goals as goal
 
 pub returns-then-not-self : goal.returns-then-not-self
 returns-then-not-self g c = record {
-  calls = spelled_made _ _ c.print_character.result (character_call c.args.c) refl c.if-not-self.true c.is_err-self.ensures.value c.print_character.ensures.ok
+  calls = spelled_made _ _ c.print_character.result _ refl c.if-not-self.true c.is_err-self.ensures.value c.print_character.ensures.ok
       c.print_character.ensures.err;
 }
 

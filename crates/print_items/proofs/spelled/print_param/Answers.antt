@@ -1,7 +1,0 @@
-use Rattle.std.proofs.Common.{◌∙◌}
-use Rattle.print_grammar.specs.Keyword.{escaped}
-use Rattle.print_items.proofs.Fronts.{front_of}
-use Rattle.print_items.proofs.spelled.print_param.Goals as goal
-
-pub param-requires-clause-front : goal.param-requires-clause-front
-param-requires-clause-front g c = front_of (g.O.Output.view c.args.output.now).line_begun (escaped c.args.label.now) _ c.requires (c.as_str.ensures.value ∙ c.in_ok-text.ensures)
