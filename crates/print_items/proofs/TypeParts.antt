@@ -10,7 +10,7 @@ use Rattle.wit_model.specs.{Parts.kind_numbers, Parts.member_types, Parts.handle
 use Rattle.wit_model.proofs.Tables.{grow_at}
 use Rattle.print_output.specs.OutputCall.{OutputCall, lines_begun_after, line_begun_after, may_follow}
 use Rattle.print_grammar.specs.{Tree.TypeTree, Tree.TypeTrees, WellNamed.is_well_type}
-use Rattle.print_grammar.specs.Tree.TypeTree.{PrimitiveType, Name, Handle, Own, Borrow, TupleOf, OptionOf, ListOf, FixedListOf, MapOf, Result, ResultOk, ResultErr, ResultOf, Future, FutureOf, Stream, StreamOf}
+use Rattle.print_grammar.specs.Tree.TypeTree.{Name, TupleOf, OptionOf, ListOf, FixedListOf, MapOf, ResultOk, ResultErr, ResultOf, FutureOf, StreamOf}
 use Rattle.print_grammar.specs.{Tree.TypeTrees.NoTypes, Tree.TypeTrees.AndTypes, Keyword.escaped, Calls.type_calls, Calls.types_calls, Calls.more_types_calls}
 use Rattle.print_items.specs.Shown.{shown_type, type_name, used_type, used_types, future_tree, stream_tree, result_tree, kind_tree, def_tree, trees_from, type_trees}
 use Rattle.print_items.specs.TypeParts.{kind_start, kind_end, result_start, result_end, carrier_end, types_from, comma_calls, handles_label, may_be_unnamed, kind_calls}

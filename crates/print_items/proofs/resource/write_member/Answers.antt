@@ -1,5 +1,4 @@
 use Rattle.std.proofs.Common.{rules as std_rules, ap}
-use Rattle.wit_model.specs.{Calls.item_name, Names.is_label}
 use Rattle.print_items.proofs.Constructors.{constructor_well, is_constructor, member_named}
 use Rattle.base_lemmas.proofs.Bools.{left_of, right_of}
 use Rattle.print_items.proofs.resource.write_member.Goals as goal
