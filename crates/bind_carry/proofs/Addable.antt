@@ -16,12 +16,8 @@ use Rattle.wit_model.specs.{Rules.same_package_name, Valid.IsValid, declared.mod
 use Rattle.wit_model.specs.declared.model.Resolve.{Resolve}
 
 module _ (own other : Resolve) (valid : IsValid other) (c : Carried) (ms : List (Option PackageId)) (matched : ms ≡ map (own_package_of own.packages.items) other.packages.items)
-    (flags : c.new_packages.items ≡ map is_none ms)
-    (numbers : c.packages.items ≡ numbers_of (length own.packages.items) c.new_packages.items (map package_number ms)) (gs : List Names)
+    (flags : c.new_packages.items ≡ map is_none ms) (numbers : c.packages.items ≡ numbers_of (length own.packages.items) c.new_packages.items (map package_number ms)) (gs : List Names)
     (zip : AllZip (IsGained c) (grown_packages c.new_packages.items c.packages.items other.packages.items) gs) where
-  long : length c.new_packages.items ≡ length (map package_number ms)
-  long = ap length flags ∙ (length-map ms is_none ∙ sym (length-map ms package_number))
-
   -- what gains is an own package of the name
   record IsOwnGain (i : ℕ) (g : Names) : Type 0 where
     old : ℕ × Package
@@ -35,13 +31,15 @@ module _ (own other : Resolve) (valid : IsValid other) (c : Carried) (ms : List 
       let inside : r.place < length ms = (let w = within_list other.packages.items r.place e.0.1 r.at_place in let q =
       ap length matched ∙ length-map other.packages.items (own_package_of own.packages.items) in omega (arith, w, q)) in
       let id = unflagged_found ms r.place inside (ap (λ l. flag_under l r.place) (sym flags) ∙ r.bare) in
-      let is : own_package_of own.packages.items e.0.1 ≡ Some id.0 = some_same _ _
-      (sym (mapped_at (own_package_of own.packages.items) other.packages.items r.place e.0.1 r.at_place) ∙ (ap (λ l. slice_get l r.place) (sym matched) ∙ id.1)) in
-      let number : id.0.0 ≡ g.«package».0 =
-      sym (found_number ms r.place id.0 id.1) ∙ (sym (uncopied_under (length own.packages.items) c.new_packages.items (map package_number ms) r.place long r.bare)
-      ∙ (sym (ap (λ l. number_under l r.place) numbers) ∙ (r.number ∙ sym e.2.number)))
-      in
-      record { old = e.0; gain = r; found = subst (IsFound e.0.1.name own.packages.items) number (found_own own.packages.items e.0.1 id.0 is) }
+      record {
+        old = e.0;
+        gain = r;
+        found = subst (IsFound e.0.1.name own.packages.items)
+            (sym (found_number ms r.place id.0 id.1) ∙ (sym (uncopied_under (length own.packages.items) c.new_packages.items (map package_number ms) r.place
+            (ap length flags ∙ (length-map ms is_none ∙ sym (length-map ms package_number))) r.bare) ∙ (sym (ap (λ l. number_under l r.place) numbers) ∙ (r.number ∙ sym e.2.number))))
+            (found_own own.packages.items e.0.1 id.0 (some_same _ _ (sym (mapped_at (own_package_of own.packages.items) other.packages.items r.place e.0.1 r.at_place)
+            ∙ (ap (λ l. slice_get l r.place) (sym matched) ∙ id.1))));
+      }
 
   pub gains_in_range : are_in_range (length own.packages.items) gs ≡ true
   gains_in_range = all_of (λ (n : Names). nat_lt n.«package».0 (length own.packages.items)) gs
@@ -51,12 +49,9 @@ module _ (own other : Resolve) (valid : IsValid other) (c : Carried) (ms : List 
   gains_different i j a b at_a at_b same =
       let x = own_gain i a at_a in
       let y = own_gain j b at_b in
-      let there : x.found.there ≡ y.found.there = some_same x.found.there y.found.there (sym x.found.at_there ∙ (ap (slice_get own.packages.items) same ∙ y.found.at_there)) in
-      let one : same_package_name x.old.1.name x.found.there.name ≡ true = x.found.same in
-      let two : same_package_name y.old.1.name x.found.there.name ≡ true = ap (λ (p : Package). same_package_name y.old.1.name p.name) there ∙ y.found.same in
-      let names : same_package_name x.old.1.name y.old.1.name ≡ true = name_same x.old.1.name y.old.1.name x.found.there.name two ∙ one in
-      let places : y.gain.place ≡ x.gain.place = package-once other valid x.gain.place y.gain.place x.old.1 y.old.1 x.gain.at_place y.gain.at_place names in
-      x.gain.rank_is ∙ (ap (rank c.new_packages.items) (sym places) ∙ sym y.gain.rank_is)
+      x.gain.rank_is ∙ (ap (rank c.new_packages.items) (sym (package-once other valid x.gain.place y.gain.place x.old.1 y.old.1 x.gain.at_place y.gain.at_place
+      (name_same x.old.1.name y.old.1.name x.found.there.name (ap (λ (p : Package). same_package_name y.old.1.name p.name)
+      (some_same x.found.there y.found.there (sym x.found.at_there ∙ (ap (slice_get own.packages.items) same ∙ y.found.at_there))) ∙ y.found.same) ∙ x.found.same))) ∙ sym y.gain.rank_is)
 
 -- What a union adds can be added.
 pub unions_are_addable : UnionsAreAddable

@@ -23,31 +23,31 @@ pub flags_few : {X : Type 0} (p : X → Bool) (bs : List Bool) (xs : List X) →
     → copied_count bs ≤ count_by p xs
 flags_few p [] xs long h = omega arith
 flags_few p (b ∷ bs) [] long h = absurd (omega (arith, long))
-flags_few p (true ∷ bs) (x ∷ xs) long h =
-    let rest = flags_few p bs xs (omega (arith, long)) (λ n y at. h (suc n) y at) in
-    let all = sum_least 1 (copied_count bs) (cond (p x) 1 0) (count_by p xs) (count_by p (x ∷ xs)) (count_more p x xs) rest (one_passes true (p x) (λ e. h zero x refl refl)) in
-    omega (arith, all)
-flags_few p (false ∷ bs) (x ∷ xs) long h =
-    let rest = flags_few p bs xs (omega (arith, long)) (λ n y at. h (suc n) y at) in
-    let all = sum_least 0 (copied_count bs) (cond (p x) 1 0) (count_by p xs) (count_by p (x ∷ xs)) (count_more p x xs) rest (one_passes false (p x) (λ e. no_true e)) in
-    omega (arith, all)
+flags_few p (true ∷ bs) (x ∷ xs) long h = omega (
+  arith,
+  (sum_least 1 (copied_count bs) (cond (p x) 1 0) (count_by p xs) (count_by p (x ∷ xs)) (count_more p x xs)
+      (flags_few p bs xs (omega (arith, long)) (λ n y at. h (suc n) y at)) (one_passes true (p x) (λ e. h zero x refl refl))),
+)
+flags_few p (false ∷ bs) (x ∷ xs) long h = omega (
+  arith,
+  (sum_least 0 (copied_count bs) (cond (p x) 1 0) (count_by p xs) (count_by p (x ∷ xs)) (count_more p x xs)
+      (flags_few p bs xs (omega (arith, long)) (λ n y at. h (suc n) y at)) (one_passes false (p x) (λ e. no_true e))),
+)
 
 -- ---- flags of what is carried by path
 
 module _ (r : Resolve) where
   pub worlds_flagged : (ms : List (Option WorldId)) (ws : List World) → length ms ≡ length ws → length (new_worlds r ms ws) ≡ length ws
   worlds_flagged [] [] long = refl
-  worlds_flagged [] (w ∷ ws) long = absurd (omega (arith, long))
-  worlds_flagged (m ∷ ms) [] long = absurd (omega (arith, long))
   worlds_flagged (m ∷ ms) (w ∷ ws) long = ap suc (worlds_flagged ms ws (omega (arith, long)))
+  worlds_flagged _ _ long = absurd (omega (arith, long))
 
   marks_flagged : (marks flags : List Bool) (ws : List World) → length (mark_worlds r marks flags ws) ≡ length marks
-  marks_flagged marks [] ws = refl
-  marks_flagged marks (b ∷ bs) [] = refl
   marks_flagged marks (true ∷ bs) (w ∷ ws) =
       let first = mark_items r marks w.imports.entries in
       marks_flagged (mark_items r first w.exports.entries) bs ws ∙ (mark_items_long r first w.exports.entries ∙ mark_items_long r marks w.imports.entries)
   marks_flagged marks (false ∷ bs) (w ∷ ws) = marks_flagged marks bs ws
+  marks_flagged marks _ _ = refl
 
 pub interfaces_flagged : (other : Resolve) (ms : List (Option InterfaceId)) (flags : List Bool) → length ms ≡ length other.interfaces.items
     → length (mark_worlds other (new_interfaces ms other.interfaces.items) flags other.worlds.items) ≡ length other.interfaces.items

@@ -10,10 +10,9 @@ use Rattle.bind_carry.specs.declared.fate.Fate.TheVariants as fate
 
 -- at most as many are kept as flags are set
 pub kept_few : {X : Type 0} (bs : List Bool) (xs : List X) → length (kept bs xs) ≤ copied_count bs
-kept_few [] xs = omega arith
-kept_few (b ∷ bs) [] = omega arith
 kept_few (true ∷ bs) (x ∷ xs) = let r = kept_few bs xs in omega (arith, r)
 kept_few (false ∷ bs) (x ∷ xs) = kept_few bs xs
+kept_few _ _ = omega arith
 
 -- and as many where each has a flag
 pub kept_all : {X : Type 0} (bs : List Bool) (xs : List X) → length bs ≡ length xs → length (kept bs xs) ≡ copied_count bs
@@ -33,11 +32,10 @@ length_both (x ∷ xs) ys = let r = length_both xs ys in omega (arith, r)
 -- as many types are copied as have such fates
 pub types_counted : (ts : List TypeDef) (fs : List Fate) → length fs ≡ length ts → length (copied_types ts fs) ≡ copies_of fs
 types_counted [] [] long = refl
-types_counted [] (f ∷ fs) long = absurd (omega (arith, long))
-types_counted (t ∷ ts) [] long = absurd (omega (arith, long))
 types_counted (t ∷ ts) (fate.Left ∷ fs) long = types_counted ts fs (omega (arith, long))
 types_counted (t ∷ ts) (fate.Stands n ∷ fs) long = types_counted ts fs (omega (arith, long))
 types_counted (t ∷ ts) (fate.Copied home ∷ fs) long = let r = types_counted ts fs (omega (arith, long)) in omega (arith, r)
+types_counted _ _ long = absurd (omega (arith, long))
 
 -- a type that met its fate is counted
 pub counted_more : (own : ℕ) (numbers : List ℕ) (def : TypeDef) (f : Fate) (old new : List TypeDef) (n : ℕ) (fs left : List Fate) (whole : ℕ) → left ≡ f ∷ fs → MeetsFate own numbers def f old new n

@@ -1,20 +1,21 @@
 -- What is copied of interfaces: each stands under its new number, with its types and its functions.
+use Rattle.bind_meaning.proofs.Listed.{by_option}
+use Rattle.bind_carry.proofs.{CopiesPlaced.by_either, CopiesPlaced.by_test, SettledParts.copied_still, SettledParts.settled_long, SettledParts.stands_still}
 use Rattle.base_lemmas.proofs.{Bools.left_of as first_true, Bools.right_of as second_true, Lists.within_there, Numbers.equal, Numbers.same-number}
-use Rattle.bind_carry.proofs.{CopiesPlaced.some_same, Joined.function_copy, PartsCarried.has_home, PartsCarried.no_home, PassedTypes.StoodFirst}
+use Rattle.bind_carry.proofs.{CopiesPlaced.some_same, Joined.function_copy, PartsCarried.has_home, PartsCarried.no_home}
 use Rattle.bind_carry.proofs.PassedTypes.{carried_if, carried_within, copy_holds, parts_hold, stood_first}
-use Rattle.bind_carry.proofs.SettledParts.{copied_still, settled_long, stands_still}
 use Rattle.bind_carry.specs.{CarriedParts.PartsOfOwners, CarriedParts.is_function_carried, Fates.AreCopied, Fates.FallBelow, Fates.carries, Fates.copies}
 use Rattle.bind_carry.specs.{Fates.is_carried, Fates.stood, First.adds_any, First.fate_beside, First.fate_in, First.fate_named, First.fate_of}
-use Rattle.bind_carry.specs.{First.first_fates, First.flag_under, Initial.IsInitial, Listed.given_interface, Listed.type_named, Marked.AreChosen}
+use Rattle.bind_carry.specs.{First.first_fates, First.flag_under, Initial.IsInitial, Listed.type_named, Marked.AreChosen}
 use Rattle.bind_carry.specs.{Renumbered.first_of, Renumbered.is_copied, Renumbered.is_matched, Whole.home_under, declared.fate.Fate.Fate}
 use Rattle.bind_carry.specs.declared.plan.Carried.{Carried}
 use Rattle.bind_copy.specs.Copies.{IsFunctionEntry as IsEntryUnderNumbers, IsInterfaceUnder, number_under, type_names, type_names_under}
 use Rattle.bind_union.proofs.{Carrying.references_of, Carrying.refers_below, Images.numbers_of_view, Lists.no_true}
 use Rattle.bind_union.specs.Carried.{IsFunctionEntry, IsInterface, IsInterfaceCopy, IsType, Renumbering, carries_owner, copies_owner, owner_under}
 use Rattle.indexmap.specs.IndexMap.{IsUnique, values}
-use Rattle.std.proofs.Common.{Bool, List, None, Option, Some, [], ap, arith, false, if◌then◌else◌, is_some, length, map, nat_lt, not, option_and_then, option_map, refl, rules as std_rules, slice_get, suc, sym, true, zero, ℕ, ◌++◌, ◌==◌, ◌||◌, ◌∙◌, ◌∷◌, ◌≡◌}
+use Rattle.std.proofs.Common.{Bool, List, Option, Some, [], ap, arith, false, if◌then◌else◌, is_some, length, map, nat_lt, not, option_map, refl, rules as std_rules, slice_get, suc, sym, true, ℕ, ◌++◌, ◌==◌, ◌||◌, ◌∙◌, ◌∷◌, ◌≡◌}
 use Rattle.std.proofs.lemmas.{Bool.or_left, Bool.or_right, List.length-map, List.Folds.list_all-map, Option.slice_get-map}
-use Rattle.std.specs.{HashMap.get_by_text, List.AllZip, List.list_all, List.list_any, Option.option_map_or, Prelude.String, String.string_eq}
+use Rattle.std.specs.{List.AllZip, List.list_all, List.list_any, Option.option_map_or, Prelude.String, String.string_eq}
 use Rattle.std.specs.declared.alloc.Global.{Global}
 use Rattle.wit_model.proofs.Chains.{all_has as passes_at}
 use Rattle.wit_model.specs.{Lookup.interface_at, Lookup.type_at, Parts.same_owner, Rules.interface_type_numbers, Rules.package_number, Text.Text}
@@ -32,10 +33,9 @@ pub excluded : (m : Bool) → (not m || m) ≡ true
 excluded x = search std_rules
 
 any_at : (flags : List Bool) (n : ℕ) → flag_under flags n ≡ true → list_any (λ b. b) flags ≡ true
-any_at [] n h = no_true h
 any_at (true ∷ bs) n h = refl
-any_at (false ∷ bs) zero h = no_true h
 any_at (false ∷ bs) (suc n) h = any_at bs n h
+any_at _ _ h = no_true h
 
 pub named_no_copy : (own : Resolve) (matched : List (Option InterfaceId)) (a : ℕ) (o : Option Text) → copies (fate_named own matched a o) ≡ false
 named_no_copy own matched a x = search std_rules
@@ -43,6 +43,21 @@ named_no_copy own matched a x = search std_rules
 -- what is carried without a copy stands for an own type
 pub beside_stands : (o : Option TypeId) → carries (fate_beside o) ≡ true → is_some o ≡ true
 beside_stands x h = search std_rules
+
+-- ---- what a fate by path says of the owner
+
+module _ (own : Resolve) (matched : List (Option InterfaceId)) (c : Carried) (fates : List Fate) (numbers : List ℕ) (o : TypeOwner) (name : Option Text) where
+  first_copies : (home : TypeOwner) → fate_in own matched c o name ≡ fate.Copied home
+      → (home ≡ owner_under (first_of matched c fates numbers) o) × (copies_owner (first_of matched c fates numbers) o ≡ true) × (adds_any c ≡ true)
+  first_copies home e = grind (arith, named_no_copy, any_at, or_left, or_right)
+
+  first_carries : same_owner o owner.None ≡ false → ((a : ℕ) → o ≡ as_interface a → is_matched matched a ≡ true → carries (fate_named own matched a name) ≡ true)
+      → carries_owner (first_of matched c fates numbers) o ≡ true → carries (fate_in own matched c o name) ≡ true
+  first_carries some named h = grind (arith, no_true)
+
+  first_stands : (k : ℕ) → fate_in own matched c o name ≡ fate.Stands k
+      → (id : InterfaceId) × (o ≡ owner.Interface id) × (flag_under c.copied_interfaces.items id.0 ≡ false) × (is_matched matched id.0 ≡ true)
+  first_stands k e = grind arith
 
 module _ (own other : Resolve) (valid : IsValid other) (matched : List (Option InterfaceId)) (c : Carried) (numbers : List ℕ) (chosen : AreChosen other matched c.copied_worlds.items c.copied_interfaces.items) where
   abbrev fates : List Fate
@@ -104,47 +119,14 @@ module _ (own other : Resolve) (valid : IsValid other) (matched : List (Option I
     pub adds_world : (n : ℕ) → flag_under c.copied_worlds.items n ≡ true → adds_any c ≡ true
     adds_world n h = or_right (list_any (λ b. b) c.copied_interfaces.items) (list_any (λ b. b) c.copied_worlds.items) (any_at c.copied_worlds.items n h)
 
-    homes_copied : (n : ℕ) (def : TypeDef) (home : TypeOwner) → type_at other n ≡ Some def → is_some def.name ≡ true → slice_get initial n ≡ Some (fate.Copied home)
-        → (home ≡ owner_under f def.owner) × (copies_owner f def.owner ≡ true) × (adds_any c ≡ true)
-    homes_copied n def home at named e = by def.owner refl (some_same _ _ (sym (initial_at n def at) ∙ e))
-      where
-        homes_same : (x y : TypeOwner) → fate.Copied x ≡ fate.Copied y → y ≡ x
-        homes_same x y k = cc
-
-        of_world : (id : WorldId) → def.owner ≡ owner.World id → (b : Bool) → flag_under c.copied_worlds.items id.0 ≡ b
-            → (if b then fate.Copied (owner_under f (owner.World id)) else fate.Left) ≡ fate.Copied home → (home ≡ owner_under f def.owner) × (copies_owner f def.owner ≡ true) × (adds_any c ≡ true)
-        of_world id q true k h = (homes_same _ _ h ∙ ap (owner_under f) (sym q), ap (copies_owner f) q ∙ k, adds_world id.0 k)
-        of_world id q false k h = let wrong : ⊥ = cc in absurd wrong
-
-        of_interface : (id : InterfaceId) → def.owner ≡ owner.Interface id → (b : Bool) → flag_under c.copied_interfaces.items id.0 ≡ b
-            → (if b then fate.Copied (owner_under f (owner.Interface id)) else fate_named own matched id.0 (optional_text def.name)) ≡ fate.Copied home
-            → (home ≡ owner_under f def.owner) × (copies_owner f def.owner ≡ true) × (adds_any c ≡ true)
-        of_interface id q true k h = (homes_same _ _ h ∙ ap (owner_under f) (sym q), ap (copies_owner f) q ∙ k, adds_interface id.0 k)
-        of_interface id q false k h = no_true (sym (named_no_copy own matched id.0 (optional_text def.name)) ∙ ap copies h)
-
-        by : (o : TypeOwner) → def.owner ≡ o → fate_in own matched c o (optional_text def.name) ≡ fate.Copied home
-            → (home ≡ owner_under f def.owner) × (copies_owner f def.owner ≡ true) × (adds_any c ≡ true)
-        by owner.None q h = let wrong : ⊥ = cc in absurd wrong
-        by (owner.World id) q h = of_world id q (flag_under c.copied_worlds.items id.0) refl h
-        by (owner.Interface id) q h = of_interface id q (flag_under c.copied_interfaces.items id.0) refl h
-
     named_first : (n : ℕ) (def : TypeDef) → type_at other n ≡ Some def → is_some def.name ≡ true → carries_owner f def.owner ≡ true → (g : Fate) × (slice_get initial n ≡ Some g) × (carries g ≡ true)
-    named_first n def at named h = (fate_of own matched c def, initial_at n def at, by def.owner refl h)
-      where
-        by_name : (id : InterfaceId) → def.owner ≡ owner.Interface id → is_matched matched id.0 ≡ true → (o : Option (String Global)) → def.name ≡ o → is_some o ≡ true
-            → carries (fate_named own matched id.0 (optional_text def.name)) ≡ true
-        by_name id e m None q h = no_true h
-        by_name id e m (Some s) q h = let x = names n def id.0 s at q e m in ap carries (ap (λ y. fate_named own matched id.0 (optional_text y)) q ∙ ap fate_beside x.1)
-
-        by_interface : (id : InterfaceId) → def.owner ≡ owner.Interface id → (b : Bool) → (b || is_matched matched id.0) ≡ true
-            → carries (if b then fate.Copied (owner_under f (owner.Interface id)) else fate_named own matched id.0 (optional_text def.name)) ≡ true
-        by_interface id e true h = refl
-        by_interface id e false h = by_name id e h def.name refl named
-
-        by : (o : TypeOwner) → def.owner ≡ o → carries_owner f o ≡ true → carries (fate_of own matched c def) ≡ true
-        by owner.None e h = no_true (sym (has_home other valid n def at named) ∙ ap (λ o. same_owner o owner.None) e)
-        by (owner.World id) e h = ap carries (world_home n def at id e h)
-        by (owner.Interface id) e h = ap carries (fate_by n def at (owner.Interface id) e) ∙ by_interface id e (flag_under c.copied_interfaces.items id.0) h
+    named_first n def at named h = (
+      fate_of own matched c def,
+      initial_at n def at,
+      first_carries own matched c fates numbers def.owner (optional_text def.name) (has_home other valid n def at named) (λ a home m.
+          by_option def.name (λ q. no_true (sym (ap is_some q) ∙ named)) (λ s q.
+          ap carries (ap (λ y. fate_named own matched a (optional_text y)) q ∙ ap fate_beside (names n def a s at q home m).1))) h,
+    )
 
     homes_carried : (o : TypeOwner) → copies_owner f o ≡ true → carries_owner f o ≡ true
     homes_carried (owner.World id) h = h
@@ -156,7 +138,7 @@ module _ (own other : Resolve) (valid : IsValid other) (matched : List (Option I
     starts = record {
       long = length-map other.types.items (fate_of own matched c);
       unnamed = λ n def at e. initial_at n def at ∙ ap Some (fate_by n def at owner.None (no_home other valid n def at e));
-      copied = homes_copied;
+      copied = λ n def home at named e. first_copies own matched c fates numbers def.owner (optional_text def.name) home (some_same _ _ (sym (initial_at n def at) ∙ e));
       carried = named_first;
       with_path = λ n i at named. ap (λ b. b || is_matched matched n) (chosen.named n i at named) ∙ excluded (is_matched matched n);
       homes = homes_carried;
@@ -179,32 +161,10 @@ module _ (own other : Resolve) (valid : IsValid other) (matched : List (Option I
 
     -- a type that is carried without a copy is a named one of a matched interface
     pub stood_how : (n : ℕ) (def : TypeDef) → type_at other n ≡ Some def → is_carried fates n ≡ true → is_copied fates n ≡ false → StandsHere n def
-    stood_how n def at h bare = by def.owner refl (some_same _ _ (sym (initial_at n def at) ∙ stood.2))
-      where
-        stood : StoodFirst other valid f (adds_any c) initial starts n def
-        stood = stood_first other valid f (adds_any c) initial starts n def at h bare
-
-        has_match_of : (id : InterfaceId) → (o : Option Text) → carries (fate_named own matched id.0 o) ≡ true → is_matched matched id.0 ≡ true
-        has_match_of id None h = no_true h
-        has_match_of id (Some name) h = go (given_interface (slice_get matched id.0)) refl (beside_stands (type_named own matched id.0 name) h)
-          where
-            go : (m : Option InterfaceId) → given_interface (slice_get matched id.0) ≡ m → is_some (type_named own matched id.0 name) ≡ true → is_matched matched id.0 ≡ true
-            go None e h = no_true (sym (ap (λ x. is_some (option_and_then (λ i. option_and_then (λ j. get_by_text j.types name) (interface_at own i.0)) x)) e) ∙ h)
-            go (Some i) e h = ap is_some e
-
-        by_interface : (id : InterfaceId) → def.owner ≡ owner.Interface id → (b : Bool) → flag_under c.copied_interfaces.items id.0 ≡ b
-            → (if b then fate.Copied (owner_under f (owner.Interface id)) else fate_named own matched id.0 (optional_text def.name)) ≡ fate.Stands stood.1 → StandsHere n def
-        by_interface id e true k h = let wrong : ⊥ = cc in absurd wrong
-        by_interface id e false k h = record { at_number = id.0; home = e; named = stood.0; uncopied = k; has_match = has_match_of id (optional_text def.name) (ap carries h) }
-
-        by_world : (b : Bool) (home : TypeOwner) → (if b then fate.Copied home else fate.Left) ≡ fate.Stands stood.1 → StandsHere n def
-        by_world true home h = let wrong : ⊥ = cc in absurd wrong
-        by_world false home h = let wrong : ⊥ = cc in absurd wrong
-
-        by : (o : TypeOwner) → def.owner ≡ o → fate_in own matched c o (optional_text def.name) ≡ fate.Stands stood.1 → StandsHere n def
-        by owner.None e h = let wrong : ⊥ = cc in absurd wrong
-        by (owner.World id) e h = by_world (flag_under c.copied_worlds.items id.0) (owner_under f (owner.World id)) h
-        by (owner.Interface id) e h = by_interface id e (flag_under c.copied_interfaces.items id.0) refl h
+    stood_how n def at h bare =
+        let stood = stood_first other valid f (adds_any c) initial starts n def at h bare in
+        let x = first_stands own matched c fates numbers def.owner (optional_text def.name) stood.1 (some_same _ _ (sym (initial_at n def at) ∙ stood.2)) in
+        record { at_number = x.0.0; home = x.1; named = stood.0; uncopied = x.2; has_match = x.3 }
 
     -- ---- images
 
@@ -214,19 +174,16 @@ module _ (own other : Resolve) (valid : IsValid other) (matched : List (Option I
         → flag_under c.copied_interfaces.items a ≡ false → is_copied fates n ≡ false → IsType other merged f n) where
       -- each type that is carried stands under its new number
       pub first_types : (n : ℕ) → f.carries_type n ≡ true → IsType other merged f n
-      first_types n h = go (is_copied fates n) refl
-        where
-          there : (def : TypeDef) × (type_at other n ≡ Some def)
-          there =
-              let less = carried_within fates n h in
-              let long = settled_long (adds_any c) other.types.items initial (length-map other.types.items (fate_of own matched c)) in
-              within_there other.types.items n (omega (arith, less, long))
+      first_types n h =
+          let there = within_there other.types.items n (omega (
+            arith,
+            carried_within fates n h,
+            settled_long (adds_any c) other.types.items initial (length-map other.types.items (fate_of own matched c)),
+          )) in
+          by_test (is_copied fates n) (λ e. copy_holds other valid f (adds_any c) initial starts own merged numbers [] more rest is types_are refl refl n there.0 there.1 e)
+          (λ e. let how = stood_how n there.0 there.1 h e in stands n there.0 how.at_number there.1 how.named how.home how.has_match how.uncopied e)
 
-          go : (b : Bool) → is_copied fates n ≡ b → IsType other merged f n
-          go true e = copy_holds other valid f (adds_any c) initial starts own merged numbers [] more rest is types_are refl refl n there.0 there.1 e
-          go false e = let how = stood_how n there.0 there.1 h e in stands n there.0 how.at_number there.1 how.named how.home how.has_match how.uncopied e
-
--- ---- what the page is for
+-- ---- Copies of interfaces: each stands under its new number, with its types and its functions.
 
 -- ---- packages
 
@@ -258,8 +215,6 @@ module _ (f : Renumbering) (types : List ℕ) (by_type : number_under types ≡ 
   functions_copy : (olds news : List (String Global × Function)) → AllZip (IsEntryUnderNumbers types) olds news
       → list_all (is_function_carried f.carries_type) (map (λ (e : String Global × Function). e.1) olds) ≡ true → AllZip (IsFunctionEntry f) olds news
   functions_copy [] [] zip ready = tt
-  functions_copy [] (y ∷ ys) zip ready = absurd zip
-  functions_copy (x ∷ xs) [] zip ready = absurd zip
   functions_copy (x ∷ xs) (y ∷ ys) zip ready = (
     (
       zip.0.0,
@@ -268,6 +223,7 @@ module _ (f : Renumbering) (types : List ℕ) (by_type : number_under types ≡ 
     ),
     functions_copy xs ys zip.1 (second_true (is_function_carried f.carries_type x.1) (list_all (is_function_carried f.carries_type) (map (λ (e : String Global × Function). e.1) xs)) ready),
   )
+  functions_copy _ _ zip ready = absurd zip
 
   -- an interface under new numbers is a copy
   interface_copy : (old new : Interface) (home : Option PackageId) → IsInterfaceUnder types home old new → IsUnique string_eq old.types → IsUnique string_eq old.functions
@@ -277,31 +233,25 @@ module _ (f : Renumbering) (types : List ℕ) (by_type : number_under types ≡ 
 -- a number of a mapped list is that of one of the list
 has_map : (g : ℕ → ℕ) (ns : List ℕ) (m : ℕ) → has (map g ns) m ≡ true → (k : ℕ) × (has ns k ≡ true) × (g k ≡ m)
 has_map g [] m h = no_true h
-has_map g (n ∷ ns) m h = go (g n == m) refl h (has_map g ns m)
-  where
-    go : (b : Bool) → (g n == m) ≡ b → (b || has (map g ns) m) ≡ true → (has (map g ns) m ≡ true → (k : ℕ) × (has ns k ≡ true) × (g k ≡ m)) → (k : ℕ) × (has (n ∷ ns) k ≡ true) × (g k ≡ m)
-    go true e h rest = (n, ap (λ b. b || has ns n) (same-number n), equal (g n) m e)
-    go false e h rest = let r = rest h in (r.0, or_right (n == r.0) (has ns r.0) r.1, r.2)
+has_map g (n ∷ ns) m h = by_either (g n == m) (has (map g ns) m) h (λ e. (n, ap (λ b. b || has ns n) (same-number n), equal (g n) m e))
+    (λ e k. let r = has_map g ns m k in (r.0, or_right (n == r.0) (has ns r.0) r.1, r.2))
 
 module _ (other merged : Resolve) (valid : IsValid other) (f : Renumbering) (types : List ℕ) (by_type : number_under types ≡ f.types) where
   -- an interface that is copied stands under its new number, with its types and its functions
   pub copy_stands : (n : ℕ) (i image : Interface) (home : Option PackageId) → interface_at other n ≡ Some i → interface_at merged (f.interfaces n) ≡ Some image → IsInterfaceUnder types home i image
       → (is_some i.name ≡ true → package_number image.«package» ≡ option_map f.packages (package_number i.«package»)) → list_all f.carries_type (interface_type_numbers i) ≡ true
       → list_all f.copies_type (interface_type_numbers i) ≡ true → list_all (is_function_carried f.carries_type) (values i.functions) ≡ true → IsInterface other merged f n
-  copy_stands n i image home at at_image is in_package carried copied functions = record {
-    old = i;
-    found = at;
-    image = image;
-    at_image = at_image;
-    name = is.name;
-    in_package = in_package;
-    types = λ k h. let x = has_map f.types (interface_type_numbers i) k (sym (ap (λ ns. has ns k) numbers) ∙ h) in
-        (x.0, x.1, passes_at f.carries_type (interface_type_numbers i) x.0 carried x.1, x.2);
-    copied = λ h. interface_copy f types by_type i image home is unique.0 unique.1 (sym (list_all-map f.copies_type (λ (id : TypeId). id.0) (values i.types)) ∙ copied) functions;
-  }
-    where
-      unique : IsUnique string_eq i.types × IsUnique string_eq i.functions
-      unique = valid.distinct_keys.interfaces n i at
-
-      numbers : interface_type_numbers image ≡ map f.types (interface_type_numbers i)
-      numbers = type_numbers_under types i image (is.types unique.0) ∙ ap (λ g. map g (interface_type_numbers i)) by_type
+  copy_stands n i image home at at_image is in_package carried copied functions =
+      let unique = valid.distinct_keys.interfaces n i at in
+      let numbers = type_numbers_under types i image (is.types unique.0) ∙ ap (λ g. map g (interface_type_numbers i)) by_type in
+      record {
+        old = i;
+        found = at;
+        image = image;
+        at_image = at_image;
+        name = is.name;
+        in_package = in_package;
+        types = λ k h. let x = has_map f.types (interface_type_numbers i) k (sym (ap (λ ns. has ns k) numbers) ∙ h) in
+            (x.0, x.1, passes_at f.carries_type (interface_type_numbers i) x.0 carried x.1, x.2);
+        copied = λ h. interface_copy f types by_type i image home is unique.0 unique.1 (sym (list_all-map f.copies_type (λ (id : TypeId). id.0) (values i.types)) ∙ copied) functions;
+      }

@@ -1,11 +1,11 @@
 -- Worlds that are carried by path have numbers of their own, and packages stand in packages of their names.
+use Rattle.bind_carry.proofs.{CopiesPlaced.by_test, FirstInterfaces.parts_of, FirstInterfaces.stood_how, KeptPlaced.kept_here, Marking.AreWorldsBelow}
 use Rattle.base_lemmas.proofs.{Bools.left_of as first_true, Bools.right_of as second_true, Elements.all_two, Lists.within_there, Options.there as some_of}
 pub use Rattle.bind_carry.proofs.CopiesPlaced.{uncopied_under}
-use Rattle.bind_carry.proofs.CopiesPlaced.{copied_behind, flag_is_copied, numbers_by_long, stands_under}
+use Rattle.bind_carry.proofs.CopiesPlaced.{copied_behind, fates_rise, numbers_by_long, stands_under}
 use Rattle.bind_carry.proofs.FirstInterfaces.{adds_interface, copy_stands, excluded, final_stands, first_types, home_number, named_carried, owned_copied}
-use Rattle.bind_carry.proofs.{FirstInterfaces.parts_of, FirstInterfaces.stood_how, KeptPlaced.kept_placed, Marking.AreWorldsBelow}
 use Rattle.bind_carry.proofs.{Marking.are_chosen, PassedTypes.carried_within, Ranges.shown_below}
-use Rattle.bind_carry.specs.{Fates.AreCopied, Fates.copies, Fates.is_carried, Fates.numbers_by, Fates.stood, First.first_fates, First.flag_under}
+use Rattle.bind_carry.specs.{Fates.AreCopied, Fates.copies, Fates.is_carried, Fates.numbers_by, First.first_fates, First.flag_under}
 use Rattle.bind_carry.specs.{InRange.IsInRange, Listed.given_interface, Listed.type_named, Marked.AreChosen, MatchedSame.AreMatchedAt, MatchedSame.IsMatchedAt}
 use Rattle.bind_carry.specs.{MatchedSame.NoneOfPath, Numbers.interface_number, Numbers.numbers_of, Numbers.world_number, Renumbered.first_of}
 use Rattle.bind_carry.specs.{Renumbered.is_copied, Renumbered.is_matched, Which.AreMatchedAll, Which.IsNumbered, Whole.IsInterfaceCarried, Whole.home_under}
@@ -18,7 +18,7 @@ use Rattle.bind_union.proofs.Namesakes.{numbers_are as numbers_are_of, under_con
 use Rattle.bind_union.specs.{Carried.IsInterface, Carried.IsType, Carried.Renumbering, Carried.Rises, Carried.carries_owner, Matching.AreMatched}
 use Rattle.bind_union.specs.{Matching.IsMatch, Matching.type_names, Merged.BeginsWith}
 use Rattle.indexmap.specs.IndexMap.{values}
-use Rattle.std.proofs.Common.{Bool, List, None, Option, Some, [], ap, arith, false, inl, inr, is_some, length, map, not, option_map, refl, rules as std_rules, slice_get, subst, suc, sym, true, unwrap_or, zero, ℕ, ◌&&◌, ◌++◌, ◌<◌, ◌||◌, ◌∙◌, ◌∷◌, ◌≡◌, ◌⊎◌}
+use Rattle.std.proofs.Common.{Bool, List, None, Option, Some, [], ap, arith, false, inl, inr, is_some, length, map, not, option_map, refl, rules as std_rules, slice_get, subst, suc, sym, true, unwrap_or, zero, ℕ, ◌&&◌, ◌++◌, ◌<◌, ◌||◌, ◌∙◌, ◌∷◌, ◌≡◌}
 use Rattle.std.proofs.lemmas.{Bool.or_left, List.length-map, List.Folds.list_all-map, Option.slice_get_within}
 use Rattle.std.specs.{HashMap.get_by_text, List.AllZip, List.Contains, List.list_all, Prelude.String, declared.alloc.Global.Global}
 use Rattle.wit_model.proofs.{OnePath.found-in, OnePath.interface-passes, OnePath.path-once, PartsLemmas.owner_same as owner_equal}
@@ -48,14 +48,11 @@ flag_within (b ∷ bs) (suc n) h = let r = flag_within bs n h in omega (arith, r
 module _ (own other : Resolve) (valid_other : IsValid other) (matched : List (Option InterfaceId)) (packages : List ℕ) (n : ℕ) (is : IsMatchedAt own other matched packages n) where
   -- an own type stands under each name
   name_there : (name : Text) (t : ℕ) → under_text name (type_names is.old) ≡ Some t → (id : TypeId) × (get_by_text is.image.types name ≡ Some id)
-  name_there name t listed = by (get_by_text is.image.types name) refl (given (under_text name (type_names is.image)) refl same)
+  name_there name t listed =
+      let same = sym (meaning_under own is.image name) ∙ (found_same (interface_meaning own is.image).types (interface_meaning other is.old).types (ap (λ (s : InterfaceSense). s.types) is.sense) name
+      ∙ (meaning_under other is.old name ∙ ap (option_map (type_meaning_at other)) listed)) in
+      by (get_by_text is.image.types name) refl (given (under_text name (type_names is.image)) refl same)
     where
-      same : option_map (type_meaning_at own) (under_text name (type_names is.image)) ≡ Some (type_meaning_at other t)
-      same =
-          sym (meaning_under own is.image name)
-          ∙ (found_same (interface_meaning own is.image).types (interface_meaning other is.old).types (ap (λ (s : InterfaceSense). s.types) is.sense) name
-          ∙ (meaning_under other is.old name ∙ ap (option_map (type_meaning_at other)) listed))
-
       given : (o : Option ℕ) → under_text name (type_names is.image) ≡ o → option_map (type_meaning_at own) o ≡ Some (type_meaning_at other t) → is_some (under_text name (type_names is.image)) ≡ true
       given None e h = let wrong : ⊥ = cc in absurd wrong
       given (Some k) e h = ap is_some e
@@ -71,8 +68,7 @@ module _ (own other : Resolve) (valid_other : IsValid other) (matched : List (Op
   pub type_there : (t : ℕ) (def : TypeDef) (s : String Global) → type_at other t ≡ Some def → def.name ≡ Some s → def.owner ≡ as_interface n → (id : TypeId)
       × (type_named own matched n (text_of s) ≡ Some id)
   type_there t def s at named home =
-      let listed = home_listed other valid_other t def at s named n home is.old is.found in
-      let x = name_there (text_of s) t listed.0 in
+      let x = name_there (text_of s) t (home_listed other valid_other t def at s named n home is.old is.found).0 in
       (x.0, found_named (text_of s) ∙ x.1)
 
 -- ---- interfaces with a path
@@ -86,10 +82,9 @@ there_of_path r n h = search std_rules
 -- ---- what stands for what
 
 module _ (own other : Resolve) (valid_own : IsValid own) (valid_other : IsValid other) (matched : List (Option InterfaceId)) (c : Carried) (numbers : List ℕ)
-    (chosen : AreChosen other matched c.copied_worlds.items c.copied_interfaces.items)
-    (same : AreMatchedAt own other matched c.packages.items) (none : NoneOfPath own other matched) (long : length c.copied_interfaces.items ≡ length matched)
-    (interfaces_are : c.interfaces.items ≡ numbers_of (length own.interfaces.items) c.copied_interfaces.items (map interface_number matched)) (first : ℕ)
-    (numbers_are : numbers ≡ numbers_by first (first_fates own other matched c)) where
+    (chosen : AreChosen other matched c.copied_worlds.items c.copied_interfaces.items) (same : AreMatchedAt own other matched c.packages.items) (none : NoneOfPath own other matched)
+    (long : length c.copied_interfaces.items ≡ length matched) (interfaces_are : c.interfaces.items ≡ numbers_of (length own.interfaces.items) c.copied_interfaces.items (map interface_number matched))
+    (first : ℕ) (numbers_are : numbers ≡ numbers_by first (first_fates own other matched c)) where
   abbrev fates : List Fate
   fates = first_fates own other matched c
 
@@ -106,10 +101,8 @@ module _ (own other : Resolve) (valid_own : IsValid own) (valid_other : IsValid 
   uncopied n h = let m = same n h in chosen.named n m.old m.found (named_of_path other n m.old m.found m.has_path) ∙ ap not h
 
   pub interface_is : (n : ℕ) (h : is_matched matched n ≡ true) → f.interfaces n ≡ (same n h).id.0
-  interface_is n h =
-      ap (λ l. number_under l n) interfaces_are
-      ∙ (uncopied_under (length own.interfaces.items) c.copied_interfaces.items (map interface_number matched) n (long ∙ sym (length-map matched interface_number)) (uncopied n h)
-      ∙ matched_under matched n (same n h).id (same n h).given)
+  interface_is n h = ap (λ l. number_under l n) interfaces_are ∙ (uncopied_under (length own.interfaces.items) c.copied_interfaces.items (map interface_number matched) n
+      (long ∙ sym (length-map matched interface_number)) (uncopied n h) ∙ matched_under matched n (same n h).id (same n h).given)
 
   type_by_name : (n : ℕ) (h : is_matched matched n ≡ true) (name : Text) (t : ℕ) → Contains (type_names (same n h).old) (name, t) → Contains (type_names (same n h).image) (name, f.types t)
   type_by_name n h name t contained = go x.def.name refl x.name_is
@@ -123,14 +116,12 @@ module _ (own other : Resolve) (valid_own : IsValid own) (valid_other : IsValid 
       go : (o : Option (String Global)) → x.def.name ≡ o → optional_text o ≡ Some name → Contains (type_names m.image) (name, f.types t)
       go None e k = let wrong : ⊥ = cc in absurd wrong
       go (Some s) e k =
-          let text : text_of s ≡ name = ap (λ o. unwrap_or o (text_of s)) k in
           let y = names t x.def n s x.found e x.home h in
-          let stands = final_stands own other valid_other matched c numbers chosen t x.def x.found n x.home (uncopied n h) s e y.0 y.1 in
-          let number : f.types t ≡ y.0.0 = ap (λ l. number_under l t) numbers_are ∙ stands_under first fates t y.0.0 stands in
-          let there = sym (found_named own other valid_other matched c.packages.items n m (text_of s)) ∙ y.1 in
-          let listed : under_text (text_of s) (type_names m.image) ≡ Some y.0.0 = sym (found_by_text m.image (text_of s)) ∙ ap (option_map (λ (id : TypeId). id.0)) there in
-          subst (λ (k : ℕ). Contains (type_names m.image) (name, k)) (sym number)
-          (subst (λ (q : Text). Contains (type_names m.image) (q, y.0.0)) text (under_contains (text_of s) (type_names m.image) y.0.0 listed))
+          subst (λ (k : ℕ). Contains (type_names m.image) (name, k)) (sym (ap (λ l. number_under l t) numbers_are
+          ∙ stands_under first fates t y.0.0 (final_stands own other valid_other matched c numbers chosen t x.def x.found n x.home (uncopied n h) s e y.0 y.1)))
+          (subst (λ (q : Text). Contains (type_names m.image) (q, y.0.0)) (ap (λ o. unwrap_or o (text_of s)) k)
+          (under_contains (text_of s) (type_names m.image) y.0.0 (sym (found_by_text m.image (text_of s))
+          ∙ ap (option_map (λ (id : TypeId). id.0)) (sym (found_named own other valid_other matched c.packages.items n m (text_of s)) ∙ y.1))))
 
   pub is_match : (n : ℕ) → is_matched matched n ≡ true → IsMatch own other f.interfaces f.types n
   is_match n h = let m = same n h in record {
@@ -145,11 +136,7 @@ module _ (own other : Resolve) (valid_own : IsValid own) (valid_other : IsValid 
   }
 
   pub are_matched : AreMatched own other f.interfaces f.types
-  are_matched n path = go (is_matched matched n) refl
-    where
-      go : (b : Bool) → is_matched matched n ≡ b → IsMatch own other f.interfaces f.types n ⊎ ((m : ℕ) → interface_path own m ≡ interface_path other n → ⊥)
-      go true h = inl (is_match n h)
-      go false h = inr (λ m e. none n m h path e)
+  are_matched n path = by_test (is_matched matched n) (λ h. inl (is_match n h)) (λ h. inr (λ m e. none n m h path e))
 
   -- ---- what is carried of interfaces
 
@@ -160,22 +147,18 @@ module _ (own other : Resolve) (valid_own : IsValid own) (valid_other : IsValid 
   pub types_are : (n : ℕ) (i : Interface) → interface_at other n ≡ Some i → (p : ℕ → Bool)
       → ((t : ℕ) (def : TypeDef) → type_at other t ≡ Some def → is_some def.name ≡ true → def.owner ≡ as_interface n → p t ≡ true) → list_all p (interface_type_numbers i) ≡ true
   unfolding order_of_types numbers_in_range
-  types_are n i at p each = all_two (in_list other.types.items) (is_named_of other (as_interface n)) p one (interface_type_numbers i) range named
+  types_are n i at p each =
+      let all = interface-passes numbers_in_range other valid_other.rules.numbers_in_range n i at in
+      let range = list_all-map (in_list other.types.items) (λ (id : TypeId). id.0) (values i.types)
+      ∙ first_true (list_all (λ id. in_list other.types.items id.0) (values i.types)) (list_all (function_in_range other) (values i.functions))
+      (second_true (passes (in_list other.packages.items) (package_number i.«package»))
+      (list_all (λ id. in_list other.types.items id.0) (values i.types) && list_all (function_in_range other) (values i.functions))
+      (second_true (is_place n) (passes (in_list other.packages.items) (package_number i.«package»)
+      && (list_all (λ id. in_list other.types.items id.0) (values i.types) && list_all (function_in_range other) (values i.functions))) all)) in
+      let named = first_true (list_all (is_named_of other (as_interface n)) (interface_type_numbers i)) (are_in_order other (interface_type_numbers i))
+      (interface-passes order_of_types other valid_other.rules.order_of_types n i at) in
+      all_two (in_list other.types.items) (is_named_of other (as_interface n)) p one (interface_type_numbers i) range named
     where
-      range : list_all (in_list other.types.items) (interface_type_numbers i) ≡ true
-      range =
-          let all = interface-passes numbers_in_range other valid_other.rules.numbers_in_range n i at in
-          list_all-map (in_list other.types.items) (λ (id : TypeId). id.0) (values i.types)
-          ∙ first_true (list_all (λ id. in_list other.types.items id.0) (values i.types)) (list_all (function_in_range other) (values i.functions))
-          (second_true (passes (in_list other.packages.items) (package_number i.«package»))
-          (list_all (λ id. in_list other.types.items id.0) (values i.types) && list_all (function_in_range other) (values i.functions))
-          (second_true (is_place n) (passes (in_list other.packages.items) (package_number i.«package»)
-          && (list_all (λ id. in_list other.types.items id.0) (values i.types) && list_all (function_in_range other) (values i.functions))) all))
-
-      named : list_all (is_named_of other (as_interface n)) (interface_type_numbers i) ≡ true
-      named = first_true (list_all (is_named_of other (as_interface n)) (interface_type_numbers i)) (are_in_order other (interface_type_numbers i))
-          (interface-passes order_of_types other valid_other.rules.order_of_types n i at)
-
       one : (t : ℕ) → in_list other.types.items t ≡ true → is_named_of other (as_interface n) t ≡ true → p t ≡ true
       one t inside is =
           let d = found-in other.types.items t inside in
@@ -244,24 +227,19 @@ module _ (own other : Resolve) (valid_own : IsValid own) (valid_other : IsValid 
       (interfaces_here : merged.interfaces.items ≡ own.interfaces.items ++ (more ++ rest)) where
     copy_interface : (n : ℕ) (i : Interface) → interface_at other n ≡ Some i → flag_under c.copied_interfaces.items n ≡ true → IsInterface other merged f n
     copy_interface n i at set =
-        let place = kept_placed (IsInterfaceCarried c numbers) c.copied_interfaces.items (map interface_number matched) other.interfaces.items more copies
-        (long ∙ sym (length-map matched interface_number)) (length own.interfaces.items) own.interfaces.items rest refl n i set at in
+        let place = kept_here (IsInterfaceCarried c numbers) c.copied_interfaces.items (map interface_number matched) other.interfaces.items more copies
+        (long ∙ sym (length-map matched interface_number))
+        (length own.interfaces.items) own.interfaces.items rest refl c.interfaces.items interfaces_are merged.interfaces.items interfaces_here n i set at in
         let carried = or_left (flag_under c.copied_interfaces.items n) (is_matched matched n) set in
-        copy_stands other merged valid_other f numbers refl n i place.image (home_under c.packages.items i.«package») at
-        (ap (λ l. slice_get l (f.interfaces n)) interfaces_here ∙ (ap (slice_get (own.interfaces.items ++ (more ++ rest))) (ap (λ l. number_under l n) interfaces_are) ∙ place.at_image)) place.is
+        copy_stands other merged valid_other f numbers refl n i place.image (home_under c.packages.items i.«package») at place.at_image place.is
         (λ h. ap package_number place.is.in_package ∙ home_number c.packages.items i.«package») (types_carried n i carried at) (types_copied n i set at)
         ((parts_of own other valid_other matched c numbers chosen names (adds_interface own other valid_other matched c numbers chosen names n set)).of_interfaces n i at carried)
 
     -- each interface that is carried stands under its new number
     pub interfaces_hold : (n : ℕ) → f.carries_interface n ≡ true → IsInterface other merged f n
-    interfaces_hold n h = go (flag_under c.copied_interfaces.items n) refl
-      where
-        go : (b : Bool) → flag_under c.copied_interfaces.items n ≡ b → IsInterface other merged f n
-        go true e =
-            let less = flag_within c.copied_interfaces.items n e in
-            let i = within_there other.interfaces.items n (omega (arith, less, count)) in
-            copy_interface n i.0 i.1 e
-        go false e = interface_stands merged types_begin interfaces_begin n (sym (ap (λ b. b || is_matched matched n) e) ∙ h)
+    interfaces_hold n h = by_test (flag_under c.copied_interfaces.items n) (λ e.
+        let i = within_there other.interfaces.items n (omega (arith, flag_within c.copied_interfaces.items n e, count)) in
+        copy_interface n i.0 i.1 e) (λ e. interface_stands merged types_begin interfaces_begin n (sym (ap (λ b. b || is_matched matched n) e) ∙ h))
 
   -- ---- numbers
 
@@ -294,10 +272,8 @@ module _ (own other : Resolve) (valid_own : IsValid own) (valid_other : IsValid 
       both_matched : is_matched matched m ≡ true → is_matched matched n ≡ true → m ≡ n
       both_matched p q =
           let one = same m p in
-          let two = same n q in
-          let ids : one.id.0 ≡ two.id.0 = sym (number m p) ∙ (e ∙ number n q) in
           let path = some_of (interface_path other m) one.has_path in
-          path-once other valid_other m n path.0 path.1 (sym two.path ∙ (ap (interface_path own) (sym ids) ∙ (one.path ∙ path.1)))
+          path-once other valid_other m n path.0 path.1 (sym (same n q).path ∙ (ap (interface_path own) (sym (sym (number m p) ∙ (e ∙ number n q))) ∙ (one.path ∙ path.1)))
 
       go : (x : Bool) → f.copies_interface m ≡ x → (y : Bool) → f.copies_interface n ≡ y → m ≡ n
       go x p true q = apart f.interfaces f.carries_interface f.copies_interface interfaces_rise carried m n h q e
@@ -306,38 +282,23 @@ module _ (own other : Resolve) (valid_own : IsValid own) (valid_other : IsValid 
 
   -- an own interface that has the number of one that is carried has its path
   pub own_path : (n : ℕ) → f.carries_interface n ≡ true → (j : ℕ) (d : Interface) → interface_at own j ≡ Some d → f.interfaces n ≡ j → interface_path own j ≡ interface_path other n
-  own_path n carried j d at_own number = go (flag_under c.copied_interfaces.items n) refl
-    where
-      go : (b : Bool) → flag_under c.copied_interfaces.items n ≡ b → interface_path own j ≡ interface_path other n
-      go true e =
-          let past = copied_behind (length own.interfaces.items) c.copied_interfaces.items (map interface_number matched) n (long ∙ sym (length-map matched interface_number)) e in
-          let here : number_under (numbers_of (length own.interfaces.items) c.copied_interfaces.items (map interface_number matched)) n ≡ j =
-          ap (λ l. number_under l n) (sym interfaces_are) ∙ number in
-          let within = slice_get_within own.interfaces.items j d at_own in
-          absurd (omega (arith, past, here, within))
-      go false e =
-          let k : is_matched matched n ≡ true = sym (ap (λ b. b || is_matched matched n) e) ∙ carried in
-          let is = interface_is n k in
-          ap (interface_path own) (sym number ∙ is) ∙ (same n k).path
+  own_path n carried j d at_own number = by_test (flag_under c.copied_interfaces.items n) (λ e. absurd (omega (
+    arith,
+    (copied_behind (length own.interfaces.items) c.copied_interfaces.items (map interface_number matched) n (long ∙ sym (length-map matched interface_number)) e),
+    (ap (λ l. number_under l n) (sym interfaces_are) ∙ number),
+    slice_get_within own.interfaces.items j d at_own,
+  ))) (λ e.
+      let k : is_matched matched n ≡ true = sym (ap (λ b. b || is_matched matched n) e) ∙ carried in
+      ap (interface_path own) (sym number ∙ interface_is n k) ∙ (same n k).path)
 
   -- copies of types stand behind what is carried before them, and behind own ones
   pub types_rise : first ≡ length own.types.items → length numbers ≡ length other.types.items → Rises f.types f.carries_type f.copies_type
-  types_rise at_first types_count m n carried copied before = by
-      (numbers_rise first (map copies fates) (map stood fates) f.carries_type (length-map fates stood ∙ sym (length-map fates copies)) low m n carried (flag_is_copied fates n ∙ copied) (go before))
+  types_rise at_first types_count = subst (λ l. Rises (number_under l) f.carries_type f.copies_type) (sym numbers_are) (fates_rise first fates f.carries_type low)
     where
-      go : (m < n) ⊎ (is_copied fates m ≡ false) → (m < n) ⊎ (flag_under (map copies fates) m ≡ false)
-      go (inl less) = inl less
-      go (inr bare) = inr (flag_is_copied fates m ∙ bare)
-
-      low : (k : ℕ) → f.carries_type k ≡ true → flag_under (map copies fates) k ≡ false → number_under (numbers_by first fates) k < first
-      low k h e =
-          let less = carried_within fates k h in
-          let d = within_there other.types.items k (omega (arith, less, (sym (numbers_by_long first fates) ∙ (ap length (sym numbers_are) ∙ types_count)))) in
-          let small = type_low k d.0 d.1 h (sym (flag_is_copied fates k) ∙ e) in
-          subst (λ (x : ℕ). number_under (numbers_by first fates) k < x) (sym at_first) (subst (λ (x : ℕ). x < length own.types.items) (ap (λ l. number_under l k) numbers_are) small)
-
-      by : number_under (numbers_by first fates) m < number_under (numbers_by first fates) n → f.types m < f.types n
-      by less = subst (λ l. number_under l m < number_under l n) (sym numbers_are) less
+      low : (k : ℕ) → f.carries_type k ≡ true → is_copied fates k ≡ false → number_under (numbers_by first fates) k < first
+      low k h bare =
+          let d = within_there other.types.items k (omega (arith, carried_within fates k h, (sym (numbers_by_long first fates) ∙ (ap length (sym numbers_are) ∙ types_count)))) in
+          omega (arith, type_low k d.0 d.1 h bare, ap (λ l. number_under l k) numbers_are, at_first)
 
 -- ---- worlds
 

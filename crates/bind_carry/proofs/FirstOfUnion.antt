@@ -1,8 +1,8 @@
 -- What a union adds, once it is added, has all that is carried by path.
+use Rattle.bind_carry.proofs.{CopiesPlaced.by_test, CopiesPlaced.some_same, CopiesPlaced.uncopied_under, KeptPlaced.IsKeptAt, KeptPlaced.kept_here}
 use Rattle.base_lemmas.proofs.{Lists.front_at, Lists.mapped_get as mapped_at, Lists.set_there, Numbers.differ, Numbers.equal}
 use Rattle.bind_add.proofs.Gains.{set_here}
 use Rattle.bind_add.specs.{Growth.GainsNone, Growth.HaveGained, declared.added.Names.Names}
-use Rattle.bind_carry.proofs.{CopiesPlaced.some_same, CopiesPlaced.uncopied_under, KeptPlaced.IsKeptAt, KeptPlaced.kept_placed}
 use Rattle.bind_carry.specs.{BoundGains.bound_fates, Fates.AreCopied, First.first_fates, First.flag_under, FirstPass.UnionsHaveTheFirst, Numbers.numbers_of}
 use Rattle.bind_carry.specs.{Numbers.package_number, Packaged.IsGained, Packaged.IsPackageCarried, Packaged.grown_packages, SecondPass.UnionsHaveTheSecond}
 use Rattle.bind_carry.specs.{Whole.kept, declared.plan.Carried.Carried}
@@ -41,20 +41,15 @@ found_from name n (p ∷ ps) id e = go (same_package_name name p.name) refl e (f
   where
     go : (b : Bool) → same_package_name name p.name ≡ b → cond b (Some (record { 0 = n })) (package_from name (n + 1) ps) ≡ Some id
         → (package_from name (n + 1) ps ≡ Some id → (k : ℕ) × (id.0 ≡ (n + 1) + k) × IsFound name ps k) → (k : ℕ) × (id.0 ≡ n + k) × IsFound name (p ∷ ps) k
-    go true q h more =
-        let number : n ≡ id.0 = ap (λ (o : Option PackageId). unwrap_or (option_map (λ i. i.0) o) 0) h in
-        let place : id.0 ≡ n + 0 = omega (arith, number) in
-        (0, place, record { there = p; at_there = refl; same = q })
+    go true q h more = (0, omega (arith, ap (λ (o : Option PackageId). unwrap_or (option_map (λ i. i.0) o) 0) h), record { there = p; at_there = refl; same = q })
     go false q h more =
         let r = more h in
-        let place : id.0 ≡ n + suc r.0 = (let far = r.1 in omega (arith, far)) in
-        (suc r.0, place, record { there = r.2.there; at_there = r.2.at_there; same = r.2.same })
+        (suc r.0, (let far = r.1 in omega (arith, far)), record { there = r.2.there; at_there = r.2.at_there; same = r.2.same })
 
 pub found_own : (own : List Package) (p : Package) (id : PackageId) → own_package_of own p ≡ Some id → IsFound p.name own id.0
 found_own own p id e =
     let r = found_from p.name 0 own id e in
-    let place : r.0 ≡ id.0 = (let far = r.1 in omega (arith, far)) in
-    subst (IsFound p.name own) place r.2
+    subst (IsFound p.name own) (let far = r.1 in omega (arith, far)) r.2
 
 -- ---- own packages, grown or not
 
@@ -96,9 +91,8 @@ found_number (m ∷ ms) zero id e = ap (λ (o : Option (Option PackageId)). pack
 found_number (m ∷ ms) (suc n) id e = found_number ms n id e
 
 module _ (own other merged : Resolve) (c : Carried) (ms : List (Option PackageId)) (matched : ms ≡ map (own_package_of own.packages.items) other.packages.items)
-    (flags : c.new_packages.items ≡ map is_none ms)
-    (numbers : c.packages.items ≡ numbers_of (length own.packages.items) c.new_packages.items (map package_number ms))
-    (gains : List Names) (grown more : List Package) (gained : HaveGained gains own.packages.items grown) (copies : AllZip (IsPackageCarried c) (kept c.new_packages.items other.packages.items) more)
+    (flags : c.new_packages.items ≡ map is_none ms) (numbers : c.packages.items ≡ numbers_of (length own.packages.items) c.new_packages.items (map package_number ms)) (gains : List Names)
+    (grown more : List Package) (gained : HaveGained gains own.packages.items grown) (copies : AllZip (IsPackageCarried c) (kept c.new_packages.items other.packages.items) more)
     (here : merged.packages.items ≡ grown ++ more) where
   long : length c.new_packages.items ≡ length (map package_number ms)
   long = ap length flags ∙ (length-map ms is_none ∙ sym (length-map ms package_number))
@@ -106,47 +100,33 @@ module _ (own other merged : Resolve) (c : Carried) (ms : List (Option PackageId
   -- A package that is new is copied.
   pub new_package : (n : ℕ) (p : Package) → package_at other n ≡ Some p → flag_under c.new_packages.items n ≡ true
       → IsKeptAt (IsPackageCarried c) p merged.packages.items (number_under c.packages.items n)
-  new_package n p at set =
-      let place = kept_placed (IsPackageCarried c) c.new_packages.items (map package_number ms) other.packages.items more copies long (length own.packages.items) grown [] (sym gained.count)
-      n p set at in
-      record {
-        image = place.image;
-        at_image = ap (λ l. slice_get l (number_under c.packages.items n)) (here ∙ ap (λ l. grown ++ l) (sym (append-nil more)))
-            ∙ (ap (λ l. slice_get (grown ++ (more ++ [])) (number_under l n)) numbers ∙ place.at_image);
-        is = place.is;
-      }
+  new_package n p at set = kept_here (IsPackageCarried c) c.new_packages.items (map package_number ms) other.packages.items more copies long (length own.packages.items) grown [] (sym gained.count)
+      c.packages.items numbers merged.packages.items (here ∙ ap (λ l. grown ++ l) (sym (append-nil more))) n p set at
 
   -- One that isn't has an own one of its name. So each stands under its new number.
   pub packages_hold : (n : ℕ) (p : Package) → package_at other n ≡ Some p → (image : Package) × (package_at merged (number_under c.packages.items n) ≡ Some image) × IsSameName p.name image.name
-  packages_hold n p at = go (flag_under c.new_packages.items n) refl
-    where
-      go : (b : Bool) → flag_under c.new_packages.items n ≡ b → (image : Package) × (package_at merged (number_under c.packages.items n) ≡ Some image) × IsSameName p.name image.name
-      go true set = let x = new_package n p at set in (x.image, x.at_image, x.is.name)
-      go false bare =
-          let inside : n < length ms = (let w = within_list other.packages.items n p at in let q = ap length matched ∙ length-map other.packages.items (own_package_of own.packages.items) in
-          omega (arith, w, q)) in
-          let id = unflagged_found ms n inside (ap (λ l. flag_under l n) (sym flags) ∙ bare) in
-          let is : own_package_of own.packages.items p ≡ Some id.0 = some_same _ _
-          (sym (mapped_at (own_package_of own.packages.items) other.packages.items n p at) ∙ (ap (λ l. slice_get l n) (sym matched) ∙ id.1)) in
-          let found = found_own own.packages.items p id.0 is in
-          let x = grown_name gains own.packages.items grown gained id.0.0 found.there found.at_there in
-          let number : number_under c.packages.items n ≡ id.0.0 = ap (λ l. number_under l n) numbers
-          ∙ (uncopied_under (length own.packages.items) c.new_packages.items (map package_number ms) n long bare ∙ found_number ms n id.0 id.1) in (
-            x.0,
-            ap (package_at merged) number ∙ (ap (λ l. slice_get l id.0.0) here ∙ front_at grown more id.0.0 x.0 x.1),
-            subst (IsSameName p.name) (sym x.2) (same_parts p.name found.there.name found.same),
-          )
+  packages_hold n p at =
+      by_test (flag_under c.new_packages.items n) (λ set. let x = new_package n p at set in (x.image, x.at_image, x.is.name)) (λ bare.
+      let inside : n < length ms = (let w = within_list other.packages.items n p at in let q = ap length matched ∙ length-map other.packages.items (own_package_of own.packages.items) in
+      omega (arith, w, q)) in
+      let id = unflagged_found ms n inside (ap (λ l. flag_under l n) (sym flags) ∙ bare) in
+      let found = found_own own.packages.items p id.0 (some_same _ _ (sym (mapped_at (own_package_of own.packages.items) other.packages.items n p at)
+      ∙ (ap (λ l. slice_get l n) (sym matched) ∙ id.1))) in
+      let x = grown_name gains own.packages.items grown gained id.0.0 found.there found.at_there in
+      let number : number_under c.packages.items n ≡ id.0.0 = ap (λ l. number_under l n) numbers
+      ∙ (uncopied_under (length own.packages.items) c.new_packages.items (map package_number ms) n long bare ∙ found_number ms n id.0 id.1) in (
+        x.0,
+        ap (package_at merged) number ∙ (ap (λ l. slice_get l id.0.0) here ∙ front_at grown more id.0.0 x.0 x.1),
+        subst (IsSameName p.name) (sym x.2) (same_parts p.name found.there.name found.same),
+      ))
 
--- ---- what the page is for
+-- ---- A union that is added has both passes.
 
 pub unions_have_the_first : UnionsHaveTheFirst
 unions_have_the_first own other merged world other_world m w v added keys u a at all by_name same none = search std_rules
 
 pub set_at : (ws more : List World) (n : ℕ) (w v : World) → slice_get ws n ≡ Some w → slice_get (slice_set ws n v ++ more) n ≡ Some v
 set_at ws more n w v e = front_at (slice_set ws n v) more n v (set_here ws n v (within_list ws n w e))
-
-set_other : (ws more : List World) (n k : ℕ) (u v : World) → slice_get ws k ≡ Some u → (k ≡ n → ⊥) → slice_get (slice_set ws n v ++ more) k ≡ Some u
-set_other ws more n k u v e h = front_at (slice_set ws n v) more k u (set_there ws n k v h ∙ e)
 
 -- and what the bound world gains
 pub unions_have_the_second : UnionsHaveTheSecond
@@ -175,6 +155,7 @@ unions_have_the_second own other merged world other_world m w v added keys u a a
     at_image = ap (λ l. slice_get l world) (a.worlds w at).2 ∙ set_at own.worlds.items added.worlds.items world w (a.worlds w at).0 at;
     gained = (a.worlds w at).1;
     names = subst (λ (l : List Names). AllZip (IsGained u.carried) (grown_packages u.carried.new_packages.items u.carried.packages.items other.packages.items) l) (sym u.second.names) u.first.names;
-    others = λ n x there apart. ap (λ l. slice_get l n) (a.worlds w at).2 ∙ set_other own.worlds.items added.worlds.items world n x (a.worlds w at).0 there (differ n world apart);
+    others = λ n x there apart. ap (λ l. slice_get l n) (a.worlds w at).2
+        ∙ (front_at (slice_set own.worlds.items world (a.worlds w at).0) added.worlds.items n x (set_there own.worlds.items world n (a.worlds w at).0 (differ n world apart) ∙ there));
   },
 )

@@ -1,12 +1,13 @@
 -- Worlds that are copied: all that their items name is carried, so each is a copy as the laws on unions ask for it.
+use Rattle.bind_meaning.proofs.Listed.{by_option}
+use Rattle.bind_carry.proofs.CopiesPlaced.{by_either, by_test, copied_behind, copied_past, numbers_by_long, some_same}
 use Rattle.base_lemmas.proofs.{Bools.left_of as first_true, Bools.right_of as second_true, Elements.all_get as all_at, Lists.within_there, Numbers.equal}
 use Rattle.base_lemmas.proofs.Numbers.{same-number}
-use Rattle.bind_carry.proofs.CopiesPlaced.{copied_behind, copied_past, numbers_by_long, some_same}
 use Rattle.bind_carry.proofs.FirstInterfaces.{adds_world, excluded, home_number, parts_of, world_owned_copied}
 use Rattle.bind_carry.proofs.FirstNumbers.{chosen_so, flag_within, interfaces_hold, interfaces_once, interfaces_rise, named_of_path, names, types_hold}
-use Rattle.bind_carry.proofs.{FirstNumbers.types_rise, FirstNumbers.worlds_apart, FirstOfUnion.packages_hold, Joined.items_join, KeptPlaced.kept_placed}
+use Rattle.bind_carry.proofs.{FirstNumbers.types_rise, FirstNumbers.worlds_apart, FirstOfUnion.packages_hold, Joined.items_join, KeptPlaced.kept_here}
 use Rattle.bind_carry.proofs.{KeysGained.is_key_carried, KeysGained.keys_apart, PassedTypes.copied_carried, Ranges.is_in_range, Ready.fates_long}
-use Rattle.bind_carry.specs.{CarriedParts.is_function_carried, Fates.copies, Fates.numbers_by, First.first_fates, First.flag_under, FirstPass.FirstIsCarried}
+use Rattle.bind_carry.specs.{CarriedParts.is_function_carried, Fates.copies, First.first_fates, First.flag_under, FirstPass.FirstIsCarried}
 use Rattle.bind_carry.specs.{FirstPass.FirstIsCopied, FirstPass.FirstWorldsAreCopied, FirstPass.IsFirstPass, Listed.type_named, Marked.AreChosen}
 use Rattle.bind_carry.specs.{Marked.is_shown_in, Marked.is_shown_of, Numbers.interface_number, Numbers.world_number, ReadyItems.AreReady}
 use Rattle.bind_carry.specs.{ReadyItems.IsItemReady, ReadyItems.IsKeyReady, Renumbered.first_of, Renumbered.is_matched, Whole.IsWorldCarried, Whole.kept}
@@ -44,44 +45,36 @@ module _ (n : ℕ) where
 
   pub some_count : (is : List WorldItem) → has (filter_map item_interface is) n ≡ true → 1 ≤ count is
   some_count [] h = no_true h
-  some_count (i ∷ is) h = subst (λ (k : ℕ). 1 ≤ k) (sym (count_next i is)) (go (item_interface i) refl h (some_count is))
-    where
-      more : 1 ≤ count is → 1 ≤ cond (is_id n (item_interface i)) 1 0 + count is
-      more r = omega (arith, r)
-
-      by : (m : ℕ) → item_interface i ≡ Some m → (b : Bool) → (m == n) ≡ b → (b || has (filter_map item_interface is) n) ≡ true → (has (filter_map item_interface is) n ≡ true → 1 ≤ count is)
-          → 1 ≤ cond (is_id n (item_interface i)) 1 0 + count is
-      by m e true q k rest = let one : ◌≡◌ {A = ℕ} (cond (is_id n (item_interface i)) 1 0) 1 = ap (λ b. cond b 1 0) (ap (is_id n) e ∙ q) in omega (arith, one)
-      by m e false q k rest = more (rest k)
-
-      go : (o : Option ℕ) → item_interface i ≡ o → has (filter_map item_interface (i ∷ is)) n ≡ true → (has (filter_map item_interface is) n ≡ true → 1 ≤ count is)
-          → 1 ≤ cond (is_id n (item_interface i)) 1 0 + count is
-      go None e k rest = more (rest (sym (ap (λ ns. has ns n) (filter_map_none item_interface i is e)) ∙ k))
-      go (Some m) e k rest = by m e (m == n) refl (sym (ap (λ ns. has ns n) (filter_map_some item_interface i m is e)) ∙ k) rest
+  some_count (i ∷ is) h =
+      let total = count_next i is in
+      by_option (item_interface i) (λ e. let r = some_count is (sym (ap (λ ns. has ns n) (filter_map_none item_interface i is e)) ∙ h) in omega (arith, r, total))
+      (λ m e. by_either (m == n) (has (filter_map item_interface is) n) (sym (ap (λ ns. has ns n) (filter_map_some item_interface i m is e)) ∙ h)
+      (λ q. let one : ◌≡◌ {A = ℕ} (cond (is_id n (item_interface i)) 1 0) 1 = ap (λ b. cond b 1 0) (ap (is_id n) e ∙ q) in omega (arith, one, total))
+      (λ q k. let r = some_count is k in omega (arith, r, total)))
 
   pub shown_count : (es : List (WorldKey × WorldItem)) → is_shown_in es n ≡ true → 1 ≤ count (map (λ (e : WorldKey × WorldItem). e.1) es)
   shown_count [] h = no_true h
-  shown_count (e ∷ es) h = subst (λ (k : ℕ). 1 ≤ k) (sym (count_next e.1 (map (λ (x : WorldKey × WorldItem). x.1) es))) (go (is_id n (item_interface e.1)) refl h (shown_count es))
-    where
-      go : (b : Bool) → is_id n (item_interface e.1) ≡ b → (b || is_shown_in es n) ≡ true → (is_shown_in es n ≡ true → 1 ≤ count (map (λ (x : WorldKey × WorldItem). x.1) es))
-          → 1 ≤ cond (is_id n (item_interface e.1)) 1 0 + count (map (λ (x : WorldKey × WorldItem). x.1) es)
-      go true q k rest = let one : ◌≡◌ {A = ℕ} (cond (is_id n (item_interface e.1)) 1 0) 1 = ap (λ b. cond b 1 0) q in omega (arith, one)
-      go false q k rest = let r = rest k in omega (arith, r)
+  shown_count (e ∷ es) h =
+      let total = count_next e.1 (map (λ (x : WorldKey × WorldItem). x.1) es) in
+      by_either (is_id n (item_interface e.1)) (is_shown_in es n) h (λ q. let one : ◌≡◌ {A = ℕ} (cond (is_id n (item_interface e.1)) 1 0) 1 = ap (λ b. cond b 1 0) q in omega (arith, one, total))
+      (λ q k. let r = shown_count es k in omega (arith, r, total))
 
 -- ---- sums
 
+pub sum_least : {X : Type 0} (f : X → ℕ) (xs : List X) (n : ℕ) (b : X) → slice_get xs n ≡ Some b → f b ≤ sum_by f xs
+sum_least f [] n b at = let wrong : ⊥ = cc in absurd wrong
+sum_least f (x ∷ xs) zero b at = let same : f x ≡ f b = ap f (some_same x b at) in let total = sum_by-cons f x xs in omega (arith, same, total)
+sum_least f (x ∷ xs) (suc n) b at = let r = sum_least f xs n b at in let total = sum_by-cons f x xs in omega (arith, r, total)
+
 sum_one : {X : Type 0} (f : X → ℕ) (xs : List X) (n : ℕ) (b : X) → slice_get xs n ≡ Some b → 1 ≤ f b → 1 ≤ sum_by f xs
-sum_one f [] n b at q = let wrong : ⊥ = cc in absurd wrong
-sum_one f (x ∷ xs) zero b at q = let one : 1 ≤ f x = subst (λ y. 1 ≤ f y) (sym (some_same x b at)) q in let total = sum_by-cons f x xs in omega (arith, one, total)
-sum_one f (x ∷ xs) (suc n) b at q = let r = sum_one f xs n b at q in let total = sum_by-cons f x xs in omega (arith, r, total)
+sum_one f xs n b at q = let r = sum_least f xs n b at in omega (arith, q, r)
 
 -- where two places hold something, the sum is two at least
 pub sum_two : {X : Type 0} (f : X → ℕ) (xs : List X) (m n : ℕ) (a b : X) → slice_get xs m ≡ Some a → slice_get xs n ≡ Some b → 1 ≤ f a → 1 ≤ f b → (m ≡ n → ⊥) → 2 ≤ sum_by f xs
 sum_two f [] m n a b at_a at_b p q apart = let wrong : ⊥ = cc in absurd wrong
 sum_two f (x ∷ xs) zero zero a b at_a at_b p q apart = absurd (apart refl)
-sum_two f (x ∷ xs) zero (suc n) a b at_a at_b p q apart = search (std_rules, some_same, sum_one, sum_by-cons)
-sum_two f (x ∷ xs) (suc m) zero a b at_a at_b p q apart = search (std_rules, some_same, sum_one, sum_by-cons)
 sum_two f (x ∷ xs) (suc m) (suc n) a b at_a at_b p q apart = let r = sum_two f xs m n a b at_a at_b p q (λ e. apart (ap suc e)) in let total = sum_by-cons f x xs in omega (arith, r, total)
+sum_two f (x ∷ xs) _ _ a b at_a at_b p q apart = search (std_rules, some_same, sum_one, sum_by-cons)
 
 -- ---- worlds that are copied
 
@@ -97,15 +90,10 @@ next_shows : (b : Bool) (bs : List Bool) (w : World) (ws : List World) (m : ℕ)
 next_shows b bs w ws m r = record { place = suc r.place; world = r.world; at_place = r.at_place; set = r.set; shows = r.shows }
 
 shown_by : (flags : List Bool) (ws : List World) (m : ℕ) → is_shown_of flags ws m ≡ true → IsShownBy flags ws m
-shown_by [] ws m h = no_true h
-shown_by (b ∷ bs) [] m h = no_true h
 shown_by (false ∷ bs) (w ∷ ws) m h = next_shows false bs w ws m (shown_by bs ws m h)
-shown_by (true ∷ bs) (w ∷ ws) m h = go (is_shown_in w.imports.entries m || is_shown_in w.exports.entries m) refl h (shown_by bs ws m)
-  where
-    go : (b : Bool) → (is_shown_in w.imports.entries m || is_shown_in w.exports.entries m) ≡ b → (b || is_shown_of bs ws m) ≡ true → (is_shown_of bs ws m ≡ true → IsShownBy bs ws m)
-        → IsShownBy (true ∷ bs) (w ∷ ws) m
-    go true e k rest = record { place = zero; world = w; at_place = refl; set = refl; shows = e }
-    go false e k rest = next_shows true bs w ws m (rest k)
+shown_by (true ∷ bs) (w ∷ ws) m h = by_either (is_shown_in w.imports.entries m || is_shown_in w.exports.entries m) (is_shown_of bs ws m) h
+    (λ e. record { place = zero; world = w; at_place = refl; set = refl; shows = e }) (λ e k. next_shows true bs w ws m (shown_by bs ws m k))
+shown_by _ _ m h = no_true h
 
 pub count_front : (n : ℕ) (xs ys : List WorldItem)
     → count_by (λ i. is_id n (item_interface i)) (xs ++ ys) ≡ count_by (λ i. is_id n (item_interface i)) xs + count_by (λ i. is_id n (item_interface i)) ys
@@ -113,36 +101,27 @@ count_front n xs ys = sum_by-append (λ i. cond (is_id n (item_interface i)) 1 0
 
 -- so it counts
 pub times_of : (w : World) (m : ℕ) → (is_shown_in w.imports.entries m || is_shown_in w.exports.entries m) ≡ true → 1 ≤ times_shown m w
-times_of w m h = go (is_shown_in w.imports.entries m) refl h
+times_of w m h =
+    let split = count_front m (items w.imports.entries) (items w.exports.entries) in
+    by_either (is_shown_in w.imports.entries m) (is_shown_in w.exports.entries m) h (λ e. let r = shown_count m w.imports.entries e in omega (arith, r, split))
+    (λ e k. let r = shown_count m w.exports.entries k in omega (arith, r, split))
   where
     items : List (WorldKey × WorldItem) → List WorldItem
     items es = map (λ (e : WorldKey × WorldItem). e.1) es
-
-    split : times_shown m w ≡ count m (items w.imports.entries) + count m (items w.exports.entries)
-    split = count_front m (items w.imports.entries) (items w.exports.entries)
-
-    go : (b : Bool) → is_shown_in w.imports.entries m ≡ b → (b || is_shown_in w.exports.entries m) ≡ true → 1 ≤ times_shown m w
-    go true e k = let r = shown_count m w.imports.entries e in omega (arith, r, split)
-    go false e k = let r = shown_count m w.exports.entries k in omega (arith, r, split)
 
 module _ (r : Resolve) (valid : IsValid r) where
   -- an inline interface is shown once
   pub inline_once : (m : ℕ) (i : Interface) → interface_at r m ≡ Some i → i.name ≡ None → sum_by (times_shown m) r.worlds.items ≡ 1
   unfolding places
-  inline_once m i at none = equal (sum_by (times_shown m) r.worlds.items) 1
+  inline_once m i at none =
+      let same_home = list_all (λ w. (times_shown m w == 0) || option_eq (λ (a b : ℕ). a == b) (package_number w.«package») (package_number i.«package»)) r.worlds.items in
+      let inline : Bool = (sum_by (times_shown m) r.worlds.items == 1) && same_home in
+      let h = interface-passes places r valid.rules.places m i at in
+      equal (sum_by (times_shown m) r.worlds.items) 1
       (first_true (sum_by (times_shown m) r.worlds.items == 1) same_home (of_none named inline i.name none (second_true (is_some i.«package») (option_map_or named i.name inline) h)))
     where
-      same_home : Bool
-      same_home = list_all (λ w. (times_shown m w == 0) || option_eq (λ (a b : ℕ). a == b) (package_number w.«package») (package_number i.«package»)) r.worlds.items
-
-      inline : Bool
-      inline = (sum_by (times_shown m) r.worlds.items == 1) && same_home
-
       named : String Global → Bool
       named name = option_map_or (λ p. interface_is_listed m (text_of name) p && not (is_world_name p (text_of name))) (option_and_then (package_at r) (package_number i.«package»)) true
-
-      h : (is_some i.«package» && option_map_or named i.name inline) ≡ true
-      h = interface-passes places r valid.rules.places m i at
 
       of_none : (f : String Global → Bool) (d : Bool) (o : Option (String Global)) → o ≡ None → option_map_or f o d ≡ true → d ≡ true
       of_none f d None e k = k
@@ -157,18 +136,16 @@ module _ (r : Resolve) (valid : IsValid r) where
 
 -- what a thing whose flag is set passes, some that is kept passes
 kept_any : {A : Type 0} (p : A → Bool) (flags : List Bool) (xs : List A) (n : ℕ) (x : A) → slice_get xs n ≡ Some x → flag_under flags n ≡ true → p x ≡ true → list_any p (kept flags xs) ≡ true
-kept_any p [] xs n x e set h = no_true set
 kept_any p (b ∷ bs) [] n x e set h = let wrong : ⊥ = cc in absurd wrong
 kept_any p (true ∷ bs) (y ∷ ys) zero x e set h = let same : y ≡ x = ap (λ o. unwrap_or o y) e in or_left (p y) (list_any p (kept bs ys)) (ap p same ∙ h)
 kept_any p (true ∷ bs) (y ∷ ys) (suc n) x e set h = or_right (p y) (list_any p (kept bs ys)) (kept_any p bs ys n x e set h)
-kept_any p (false ∷ bs) (y ∷ ys) zero x e set h = no_true set
 kept_any p (false ∷ bs) (y ∷ ys) (suc n) x e set h = kept_any p bs ys n x e set h
+kept_any p _ _ _ x e set h = no_true set
 
 module _ (own other : Resolve) (valid : IsValid other) (matched : List (Option InterfaceId)) (c : Carried) (numbers : List ℕ)
     (chosen : AreChosen other matched c.copied_worlds.items c.copied_interfaces.items)
     (names : (n : ℕ) (def : TypeDef) (a : ℕ) (s : String Global) → type_at other n ≡ Some def → def.name ≡ Some s → def.owner ≡ as_interface a → is_matched matched a ≡ true → (id : TypeId)
-    × (type_named own matched a (text_of s) ≡ Some id))
-    (n : ℕ) (w : World) (at : world_at other n ≡ Some w) (set : flag_under c.copied_worlds.items n ≡ true) where
+    × (type_named own matched a (text_of s) ≡ Some id)) (n : ℕ) (w : World) (at : world_at other n ≡ Some w) (set : flag_under c.copied_worlds.items n ≡ true) where
   abbrev fates : List Fate
   fates = first_fates own other matched c
 
@@ -187,13 +164,9 @@ module _ (own other : Resolve) (valid : IsValid other) (matched : List (Option I
   named_ready m i there named = ap (λ b. b || is_matched matched m) (chosen.named m i there named) ∙ excluded (is_matched matched m)
 
   interface_ready : (m : ℕ) (i : Interface) → interface_at other m ≡ Some i → is_shown m ≡ true → f.carries_interface m ≡ true
-  interface_ready m i there shown = go (is_some i.name) refl
-    where
-      go : (b : Bool) → is_some i.name ≡ b → f.carries_interface m ≡ true
-      go true e = named_ready m i there e
-      go false e =
-          or_left (flag_under c.copied_interfaces.items m) (is_matched matched m)
-          (chosen.inline m i there e ∙ kept_any (λ v. is_shown_in v.imports.entries m || is_shown_in v.exports.entries m) c.copied_worlds.items other.worlds.items n w at set shown)
+  interface_ready m i there shown = by_test (is_some i.name) (λ e. named_ready m i there e) (λ e.
+      or_left (flag_under c.copied_interfaces.items m) (is_matched matched m)
+      (chosen.inline m i there e ∙ kept_any (λ v. is_shown_in v.imports.entries m || is_shown_in v.exports.entries m) c.copied_worlds.items other.worlds.items n w at set shown))
 
   -- ---- entries
 
@@ -201,8 +174,7 @@ module _ (own other : Resolve) (valid : IsValid other) (matched : List (Option I
   key_ready x range named = search (std_rules, found-in, named_ready)
 
   item_ready : (i : WorldItem) → item_in_range other i ≡ true → ((id : TypeId) → i ≡ item.Type_ id → passes (λ def. same_owner def.owner (as_world n)) (type_at other id.0) ≡ true)
-      → ((m : ℕ) → is_id m (item_interface i) ≡ true → is_shown m ≡ true)
-      → list_all function_ready (option_to_list (item_function i)) ≡ true → IsItemReady f i
+      → ((m : ℕ) → is_id m (item_interface i) ≡ true → is_shown m ≡ true) → list_all function_ready (option_to_list (item_function i)) ≡ true → IsItemReady f i
   item_ready (item.Interface id stability docs external_id) range owned shown functions = grind (arith, found-in, interface_ready, same-number)
   item_ready (item.Function g) range owned shown functions = first_true (function_ready g) true functions
   item_ready (item.Type_ id) range owned shown functions = search (std_rules, found-in, owner_equal, world_owned_copied, set)
@@ -211,8 +183,7 @@ module _ (own other : Resolve) (valid : IsValid other) (matched : List (Option I
 
   ranges : (entries_in_range other w.imports.entries && entries_in_range other w.exports.entries) ≡ true
   unfolding numbers_in_range
-  ranges =
-      second_true (passes (in_list other.packages.items) (package_number w.«package»)) (entries_in_range other w.imports.entries && entries_in_range other w.exports.entries)
+  ranges = second_true (passes (in_list other.packages.items) (package_number w.«package»)) (entries_in_range other w.imports.entries && entries_in_range other w.exports.entries)
       (second_true (is_place n) (passes (in_list other.packages.items) (package_number w.«package») && (entries_in_range other w.imports.entries && entries_in_range other w.exports.entries))
       (world_passes numbers_in_range other valid.rules.numbers_in_range n w at))
 
@@ -229,14 +200,8 @@ module _ (own other : Resolve) (valid : IsValid other) (matched : List (Option I
   interface_key_named : (k : ℕ) (i : WorldItem) → is_interface_key other k i ≡ true → passes (λ j. is_some j.name) (interface_at other k) ≡ true
   interface_key_named k i h = second_true (is_id k (item_interface i)) (passes (λ j. is_some j.name) (interface_at other k)) h
 
-  import_named : (k : WorldKey) (i : WorldItem) → import_stands other n k i ≡ true → (id : InterfaceId) → k ≡ key.Interface id → passes (λ j. is_some j.name) (interface_at other id.0) ≡ true
-  import_named k i h id e = interface_key_named id.0 i (sym (ap (λ x. import_stands other n x i) e) ∙ h)
-
   import_owned : (k : WorldKey) (i : WorldItem) → import_stands other n k i ≡ true → (id : TypeId) → i ≡ item.Type_ id → passes (λ def. same_owner def.owner (as_world n)) (type_at other id.0) ≡ true
   import_owned k i h id e = search (std_rules, second_true, no_true)
-
-  export_named : (k : WorldKey) (i : WorldItem) → export_stands other k i ≡ true → (id : InterfaceId) → k ≡ key.Interface id → passes (λ j. is_some j.name) (interface_at other id.0) ≡ true
-  export_named k i h id e = interface_key_named id.0 i (sym (ap (λ x. export_stands other x i) e) ∙ h)
 
   export_owned : (k : WorldKey) (i : WorldItem) → export_stands other k i ≡ true → (id : TypeId) → i ≡ item.Type_ id → passes (λ def. same_owner def.owner (as_world n)) (type_at other id.0) ≡ true
   export_owned k i h id e = search std_rules
@@ -253,25 +218,22 @@ module _ (own other : Resolve) (valid : IsValid other) (matched : List (Option I
 
   pub import_ready : (k : ℕ) (e : WorldKey × WorldItem) → slice_get w.imports.entries k ≡ Some e → IsKeyReady f e.0 × IsItemReady f e.1
   import_ready k e there =
+      let stands = all_at (λ (x : WorldKey × WorldItem). import_stands other n x.0 x.1) w.imports.entries k e
+      (first_true (list_all (λ (x : WorldKey × WorldItem). import_stands other n x.0 x.1) w.imports.entries) (list_all (λ (x : WorldKey × WorldItem). export_stands other x.0 x.1) w.exports.entries)
+      stand) there in
       entry_ready w.imports.entries k e there (first_true (entries_in_range other w.imports.entries) (entries_in_range other w.exports.entries) ranges)
-      (first_true (list_all item_passes w.imports.entries) (list_all item_passes w.exports.entries) ready_functions)
-      (λ m. or_left (is_shown_in w.imports.entries m) (is_shown_in w.exports.entries m)) (import_named e.0 e.1 stands) (import_owned e.0 e.1 stands)
-    where
-      stands : import_stands other n e.0 e.1 ≡ true
-      stands = all_at (λ (x : WorldKey × WorldItem). import_stands other n x.0 x.1) w.imports.entries k e
-          (first_true (list_all (λ (x : WorldKey × WorldItem). import_stands other n x.0 x.1) w.imports.entries)
-          (list_all (λ (x : WorldKey × WorldItem). export_stands other x.0 x.1) w.exports.entries) stand) there
+      (first_true (list_all item_passes w.imports.entries) (list_all item_passes w.exports.entries) ready_functions) (λ m. or_left (is_shown_in w.imports.entries m) (is_shown_in w.exports.entries m))
+      (λ id is. interface_key_named id.0 e.1 (sym (ap (λ x. import_stands other n x e.1) is) ∙ stands)) (import_owned e.0 e.1 stands)
 
   pub export_ready : (k : ℕ) (e : WorldKey × WorldItem) → slice_get w.exports.entries k ≡ Some e → IsKeyReady f e.0 × IsItemReady f e.1
   export_ready k e there =
+      let stands = all_at (λ (x : WorldKey × WorldItem). export_stands other x.0 x.1) w.exports.entries k e
+      (second_true (list_all (λ (x : WorldKey × WorldItem). import_stands other n x.0 x.1) w.imports.entries) (list_all (λ (x : WorldKey × WorldItem). export_stands other x.0 x.1) w.exports.entries)
+      stand) there in
       entry_ready w.exports.entries k e there (second_true (entries_in_range other w.imports.entries) (entries_in_range other w.exports.entries) ranges)
       (second_true (list_all item_passes w.imports.entries) (list_all item_passes w.exports.entries) ready_functions)
-      (λ m. or_right (is_shown_in w.imports.entries m) (is_shown_in w.exports.entries m)) (export_named e.0 e.1 stands) (export_owned e.0 e.1 stands)
-    where
-      stands : export_stands other e.0 e.1 ≡ true
-      stands = all_at (λ (x : WorldKey × WorldItem). export_stands other x.0 x.1) w.exports.entries k e
-          (second_true (list_all (λ (x : WorldKey × WorldItem). import_stands other n x.0 x.1) w.imports.entries)
-          (list_all (λ (x : WorldKey × WorldItem). export_stands other x.0 x.1) w.exports.entries) stand) there
+      (λ m. or_right (is_shown_in w.imports.entries m) (is_shown_in w.exports.entries m)) (λ id is. interface_key_named id.0 e.1 (sym (ap (λ x. export_stands other x e.1) is) ∙ stands))
+      (export_owned e.0 e.1 stands)
 
 -- ---- keys and items that are ready
 
@@ -317,29 +279,23 @@ module _ (own other merged : Resolve) (m : Matches) (c : Carried) (numbers : Lis
 
   -- what the first pass carries is carried
   carried : IsCarried other merged by_path
-  carried = record {
-    packages = λ n old at. let x = packages_hold own other merged c m.packages.items p.by_name p.numbered.new_packages p.numbered.packages p.gains p.grown p.new_packages p.gained p.packages
-        p.packages_here n old at in record { image = x.0; at_image = x.1; name = x.2 };
-    types = types_hold own other valid_own valid_other matched c numbers chosen p.same p.none long p.numbered.interfaces start p.types.numbers_are merged types_begin interfaces_begin p.new_types
-        p.more_types p.types p.types_here;
-    interfaces = interfaces_hold own other valid_own valid_other matched c numbers chosen p.same p.none long p.numbered.interfaces start p.types.numbers_are merged types_begin interfaces_begin
-        p.numbered.interface_count p.new_interfaces p.more_interfaces p.interfaces p.interfaces_here;
-    copied_types = copied_carried path_fates;
-    copied_interfaces = λ n h. or_left (flag_under c.copied_interfaces.items n) (is_matched matched n) h;
-    types_rise = types_rise own other valid_own valid_other matched c numbers chosen p.same p.none long p.numbered.interfaces start p.types.numbers_are (omega arith)
-        types_count;
-    interfaces_rise = interfaces_rise own other valid_own valid_other matched c numbers chosen p.same p.none long p.numbered.interfaces start p.types.numbers_are;
-    worlds_apart = worlds_apart (length own.worlds.items) c.copied_worlds.items m.worlds.items c.worlds.items long_worlds p.numbered.worlds;
-  }
-    where
-      types_begin : BeginsWith own.types.items merged.types.items
-      types_begin = (p.new_types ++ p.more_types, p.types_here)
-
-      interfaces_begin : BeginsWith own.interfaces.items merged.interfaces.items
-      interfaces_begin = (p.new_interfaces ++ p.more_interfaces, p.interfaces_here)
-
-      types_count : length numbers ≡ length other.types.items
-      types_count = ap length p.types.numbers_are ∙ (numbers_by_long start path_fates ∙ fates_long own other m c)
+  carried =
+      let types_begin : BeginsWith own.types.items merged.types.items = (p.new_types ++ p.more_types, p.types_here) in
+      let interfaces_begin : BeginsWith own.interfaces.items merged.interfaces.items = (p.new_interfaces ++ p.more_interfaces, p.interfaces_here) in
+      let types_count = ap length p.types.numbers_are ∙ (numbers_by_long start path_fates ∙ fates_long own other m c) in
+      record {
+        packages = λ n old at. let x = packages_hold own other merged c m.packages.items p.by_name p.numbered.new_packages p.numbered.packages p.gains p.grown p.new_packages p.gained p.packages
+            p.packages_here n old at in record { image = x.0; at_image = x.1; name = x.2 };
+        types = types_hold own other valid_own valid_other matched c numbers chosen p.same p.none long p.numbered.interfaces start p.types.numbers_are merged types_begin interfaces_begin p.new_types
+            p.more_types p.types p.types_here;
+        interfaces = interfaces_hold own other valid_own valid_other matched c numbers chosen p.same p.none long p.numbered.interfaces start p.types.numbers_are merged types_begin interfaces_begin
+            p.numbered.interface_count p.new_interfaces p.more_interfaces p.interfaces p.interfaces_here;
+        copied_types = copied_carried path_fates;
+        copied_interfaces = λ n h. or_left (flag_under c.copied_interfaces.items n) (is_matched matched n) h;
+        types_rise = types_rise own other valid_own valid_other matched c numbers chosen p.same p.none long p.numbered.interfaces start p.types.numbers_are (omega arith) types_count;
+        interfaces_rise = interfaces_rise own other valid_own valid_other matched c numbers chosen p.same p.none long p.numbered.interfaces start p.types.numbers_are;
+        worlds_apart = worlds_apart (length own.worlds.items) c.copied_worlds.items m.worlds.items c.worlds.items long_worlds p.numbered.worlds;
+      }
 
   -- its copies stand behind own entries, and inline interfaces come with the world that shows them
   all_copied : AreCopies own other merged by_path
@@ -353,21 +309,13 @@ module _ (own other merged : Resolve) (m : Matches) (c : Carried) (numbers : Lis
   }
     where
       types_behind : (n : ℕ) → by_path.copies_type n ≡ true → length own.types.items ≤ number_under numbers n
-      types_behind n h =
-          let behind = copied_past start path_fates n h in
-          let here : number_under numbers n ≡ number_under (numbers_by start path_fates) n = ap (λ l. number_under l n) p.types.numbers_are in
-          omega (arith, behind, here)
+      types_behind n h = omega (arith, copied_past start path_fates n h, ap (λ l. number_under l n) p.types.numbers_are)
 
       inline_copied : (n : ℕ) (i : Interface) → (flag_under c.copied_interfaces.items n || is_matched matched n) ≡ true → interface_at other n ≡ Some i → i.name ≡ None
           → flag_under c.copied_interfaces.items n ≡ true
-      inline_copied n i carried at none = go (flag_under c.copied_interfaces.items n) refl carried
-        where
-          go : (b : Bool) → flag_under c.copied_interfaces.items n ≡ b → (b || is_matched matched n) ≡ true → flag_under c.copied_interfaces.items n ≡ true
-          go true e k = e
-          go false e k =
-              let is = p.same n k in
-              let same : is.old ≡ i = some_same is.old i (sym is.found ∙ at) in
-              no_true (sym (ap is_some none) ∙ (ap (λ (x : Interface). is_some x.name) (sym same) ∙ named_of_path other n is.old is.found is.has_path))
+      inline_copied n i carried at none = by_either (flag_under c.copied_interfaces.items n) (is_matched matched n) carried (λ e. e) (λ e k.
+          let is = p.same n k in
+          no_true (sym (ap is_some none) ∙ (ap (λ (x : Interface). is_some x.name) (sym (some_same is.old i (sym is.found ∙ at))) ∙ named_of_path other n is.old is.found is.has_path)))
 
       inline_shown : (n : ℕ) (i : Interface) (k : ℕ) (w : World) → flag_under c.copied_interfaces.items n ≡ true → interface_at other n ≡ Some i → i.name ≡ None → world_at other k ≡ Some w
           → has (filter_map item_interface (items_of w)) n ≡ true → flag_under c.copied_worlds.items k ≡ true
@@ -382,39 +330,33 @@ module _ (own other merged : Resolve) (m : Matches) (c : Carried) (numbers : Lis
         × (type_named own matched a (text_of s) ≡ Some id)
     types_named = names own other valid_own valid_other matched c numbers chosen p.same p.none long p.numbered.interfaces start p.types.numbers_are
 
-    ready_imports : (k : ℕ) (e : WorldKey × WorldItem) → slice_get w.imports.entries k ≡ Some e → IsKeyReady by_path e.0 × IsItemReady by_path e.1
-    ready_imports = import_ready own other valid_other matched c numbers chosen types_named n w at set
-
-    ready_exports : (k : ℕ) (e : WorldKey × WorldItem) → slice_get w.exports.entries k ≡ Some e → IsKeyReady by_path e.0 × IsItemReady by_path e.1
-    ready_exports = export_ready own other valid_other matched c numbers chosen types_named n w at set
-
     -- entries whose keys are carried are joined to none
     entries_join : (es news : List (WorldKey × WorldItem)) → ((k : ℕ) (e : WorldKey × WorldItem) → slice_get es k ≡ Some e → IsKeyReady by_path e.0 × IsItemReady by_path e.1)
         → IsDistinct key_eq (keys_of es) → AreNewCopied c.interfaces.items numbers [] es news → Joined by_path [] es news
     entries_join es news ready apart copies = items_join by_path c.interfaces.items numbers (λ k h. refl) refl [] es news
-        (copies (keys_apart c.interfaces.items by_path.carries_interface
-        (interfaces_once own other valid_own valid_other matched c numbers chosen p.same p.none long p.numbered.interfaces start p.types.numbers_are) (keys_of es)
-        (keys_carried by_path es (λ k e there. (ready k e there).0)) apart))
-        (all_new by_path c.interfaces.items es ready)
+        (copies (keys_apart c.interfaces.items by_path.carries_interface (interfaces_once own other valid_own valid_other matched c numbers chosen p.same p.none long p.numbered.interfaces start
+        p.types.numbers_are) (keys_of es) (keys_carried by_path es (λ k e there. (ready k e there).0)) apart)) (all_new by_path c.interfaces.items es ready)
 
     world_copy : IsWorldCopy other merged by_path n
     world_copy =
-        let place = kept_placed (IsWorldCarried c numbers) c.copied_worlds.items (map world_number m.worlds.items) other.worlds.items p.new_worlds p.worlds
-        (long_worlds ∙ sym (length-map m.worlds.items world_number)) (length own.worlds.items) p.own_worlds [] (sym p.own_count) n w set at in
+        let place = kept_here (IsWorldCarried c numbers) c.copied_worlds.items (map world_number m.worlds.items) other.worlds.items p.new_worlds p.worlds
+        (long_worlds ∙ sym (length-map m.worlds.items world_number)) (length own.worlds.items) p.own_worlds [] (sym p.own_count) c.worlds.items p.numbered.worlds merged.worlds.items
+        (p.worlds_here ∙ ap (λ l. p.own_worlds ++ l) (sym (append-nil p.new_worlds))) n w set at in
         record {
           joined = record {
             old = w;
             found = at;
             carries = set;
             image = place.image;
-            at_image = ap (λ l. slice_get l (by_path.worlds n)) (p.worlds_here ∙ ap (λ l. p.own_worlds ++ l) (sym (append-nil p.new_worlds)))
-                ∙ (ap (slice_get (p.own_worlds ++ (p.new_worlds ++ []))) (ap (λ l. number_under l n) p.numbered.worlds) ∙ place.at_image);
+            at_image = place.at_image;
             new_imports = place.image.imports.entries;
             imports = refl;
-            joined_imports = entries_join w.imports.entries place.image.imports.entries ready_imports (valid_other.distinct_keys.worlds n w at).0 place.is.imports;
+            joined_imports = entries_join w.imports.entries place.image.imports.entries (import_ready own other valid_other matched c numbers chosen types_named n w at set)
+                (valid_other.distinct_keys.worlds n w at).0 place.is.imports;
             new_exports = place.image.exports.entries;
             exports = refl;
-            joined_exports = entries_join w.exports.entries place.image.exports.entries ready_exports (valid_other.distinct_keys.worlds n w at).1 place.is.exports;
+            joined_exports = entries_join w.exports.entries place.image.exports.entries (export_ready own other valid_other matched c numbers chosen types_named n w at set)
+                (valid_other.distinct_keys.worlds n w at).1 place.is.exports;
           };
           name = place.is.name;
           stability = place.is.stability;
@@ -423,9 +365,7 @@ module _ (own other merged : Resolve) (m : Matches) (c : Carried) (numbers : Lis
 
   worlds_copied : (n : ℕ) → flag_under c.copied_worlds.items n ≡ true → IsWorldCopy other merged by_path n × (length own.worlds.items ≤ number_under c.worlds.items n)
   worlds_copied n set =
-      let less = flag_within c.copied_worlds.items n set in
-      let count = p.numbered.world_count in
-      let there = within_there other.worlds.items n (omega (arith, less, count)) in (
+      let there = within_there other.worlds.items n (omega (arith, flag_within c.copied_worlds.items n set, p.numbered.world_count)) in (
         world_copy n there.0 there.1 set,
         subst (λ l. length own.worlds.items ≤ number_under l n) (sym p.numbered.worlds)
             (copied_behind (length own.worlds.items) c.copied_worlds.items (map world_number m.worlds.items) n (long_worlds ∙ sym (length-map m.worlds.items world_number)) set),

@@ -15,8 +15,7 @@ module _ (c : Carried) (packages : List Package) where
 
   -- a package that isn't new gains
   pub one_gained : (flags fs : List Bool) (numbers ns : List ℕ) (left ps : List Package) (n : ℕ) (p : Package) (g : Names) (done new : List Names) → flags ≡ false ∷ fs → numbers ≡ n ∷ ns
-      → left ≡ p ∷ ps → IsGained c (n, p) g → new ≡ done ++ g ∷ []
-      → GainedSoFar c packages flags numbers left done → GainedSoFar c packages fs ns ps new
+      → left ≡ p ∷ ps → IsGained c (n, p) g → new ≡ done ++ g ∷ [] → GainedSoFar c packages flags numbers left done → GainedSoFar c packages fs ns ps new
   one_gained flags fs numbers ns left ps n p g done new at_flag at_number at_package is added so later z = search (std_rules, append_assoc)
 
   -- a package of either kind

@@ -57,18 +57,16 @@ module _ (interfaces types : List ℕ) where
       → IsDistinct (become_one interfaces) (keys_of olds) → insert_all key_eq es news ≡ es ++ news
   unfolding IsDistinct
   all_behind es [] [] zip new distinct = sym (append-nil es)
-  all_behind es [] (y ∷ ys) zip new distinct = absurd zip
-  all_behind es (d ∷ ds) [] zip new distinct = absurd zip
-  all_behind es (d ∷ ds) (y ∷ ys) zip new distinct =
-      search (
-        std_rules,
-        insert_new,
-        first_true,
-        still_new,
-        second_true,
-        append_assoc,
-        all_behind (es ++ y ∷ []) ds ys zip.1 (still_new es d.0 y zip.0.0 ds (second_true (test es d) (list_all (test es) ds) new) distinct.0) distinct.1,
-      )
+  all_behind es (d ∷ ds) (y ∷ ys) zip new distinct = search (
+    std_rules,
+    insert_new,
+    first_true,
+    still_new,
+    second_true,
+    append_assoc,
+    all_behind (es ++ y ∷ []) ds ys zip.1 (still_new es d.0 y zip.0.0 ds (second_true (test es d) (list_all (test es) ds) new) distinct.0) distinct.1,
+  )
+  all_behind es _ _ zip new distinct = absurd zip
 
   -- so do copies of those whose keys are new
   pub new_behind : (here olds news : List (WorldKey × WorldItem)) → IsDistinct (become_one interfaces) (keys_of olds) → AreNewCopied interfaces types here olds news

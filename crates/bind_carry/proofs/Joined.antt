@@ -50,14 +50,12 @@ module _ (f : Renumbering) (interfaces types : List ℕ) (by_interface : (n : �
     abbrev test : WorldKey × WorldItem → Bool
     test e = is_new_under interfaces own e.0
 
-    later : (e : WorldKey × WorldItem) (es : List (WorldKey × WorldItem)) → AreReady f interfaces own (e ∷ es) → AreReady f interfaces own es
-    later e es ready = record { new_ready = λ n x at. ready.new_ready (suc n) x at; met = λ n x at. ready.met (suc n) x at }
-
     -- those that are copied, and those that own ones stand for
     pub items_join : (olds news : List (WorldKey × WorldItem)) → AllZip (IsEntryUnder interfaces types) (filter test olds) news → AreReady f interfaces own olds → Joined f own olds news
     items_join [] [] zip ready = joined.none
     items_join [] (x ∷ xs) zip ready = absurd zip
-    items_join (e ∷ es) news zip ready = go (test e) refl news zip (λ xs rest. items_join es xs rest (later e es ready))
+    items_join (e ∷ es) news zip ready = go (test e) refl news zip (λ xs rest. items_join es xs rest
+        (record { new_ready = λ n x at. ready.new_ready (suc n) x at; met = λ n x at. ready.met (suc n) x at }))
       where
         go : (b : Bool) → test e ≡ b → (xs : List (WorldKey × WorldItem)) → AllZip (IsEntryUnder interfaces types) (cond b (e ∷ filter test es) (filter test es)) xs
             → ((ys : List (WorldKey × WorldItem)) → AllZip (IsEntryUnder interfaces types) (filter test es) ys → Joined f own es ys) → Joined f own (e ∷ es) xs
@@ -67,7 +65,7 @@ module _ (f : Renumbering) (interfaces types : List ℕ) (by_interface : (n : �
             joined.added e x es xs (sym (new_same own e.0 r.0) ∙ q) (key_becomes e.0 x.0 zip.0.0 r.0, item_becomes e.1 x.1 zip.0.1 r.1) (more xs zip.1)
         go false q xs zip more = let m = ready.met zero e refl q in joined.met e m.there es xs m.in_own m.becomes m.stands (more xs zip)
 
--- ---- what the page is for
+-- ---- Names join those that were there, one by one, as they are copied.
 
 module _ {V : Type 0} (id_of : V → ℕ) (number : ℕ → ℕ) (copies left_out : ℕ → Bool) (p : String Global × V → Bool) (own : List (Text × ℕ)) where
   abbrev named : List (String Global × V) → List (Text × ℕ)
@@ -82,13 +80,10 @@ module _ {V : Type 0} (id_of : V → ℕ) (number : ℕ → ℕ) (copies left_ou
     pub added : (n : ℕ) (e : String Global × V) → slice_get es n ≡ Some e → p e ≡ true → (copies (id_of e.1) ≡ true) × (left_out (id_of e.1) ≡ false) × (is_name (text_of e.0) own ≡ false)
     pub there : (n : ℕ) (e : String Global × V) → slice_get es n ≡ Some e → p e ≡ false → Contains own (text_of e.0, number (id_of e.1)) ⊎ (left_out (id_of e.1) ≡ true)
 
-  names_later : (e : String Global × V) (es : List (String Global × V)) → AreNamesReady (e ∷ es) → AreNamesReady es
-  names_later e es ready = record { added = λ n x at. ready.added (suc n) x at; there = λ n x at. ready.there (suc n) x at }
-
   pub names_join : (es news : List (String Global × V)) → AllZip IsNameUnder (filter p es) news → AreNamesReady es → JoinedNames number copies left_out own (named es) (named news)
   names_join [] [] zip ready = names.none
   names_join [] (x ∷ xs) zip ready = absurd zip
-  names_join (e ∷ es) news zip ready = go (p e) refl news zip (λ xs rest. names_join es xs rest (names_later e es ready))
+  names_join (e ∷ es) news zip ready = go (p e) refl news zip (λ xs rest. names_join es xs rest (record { added = λ n x at. ready.added (suc n) x at; there = λ n x at. ready.there (suc n) x at }))
     where
       go : (b : Bool) → p e ≡ b → (xs : List (String Global × V)) → AllZip IsNameUnder (cond b (e ∷ filter p es) (filter p es)) xs
           → ((ys : List (String Global × V)) → AllZip IsNameUnder (filter p es) ys → JoinedNames number copies left_out own (named es) (named ys))
@@ -96,12 +91,9 @@ module _ {V : Type 0} (id_of : V → ℕ) (number : ℕ → ℕ) (copies left_ou
       go true q [] zip more = absurd zip
       go true q (x ∷ xs) zip more =
           let a = ready.added zero e refl q in
-          let text : text_of e.0 ≡ text_of x.0 = sym zip.0.0 in
-          let same : number (id_of e.1) ≡ id_of x.1 = sym zip.0.1 in
-          subst (λ (y : Text × ℕ). JoinedNames number copies left_out own (named (e ∷ es)) (y ∷ named xs)) (λ i. (text i, same i))
+          subst (λ (y : Text × ℕ). JoinedNames number copies left_out own (named (e ∷ es)) (y ∷ named xs)) (λ i. (sym zip.0.0 i, sym zip.0.1 i))
           (names.added (text_of e.0) (id_of e.1) (named es) (named xs) a.0 a.1 a.2 (more xs zip.1))
-      go false q xs zip more =
-          elim (ready.there zero e refl q) [
-            | inl c ↦ names.met (text_of e.0) (id_of e.1) (named es) (named xs) c (more xs zip)
-            | inr l ↦ names.left (text_of e.0) (id_of e.1) (named es) (named xs) l (more xs zip)
-          ]
+      go false q xs zip more = elim (ready.there zero e refl q) [
+        | inl c ↦ names.met (text_of e.0) (id_of e.1) (named es) (named xs) c (more xs zip)
+        | inr l ↦ names.left (text_of e.0) (id_of e.1) (named es) (named xs) l (more xs zip)
+      ]

@@ -30,10 +30,8 @@ module _ (interfaces : List ℕ) where
       → list_any (key_eq n) done ≡ false
   unfolding IsDistinct
   absent [] [] rest k n r zip d = refl
-  absent [] (u ∷ us) rest k n r zip d = absurd zip
-  absent (x ∷ xs) [] rest k n r zip d = absurd zip
-  absent (x ∷ xs) (u ∷ us) rest k n r zip d =
-      search (std_rules, same_images interfaces x k u n zip.0 r, at_middle (become_one interfaces) x k xs rest d.0, absent xs us rest k n r zip.1 d.1)
+  absent (x ∷ xs) (u ∷ us) rest k n r zip d = search (std_rules, same_images interfaces x k u n zip.0 r, at_middle (become_one interfaces) x k xs rest d.0, absent xs us rest k n r zip.1 d.1)
+  absent _ _ rest k n r zip d = absurd zip
 
   pub key_more : (whole left rest : List (WorldKey × WorldItem)) (done new : List WorldKey) (e : WorldKey × WorldItem) (n : WorldKey) → left ≡ e ∷ rest → IsKeyUnder interfaces e.0 n
       → new ≡ insert_key key_eq done n → KeysSoFar whole left done → KeysSoFar whole rest new
@@ -63,17 +61,15 @@ module _ (numbers : List ℕ) (carried : ℕ → Bool) (once : (m n : ℕ) → c
   all_apart : (k : WorldKey) (ks : List WorldKey) → is_key_carried carried k ≡ true → list_all (is_key_carried carried) ks ≡ true → AllByRecursion (λ y. key_eq k y ≡ false) ks
       → AllByRecursion (λ y. become_one numbers k y ≡ false) ks
   all_apart k [] c d h = tt
-  all_apart k (y ∷ ys) c d h =
-      search (std_rules, one_apart, first_true, second_true, all_apart k ys c (second_true (is_key_carried carried y) (list_all (is_key_carried carried) ys) d) h.1)
+  all_apart k (y ∷ ys) c d h = search (std_rules, one_apart, first_true, second_true, all_apart k ys c (second_true (is_key_carried carried y) (list_all (is_key_carried carried) ys) d) h.1)
 
   -- keys that differ don't become one
   pub keys_apart : (ks : List WorldKey) → list_all (is_key_carried carried) ks ≡ true → IsDistinct key_eq ks → IsDistinct (become_one numbers) ks
   unfolding IsDistinct
   keys_apart [] d h = tt
-  keys_apart (k ∷ ks) d h =
-      search (std_rules, all_apart, first_true, second_true, keys_apart ks (second_true (is_key_carried carried k) (list_all (is_key_carried carried) ks) d) h.1)
+  keys_apart (k ∷ ks) d h = search (std_rules, all_apart, first_true, second_true, keys_apart ks (second_true (is_key_carried carried k) (list_all (is_key_carried carried) ks) d) h.1)
 
--- ---- what the page is for
+-- ---- Under both numberings the keys of the other's bound world stay apart, and what it brings comes behind what was there.
 
 -- keys of a list whose interfaces pass
 keys_pass : (p : ℕ → Bool) (es : List (WorldKey × WorldItem)) → ((e : WorldKey × WorldItem) → Contains es e → (id : InterfaceId) → e.0 ≡ key.Interface id → p id.0 ≡ true)
@@ -95,9 +91,8 @@ entries_apart other numbers once es named distinct = keys_apart numbers (is_name
     (keys_pass (is_named_at other) es (λ e held id is. let k = named e held id is in ap (λ o. option_map_or (λ (j : Interface). is_some j.name) o false) k.1 ∙ k.2)) distinct
 
 module _ (own other : Resolve) (valid_own : IsValid own) (valid_other : IsValid other) (world other_world : ℕ) (m : Matches) (w v : World) (added : Added) (keys : List WorldKey)
-    (u : IsUnionOf own other world other_world m w v added keys)
-    (at : world_at other other_world ≡ Some v) (all : AreMatchedAll other m) (same : AreMatchedAt own other m.interfaces.items u.carried.packages.items)
-    (none : NoneOfPath own other m.interfaces.items) where
+    (u : IsUnionOf own other world other_world m w v added keys) (at : world_at other other_world ≡ Some v) (all : AreMatchedAll other m)
+    (same : AreMatchedAt own other m.interfaces.items u.carried.packages.items) (none : NoneOfPath own other m.interfaces.items) where
   abbrev c : Carried
   c = u.carried
 
@@ -113,9 +108,6 @@ module _ (own other : Resolve) (valid_own : IsValid own) (valid_other : IsValid 
 
   pub chosen : AreChosen other m.interfaces.items c.copied_worlds.items c.copied_interfaces.items
   chosen = chosen_so own other m c range all u.numbered
-
-  long : length c.copied_interfaces.items ≡ length m.interfaces.items
-  long = u.numbered.interface_count ∙ sym all.interfaces
 
   imports_shown : AreShownBelow (length other.interfaces.items) v.imports.entries
   imports_shown = shown_below (length other.interfaces.items) (length other.types.items) v.imports.entries (range.imports other_world v at)
@@ -153,7 +145,8 @@ module _ (own other : Resolve) (valid_own : IsValid own) (valid_other : IsValid 
   once j n h k e =
       let a = is_named j h in
       let b = is_named n k in
-      interfaces_once own other valid_own valid_other m.interfaces.items c u.types chosen same none long u.numbered.interfaces (length own.types.items + length {A = TypeDef} [])
+      interfaces_once own other valid_own valid_other m.interfaces.items c u.types chosen same none (u.numbered.interface_count ∙ sym all.interfaces) u.numbered.interfaces
+      (length own.types.items + length {A = TypeDef} [])
       u.types_copied.numbers_are
       j n (named_carried j a.0 a.1 a.2) (named_carried n b.0 b.1 b.2) e
 

@@ -52,39 +52,33 @@ module _ (r : Resolve) where
 
   marks_of_worlds : (flags : List Bool) (ws : List World) (marks : List Bool) (n : ℕ) → AreWorldsBelow (length marks) ws
       → flag_under (mark_worlds r marks flags ws) n ≡ (flag_under marks n || (is_inline_at r n && is_shown_of flags ws n))
-  marks_of_worlds [] ws marks n below = no_more (flag_under marks n) (is_inline_at r n)
-  marks_of_worlds (b ∷ bs) [] marks n below = no_more (flag_under marks n) (is_inline_at r n)
   marks_of_worlds (false ∷ bs) (w ∷ ws) marks n below = marks_of_worlds bs ws marks n (λ k v at. below (suc k) v at)
   marks_of_worlds (true ∷ bs) (w ∷ ws) marks n below =
       let first = mark_items r marks w.imports.entries in
-      let both_ = mark_items r first w.exports.entries in
       let long : length first ≡ length marks = mark_items_long marks w.imports.entries in
-      let long_both : length both_ ≡ length marks = mark_items_long first w.exports.entries ∙ long in
       let here = below zero w refl in
       let inline = is_inline_at r n in
       let imports = is_shown_in w.imports.entries n in
       let exports = is_shown_in w.exports.entries n in
-      let one : flag_under first n ≡ (flag_under marks n || (inline && imports)) = marks_in w.imports.entries marks n here.0 in
-      let two : flag_under both_ n ≡ (flag_under first n || (inline && exports)) = marks_in w.exports.entries first n (subst (λ k. AreShownBelow k w.exports.entries) (sym long) here.1) in
-      marks_of_worlds bs ws both_ n (subst (λ k. AreWorldsBelow k ws) (sym long_both) (λ k v at. below (suc k) v at))
-      ∙ (ap (λ b. b || (inline && is_shown_of bs ws n)) (two ∙ (ap (λ b. b || (inline && exports)) one ∙ joins (flag_under marks n) inline imports exports))
+      marks_of_worlds bs ws (mark_items r first w.exports.entries) n (subst (λ k. AreWorldsBelow k ws) (sym (mark_items_long first w.exports.entries ∙ long)) (λ k v at. below (suc k) v at))
+      ∙ (ap (λ b. b || (inline && is_shown_of bs ws n)) (marks_in w.exports.entries first n (subst (λ k. AreShownBelow k w.exports.entries) (sym long) here.1)
+      ∙ (ap (λ b. b || (inline && exports)) (marks_in w.imports.entries marks n here.0) ∙ joins (flag_under marks n) inline imports exports))
       ∙ joins (flag_under marks n) inline (imports || exports) (is_shown_of bs ws n))
+  marks_of_worlds _ _ marks n below = no_more (flag_under marks n) (is_inline_at r n)
 
 -- ---- which interfaces are copied
 
 new_at : (ms : List (Option InterfaceId)) (is : List Interface) → length ms ≡ length is → (n : ℕ) (i : Interface) → slice_get is n ≡ Some i
     → flag_under (new_interfaces ms is) n ≡ (not (is_some (given_interface (slice_get ms n))) && not (is_none i.name))
 new_at [] [] long n i at = let wrong : ⊥ = cc in absurd wrong
-new_at [] (j ∷ is) long n i at = absurd (omega (arith, long))
-new_at (m ∷ ms) [] long n i at = absurd (omega (arith, long))
 new_at (m ∷ ms) (j ∷ is) long zero i at = let same : j ≡ i = ap (λ o. unwrap_or o j) at in (λ k. none_is m k && not (is_none (same k).name))
 new_at (m ∷ ms) (j ∷ is) long (suc n) i at = new_at ms is (omega (arith, long)) n i at
+new_at _ _ long n i at = absurd (omega (arith, long))
 
 pub new_long : (ms : List (Option InterfaceId)) (is : List Interface) → length ms ≡ length is → length (new_interfaces ms is) ≡ length is
 new_long [] [] long = refl
-new_long [] (i ∷ is) long = absurd (omega (arith, long))
-new_long (m ∷ ms) [] long = absurd (omega (arith, long))
 new_long (m ∷ ms) (i ∷ is) long = ap suc (new_long ms is (omega (arith, long)))
+new_long _ _ long = absurd (omega (arith, long))
 
 module _ (other : Resolve) (matched : List (Option InterfaceId)) (worlds : List Bool) (long : length matched ≡ length other.interfaces.items) (below : AreWorldsBelow (length other.interfaces.items) other.worlds.items) where
   abbrev new : List Bool

@@ -24,16 +24,14 @@ module _ {X Y : Type 0} (P : X → Y → Type 0) (xs : List X) where
   -- one more is moved
   pub one_moved : (left rest : List X) (old now new : List Y) (place : ℕ) (x : X) (y : Y) → left ≡ x ∷ rest → P x y → new ≡ set now place y → AreMovedSoFar P xs left old now place
       → AreMovedSoFar P xs rest old new (place + 1)
-  one_moved left rest old now new place x y at p is s =
-      let here = drop_more old place y (has_place left rest old now place x at s) in
-      record {
-        moved = s.moved ++ y ∷ [];
-        count = let count = s.count in let both = length-append s.moved (y ∷ []) in omega (arith, count, both);
-        placed = is ∙ ((λ i. set ((s.placed ∙ ap (λ l. s.moved ++ l) here) i) (sym s.count i) y)
-            ∙ (set-append_seam s.moved _ (drop (place + 1) old) y ∙ sym (append_assoc s.moved (y ∷ []) (drop (place + 1) old))));
-        so_far = λ later z. subst (AllZip P xs) (sym (append_assoc s.moved (y ∷ []) later)) (s.so_far (y ∷ later) (subst (λ l. AllZip P l (y ∷ later)) (sym at) (p, z)));
-        room = let room = s.room in let long = ap length at in omega (arith, room, long);
-      }
+  one_moved left rest old now new place x y at p is s = record {
+    moved = s.moved ++ y ∷ [];
+    count = let count = s.count in let both = length-append s.moved (y ∷ []) in omega (arith, count, both);
+    placed = is ∙ ((λ i. set ((s.placed ∙ ap (λ l. s.moved ++ l) (drop_more old place y (has_place left rest old now place x at s))) i) (sym s.count i) y)
+        ∙ (set-append_seam s.moved _ (drop (place + 1) old) y ∙ sym (append_assoc s.moved (y ∷ []) (drop (place + 1) old))));
+    so_far = λ later z. subst (AllZip P xs) (sym (append_assoc s.moved (y ∷ []) later)) (s.so_far (y ∷ later) (subst (λ l. AllZip P l (y ∷ later)) (sym at) (p, z)));
+    room = let room = s.room in let long = ap length at in omega (arith, room, long);
+  }
 
   -- all are moved
   pub all_moved : (left : List X) (old now : List Y) (place : ℕ) → left ≡ [] → AreMovedSoFar P xs left old now place → AreMoved P xs old now
@@ -70,8 +68,7 @@ pub numbers_first : (own first : ℕ) (none : List TypeDef) (fates same : List F
     → numbers ≡ numbers_by (own + length none) fates → numbers ≡ numbers_by first same
 numbers_first own first none fates same numbers many empty are is = search std_rules
 
-pub places_first : (none : List TypeDef) (fates same : List Fate) (places : List TypeDef) → none ≡ [] → fates ≡ same → length places ≡ length none + copies_of fates
-    → length places ≡ copies_of same
+pub places_first : (none : List TypeDef) (fates same : List Fate) (places : List TypeDef) → none ≡ [] → fates ≡ same → length places ≡ length none + copies_of fates → length places ≡ copies_of same
 places_first none fates same places empty are is = search std_rules
 
 -- ---- types that are moved
@@ -84,9 +81,8 @@ no_types (t ∷ ts) fs none = ap (copied_types (t ∷ ts)) none
 module _ (numbers : List ℕ) (xs : List (TypeOwner × TypeDef)) (fs : List Fate) (t : TypeDef) (ts : List TypeDef) (left : List (TypeOwner × TypeDef)) (old now : List TypeDef) (place : ℕ) where
   -- there is a place for one that is copied
   pub fate_room : (f : Fate) → left ≡ copied_types (t ∷ ts) (f ∷ fs) → copies f ≡ true → AreMovedSoFar (IsCopiedType numbers) xs left old now place → place < length now
-  fate_room fate.Left at is s = no_true is
-  fate_room (fate.Stands k) at is s = no_true is
   fate_room (fate.Copied home) at is s = place_there (IsCopiedType numbers) xs left (copied_types ts fs) old now place (home, t) at s
+  fate_room _ at is s = no_true is
 
   -- and there it is moved, and all else is left
   pub fate_moved : (f : Fate) (new : List TypeDef) (next : ℕ) → left ≡ copied_types (t ∷ ts) (f ∷ fs) → IsMovedBy numbers f t place now new next

@@ -70,16 +70,15 @@ module _ {X : Type 0} where
   fresh_behind : (es news : List (String Global × X)) → list_all (is_fresh es) news ≡ true → IsDistinct string_eq (keys_of news) → insert_all string_eq es news ≡ es ++ news
   unfolding IsDistinct
   fresh_behind es [] new distinct = sym (append-nil es)
-  fresh_behind es (y ∷ ys) new distinct =
-      search (
-        std_rules,
-        insert_fresh,
-        first_true,
-        still_fresh,
-        second_true,
-        append_assoc,
-        fresh_behind (es ++ y ∷ []) ys (still_fresh es y ys (second_true (is_fresh es y) (list_all (is_fresh es) ys) new) distinct.0) distinct.1,
-      )
+  fresh_behind es (y ∷ ys) new distinct = search (
+    std_rules,
+    insert_fresh,
+    first_true,
+    still_fresh,
+    second_true,
+    append_assoc,
+    fresh_behind (es ++ y ∷ []) ys (still_fresh es y ys (second_true (is_fresh es y) (list_all (is_fresh es) ys) new) distinct.0) distinct.1,
+  )
 
 -- entries of the same names, one by one
 abbrev pub KeepsNames : {X Y : Type 0} → (String Global × X → String Global × Y → Type 0) → Type 0
@@ -89,9 +88,8 @@ KeepsNames {X} {Y} R = (a : String Global × X) (b : String Global × Y) → R a
 pub names_along : {X Y : Type 0} (R : String Global × X → String Global × Y → Type 0) → KeepsNames R → (xs : List (String Global × X)) (ys : List (String Global × Y)) → AllZip R xs ys
     → names_in ys ≡ names_in xs
 names_along R keeps [] [] zip = refl
-names_along R keeps [] (y ∷ ys) zip = absurd zip
-names_along R keeps (x ∷ xs) [] zip = absurd zip
 names_along R keeps (x ∷ xs) (y ∷ ys) zip = ap₂ (λ a b. a ∷ b) (keeps x y zip.0) (names_along R keeps xs ys zip.1)
+names_along R keeps _ _ zip = absurd zip
 
 same_first : {a b : Text} {us vs : List Text} → a ∷ us ≡ b ∷ vs → a ≡ b
 same_first e = cc
@@ -119,16 +117,13 @@ module _ {X Y : Type 0} (R : String Global × X → String Global × Y → Type 
   fresh_along : {Z : Type 0} (es : List (String Global × Z)) (xs : List (String Global × X)) (ys : List (String Global × Y)) → AllZip R xs ys → list_all (is_fresh es) xs ≡ true
       → list_all (is_fresh es) ys ≡ true
   fresh_along es [] [] zip h = refl
-  fresh_along es [] (y ∷ ys) zip h = absurd zip
-  fresh_along es (x ∷ xs) [] zip h = absurd zip
-  fresh_along es (x ∷ xs) (y ∷ ys) zip h =
-      search (std_rules, both, first_true, second_true, fresh_along es xs ys zip.1 (second_true (is_fresh es x) (list_all (is_fresh es) xs) h))
+  fresh_along es (x ∷ xs) (y ∷ ys) zip h = search (std_rules, both, first_true, second_true, fresh_along es xs ys zip.1 (second_true (is_fresh es x) (list_all (is_fresh es) xs) h))
+  fresh_along es _ _ zip h = absurd zip
 
   -- so copies of what is new stand behind what was there
   pub copies_behind : (test : String Global × X → Bool) (own : List (String Global × Y)) (olds : List (String Global × X)) (news : List (String Global × Y)) → AllZip R (filter test olds) news
       → IsDistinct string_eq (keys_of olds) → ((e : String Global × X) → Contains olds e → test e ≡ true → is_fresh own e ≡ true) → insert_all string_eq own news ≡ own ++ news
-  copies_behind test own olds news zip distinct each =
-      fresh_behind own news (fresh_along own (filter test olds) news zip (passes_of_filter test (is_fresh own) olds each))
+  copies_behind test own olds news zip distinct each = fresh_behind own news (fresh_along own (filter test olds) news zip (passes_of_filter test (is_fresh own) olds each))
       (distinct_along (filter test olds) news zip (IsDistinct-keys_filter string_eq test olds distinct))
 
 -- ---- what stands in a package's maps
@@ -177,8 +172,7 @@ module _ (r : Resolve) (valid : IsValid r) (home : ℕ) (p : Package) (at : pack
         id = id.0;
         in_package = id.1;
         number = id.2;
-        path = path_parts r i.0
-            ∙ ((λ z. path_by r ((ap optional_text label.1 ∙ ap Some label.2) z) ((ap package_number id.1 ∙ ap Some id.2) z)) ∙ spelled name);
+        path = path_parts r i.0 ∙ ((λ z. path_by r ((ap optional_text label.1 ∙ ap Some label.2) z) ((ap package_number id.1 ∙ ap Some id.2) z)) ∙ spelled name);
       }
 
   pub listed_world : (name : Text) (n : ℕ) → Contains (world_names p) (name, n) → IsListedWorld r home p name n
@@ -222,20 +216,16 @@ pub record IsGrownOf (flags : List Bool) (numbers : List ℕ) (packages : List P
   pub rank_is : i ≡ rank flags place
 
 pub grown_of : (flags : List Bool) (ns : List ℕ) (ps : List Package) (i : ℕ) (e : ℕ × Package) → slice_get (grown_packages flags ns ps) i ≡ Some e → IsGrownOf flags ns ps i e
-grown_of [] ns ps i e at = let wrong : ⊥ = cc in absurd wrong
-grown_of (b ∷ bs) [] ps i e at = let wrong : ⊥ = cc in absurd wrong
-grown_of (b ∷ bs) (n ∷ ns) [] i e at = let wrong : ⊥ = cc in absurd wrong
 grown_of (true ∷ bs) (n ∷ ns) (p ∷ ps) i e at =
     let r = grown_of bs ns ps i e at in record { place = suc r.place; at_place = r.at_place; bare = r.bare; number = r.number; rank_is = r.rank_is }
 grown_of (false ∷ bs) (n ∷ ns) (p ∷ ps) zero e at = search std_rules
 grown_of (false ∷ bs) (n ∷ ns) (p ∷ ps) (suc i) e at =
     let r = grown_of bs ns ps i e at in record { place = suc r.place; at_place = r.at_place; bare = r.bare; number = r.number; rank_is = ap suc r.rank_is }
+grown_of _ _ _ i e at = let wrong : ⊥ = cc in absurd wrong
 
 -- what an own package gains of the package of a place that isn't new
 pub gain_of : (c : Carried) (flags : List Bool) (ns : List ℕ) (ps : List Package) (gs : List Names) → AllZip (IsGained c) (grown_packages flags ns ps) gs → length flags ≡ length ns
-    → (n : ℕ) (p : Package)
-    → slice_get flags n ≡ Some false → slice_get ps n ≡ Some p
-    → (i : ℕ) × (g : Names) × (slice_get gs i ≡ Some g) × IsGained c (number_under ns n, p) g
+    → (n : ℕ) (p : Package) → slice_get flags n ≡ Some false → slice_get ps n ≡ Some p → (i : ℕ) × (g : Names) × (slice_get gs i ≡ Some g) × IsGained c (number_under ns n, p) g
 gain_of c [] ns ps gs zip long n p bare at = nothing_there false bare
 gain_of c (b ∷ bs) [] ps gs zip long n p bare at = absurd (omega (arith, long))
 gain_of c (b ∷ bs) (k ∷ ns) [] gs zip long n p bare at = nothing_there p at
@@ -247,10 +237,9 @@ gain_of c (false ∷ bs) (k ∷ ns) (q ∷ ps) (g ∷ gs) zip long (suc n) p bar
 
 pub new_world_flag : (r : Resolve) (ms : List (Option WorldId)) (ws : List World) (n : ℕ) (o : Option WorldId) (w : World) → slice_get ms n ≡ Some o → slice_get ws n ≡ Some w
     → flag_under (new_worlds r ms ws) n ≡ (is_none o && not (is_root_world r w))
-new_world_flag r [] ws n o w a b = let wrong : ⊥ = cc in absurd wrong
-new_world_flag r (m ∷ ms) [] n o w a b = let wrong : ⊥ = cc in absurd wrong
 new_world_flag r (m ∷ ms) (x ∷ xs) zero o w a b = let p = some_same m o a in let q = some_same x w b in λ i. is_none (p i) && not (is_root_world r (q i))
 new_world_flag r (m ∷ ms) (x ∷ xs) (suc n) o w a b = new_world_flag r ms xs n o w a b
+new_world_flag r _ _ n o w a b = let wrong : ⊥ = cc in absurd wrong
 
 -- one of a name is found
 pub some_from : (name : PackageName) (n : ℕ) (ps : List Package) (k : ℕ) (p : Package) → slice_get ps k ≡ Some p → same_package_name name p.name ≡ true → (id : PackageId)
@@ -290,39 +279,22 @@ module _ (own other : Resolve) (valid_other : IsValid other) (m : Matches) (c : 
     -- an interface is copied where its name is new in the own package
     pub copied_interface : (e : String Global × InterfaceId) → Contains q.interfaces.entries e → flag_under c.copied_interfaces.items e.1.0 ≡ is_fresh p.interfaces.entries e
     copied_interface e held =
-        chosen.named e.1.0 x.interface_ x.found (ap is_some x.named)
-        ∙ ap not (ap (λ o. is_some (given_interface o)) matched ∙ (ap is_some found ∙ found_in_names (text_of e.0) p.interfaces.entries))
-      where
-        x : IsListedInterface other k q (text_of e.0) e.1.0
-        x = interface_of other valid_other k q at e held
-
-        matched : slice_get m.interfaces.items e.1.0 ≡ Some (own_interface_of own m.packages.items x.interface_)
-        matched = ap (λ l. slice_get l e.1.0) by_name.interfaces ∙ mapped_at (own_interface_of own m.packages.items) other.interfaces.items e.1.0 x.interface_ x.found
-
-        found : own_interface_of own m.packages.items x.interface_ ≡ get_by_text p.interfaces (text_of e.0)
-        found =
-            ap (option_and_then (λ (s : String Global). interface_in own m.packages.items x.interface_.«package» (text_of s))) x.named
-            ∙ ((λ i. interface_in own m.packages.items (x.in_package i) (x.text i))
-            ∙ (interface_looked own m.packages.items k (Some home.0) home.1 x.id (text_of e.0) x.number
-            ∙ ap (option_and_then (λ (p : Package). get_by_text p.interfaces (text_of e.0))) (ap (package_at own) home.2 ∙ at_own)))
+        let x = interface_of other valid_other k q at e held in
+        let matched = ap (λ l. slice_get l e.1.0) by_name.interfaces ∙ mapped_at (own_interface_of own m.packages.items) other.interfaces.items e.1.0 x.interface_ x.found in
+        let found = ap (option_and_then (λ (s : String Global). interface_in own m.packages.items x.interface_.«package» (text_of s))) x.named
+        ∙ ((λ i. interface_in own m.packages.items (x.in_package i) (x.text i))
+        ∙ (interface_looked own m.packages.items k (Some home.0) home.1 x.id (text_of e.0) x.number
+        ∙ ap (option_and_then (λ (p : Package). get_by_text p.interfaces (text_of e.0))) (ap (package_at own) home.2 ∙ at_own))) in
+        chosen.named e.1.0 x.interface_ x.found (ap is_some x.named) ∙ ap not (ap (λ o. is_some (given_interface o)) matched ∙ (ap is_some found ∙ found_in_names (text_of e.0) p.interfaces.entries))
 
     -- and a world, but for the root world
     pub copied_world : (e : String Global × WorldId) (held : Contains q.worlds.entries e)
         → flag_under c.copied_worlds.items e.1.0 ≡ (is_fresh p.worlds.entries e && not (is_root_world other (world_of other valid_other k q at e held).world))
     copied_world e held =
-        ap (λ l. flag_under l e.1.0) numbered.copied_worlds
-        ∙ (new_world_flag other m.worlds.items other.worlds.items e.1.0 (own_world_of own m.packages.items x.world) x.world matched x.found
-        ∙ ap (λ b. b && not (is_root_world other x.world))
-        (none_not_some (own_world_of own m.packages.items x.world) ∙ ap not (ap is_some found ∙ found_in_names (text_of e.0) p.worlds.entries)))
-      where
-        x : IsListedWorld other k q (text_of e.0) e.1.0
-        x = world_of other valid_other k q at e held
-
-        matched : slice_get m.worlds.items e.1.0 ≡ Some (own_world_of own m.packages.items x.world)
-        matched = ap (λ l. slice_get l e.1.0) by_name.worlds ∙ mapped_at (own_world_of own m.packages.items) other.worlds.items e.1.0 x.world x.found
-
-        found : own_world_of own m.packages.items x.world ≡ get_by_text p.worlds (text_of e.0)
-        found =
-            (λ i. world_in own m.packages.items (x.in_package i) (x.text i))
-            ∙ (world_looked own m.packages.items k (Some home.0) home.1 x.id (text_of e.0) x.number
-            ∙ ap (option_and_then (λ (p : Package). get_by_text p.worlds (text_of e.0))) (ap (package_at own) home.2 ∙ at_own))
+        let x = world_of other valid_other k q at e held in
+        let matched = ap (λ l. slice_get l e.1.0) by_name.worlds ∙ mapped_at (own_world_of own m.packages.items) other.worlds.items e.1.0 x.world x.found in
+        let found : own_world_of own m.packages.items x.world ≡ get_by_text p.worlds (text_of e.0) =
+        (λ i. world_in own m.packages.items (x.in_package i) (x.text i)) ∙ (world_looked own m.packages.items k (Some home.0) home.1 x.id (text_of e.0) x.number
+        ∙ ap (option_and_then (λ (p : Package). get_by_text p.worlds (text_of e.0))) (ap (package_at own) home.2 ∙ at_own)) in
+        ap (λ l. flag_under l e.1.0) numbered.copied_worlds ∙ (new_world_flag other m.worlds.items other.worlds.items e.1.0 (own_world_of own m.packages.items x.world) x.world matched x.found
+        ∙ ap (λ b. b && not (is_root_world other x.world)) (none_not_some (own_world_of own m.packages.items x.world) ∙ ap not (ap is_some found ∙ found_in_names (text_of e.0) p.worlds.entries)))

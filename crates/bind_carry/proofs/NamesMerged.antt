@@ -3,8 +3,8 @@ use Rattle.base_lemmas.proofs.{Bools.and_flip, Bools.both_ways as either_way, Bo
 use Rattle.base_lemmas.proofs.{Elements.contains-later, Elements.zip_at_right as zip_at, Lists.map_of_map as map_twice, Lists.mapped_get as mapped_at}
 use Rattle.base_lemmas.proofs.Options.{none_is as no_version}
 use Rattle.bind_add.specs.{Growth.GainsNone, Growth.HasGained, Growth.HaveGained, declared.added.Names.Names}
-use Rattle.bind_carry.proofs.{CopiesPlaced.some_same, FirstNumbers.chosen_so, FirstOfUnion.IsFound, FirstOfUnion.found_own, FirstOfUnion.some_gains}
-use Rattle.bind_carry.proofs.{InsertedBehind.filter_whole, NamesGained.IsGrownOf, NamesGained.IsHome, NamesGained.IsListedInterface, NamesGained.IsListedWorld}
+use Rattle.bind_carry.proofs.{CopiesPlaced.some_same, FirstNumbers.chosen_so, FirstOfUnion.found_own, FirstOfUnion.some_gains}
+use Rattle.bind_carry.proofs.{InsertedBehind.filter_whole, NamesGained.IsGrownOf, NamesGained.IsHome}
 use Rattle.bind_carry.proofs.NamesGained.{copied_interface, copied_world, gain_of, grown_of, home_of, interface_looked, interface_of, names_along}
 use Rattle.bind_carry.proofs.{NamesGained.new_world_flag, NamesGained.some_from, NamesGained.world_looked, NamesGained.world_of, Ranges.is_in_range}
 use Rattle.bind_carry.proofs.UnionDistinct.{interfaces_behind, matched_all, worlds_behind}
@@ -19,7 +19,7 @@ use Rattle.bind_meaning.proofs.{KeyNames.Lacks, KeyNames.goes-on, KeyNames.same_
 use Rattle.bind_meaning.specs.Binding.{package_text}
 use Rattle.bind_union.proofs.{Carrying.same_identity, Lists.no_true}
 use Rattle.indexmap.specs.IndexMap.{IsUnique}
-use Rattle.std.proofs.Common.{Bool, List, None, Option, Some, [], ap, append-nil, ap₂, arith, cond, false, inl, inr, is_some, length, map, not, option_and_then, refl, rules as std_rules, slice_get, string_eq, subst, suc, sym, true, unwrap_or, zero, ℕ, ◌&&◌, ◌++◌, ◌+◌, ◌∙◌, ◌∷◌, ◌≡◌, ◌⊎◌}
+use Rattle.std.proofs.Common.{Bool, List, None, Option, Some, [], ap, append-nil, ap₂, arith, cond, false, inl, inr, is_some, length, map, not, option_and_then, refl, rules as std_rules, slice_get, string_eq, subst, suc, sym, true, unwrap_or, zero, ℕ, ◌&&◌, ◌++◌, ◌+◌, ◌∙◌, ◌∷◌, ◌≡◌}
 use Rattle.std.proofs.lemmas.{Bool.and_from as both, List.map-append}
 use Rattle.std.specs.{Cmp.Lexicographic.texts_ties, FinMap.find, List.AllZip, List.Contains, List.filter, List.list_any, Option.option_map_or}
 use Rattle.std.specs.{Ordering.eq_by_cmp, Prelude.String, Prelude.codes, Prelude.is_none, declared.alloc.Global.Global}
@@ -43,14 +43,11 @@ end_same xs ys (Some v) None h k e = absurd (goes-on 64 xs v (subst (Lacks 64) (
 -- ---- packages
 
 pub one_package : (a b : PackageIdentity) → is_identity a ≡ true → is_identity b ≡ true → package_text a ≡ package_text b → a ≡ b
-one_package a b h k e = λ i. record { namespace = x.0 i; name = y.0 i; version = y.1 i }
-  where
-    x : (a.namespace ≡ b.namespace) × (a.name ++ at_version a.version ≡ b.name ++ at_version b.version)
-    x = same_cut 58 a.namespace (a.name ++ at_version a.version) b.namespace (b.name ++ at_version b.version) (label_lacks 58 refl a.namespace (identity_namespace a h))
-        (label_lacks 58 refl b.namespace (identity_namespace b k)) e
-
-    y : (a.name ≡ b.name) × (a.version ≡ b.version)
-    y = end_same a.name b.name a.version b.version (label_lacks 64 refl a.name (identity_name a h)) (label_lacks 64 refl b.name (identity_name b k)) x.1
+one_package a b h k e =
+    let x = same_cut 58 a.namespace (a.name ++ at_version a.version) b.namespace (b.name ++ at_version b.version) (label_lacks 58 refl a.namespace (identity_namespace a h))
+    (label_lacks 58 refl b.namespace (identity_namespace b k)) e in
+    let y = end_same a.name b.name a.version b.version (label_lacks 64 refl a.name (identity_name a h)) (label_lacks 64 refl b.name (identity_name b k)) x.1 in
+    λ i. record { namespace = x.0 i; name = y.0 i; version = y.1 i }
 
 -- the text that names a package
 abbrev pub text_of_package : Package → Text
@@ -96,7 +93,7 @@ root_text p names = either_way (is_root_name p.name) (text_eq (text_of_package p
         (both (text_eq (text_of n.name) (codes "root")) (is_none n.version) (same_text (text_of n.name) (codes "root") (ap (λ (q : PackageIdentity). q.name) is))
         (versionless n.version (ap (λ (q : PackageIdentity). q.version) is)))
 
--- ---- what the page is for
+-- ---- What becomes of the names in a package: an own one's grow, and a new one has those that are carried.
 
 -- what a package's names become, by what is found for it
 abbrev joined : PackageNames → Option PackageNames → PackageNames
@@ -111,9 +108,8 @@ grown_is others p x e = search std_rules
 pointwise : {X Y Z : Type 0} (f : X → Z) (g : Y → Z) (xs : List X) (ys : List Y) → length xs ≡ length ys → ((n : ℕ) (x : X) (y : Y) → slice_get xs n ≡ Some x → slice_get ys n ≡ Some y → f x ≡ g y)
     → map f xs ≡ map g ys
 pointwise f g [] [] long each = refl
-pointwise f g [] (y ∷ ys) long each = absurd (omega (arith, long))
-pointwise f g (x ∷ xs) [] long each = absurd (omega (arith, long))
 pointwise f g (x ∷ xs) (y ∷ ys) long each = ap₂ (λ a b. a ∷ b) (each zero x y refl refl) (pointwise f g xs ys (omega (arith, long)) (λ n a b p q. each (suc n) a b p q))
+pointwise f g _ _ long each = absurd (omega (arith, long))
 
 kept_filter : {A : Type 0} (p : A → Bool) (xs : List A) → kept (map p xs) xs ≡ filter p xs
 kept_filter p [] = refl
@@ -148,9 +144,6 @@ filter_twice q r (x ∷ xs) = go (q x) refl (r x) (filter_twice q r xs)
 
 -- ---- what is found by a text
 
-ties : (s t : Text) → s ≡ t → eq_by_cmp text_cmp s t ≡ true
-ties s t e = sym (texts_ties s t) ∙ same_text s t e
-
 module _ (f : Package → Text × PackageNames) (t : Text) where
   found_at : (ps : List Package) (k : ℕ) (o : Package) → slice_get ps k ≡ Some o → (f o).0 ≡ t → ((j : ℕ) (q : Package) → slice_get ps j ≡ Some q → (f q).0 ≡ t → q ≡ o)
       → find text_cmp t (map f ps) ≡ Some (f o).1
@@ -160,7 +153,7 @@ module _ (f : Package → Text × PackageNames) (t : Text) where
       go : (b : Bool) → eq_by_cmp text_cmp t (f q).0 ≡ b → (k : ℕ) → slice_get (q ∷ qs) k ≡ Some o → ((j : ℕ) → slice_get qs j ≡ Some o → find text_cmp t (map f qs) ≡ Some (f o).1)
           → cond b (Some (f q).1) (find text_cmp t (map f qs)) ≡ Some (f o).1
       go true e k at later = ap (λ (x : Package). Some (f x).1) (once zero q refl (sym (tie_is t (f q).0 e)))
-      go false e zero at later = no_true (sym e ∙ ties t (f q).0 (sym (ap (λ (x : Package). (f x).0) (some_same q o at) ∙ is)))
+      go false e zero at later = no_true (sym e ∙ (sym (texts_ties t (f q).0) ∙ same_text t (f q).0 (sym (ap (λ (x : Package). (f x).0) (some_same q o at) ∙ is))))
       go false e (suc k) at later = later k at
 
   found_none : (ps : List Package) → ((j : ℕ) (q : Package) → slice_get ps j ≡ Some q → (f q).0 ≡ t → ⊥) → find text_cmp t (map f ps) ≡ None
@@ -212,25 +205,17 @@ module _ (own other : Resolve) (valid_own : IsValid own) (valid_other : IsValid 
   root_is : (k : ℕ) (o : Package) (at : package_at other k ≡ Some o) (e : String Global × WorldId) (held : Contains o.worlds.entries e)
       → is_root_world other (world_of other valid_other k o at e held).world ≡ is_root_in (text_of_package o) (text_of e.0)
   root_is k o at e held =
+      let x = world_of other valid_other k o at e held in
       ap (λ (h : Option PackageId). option_map_or (λ id. option_map_or (λ (p : Package). text_eq (text_of x.world.name) (codes "root") && is_root_name p.name) (package_at other id.0) false) h false)
-      x.in_package
-      ∙ (ap (λ (q : Option Package). option_map_or (λ p. text_eq (text_of x.world.name) (codes "root") && is_root_name p.name) q false) (ap (package_at other) x.number ∙ at)
-      ∙ ((λ i. text_eq (x.text i) (codes "root") && root_text o (other_named k o at) i)
-      ∙ and_flip (text_eq (text_of e.0) (codes "root")) (text_eq (text_of_package o) (codes "root:root"))))
-    where
-      x : IsListedWorld other k o (text_of e.0) e.1.0
-      x = world_of other valid_other k o at e held
+      x.in_package ∙ (ap (λ (q : Option Package). option_map_or (λ p. text_eq (text_of x.world.name) (codes "root") && is_root_name p.name) q false) (ap (package_at other) x.number ∙ at)
+      ∙ ((λ i. text_eq (x.text i) (codes "root") && root_text o (other_named k o at) i) ∙ and_flip (text_eq (text_of e.0) (codes "root")) (text_eq (text_of_package o) (codes "root:root"))))
 
   -- ---- own packages
 
   own_of : (k n : ℕ) (o p : Package) → package_at other k ≡ Some o → IsHome own other valid_other m c by_name numbered are k n → package_at own n ≡ Some p → same_package_name o.name p.name ≡ true
-  own_of k n o p at home at_own = ap (λ (x : Package). same_package_name o.name x.name) (sym there) ∙ found.same
-    where
-      found : IsFound o.name own.packages.items home.0.0
-      found = found_own own.packages.items o home.0 (some_same _ _ (sym (matched_package k o at) ∙ home.1))
-
-      there : found.there ≡ p
-      there = some_same found.there p (sym found.at_there ∙ (ap (package_at own) home.2 ∙ at_own))
+  own_of k n o p at home at_own =
+      let found = found_own own.packages.items o home.0 (some_same _ _ (sym (matched_package k o at) ∙ home.1)) in
+      ap (λ (x : Package). same_package_name o.name x.name) (sym (some_same found.there p (sym found.at_there ∙ (ap (package_at own) home.2 ∙ at_own)))) ∙ found.same
 
   module _ (gs : List Names) (zip : AllZip (IsGained c) (grown_packages c.new_packages.items c.packages.items other.packages.items) gs) where
     abbrev others : List (Text × PackageNames)
@@ -263,33 +248,26 @@ module _ (own other : Resolve) (valid_own : IsValid own) (valid_other : IsValid 
       found = ap (find text_cmp (text_of_package p)) others_are ∙ found_at brought (text_of_package p) other.packages.items from.place old from.at_place one_text once
         where
           once : (j : ℕ) (q : Package) → package_at other j ≡ Some q → text_of_package q ≡ text_of_package p → q ≡ old
-          once j q there e =
-              let same = same_of_texts q old (other_named j q there) (other_named from.place old from.at_place) (e ∙ sym one_text) in
-              let place : from.place ≡ j = package-once other valid_other j from.place q old there from.at_place same in
-              some_same q old (sym there ∙ (ap (package_at other) (sym place) ∙ from.at_place))
+          once j q there e = some_same q old (sym there ∙ (ap (package_at other) (sym (package-once other valid_other j from.place q old there from.at_place
+              (same_of_texts q old (other_named j q there) (other_named from.place old from.at_place) (e ∙ sym one_text)))) ∙ from.at_place))
 
       there : package_at own g.«package».0 ≡ Some p
       there = ap (package_at own) number ∙ at
 
       interfaces_are : names_in x.interfaces.entries ≡ texts_followed_by (names_in p.interfaces.entries) (names_in old.interfaces.entries)
       interfaces_are =
+          let test = is_copied_interface c.copied_interfaces.items in
           ap names_in (h.interfaces ∙ interfaces_behind own other valid_other m c by_name numbered are gs zip i g p at_g there)
           ∙ (map-append (λ (e : String Global × InterfaceId). text_of e.0) p.interfaces.entries g.interfaces.entries
-          ∙ ap (λ l. names_in p.interfaces.entries ++ l)
-          (names_along (IsInterfaceName c.interfaces.items) (λ a b r. r.0) (filter test old.interfaces.entries) g.interfaces.entries (gain.2.interfaces unique.0)
-          ∙ names_passed test (λ t. not (list_any (text_eq t) (names_in p.interfaces.entries))) old.interfaces.entries
-          (λ e held. copied_interface own other valid_other m c by_name numbered are from.place n old p from.at_place home at e held ∙ ap not
-          (sym (any_of_map (text_eq (text_of e.0)) (λ (y : String Global × InterfaceId). text_of y.0) p.interfaces.entries)))))
-        where
-          test : String Global × InterfaceId → Bool
-          test = is_copied_interface c.copied_interfaces.items
+          ∙ ap (λ l. names_in p.interfaces.entries ++ l) (names_along (IsInterfaceName c.interfaces.items) (λ a b r. r.0) (filter test old.interfaces.entries) g.interfaces.entries
+          (gain.2.interfaces unique.0) ∙ names_passed test (λ t. not (list_any (text_eq t) (names_in p.interfaces.entries))) old.interfaces.entries
+          (λ e held. copied_interface own other valid_other m c by_name numbered are from.place n old p from.at_place home at e held
+          ∙ ap not (sym (any_of_map (text_eq (text_of e.0)) (λ (y : String Global × InterfaceId). text_of y.0) p.interfaces.entries)))))
 
       worlds_are : names_in x.worlds.entries ≡ texts_followed_by (names_in p.worlds.entries) (brought old).1.worlds
-      worlds_are =
-          ap names_in (h.worlds ∙ worlds_behind own other valid_other m c by_name numbered are gs zip i g p at_g there)
+      worlds_are = ap names_in (h.worlds ∙ worlds_behind own other valid_other m c by_name numbered are gs zip i g p at_g there)
           ∙ (map-append (λ (e : String Global × WorldId). text_of e.0) p.worlds.entries g.worlds.entries
-          ∙ ap (λ l. names_in p.worlds.entries ++ l)
-          (names_along (IsWorldName c.worlds.items) (λ a b r. r.0) (filter test old.worlds.entries) g.worlds.entries (gain.2.worlds unique.1)
+          ∙ ap (λ l. names_in p.worlds.entries ++ l) (names_along (IsWorldName c.worlds.items) (λ a b r. r.0) (filter test old.worlds.entries) g.worlds.entries (gain.2.worlds unique.1)
           ∙ (names_passed test (λ t. fresh t && not (is_root_in (text_of_package old) t)) old.worlds.entries each
           ∙ filter_twice fresh (λ t. not (is_root_in (text_of_package old) t)) (names_in old.worlds.entries))))
         where
@@ -300,53 +278,35 @@ module _ (own other : Resolve) (valid_own : IsValid own) (valid_other : IsValid 
           fresh t = not (list_any (text_eq t) (names_in p.worlds.entries))
 
           each : (e : String Global × WorldId) → Contains old.worlds.entries e → test e ≡ (fresh (text_of e.0) && not (is_root_in (text_of_package old) (text_of e.0)))
-          each e held =
-              copied_world own other valid_other m c by_name numbered are from.place n old p from.at_place home at e held
+          each e held = copied_world own other valid_other m c by_name numbered are from.place n old p from.at_place home at e held
               ∙ ap₂ (λ s t. not s && not t) (sym (any_of_map (text_eq (text_of e.0)) (λ (y : String Global × WorldId). text_of y.0) p.worlds.entries)) (root_is from.place old from.at_place e held)
 
       gaining : listed x ≡ grown_names others (listed p)
-      gaining =
-          same_listed (listed x) (text_of_package p, joined (listed p).1 (Some (brought old).1)) (ap (λ (y : PackageName). package_text (identity_of y)) h.name) interfaces_are worlds_are
+      gaining = same_listed (listed x) (text_of_package p, joined (listed p).1 (Some (brought old).1)) (ap (λ (y : PackageName). package_text (identity_of y)) h.name) interfaces_are worlds_are
           ∙ sym (grown_is others (listed p) (Some (brought old).1) found)
 
     -- one that doesn't
     module _ (n : ℕ) (p : Package) (at : package_at own n ≡ Some p) (none : GainsNone gs n) where
       not_there : (j : ℕ) (q : Package) → package_at other j ≡ Some q → text_of_package q ≡ text_of_package p → ⊥
-      not_there j q there e = none y.0 y.1 y.2 (y.3.number ∙ (sym home.2 ∙ sym once))
-        where
-          id : (id : PackageId) × (own_package_of own.packages.items q ≡ Some id)
-          id = some_from q.name 0 own.packages.items n p at (same_of_texts q p (other_named j q there) (own_named n p at) e)
-
-          flag : slice_get c.new_packages.items j ≡ Some false
-          flag = ap (λ l. slice_get l j) numbered.new_packages ∙ mapped_at is_none m.packages.items j (Some id.0) (matched_package j q there ∙ ap Some id.1)
-
-          y : (i : ℕ) × (g : Names) × (slice_get gs i ≡ Some g) × IsGained c (number_under c.packages.items j, q) g
-          y = gain_of c c.new_packages.items c.packages.items other.packages.items gs zip numbered.whole.packages j q flag there
-
-          home : IsHome own other valid_other m c by_name numbered are j (number_under c.packages.items j)
-          home = home_of own other valid_other m c by_name numbered are j (number_under c.packages.items j) q there (ap (λ o. unwrap_or o false) flag) refl
-
-          found : IsFound q.name own.packages.items home.0.0
-          found = found_own own.packages.items q home.0 (some_same _ _ (sym (matched_package j q there) ∙ home.1))
-
-          texts : text_of_package found.there ≡ text_of_package p
-          texts = sym (texts_of_same q found.there (other_named j q there) (own_named home.0.0 found.there found.at_there) found.same) ∙ e
-
-          once : n ≡ home.0.0
-          once = package-once own valid_own home.0.0 n found.there p found.at_there at (same_of_texts found.there p (own_named home.0.0 found.there found.at_there) (own_named n p at) texts)
+      not_there j q there e =
+          let id = some_from q.name 0 own.packages.items n p at (same_of_texts q p (other_named j q there) (own_named n p at) e) in
+          let flag = ap (λ l. slice_get l j) numbered.new_packages ∙ mapped_at is_none m.packages.items j (Some id.0) (matched_package j q there ∙ ap Some id.1) in
+          let y = gain_of c c.new_packages.items c.packages.items other.packages.items gs zip numbered.whole.packages j q flag there in
+          let home = home_of own other valid_other m c by_name numbered are j (number_under c.packages.items j) q there (ap (λ o. unwrap_or o false) flag) refl in
+          let found = found_own own.packages.items q home.0 (some_same _ _ (sym (matched_package j q there) ∙ home.1)) in
+          let texts = sym (texts_of_same q found.there (other_named j q there) (own_named home.0.0 found.there found.at_there) found.same) ∙ e in
+          let once = package-once own valid_own home.0.0 n found.there p found.at_there at (same_of_texts found.there p (own_named home.0.0 found.there found.at_there) (own_named n p at) texts) in
+          none y.0 y.1 y.2 (y.3.number ∙ (sym home.2 ∙ sym once))
 
       staying : listed p ≡ grown_names others (listed p)
       staying = sym (grown_is others (listed p) None (ap (find text_cmp (text_of_package p)) others_are ∙ found_none brought (text_of_package p) other.packages.items not_there))
 
     own_listed : (ps : List Package) → HaveGained gs own.packages.items ps → (n : ℕ) (x p : Package) → slice_get ps n ≡ Some x → package_at own n ≡ Some p → listed x ≡ grown_names others (listed p)
-    own_listed ps h n x p at_x at = go (some_gains gs n)
-      where
-        go : ((i : ℕ) × (g : Names) × (slice_get gs i ≡ Some g) × (g.«package».0 ≡ n)) ⊎ GainsNone gs n → listed x ≡ grown_names others (listed p)
-        go (inl r) =
-            let q = h.gained r.0 r.1 p r.2 (ap (slice_get own.packages.items) r.3 ∙ at) in
-            let is : q.0 ≡ x = some_same q.0 x (sym q.1 ∙ (ap (slice_get ps) r.3 ∙ at_x)) in
-            gaining n r.0 r.1 p x r.2 r.3 at (subst (HasGained r.1 p) is q.2)
-        go (inr none) = ap listed (some_same x p (sym at_x ∙ (h.others n none ∙ at))) ∙ staying n p at none
+    own_listed ps h n x p at_x at = elim (some_gains gs n) [
+      | inl r ↦ let q = h.gained r.0 r.1 p r.2 (ap (slice_get own.packages.items) r.3 ∙ at) in
+          gaining n r.0 r.1 p x r.2 r.3 at (subst (HasGained r.1 p) (some_same q.0 x (sym q.1 ∙ (ap (slice_get ps) r.3 ∙ at_x))) q.2)
+      | inr none ↦ ap listed (some_same x p (sym at_x ∙ (h.others n none ∙ at))) ∙ staying n p at none
+    ]
 
     pub own_names : (ps : List Package) → HaveGained gs own.packages.items ps → map listed ps ≡ map (grown_names others) (map listed own.packages.items)
     own_names ps h = pointwise listed (λ p. grown_names others (listed p)) ps own.packages.items h.count (λ n x p at_x at. own_listed ps h n x p at_x at) ∙ sym
@@ -356,9 +316,6 @@ module _ (own other : Resolve) (valid_own : IsValid own) (valid_other : IsValid 
 
   abbrev is_new : Package → Bool
   is_new o = is_none (own_package_of own.packages.items o)
-
-  flags_are : c.new_packages.items ≡ map is_new other.packages.items
-  flags_are = numbered.new_packages ∙ (ap (map is_none) by_name.packages ∙ map_twice is_none (own_package_of own.packages.items) other.packages.items)
 
   abbrev own_list : List (Text × PackageNames)
   own_list = map listed own.packages.items
@@ -385,34 +342,20 @@ module _ (own other : Resolve) (valid_own : IsValid own) (valid_other : IsValid 
       apart = valid_other.distinct_keys.packages k o at
 
       each_interface : (e : String Global × InterfaceId) → Contains o.interfaces.entries e → flag_under c.copied_interfaces.items e.1.0 ≡ true
-      each_interface e held = are.named e.1.0 y.interface_ y.found (ap is_some y.named) ∙ ap not (ap (λ o. is_some (given_interface o)) matched ∙ ap is_some none)
-        where
-          y : IsListedInterface other k o (text_of e.0) e.1.0
-          y = interface_of other valid_other k o at e held
-
-          matched : slice_get m.interfaces.items e.1.0 ≡ Some (own_interface_of own m.packages.items y.interface_)
-          matched = ap (λ l. slice_get l e.1.0) by_name.interfaces ∙ mapped_at (own_interface_of own m.packages.items) other.interfaces.items e.1.0 y.interface_ y.found
-
-          none : own_interface_of own m.packages.items y.interface_ ≡ None
-          none =
-              ap (option_and_then (λ (s : String Global). interface_in own m.packages.items y.interface_.«package» (text_of s))) y.named
-              ∙ ((λ i. interface_in own m.packages.items (y.in_package i) (text_of y.label)) ∙ interface_looked own m.packages.items k None nothing y.id (text_of y.label) y.number)
+      each_interface e held =
+          let y = interface_of other valid_other k o at e held in
+          let matched = ap (λ l. slice_get l e.1.0) by_name.interfaces ∙ mapped_at (own_interface_of own m.packages.items) other.interfaces.items e.1.0 y.interface_ y.found in
+          let none = ap (option_and_then (λ (s : String Global). interface_in own m.packages.items y.interface_.«package» (text_of s))) y.named
+          ∙ ((λ i. interface_in own m.packages.items (y.in_package i) (text_of y.label)) ∙ interface_looked own m.packages.items k None nothing y.id (text_of y.label) y.number) in
+          are.named e.1.0 y.interface_ y.found (ap is_some y.named) ∙ ap not (ap (λ o. is_some (given_interface o)) matched ∙ ap is_some none)
 
       each_world : (e : String Global × WorldId) → Contains o.worlds.entries e → flag_under c.copied_worlds.items e.1.0 ≡ not (is_root_in (text_of_package o) (text_of e.0))
       each_world e held =
-          ap (λ l. flag_under l e.1.0) numbered.copied_worlds
-          ∙ (new_world_flag other m.worlds.items other.worlds.items e.1.0 (own_world_of own m.packages.items y.world) y.world matched y.found
-          ∙ (ap (λ o. is_none o && not (is_root_world other y.world)) none
-          ∙ ap not (root_is k o at e held)))
-        where
-          y : IsListedWorld other k o (text_of e.0) e.1.0
-          y = world_of other valid_other k o at e held
-
-          matched : slice_get m.worlds.items e.1.0 ≡ Some (own_world_of own m.packages.items y.world)
-          matched = ap (λ l. slice_get l e.1.0) by_name.worlds ∙ mapped_at (own_world_of own m.packages.items) other.worlds.items e.1.0 y.world y.found
-
-          none : own_world_of own m.packages.items y.world ≡ None
-          none = (λ i. world_in own m.packages.items (y.in_package i) (text_of y.world.name)) ∙ world_looked own m.packages.items k None nothing y.id (text_of y.world.name) y.number
+          let y = world_of other valid_other k o at e held in
+          ap (λ l. flag_under l e.1.0) numbered.copied_worlds ∙ (new_world_flag other m.worlds.items other.worlds.items e.1.0 (own_world_of own m.packages.items y.world) y.world
+          (ap (λ l. slice_get l e.1.0) by_name.worlds ∙ mapped_at (own_world_of own m.packages.items) other.worlds.items e.1.0 y.world y.found) y.found
+          ∙ (ap (λ o. is_none o && not (is_root_world other y.world)) ((λ i. world_in own m.packages.items (y.in_package i) (text_of y.world.name))
+          ∙ world_looked own m.packages.items k None nothing y.id (text_of y.world.name) y.number) ∙ ap not (root_is k o at e held)))
 
       new_names : listed x ≡ brought o
       new_names = same_listed (listed x) (brought o) (ap package_text (same_identity o.name x.name is.name))
@@ -439,30 +382,22 @@ module _ (own other : Resolve) (valid_own : IsValid own) (valid_other : IsValid 
           → ((xs : List Package) → AllZip (IsPackageCarried c) (filter is_new os) xs → map listed xs ≡ filter is_unlisted (map brought os))
           → map listed news ≡ cond (is_unlisted (brought o)) (brought o ∷ filter is_unlisted (map brought os)) (filter is_unlisted (map brought os))
       go true e [] z later = absurd z
-      go true e (x ∷ xs) z later =
-          ap₂ (λ p l. p ∷ l) (b.names x e z.0) (later xs z.1)
+      go true e (x ∷ xs) z later = ap₂ (λ p l. p ∷ l) (b.names x e z.0) (later xs z.1)
           ∙ ap (λ t. cond t (brought o ∷ filter is_unlisted (map brought os)) (filter is_unlisted (map brought os))) (sym e ∙ b.tells)
       go false e xs z later = later xs z ∙ ap (λ t. cond t (brought o ∷ filter is_unlisted (map brought os)) (filter is_unlisted (map brought os))) (sym e ∙ b.tells)
 
   pub new_list : (news : List Package) → AllZip (IsPackageCarried c) (kept c.new_packages.items other.packages.items) news
       → map listed news ≡ filter is_unlisted (map carried_names (map listed other.packages.items))
-  new_list news zip =
-      brought_names other.packages.items news
-      (subst (λ l. AllZip (IsPackageCarried c) l news) (ap (λ l. kept l other.packages.items) flags_are ∙ kept_filter is_new other.packages.items) zip)
-      (λ o held. let k = contains-get other.packages.items o held in is_brought k.0 o k.1)
+  new_list news zip = brought_names other.packages.items news (subst (λ l. AllZip (IsPackageCarried c) l news)
+      (ap (λ l. kept l other.packages.items) (numbered.new_packages ∙ (ap (map is_none) by_name.packages ∙ map_twice is_none (own_package_of own.packages.items) other.packages.items))
+      ∙ kept_filter is_new other.packages.items) zip) (λ o held. let k = contains-get other.packages.items o held in is_brought k.0 o k.1)
       ∙ ap (filter is_unlisted) (sym (map_twice carried_names listed other.packages.items))
 
 pub names_are_merged : NamesAreMerged
 names_are_merged own other merged world other_world m w v added keys u valid_own valid_other a by_name =
-    ap (map listed) a.packages.2
-    ∙ (map-append listed a.packages.0 added.packages.items
-    ∙ ap₂ (λ p q. p ++ q)
-    (own_names own other valid_own valid_other m u.carried by_name u.numbered are added.names.items gains a.packages.0 a.packages.1)
+    let are = chosen_so own other m u.carried (is_in_range other valid_other) (matched_all own other m by_name) u.numbered in
+    let gains = subst (AllZip (IsGained u.carried) (grown_packages u.carried.new_packages.items u.carried.packages.items other.packages.items)) (sym u.second.names) u.first.names in
+    ap (map listed) a.packages.2 ∙ (map-append listed a.packages.0 added.packages.items
+    ∙ ap₂ (λ p q. p ++ q) (own_names own other valid_own valid_other m u.carried by_name u.numbered are added.names.items gains a.packages.0 a.packages.1)
     (new_list own other valid_own valid_other m u.carried by_name u.numbered are added.packages.items
     (subst (AllZip (IsPackageCarried u.carried) (kept u.carried.new_packages.items other.packages.items)) (sym u.second.packages) u.first.packages)))
-  where
-    are : AreChosen other m.interfaces.items u.carried.copied_worlds.items u.carried.copied_interfaces.items
-    are = chosen_so own other m u.carried (is_in_range other valid_other) (matched_all own other m by_name) u.numbered
-
-    gains : AllZip (IsGained u.carried) (grown_packages u.carried.new_packages.items u.carried.packages.items other.packages.items) added.names.items
-    gains = subst (AllZip (IsGained u.carried) (grown_packages u.carried.new_packages.items u.carried.packages.items other.packages.items)) (sym u.second.names) u.first.names

@@ -2,7 +2,7 @@
 use Rattle.base_lemmas.proofs.{Elements.zip_at_right as zip_at, Lists.front_at, Lists.within_there}
 use Rattle.bind_add.specs.{Growth.GainsNone, declared.added.Names.Names}
 use Rattle.bind_carry.proofs.{CopiesPlaced.kept_from, Counting.carried_all, FirstNumbers.flag_within, FirstOfUnion.some_gains, NamesGained.grown_of}
-use Rattle.bind_carry.specs.{First.first_fates, FirstPass.IsFirstPass, Numbers.copied_count, Numbers.package_number, Packaged.IsGained}
+use Rattle.bind_carry.specs.{First.first_fates, FirstPass.IsFirstPass, Numbers.package_number, Packaged.IsGained}
 use Rattle.bind_carry.specs.{Packaged.IsPackageCarried, Packaged.grown_packages, Renumbered.first_of, declared.plan.Carried.Carried}
 use Rattle.bind_copy.specs.Copies.{number_under}
 use Rattle.bind_match.specs.declared.matches.Matches.{Matches}
@@ -16,26 +16,21 @@ use Rattle.wit_model.specs.{Lookup.package_at, declared.model.Package.Package, d
 pub package_from : (own other merged : Resolve) (m : Matches) (c : Carried) (numbers : List ℕ) (p : IsFirstPass own other merged m c numbers)
     → AllZip (IsGained c) (grown_packages c.new_packages.items c.packages.items other.packages.items) p.gains
     → (n : ℕ) → n < length merged.packages.items → IsKeptPackage own merged n ⊎ IsPackageOf other (first_of m.interfaces.items c (first_fates own other m.interfaces.items c) numbers) n
-package_from own other merged m c numbers p names n high = elim (in_two n (length own.packages.items)) [
-  | inl less ↦ (let q = within_there own.packages.items n less in old q.0 q.1 (some_gains p.gains n))
-  | inr more ↦ (let r = kept_from (length own.packages.items) c.new_packages.items (map package_number m.packages.items) n flags_long more (omega (arith, high, whole, count)) in
-      let inside = flag_within c.new_packages.items r.0 r.1 in
-      let x = within_there other.packages.items r.0 (omega (arith, inside, flags_many)) in
-      inr (record { number = r.0; old = x.0; found = x.1; here = ap (λ l. number_under l r.0) p.numbered.packages ∙ r.2 }))
-]
+package_from own other merged m c numbers p names n high =
+    let flags_many = ap length p.numbered.new_packages ∙ (length-map m.packages.items is_none ∙ p.all.packages) in
+    elim (in_two n (length own.packages.items)) [
+      | inl less ↦ (let q = within_there own.packages.items n less in old q.0 q.1 (some_gains p.gains n))
+      | inr more ↦ (let r = kept_from (length own.packages.items) c.new_packages.items (map package_number m.packages.items) n
+          (ap length p.numbered.new_packages ∙ (length-map m.packages.items is_none ∙ sym (length-map m.packages.items package_number))) more (omega (
+            arith,
+            high,
+            (ap length p.packages_here ∙ (length-append p.grown p.new_packages ∙ ap (λ k. k + length p.new_packages) p.gained.count)),
+            carried_all (IsPackageCarried c) c.new_packages.items other.packages.items p.new_packages flags_many p.packages,
+          )) in
+          let x = within_there other.packages.items r.0 (omega (arith, flag_within c.new_packages.items r.0 r.1, flags_many)) in
+          inr (record { number = r.0; old = x.0; found = x.1; here = ap (λ l. number_under l r.0) p.numbered.packages ∙ r.2 }))
+    ]
   where
-    flags_many : length c.new_packages.items ≡ length other.packages.items
-    flags_many = ap length p.numbered.new_packages ∙ (length-map m.packages.items is_none ∙ p.all.packages)
-
-    flags_long : length c.new_packages.items ≡ length (map package_number m.packages.items)
-    flags_long = ap length p.numbered.new_packages ∙ (length-map m.packages.items is_none ∙ sym (length-map m.packages.items package_number))
-
-    count : length p.new_packages ≡ copied_count c.new_packages.items
-    count = carried_all (IsPackageCarried c) c.new_packages.items other.packages.items p.new_packages flags_many p.packages
-
-    whole : length merged.packages.items ≡ length own.packages.items + length p.new_packages
-    whole = ap length p.packages_here ∙ (length-append p.grown p.new_packages ∙ ap (λ k. k + length p.new_packages) p.gained.count)
-
     old : (q : Package) → package_at own n ≡ Some q → ((i : ℕ) × (g : Names) × (slice_get p.gains i ≡ Some g) × (g.«package».0 ≡ n)) ⊎ GainsNone p.gains n → IsKeptPackage own merged n
         ⊎ IsPackageOf other (first_of m.interfaces.items c (first_fates own other m.interfaces.items c) numbers) n
     old q at (inl found) =

@@ -1,4 +1,5 @@
 -- Each package of the other stands in one of what is merged: in a new one with all its names, or in the own one of its name, behind the names that were there.
+use Rattle.bind_meaning.proofs.Listed.{by_option}
 use Rattle.base_lemmas.proofs.Lists.{front_at, mapped_get as mapped_at}
 use Rattle.bind_add.specs.{Growth.HasGained, declared.added.Names.Names}
 use Rattle.bind_carry.proofs.{CopiesPlaced.copied_behind, CopiesPlaced.nothing_there, CopiesPlaced.uncopied_under, FirstNumbers.chosen_so, FirstOfUnion.IsFound}
@@ -98,28 +99,22 @@ module _ (own other merged : Resolve) (valid_own : IsValid own) (valid_other : I
       found : IsFound p.name own.packages.items id.0
       found = found_own own.packages.items p id some
 
-      bare : flag_under c.new_packages.items n ≡ false
-      bare = ap (λ (o : Option Bool). unwrap_or o false) (flag (Some id) some)
-
       number : number_under c.packages.items n ≡ id.0
-      number = ap (λ l. number_under l n) pass.numbered.packages ∙ (uncopied_under (length own.packages.items) c.new_packages.items (map package_number m.packages.items) n long bare ∙ found_number
-          m.packages.items n id (matched (Some id) some))
+      number = ap (λ l. number_under l n) pass.numbered.packages ∙ (uncopied_under (length own.packages.items) c.new_packages.items (map package_number m.packages.items) n long
+          (ap (λ (o : Option Bool). unwrap_or o false) (flag (Some id) some)) ∙ found_number m.packages.items n id (matched (Some id) some))
 
       gain : (i : ℕ) × (g : Names) × (slice_get pass.gains i ≡ Some g) × IsGained c (number_under c.packages.items n, p) g
       gain = gain_of c c.new_packages.items c.packages.items other.packages.items pass.gains names pass.numbered.whole.packages n p (flag (Some id) some) at
 
       interfaces_here : (home : PackageId) (t : Text) → home.0 ≡ n
           → option_map (λ (k : InterfaceId). k.0) (interface_in own m.packages.items (Some home) t) ≡ under_text t (interface_names found.there)
-      interfaces_here home t here =
-          ap (option_map (λ (k : InterfaceId). k.0)) (interface_looked own m.packages.items n (Some id) (matched (Some id) some) home t here
+      interfaces_here home t here = ap (option_map (λ (k : InterfaceId). k.0)) (interface_looked own m.packages.items n (Some id) (matched (Some id) some) home t here
           ∙ ap (option_and_then (λ (q : Package). get_by_text q.interfaces t)) found.at_there)
           ∙ interfaces_by_name found.there t
 
       worlds_here : (home : PackageId) (t : Text) → home.0 ≡ n → option_map (λ (k : WorldId). k.0) (world_in own m.packages.items (Some home) t) ≡ under_text t (world_names found.there)
-      worlds_here home t here =
-          ap (option_map (λ (k : WorldId). k.0)) (world_looked own m.packages.items n (Some id) (matched (Some id) some) home t here
-          ∙ ap (option_and_then (λ (q : Package). get_by_text q.worlds t)) found.at_there)
-          ∙ worlds_by_name found.there t
+      worlds_here home t here = ap (option_map (λ (k : WorldId). k.0)) (world_looked own m.packages.items n (Some id) (matched (Some id) some) home t here
+          ∙ ap (option_and_then (λ (q : Package). get_by_text q.worlds t)) found.at_there) ∙ worlds_by_name found.there t
 
       new_interfaces : AllZip (IsInterfaceName c.interfaces.items) (filter (is_copied_interface c.copied_interfaces.items) p.interfaces.entries) gain.1.interfaces.entries
       new_interfaces = gain.3.interfaces unique.0
@@ -184,8 +179,4 @@ module _ (own other merged : Resolve) (valid_own : IsValid own) (valid_other : I
 
     -- Each package of the other stands in one of what is merged.
     pub package_stands : PackageStands own merged f (is_left_out other) n p
-    package_stands = go (own_package_of own.packages.items p) refl
-      where
-        go : (o : Option PackageId) → own_package_of own.packages.items p ≡ o → PackageStands own merged f (is_left_out other) n p
-        go None e = new_stands e
-        go (Some id) e = own_stands id e
+    package_stands = by_option (own_package_of own.packages.items p) (λ e. new_stands e) (λ id e. own_stands id e)

@@ -1,4 +1,5 @@
 -- With its owner, all that a type or a function refers to is carried: by the rule on owners, from the smaller numbers on.
+use Rattle.bind_carry.proofs.CopiesPlaced.{by_test}
 use Rattle.base_lemmas.proofs.{Bools.left_of as first_true, Bools.right_of as second_true, Elements.all_three, Elements.all_two, Elements.all_weaker}
 use Rattle.bind_carry.specs.CarriedParts.{AreCarriedByOwner, PartsAreCarried, is_function_carried}
 use Rattle.bind_union.proofs.{Carrying.references_of, Lists.no_true, WorldRules.by_entries}
@@ -44,9 +45,8 @@ has_home r valid n def is named = go def.name def.owner named (is_in_list r vali
     go : (name : Option (String Global)) (o : TypeOwner) → is_some name ≡ true → option_map_or (λ s. is_listed r n (text_of s) o) name (same_owner o owner.None) ≡ true
         → same_owner o owner.None ≡ false
     go None o e h = no_true e
-    go (Some s) (owner.World id) e h = refl
-    go (Some s) (owner.Interface id) e h = refl
     go (Some s) owner.None e h = no_true h
+    go (Some s) _ e h = refl
 
 -- and one without a name has none
 pub no_home : (r : Resolve) → IsValid r → (n : ℕ) (def : TypeDef) → type_at r n ≡ Some def → is_some def.name ≡ false → def.owner ≡ owner.None
@@ -63,17 +63,13 @@ module _ (r : Resolve) (carried : ℕ → Bool) (owned : TypeOwner → Bool) (va
     is_met n = list_all (has_owner r o) (met_by (met_of r) n)
 
     met_step_carried : (n : ℕ) (def : TypeDef) → type_at r n ≡ Some def → ((m : ℕ) → m < n → is_met m ≡ true → carried m ≡ true) → is_met n ≡ true → carried n ≡ true
-    met_step_carried n def is smaller met = go (is_some def.name) refl
-      where
-        go : (b : Bool) → is_some def.name ≡ b → carried n ≡ true
-        go true e = by.named n def is e (ap owned (owner_equal def.owner o (named_met r below n def is o e ∙ met)) ∙ is_owned)
-        go false e = by.unnamed n def is e (all_below_pass is_met carried n (kind_numbers def.kind) smaller (below_at r below n def is) (unnamed_met r below n def is o e ∙ met))
+    met_step_carried n def is smaller met = by_test (is_some def.name) (λ e. by.named n def is e (ap owned (owner_equal def.owner o (named_met r below n def is o e ∙ met)) ∙ is_owned))
+        (λ e. by.unnamed n def is e (all_below_pass is_met carried n (kind_numbers def.kind) smaller (below_at r below n def is) (unnamed_met r below n def is o e ∙ met)))
 
     met_below : (fuel n : ℕ) → n < fuel → (def : TypeDef) → type_at r n ≡ Some def → is_met n ≡ true → carried n ≡ true
     met_below zero n less def is met = absurd (omega (arith, less))
     met_below (suc fuel) n less def is met =
-        let within : n < length r.types.items = slice_get_within r.types.items n def is in
-        met_step_carried n def is (λ m low at_m. let d = found-in r.types.items m (lt-ltb m (length r.types.items) (omega (arith, low, within))) in
+        met_step_carried n def is (λ m low at_m. let d = found-in r.types.items m (lt-ltb m (length r.types.items) (omega (arith, low, slice_get_within r.types.items n def is))) in
         met_below fuel m (omega (arith, low, less)) d.0 d.1 at_m) met
 
     met_carried : (n : ℕ) → in_list r.types.items n ≡ true → is_met n ≡ true → carried n ≡ true
@@ -101,14 +97,12 @@ module _ (r : Resolve) (carried : ℕ → Bool) (owned : TypeOwner → Bool) (va
   target_carried o u (Some t) at named used = by_owner t.owner refl (second_true (not (same_owner t.owner o)) (is_named_home (owner_interface t.owner)) used)
     where
       by_owner : (p : TypeOwner) → t.owner ≡ p → is_named_home (owner_interface p) ≡ true → carried u ≡ true
-      by_owner (owner.World id) e h = no_true h
-      by_owner owner.None e h = no_true h
       by_owner (owner.Interface id) e h = by.named u t at named (ap owned e ∙ home_carried id.0 (interface_at r id.0) refl h)
+      by_owner _ e h = no_true h
 
   use_carried : (n : ℕ) (def : TypeDef) → type_at r n ≡ Some def → is_use r def ≡ true → list_all carried (kind_numbers def.kind) ≡ true
   unfolding named_kinds
-  use_carried n def is used =
-      go (alias_target def.kind) refl used
+  use_carried n def is used = go (alias_target def.kind) refl used
       (second_true (not (is_named_kind def.kind) || is_some def.name) (passes (is_named_number r) (alias_target def.kind)) (type_passes named_kinds r valid.rules.named_kinds n def is))
     where
       go : (a : Option ℕ) → alias_target def.kind ≡ a
@@ -119,8 +113,7 @@ module _ (r : Resolve) (carried : ℕ → Bool) (owned : TypeOwner → Bool) (va
 
   kind_in_range : (n : ℕ) (def : TypeDef) → type_at r n ≡ Some def → list_all (in_list r.types.items) (kind_numbers def.kind) ≡ true
   unfolding numbers_in_range
-  kind_in_range n def is =
-      first_true (list_all (in_list r.types.items) (kind_numbers def.kind)) (owner_in_range r def.owner)
+  kind_in_range n def is = first_true (list_all (in_list r.types.items) (kind_numbers def.kind)) (owner_in_range r def.owner)
       (second_true (is_place n) (list_all (in_list r.types.items) (kind_numbers def.kind) && owner_in_range r def.owner) (type_passes numbers_in_range r valid.rules.numbers_in_range n def is))
 
   type_parts : (n : ℕ) (def : TypeDef) → type_at r n ≡ Some def → is_some def.name ≡ true → owned def.owner ≡ true → list_all carried (kind_numbers def.kind) ≡ true
@@ -137,29 +130,19 @@ module _ (r : Resolve) (carried : ℕ → Bool) (owned : TypeOwner → Bool) (va
 
   interface_functions : (n : ℕ) (i : Interface) → interface_at r n ≡ Some i → owned (as_interface n) ≡ true → list_all (is_function_carried carried) (functions_of_interface i) ≡ true
   unfolding owners numbers_in_range function_names
-  interface_functions n i is is_owned = all_three (function_in_range r) (function_stays r o) (is_member r o) (is_function_carried carried) (function_carried o is_owned) (values i.functions) range
-      stays members
-    where
-      o : TypeOwner
-      o = as_interface n
-
-      range : list_all (function_in_range r) (values i.functions) ≡ true
-      range =
-          let all = interface-passes numbers_in_range r valid.rules.numbers_in_range n i is in
-          let types = second_true (passes (in_list r.packages.items) (package_number i.«package»))
-          (list_all (λ id. in_list r.types.items id.0) (values i.types) && list_all (function_in_range r) (values i.functions))
-          (second_true (is_place n) (passes (in_list r.packages.items) (package_number i.«package»)
-          && (list_all (λ id. in_list r.types.items id.0) (values i.types) && list_all (function_in_range r) (values i.functions))) all) in
-          second_true (list_all (λ id. in_list r.types.items id.0) (values i.types)) (list_all (function_in_range r) (values i.functions)) types
-
-      stays : list_all (function_stays r o) (values i.functions) ≡ true
-      stays = first_true (list_all (function_stays r o) (values i.functions)) (list_all (λ m. nat_lt m n) (direct_deps r n)) (interface-passes owners r valid.rules.owners n i is)
-
-      members : list_all (is_member r o) (values i.functions) ≡ true
-      members =
-          list_all-map (is_member r o) (λ e. e.1) i.functions.entries
-          ∙ all_weaker (λ (e : String Global × Function). text_eq (text_of e.0) (text_of e.1.name) && is_member r o e.1) (λ e. is_member r o e.1)
-          (λ e h. second_true (text_eq (text_of e.0) (text_of e.1.name)) (is_member r o e.1) h) i.functions.entries (interface-passes function_names r valid.rules.function_names n i is)
+  interface_functions n i is is_owned =
+      let o = as_interface n in
+      all_three (function_in_range r) (function_stays r o) (is_member r o) (is_function_carried carried) (function_carried o is_owned) (values i.functions)
+      (second_true (list_all (λ id. in_list r.types.items id.0) (values i.types)) (list_all (function_in_range r) (values i.functions))
+      (second_true (passes (in_list r.packages.items) (package_number i.«package»))
+      (list_all (λ id. in_list r.types.items id.0) (values i.types) && list_all (function_in_range r) (values i.functions))
+      (second_true (is_place n) (passes (in_list r.packages.items) (package_number i.«package»)
+      && (list_all (λ id. in_list r.types.items id.0) (values i.types) && list_all (function_in_range r) (values i.functions)))
+      (interface-passes numbers_in_range r valid.rules.numbers_in_range n i is))))
+      (first_true (list_all (function_stays r o) (values i.functions)) (list_all (λ m. nat_lt m n) (direct_deps r n)) (interface-passes owners r valid.rules.owners n i is))
+      (list_all-map (is_member r o) (λ e. e.1) i.functions.entries ∙ all_weaker (λ (e : String Global × Function). text_eq (text_of e.0) (text_of e.1.name) && is_member r o e.1)
+      (λ e. is_member r o e.1) (λ e h. second_true (text_eq (text_of e.0) (text_of e.1.name)) (is_member r o e.1) h) i.functions.entries
+      (interface-passes function_names r valid.rules.function_names n i is))
 
   -- what an item's function is asked
   abbrev item_passes : (Function → Bool) → WorldKey × WorldItem → Bool
@@ -173,29 +156,20 @@ module _ (r : Resolve) (carried : ℕ → Bool) (owned : TypeOwner → Bool) (va
 
   world_functions : (n : ℕ) (w : World) → world_at r n ≡ Some w → owned (as_world n) ≡ true → list_all (is_function_carried carried) (functions_of_world w) ≡ true
   unfolding owners numbers_in_range function_names
-  world_functions n w is is_owned = all_three (function_in_range r) (function_stays r o) (is_member r o) (is_function_carried carried) (function_carried o is_owned) (functions_of_world w) range
+  world_functions n w is is_owned =
+      let o = as_world n in
+      let all = second_true (passes (in_list r.packages.items) (package_number w.«package»)) (entries_in_range r w.imports.entries && entries_in_range r w.exports.entries)
+      (second_true (is_place n) (passes (in_list r.packages.items) (package_number w.«package») && (entries_in_range r w.imports.entries && entries_in_range r w.exports.entries))
+      (world_passes numbers_in_range r valid.rules.numbers_in_range n w is)) in
+      let weaker = all_weaker (λ (e : WorldKey × WorldItem). key_in_range r e.0 && item_in_range r e.1) (item_passes (function_in_range r)) entry_in_range in
+      let range = by_entries (function_in_range r) w ∙ both (list_all (item_passes (function_in_range r)) w.imports.entries) (list_all (item_passes (function_in_range r)) w.exports.entries)
+      (weaker w.imports.entries (first_true (entries_in_range r w.imports.entries) (entries_in_range r w.exports.entries) all))
+      (weaker w.exports.entries (second_true (entries_in_range r w.imports.entries) (entries_in_range r w.exports.entries) all)) in
+      let passed = all_weaker (λ (e : WorldKey × WorldItem). passes (λ f. is_name_key (text_of f.name) e.0 && is_member r o f) (item_function e.1)) (item_passes (is_member r o)) (entry_member o)
+      (w.imports.entries ++ w.exports.entries) (world_passes function_names r valid.rules.function_names n w is) in
+      let members = by_entries (is_member r o) w ∙ (sym (list_all-append (item_passes (is_member r o)) w.imports.entries w.exports.entries) ∙ passed) in
+      all_three (function_in_range r) (function_stays r o) (is_member r o) (is_function_carried carried) (function_carried o is_owned) (functions_of_world w) range
       (world_passes owners r valid.rules.owners n w is) members
-    where
-      o : TypeOwner
-      o = as_world n
-
-      range : list_all (function_in_range r) (functions_of_world w) ≡ true
-      range =
-          let all = second_true (passes (in_list r.packages.items) (package_number w.«package»)) (entries_in_range r w.imports.entries && entries_in_range r w.exports.entries)
-          (second_true (is_place n) (passes (in_list r.packages.items) (package_number w.«package») && (entries_in_range r w.imports.entries && entries_in_range r w.exports.entries))
-          (world_passes numbers_in_range r valid.rules.numbers_in_range n w is)) in
-          let weaker = all_weaker (λ (e : WorldKey × WorldItem). key_in_range r e.0 && item_in_range r e.1) (item_passes (function_in_range r)) entry_in_range in
-          by_entries (function_in_range r) w
-          ∙ both (list_all (item_passes (function_in_range r)) w.imports.entries) (list_all (item_passes (function_in_range r)) w.exports.entries)
-          (weaker w.imports.entries (first_true (entries_in_range r w.imports.entries) (entries_in_range r w.exports.entries) all))
-          (weaker w.exports.entries (second_true (entries_in_range r w.imports.entries) (entries_in_range r w.exports.entries) all))
-
-      members : list_all (is_member r o) (functions_of_world w) ≡ true
-      members =
-          let passed = all_weaker (λ (e : WorldKey × WorldItem). passes (λ f. is_name_key (text_of f.name) e.0 && is_member r o f) (item_function e.1)) (item_passes (is_member r o)) (entry_member o)
-          (w.imports.entries ++ w.exports.entries)
-          (world_passes function_names r valid.rules.function_names n w is) in
-          by_entries (is_member r o) w ∙ (sym (list_all-append (item_passes (is_member r o)) w.imports.entries w.exports.entries) ∙ passed)
 
 -- With the owners that are carried, parts of their types and types of their functions are.
 pub parts_are_carried : PartsAreCarried

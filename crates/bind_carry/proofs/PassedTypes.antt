@@ -1,4 +1,5 @@
 -- Types that a pass copies: each stands under its new number, and all its parts are carried. Both passes are so.
+use Rattle.bind_carry.proofs.CopiesPlaced.{by_test}
 use Rattle.base_lemmas.proofs.{Lists.within_there, Options.nameless as some_none, Options.none_some}
 use Rattle.bind_carry.proofs.{CopiesPlaced.IsPlaced, CopiesPlaced.copy_placed, PartsCarried.no_home, PartsCarried.parts_are_carried, SettledParts.copied_still}
 use Rattle.bind_carry.proofs.SettledParts.{settled_all, stands_still, unnamed_carried, unnamed_parts}
@@ -18,11 +19,9 @@ use Rattle.wit_model.specs.declared.model.TypeOwner.TheVariants as owner
 
 -- what is copied is carried
 pub copied_carried : (fates : List Fate) (n : ℕ) → is_copied fates n ≡ true → is_carried fates n ≡ true
-copied_carried [] n h = no_true h
-copied_carried (fate.Left ∷ fs) zero h = no_true h
-copied_carried (fate.Stands k ∷ fs) zero h = no_true h
 copied_carried (fate.Copied home ∷ fs) zero h = refl
 copied_carried (f ∷ fs) (suc n) h = copied_carried fs n h
+copied_carried _ _ h = no_true h
 
 pub carried_within : (fates : List Fate) (n : ℕ) → is_carried fates n ≡ true → n < length fates
 carried_within [] n h = no_true h
@@ -77,16 +76,13 @@ module _ (other : Resolve) (valid : IsValid other) (f : Renumbering) (adds : Boo
   StoodFirst n def = (is_some def.name ≡ true) × (k : ℕ) × (slice_get initial n ≡ Some (fate.Stands k))
 
   pub stood_first : (n : ℕ) (def : TypeDef) → type_at other n ≡ Some def → is_carried fates n ≡ true → is_copied fates n ≡ false → StoodFirst n def
-  stood_first n def at h bare = go (is_some def.name) refl
+  stood_first n def at h bare =
+      by_test (is_some def.name) (λ e. let g = fate_at_first n def at in by_fate e g.0 g.1) (λ e. no_true (sym bare ∙ ap (λ o. option_map_or copies o false) (unnamed_copied n def at e h).0))
     where
       by_fate : is_some def.name ≡ true → (g : Fate) → slice_get initial n ≡ Some g → StoodFirst n def
       by_fate named fate.Left e = no_true (sym (ap (λ o. option_map_or carries o false) (left_still n def at named e)) ∙ h)
       by_fate named (fate.Stands k) e = (named, k, e)
       by_fate named (fate.Copied home) e = no_true (sym bare ∙ ap (λ o. option_map_or copies o false) (copied_still adds other.types.items initial falls n def at home e))
-
-      go : (b : Bool) → is_some def.name ≡ b → StoodFirst n def
-      go false e = no_true (sym bare ∙ ap (λ o. option_map_or copies o false) (unnamed_copied n def at e h).0)
-      go true e = let g = fate_at_first n def at in by_fate e g.0 g.1
 
   -- A copy's home, and its parts.
   pub record IsCopiedSo (n : ℕ) (def : TypeDef) : Type 0 where
@@ -95,7 +91,7 @@ module _ (other : Resolve) (valid : IsValid other) (f : Renumbering) (adds : Boo
     pub parts : list_all (is_carried fates) (kind_numbers def.kind) ≡ true
 
   pub copied_so : (n : ℕ) (def : TypeDef) → type_at other n ≡ Some def → is_copied fates n ≡ true → IsCopiedSo n def
-  copied_so n def at h = go (is_some def.name) refl
+  copied_so n def at h = by_test (is_some def.name) (λ e. let g = fate_at_first n def at in by_fate e g.0 g.1) (λ e. unnamed e)
     where
       unnamed : is_some def.name ≡ false → IsCopiedSo n def
       unnamed e =
@@ -119,14 +115,9 @@ module _ (other : Resolve) (valid : IsValid other) (f : Renumbering) (adds : Boo
             parts = (parts_hold x.2).types n def at named (starts.homes def.owner x.1);
           }
 
-      go : (b : Bool) → is_some def.name ≡ b → IsCopiedSo n def
-      go false e = unnamed e
-      go true e = let g = fate_at_first n def at in by_fate e g.0 g.1
-
   -- the copy stands under its new number
   module _ (own merged : Resolve) (numbers : List ℕ) (old new rest : List TypeDef) (is : AreCopied (length own.types.items) numbers other.types.items fates old new)
-      (types_are : merged.types.items ≡ own.types.items ++ (new ++ rest))
-      (by_type : number_under numbers ≡ f.types) (by_carries : is_carried fates ≡ f.carries_type) where
+      (types_are : merged.types.items ≡ own.types.items ++ (new ++ rest)) (by_type : number_under numbers ≡ f.types) (by_carries : is_carried fates ≡ f.carries_type) where
     pub copy_holds : (n : ℕ) (def : TypeDef) → type_at other n ≡ Some def → is_copied fates n ≡ true → IsType other merged f n
     copy_holds n def at h = record {
       def = def;

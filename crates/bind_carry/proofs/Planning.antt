@@ -1,4 +1,5 @@
 -- What a union adds, once what is moved is in its places.
+use Rattle.std.proofs.lemmas.List.{drop_at}
 use Rattle.base_lemmas.proofs.Elements.{all_weaker, zip_long}
 use Rattle.bind_add.specs.declared.added.Added.{Added}
 use Rattle.bind_carry.proofs.{CopiesPlaced.numbers_by_long, Counting.carried_all, Counting.length_both, Counting.types_counted, Ready.carried_ready}
@@ -10,18 +11,10 @@ use Rattle.bind_carry.specs.{Whole.kept, declared.fate.Fate.Fate, declared.plan.
 use Rattle.bind_copy.specs.Copies.{all_below}
 use Rattle.bind_match.specs.declared.matches.Matches.{Matches}
 use Rattle.bind_union.specs.Views.{kind_view, view_numbers}
-use Rattle.std.proofs.Common.{List, Some, [], ap, arith, drop, length, nat_lt, refl, rules as std_rules, slice_get, subst, sym, true, ℕ, ◌++◌, ◌<◌, ◌∙◌, ◌∷◌, ◌≡◌, ◌≤◌}
+use Rattle.std.proofs.Common.{List, Some, [], ap, arith, length, nat_lt, rules as std_rules, slice_get, subst, sym, true, ℕ, ◌++◌, ◌∙◌, ◌≡◌, ◌≤◌}
 use Rattle.std.proofs.lemmas.{Bool.lt-ltb, Bool.ltb-true, List.with_items_is, Option.slice_get_within}
 use Rattle.std.specs.{List.AllZip, Vec.with_items}
 use Rattle.wit_model.specs.declared.model.{Interface.Interface, Resolve.Resolve, TypeDef.TypeDef, World.World}
-
--- what stands behind the front of a list
-behind_front : {X : Type 0} (xs ys : List X) (n : ℕ) → n ≡ length xs → drop n (xs ++ ys) ≡ ys
-behind_front {X} xs ys n is = ap (λ k. drop k (xs ++ ys)) is ∙ go xs
-  where
-    go : (zs : List X) → drop (length zs) (zs ++ ys) ≡ ys
-    go [] = refl
-    go (z ∷ zs) = go zs
 
 -- ---- what is to be moved
 
@@ -44,11 +37,8 @@ module _ (own other : Resolve) (world other_world : ℕ) (m : Matches) (w v : Wo
   -- the types in front of it have new numbers
   pub types_below : IsInRange other → (types : List ℕ) → types ≡ p.types.items → (n : ℕ) (def : TypeDef) → slice_get other.types.items n ≡ Some def
       → all_below (length types) (view_numbers (kind_view def.kind)) ≡ true
-  types_below range types same n def at =
-      let count : length types ≡ length other.types.items = ap length same ∙ types_count in
-      let within : n < length other.types.items = slice_get_within other.types.items n def at in
-      all_weaker (λ k. nat_lt k n) (λ k. nat_lt k (length types))
-      (λ k lower. let low = ltb-true k n lower in lt-ltb k (length types) (omega (arith, count, within, low)))
+  types_below range types same n def at = all_weaker (λ k. nat_lt k n) (λ k. nat_lt k (length types))
+      (λ k lower. let low = ltb-true k n lower in lt-ltb k (length types) (omega (arith, (ap length same ∙ types_count), slice_get_within other.types.items n def at, low)))
       (view_numbers (kind_view def.kind)) (range.falls n def at)
 
   -- its package and its types have new numbers
@@ -65,7 +55,7 @@ module _ (own other : Resolve) (world other_world : ℕ) (m : Matches) (w v : Wo
   many = carried_all (IsInterfaceCarried p.carried p.types.items) p.carried.copied_interfaces.items other.interfaces.items are.moved s.numbered.interface_count are.each ∙ sym s.first.places
 
   here : now ≡ are.moved ++ s.second.inline_copied.more
-  here = search (std_rules, behind_front, many)
+  here = search (std_rules, drop_at, many)
 
   -- no place is added, and none is lost
   pub as_long : length now ≡ length p.added.interfaces.items
@@ -77,7 +67,7 @@ module _ (own other : Resolve) (world other_world : ℕ) (m : Matches) (w v : Wo
   types_many = search (std_rules, zip_long, types_counted, fates_long)
 
   types_here : defs ≡ types_are.moved ++ s.second.types_copied.more
-  types_here = search (std_rules, behind_front, types_many)
+  types_here = search (std_rules, drop_at, types_many)
 
   pub types_as_long : length defs ≡ length p.added.types.items
   types_as_long = search (std_rules, types_here, length_both, types_many)
@@ -94,9 +84,6 @@ module _ (own other : Resolve) (world other_world : ℕ) (m : Matches) (w v : Wo
   first_types : first.types.items ≡ types_are.moved
   first_types = with_items_is s.before.types types_are.moved (types_many ∙ sym s.before.types.ok.0)
 
-  same_number : length first.interfaces.items ≡ length s.before.interfaces.items
-  same_number = ap length first_items ∙ many
-
   same_type_number : length first.types.items ≡ length s.before.types.items
   same_type_number = ap length first_types ∙ types_many
 
@@ -110,44 +97,38 @@ module _ (own other : Resolve) (world other_world : ℕ) (m : Matches) (w v : Wo
 
   pub whole_union : (added : Added) → added ≡ record p.added { interfaces = added.interfaces; types = added.types } → added.interfaces.items ≡ now → added.types.items ≡ defs
       → IsUnionOf own other world other_world m w v added p.keys.keys
-  whole_union added same items type_items =
-      subst (λ a. IsUnionOf own other world other_world m w v a p.keys.keys) (sym same)
-      (record {
-        carried = p.carried;
-        numbered = s.numbered;
-        types = p.types.items;
-        defs = types_are.moved;
-        types_copied = types_whole;
-        before = first;
-        first = record {
-          packages = s.first.packages;
-          names = s.first.names;
-          interfaces = subst (AllZip (IsInterfaceCarried p.carried p.types.items) (kept p.carried.copied_interfaces.items other.interfaces.items)) (sym first_items) are.each;
-          worlds = s.first.worlds;
-          type_defs = first_types;
-          no_imports = s.first.no_imports;
-          no_exports = s.first.no_exports;
-        };
-        second = record {
-          copied = s.second.copied;
-          copied_are = s.second.copied_are;
-          interfaces = s.second.interfaces;
-          interfaces_are = s.second.interfaces_are ∙ ap (λ k. bound_interfaces own k p.carried s.second.copied) (sym same_number);
-          types = s.second.types;
-          packages = s.second.packages;
-          names = s.second.names;
-          worlds = s.second.worlds;
-          types_copied = gained_types added.types.items type_items;
-          inline_copied = record {
-            more = s.second.inline_copied.more;
-            behind = items ∙ (here ∙ ap (λ l. l ++ s.second.inline_copied.more) (sym first_items));
-            copies = s.second.inline_copied.copies;
-          };
-          imports = s.second.imports;
-          exports = s.second.exports;
-        };
-        keys_are = s.keys_are;
-      })
+  whole_union added same items type_items = subst (λ a. IsUnionOf own other world other_world m w v a p.keys.keys) (sym same) (record {
+    carried = p.carried;
+    numbered = s.numbered;
+    types = p.types.items;
+    defs = types_are.moved;
+    types_copied = types_whole;
+    before = first;
+    first = record {
+      packages = s.first.packages;
+      names = s.first.names;
+      interfaces = subst (AllZip (IsInterfaceCarried p.carried p.types.items) (kept p.carried.copied_interfaces.items other.interfaces.items)) (sym first_items) are.each;
+      worlds = s.first.worlds;
+      type_defs = first_types;
+      no_imports = s.first.no_imports;
+      no_exports = s.first.no_exports;
+    };
+    second = record {
+      copied = s.second.copied;
+      copied_are = s.second.copied_are;
+      interfaces = s.second.interfaces;
+      interfaces_are = s.second.interfaces_are ∙ ap (λ k. bound_interfaces own k p.carried s.second.copied) (sym (ap length first_items ∙ many));
+      types = s.second.types;
+      packages = s.second.packages;
+      names = s.second.names;
+      worlds = s.second.worlds;
+      types_copied = gained_types added.types.items type_items;
+      inline_copied = record { more = s.second.inline_copied.more; behind = items ∙ (here ∙ ap (λ l. l ++ s.second.inline_copied.more) (sym first_items)); copies = s.second.inline_copied.copies };
+      imports = s.second.imports;
+      exports = s.second.exports;
+    };
+    keys_are = s.keys_are;
+  })
 
 module _ (own other : Resolve) (m : Matches) (c : Carried) (types : List ℕ)
     (numbers_are : types ≡ numbers_by (length own.types.items) (first_fates own other m.interfaces.items c)) (before : Added)

@@ -1,4 +1,5 @@
 -- A valid `Resolve` is in range.
+use Rattle.bind_carry.proofs.CopiesPlaced.{by_test}
 use Rattle.base_lemmas.proofs.{Bools.left_of as first_true, Bools.right_of as second_true, Lists.within_there as there}
 use Rattle.bind_carry.specs.{BoundGains.are_types_below, Fates.FallBelow, InRange.IsInRange, Listed.IsHomeBelow, Listed.IsOwnerBelow}
 use Rattle.bind_carry.specs.{Listed.are_interfaces_below, Listed.are_worlds_below, Shown.AreNewShownBelow, Shown.AreShownBelow, Shown.IsShownBelow}
@@ -7,7 +8,7 @@ use Rattle.bind_copy.specs.Copies.{AreEntriesBelow, AreFunctionsBelow, IsFunctio
 use Rattle.bind_copy.specs.Copies.{key_numbers}
 use Rattle.bind_union.proofs.{Carrying.references_of, Carrying.refers_below, Images.given_numbers, Images.numbers_cons, Images.numbers_of_view}
 use Rattle.indexmap.specs.IndexMap.{values}
-use Rattle.std.proofs.Common.{Bool, List, Option, Some, [], ap, false, filter_map, length, ltb-true, map, nat_lt, option_to_list, refl, rules as std_rules, slice_get, sym, true, ℕ, ◌&&◌, ◌∙◌, ◌∷◌, ◌≡◌, ◌≤◌}
+use Rattle.std.proofs.Common.{List, Option, Some, [], ap, filter_map, length, ltb-true, map, nat_lt, option_to_list, refl, rules as std_rules, slice_get, sym, true, ℕ, ◌&&◌, ◌∙◌, ◌∷◌, ◌≡◌, ◌≤◌}
 use Rattle.std.proofs.lemmas.{Bool.ltb-false, List.Elements.filter_map-append, List.Folds.list_all-append, List.Folds.list_all-map}
 use Rattle.std.specs.{List.list_all, Option.option_map_or, Prelude.String, declared.alloc.Global.Global}
 use Rattle.wit_model.proofs.{Entries.lists_pass, OnePath.interface-passes, OnePath.package-passes, RulesLemmas.each_at}
@@ -50,8 +51,7 @@ module _ (r : Resolve) where
 
   entries_below : (es : List (WorldKey × WorldItem)) → entries_in_range r es ≡ true → AreEntriesBelow (length r.interfaces.items) types es
   entries_below [] h = tt
-  entries_below (e ∷ es) h =
-      search (std_rules, first_true, second_true, key_below, item_below, entries_below es (second_true (key_in_range r e.0 && item_in_range r e.1) (entries_in_range r es) h))
+  entries_below (e ∷ es) h = search (std_rules, first_true, second_true, key_below, item_below, entries_below es (second_true (key_in_range r e.0 && item_in_range r e.1) (entries_in_range r es) h))
 
   -- ---- homes
 
@@ -65,14 +65,12 @@ module _ (r : Resolve) where
 
 -- a list whose elements all have a place isn't too long
 few_of : {X : Type 0} (xs : List X) → ((n : ℕ) (x : X) → slice_get xs n ≡ Some x → is_place n ≡ true) → length xs ≤ 4294967295
-few_of xs places = go (nat_lt 4294967295 (length xs)) refl
+few_of xs places =
+    by_test (nat_lt 4294967295 (length xs)) (λ e. let x = there xs 4294967295 (ltb-true 4294967295 (length xs) e) in absurd (no_place (places 4294967295 x.0 x.1)))
+    (λ e. ltb-false 4294967295 (length xs) e)
   where
     no_place : is_place 4294967295 ≡ true → ⊥
     no_place h = cc
-
-    go : (b : Bool) → nat_lt 4294967295 (length xs) ≡ b → length xs ≤ 4294967295
-    go true e = let x = there xs 4294967295 (ltb-true 4294967295 (length xs) e) in absurd (no_place (places 4294967295 x.0 x.1))
-    go false e = ltb-false 4294967295 (length xs) e
 
 -- ---- all of it
 
@@ -109,30 +107,19 @@ module _ (r : Resolve) (valid : IsValid r) where
 
   interface_facts : (n : ℕ) (i : Interface) → interface_at r n ≡ Some i → InterfaceFacts n i
   unfolding numbers_in_range
-  interface_facts n i at = record {
-    place = first_true (is_place n) (home && (types && functions)) h;
-    home = home_below r i.«package» (first_true home (types && functions) rest);
-    types = sym (list_all-map (λ id. in_list r.types.items id.0) (λ e. e.1) i.types.entries) ∙ first_true types functions both_;
-    functions = functions_below r i.functions.entries (second_true types functions both_);
-  }
-    where
-      home : Bool
-      home = passes (in_list r.packages.items) (package_number i.«package»)
-
-      types : Bool
-      types = list_all (λ id. in_list r.types.items id.0) (values i.types)
-
-      functions : Bool
-      functions = list_all (function_in_range r) (values i.functions)
-
-      h : (is_place n && (home && (types && functions))) ≡ true
-      h = interface-passes numbers_in_range r rule n i at
-
-      rest : (home && (types && functions)) ≡ true
-      rest = second_true (is_place n) (home && (types && functions)) h
-
-      both_ : (types && functions) ≡ true
-      both_ = second_true home (types && functions) rest
+  interface_facts n i at =
+      let home = passes (in_list r.packages.items) (package_number i.«package») in
+      let types = list_all (λ id. in_list r.types.items id.0) (values i.types) in
+      let functions = list_all (function_in_range r) (values i.functions) in
+      let h = interface-passes numbers_in_range r rule n i at in
+      let rest = second_true (is_place n) (home && (types && functions)) h in
+      let both_ = second_true home (types && functions) rest in
+      record {
+        place = first_true (is_place n) (home && (types && functions)) h;
+        home = home_below r i.«package» (first_true home (types && functions) rest);
+        types = sym (list_all-map (λ id. in_list r.types.items id.0) (λ e. e.1) i.types.entries) ∙ first_true types functions both_;
+        functions = functions_below r i.functions.entries (second_true types functions both_);
+      }
 
   record WorldFacts (n : ℕ) (w : World) : Type 0 where
     place : is_place n ≡ true

@@ -60,13 +60,11 @@ module _ (own other : Resolve) (world other_world : ℕ) (c : Carried) (fates : 
     types_shown = types_below (length other.interfaces.items) (length other.types.items) v.imports.entries (ready.in_range.imports other_world v at)
 
     pub imports_below : (interfaces numbers : ℕ) → interfaces ≡ length other.interfaces.items → numbers ≡ length other.types.items → AreEntriesBelow interfaces numbers v.imports.entries
-    imports_below interfaces numbers e k =
-        subst (λ (x : ℕ). AreEntriesBelow x numbers v.imports.entries) (sym e)
+    imports_below interfaces numbers e k = subst (λ (x : ℕ). AreEntriesBelow x numbers v.imports.entries) (sym e)
         (subst (λ (x : ℕ). AreEntriesBelow (length other.interfaces.items) x v.imports.entries) (sym k) (ready.in_range.imports other_world v at))
 
     pub exports_below : (interfaces numbers : ℕ) → interfaces ≡ length other.interfaces.items → numbers ≡ length other.types.items → AreEntriesBelow interfaces numbers v.exports.entries
-    exports_below interfaces numbers e k =
-        subst (λ (x : ℕ). AreEntriesBelow x numbers v.exports.entries) (sym e)
+    exports_below interfaces numbers e k = subst (λ (x : ℕ). AreEntriesBelow x numbers v.exports.entries) (sym e)
         (subst (λ (x : ℕ). AreEntriesBelow (length other.interfaces.items) x v.exports.entries) (sym k) (ready.in_range.exports other_world v at))
 
   pub names_in : (count : ℕ) → count ≡ length other.types.items → (n : ℕ) (i : Interface) → interface_at other n ≡ Some i → are_names_below count i.types.entries ≡ true
@@ -77,8 +75,7 @@ module _ (own other : Resolve) (world other_world : ℕ) (c : Carried) (fates : 
 
 -- each type has a fate there, too
 pub bound_long : (other : Resolve) (world other_world : ℕ) (w v : World) (copied : List Bool) (interfaces : List ℕ) (fates : List Fate) (numbers : List ℕ) → length fates ≡ length other.types.items
-    → length numbers ≡ length other.types.items
-    → length (bound_fates other world other_world w v copied interfaces fates numbers) ≡ length other.types.items
+    → length numbers ≡ length other.types.items → length (bound_fates other world other_world w v copied interfaces fates numbers) ≡ length other.types.items
 bound_long other world other_world w v copied interfaces fates numbers long_fates long_numbers = search (std_rules, settled_long, unified_long, second_long)
 
 -- each has a number

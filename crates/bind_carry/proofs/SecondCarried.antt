@@ -1,21 +1,22 @@
 -- What the second pass carries, and that it is copied and joined as the laws on unions ask for it: interfaces, worlds, and the bound world with what it gains.
+use Rattle.bind_union.specs.Joined.{Joined}
+use Rattle.bind_carry.proofs.CopiesPlaced.{by_either, by_test}
+use Rattle.bind_meaning.proofs.Listed.{by_option}
 use Rattle.base_lemmas.proofs.{Bools.left_of as first_true, Bools.right_of as second_true, Elements.all-contained, Elements.get-contains, Elements.lookup_stands, Lists.front_at, Lists.within_there, Numbers.equal, Numbers.same-number}
-use Rattle.bind_carry.proofs.CopiesPlaced.{copied_behind, copied_from, copied_home, copied_past, copy_placed, flag_is_copied, kept_from, some_same}
-use Rattle.bind_carry.proofs.{Counting.carried_all, Counting.copied_long as types_copied_long, Counting.inline_all, FirstInterfaces.copy_stands, FirstInterfaces.home_number, FirstNumbers.flag_within, FirstOfUnion.grown_name, FirstWorlds.count, FirstWorlds.first_is_copied, InsertedBehind.new_behind, Joined.items_join, KeptPlaced.IsKeptAt, KeptPlaced.kept_placed, KeysGained.entries_apart, PackagesFrom.package_from, Ready.interface_count, WorldEntries.IsNumberedSame, WorldEntries.IsPlacedIn}
+use Rattle.bind_carry.proofs.CopiesPlaced.{copied_behind, copied_from, fates_rise, copied_home, copied_past, copy_placed, kept_from, some_same}
+use Rattle.bind_carry.proofs.{Counting.carried_all, Counting.copied_long as types_copied_long, Counting.inline_all, FirstInterfaces.copy_stands, FirstInterfaces.home_number, FirstNumbers.flag_within, FirstOfUnion.grown_name, FirstWorlds.first_is_copied, InsertedBehind.new_behind, Joined.items_join, KeptPlaced.IsKeptAt, KeptPlaced.kept_here, KeptPlaced.kept_placed, KeysGained.entries_apart, PackagesFrom.package_from, Ready.interface_count, WorldEntries.IsNumberedSame, WorldEntries.IsPlacedIn}
 use Rattle.bind_carry.proofs.FirstNumbers.{interface_is, interfaces_once, own_path, type_low, types_are}
 use Rattle.bind_carry.proofs.FirstWorlds.{first_worlds_are_copied, one_shows, some_count, times_of}
-use Rattle.bind_carry.proofs.PassedTypes.{copied_carried, parts_hold}
-use Rattle.bind_carry.proofs.SecondInitial.{IsUnified, gained_flag, gained_inline_alone, is_gained, is_shown_new}
+use Rattle.bind_carry.proofs.{PassedTypes.copied_carried, PassedTypes.parts_hold, SecondInitial.IsUnified, SecondInitial.shows_gained, SecondInitial.is_shown_new}
 use Rattle.bind_carry.proofs.WorldEntries.{any_place, export_keyed, export_range, export_so, import_keyed, import_range, label_new, new_under_same}
 use Rattle.bind_carry.proofs.SecondItems.{type_number, same_label, not_some, shown_in, not_root, same_parts_of}
-use Rattle.bind_carry.specs.{CarriedParts.is_function_carried, FirstPass.IsFirstPass, Marked.is_inline_at, Marked.is_shown_in, Numbers.copied_count, Numbers.interface_number, Numbers.numbers_of, Numbers.world_number, ReadyItems.AreReady, ReadyItems.IsItemReady, ReadyItems.IsKeyReady, Renumbered.is_copied, Renumbered.is_matched, SecondPass.ArePackagesMerged, SecondPass.IsSecondPass, SecondPass.is_left_out, Shown.any_new, Shown.type_in, TooLong.copies_of, Which.new_worlds, Whole.IsInterfaceCarried, Whole.IsWorldCarried, declared.fate.Fate.Fate, declared.plan.Carried.Carried}
-use Rattle.bind_carry.specs.Fates.{carries, copied_types, copies, is_carried, numbers_by, stood}
-use Rattle.bind_carry.specs.First.{flag_under, is_named_at}
+use Rattle.bind_carry.specs.{CarriedParts.is_function_carried, FirstPass.IsFirstPass, Marked.is_inline_at, Marked.is_shown_in, Numbers.interface_number, Numbers.numbers_of, Numbers.world_number, ReadyItems.AreReady, ReadyItems.IsItemReady, ReadyItems.IsKeyReady, Renumbered.is_copied, Renumbered.is_matched, SecondPass.ArePackagesMerged, SecondPass.IsSecondPass, SecondPass.is_left_out, Shown.any_new, Shown.type_in, Which.new_worlds, Whole.IsInterfaceCarried, Whole.IsWorldCarried, declared.fate.Fate.Fate, declared.plan.Carried.Carried}
+use Rattle.bind_carry.specs.{Fates.carries, Fates.copied_types, Fates.copies, Fates.is_carried, Fates.numbers_by, First.flag_under, First.is_named_at}
 use Rattle.bind_copy.specs.Copies.{IsInterfaceUnder, become_one, is_key_under, is_new_under, number_under}
 use Rattle.bind_match.specs.declared.matches.Matches.{Matches}
 use Rattle.bind_union.{proofs.Lists.no_true, proofs.MatchedStand.numbers_rise, proofs.WorldRules.by_entries, proofs.WorldNamesakes.IsWorldType}
 use Rattle.bind_union.specs.Carried.{IsCarried, IsInterface, KeyBecomes, Renumbering, Rises, carries_owner}
-use Rattle.bind_union.{specs.Joined.IsJoined, specs.Joined.Joined, specs.Merged.AreCopies, specs.Merged.IsCopyUnder, specs.Merged.IsMerged}
+use Rattle.bind_union.{specs.Joined.IsJoined, specs.Merged.AreCopies, specs.Merged.IsCopyUnder, specs.Merged.IsMerged}
 use Rattle.std.proofs.Common.{Bool, List, None, Option, Some, [], ap, append-nil, append_assoc, arith, false, filter_map, if◌then◌else◌, inl, inr, is_none, is_some, length, map, not, option_and_then, option_map, option_to_list, refl, rules as std_rules, slice_get, subst, sym, true, unwrap_or, ℕ, ◌&&◌, ◌++◌, ◌+◌, ◌<◌, ◌==◌, ◌||◌, ◌∙◌, ◌≡◌, ◌≤◌, ◌⊎◌}
 use Rattle.std.proofs.lemmas.{Bool.and_from as both, Bool.cases_lt as in_two, Bool.or_left, Bool.or_right, Bool.true_from_ne_false, Option.slice_get_within}
 use Rattle.std.proofs.lemmas.{List.length-append, List.length-map, Map.Keys.any_passes_from_place as any_at}
@@ -66,16 +67,11 @@ module _ (own other merged : Resolve) (valid_own : IsValid own) (valid_other : I
 
   -- an interface that is copied is inline
   pub copied_inline : (n : ℕ) → flag_under copied n ≡ true → is_inline_at other n ≡ true
-  copied_inline n set =
-      gained_inline_alone other c.interfaces.items w v (pass.imports_shown _ _ _ valid_own valid_other _ _ _ _ _ _ _ _ _ _ _ s)
-      (pass.exports_shown _ _ _ valid_own valid_other _ _ _ _ _ _ _ _ _ _ _ s) n (ap (λ (l : List Bool). flag_under l n) (sym s.copied_are) ∙ set)
+  copied_inline n set = first_true (is_inline_at other n) (shows_gained other c.interfaces.items w v n) (sym ((pass.gained _ _ _ valid_own valid_other _ _ _ _ _ _ _ _ _ _ _ s) n) ∙ set)
 
   pub copied_there : (n : ℕ) → flag_under copied n ≡ true → (i : Interface) × (interface_at other n ≡ Some i) × (i.name ≡ None)
   copied_there n set =
-      let less = flag_within copied n set in
-      let long_flags = (pass.copied_long _ _ _ valid_own valid_other _ _ _ _ _ _ _ _ _ _ _ s) in
-      let many = interfaces_many in
-      let i = within_there other.interfaces.items n (omega (arith, less, long_flags, many)) in
+      let i = within_there other.interfaces.items n (omega (arith, flag_within copied n set, (pass.copied_long _ _ _ valid_own valid_other _ _ _ _ _ _ _ _ _ _ _ s), interfaces_many)) in
       (i.0, i.1, none_is i.0.name (sym (ap (λ o. option_map_or (λ (j : Interface). is_none j.name) o false) i.1) ∙ copied_inline n set))
     where
       none_is : {X : Type 0} (o : Option X) → is_none o ≡ true → o ≡ None
@@ -139,80 +135,64 @@ module _ (own other merged : Resolve) (valid_own : IsValid own) (valid_other : I
     old = t.old;
     found = t.found;
     image = t.image;
-    at_image = ap (interface_at merged) number ∙ t.at_image;
+    at_image = ap (interface_at merged) ((pass.second_named _ _ _ valid_own valid_other _ _ _ _ _ _ _ _ _ _ _ s) n x.shown x.there x.has_name) ∙ t.at_image;
     name = t.name;
     in_package = t.in_package;
-    types = types_back;
+    types = λ k h.
+        let y = t.types k h in
+        let stay = passes_at stays (interface_type_numbers t.old) y.0 (each_type n t.old t.found stays
+        (λ k def at named home. let q = (pass.same_types _ _ _ valid_own valid_other _ _ _ _ _ _ _ _ _ _ _ s) k def n x.shown at named home x.there x.has_name in
+        both (is_carried fates k) (second.types k == first.types k) q.1 (ap (λ (y : ℕ). second.types k == y) (sym q.0) ∙ same-number (second.types k)))) y.1 in (
+          y.0,
+          y.1,
+          first_true (is_carried fates y.0) (second.types y.0 == first.types y.0) stay,
+          equal (second.types y.0) (first.types y.0) (second_true (is_carried fates y.0) (second.types y.0 == first.types y.0) stay) ∙ y.3,
+        );
     copied = λ h. no_true (sym bare ∙ h);
   }
     where
       t : IsInterface other merged first n
       t = (pass.by_path _ _ _ valid_own valid_other _ _ _ _ _ _ _ _ _ _ _ s).interfaces n ((pass.known _ _ _ valid_own valid_other _ _ _ _ _ _ _ _ _ _ _ s).names n x.shown x.there x.has_name)
 
-      number : second.interfaces n ≡ first.interfaces n
-      number = (pass.second_named _ _ _ valid_own valid_other _ _ _ _ _ _ _ _ _ _ _ s) n x.shown x.there x.has_name
-
       stays : ℕ → Bool
       stays k = is_carried fates k && (second.types k == first.types k)
 
-      all_stay : list_all stays (interface_type_numbers t.old) ≡ true
-      all_stay = each_type n t.old t.found stays (λ k def at named home.
-          let q = (pass.same_types _ _ _ valid_own valid_other _ _ _ _ _ _ _ _ _ _ _ s) k def n x.shown at named home x.there x.has_name in
-          both (is_carried fates k) (second.types k == first.types k) q.1 (ap (λ (y : ℕ). second.types k == y) (sym q.0) ∙ same-number (second.types k)))
-
-      types_back : (k : ℕ) → has (interface_type_numbers t.image) k ≡ true → (u : ℕ) × (has (interface_type_numbers t.old) u ≡ true) × (second.carries_type u ≡ true) × (second.types u ≡ k)
-      types_back k h =
-          let y = t.types k h in
-          let stay = passes_at stays (interface_type_numbers t.old) y.0 all_stay y.1 in (
-            y.0,
-            y.1,
-            first_true (is_carried fates y.0) (second.types y.0 == first.types y.0) stay,
-            equal (second.types y.0) (first.types y.0) (second_true (is_carried fates y.0) (second.types y.0 == first.types y.0) stay) ∙ y.3,
-          )
-
   -- each interface that is carried stands under its new number
   pub interfaces_hold : (n : ℕ) → second.carries_interface n ≡ true → IsInterface other merged second n
-  interfaces_hold n h = go (flag_under copied n) refl
-    where
-      go : (b : Bool) → flag_under copied n ≡ b → IsInterface other merged second n
-      go true e = let i = copied_there n e in copy_interface n i.0 i.1 i.2 e
-      go false e = named_interface n (uncopied_named n h e) e
+  interfaces_hold n h = by_test (flag_under copied n) (λ e. let i = copied_there n e in copy_interface n i.0 i.1 i.2 e) (λ e. named_interface n (uncopied_named n h e) e)
 
   -- ---- numbers
 
   -- what is carried by path has a number in front of what is gained
   pub path_low : (n : ℕ) → first.carries_interface n ≡ true → first.interfaces n < interfaces_behind
-  path_low n h = go (flag_under c.copied_interfaces.items n) refl
-    where
-      flags : length c.copied_interfaces.items ≡ length m.interfaces.items
-      flags = (pass.long _ _ _ valid_own valid_other _ _ _ _ _ _ _ _ _ _ _ s)
+  path_low n h =
+      let flags : length c.copied_interfaces.items ≡ length m.interfaces.items = (pass.long _ _ _ valid_own valid_other _ _ _ _ _ _ _ _ _ _ _ s) in
+      by_test (flag_under c.copied_interfaces.items n) (λ e.
+      let i = within_there other.interfaces.items n (omega (arith, flag_within c.copied_interfaces.items n e, p.numbered.interface_count)) in
+      let place = kept_here (IsInterfaceCarried c first_numbers) c.copied_interfaces.items (map interface_number m.interfaces.items) other.interfaces.items p.new_interfaces p.interfaces
+      (flags ∙ sym (length-map m.interfaces.items interface_number)) (length own.interfaces.items) own.interfaces.items [] refl c.interfaces.items p.numbered.interfaces
+      (own.interfaces.items ++ (p.new_interfaces ++ [])) refl n i.0 e i.1 in
+      omega (
+        arith,
+        (slice_get_within (own.interfaces.items ++ (p.new_interfaces ++ [])) (number_under c.interfaces.items n) place.image place.at_image),
+        (length-append own.interfaces.items (p.new_interfaces ++ []) ∙ ap (λ l. length own.interfaces.items + length l) (append-nil p.new_interfaces)),
+      )) (λ e.
+      let k : is_matched m.interfaces.items n ≡ true = sym (ap (λ b. b || is_matched m.interfaces.items n) e) ∙ h in
+      let same = p.same n k in
+      omega (
+        arith,
+        (interface_is own other valid_own valid_other m.interfaces.items c first_numbers (pass.chosen _ _ _ valid_own valid_other _ _ _ _ _ _ _ _ _ _ _ s) p.same p.none flags
+            p.numbered.interfaces (length own.types.items + length {A = TypeDef} []) p.types.numbers_are n k),
+        slice_get_within own.interfaces.items same.id.0 same.image same.at_image,
+      ))
 
-      go : (b : Bool) → flag_under c.copied_interfaces.items n ≡ b → first.interfaces n < interfaces_behind
-      go true e =
-          let less = flag_within c.copied_interfaces.items n e in
-          let count = p.numbered.interface_count in
-          let i = within_there other.interfaces.items n (omega (arith, less, count)) in
-          let place = kept_placed (IsInterfaceCarried c first_numbers) c.copied_interfaces.items (map interface_number m.interfaces.items) other.interfaces.items p.new_interfaces p.interfaces
-          (flags ∙ sym (length-map m.interfaces.items interface_number)) (length own.interfaces.items) own.interfaces.items [] refl n i.0 e i.1 in
-          let within = slice_get_within (own.interfaces.items ++ (p.new_interfaces ++ []))
-          (number_under (numbers_of (length own.interfaces.items) c.copied_interfaces.items (map interface_number m.interfaces.items)) n) place.image place.at_image in
-          let whole : length (own.interfaces.items ++ (p.new_interfaces ++ [])) ≡ interfaces_behind =
-          length-append own.interfaces.items (p.new_interfaces ++ []) ∙ ap (λ l. length own.interfaces.items + length l) (append-nil p.new_interfaces) in
-          let number : first.interfaces n ≡ number_under (numbers_of (length own.interfaces.items) c.copied_interfaces.items (map interface_number m.interfaces.items)) n =
-          ap (λ l. number_under l n) p.numbered.interfaces in
-          omega (arith, within, whole, number)
-      go false e =
-          let k : is_matched m.interfaces.items n ≡ true = sym (ap (λ b. b || is_matched m.interfaces.items n) e) ∙ h in
-          let same = p.same n k in
-          let number = interface_is own other valid_own valid_other m.interfaces.items c first_numbers
-          (pass.chosen _ _ _ valid_own valid_other _ _ _ _ _ _ _ _ _ _ _ s) p.same p.none flags p.numbered.interfaces
-          (length own.types.items + length {A = TypeDef} []) p.types.numbers_are n k in
-          let within = slice_get_within own.interfaces.items same.id.0 same.image same.at_image in
-          omega (arith, number, within)
+  -- what is gained has one behind those
+  gained_high : (n : ℕ) → flag_under copied n ≡ true → interfaces_behind ≤ second.interfaces n
+  gained_high n set = subst (λ (x : ℕ). interfaces_behind ≤ x) (sym (carried_number n (copied_carries n set) ∙ ap (λ (l : List ℕ). number_under l n) s.interfaces_are))
+      (copied_behind interfaces_behind copied c.interfaces.items n (pass.copied_long _ _ _ valid_own valid_other _ _ _ _ _ _ _ _ _ _ _ s) set)
 
   pub interfaces_rise : Rises second.interfaces second.carries_interface second.copies_interface
-  interfaces_rise k n h set before =
-      subst (λ (x : ℕ). x < second.interfaces n) (sym (carried_number k h))
+  interfaces_rise k n h set before = subst (λ (x : ℕ). x < second.interfaces n) (sym (carried_number k h))
       (subst (λ (x : ℕ). number_under interfaces k < x) (sym (carried_number n (copied_carries n set)))
       (subst (λ l. number_under l k < number_under l n) (sym s.interfaces_are)
       (numbers_rise interfaces_behind copied c.interfaces.items second.carries_interface (sym (pass.copied_long _ _ _ valid_own valid_other _ _ _ _ _ _ _ _ _ _ _ s)) low k n h set before)))
@@ -220,11 +200,9 @@ module _ (own other merged : Resolve) (valid_own : IsValid own) (valid_other : I
       low : (n : ℕ) → second.carries_interface n ≡ true → flag_under copied n ≡ false → number_under (numbers_of interfaces_behind copied c.interfaces.items) n < interfaces_behind
       low n h e =
           let x = uncopied_named n h e in
-          let less = path_low n ((pass.known _ _ _ valid_own valid_other _ _ _ _ _ _ _ _ _ _ _ s).names n x.shown x.there x.has_name) in
-          let same : number_under (numbers_of interfaces_behind copied c.interfaces.items) n ≡ first.interfaces n =
-          ap (λ (l : List ℕ). number_under l n) (sym s.interfaces_are) ∙
-          (sym (carried_number n h) ∙ (pass.second_named _ _ _ valid_own valid_other _ _ _ _ _ _ _ _ _ _ _ s) n x.shown x.there x.has_name) in
-          subst (λ (y : ℕ). y < interfaces_behind) (sym same) less
+          subst (λ (y : ℕ). y < interfaces_behind) (sym (ap (λ (l : List ℕ). number_under l n) (sym s.interfaces_are)
+          ∙ (sym (carried_number n h) ∙ (pass.second_named _ _ _ valid_own valid_other _ _ _ _ _ _ _ _ _ _ _ s) n x.shown x.there x.has_name)))
+          (path_low n ((pass.known _ _ _ valid_own valid_other _ _ _ _ _ _ _ _ _ _ _ s).names n x.shown x.there x.has_name))
 
   -- ---- entries: those whose keys are new are ready to be copied, and an own one stands for each of the others
 
@@ -251,8 +229,7 @@ module _ (own other merged : Resolve) (valid_own : IsValid own) (valid_other : I
   -- an own interface that has the number of one with a name has its path
   same_path : (n : ℕ) (i : Interface) → interface_at other n ≡ Some i → is_some i.name ≡ true → (j : ℕ) (d : Interface) → interface_at own j ≡ Some d → second.interfaces n ≡ j
       → interface_path own j ≡ interface_path other n
-  same_path n i there named j d at_own number =
-      own_path own other valid_own valid_other matched c first_numbers (pass.chosen _ _ _ valid_own valid_other _ _ _ _ _ _ _ _ _ _ _ s) p.same p.none
+  same_path n i there named j d at_own number = own_path own other valid_own valid_other matched c first_numbers (pass.chosen _ _ _ valid_own valid_other _ _ _ _ _ _ _ _ _ _ _ s) p.same p.none
       (pass.long _ _ _ valid_own valid_other _ _ _ _ _ _ _ _ _ _ _ s) p.numbered.interfaces (length own.types.items + length {A = TypeDef} []) p.types.numbers_are
       n ((pass.known _ _ _ valid_own valid_other _ _ _ _ _ _ _ _ _ _ _ s).names n i there named) j d at_own
       (sym ((pass.second_named _ _ _ valid_own valid_other _ _ _ _ _ _ _ _ _ _ _ s) n i there named) ∙ number)
@@ -306,32 +283,23 @@ module _ (own other merged : Resolve) (valid_own : IsValid own) (valid_other : I
       by (key.Interface j) e h =
           let same : second.interfaces id.0 ≡ j.0 = (carried_number id.0 carried) ∙ equal (number_under interfaces id.0) j.0 h in
           let d = keys x.thing held j e in
-          let paths = same_path id.0 i.0 i.1 i.2 j.0 d.0 d.1 same in
           record {
             entry = x.thing;
             in_own = held;
             becomes = subst (KeyBecomes second (key.Interface id)) (sym e) (sym same, carried);
-            same_text = ap (key_text own) e ∙ ap (λ o. unwrap_or o []) paths;
+            same_text = ap (key_text own) e ∙ ap (λ o. unwrap_or o []) (same_path id.0 i.0 i.1 i.2 j.0 d.0 d.1 same);
             found = λ t q. absurd (not_label t q);
           }
 
   -- ---- the bound world gains the items whose keys it hasn't, one by one
 
-  abbrev shows_gained : ℕ → Bool
-  shows_gained n = is_shown_new other c.interfaces.items w.imports.entries v.imports.entries n || is_shown_new other c.interfaces.items w.exports.entries v.exports.entries n
-
   -- ---- items under new keys
 
-  interface_ready : (n : ℕ) (i : Interface) → interface_at other n ≡ Some i → shows_gained n ≡ true → second.carries_interface n ≡ true
-  interface_ready n i there shown = go i.name refl
-    where
-      go : (o : Option (String Global)) → i.name ≡ o → second.carries_interface n ≡ true
-      go (Some t) e = (pass.named_carried_there _ _ _ valid_own valid_other _ _ _ _ _ _ _ _ _ _ _ s) n i there (ap is_some e)
-      go None e = copied_carries n
-          (ap (λ (l : List Bool). flag_under l n) s.copied_are
-          ∙ (gained_flag other c.interfaces.items w v (pass.imports_shown _ _ _ valid_own valid_other _ _ _ _ _ _ _ _ _ _ _ s)
-          (pass.exports_shown _ _ _ valid_own valid_other _ _ _ _ _ _ _ _ _ _ _ s) n
-          ∙ both (is_inline_at other n) (shows_gained n) (ap (λ o. option_map_or (λ (j : Interface). is_none j.name) o false) there ∙ ap is_none e) shown))
+  interface_ready : (n : ℕ) (i : Interface) → interface_at other n ≡ Some i → shows_gained other c.interfaces.items w v n ≡ true → second.carries_interface n ≡ true
+  interface_ready n i there shown = by_option i.name
+      (λ e. copied_carries n ((pass.gained _ _ _ valid_own valid_other _ _ _ _ _ _ _ _ _ _ _ s) n
+      ∙ both (is_inline_at other n) (shows_gained other c.interfaces.items w v n) (ap (λ o. option_map_or (λ (j : Interface). is_none j.name) o false) there ∙ ap is_none e) shown))
+      (λ t e. (pass.named_carried_there _ _ _ valid_own valid_other _ _ _ _ _ _ _ _ _ _ _ s) n i there (ap is_some e))
 
   abbrev function_ready : Function → Bool
   function_ready = is_function_carried second.carries_type
@@ -340,29 +308,23 @@ module _ (own other merged : Resolve) (valid_own : IsValid own) (valid_other : I
   item_passes e = list_all function_ready (option_to_list (item_function e.1))
 
   functions_ready : adds ≡ true → (list_all item_passes v.imports.entries && list_all item_passes v.exports.entries) ≡ true
-  functions_ready add =
-      sym (by_entries function_ready v)
-      ∙ (parts_hold other valid_other second adds initial (pass.starts _ _ _ valid_own valid_other _ _ _ _ _ _ _ _ _ _ _ s) add).of_worlds other_world v
-      s.other_at (same-number other_world)
+  functions_ready add = sym (by_entries function_ready v) ∙ (parts_hold other valid_other second adds initial (pass.starts _ _ _ valid_own valid_other _ _ _ _ _ _ _ _ _ _ _ s) add).of_worlds
+      other_world v s.other_at (same-number other_world)
 
   -- a type under a new key is copied
   type_ready : (e : WorldKey × WorldItem) → Contains v.imports.entries e → is_new_under interfaces w.imports.entries e.0 ≡ true → (id : TypeId) → type_in e.1 ≡ Some id → is_copied fates id.0 ≡ true
-  type_ready e held new id is = (pass.copied_so _ _ _ valid_own valid_other _ _ _ _ _ _ _ _ _ _ _ s) id.0 x.def (as_world world) x.found in_before never
+  type_ready e held new id is =
+      let b : pass.Before own other merged valid_own valid_other world other_world w v m c first_numbers p copied interfaces types s id.0 x.def =
+      (pass.was _ _ _ valid_own valid_other _ _ _ _ _ _ _ _ _ _ _ s) id.0 x.def x.found in
+      let in_before = b.stands ∙ (ap (λ o. Some ((pass.fate_before _ _ _ valid_own valid_other _ _ _ _ _ _ _ _ _ _ _ s) b o)) x.home
+      ∙ ap (λ k. Some (if k then fate.Copied (as_world world) else fate.Left)) (same-number other_world)) in
+      (pass.copied_so _ _ _ valid_own valid_other _ _ _ _ _ _ _ _ _ _ _ s) id.0 x.def (as_world world) x.found in_before never
     where
       is_type : item_type e.1 ≡ Some id.0
       is_type = type_number e.1 id is
 
       x : IsWorldType other valid_other other_world v s.other_at e.0 id.0
       x = (pass.typed _ _ _ valid_own valid_other _ _ _ _ _ _ _ _ _ _ _ s) e held id.0 is_type
-
-      b : pass.Before own other merged valid_own valid_other world other_world w v m c first_numbers p copied interfaces types s id.0 x.def
-      b = (pass.was _ _ _ valid_own valid_other _ _ _ _ _ _ _ _ _ _ _ s) id.0 x.def x.found
-
-      in_before : slice_get before id.0 ≡ Some (fate.Copied (as_world world))
-      in_before =
-          b.stands
-          ∙ (ap (λ o. Some ((pass.fate_before _ _ _ valid_own valid_other _ _ _ _ _ _ _ _ _ _ _ s) b o)) x.home
-          ∙ ap (λ k. Some (if k then fate.Copied (as_world world) else fate.Left)) (same-number other_world))
 
       none_found : lookup (key_eq (key.Name x.label)) w.imports.entries ≡ None
       none_found = not_some (lookup (key_eq (key.Name x.label)) w.imports.entries)
@@ -371,9 +333,8 @@ module _ (own other merged : Resolve) (valid_own : IsValid own) (valid_other : I
       never : IsUnified w.imports.entries v.imports.entries initial id.0 → ⊥
       never u =
           let facts = (pass.met_entry _ _ _ valid_own valid_other _ _ _ _ _ _ _ _ _ _ _ s) id.0 u in
-          let same = (pass.one_under _ _ _ valid_own valid_other _ _ _ _ _ _ _ _ _ _ _ s) u.entry e facts.0 held id.0 facts.1 is_type in
           let none : None ≡ Some u.own = sym ((pass.under_label _ _ _ valid_own valid_other _ _ _ _ _ _ _ _ _ _ _ s) e held id.0 is_type ∙ ap (option_and_then type_in) none_found) ∙
-          (sym same ∙ u.there) in
+          (sym ((pass.one_under _ _ _ valid_own valid_other _ _ _ _ _ _ _ _ _ _ _ s) u.entry e facts.0 held id.0 facts.1 is_type) ∙ u.there) in
           cc
 
   -- ---- imports
@@ -386,15 +347,14 @@ module _ (own other merged : Resolve) (valid_own : IsValid own) (valid_other : I
 
   -- an item under a new key is ready, whichever of the two lists it is of
   module _ (here es : List (WorldKey × WorldItem)) (gains : any_new interfaces here es ≡ true → adds ≡ true)
-      (shows : (n : ℕ) → is_shown_new other c.interfaces.items here es n ≡ true → shows_gained n ≡ true) (passed : adds ≡ true → list_all item_passes es ≡ true)
+      (shows : (n : ℕ) → is_shown_new other c.interfaces.items here es n ≡ true → shows_gained other c.interfaces.items w v n ≡ true) (passed : adds ≡ true → list_all item_passes es ≡ true)
       (e : WorldKey × WorldItem) (held : Contains es e) (new : is_new_under interfaces here e.0 ≡ true) (range_of : item_in_range other e.1 ≡ true)
       (same : IsNumberedSame interfaces c.interfaces.items e.0) (types_ready : (id : TypeId) → type_in e.1 ≡ Some id → is_copied fates id.0 ≡ true) where
     item_ready : (i : WorldItem) → e.1 ≡ i → IsItemReady second i
     item_ready (item.Interface id stability docs external_id) q =
         let d = found-in other.interfaces.items id.0 (sym (ap (item_in_range other) q) ∙ range_of) in
         let place = contains-get es e held in
-        interface_ready id.0 d.0 d.1
-        (shows id.0 (any_at (λ (y : WorldKey × WorldItem). is_new_under c.interfaces.items here y.0 && is_id id.0 (item_interface y.1)) es place.0 e place.1
+        interface_ready id.0 d.0 d.1 (shows id.0 (any_at (λ (y : WorldKey × WorldItem). is_new_under c.interfaces.items here y.0 && is_id id.0 (item_interface y.1)) es place.0 e place.1
         (both (is_new_under c.interfaces.items here e.0) (is_id id.0 (item_interface e.1)) (sym (new_under_same interfaces c.interfaces.items here e.0 same) ∙ new)
         (ap (λ y. is_id id.0 (item_interface y)) q ∙ same-number id.0))))
     item_ready (item.Function g) q =
@@ -413,8 +373,7 @@ module _ (own other merged : Resolve) (valid_own : IsValid own) (valid_other : I
   imports_ready = record {
     new_ready = λ n e at new. let held = get-contains v.imports.entries n e at in (
       key_ready e.0 (import_named e held),
-      item_ready w.imports.entries v.imports.entries
-          (or_left (any_new interfaces w.imports.entries v.imports.entries) (any_new interfaces w.exports.entries v.exports.entries))
+      item_ready w.imports.entries v.imports.entries (or_left (any_new interfaces w.imports.entries v.imports.entries) (any_new interfaces w.exports.entries v.exports.entries))
           (λ k. or_left (is_shown_new other c.interfaces.items w.imports.entries v.imports.entries k) (is_shown_new other c.interfaces.items w.exports.entries v.exports.entries k))
           (λ add. first_true (list_all item_passes v.imports.entries) (list_all item_passes v.exports.entries) (functions_ready add)) e held new
           (second_true (key_in_range other e.0) (item_in_range other e.1) (import_range other valid_other other_world v s.other_at e held))
@@ -439,8 +398,7 @@ module _ (own other merged : Resolve) (valid_own : IsValid own) (valid_other : I
   exports_ready = record {
     new_ready = λ n e at new. let held = get-contains v.exports.entries n e at in (
       key_ready e.0 (export_named e held),
-      item_ready w.exports.entries v.exports.entries
-          (or_right (any_new interfaces w.imports.entries v.imports.entries) (any_new interfaces w.exports.entries v.exports.entries))
+      item_ready w.exports.entries v.exports.entries (or_right (any_new interfaces w.imports.entries v.imports.entries) (any_new interfaces w.exports.entries v.exports.entries))
           (λ k. or_right (is_shown_new other c.interfaces.items w.imports.entries v.imports.entries k) (is_shown_new other c.interfaces.items w.exports.entries v.exports.entries k))
           (λ add. second_true (list_all item_passes v.imports.entries) (list_all item_passes v.exports.entries) (functions_ready add)) e held new
           (second_true (key_in_range other e.0) (item_in_range other e.1) (export_range other valid_other other_world v s.other_at e held))
@@ -464,8 +422,7 @@ module _ (own other merged : Resolve) (valid_own : IsValid own) (valid_other : I
   once j n h k e =
       let a = path_number j h in
       let b = path_number n k in
-      interfaces_once own other valid_own valid_other m.interfaces.items c first_numbers
-      (pass.chosen _ _ _ valid_own valid_other _ _ _ _ _ _ _ _ _ _ _ s) p.same p.none
+      interfaces_once own other valid_own valid_other m.interfaces.items c first_numbers (pass.chosen _ _ _ valid_own valid_other _ _ _ _ _ _ _ _ _ _ _ s) p.same p.none
       (pass.long _ _ _ valid_own valid_other _ _ _ _ _ _ _ _ _ _ _ s) p.numbered.interfaces (length own.types.items + length {A = TypeDef} [])
       p.types.numbers_are j n a.1 b.1 (sym a.0 ∙ (e ∙ b.0))
 
@@ -511,46 +468,32 @@ module _ (own other merged : Resolve) (valid_own : IsValid own) (valid_other : I
 
   -- what is carried by path has a number in front of what is gained
   type_path_low : (n : ℕ) (def : TypeDef) → type_at other n ≡ Some def → is_carried before_fates n ≡ true → first.types n < types_behind
-  type_path_low n def at h = go (is_copied before_fates n) refl
-    where
-      go : (b : Bool) → is_copied before_fates n ≡ b → first.types n < types_behind
-      go true e =
-          let home = copied_home before_fates n e in
-          let place = copy_placed own.types.items first_numbers other.types.items before_fates [] p.new_types [] p.types n home.0 def home.1 at in
-          let within = slice_get_within (own.types.items ++ (p.new_types ++ [])) (number_under first_numbers n) place.image place.at_image in
-          let whole : length (own.types.items ++ (p.new_types ++ [])) ≡ types_behind =
-          length-append own.types.items (p.new_types ++ []) ∙ ap (λ l. length own.types.items + length l) (append-nil p.new_types) in
-          omega (arith, within, whole)
-      go false e =
-          let low = type_low own other valid_own valid_other m.interfaces.items c first_numbers
-          (pass.chosen _ _ _ valid_own valid_other _ _ _ _ _ _ _ _ _ _ _ s) p.same p.none
-          (pass.long _ _ _ valid_own valid_other _ _ _ _ _ _ _ _ _ _ _ s) p.numbered.interfaces (length own.types.items + length {A = TypeDef} [])
-          p.types.numbers_are n def at h e in
-          omega (arith, low)
+  type_path_low n def at h = by_test (is_copied before_fates n) (λ e.
+      let home = copied_home before_fates n e in
+      let place = copy_placed own.types.items first_numbers other.types.items before_fates [] p.new_types [] p.types n home.0 def home.1 at in
+      omega (
+        arith,
+        (slice_get_within (own.types.items ++ (p.new_types ++ [])) (number_under first_numbers n) place.image place.at_image),
+        (length-append own.types.items (p.new_types ++ []) ∙ ap (λ l. length own.types.items + length l) (append-nil p.new_types)),
+      )) (λ e. omega (
+        arith,
+        (type_low own other valid_own valid_other m.interfaces.items c first_numbers (pass.chosen _ _ _ valid_own valid_other _ _ _ _ _ _ _ _ _ _ _ s) p.same p.none
+            (pass.long _ _ _ valid_own valid_other _ _ _ _ _ _ _ _ _ _ _ s) p.numbered.interfaces (length own.types.items + length {A = TypeDef} []) p.types.numbers_are n def at h e),
+      ))
 
   uncopied_low : (n : ℕ) → is_carried fates n ≡ true → is_copied fates n ≡ false → second.types n < types_behind
   uncopied_low n h bare =
       let d = (pass.type_there _ _ _ valid_own valid_other _ _ _ _ _ _ _ _ _ _ _ s) n h in
       elim ((pass.stood_how _ _ _ valid_own valid_other _ _ _ _ _ _ _ _ _ _ _ s) n d.0 d.1 h bare) [
-        | inl x ↦ (let q = (pass.same_types _ _ _ valid_own valid_other _ _ _ _ _ _ _ _ _ _ _ s) n d.0 x.at_number x.shown d.1 x.named x.home x.there
-            x.has_name in
+        | inl x ↦ (let q = (pass.same_types _ _ _ valid_own valid_other _ _ _ _ _ _ _ _ _ _ _ s) n d.0 x.at_number x.shown d.1 x.named x.home x.there x.has_name in
             subst (λ (k : ℕ). k < types_behind) (sym q.0) (type_path_low n d.0 d.1 x.carried))
         | inr u ↦ (let x = (pass.met_type _ _ _ valid_own valid_other _ _ _ _ _ _ _ _ _ _ _ s) n d.0 d.1 u in
             let within = slice_get_within own.types.items (second.types n) x.image x.at_image in omega (arith, within))
       ]
 
   types_rise : Rises second.types second.carries_type second.copies_type
-  types_rise k n carried copied_n before =
-      subst (λ l. number_under l k < number_under l n) (sym s.types_copied.numbers_are)
-      (numbers_rise types_behind (map copies fates) (map stood fates) second.carries_type (length-map fates stood ∙ sym (length-map fates copies)) low k n carried (flag_is_copied fates n ∙ copied_n)
-      (go before))
-    where
-      go : (k < n) ⊎ (is_copied fates k ≡ false) → (k < n) ⊎ (flag_under (map copies fates) k ≡ false)
-      go (inl less) = inl less
-      go (inr bare) = inr (flag_is_copied fates k ∙ bare)
-
-      low : (n : ℕ) → second.carries_type n ≡ true → flag_under (map copies fates) n ≡ false → number_under (numbers_by types_behind fates) n < types_behind
-      low n h e = subst (λ (x : ℕ). x < types_behind) (ap (λ l. number_under l n) s.types_copied.numbers_are) (uncopied_low n h (sym (flag_is_copied fates n) ∙ e))
+  types_rise = subst (λ l. Rises (number_under l) second.carries_type second.copies_type) (sym s.types_copied.numbers_are) (fates_rise types_behind fates second.carries_type
+      (λ n h e. subst (λ (x : ℕ). x < types_behind) (ap (λ l. number_under l n) s.types_copied.numbers_are) (uncopied_low n h e)))
 
   -- ---- the whole
 
@@ -579,14 +522,7 @@ module _ (own other merged : Resolve) (valid_own : IsValid own) (valid_other : I
   }
     where
       new_interfaces : (n : ℕ) → flag_under copied n ≡ true → length own.interfaces.items ≤ second.interfaces n
-      new_interfaces n set =
-          let past = copied_behind (length own.interfaces.items + length p.new_interfaces) copied c.interfaces.items n
-          (pass.copied_long _ _ _ valid_own valid_other _ _ _ _ _ _ _ _ _ _ _ s) set in
-          let number : second.interfaces n ≡ number_under (numbers_of (length own.interfaces.items + length p.new_interfaces) copied c.interfaces.items) n =
-          carried_number n
-          (copied_carries n set) ∙ ap (λ (l : List ℕ). number_under l n)
-          s.interfaces_are in
-          omega (arith, past, number)
+      new_interfaces n set = let past = gained_high n set in omega (arith, past)
 
       inline_copied : (n : ℕ) (i : Interface) → second.carries_interface n ≡ true → interface_at other n ≡ Some i → i.name ≡ None → flag_under copied n ≡ true
       inline_copied n i h there none = true_from_ne_false (flag_under copied n) (λ e.
@@ -595,81 +531,59 @@ module _ (own other merged : Resolve) (valid_own : IsValid own) (valid_other : I
 
       inline_shown : (n : ℕ) (i : Interface) (k : ℕ) (u : World) → flag_under copied n ≡ true → interface_at other n ≡ Some i → i.name ≡ None → world_at other k ≡ Some u
           → has (filter_map item_interface (items_of u)) n ≡ true → (k == other_world) ≡ true
-      inline_shown n i k u set there none at_u shows =
-          let one = one_shows other valid_other n i there none k other_world u v at_u s.other_at (some_count n (items_of u) shows) (times_of v n shown) in
-          ap (λ (x : ℕ). x == other_world) one ∙ same-number other_world
-        where
-          gained : is_gained other c.interfaces.items w v (pass.imports_shown _ _ _ valid_own valid_other _ _ _ _ _ _ _ _ _ _ _ s)
-              (pass.exports_shown _ _ _ valid_own valid_other _ _ _ _ _ _ _ _ _ _ _ s) n ≡ true
-          gained = second_true (is_inline_at other n)
-              (is_gained other c.interfaces.items w v (pass.imports_shown _ _ _ valid_own valid_other _ _ _ _ _ _ _ _ _ _ _ s)
-              (pass.exports_shown _ _ _ valid_own valid_other _ _ _ _ _ _ _ _ _ _ _ s) n)
-              (sym (gained_flag other c.interfaces.items w v (pass.imports_shown _ _ _ valid_own valid_other _ _ _ _ _ _ _ _ _ _ _ s)
-              (pass.exports_shown _ _ _ valid_own valid_other _ _ _ _ _ _ _ _ _ _ _ s) n) ∙ (ap (λ (l : List Bool). flag_under l n) (sym s.copied_are) ∙ set))
-
-          shown : (is_shown_in v.imports.entries n || is_shown_in v.exports.entries n) ≡ true
-          shown = go (is_shown_new other c.interfaces.items w.imports.entries v.imports.entries n) refl gained
-            where
-              go : (b : Bool) → is_shown_new other c.interfaces.items w.imports.entries v.imports.entries n ≡ b
-                  → (b || is_shown_new other c.interfaces.items w.exports.entries v.exports.entries n) ≡ true → (is_shown_in v.imports.entries n || is_shown_in v.exports.entries n) ≡ true
-              go true e h = or_left (is_shown_in v.imports.entries n) (is_shown_in v.exports.entries n) (shown_in other c.interfaces.items w.imports.entries v.imports.entries n e)
-              go false e h = or_right (is_shown_in v.imports.entries n) (is_shown_in v.exports.entries n) (shown_in other c.interfaces.items w.exports.entries v.exports.entries n h)
+      inline_shown n i k u set there none at_u shows = ap (λ (x : ℕ). x == other_world) (one_shows other valid_other n i there none k other_world u v at_u s.other_at (some_count n (items_of u) shows)
+          (times_of v n (by_either (is_shown_new other c.interfaces.items w.imports.entries v.imports.entries n) (is_shown_new other c.interfaces.items w.exports.entries v.exports.entries n)
+          (second_true (is_inline_at other n) (shows_gained other c.interfaces.items w v n) (sym ((pass.gained _ _ _ valid_own valid_other _ _ _ _ _ _ _ _ _ _ _ s) n) ∙ set))
+          (λ e. or_left (is_shown_in v.imports.entries n) (is_shown_in v.exports.entries n) (shown_in other c.interfaces.items w.imports.entries v.imports.entries n e))
+          (λ e h. or_right (is_shown_in v.imports.entries n) (is_shown_in v.exports.entries n) (shown_in other c.interfaces.items w.exports.entries v.exports.entries n h))))) ∙ same-number other_world
 
   -- ---- nothing else is added: each type, interface and world behind own ones is a copy of one of the passes
 
   pub type_from : (n : ℕ) → length own.types.items ≤ n → n < length merged.types.items → IsCopyUnder first.types first.copies_type n ⊎ IsCopyUnder second.types second.copies_type n
   type_from n low high = elim (in_two n (length own.types.items + length p.new_types)) [
-    | inl less ↦ (let r = copied_from (length own.types.items + length {A = TypeDef} []) before_fates n (omega (arith, low)) (omega (arith, less, count_first)) in
+    | inl less ↦ (let r = copied_from (length own.types.items + length {A = TypeDef} []) before_fates n (omega (arith, low)) (omega (
+      arith,
+      less,
+      types_copied_long (length own.types.items) first_numbers other.types.items before_fates [] p.new_types (pass.long_fates _ _ _ valid_own valid_other _ _ _ _ _ _ _ _ _ _ _ s) p.types,
+    )) in
         inl (r.0, r.1, ap (λ l. number_under l r.0) p.types.numbers_are ∙ r.2))
-    | inr more ↦ (let r = copied_from (length own.types.items + length p.new_types) fates n more (omega (arith, high, whole, count_all)) in
+    | inr more ↦ (let r = copied_from (length own.types.items + length p.new_types) fates n more (omega (
+      arith,
+      high,
+      (ap length s.types_here ∙ length-append own.types.items s.all_types),
+      types_copied_long (length own.types.items) types other.types.items fates p.new_types s.all_types (pass.fates_many _ _ _ valid_own valid_other _ _ _ _ _ _ _ _ _ _ _ s) s.types_copied,
+    )) in
         inr (r.0, r.1, ap (λ l. number_under l r.0) s.types_copied.numbers_are ∙ r.2))
   ]
-    where
-      count_first : length p.new_types ≡ length {A = TypeDef} [] + copies_of before_fates
-      count_first = types_copied_long (length own.types.items) first_numbers other.types.items before_fates [] p.new_types (pass.long_fates _ _ _ valid_own valid_other _ _ _ _ _ _ _ _ _ _ _ s) p.types
-
-      count_all : length s.all_types ≡ length p.new_types + copies_of fates
-      count_all = types_copied_long (length own.types.items) types other.types.items fates p.new_types s.all_types (pass.fates_many _ _ _ valid_own valid_other _ _ _ _ _ _ _ _ _ _ _ s) s.types_copied
-
-      whole : length merged.types.items ≡ length own.types.items + length s.all_types
-      whole = ap length s.types_here ∙ length-append own.types.items s.all_types
-
-  matched_long : length c.copied_interfaces.items ≡ length (map interface_number m.interfaces.items)
-  matched_long = (pass.long _ _ _ valid_own valid_other _ _ _ _ _ _ _ _ _ _ _ s) ∙ sym (length-map m.interfaces.items interface_number)
 
   pub interface_from : (n : ℕ) → length own.interfaces.items ≤ n → n < length merged.interfaces.items → IsCopyUnder first.interfaces first.copies_interface n
       ⊎ IsCopyUnder second.interfaces second.copies_interface n
   interface_from n low high = elim (in_two n (length own.interfaces.items + length p.new_interfaces)) [
-    | inl less ↦ (let r = kept_from (length own.interfaces.items) c.copied_interfaces.items (map interface_number m.interfaces.items) n matched_long low (omega (arith, less, count_first)) in
+    | inl less ↦ (let r = kept_from (length own.interfaces.items) c.copied_interfaces.items (map interface_number m.interfaces.items) n
+        ((pass.long _ _ _ valid_own valid_other _ _ _ _ _ _ _ _ _ _ _ s) ∙ sym (length-map m.interfaces.items interface_number)) low
+        (omega (arith, less, carried_all (IsInterfaceCarried c first_numbers) c.copied_interfaces.items other.interfaces.items p.new_interfaces p.numbered.interface_count p.interfaces)) in
         inl (r.0, r.1, ap (λ l. number_under l r.0) p.numbered.interfaces ∙ r.2))
-    | inr more ↦ (let r = kept_from (length own.interfaces.items + length p.new_interfaces) copied c.interfaces.items n
-        (pass.copied_long _ _ _ valid_own valid_other _ _ _ _ _ _ _ _ _ _ _ s) more (omega (arith, high, whole, count_all)) in
+    | inr more ↦ (let r = kept_from (length own.interfaces.items + length p.new_interfaces) copied c.interfaces.items n (pass.copied_long _ _ _ valid_own valid_other _ _ _ _ _ _ _ _ _ _ _ s) more
+        (omega (
+          arith,
+          high,
+          (ap length s.interfaces_here ∙ length-append own.interfaces.items s.all_interfaces),
+          (inline_all types w.«package» copied other.interfaces.items p.new_interfaces s.all_interfaces ((pass.copied_long _ _ _ valid_own valid_other _ _ _ _ _ _ _ _ _ _ _ s) ∙ interfaces_many)
+              s.inline_copied),
+        )) in
         inr (r.0, r.1, carried_number r.0 (copied_carries r.0 r.1) ∙ (ap (λ (l : List ℕ). number_under l r.0) s.interfaces_are ∙ r.2)))
   ]
-    where
-      count_first : length p.new_interfaces ≡ copied_count c.copied_interfaces.items
-      count_first = carried_all (IsInterfaceCarried c first_numbers) c.copied_interfaces.items other.interfaces.items p.new_interfaces p.numbered.interface_count p.interfaces
-
-      count_all : length s.all_interfaces ≡ length p.new_interfaces + copied_count copied
-      count_all = inline_all types w.«package» copied other.interfaces.items p.new_interfaces s.all_interfaces
-          ((pass.copied_long _ _ _ valid_own valid_other _ _ _ _ _ _ _ _ _ _ _ s) ∙ interfaces_many) s.inline_copied
-
-      whole : length merged.interfaces.items ≡ length own.interfaces.items + length s.all_interfaces
-      whole = ap length s.interfaces_here ∙ length-append own.interfaces.items s.all_interfaces
 
   pub world_from : (n : ℕ) → length own.worlds.items ≤ n → n < length merged.worlds.items → IsCopyUnder first.worlds first.carries_world n
   world_from n low high =
-      let r = kept_from (length own.worlds.items) c.copied_worlds.items (map world_number m.worlds.items) n worlds_long low (omega (arith, high, whole, count)) in
+      let r = kept_from (length own.worlds.items) c.copied_worlds.items (map world_number m.worlds.items) n (p.numbered.world_count ∙ (sym p.all.worlds ∙ sym (length-map m.worlds.items world_number)))
+      low (omega (
+        arith,
+        high,
+        (ap length p.worlds_here ∙ (length-append p.own_worlds p.new_worlds ∙ ap (λ k. k + length p.new_worlds) p.own_count)),
+        carried_all (IsWorldCarried c first_numbers) c.copied_worlds.items other.worlds.items p.new_worlds p.numbered.world_count p.worlds,
+      )) in
       (r.0, r.1, ap (λ l. number_under l r.0) p.numbered.worlds ∙ r.2)
-    where
-      worlds_long : length c.copied_worlds.items ≡ length (map world_number m.worlds.items)
-      worlds_long = p.numbered.world_count ∙ (sym p.all.worlds ∙ sym (length-map m.worlds.items world_number))
-
-      count : length p.new_worlds ≡ copied_count c.copied_worlds.items
-      count = carried_all (IsWorldCarried c first_numbers) c.copied_worlds.items other.worlds.items p.new_worlds p.numbered.world_count p.worlds
-
-      whole : length merged.worlds.items ≡ length own.worlds.items + length p.new_worlds
-      whole = ap length p.worlds_here ∙ (length-append p.own_worlds p.new_worlds ∙ ap (λ k. k + length p.new_worlds) p.own_count)
 
   -- ---- both passes together are a merge, where packages stand and no list is too long
 
@@ -686,9 +600,11 @@ module _ (own other merged : Resolve) (valid_own : IsValid own) (valid_other : I
     worlds = s.others;
     first_copies = copies;
     second_copies = second_is_copied;
-    second_behind = behind;
+    second_behind = λ k n set_k set_n. omega (arith, path_low k (or_left (flag_under c.copied_interfaces.items k) (is_matched m.interfaces.items k) set_k), gained_high n set_n);
     second_inline = λ k i set there. let x = copied_there k set in ap (λ (j : Interface). j.name) (some_same i x.0 (sym there ∙ x.1)) ∙ x.2;
-    first_packages = first_home;
+    first_packages = λ k h.
+        let x = copies.carried.interfaces k h in
+        by_option x.old.name (λ e. copy_home k x.old x.image x.found (copies.inline_copied k x.old h x.found e) x.at_image) (λ t e. x.in_package (ap is_some e));
     first_worlds = λ k set. (first_worlds_are_copied own other merged m c first_numbers valid_own valid_other p k set).0;
     new_worlds = λ k set. (first_worlds_are_copied own other merged m c first_numbers valid_own valid_other p k set).1;
     second_worlds = λ k set. equal k other_world set;
@@ -699,7 +615,10 @@ module _ (own other merged : Resolve) (valid_own : IsValid own) (valid_other : I
     bound_name = ap (λ (x : World). x.name) bound_stands.1 ∙ s.gained.name;
     bound_stability = ap (λ (x : World). x.stability) bound_stands.1 ∙ s.gained.stability;
     bound_package = ap (λ (x : World). x.«package») bound_stands.1 ∙ s.gained.in_package;
-    second_package = second_home;
+    second_package = λ k h set.
+        let x = second_is_copied.carried.interfaces k h in
+        let place = inline_place k x.old x.found set in
+        ap (λ (y : Interface). package_number y.«package») (some_same x.image place.image (sym x.at_image ∙ inline_at k x.old x.found set)) ∙ ap package_number place.is.in_package;
     not_left_out = λ k set. not_root other m.worlds.items other.worlds.items k (ap (λ (l : List Bool). flag_under l k) (sym p.numbered.copied_worlds) ∙ set);
     type_from = type_from;
     interface_from = interface_from;
@@ -711,46 +630,12 @@ module _ (own other merged : Resolve) (valid_own : IsValid own) (valid_other : I
       copies : AreCopies own other merged first
       copies = first_is_copied own other merged m c first_numbers valid_own valid_other p
 
-      behind : (k n : ℕ) → flag_under c.copied_interfaces.items k ≡ true → flag_under copied n ≡ true → number_under c.interfaces.items k < second.interfaces n
-      behind k n set_k set_n =
-          let low = path_low k
-          (or_left (flag_under c.copied_interfaces.items k) (is_matched m.interfaces.items k) set_k) in
-          let past = copied_behind (length own.interfaces.items + length p.new_interfaces) copied c.interfaces.items n
-          ((pass.copied_long _ _ _ valid_own valid_other _ _ _ _ _ _ _ _ _ _ _ s)) set_n in
-          let number : second.interfaces n ≡ number_under
-          (numbers_of (length own.interfaces.items + length p.new_interfaces) copied c.interfaces.items) n =
-          carried_number n
-          (copied_carries n set_n) ∙ ap (λ (l : List ℕ). number_under l n)
-          s.interfaces_are in
-          omega (arith, low, past, number)
-
       -- an interface that is copied by path has its own package
       copy_home : (k : ℕ) (i x : Interface) → interface_at other k ≡ Some i → flag_under c.copied_interfaces.items k ≡ true → interface_at merged (number_under c.interfaces.items k) ≡ Some x
           → package_number x.«package» ≡ option_map (number_under c.packages.items) (package_number i.«package»)
       copy_home k i x there set at_x =
           let flags = (pass.long _ _ _ valid_own valid_other _ _ _ _ _ _ _ _ _ _ _ s) in
-          let place = kept_placed (IsInterfaceCarried c first_numbers) c.copied_interfaces.items (map interface_number m.interfaces.items) other.interfaces.items p.new_interfaces p.interfaces
-          (flags ∙ sym (length-map m.interfaces.items interface_number)) (length own.interfaces.items) own.interfaces.items p.more_interfaces refl k i set there in
-          let at_place : interface_at merged (number_under c.interfaces.items k) ≡ Some place.image =
-          ap (λ l. slice_get l (number_under c.interfaces.items k)) p.interfaces_here
-          ∙ (ap (λ (l : List ℕ). slice_get (own.interfaces.items ++ (p.new_interfaces ++ p.more_interfaces)) (number_under l k)) p.numbered.interfaces ∙ place.at_image) in
-          ap (λ (y : Interface). package_number y.«package») (some_same x place.image (sym at_x ∙ at_place)) ∙ (ap package_number place.is.in_package ∙ home_number c.packages.items i.«package»)
-
-      first_home : (k : ℕ) (h : (flag_under c.copied_interfaces.items k || is_matched m.interfaces.items k) ≡ true)
-          → package_number (copies.carried.interfaces k h).image.«package» ≡ option_map (number_under c.packages.items) (package_number (copies.carried.interfaces k h).old.«package»)
-      first_home k h = go x.old.name refl
-        where
-          x : IsInterface other merged first k
-          x = copies.carried.interfaces k h
-
-          go : (o : Option (String Global)) → x.old.name ≡ o → package_number x.image.«package» ≡ option_map (number_under c.packages.items) (package_number x.old.«package»)
-          go (Some t) e = x.in_package (ap is_some e)
-          go None e = copy_home k x.old x.image x.found (copies.inline_copied k x.old h x.found e) x.at_image
-
-      second_home : (k : ℕ) (h : second.carries_interface k ≡ true) → flag_under copied k ≡ true
-          → package_number (second_is_copied.carried.interfaces k h).image.«package» ≡ package_number w.«package»
-      second_home k h set =
-          let x = second_is_copied.carried.interfaces k h in
-          let place = inline_place k x.old x.found set in
-          let at_place = inline_at k x.old x.found set in
-          ap (λ (y : Interface). package_number y.«package») (some_same x.image place.image (sym x.at_image ∙ at_place)) ∙ ap package_number place.is.in_package
+          let place = kept_here (IsInterfaceCarried c first_numbers) c.copied_interfaces.items (map interface_number m.interfaces.items) other.interfaces.items p.new_interfaces p.interfaces
+          (flags ∙ sym (length-map m.interfaces.items interface_number)) (length own.interfaces.items) own.interfaces.items p.more_interfaces refl c.interfaces.items p.numbered.interfaces
+          merged.interfaces.items p.interfaces_here k i set there in
+          ap (λ (y : Interface). package_number y.«package») (some_same x place.image (sym at_x ∙ place.at_image)) ∙ (ap package_number place.is.in_package ∙ home_number c.packages.items i.«package»)

@@ -1,19 +1,23 @@
 -- What the second pass looks at: items that are types, labels, lists, and inline interfaces that are shown once.
-use Rattle.base_lemmas.proofs.{Elements.lookup_stands, Numbers.equal, Numbers.same-number}
-use Rattle.bind_carry.proofs.{CopiesPlaced.some_same, FirstWorlds.inline_once, FirstWorlds.shown_count, FirstWorlds.sum_two, SecondInitial.is_shown_new}
+use Rattle.base_lemmas.proofs.{Bools.right_of as second_true, Elements.lookup_stands, Numbers.equal, Numbers.same-number}
+use Rattle.bind_carry.proofs.{CopiesPlaced.by_either, FirstWorlds.sum_least}
+use Rattle.bind_meaning.proofs.Listed.{by_option}
+use Rattle.bind_carry.proofs.{FirstWorlds.inline_once, FirstWorlds.shown_count, FirstWorlds.sum_two, SecondInitial.is_shown_new}
 use Rattle.bind_carry.{proofs.FirstWorlds.count, proofs.FirstWorlds.count_front, proofs.WorldEntries.label_new}
 use Rattle.bind_carry.specs.{BoundGains.type_under_key, Marked.is_shown_in, Renumbered.met_under, SecondPass.DoNotClash, Shown.type_in, Which.new_worlds, declared.fate.Fate.Fate}
-use Rattle.bind_carry.specs.{Fates.carries, First.beside_first, First.flag_under}
+use Rattle.bind_carry.specs.{Fates.carries, Fates.copies, First.beside_first, First.flag_under, First.is_named_at, First.second_in, Renumbered.is_matched}
+use Rattle.bind_carry.specs.{Renumbered.second_of, declared.plan.Carried.Carried}
 use Rattle.bind_copy.specs.Copies.{is_new_under}
 use Rattle.bind_match.specs.Matching.{is_root_world}
-use Rattle.bind_union.proofs.{Lists.no_true, WorldNamesakes.world_type}
-use Rattle.bind_union.proofs.WorldNamesakes.{IsWorldType, is_declared, not_declared}
-use Rattle.bind_union.specs.Carried.{IsSameName}
+use Rattle.bind_union.proofs.{Lists.no_true, WorldNamesakes.world_type, WorldNamesakes.is_declared, WorldNamesakes.not_declared}
+use Rattle.bind_union.specs.Carried.{IsSameName, Renumbering, carries_owner, copies_owner, owner_under}
+use Rattle.wit_model.specs.{Parts.same_owner, Valid.as_interface, Valid.as_world, Rules.is_id, Rules.item_type, Rules.times_shown}
+use Rattle.wit_model.specs.declared.model.InterfaceId.{InterfaceId}
+use Rattle.wit_model.specs.declared.model.TypeOwner.TheVariants as owner
 use Rattle.std.proofs.Common.{Bool, List, None, Option, Some, [], ap, arith, cond, false, if◌then◌else◌, is_some, map, not, option_and_then, option_map, refl, rules as std_rules, slice_get, subst, suc, sym, true, unwrap_or, zero, ℕ, ◌&&◌, ◌+◌, ◌||◌, ◌∙◌, ◌∷◌, ◌≡◌, ◌≤◌}
-use Rattle.std.proofs.lemmas.{List.Sums.sum_by-cons, Option.slice_get-map}
-use Rattle.std.specs.{List.AllByRecursion, List.Contains, List.IsDistinct, Map.keys_of, Map.lookup, Option.option_map_or, Prelude.String, Prelude.sum_by, declared.alloc.Global.Global}
+use Rattle.std.proofs.lemmas.{Bool.or_left, Bool.or_right, Option.slice_get-map}
+use Rattle.std.specs.{List.AllByRecursion, List.Contains, List.IsDistinct, Map.keys_of, Map.lookup, Option.option_map_or, Prelude.String, declared.alloc.Global.Global}
 use Rattle.wit_model.specs.{Lookup.interface_at, Lookup.key_text, Lookup.world_at, Meaning.Entry, Meaning.InterfaceSense, Meaning.item_sense, Meant.interface_item, Meant.item_meaning, Text.Text, Text.optional_text, Text.text_of, Uses.item_interface, Valid.IsValid, Valid.key_eq}
-use Rattle.wit_model.specs.Rules.{is_id, item_type, times_shown}
 use Rattle.wit_model.specs.declared.model.{Interface.Interface, PackageName.PackageName, Resolve.Resolve, TypeId.TypeId, TypeOwner.TypeOwner, World.World, WorldId.WorldId, WorldItem.WorldItem, WorldKey.WorldKey}
 use Rattle.wit_model.specs.declared.model.WorldItem.TheVariants as item
 use Rattle.wit_model.specs.declared.model.WorldKey.TheVariants as key
@@ -57,21 +61,43 @@ apart_at k (y ∷ ys) h (suc n) x e = apart_at k ys h.1 n x e
 
 -- what stands under a label is found, where no key stands twice
 pub label_held : (label : String Global) (es : List (WorldKey × WorldItem)) → IsDistinct key_eq (keys_of es) → (n : ℕ) (x : WorldKey × WorldItem) → slice_get es n ≡ Some x → (own : String Global)
-    → x.0 ≡ key.Name own → text_of own ≡ text_of label
-    → lookup (key_eq (key.Name label)) es ≡ Some x.1
+    → x.0 ≡ key.Name own → text_of own ≡ text_of label → lookup (key_eq (key.Name label)) es ≡ Some x.1
 unfolding IsDistinct
 label_held label [] distinct n x e own is same = let wrong : ⊥ = cc in absurd wrong
 label_held label (y ∷ ys) distinct zero x e own is same = search std_rules
-label_held label (y ∷ ys) distinct (suc n) x e own is same =
-    search (std_rules, apart_at y.0 ys distinct.0 n x e, label_test label own (sym same) y.0, label_held label ys distinct.1 n x e own is same)
+label_held label (y ∷ ys) distinct (suc n) x e own is same = search (std_rules, apart_at y.0 ys distinct.0 n x e, label_test label own (sym same) y.0, label_held label ys distinct.1 n x e own is same)
 
 -- what was carried stands for its copy
 pub beside_carries : (g : Fate) (m : ℕ) → carries g ≡ true → carries (beside_first g m) ≡ true
 beside_carries g m h = ap (λ b. carries (if b then fate.Stands m else fate.Left)) h
 
 -- and isn't copied once more
-pub beside_no_copy : (g : Fate) (m : ℕ) (home : TypeOwner) → beside_first g m ≡ fate.Copied home → ⊥
-beside_no_copy g m home e = search std_rules
+pub beside_no_copy : (g : Fate) (m : ℕ) → copies (beside_first g m) ≡ false
+beside_no_copy g m = search std_rules
+
+pub beside_stands : (g : Fate) (m k : ℕ) → beside_first g m ≡ fate.Stands k → carries g ≡ true
+beside_stands g m k e = search std_rules
+
+-- ---- what a fate in what is gained says of the owner
+
+module _ (other : Resolve) (matched : List (Option InterfaceId)) (c : Carried) (world other_world : ℕ) (here there : List (WorldKey × WorldItem)) (copied : List Bool) (interfaces : List ℕ)
+    (fates : List Fate) (types : List ℕ) (o : TypeOwner) (f : Fate) where
+  abbrev second : Renumbering
+  second = second_of other matched c world other_world here there copied interfaces fates types
+
+  abbrev fate_there : Fate
+  fate_there = second_in other world other_world copied interfaces o f
+
+  pub second_copies : (home : TypeOwner) (adds : Bool) → ((a : ℕ) → flag_under copied a ≡ true → adds ≡ true) → (o ≡ as_world other_world → home ≡ as_world world → adds ≡ true) → copies f ≡ false
+      → fate_there ≡ fate.Copied home → (home ≡ owner_under second o) × (copies_owner second o ≡ true) × (adds ≡ true)
+  second_copies home adds inline types_add bare e = grind (arith, equal)
+
+  pub second_carries : same_owner o owner.None ≡ false → ((a : ℕ) → o ≡ as_interface a → (flag_under c.copied_interfaces.items a || is_matched matched a) ≡ true → carries f ≡ true)
+      → carries_owner second o ≡ true → carries fate_there ≡ true
+  second_carries some first h = grind (arith, no_true)
+
+  pub second_stands : (k : ℕ) → fate_there ≡ fate.Stands k → (id : InterfaceId) × (o ≡ owner.Interface id) × (is_named_at other id.0 ≡ true) × (f ≡ fate.Stands k)
+  second_stands k e = grind arith
 
 -- ---- the two worlds
 
@@ -89,32 +115,19 @@ module _ (own other : Resolve) (valid_own : IsValid own) (valid_other : IsValid 
       → (mine : TypeId) × (type_under_key w.imports.entries e.0 ≡ Some mine)
   own_type_under e held id is_type i found =
       let there = own_under e held id.0 (type_number e.1 id is_type) i found in
-      let senses = ap (λ (s : Entry InterfaceSense). s.item) (agree.imports (there.0, i) e there.1 held there.2) in
-      let mine = declared_type own i (ap is_declared senses ∙ type_declared other e.1 id is_type) in
+      let mine = declared_type own i (ap is_declared (ap (λ (s : Entry InterfaceSense). s.item) (agree.imports (there.0, i) e there.1 held there.2)) ∙ type_declared other e.1 id is_type) in
       (mine.0, ap (option_and_then type_in) found ∙ mine.1)
 
   -- where a type among imports isn't met, its key is new
   pub unmet_new : (numbers : List ℕ) (e : WorldKey × WorldItem) → Contains v.imports.entries e → (id : TypeId) → type_in e.1 ≡ Some id → type_under_key w.imports.entries e.0 ≡ None
       → is_new_under numbers w.imports.entries e.0 ≡ true
-  unmet_new numbers e held id is_type unmet = go (lookup (key_eq e.0) w.imports.entries) refl
-    where
-      typed : IsWorldType other valid_other other_world v at_v e.0 id.0
-      typed = world_type other valid_other other_world v at_v e.0 e.1 held id.0 (type_number e.1 id is_type)
-
-      go : (o : Option WorldItem) → lookup (key_eq e.0) w.imports.entries ≡ o → is_new_under numbers w.imports.entries e.0 ≡ true
-      go None q =
-          ap (is_new_under numbers w.imports.entries) typed.keyed
-          ∙ (label_new numbers typed.label w.imports.entries
-          ∙ (ap (λ k. not (is_some (lookup (key_eq k) w.imports.entries))) (sym typed.keyed)
-          ∙ ap (λ o. not (is_some o)) q))
-      go (Some i) q = let m = own_type_under e held id is_type i q in let wrong : None ≡ Some m.0 = sym unmet ∙ m.1 in absurd cc
+  unmet_new numbers e held id is_type unmet =
+      let typed = world_type other valid_other other_world v at_v e.0 e.1 held id.0 (type_number e.1 id is_type) in
+      by_option (lookup (key_eq e.0) w.imports.entries) (λ q. ap (is_new_under numbers w.imports.entries) typed.keyed
+      ∙ (label_new numbers typed.label w.imports.entries ∙ (ap (λ k. not (is_some (lookup (key_eq k) w.imports.entries))) (sym typed.keyed) ∙ ap (λ o. not (is_some o)) q)))
+      (λ i q. let m = own_type_under e held id is_type i q in let wrong : None ≡ Some m.0 = sym unmet ∙ m.1 in absurd cc)
 
 -- ---- lists
-
-sum_least : {X : Type 0} (f : X → ℕ) (xs : List X) (n : ℕ) (b : X) → slice_get xs n ≡ Some b → f b ≤ sum_by f xs
-sum_least f [] n b at = let wrong : ⊥ = cc in absurd wrong
-sum_least f (x ∷ xs) zero b at = let same : f x ≡ f b = ap f (some_same x b at) in let total = sum_by-cons f x xs in omega (arith, same, total)
-sum_least f (x ∷ xs) (suc n) b at = let r = sum_least f xs n b at in let total = sum_by-cons f x xs in omega (arith, r, total)
 
 -- what an item is that shows an interface
 pub interface_meant : (r : Resolve) (y : WorldItem) (i : ℕ) → item_interface y ≡ Some i → item_meaning r y ≡ interface_item r i
@@ -133,19 +146,11 @@ pub record IsMetFirst (here es : List (WorldKey × WorldItem)) (n : ℕ) : Type 
 
 pub met_first : (here es : List (WorldKey × WorldItem)) (n : ℕ) → is_shown_in es n ≡ true → IsMetFirst here es n
 met_first here [] n h = no_true h
-met_first here (e ∷ es) n h = go (is_id n (item_interface e.1)) refl h (met_first here es n)
-  where
-    go : (b : Bool) → is_id n (item_interface e.1) ≡ b → (b || is_shown_in es n) ≡ true → (is_shown_in es n ≡ true → IsMetFirst here es n) → IsMetFirst here (e ∷ es) n
-    go true q k rest = record { place = zero; entry = e; there = refl; shows = q; met = ap (λ b. if b then option_and_then item_interface (lookup (key_eq e.0) here) else met_under here es n) q }
-    go false q k rest =
-        let r = rest k in
-        record {
-          place = suc r.place;
-          entry = r.entry;
-          there = r.there;
-          shows = r.shows;
-          met = ap (λ b. if b then option_and_then item_interface (lookup (key_eq e.0) here) else met_under here es n) q ∙ r.met;
-        }
+met_first here (e ∷ es) n h =
+    let first = option_and_then item_interface (lookup (key_eq e.0) here) in
+    by_either (is_id n (item_interface e.1)) (is_shown_in es n) h (λ q. record { place = zero; entry = e; there = refl; shows = q; met = ap (λ b. if b then first else met_under here es n) q })
+    (λ q k. let r = met_first here es n k in
+    record { place = suc r.place; entry = r.entry; there = r.there; shows = r.shows; met = ap (λ b. if b then first else met_under here es n) q ∙ r.met })
 
 -- ---- an inline interface is shown once
 
@@ -154,11 +159,7 @@ module _ (r : Resolve) (valid : IsValid r) (n : ℕ) (v : World) (at : world_at 
   items es = map (λ (e : WorldKey × WorldItem). e.1) es
 
   at_most : count j (items v.imports.entries) + count j (items v.exports.entries) ≤ 1
-  at_most =
-      let least = sum_least (times_shown j) r.worlds.items n v at in
-      let once = inline_once r valid j i found inline in
-      let split : times_shown j v ≡ count j (items v.imports.entries) + count j (items v.exports.entries) = count_front j (items v.imports.entries) (items v.exports.entries) in
-      omega (arith, least, once, split)
+  at_most = omega (arith, sum_least (times_shown j) r.worlds.items n v at, inline_once r valid j i found inline, count_front j (items v.imports.entries) (items v.exports.entries))
 
   one_of : (e : WorldKey × WorldItem) → is_id j (item_interface e.1) ≡ true → 1 ≤ cond (is_id j (item_interface e.1)) 1 0
   one_of e h = let one : ◌≡◌ {A = ℕ} (cond (is_id j (item_interface e.1)) 1 0) 1 = ap (λ b. cond b 1 0) h in omega (arith, one)
@@ -189,19 +190,15 @@ not_some x h = search std_rules
 -- what is shown under a new key is shown
 pub shown_in : (r : Resolve) (interfaces : List ℕ) (here es : List (WorldKey × WorldItem)) (n : ℕ) → is_shown_new r interfaces here es n ≡ true → is_shown_in es n ≡ true
 shown_in r interfaces here [] n h = no_true h
-shown_in r interfaces here (e ∷ es) n h = go (is_new_under interfaces here e.0) (is_id n (item_interface e.1)) h (shown_in r interfaces here es n)
-  where
-    go : (a b : Bool) → ((a && b) || is_shown_new r interfaces here es n) ≡ true → (is_shown_new r interfaces here es n ≡ true → is_shown_in es n ≡ true) → (b || is_shown_in es n) ≡ true
-    go a true k rest = refl
-    go true false k rest = rest k
-    go false false k rest = rest k
+shown_in r interfaces here (e ∷ es) n h = by_either (is_new_under interfaces here e.0 && is_id n (item_interface e.1)) (is_shown_new r interfaces here es n) h
+    (λ q. or_left (is_id n (item_interface e.1)) (is_shown_in es n) (second_true (is_new_under interfaces here e.0) (is_id n (item_interface e.1)) q))
+    (λ q k. or_right (is_id n (item_interface e.1)) (is_shown_in es n) (shown_in r interfaces here es n k))
 
 -- a world that is copied isn't left out
 pub not_root : (r : Resolve) (ms : List (Option WorldId)) (ws : List World) (n : ℕ) → flag_under (new_worlds r ms ws) n ≡ true → option_map_or (is_root_world r) (slice_get ws n) false ≡ false
-not_root r [] ws n h = no_true h
-not_root r (m ∷ ms) [] n h = no_true h
 not_root r (m ∷ ms) (w ∷ ws) zero h = search std_rules
 not_root r (m ∷ ms) (w ∷ ws) (suc n) h = not_root r ms ws n h
+not_root r _ _ n h = no_true h
 
 pub same_parts_of : (a b : PackageName) → b ≡ a → IsSameName a b
 same_parts_of a b e = subst (λ x. IsSameName a x) (sym e) (record { namespace = refl; name = refl; version = refl })

@@ -23,15 +23,13 @@ front_same (f ∷ fs) rest (suc m) l = front_same fs rest m (omega (arith, l))
 
 front_all : (done rest : List Fate) (ms : List ℕ) → all_below (length done) ms ≡ true → are_carried (done ++ rest) ms ≡ are_carried done ms
 front_all done rest [] h = refl
-front_all done rest (m ∷ ms) h =
-    search (std_rules, front_same, ltb-true, first_true, second_true, front_all done rest ms (second_true (nat_lt m (length done)) (all_below (length done) ms) h))
+front_all done rest (m ∷ ms) h = search (std_rules, front_same, ltb-true, first_true, second_true, front_all done rest ms (second_true (nat_lt m (length done)) (all_below (length done) ms) h))
 
 -- the last of those in front
 last_of : (done : List Fate) (f : Fate) (rest : List Fate) (n : ℕ) → n ≡ length done → slice_get ((done ++ f ∷ []) ++ rest) n ≡ Some f
 last_of [] f rest zero e = refl
-last_of [] f rest (suc n) e = absurd (omega (arith, e))
-last_of (x ∷ xs) f rest zero e = absurd (omega (arith, e))
 last_of (x ∷ xs) f rest (suc n) e = last_of xs f rest n (omega (arith, e))
+last_of _ f rest _ e = absurd (omega (arith, e))
 
 module _ (adds : Bool) where
   -- the fate of the first that is left
@@ -40,16 +38,14 @@ module _ (adds : Bool) where
 
   -- what is settled stands in front of what follows
   begins : (done : List Fate) (types : List TypeDef) (fates : List Fate) → (rest : List Fate) × (settled_from adds done types fates ≡ done ++ rest)
-  begins done [] fates = ([], sym (append-nil done))
-  begins done (t ∷ ts) [] = ([], sym (append-nil done))
   begins done (t ∷ ts) (f ∷ fs) = let more = begins (done ++ one done t f ∷ []) ts fs in (one done t f ∷ more.0, more.1 ∙ append_assoc done (one done t f ∷ []) more.0)
+  begins done _ _ = ([], sym (append-nil done))
 
   -- each type has a fate
   settled_more : (done : List Fate) (types : List TypeDef) (fates : List Fate) → length fates ≡ length types → length (settled_from adds done types fates) ≡ length done + length types
   settled_more done [] [] long = omega arith
-  settled_more done [] (f ∷ fs) long = absurd (omega (arith, long))
-  settled_more done (t ∷ ts) [] long = absurd (omega (arith, long))
   settled_more done (t ∷ ts) (f ∷ fs) long = search (std_rules, length_push, settled_more (done ++ one done t f ∷ []) ts fs (omega (arith, long)))
+  settled_more done _ _ long = absurd (omega (arith, long))
 
   pub settled_long : (types : List TypeDef) (fates : List Fate) → length fates ≡ length types → length (settled_from adds [] types fates) ≡ length types
   settled_long types fates long = let r = settled_more [] types fates long in omega (arith, r)
@@ -64,8 +60,6 @@ module _ (adds : Bool) where
   settled_at : (done : List Fate) (types : List TypeDef) (fates : List Fate) → FallFrom (length done) types → (n place : ℕ) → place ≡ length done + n → (t : TypeDef) (f : Fate)
       → slice_get types n ≡ Some t → slice_get fates n ≡ Some f
       → slice_get (settled_from adds done types fates) place ≡ Some (settled f (is_none t.name) (adds && are_carried (settled_from adds done types fates) (parts t)))
-  settled_at done [] fates falls n place e t f at_t at_f = let wrong : ⊥ = cc in absurd wrong
-  settled_at done (u ∷ ts) [] falls n place e t f at_t at_f = let wrong : ⊥ = cc in absurd wrong
   settled_at done (u ∷ ts) (g ∷ fs) falls zero place e t f at_t at_f = same_one (begins (done ++ one done u g ∷ []) ts fs)
     where
       all : List Fate
@@ -78,16 +72,14 @@ module _ (adds : Bool) where
       small = let here : length done ≡ length done + 0 = omega arith in ap (λ (m : ℕ). all_below m (parts u)) here ∙ falls zero u refl
 
       same_one : (rest : List Fate) × (all ≡ (done ++ one done u g ∷ []) ++ rest) → slice_get all place ≡ Some (settled f (is_none t.name) (adds && are_carried all (parts t)))
-      same_one rest =
-          let whole : all ≡ done ++ (one done u g ∷ rest.0) = rest.1 ∙ append_assoc done (one done u g ∷ []) rest.0 in
-          let carried : are_carried done (parts u) ≡ are_carried all (parts u) = sym (ap (λ l. are_carried l (parts u)) whole ∙ front_all done (one done u g ∷ rest.0) (parts u) small) in
-          let at : place ≡ length done = omega (arith, e) in
-          (ap (λ l. slice_get l place) rest.1 ∙ last_of done (one done u g) rest.0 place at)
-          ∙ ((λ i. Some (settled g (is_none u.name) (adds && carried i)))
+      same_one rest = (ap (λ l. slice_get l place) rest.1 ∙ last_of done (one done u g) rest.0 place (omega (arith, e)))
+          ∙ ((λ i. Some (settled g (is_none u.name) (adds && (sym (ap (λ l. are_carried l (parts u)) (rest.1 ∙ append_assoc done (one done u g ∷ []) rest.0)
+          ∙ front_all done (one done u g ∷ rest.0) (parts u) small)) i)))
           ∙ (λ i. Some (settled ((ap (λ o. unwrap_or o g) at_f) i) (is_none (same_type i).name) (adds && are_carried all (parts (same_type i))))))
   settled_at done (u ∷ ts) (g ∷ fs) falls (suc n) place e t f at_t at_f =
       let next : length (done ++ one done u g ∷ []) ≡ length done + 1 = length_push done (one done u g) in
       settled_at (done ++ one done u g ∷ []) ts fs (falls_later (length done) u ts (length (done ++ one done u g ∷ [])) next falls) n place (omega (arith, e, next)) t f at_t at_f
+  settled_at done _ _ falls n place e t f at_t at_f = let wrong : ⊥ = cc in absurd wrong
 
   -- the same from the beginning
   pub settled_all : (types : List TypeDef) (fates : List Fate) → FallBelow types → (n : ℕ) (t : TypeDef) (f : Fate) → slice_get types n ≡ Some t → slice_get fates n ≡ Some f
@@ -109,8 +101,7 @@ module _ (adds : Bool) where
 
     -- a type without a name is carried where its parts are
     pub unnamed_carried : adds ≡ true → is_none t.name ≡ true → slice_get fates n ≡ Some fate.Left → are_carried final (parts t) ≡ true → is_carried final n ≡ true
-    unnamed_carried add none e h =
-        ap (λ o. option_map_or carries o false) (settled_all types fates falls n t fate.Left at_t e ∙ (λ i. Some (settled fate.Left (none i) (add i && h i))))
+    unnamed_carried add none e h = ap (λ o. option_map_or carries o false) (settled_all types fates falls n t fate.Left at_t e ∙ (λ i. Some (settled fate.Left (none i) (add i && h i))))
 
     -- and then alone
     pub unnamed_parts : slice_get fates n ≡ Some fate.Left → is_carried final n ≡ true → (are_carried final (parts t) ≡ true) × (is_none t.name ≡ true) × (adds ≡ true)
@@ -118,6 +109,4 @@ module _ (adds : Bool) where
       where
         go : (a b c : Bool) → carries (settled fate.Left c (a && b)) ≡ true → (b ≡ true) × (c ≡ true) × (a ≡ true)
         go true true true k = (refl, refl, refl)
-        go false b c k = no_true k
-        go true false c k = no_true k
-        go true true false k = no_true k
+        go _ _ _ k = no_true k

@@ -1,6 +1,6 @@
 -- No map of what was merged has a key twice: what is inserted keeps keys apart, and copies have the names of what they are of.
 use Rattle.base_lemmas.proofs.{Bools.left_of as first_true, Elements.zip_at_right as zip_at, Lists.within_there}
-use Rattle.bind_add.specs.{Growth.GainsNone, Growth.HasGained, Growth.HasGainedItems, Growth.IsAdded, declared.added.Added.Added, declared.added.Names.Names}
+use Rattle.bind_add.specs.{Growth.HasGained, Growth.HasGainedItems, Growth.IsAdded, declared.added.Added.Added, declared.added.Names.Names}
 use Rattle.bind_carry.proofs.{CopiesPlaced.some_same, FirstOfUnion.some_gains, KeysGained.by_path_apart, KeysGained.chosen, KeysGained.exports_behind}
 use Rattle.bind_carry.proofs.{KeysGained.imports_behind, NamesGained.IsGrownOf, NamesGained.IsHome, NamesGained.copied_interface, NamesGained.copied_world}
 use Rattle.bind_carry.proofs.NamesGained.{copies_behind, distinct_along, distinct_by_names, grown_of, home_of, is_fresh, world_of}
@@ -50,36 +50,29 @@ module _ (own other : Resolve) (valid_other : IsValid other) (m : Matches) (c : 
   home = home_of own other valid_other m c by_name numbered are x.place n.«package».0 old x.at_place x.bare (x.number ∙ sym gain.2.number)
 
   pub interfaces_behind : insert_all string_eq p.interfaces.entries n.interfaces.entries ≡ p.interfaces.entries ++ n.interfaces.entries
-  interfaces_behind = copies_behind (IsInterfaceName c.interfaces.items) (λ a b r. r.0) (is_copied_interface c.copied_interfaces.items) p.interfaces.entries old.interfaces.entries
-      n.interfaces.entries (gain.2.interfaces unique.0) unique.0
-      (λ e held set. sym (copied_interface own other valid_other m c by_name numbered are x.place n.«package».0 old p x.at_place home there e held) ∙ set)
+  interfaces_behind = copies_behind (IsInterfaceName c.interfaces.items) (λ a b r. r.0) (is_copied_interface c.copied_interfaces.items) p.interfaces.entries old.interfaces.entries n.interfaces.entries
+      (gain.2.interfaces unique.0) unique.0 (λ e held set. sym (copied_interface own other valid_other m c by_name numbered are x.place n.«package».0 old p x.at_place home there e held) ∙ set)
 
   pub worlds_behind : insert_all string_eq p.worlds.entries n.worlds.entries ≡ p.worlds.entries ++ n.worlds.entries
-  worlds_behind = copies_behind (IsWorldName c.worlds.items) (λ a b r. r.0) (is_copied_world c.copied_worlds.items) p.worlds.entries old.worlds.entries n.worlds.entries
-      (gain.2.worlds unique.1) unique.1
-      (λ e held set. first_true (is_fresh p.worlds.entries e) (not (is_root_world other (world_of other valid_other x.place old x.at_place e held).world))
+  worlds_behind = copies_behind (IsWorldName c.worlds.items) (λ a b r. r.0) (is_copied_world c.copied_worlds.items) p.worlds.entries old.worlds.entries n.worlds.entries (gain.2.worlds unique.1)
+      unique.1 (λ e held set. first_true (is_fresh p.worlds.entries e) (not (is_root_world other (world_of other valid_other x.place old x.at_place e held).world))
       (sym (copied_world own other valid_other m c by_name numbered are x.place n.«package».0 old p x.at_place home there e held) ∙ set))
 
 pub unions_are_apart : UnionsAreApart
-unions_are_apart own other world other_world m w v added keys u valid_own valid_other at_own at_other by_name same none = record {
-  interfaces = λ i n p at there. interfaces_behind own other valid_other m u.carried by_name u.numbered are added.names.items gains i n p at there;
-  worlds = λ i n p at there. worlds_behind own other valid_other m u.carried by_name u.numbered are added.names.items gains i n p at there;
-  imports = λ x at. subst (λ (y : World). insert_all key_eq y.imports.entries added.imports.entries ≡ y.imports.entries ++ added.imports.entries) (some_same w x (sym at_own ∙ at))
-      (imports_behind own other valid_own valid_other world other_world m w v added keys u at_other all same none);
-  exports = λ x at. subst (λ (y : World). insert_all key_eq y.exports.entries added.exports.entries ≡ y.exports.entries ++ added.exports.entries) (some_same w x (sym at_own ∙ at))
-      (exports_behind own other valid_own valid_other world other_world m w v added keys u at_other all same none);
-}
-  where
-    all : AreMatchedAll other m
-    all = matched_all own other m by_name
+unions_are_apart own other world other_world m w v added keys u valid_own valid_other at_own at_other by_name same none =
+    let all = matched_all own other m by_name in
+    let are = chosen own other valid_own valid_other world other_world m w v added keys u at_other all same none in
+    let gains = subst (AllZip (IsGained u.carried) (grown_packages u.carried.new_packages.items u.carried.packages.items other.packages.items)) (sym u.second.names) u.first.names in
+    record {
+      interfaces = λ i n p at there. interfaces_behind own other valid_other m u.carried by_name u.numbered are added.names.items gains i n p at there;
+      worlds = λ i n p at there. worlds_behind own other valid_other m u.carried by_name u.numbered are added.names.items gains i n p at there;
+      imports = λ x at. subst (λ (y : World). insert_all key_eq y.imports.entries added.imports.entries ≡ y.imports.entries ++ added.imports.entries) (some_same w x (sym at_own ∙ at))
+          (imports_behind own other valid_own valid_other world other_world m w v added keys u at_other all same none);
+      exports = λ x at. subst (λ (y : World). insert_all key_eq y.exports.entries added.exports.entries ≡ y.exports.entries ++ added.exports.entries) (some_same w x (sym at_own ∙ at))
+          (exports_behind own other valid_own valid_other world other_world m w v added keys u at_other all same none);
+    }
 
-    are : AreChosen other m.interfaces.items u.carried.copied_worlds.items u.carried.copied_interfaces.items
-    are = chosen own other valid_own valid_other world other_world m w v added keys u at_other all same none
-
-    gains : AllZip (IsGained u.carried) (grown_packages u.carried.new_packages.items u.carried.packages.items other.packages.items) added.names.items
-    gains = subst (AllZip (IsGained u.carried) (grown_packages u.carried.new_packages.items u.carried.packages.items other.packages.items)) (sym u.second.names) u.first.names
-
--- ---- what the page is for
+-- ---- In what is merged no key stands twice.
 
 -- ---- keys the other way round
 
@@ -124,18 +117,16 @@ module _ (interfaces types : List ℕ) where
   image_apart : (k u : WorldKey) → IsKeyUnder interfaces k u → (olds news : List (WorldKey × WorldItem)) → AllZip (IsEntryUnder interfaces types) olds news
       → AllByRecursion (λ y. become_one interfaces k y ≡ false) (keys_of olds) → AllByRecursion (λ y. key_eq u y ≡ false) (keys_of news)
   image_apart k u is [] [] zip h = tt
-  image_apart k u is [] (n ∷ ns) zip h = absurd zip
-  image_apart k u is (o ∷ os) [] zip h = absurd zip
   image_apart k u is (o ∷ os) (n ∷ ns) zip h = (key_flip u n.0 ∙ (same_images interfaces k o.0 u n.0 is zip.0.0 ∙ h.0), image_apart k u is os ns zip.1 h.1)
+  image_apart k u is _ _ zip h = absurd zip
 
   -- keys of copies differ where no two keys become one
   pub images_distinct : (olds news : List (WorldKey × WorldItem)) → AllZip (IsEntryUnder interfaces types) olds news → IsDistinct (become_one interfaces) (keys_of olds)
       → IsDistinct key_eq (keys_of news)
   unfolding IsDistinct
   images_distinct [] [] zip h = tt
-  images_distinct [] (n ∷ ns) zip h = absurd zip
-  images_distinct (o ∷ os) [] zip h = absurd zip
   images_distinct (o ∷ os) (n ∷ ns) zip h = (image_apart o.0 n.0 zip.0.0 os ns zip.1 h.0, images_distinct os ns zip.1 h.1)
+  images_distinct _ _ zip h = absurd zip
 
   pub copied_distinct : (here olds news : List (WorldKey × WorldItem)) → AreNewCopied interfaces types here olds news → IsDistinct (become_one interfaces) (keys_of olds)
       → IsDistinct key_eq (keys_of news)
@@ -149,11 +140,10 @@ either_part (z ∷ xs) ys zero x e = inl e
 either_part (z ∷ xs) ys (suc n) x e = either_part xs ys n x e
 
 kept_at : {X : Type 0} (flags : List Bool) (xs : List X) (k : ℕ) (x : X) → slice_get (kept flags xs) k ≡ Some x → (j : ℕ) × (slice_get xs j ≡ Some x)
-kept_at [] xs k x e = let wrong : ⊥ = cc in absurd wrong
-kept_at (b ∷ bs) [] k x e = let wrong : ⊥ = cc in absurd wrong
 kept_at (true ∷ bs) (y ∷ ys) zero x e = (zero, e)
 kept_at (true ∷ bs) (y ∷ ys) (suc k) x e = let r = kept_at bs ys k x e in (suc r.0, r.1)
 kept_at (false ∷ bs) (y ∷ ys) k x e = let r = kept_at bs ys k x e in (suc r.0, r.1)
+kept_at _ _ k x e = let wrong : ⊥ = cc in absurd wrong
 
 -- what a copy is of
 copy_of : {X Y : Type 0} (R : X → Y → Type 0) (flags : List Bool) (xs : List X) (ys : List Y) → AllZip R (kept flags xs) ys → (k : ℕ) (y : Y) → slice_get ys k ≡ Some y → (j : ℕ) × (x : X)
@@ -161,11 +151,9 @@ copy_of : {X Y : Type 0} (R : X → Y → Type 0) (flags : List Bool) (xs : List
 copy_of R flags xs ys zip k y at = search (std_rules, zip_at, kept_at)
 
 set_cases : {X : Type 0} (ws : List X) (k n : ℕ) (v x : X) → slice_get (slice_set ws k v) n ≡ Some x → (v ≡ x) ⊎ (slice_get ws n ≡ Some x)
-set_cases [] k n v x e = inr e
 set_cases (z ∷ ws) zero zero v x e = inl (some_same v x e)
-set_cases (z ∷ ws) zero (suc n) v x e = inr e
-set_cases (z ∷ ws) (suc k) zero v x e = inr e
 set_cases (z ∷ ws) (suc k) (suc n) v x e = set_cases ws k n v x e
+set_cases _ _ _ v x e = inr e
 
 -- ---- the whole
 
@@ -184,17 +172,13 @@ module _ (own other merged : Resolve) (world other_world : ℕ) (m : Matches) (w
   grown_distinct g p q h d = search (std_rules, all_apart, string_flip)
 
   own_package : (n : ℕ) (p : Package) → slice_get a.packages.0 n ≡ Some p → IsDistinctPackage p
-  own_package n p at = go (some_gains added.names.items n)
-    where
-      there : (q : Package) × (slice_get own.packages.items n ≡ Some q)
-      there = within_there own.packages.items n (let less = slice_get_within a.packages.0 n p at in let count = a.packages.1.count in omega (arith, less, count))
-
-      go : ((i : ℕ) × (g : Names) × (slice_get added.names.items i ≡ Some g) × (g.«package».0 ≡ n)) ⊎ GainsNone added.names.items n → IsDistinctPackage p
-      go (inl x) =
-          let q = a.packages.1.gained x.0 x.1 there.0 x.2 (ap (slice_get own.packages.items) x.3 ∙ there.1) in
-          let is : q.0 ≡ p = some_same q.0 p (sym q.1 ∙ (ap (slice_get a.packages.0) x.3 ∙ at)) in
-          subst IsDistinctPackage is (grown_distinct x.1 there.0 q.0 q.2 (valid_own.distinct_keys.packages n there.0 there.1))
-      go (inr free) = valid_own.distinct_keys.packages n p (sym (a.packages.1.others n free) ∙ at)
+  own_package n p at =
+      let there = within_there own.packages.items n (let less = slice_get_within a.packages.0 n p at in let count = a.packages.1.count in omega (arith, less, count)) in
+      elim (some_gains added.names.items n) [
+        | inl x ↦ let q = a.packages.1.gained x.0 x.1 there.0 x.2 (ap (slice_get own.packages.items) x.3 ∙ there.1) in
+            subst IsDistinctPackage (some_same q.0 p (sym q.1 ∙ (ap (slice_get a.packages.0) x.3 ∙ at))) (grown_distinct x.1 there.0 q.0 q.2 (valid_own.distinct_keys.packages n there.0 there.1))
+        | inr free ↦ valid_own.distinct_keys.packages n p (sym (a.packages.1.others n free) ∙ at)
+      ]
 
   new_package : (k : ℕ) (p : Package) → slice_get added.packages.items k ≡ Some p → IsDistinctPackage p
   new_package k p at =
@@ -225,10 +209,7 @@ module _ (own other merged : Resolve) (world other_world : ℕ) (m : Matches) (w
   IsDistinctWorld x = IsUnique key_eq x.imports × IsUnique key_eq x.exports
 
   own_world : (n : ℕ) (x : World) → slice_get (slice_set own.worlds.items world (a.worlds w at_own).0) n ≡ Some x → IsDistinctWorld x
-  own_world n x at = elim (set_cases own.worlds.items world n (a.worlds w at_own).0 x at) [
-    | inl is ↦ subst IsDistinctWorld is gained
-    | inr there ↦ valid_own.distinct_keys.worlds n x there
-  ]
+  own_world n x at = elim (set_cases own.worlds.items world n (a.worlds w at_own).0 x at) [ inl is ↦ subst IsDistinctWorld is gained | inr there ↦ valid_own.distinct_keys.worlds n x there ]
     where
       h : HasGainedItems key_eq added.imports.entries added.exports.entries w (a.worlds w at_own).0
       h = (a.worlds w at_own).1

@@ -1,14 +1,14 @@
 -- What is copied of types: those whose owners are, types that new imports are, and types without a name that are made of what is carried.
-use Rattle.std.proofs.Common.{rules as std_rules, ◌≡◌, ◌⊎◌, inl, inr, refl, sym, ap, subst, ◌∙◌, ℕ, zero, suc, ◌<◌, arith, Bool, true, false, ◌&&◌, ◌==◌, ◌+◌, cond, nat_lt, List, [], ◌∷◌, length, map, Option, Some, None, is_none, is_some, option_map, slice_get, if◌then◌else◌}
+use Rattle.bind_meaning.proofs.Listed.{by_option, mapped, tested}
+use Rattle.std.proofs.Common.{rules as std_rules, ◌≡◌, ◌⊎◌, inl, inr, refl, sym, ap, subst, ◌∙◌, ℕ, zero, suc, ◌<◌, arith, Bool, true, false, ◌&&◌, ◌==◌, ◌+◌, cond, nat_lt, List, [], ◌∷◌, length, map, Option, Some, is_none, is_some, option_map, slice_get, if◌then◌else◌}
 use Rattle.std.proofs.lemmas.{Bool.ltb-true, List.length-map, List.Sums.sum_by-cons, Option.slice_get-map, Option.slice_get_within}
-use Rattle.std.specs.{Prelude.String, Prelude.count_by, List.Contains, Option.option_map_or}
-use Rattle.std.specs.declared.alloc.Global.{Global}
-use Rattle.wit_model.specs.{Lookup.world_at, Rules.item_type, Text.Text, Text.optional_text, Text.text_of, Valid.IsValid, Valid.as_world}
-use Rattle.wit_model.specs.declared.model.{InterfaceId.InterfaceId, Resolve.Resolve, TypeId.TypeId, TypeOwner.TypeOwner, WorldItem.WorldItem, WorldKey.WorldKey, TypeDef.TypeDef, World.World, WorldId.WorldId}
+use Rattle.std.specs.{Prelude.count_by, List.Contains}
+use Rattle.wit_model.specs.{Lookup.world_at, Rules.item_type, Text.Text, Text.optional_text, Valid.IsValid, Valid.as_world}
+use Rattle.wit_model.specs.declared.model.{InterfaceId.InterfaceId, Resolve.Resolve, TypeOwner.TypeOwner, WorldItem.WorldItem, WorldKey.WorldKey, TypeDef.TypeDef, World.World, WorldId.WorldId}
 use Rattle.wit_model.proofs.Elements.{contains-get}
 use Rattle.bind_copy.specs.Copies.{is_new_under}
-use Rattle.bind_union.proofs.{Lists.no_true, WorldNamesakes.type_imported, WorldNamesakes.world_type, WorldNamesakes.IsImported}
-use Rattle.bind_carry.specs.{BoundGains.bound_fates, BoundGains.gains_any, BoundGains.type_under_key, BoundGains.unified, Renumbered.is_matched, Shown.type_in, Numbers.copied_count, SecondPass.DoNotClash, TooLong.CarriedThings, TooLong.TypeFates}
+use Rattle.bind_union.proofs.{Lists.no_true, WorldNamesakes.type_imported, WorldNamesakes.world_type}
+use Rattle.bind_carry.specs.{BoundGains.bound_fates, BoundGains.gains_any, BoundGains.type_under_key, BoundGains.unified, Renumbered.is_matched, Numbers.copied_count, SecondPass.DoNotClash, TooLong.CarriedThings, TooLong.TypeFates}
 use Rattle.bind_carry.specs.Fates.{are_carried, carries, copies, is_carried, settled, settled_from, FallBelow}
 use Rattle.bind_carry.specs.First.{adds_any, beside_first, fate_in, fate_named, fate_of, first_fates, flag_under, is_named_at, second_from, second_in}
 use Rattle.bind_carry.specs.MadeOf.{owned, type_parts, unnamed, IsMadeOf, IsMadeUp, IsOwnedBy}
@@ -26,12 +26,6 @@ pub marked_count : (bs : List Bool) → count_by (λ b. b) bs ≡ copied_count b
 marked_count [] = refl
 marked_count (true ∷ bs) = let r = marked_count bs in let one : count_by (λ b. b) (true ∷ bs) ≡ 1 + count_by (λ b. b) bs = sum_by-cons (λ (b : Bool). cond b 1 0) true bs in omega (arith, r, one)
 marked_count (false ∷ bs) = let r = marked_count bs in let one : count_by (λ b. b) (false ∷ bs) ≡ 0 + count_by (λ b. b) bs = sum_by-cons (λ (b : Bool). cond b 1 0) false bs in omega (arith, r, one)
-
-mapped_some : (p : Fate → Bool) (o : Option Fate) → option_map p o ≡ Some true → (f : Fate) × (o ≡ Some f) × (p f ≡ true)
-mapped_some p x h = search std_rules
-
-given_some : (p : Fate → Bool) (o : Option Fate) → option_map_or p o false ≡ true → (f : Fate) × (o ≡ Some f) × (p f ≡ true)
-given_some p x h = search std_rules
 
 -- ---- fates in the end
 
@@ -55,7 +49,9 @@ module _ (adds : Bool) (types : List TypeDef) (fates : List Fate) (falls : FallB
 
   how_so : (P : Fate → Bool) → ((f : Fate) (none may : Bool) → P (settled f none may) ≡ true → (P f ≡ true) ⊎ ((none ≡ true) × (may ≡ true))) → (n : ℕ) (g : Fate) → slice_get final n ≡ Some g
       → P g ≡ true → IsHow P n
-  how_so P settles n g at h = record { def = t.0; found = t.1; first = f.0; at_first = f.1; how = by (settles f.0 (is_none t.0.name) may passes) }
+  how_so P settles n g at h =
+      let passes = ap P (some_same (settled f.0 (is_none t.0.name) may) g (sym (settled_all adds types fates falls n t.0 f.0 t.1 f.1) ∙ at)) ∙ h in
+      record { def = t.0; found = t.1; first = f.0; at_first = f.1; how = by (settles f.0 (is_none t.0.name) may passes) }
     where
       inside : n < length types
       inside = let less = slice_get_within final n g at in let same = settled_long adds types fates long in omega (arith, less, same)
@@ -68,9 +64,6 @@ module _ (adds : Bool) (types : List TypeDef) (fates : List Fate) (falls : FallB
 
       may : Bool
       may = adds && are_carried final (type_parts t.0)
-
-      passes : P (settled f.0 (is_none t.0.name) may) ≡ true
-      passes = ap P (some_same (settled f.0 (is_none t.0.name) may) g (sym (settled_all adds types fates falls n t.0 f.0 t.1 f.1) ∙ at)) ∙ h
 
       by : (P f.0 ≡ true) ⊎ ((is_none t.0.name ≡ true) × (may ≡ true)) → (P f.0 ≡ true) ⊎ ((is_none t.0.name ≡ true) × (adds ≡ true) × (are_carried final (type_parts t.0) ≡ true))
       by (inl e) = inl e
@@ -94,7 +87,7 @@ module _ (adds : Bool) (types : List TypeDef) (fates : List Fate) (falls : FallB
     -- what is carried is made of types of such owners
     made_below : (k n : ℕ) → n < k → is_carried final n ≡ true → Made n
     made_below zero n less h = absurd (omega (arith, less))
-    made_below (suc k) n less h = let g = given_some carries (slice_get final n) h in made_so k n less (made_below k) (how_so carries carried_how n g.0 g.1 g.2)
+    made_below (suc k) n less h = let g = tested carries (slice_get final n) h in made_so k n less (made_below k) (how_so carries carried_how n g.0 g.1 g.2)
 
     -- what is copied was to be copied at first, or has no name and is made of such types
     pub copied_so : (Copied : ℕ → Type 0) → ((n : ℕ) (t : TypeDef) (f : Fate) → slice_get types n ≡ Some t → slice_get fates n ≡ Some f → copies f ≡ true → Copied n)
@@ -102,7 +95,7 @@ module _ (adds : Bool) (types : List TypeDef) (fates : List Fate) (falls : FallB
     copied_so Copied begins n mark = by h.how
       where
         g : (f : Fate) × (slice_get final n ≡ Some f) × (copies f ≡ true)
-        g = mapped_some copies (slice_get final n) (sym (slice_get-map copies final n) ∙ mark)
+        g = mapped copies (slice_get final n) true (sym (slice_get-map copies final n) ∙ mark)
 
         h : IsHow copies n
         h = how_so copies copied_how n g.0 g.1 g.2
@@ -135,10 +128,8 @@ module _ (own other : Resolve) (valid_other : IsValid other) (matched : List (Op
 
   -- a type that is copied with what is carried by path
   pub first_comes : (n : ℕ) → slice_get (map copies (first_fates own other matched c)) n ≡ Some true → IsOwnedBy other.types.items Copied n ⊎ ((adds_any c ≡ true) × IsMadeUp other.types.items Owner n)
-  first_comes =
-      copied_so (adds_any c) other.types.items initial (is_in_range other valid_other).falls (length-map other.types.items (fate_of own matched c)) Owner
-      (λ n t f at e k. begins_carried t.owner (optional_text t.name) (ap carries (initial_is n t f at e) ∙ k))
-      (IsOwnedBy other.types.items Copied)
+  first_comes = copied_so (adds_any c) other.types.items initial (is_in_range other valid_other).falls (length-map other.types.items (fate_of own matched c)) Owner
+      (λ n t f at e k. begins_carried t.owner (optional_text t.name) (ap carries (initial_is n t f at e) ∙ k)) (IsOwnedBy other.types.items Copied)
       (λ n t f at e k. record { def = t; found = at; owned_so = begins_copied t.owner (optional_text t.name) (ap copies (initial_is n t f at e) ∙ k) })
 
 -- ---- with what the bound world gains
@@ -151,11 +142,10 @@ pub record IsNewImport (interfaces : List ℕ) (here es : List (WorldKey × Worl
   pub is_new : is_new_under interfaces here entry.0 ≡ true
 
 module _ (own other : Resolve) (valid_own : IsValid own) (valid_other : IsValid other) (world other_world : ℕ) (w v : World) (at_v : world_at other other_world ≡ Some v)
-    (agree : DoNotClash own other w v)
-    (copied : List Bool) (interfaces : List ℕ) (before : TypeFates) (numbers : List ℕ) (long : length before ≡ length other.types.items) (numbers_long : length numbers ≡ length other.types.items)
-    (Copied Owner : TypeOwner → Type 0)
-    (copied_interface : (id : InterfaceId) → flag_under copied id.0 ≡ true → Copied (owner.Interface id)) (copied_owner : (o : TypeOwner) → Copied o → Owner o)
-    (named_owner : (id : InterfaceId) → is_named_at other id.0 ≡ true → Owner (owner.Interface id)) (bound_owner : (id : WorldId) → id.0 ≡ other_world → Owner (owner.World id)) where
+    (agree : DoNotClash own other w v) (copied : List Bool) (interfaces : List ℕ) (before : TypeFates) (numbers : List ℕ) (long : length before ≡ length other.types.items)
+    (numbers_long : length numbers ≡ length other.types.items) (Copied Owner : TypeOwner → Type 0) (copied_interface : (id : InterfaceId) → flag_under copied id.0 ≡ true → Copied (owner.Interface id))
+    (copied_owner : (o : TypeOwner) → Copied o → Owner o) (named_owner : (id : InterfaceId) → is_named_at other id.0 ≡ true → Owner (owner.Interface id))
+    (bound_owner : (id : WorldId) → id.0 ≡ other_world → Owner (owner.World id)) where
   abbrev types : List TypeDef
   types = other.types.items
 
@@ -169,11 +159,9 @@ module _ (own other : Resolve) (valid_own : IsValid own) (valid_other : IsValid 
   behind_is : (ts : List TypeDef) (fs : List Fate) (ns : List ℕ) (n : ℕ) (t : TypeDef) (g : Fate) → slice_get ts n ≡ Some t
       → slice_get (second_from other world other_world copied interfaces ts fs ns) n ≡ Some g
       → (f : Fate) × (k : ℕ) × (second_in other world other_world copied interfaces t.owner (beside_first f k) ≡ g)
-  behind_is [] fs ns n t g at e = let wrong : ⊥ = cc in absurd wrong
-  behind_is (u ∷ ts) [] ns n t g at e = let wrong : ⊥ = cc in absurd wrong
-  behind_is (u ∷ ts) (f ∷ fs) [] n t g at e = let wrong : ⊥ = cc in absurd wrong
   behind_is (u ∷ ts) (f ∷ fs) (k ∷ ns) zero t g at e = search std_rules
   behind_is (u ∷ ts) (f ∷ fs) (k ∷ ns) (suc n) t g at e = behind_is ts fs ns n t g at e
+  behind_is _ _ _ n t g at e = let wrong : ⊥ = cc in absurd wrong
 
   long_behind : length behind ≡ length types
   long_behind = second_long other world other_world copied interfaces types before numbers long numbers_long
@@ -181,18 +169,12 @@ module _ (own other : Resolve) (valid_own : IsValid own) (valid_other : IsValid 
   -- what a fate is at first: what it is behind the first pass, or that of the own type under its key
   begins : (n : ℕ) (t : TypeDef) (f : Fate) → slice_get types n ≡ Some t → slice_get at_first n ≡ Some f
       → ((g : Fate) × (k : ℕ) × (second_in other world other_world copied interfaces t.owner (beside_first g k) ≡ f)) ⊎ IsUnified w.imports.entries v.imports.entries at_first n
-  begins n t f at e = by (unified_at w.imports.entries v.imports.entries behind n g.0 g.1)
-    where
-      inside : n < length behind
-      inside = let less = slice_get_within types n t at in omega (arith, less, long_behind)
-
-      g : (g : Fate) × (slice_get behind n ≡ Some g)
-      g = within_there behind n inside
-
-      by : (slice_get at_first n ≡ Some g.0) ⊎ IsUnified w.imports.entries v.imports.entries at_first n
-          → ((g : Fate) × (k : ℕ) × (second_in other world other_world copied interfaces t.owner (beside_first g k) ≡ f)) ⊎ IsUnified w.imports.entries v.imports.entries at_first n
-      by (inl same) = let b = behind_is types before numbers n t g.0 at g.1 in inl (b.0, b.1, b.2 ∙ some_same g.0 f (sym same ∙ e))
-      by (inr u) = inr u
+  begins n t f at e =
+      let g = within_there behind n (omega (arith, slice_get_within types n t at, long_behind)) in
+      elim (unified_at w.imports.entries v.imports.entries behind n g.0 g.1) [
+        | inl same ↦ let b = behind_is types before numbers n t g.0 at g.1 in inl (b.0, b.1, b.2 ∙ some_same g.0 f (sym same ∙ e))
+        | inr u ↦ inr u
+      ]
 
   stands_left : (k : ℕ) (f : Fate) → fate.Stands k ≡ f → copies f ≡ true → ⊥
   stands_left k f e h = no_true (ap copies e ∙ h)
@@ -203,34 +185,19 @@ module _ (own other : Resolve) (valid_own : IsValid own) (valid_other : IsValid 
   -- a type of the bound world that is copied is a new import
   new_import : (n : ℕ) (t : TypeDef) (f : Fate) → slice_get types n ≡ Some t → t.owner ≡ as_world other_world → slice_get at_first n ≡ Some f → copies f ≡ true
       → IsNewImport interfaces w.imports.entries v.imports.entries n
-  new_import n t f at home e copy = named_so t.name refl
-    where
-      named_so : (o : Option (String Global)) → t.name ≡ o → IsNewImport interfaces w.imports.entries v.imports.entries n
-      named_so None q = let wrong : as_world other_world ≡ owner.None = sym home ∙ no_home other valid_other n t at (ap is_some q) in absurd cc
-      named_so (Some s) q = by (type_under_key w.imports.entries x.entry.0) refl
-        where
-          x : IsImported other valid_other other_world v at_v (text_of s) n
-          x = type_imported other valid_other other_world v at_v n t at s q home
-
-          id : (id : TypeId) × (type_in x.entry.1 ≡ Some id) × (id.0 ≡ n)
-          id = number_type x.entry.1 n x.is_type
-
-          place : (k : ℕ) × (slice_get v.imports.entries k ≡ Some x.entry)
-          place = contains-get v.imports.entries x.entry x.held
-
-          less : id.0.0 < length behind
-          less = let inside = slice_get_within types n t at in let same = id.2 in omega (arith, inside, same, long_behind)
-
-          by : (o : Option TypeId) → type_under_key w.imports.entries x.entry.0 ≡ o → IsNewImport interfaces w.imports.entries v.imports.entries n
-          by None r = record {
-            entry = x.entry;
-            held = x.held;
-            is_type = x.is_type;
-            is_new = unmet_new own other valid_own valid_other other_world w v at_v agree interfaces x.entry x.held id.0 id.1 r;
-          }
-          by (Some mine) r =
-              let u = unified_set w.imports.entries v.imports.entries behind place.0 x.entry id.0 mine place.1 id.1 r less in
-              absurd (stands_left u.own.0 f (some_same (fate.Stands u.own.0) f (sym u.stands ∙ (ap (slice_get at_first) id.2 ∙ e))) copy)
+  new_import n t f at home e copy =
+      by_option t.name (λ q. let wrong : as_world other_world ≡ owner.None = sym home ∙ no_home other valid_other n t at (ap is_some q) in absurd cc) (λ s q.
+      let x = type_imported other valid_other other_world v at_v n t at s q home in
+      let id = number_type x.entry.1 n x.is_type in
+      let place = contains-get v.imports.entries x.entry x.held in
+      by_option (type_under_key w.imports.entries x.entry.0) (λ r. record {
+        entry = x.entry;
+        held = x.held;
+        is_type = x.is_type;
+        is_new = unmet_new own other valid_own valid_other other_world w v at_v agree interfaces x.entry x.held id.0 id.1 r;
+      }) (λ mine r.
+      let u = unified_set w.imports.entries v.imports.entries behind place.0 x.entry id.0 mine place.1 id.1 r (omega (arith, slice_get_within types n t at, id.2, long_behind)) in
+      absurd (stands_left u.own.0 f (some_same (fate.Stands u.own.0) f (sym u.stands ∙ (ap (slice_get at_first) id.2 ∙ e))) copy)))
 
   gained_home : (n : ℕ) (t : TypeDef) (f : Fate) (o : TypeOwner) (g : Fate) (k : ℕ) → slice_get types n ≡ Some t → slice_get at_first n ≡ Some f → copies f ≡ true → t.owner ≡ o
       → second_in other world other_world copied interfaces o (beside_first g k) ≡ f → Gained n
@@ -243,28 +210,22 @@ module _ (own other : Resolve) (valid_own : IsValid own) (valid_other : IsValid 
   gained_home n t f (owner.Interface id) g k at e copy home is = search std_rules
 
   gained_copied : (n : ℕ) (t : TypeDef) (f : Fate) → slice_get types n ≡ Some t → slice_get at_first n ≡ Some f → copies f ≡ true → Gained n
-  gained_copied n t f at e copy = by (begins n t f at e)
-    where
-      by : ((g : Fate) × (k : ℕ) × (second_in other world other_world copied interfaces t.owner (beside_first g k) ≡ f)) ⊎ IsUnified w.imports.entries v.imports.entries at_first n → Gained n
-      by (inl b) = gained_home n t f t.owner b.0 b.1 at e copy refl b.2
-      by (inr u) = absurd (stands_left u.own.0 f (some_same (fate.Stands u.own.0) f (sym u.stands ∙ e)) copy)
+  gained_copied n t f at e copy =
+      elim (begins n t f at e) [ inl b ↦ gained_home n t f t.owner b.0 b.1 at e copy refl b.2 | inr u ↦ absurd (stands_left u.own.0 f (some_same (fate.Stands u.own.0) f (sym u.stands ∙ e)) copy) ]
 
   carried_home : (o : TypeOwner) (f g : Fate) (k : ℕ) → carries f ≡ true → second_in other world other_world copied interfaces o (beside_first g k) ≡ f → Owner o
   carried_home x f g k carry is = grind (arith, no_true, equal)
 
   gained_carried : (n : ℕ) (t : TypeDef) (f : Fate) → slice_get types n ≡ Some t → slice_get at_first n ≡ Some f → carries f ≡ true → Owner t.owner
-  gained_carried n t f at e carry = by (begins n t f at e)
-    where
-      by : ((g : Fate) × (k : ℕ) × (second_in other world other_world copied interfaces t.owner (beside_first g k) ≡ f)) ⊎ IsUnified w.imports.entries v.imports.entries at_first n → Owner t.owner
-      by (inl b) = carried_home t.owner f b.0 b.1 carry b.2
-      by (inr u) =
-          let x = world_type other valid_other other_world v at_v u.entry.0 u.entry.1 (get-contains v.imports.entries u.place u.entry u.at_place) n
-          (type_number u.entry.1 u.id u.is_type ∙ ap Some u.number) in
-          subst Owner (sym (ap (λ (d : TypeDef). d.owner) (sym (some_same x.def t (sym x.found ∙ at))) ∙ x.home)) (bound_owner (record { 0 = other_world }) refl)
+  gained_carried n t f at e carry = elim (begins n t f at e) [
+    | inl b ↦ carried_home t.owner f b.0 b.1 carry b.2
+    | inr u ↦ let x = world_type other valid_other other_world v at_v u.entry.0 u.entry.1 (get-contains v.imports.entries u.place u.entry u.at_place) n
+        (type_number u.entry.1 u.id u.is_type ∙ ap Some u.number) in
+        subst Owner (sym (ap (λ (d : TypeDef). d.owner) (sym (some_same x.def t (sym x.found ∙ at))) ∙ x.home)) (bound_owner (record { 0 = other_world }) refl)
+  ]
 
   -- a type that is copied with what the bound world gains
   pub second_comes : (n : ℕ) → slice_get (map copies (bound_fates other world other_world w v copied interfaces before numbers)) n ≡ Some true → Gained n
       ⊎ ((gains_any interfaces w v ≡ true) × IsMadeUp types Owner n)
-  second_comes =
-      copied_so (gains_any interfaces w v) types at_first (is_in_range other valid_other).falls (unified_long w.imports.entries v.imports.entries behind ∙ long_behind) Owner gained_carried Gained
-      gained_copied
+  second_comes = copied_so (gains_any interfaces w v) types at_first (is_in_range other valid_other).falls (unified_long w.imports.entries v.imports.entries behind ∙ long_behind) Owner gained_carried
+      Gained gained_copied

@@ -1,4 +1,5 @@
 -- What validity says of the keys of a world, and when a key is new under other numbers.
+use Rattle.bind_carry.proofs.CopiesPlaced.{by_either}
 use Rattle.std.proofs.Common.{rules as std_rules, ◌≡◌, refl, sym, ap, ap₂, ◌∙◌, ℕ, zero, suc, arith, Bool, true, false, not, ◌&&◌, ◌||◌, cond, List, [], ◌∷◌, Some, is_some, slice_get}
 use Rattle.std.specs.{Prelude.String, List.list_all, List.list_any, List.Contains, Map.lookup}
 use Rattle.std.specs.declared.alloc.Global.{Global}
@@ -24,11 +25,8 @@ pub record IsPlacedIn {X : Type 0} (test : X → Bool) (xs : List X) : Type 0 wh
 
 pub any_place : {X : Type 0} (test : X → Bool) (xs : List X) → list_any test xs ≡ true → IsPlacedIn test xs
 any_place test [] h = no_true h
-any_place test (x ∷ xs) h = go (test x) refl h (any_place test xs)
-  where
-    go : (b : Bool) → test x ≡ b → (b || list_any test xs) ≡ true → (list_any test xs ≡ true → IsPlacedIn test xs) → IsPlacedIn test (x ∷ xs)
-    go true e k rest = record { place = zero; thing = x; there = refl; passes_it = e }
-    go false e k rest = let r = rest k in record { place = suc r.place; thing = r.thing; there = r.there; passes_it = r.passes_it }
+any_place test (x ∷ xs) h = by_either (test x) (list_any test xs) h (λ e. record { place = zero; thing = x; there = refl; passes_it = e })
+    (λ e k. let r = any_place test xs k in record { place = suc r.place; thing = r.thing; there = r.there; passes_it = r.passes_it })
 
 -- ---- keys of a valid world
 
@@ -42,8 +40,7 @@ module _ (r : Resolve) (valid : IsValid r) (n : ℕ) (w : World) (at : world_at 
 
   ranges : (entries_in_range r w.imports.entries && entries_in_range r w.exports.entries) ≡ true
   unfolding numbers_in_range
-  ranges =
-      second_true (passes (in_list r.packages.items) (package_number w.«package»)) (entries_in_range r w.imports.entries && entries_in_range r w.exports.entries)
+  ranges = second_true (passes (in_list r.packages.items) (package_number w.«package»)) (entries_in_range r w.imports.entries && entries_in_range r w.exports.entries)
       (second_true (is_place n) (passes (in_list r.packages.items) (package_number w.«package») && (entries_in_range r w.imports.entries && entries_in_range r w.exports.entries))
       (world-passes numbers_in_range r valid.rules.numbers_in_range n w at))
 

@@ -74,8 +74,7 @@ returns-clause-gained c =
     let types = c.in_ok-types.types.items in
     let lists = c.bind_entries.ensures.lists in
     let before : c.len-before.result ≡ length old.interfaces.items = search rules in
-    on_ok_two
-    (λ imports exports w v at_w at_v. record {
+    on_ok_two (λ imports exports w v at_w at_v. record {
       copied = copied;
       copied_are = c.in_ok-copied.ensures.flags w v at_w at_v ∙ ap (λ l. gained_inline other l w v) c.deref.ensures.value;
       interfaces = interfaces;
@@ -84,24 +83,18 @@ returns-clause-gained c =
       packages = lists.packages;
       names = lists.names;
       worlds = lists.worlds;
-      types_copied =
-          subst (λ (l : List TypeDef). AreCopied (length own.types.items) types other.types.items (bound_fates other world other_world w v copied interfaces fates first_types) old.types.items l)
-          (sym lists.type_defs)
-          (subst (λ (l : List ℕ). AreCopied (length own.types.items) types other.types.items (bound_fates other world other_world w v copied l fates first_types) old.types.items
-          c.bind_types.new.added.items) c.deref-5.ensures.value
+      types_copied = subst (λ (l : List TypeDef). AreCopied (length own.types.items) types other.types.items (bound_fates other world other_world w v copied interfaces fates first_types)
+          old.types.items l) (sym lists.type_defs) (subst (λ (l : List ℕ). AreCopied (length own.types.items) types other.types.items
+          (bound_fates other world other_world w v copied l fates first_types) old.types.items c.bind_types.new.added.items) c.deref-5.ensures.value
           (subst (λ l. AreCopied (length own.types.items) types other.types.items (bound_fates other world other_world w v l c.deref-5.result.now fates first_types) old.types.items
-          c.bind_types.new.added.items) c.deref-4.ensures.value
-          (c.in_ok-types.ensures.copied w v at_w at_v)));
-      inline_copied =
-          subst (λ (l : List Interface). AreInlineCopied types w.«package» copied other.interfaces.items old.interfaces.items l) (sym lists.interfaces)
+          c.bind_types.new.added.items) c.deref-4.ensures.value (c.in_ok-types.ensures.copied w v at_w at_v)));
+      inline_copied = subst (λ (l : List Interface). AreInlineCopied types w.«package» copied other.interfaces.items old.interfaces.items l) (sym lists.interfaces)
           (subst (λ (l : List ℕ). AreInlineCopied l w.«package» copied other.interfaces.items old.interfaces.items c.copy_inline.new.added.items) c.deref-7.ensures.value
           (subst (λ l. AreInlineCopied c.deref-7.result.now w.«package» l other.interfaces.items old.interfaces.items c.copy_inline.new.added.items) c.deref-6.ensures.value
           (c.in_ok-copy_inline.ensures.copied w at_w)));
-      imports =
-          subst (λ (l : List ℕ). AreNewCopied interfaces l w.imports.entries v.imports.entries new.imports.entries) c.deref-9.ensures.value
+      imports = subst (λ (l : List ℕ). AreNewCopied interfaces l w.imports.entries v.imports.entries new.imports.entries) c.deref-9.ensures.value
           (subst (λ (l : List ℕ). AreNewCopied l c.deref-9.result.now w.imports.entries v.imports.entries new.imports.entries) c.deref-8.ensures.value (imports w v at_w at_v));
-      exports =
-          subst (λ (l : List ℕ). AreNewCopied interfaces l w.exports.entries v.exports.entries new.exports.entries) c.deref-9.ensures.value
+      exports = subst (λ (l : List ℕ). AreNewCopied interfaces l w.exports.entries v.exports.entries new.exports.entries) c.deref-9.ensures.value
           (subst (λ (l : List ℕ). AreNewCopied l c.deref-9.result.now w.exports.entries v.exports.entries new.exports.entries) c.deref-8.ensures.value (exports w v at_w at_v));
     })
     c.bind_entries.result c.bind_entries.ensures.imports c.bind_entries.ensures.exports
@@ -121,8 +114,7 @@ returns-clause-few c =
     let more : length c.copy_inline.new.added.items ≤ length old.interfaces.items + copied_count c.deref-6.result.now
     = inline_long c.deref-7.result.now w.0.«package» c.deref-6.result.now other.interfaces.items old.interfaces.items c.copy_inline.new.added.items (c.in_ok-copy_inline.ensures.copied w.0 w.1) in
     let interfaces : length own.interfaces.items + length c.copy_inline.new.added.items ≤ 4294967295 = omega (arith, before, flags, flags_again, few, more) in
-    on_ok
-    (λ packages worlds. record {
+    on_ok (λ packages worlds. record {
       packages = subst (λ (l : List Package). length own.packages.items + length l ≤ 4294967295) (sym lists.packages) packages;
       interfaces = subst (λ (l : List Interface). length own.interfaces.items + length l ≤ 4294967295) (sym lists.interfaces) interfaces;
       worlds = subst (λ (l : List World). length own.worlds.items + length l ≤ 4294967295) (sym lists.worlds) worlds;

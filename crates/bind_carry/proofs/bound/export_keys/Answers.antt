@@ -9,6 +9,5 @@ pub returns-clause-keys : goal.returns-clause-keys
 returns-clause-keys c =
     let interfaces = c.args.interfaces.now in
     let other = c.other_world-other.result.now in
-    if_ok _ _
-    (λ keys is v at. subst (λ (x : World). AreKeysUnder interfaces x.exports.entries keys.keys) (some_same other v (sym c.other_world-other.ensures ∙ at)) is)
+    if_ok _ _ (λ keys is v at. subst (λ (x : World). AreKeysUnder interfaces x.exports.entries keys.keys) (some_same other v (sym c.other_world-other.ensures ∙ at)) is)
     c.keys_under.result c.keys_under.ensures.keys

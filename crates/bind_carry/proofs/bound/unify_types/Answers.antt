@@ -12,5 +12,4 @@ returns-clause-fates c w v at_w at_v =
     let new = c.unify.new.fates in
     let own_is : own ≡ w = some_same own w (sym c.own_world-own.ensures ∙ at_w) in
     let other_is : other ≡ v = some_same other v (sym c.other_world-other.ensures ∙ at_v) in
-    subst (λ (x : World). new ≡ unified x.imports.entries v.imports.entries old) own_is
-    (subst (λ (y : World). new ≡ unified own.imports.entries y.imports.entries old) other_is c.unify.ensures.fates)
+    subst (λ (x : World). new ≡ unified x.imports.entries v.imports.entries old) own_is (subst (λ (y : World). new ≡ unified own.imports.entries y.imports.entries old) other_is c.unify.ensures.fates)

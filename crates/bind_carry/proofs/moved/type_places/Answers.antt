@@ -17,8 +17,7 @@ loop-fate-preserved c =
     let within : n < length fates = search rules in
     let at : drop n fates ≡ f ∷ left = drop_more fates n fate.Left within in
     record {
-      numbered =
-          ap (λ (l : List ℕ). l ++ numbers_by (own + length new) left) c.in_ok-push.ensures.items
+      numbered = ap (λ (l : List ℕ). l ++ numbers_by (own + length new) left) c.in_ok-push.ensures.items
           ∙ number_more own left old new c.in_ok-number.number c.loop-fate.numbers.items _ f (drop n fates) at c.in_ok-number.ensures.met c.loop-fate.invariant.numbered;
       counted = place_more own left old new c.in_ok-number.number _ f (drop n fates) at c.in_ok-number.ensures.met c.loop-fate.invariant.counted;
     }

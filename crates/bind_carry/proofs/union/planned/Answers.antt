@@ -31,10 +31,8 @@ settled_types-requires-clause-owners c = owners_below c.args.own.now c.args.othe
     c.in_ok-carried.ensures.numbered
 
 pub added-requires-clause-ready : goal.added-requires-clause-ready
-added-requires-clause-ready c =
-    carried_ready c.args.own.now c.args.other.now c.args.matches.now c.in_ok-carried.carried (is_in_range c.args.other.now c.requires.other) c.requires.matches c.in_ok-carried.ensures.numbered
-    (length c.deref-2.result.now)
-    (ap length (c.deref-2.ensures.value ∙ c.in_ok-types.ensures.numbers)
+added-requires-clause-ready c = carried_ready c.args.own.now c.args.other.now c.args.matches.now c.in_ok-carried.carried (is_in_range c.args.other.now c.requires.other) c.requires.matches
+    c.in_ok-carried.ensures.numbered (length c.deref-2.result.now) (ap length (c.deref-2.ensures.value ∙ c.in_ok-types.ensures.numbers)
     ∙ (numbers_by_long (c.len.result + length c.new-defs.result.items) c.deref.result.now ∙ (ap length c.deref.ensures.value ∙ c.in_ok-fates.ensures.count)))
 
 pub bind_items-requires : goal.bind_items-requires
@@ -45,8 +43,7 @@ bind_items-requires c = record {
   interface_count = interface_count c.args.own.now c.args.other.now c.args.matches.now c.in_ok-carried.carried (is_in_range c.args.other.now c.requires.other) c.requires.matches
       c.in_ok-carried.ensures.numbered;
   fate_count = ap length c.deref-3.ensures.value ∙ c.in_ok-fates.ensures.count;
-  type_count =
-      ap length (c.deref-4.ensures.value ∙ c.in_ok-types.ensures.numbers)
+  type_count = ap length (c.deref-4.ensures.value ∙ c.in_ok-types.ensures.numbers)
       ∙ (numbers_by_long (c.len.result + length c.new-defs.result.items) c.deref.result.now ∙ (ap length c.deref.ensures.value ∙ c.in_ok-fates.ensures.count));
 }
 
@@ -76,11 +73,9 @@ returns-clause-plan c w v at_w at_v =
       fates_are = c.in_ok-fates.ensures.fates;
       types_are = numbers_first c.len.result (length own.types.items) c.new-defs.result.items c.deref.result.now fates types many none same c.in_ok-types.ensures.numbers;
       before = before;
-      first =
-          subst (λ (k : ℕ). IsPlacedOver other carried types k before) (places_first c.new-defs.result.items c.deref.result.now fates places none same c.in_ok-types.ensures.count)
+      first = subst (λ (k : ℕ). IsPlacedOver other carried types k before) (places_first c.new-defs.result.items c.deref.result.now fates places none same c.in_ok-types.ensures.count)
           (subst (λ (l : List ℕ). IsPlacedOver other carried l (length places) before) c.deref-2.ensures.value c.in_ok-added.ensures.added);
-      second =
-          subst (λ (l : List ℕ). IsBoundOver own other world other_world w v carried fates l before new) c.deref-4.ensures.value
+      second = subst (λ (l : List ℕ). IsBoundOver own other world other_world w v carried fates l before new) c.deref-4.ensures.value
           (subst (λ l. IsBoundOver own other world other_world w v carried l c.deref-4.result.now before new) (c.deref-3.ensures.value ∙ c.in_ok-fates.ensures.fates)
           (c.in_ok-bind_items.ensures.gained w v at_w at_v));
       keys_are = subst (λ (l : List ℕ). AreKeysUnder l v.exports.entries c.in_ok-keys.keys.keys) c.deref-5.ensures.value (c.in_ok-keys.ensures.keys v at_v);
@@ -137,13 +132,11 @@ returns-in_err-bind_items-clause-size c =
     subst (λ (k : ℕ). IsPlacedOver other carried types k before) (places_first c.new-defs.result.items c.deref.result.now fates places none same c.in_ok-types.ensures.count)
     (subst (λ (l : List ℕ). IsPlacedOver other carried l (length places) before) c.deref-2.ensures.value c.in_ok-added.ensures.added) in
     err_so (λ e. e ≡ Size → (w v : World) → world_at own world ≡ Some w → world_at other other_world ≡ Some v → IsTooLong own other world other_world m w v)
-    c.from_residual-in_err-bind_items.result c.in_err-bind_items.field-0.0 c.from_residual-in_err-bind_items.ensures.1
-    (λ is w v at_w at_v. inr (
+    c.from_residual-in_err-bind_items.result c.in_err-bind_items.field-0.0 c.from_residual-in_err-bind_items.ensures.1 (λ is w v at_w at_v. inr (
       carried,
       c.in_ok-carried.ensures.numbered,
       inr (gained_by_count own other m carried types numbers before first world other_world w v
           (subst (λ (l : List ℕ). AreTooManyGained own other world other_world w v carried fates l (length before.interfaces.items) (length before.types.items)) c.deref-4.ensures.value
           (subst (λ l. AreTooManyGained own other world other_world w v carried l c.deref-4.result.now (length before.interfaces.items) (length before.types.items))
-          (c.deref-3.ensures.value ∙ c.in_ok-fates.ensures.fates)
-          (c.in_err-bind_items.ensures.size is w v at_w at_v)))),
+          (c.deref-3.ensures.value ∙ c.in_ok-fates.ensures.fates) (c.in_err-bind_items.ensures.size is w v at_w at_v)))),
     ))

@@ -8,49 +8,34 @@ use Rattle.bind_carry.proofs.Planning.{as_long, fates_there, interfaces_below, p
 use Rattle.base_lemmas.proofs.{Lists.within_there, Options.passed as err_so}
 use Rattle.bind_carry.proofs.union.union_of.Goals as goal
 
-pub move_interfaces-requires-clause-count : goal.move_interfaces-requires-clause-count
-move_interfaces-requires-clause-count c =
-    let w = within_there c.args.own.now.worlds.items c.args.world.0 c.requires.world in
-    let v = within_there c.args.other.worlds.items c.args.other_world.0 c.requires.other_world in
-    (c.in_ok-carried.ensures.plan w.0 v.0 w.1 v.1).numbered.interface_count
-
-pub move_interfaces-requires-clause-room : goal.move_interfaces-requires-clause-room
-move_interfaces-requires-clause-room c =
+pub move_interfaces-requires : goal.move_interfaces-requires
+move_interfaces-requires c =
     let p = c.in_ok-carried.field-0 in
     let w = within_there c.args.own.now.worlds.items c.args.world.0 c.requires.world in
     let v = within_there c.args.other.worlds.items c.args.other_world.0 c.requires.other_world in
-    subst (λ (l : List Interface). copied_count p.carried.copied_interfaces.items ≤ length l) (sym c.deref_mut.ensures.value)
-    (places_there c.args.own.now c.args.other c.args.world.0 c.args.other_world.0 c.args.matches.now w.0 v.0 p (c.in_ok-carried.ensures.plan w.0 v.0 w.1 v.1))
+    let plan = c.in_ok-carried.ensures.plan w.0 v.0 w.1 v.1 in
+    record {
+      count = plan.numbered.interface_count;
+      room = subst (λ (l : List Interface). copied_count p.carried.copied_interfaces.items ≤ length l) (sym c.deref_mut.ensures.value)
+          (places_there c.args.own.now c.args.other c.args.world.0 c.args.other_world.0 c.args.matches.now w.0 v.0 p plan);
+      below = interfaces_below c.args.own.now c.args.other c.args.world.0 c.args.other_world.0 c.args.matches.now w.0 v.0 p plan (is_in_range c.args.other c.requires.other) c.requires.matches
+          c.deref.result.now c.deref.ensures.value;
+    }
 
-pub move_interfaces-requires-clause-below : goal.move_interfaces-requires-clause-below
-move_interfaces-requires-clause-below c =
-    let w = within_there c.args.own.now.worlds.items c.args.world.0 c.requires.world in
-    let v = within_there c.args.other.worlds.items c.args.other_world.0 c.requires.other_world in
-    interfaces_below c.args.own.now c.args.other c.args.world.0 c.args.other_world.0 c.args.matches.now w.0 v.0 c.in_ok-carried.field-0 (c.in_ok-carried.ensures.plan w.0 v.0 w.1 v.1)
-    (is_in_range c.args.other c.requires.other) c.requires.matches c.deref.result.now c.deref.ensures.value
-
-pub move_types-requires-clause-count : goal.move_types-requires-clause-count
-move_types-requires-clause-count c =
-    let w = within_there c.args.own.now.worlds.items c.args.world.0 c.requires.world in
-    let v = within_there c.args.other.worlds.items c.args.other_world.0 c.requires.other_world in
-    ap length c.deref-3.ensures.value
-    ∙ fates_there c.args.own.now c.args.other c.args.world.0 c.args.other_world.0 c.args.matches.now w.0 v.0 c.in_ok-carried.field-0 (c.in_ok-carried.ensures.plan w.0 v.0 w.1 v.1)
-
-pub move_types-requires-clause-room : goal.move_types-requires-clause-room
-move_types-requires-clause-room c =
+pub move_types-requires : goal.move_types-requires
+move_types-requires c =
     let p = c.in_ok-carried.field-0 in
     let w = within_there c.args.own.now.worlds.items c.args.world.0 c.requires.world in
     let v = within_there c.args.other.worlds.items c.args.other_world.0 c.requires.other_world in
-    subst (λ (l : List TypeDef). copies_of c.deref-3.result.now ≤ length l) (sym c.deref_mut-2.ensures.value)
-    (subst (λ (l : TypeFates). copies_of l ≤ length p.added.types.items) (sym c.deref-3.ensures.value)
-    (type_places_there c.args.own.now c.args.other c.args.world.0 c.args.other_world.0 c.args.matches.now w.0 v.0 p (c.in_ok-carried.ensures.plan w.0 v.0 w.1 v.1)))
-
-pub move_types-requires-clause-below : goal.move_types-requires-clause-below
-move_types-requires-clause-below c =
-    let w = within_there c.args.own.now.worlds.items c.args.world.0 c.requires.world in
-    let v = within_there c.args.other.worlds.items c.args.other_world.0 c.requires.other_world in
-    types_below c.args.own.now c.args.other c.args.world.0 c.args.other_world.0 c.args.matches.now w.0 v.0 c.in_ok-carried.field-0 (c.in_ok-carried.ensures.plan w.0 v.0 w.1 v.1)
-    (is_in_range c.args.other c.requires.other) c.deref-2.result.now c.deref-2.ensures.value
+    let plan = c.in_ok-carried.ensures.plan w.0 v.0 w.1 v.1 in
+    record {
+      count = ap length c.deref-3.ensures.value ∙ fates_there c.args.own.now c.args.other c.args.world.0 c.args.other_world.0 c.args.matches.now w.0 v.0 p plan;
+      room = subst (λ (l : List TypeDef). copies_of c.deref-3.result.now ≤ length l) (sym c.deref_mut-2.ensures.value)
+          (subst (λ (l : TypeFates). copies_of l ≤ length p.added.types.items) (sym c.deref-3.ensures.value)
+          (type_places_there c.args.own.now c.args.other c.args.world.0 c.args.other_world.0 c.args.matches.now w.0 v.0 p plan));
+      below = types_below c.args.own.now c.args.other c.args.world.0 c.args.other_world.0 c.args.matches.now w.0 v.0 p plan (is_in_range c.args.other c.requires.other) c.deref-2.result.now
+          c.deref-2.ensures.value;
+    }
 
 pub returns-clause-union : goal.returns-clause-union
 returns-clause-union c w v at_w at_v =
@@ -95,13 +80,11 @@ returns-clause-few c =
     let few = c.in_ok-carried.ensures.few in
     record {
       packages = few.packages;
-      interfaces =
-          subst (λ (k : ℕ). length own.interfaces.items + k ≤ 4294967295) (sym (ap length (with_items_is p.added.interfaces now (long ∙ sym p.added.interfaces.ok.0)) ∙ long)) few.interfaces;
+      interfaces = subst (λ (k : ℕ). length own.interfaces.items + k ≤ 4294967295) (sym (ap length (with_items_is p.added.interfaces now (long ∙ sym p.added.interfaces.ok.0)) ∙ long)) few.interfaces;
       worlds = few.worlds;
       types = subst (λ (k : ℕ). length own.types.items + k ≤ 4294967295) (sym (ap length (with_items_is p.added.types defs (types_long ∙ sym p.added.types.ok.0)) ∙ types_long)) few.types;
     }
 
 pub returns-in_err-carried-clause-size : goal.returns-in_err-carried-clause-size
-returns-in_err-carried-clause-size c =
-    err_so (λ e. e ≡ Size → IsTooLongWith c.args.own.now c.args.other c.args.world.0 c.args.other_world.0 c.args.matches.now) c.from_residual.result c.in_err-carried.field-0.0
-    c.from_residual.ensures.1 c.in_err-carried.ensures.size
+returns-in_err-carried-clause-size c = err_so (λ e. e ≡ Size → IsTooLongWith c.args.own.now c.args.other c.args.world.0 c.args.other_world.0 c.args.matches.now) c.from_residual.result
+    c.in_err-carried.field-0.0 c.from_residual.ensures.1 c.in_err-carried.ensures.size
