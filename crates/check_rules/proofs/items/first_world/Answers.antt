@@ -4,4 +4,4 @@ use Rattle.wit_model.proofs.Entries.{found_worlds}
 use Rattle.check_rules.proofs.items.first_world.Goals as goal
 
 pub returns : goal.returns
-returns c = found_worlds world_items _ _ c.deref.ensures.value _ (c.first_failing.ensures _ (λ n x b post. search rules))
+returns c = found_worlds world_items c.args.resolve.now c.deref.result.now c.deref.ensures.value c.first_failing.result (c.first_failing.ensures _ (λ n x b post. search rules))

@@ -4,4 +4,4 @@ use Rattle.wit_model.proofs.Entries.{found_packages}
 use Rattle.check_rules.proofs.numbers.first_package.Goals as goal
 
 pub returns : goal.returns
-returns c = found_packages numbers_in_range _ _ c.deref.ensures.value _ (c.first_failing.ensures _ (λ n x b post. search rules))
+returns c = found_packages numbers_in_range c.args.resolve.now c.deref.result.now c.deref.ensures.value c.first_failing.result (c.first_failing.ensures _ (λ n x b post. search rules))
