@@ -11,10 +11,11 @@ use Rattle.encode_types.proofs.{Lists.none-in, Planning.lacks-member, Tables.equ
 use Rattle.wit_encode.specs.{DependencyAliases.alias_in, DependencyAliases.export_alias, WrittenNames.instance_name, WrittenNames.instance_names}
 use Rattle.wit_encode.specs.Encoders.{declared_after}
 use Rattle.wit_encode.specs.WorldAliases.{HasAliasesBehind, HasSlot, IsAliasBehind, KeepsAliases, KeepsBehind, KeepsListed, PlacedAlias, aliases_in, in_one_list, interfaces_in, pairs_in, place_and_number, placed_alias, placed_aliases, IsLatest}
-use Rattle.wit_encode.proofs.{DependencyAliases.known-kept, WrittenNames.names-behind, WrittenNames.names-more, Importing.new-slot, Numbers.apart-behind}
-use Rattle.wit_encode.proofs.{Imported.at-same, Imported.other-slot, Imported.behind-cases, LatestInstances.found-new, LatestInstances.found-other}
+use Rattle.wit_encode.proofs.{DependencyAliases.known-kept, WrittenNames.names-behind, WrittenNames.names-more, Numbers.apart-behind}
+use Rattle.wit_encode.proofs.{Imported.at-same, LatestInstances.found-new, LatestInstances.found-other}
+use Rattle.std.proofs.lemmas.Bool.{cases_Bool}
 use Rattle.base_lemmas.proofs.Elements.{contains-later, contains-map, contains-one, last_of as one-contained, map_from as from-map}
-use Rattle.base_lemmas.proofs.{Lists.map_of_map, Lists.at_last, Lists.front_at, Numbers.none-twice, Options.some_same as one-some}
+use Rattle.base_lemmas.proofs.{Lists.map_of_map, Lists.at_last, Lists.front_at, Numbers.none-twice, Options.some_same as one-some, Lists.front_or_end}
 
 -- ---- The aliases in the component type of a world, behind each declaration but that of an instance, and in the end.
 
@@ -55,26 +56,24 @@ slot-there x s = search std_rules
 pub there-slot : (o : Option ℕ) → is_some o ≡ true → o ≡ None → ⊥
 there-slot x s e = search std_rules
 
-known-one : (a : Around) (x : Aliased) → known_slot a.known x.number.0 ≡ None → (n : ℕ) → is_some (known_slot (with_alias a x).known n) ≡ true → (is_some (known_slot a.known n) ≡ true)
-    ⊎ (x.number.0 ≡ n)
-known-one a x first n h = by (is_at (nat_cmp n) x.number.0) refl
-  where
-    by : (b : Bool) → is_at (nat_cmp n) x.number.0 ≡ b → (is_some (known_slot a.known n) ≡ true) ⊎ (x.number.0 ≡ n)
-    by true e = inr (sym (at-same n x.number.0 e))
-    by false e = inl (ap is_some (sym (other-slot x.number.0 (type_slots_of a.declared) n a.known e first)) ∙ h)
+known-one : (a : Around) (x : Aliased) (n : ℕ) → is_some (known_slot (with_alias a x).known n) ≡ true → (is_some (known_slot a.known n) ≡ true) ⊎ (x.number.0 ≡ n)
+known-one a x n h = elim (cases_Bool (is_at (nat_cmp n) x.number.0)) [
+  | inl e ↦ inr (sym (at-same n x.number.0 e))
+  | inr e ↦ inl (ap is_some (sym (found-other x.number.0 (type_slots_of a.declared) n a.known e)) ∙ h)
+]
 
 -- those that had one, and the new ones
-pub known-among : (a : Around) (made : List Aliased) (r : Resolve) → AreAliases r a made → (n : ℕ) → is_some (known_slot (with_aliases a made).known n) ≡ true → (is_some (known_slot a.known n) ≡ true)
+pub known-among : (a : Around) (made : List Aliased) (n : ℕ) → is_some (known_slot (with_aliases a made).known n) ≡ true → (is_some (known_slot a.known n) ≡ true)
     ⊎ ((x : Aliased) × Contains made x × (x.number.0 ≡ n))
-known-among a [] r are n h = inl h
-known-among a (x ∷ made) r are n h = elim (known-among (with_alias a x) made r are.1 n h) [
-  | inl old ↦ elim (known-one a x are.0.first n old) [ inl older ↦ inl older | inr e ↦ inr (x, (0, omega arith, refl), e) ]
+known-among a [] n h = inl h
+known-among a (x ∷ made) n h = elim (known-among (with_alias a x) made n h) [
+  | inl old ↦ elim (known-one a x n old) [ inl older ↦ inl older | inr e ↦ inr (x, (0, omega arith, refl), e) ]
   | inr new ↦ inr (new.0, contains-later x made new.0 new.1, new.2)
 ]
 
 pub known-reached : {r : Resolve} {id : TypeId} (a a' : Around) → ReachesAround r id a a' → (n : ℕ) → is_some (known_slot a'.known n) ≡ true → (is_some (known_slot a.known n) ≡ true) ⊎ (n ≡ id.0)
 known-reached a a' (as_before e) n h = inl (ap (λ (z : Around). is_some (known_slot z.known n)) (sym e) ∙ h)
-known-reached {r} {id} a a' (aliased x is of_id e) n h = elim (known-among a (x ∷ []) r (is, tt) n (ap (λ (z : Around). is_some (known_slot z.known n)) (sym e) ∙ h)) [
+known-reached {r} {id} a a' (aliased x is of_id e) n h = elim (known-among a (x ∷ []) n (ap (λ (z : Around). is_some (known_slot z.known n)) (sym e) ∙ h)) [
   | inl old ↦ inl old
   | inr new ↦ inr (sym new.2 ∙ sym (ap (λ (y : Aliased). y.number.0) (one-contained x new.0 new.1)) ∙ ap (λ (t : TypeId). t.0) of_id)
 ]
@@ -109,10 +108,8 @@ module _ (r : Resolve) (count : ℕ) (ns : List ℕ) (before : List (ℕ × ℕ)
   -- behind a declaration of no alias and no instance
   pub keeps-plain : (a : Around) (outer : Declarations) (d : Declaration) → outer ≡ declared_after a.declared d → alias_in d ≡ [] → instance_name d ≡ []
       → KeepsBehind r count a ns before (length ns) → KeepsBehind r count (record a { declared = outer }) ns before (length ns)
-  keeps-plain a outer d is none plain h = keeps-others a outer
-      (ap (λ (z : Declarations). length (instance_names z)) is ∙ ap length
-      (names-more a.declared d ∙ ap (λ xs. instance_names a.declared ++ xs) plain ∙ append-nil (instance_names a.declared)))
-      (ap (placed_aliases 0) is ∙ placed-plain a.declared d none) h
+  keeps-plain a outer d is none plain h = keeps-others a outer (ap (λ (z : Declarations). length (instance_names z)) is
+      ∙ ap length (names-more a.declared d ∙ ap (λ xs. instance_names a.declared ++ xs) plain ∙ append-nil (instance_names a.declared))) (ap (placed_aliases 0) is ∙ placed-plain a.declared d none) h
 
   -- behind an instance type
   pub keeps-inner : (a : Around) (inner : Declarations) → KeepsBehind r count a ns before (length ns)
@@ -136,12 +133,11 @@ module _ (r : Resolve) (count : ℕ) (ns : List ℕ) (before : List (ℕ × ℕ)
           | inr k ↦ subst (IsAliasBehind r ns) (one-contained (newest ns x) y k) latest
         ];
         asked = λ y c. elim (Contains-append_cases h.keeps.has.made (newest ns x ∷ []) y c) [
-          | inl k ↦ known-kept x.number.0 (type_slots_of a.declared) y.1.number.0 a.known is.first (h.keeps.has.asked y k)
-          | inr k ↦ subst (λ (z : PlacedAlias). HasSlot (with_alias a x) z.1.number.0) (one-contained (newest ns x) y k)
-              (λ none. cc (new-slot x.number.0 (type_slots_of a.declared) a.known is.first))
+          | inl k ↦ known-kept x.number.0 (type_slots_of a.declared) y.1.number.0 a.known (h.keeps.has.asked y k)
+          | inr k ↦ subst (λ (z : PlacedAlias). HasSlot (with_alias a x) z.1.number.0) (one-contained (newest ns x) y k) (λ none. cc (found-new x.number.0 (type_slots_of a.declared) a.known))
         ];
       };
-      all = λ t s. subst (λ (ms : List ℕ). Contains ms t) (sym numbers_) (elim (known-one a x is.first t (slot-there (known_slot (with_alias a x).known t) s)) [
+      all = λ t s. subst (λ (ms : List ℕ). Contains ms t) (sym numbers_) (elim (known-one a x t (slot-there (known_slot (with_alias a x).known t) s)) [
         | inl k ↦ Contains-append_left (map number_of h.keeps.has.made) (x.number.0 ∷ []) t (h.keeps.all t (there-slot (known_slot a.known t) k))
         | inr e ↦ Contains-append_right (map number_of h.keeps.has.made) (x.number.0 ∷ []) t (subst (Contains (x.number.0 ∷ [])) e (contains-one x.number.0))
       ]);
@@ -149,10 +145,7 @@ module _ (r : Resolve) (count : ℕ) (ns : List ℕ) (before : List (ℕ × ℕ)
     more = h.more ++ (length ns, x.number.0) ∷ [];
     are = map-append place_and_number h.keeps.has.made (newest ns x ∷ []) ∙ ap (λ (xs : List (ℕ × ℕ)). xs ++ (length ns, x.number.0) ∷ []) h.are
         ∙ append_assoc before h.more ((length ns, x.number.0) ∷ []);
-    placed = λ y c. elim (Contains-append_cases h.more ((length ns, x.number.0) ∷ []) y c) [
-      | inl k ↦ h.placed y k
-      | inr k ↦ sym (ap (λ (z : ℕ × ℕ). z.0) (one-contained (length ns, x.number.0) y k))
-    ];
+    placed = λ y c. elim (Contains-append_cases h.more ((length ns, x.number.0) ∷ []) y c) [ inl k ↦ h.placed y k | inr k ↦ sym (ap (λ (z : ℕ × ℕ). z.0) (one-contained (length ns, x.number.0) y k)) ];
   }
     where
       numbers_ : map number_of (h.keeps.has.made ++ newest ns x ∷ []) ≡ map number_of h.keeps.has.made ++ x.number.0 ∷ []
@@ -165,17 +158,9 @@ module _ (r : Resolve) (count : ℕ) (ns : List ℕ) (before : List (ℕ × ℕ)
       fresh c = let y = from-map number_of h.keeps.has.made x.number.0 c in h.keeps.has.asked y.0 y.1 (ap (known_slot a.known) y.2 ∙ is.first)
 
       latest : IsAliasBehind r ns (newest ns x)
-      latest = record {
-        def = is.def;
-        name = is.name;
-        interface = is.interface;
-        there = is.there;
-        named_ = is.named_;
-        owned = is.owned;
-        text = is.text;
-        behind = omega arith;
-        instance = h.keeps.listed is.interface.0 x.instance is.instance;
-      }
+      latest =
+          let instance = h.keeps.listed is.interface.0 x.instance is.instance in
+          record { def = is.def; name = is.name; interface = is.interface; there = is.there; named_ = is.named_; owned = is.owned; text = is.text; behind = omega arith; instance = instance }
 
   pub keeps-aliases : (a : Around) (made : List Aliased) → AreAliases r a made → KeepsBehind r count a ns before (length ns) → KeepsBehind r count (with_aliases a made) ns before (length ns)
   keeps-aliases a [] are h = h
@@ -210,27 +195,23 @@ aliases-told ns xs = ap pairs_in (drop-append_seam ns (flat_map (λ x. x.0 ∷ x
 -- what calls keep of a list of numbers they keep of interfaces and aliases
 pub keeps-told : {r : Resolve} {count count' : ℕ} {a a' : Around} → ((xs : List ℕ) → KeepsListed r count a xs → KeepsListed r count' a' xs) → (ns : List ℕ) (before : List (ℕ × ℕ))
     → KeepsBehind r count a ns before (length ns) → KeepsBehind r count' a' ns before (length ns)
-keeps-told {r} {count} {count'} {a} {a'} h ns before k =
-    subst (λ (ms : List ℕ). KeepsBehind r count' a' ms before (length ms)) (interfaces-told ns before)
+keeps-told {r} {count} {count'} {a} {a'} h ns before k = subst (λ (ms : List ℕ). KeepsBehind r count' a' ms before (length ms)) (interfaces-told ns before)
     (subst (λ (xs : List (ℕ × ℕ)). KeepsBehind r count' a' (interfaces_in (in_one_list ns before)) xs (length (interfaces_in (in_one_list ns before)))) (aliases-told ns before)
-    (h (in_one_list ns before)
-    (subst (λ (xs : List (ℕ × ℕ)). KeepsBehind r count a (interfaces_in (in_one_list ns before)) xs (length (interfaces_in (in_one_list ns before)))) (sym (aliases-told ns before))
-    (subst (λ (ms : List ℕ). KeepsBehind r count a ms before (length ms)) (sym (interfaces-told ns before)) k))))
+    (h (in_one_list ns before) (subst (λ (xs : List (ℕ × ℕ)). KeepsBehind r count a (interfaces_in (in_one_list ns before)) xs (length (interfaces_in (in_one_list ns before))))
+    (sym (aliases-told ns before)) (subst (λ (ms : List ℕ). KeepsBehind r count a ms before (length ms)) (sym (interfaces-told ns before)) k))))
 
 -- a new alias is of no type that had one before
 pub alias-new : {r : Resolve} {count count' n : ℕ} {a a' : Around} {ns ms : List ℕ} (k : KeepsAliases r count a ns) (b : KeepsBehind r count' a' ms (map place_and_number k.has.made) n)
     → (x : ℕ × ℕ) → Contains b.more x → HasSlot a x.1 → ⊥
 alias-new {a = a} k b x c s =
     let there = from-map (λ (y : PlacedAlias). y.1.number.0) k.has.made x.1 (k.all x.1 s) in
-    let old : Contains (map (λ (z : ℕ × ℕ). z.1) (map place_and_number k.has.made)) x.1 =
-    subst (Contains (map (λ (z : ℕ × ℕ). z.1) (map place_and_number k.has.made))) there.2
+    let old : Contains (map (λ (z : ℕ × ℕ). z.1) (map place_and_number k.has.made)) x.1 = subst (Contains (map (λ (z : ℕ × ℕ). z.1) (map place_and_number k.has.made))) there.2
     (contains-map (λ (z : ℕ × ℕ). z.1) (map place_and_number k.has.made) (place_and_number there.0) (contains-map place_and_number k.has.made there.0 there.1)) in
     let new : Contains (map (λ (z : ℕ × ℕ). z.1) b.more) x.1 = contains-map (λ (z : ℕ × ℕ). z.1) b.more x c in
     apart-behind (map (λ (z : ℕ × ℕ). z.1) (map place_and_number k.has.made)) (map (λ (z : ℕ × ℕ). z.1) b.more) x.1 (subst (IsDistinct nat_eq) numbers_ b.keeps.has.once) old new
   where
     numbers_ : map (λ (y : PlacedAlias). y.1.number.0) b.keeps.has.made ≡ map (λ (z : ℕ × ℕ). z.1) (map place_and_number k.has.made) ++ map (λ (z : ℕ × ℕ). z.1) b.more
-    numbers_ = sym (map_of_map (λ (z : ℕ × ℕ). z.1) place_and_number b.keeps.has.made) ∙ ap (map (λ (z : ℕ × ℕ). z.1)) b.are
-        ∙ map-append (λ (z : ℕ × ℕ). z.1) (map place_and_number k.has.made) b.more
+    numbers_ = sym (map_of_map (λ (z : ℕ × ℕ). z.1) place_and_number b.keeps.has.made) ∙ ap (map (λ (z : ℕ × ℕ). z.1)) b.are ∙ map-append (λ (z : ℕ × ℕ). z.1) (map place_and_number k.has.made) b.more
 
 -- ---- in the end
 
@@ -245,7 +226,7 @@ latest-before : (ns : List ℕ) (i n j k : ℕ) → n ≤ length ns → IsLatest
 latest-before ns i n j k few l = record {
   before = l.before;
   is = front_at ns (i ∷ []) k j l.is;
-  last = λ m above below at. elim (behind-cases ns i j m at) [ inl old ↦ l.last m above below old | inr new ↦ omega (arith, new.0, below, few) ];
+  last = λ m above below at. elim (front_or_end ns i m j at) [ inl old ↦ l.last m above below old | inr new ↦ omega (arith, new.0, below, few) ];
 }
 
 -- and so for another interface
@@ -253,7 +234,7 @@ latest-other : (ns : List ℕ) (i j k : ℕ) → (j ≡ i → ⊥) → IsLatest 
 latest-other ns i j k other l = record {
   before = omega (arith, length-append ns (i ∷ []), l.before);
   is = front_at ns (i ∷ []) k j l.is;
-  last = λ m above below at. elim (behind-cases ns i j m at) [ inl old ↦ l.last m above (slice_get_within ns m j old) old | inr new ↦ other new.1 ];
+  last = λ m above below at. elim (front_or_end ns i m j at) [ inl old ↦ l.last m above (slice_get_within ns m j old) old | inr new ↦ other (sym new.1) ];
 }
 
 -- the new one is the latest of its interface
@@ -261,10 +242,7 @@ latest-new : (ns : List ℕ) (i : ℕ) → IsLatest (ns ++ i ∷ []) (length (ns
 latest-new ns i = record {
   before = omega (arith, length-append ns (i ∷ []));
   is = at_last ns i;
-  last = λ j above below at. elim (behind-cases ns i i j at) [
-    | inl old ↦ omega (arith, slice_get_within ns j i old, above)
-    | inr new ↦ omega (arith, new.0, above)
-  ];
+  last = λ j above below at. elim (front_or_end ns i j i at) [ inl old ↦ omega (arith, slice_get_within ns j i old, above) | inr new ↦ omega (arith, new.0, above) ];
 }
 
 module _ (r : Resolve) (count : ℕ) (ns : List ℕ) (i : ℕ) (old : List (ℕ × ℕ)) where
@@ -284,17 +262,12 @@ module _ (r : Resolve) (count : ℕ) (ns : List ℕ) (i : ℕ) (old : List (ℕ 
         made = inside.keeps.has.made;
         are = ap (placed_aliases 0) is ∙ placed-plain behind.declared d none ∙ inside.keeps.has.are;
         once = inside.keeps.has.once;
-        each = λ x c. (let y = inside.keeps.has.each x c in record {
-          def = y.def;
-          name = y.name;
-          interface = y.interface;
-          there = y.there;
-          named_ = y.named_;
-          owned = y.owned;
-          text = y.text;
-          behind = omega (arith, length-append ns (i ∷ []), y.behind);
-          instance = latest-before ns i x.0 y.interface.0 x.1.instance y.behind y.instance;
-        });
+        each = λ x c. (
+            let y = inside.keeps.has.each x c in
+            let long = length-append ns (i ∷ []) in
+            let here = latest-before ns i x.0 y.interface.0 x.1.instance y.behind y.instance in
+            record { def = y.def; name = y.name; interface = y.interface; there = y.there; named_ = y.named_; owned = y.owned; text = y.text; behind = omega (arith, long, y.behind); instance = here }
+            );
         asked = λ x c n. inside.keeps.has.asked x c (ap (λ es. known_slot es x.1.number.0) (sym known) ∙ n);
       };
       all = λ t s. inside.keeps.all t (λ n. s (ap (λ es. known_slot es t) known ∙ n));

@@ -1,5 +1,5 @@
 -- How many bytes have been declared, call after call.
-use Rattle.std.proofs.Common.{rules as std_rules, ◌≡◌, refl, sym, subst, ap, ◌∙◌, ℕ, zero, suc, ◌+◌, ◌≤◌, ◌<◌, inl, inr, Bool, true, false, nat_eq, is_some, List, [], ◌∷◌, ◌++◌, map, length, length-append, take, get_or, Option, Some, None, String, Result, OnOk, IfOk, arith}
+use Rattle.std.proofs.Common.{rules as std_rules, ◌≡◌, refl, sym, subst, ap, ◌∙◌, ℕ, ◌+◌, ◌≤◌, ◌<◌, Bool, true, false, nat_eq, is_some, List, [], ◌∷◌, ◌++◌, map, length, length-append, take, get_or, Option, Some, None, String, Result, OnOk, IfOk, arith}
 use Rattle.std.proofs.lemmas.{List.map-append, List.take_all, List.take_more, List.Sums.sum_by-append, List.Sums.sum_by-cons}
 use Rattle.std.proofs.lemmas.Option.{same_Some as some-same}
 use Rattle.std.specs.{Prelude.sum_by, List.Contains}
@@ -15,7 +15,7 @@ use Rattle.encode_types.specs.declared.maps.TypeEncodingMaps.{TypeEncodingMaps}
 use Rattle.encode_types.specs.Extents.{function_extent, given_length, import_extent, known_extent, name_extent, number_extent, signature_extent}
 use Rattle.encode_types.specs.{Known.Around, Known.ReachesAround, Known.alias_declared, Known.as_before, Known.aliased, MetKinds.ReachedFrom, MetKinds.referred}
 use Rattle.encode_types.specs.Maps.{IsOnce, LearnsOnly}
-use Rattle.encode_types.proofs.{Lists.none-in, Pairs.pairs-map}
+use Rattle.encode_types.proofs.{Pairs.pairs-map}
 use Rattle.wit_encode.specs.declared.interface.OpenInterface.{OpenInterface}
 use Rattle.wit_encode.specs.{Encoders.declared_after, Order.functions_in_order, WorldRoom.IsMetAmong, WorldRoom.entries_in}
 use Rattle.wit_encode.specs.{Instance.declared_extent, Instance.extent_in, Instance.placed_function, Extents.instance_extent}
@@ -24,6 +24,8 @@ use Rattle.encode_shown.specs.Views.{AreReached}
 use Rattle.encode_names.specs.{WorldNames.name_of_interface, WorldNames.name_of_item}
 use Rattle.wit_encode.proofs.{ComponentExtents.components-light, ComponentExtents.import-extent, ComponentExtents.worlds-light, ImportLoop.numbers-next}
 use Rattle.wit_encode.proofs.{Extents.bytes-few, ExtentWeighing.dependencies-light, ExtentWeighing.instances-light, Lengths.u32-short, Opening.Placed}
+use Rattle.wit_encode.proofs.HeldKeys.{learnt-all}
+use Rattle.base_lemmas.proofs.Elements.{map_from}
 use Rattle.base_lemmas.proofs.Lists.{map_of_map as map-twice}
 use Rattle.wit_model.specs.declared.model.WorldItem.TheVariants as item
 
@@ -63,8 +65,7 @@ both-taken (Declarations.instance inner rest) es = let h = both-taken rest es in
 
 -- one declaration more
 pub one-more : (outer outer' : Declarations) (d : Declaration) (n : ℕ) → outer' ≡ declared_after outer d → length (declaration_bytes d) ≤ n → declared_extent outer' ≤ declared_extent outer + n
-one-more outer outer' d n e l =
-    omega (arith, ap declared_extent e, both-taken outer (Declarations.declares d Declarations.no_more), one-taken d Declarations.no_more, nothing-taken, l)
+one-more outer outer' d n e l = omega (arith, ap declared_extent e, both-taken outer (Declarations.declares d Declarations.no_more), one-taken d Declarations.no_more, nothing-taken, l)
 
 -- one instance type more
 pub instance-more : (outer outer' inner : Declarations) → outer' ≡ append outer (Declarations.instance inner Declarations.no_more)
@@ -80,8 +81,7 @@ listed-more (e ∷ ds) d = omega (arith, listed-more ds d, one-taken e (from_lis
 -- one declaration more in the instance type that is open, or in the component type
 pub inside-more : (outer : Declarations) (inner : Option OpenInterface) (current : OpenInterface) (ds : List Declaration) (d : Declaration) (n : ℕ) → inner ≡ Some current
     → ds ≡ current.declared ++ d ∷ [] → length (declaration_bytes d) ≤ n → declared_extent outer + declared_extent (from_list ds) ≤ extent_in outer inner + n
-inside-more outer inner current ds d n is e l =
-    omega (arith, ap (extent_in outer) is, ap (λ (xs : List Declaration). declared_extent (from_list xs)) e, listed-more current.declared d, l)
+inside-more outer inner current ds d n is e l = omega (arith, ap (extent_in outer) is, ap (λ (xs : List Declaration). declared_extent (from_list xs)) e, listed-more current.declared d, l)
 
 pub outside-more : (outer outer' : Declarations) (inner : Option OpenInterface) (d : Declaration) (n : ℕ) → inner ≡ None → outer' ≡ declared_after outer d → length (declaration_bytes d) ≤ n
     → extent_in outer' inner ≤ extent_in outer inner + n
@@ -125,23 +125,17 @@ sums-mapped g f [] = refl
 sums-mapped g f (x ∷ xs) = omega (arith, sums-mapped g f xs, sum_by-cons g (f x) (map f xs), sum_by-cons (λ x. g (f x)) x xs)
 
 with-index : (es : List (ℕ × ℕ)) (n : ℕ) → Contains (map (λ e. e.0) es) n → (i : ℕ) × Contains es (n, i)
-with-index [] n c = none-in n c
-with-index (e ∷ es) n (zero, l, q) = (e.1, (0, omega arith, (λ j. (q j, e.1))))
-with-index (e ∷ es) n (suc i, l, q) = (let x = with-index es n (i, omega (arith, l), q) in (x.0, (suc x.1.0, omega (arith, x.1.1), x.1.2)))
+with-index es n c = let x = map_from (λ (e : ℕ × ℕ). e.0) es n c in (x.0.1, subst (λ (k : ℕ). Contains es (k, x.0.1)) x.2 x.1)
 
 -- what maps that were empty have learnt by the end, and functions
 pub taken : (r : Resolve) (i : InterfaceId) (types : List ValueType) (fs : List (Text × Function)) (m m' : TypeEncodingMaps) (outer outer' : Declarations) (inner : Option OpenInterface)
-    (ds : List Declaration) (current : OpenInterface)
-    → m.id_to_index.entries ≡ [] → ds ≡ [] → inner ≡ Some current → IsOnce m' → LearnsOnly (ReachedFrom r (Some i) types) m m'
+    (ds : List Declaration) (current : OpenInterface) → m.id_to_index.entries ≡ [] → ds ≡ [] → inner ≡ Some current → IsOnce m' → LearnsOnly (ReachedFrom r (Some i) types) m m'
     → extent_in outer' inner + known_extent r (Some i) m ≤ (declared_extent outer + declared_extent (from_list ds)) + (known_extent r (Some i) m' + sum_by (function_extent r) fs)
     → TakesFew r i types fs (declared_extent outer) (declared_extent outer' + declared_extent (from_list current.declared))
 taken r i types fs m m' outer outer' inner ds current empty none is once only l = record {
   numbers = map (λ (e : ℕ × ℕ). e.0) m'.id_to_index.entries;
   different = pairs-map (λ (e : ℕ × ℕ). e.0) (λ x y. nat_eq x y ≡ false) m'.id_to_index.entries once.numbers;
-  met = λ n c. (let x = with-index m'.id_to_index.entries n c in elim (only.each n x.0 x.1) [
-    | inl old ↦ none-in (n, x.0) (subst (λ (es : List (ℕ × ℕ)). Contains es (n, x.0)) empty old)
-    | inr reached ↦ reached
-  ]);
+  met = λ n c. learnt-all (ReachedFrom r (Some i) types) m m' empty only n (with-index m'.id_to_index.entries n c);
   few =
       let nothing = ap (λ (xs : List Declaration). declared_extent (from_list xs)) none ∙ nothing-taken in
       omega (arith, ap (extent_in outer') is, nothing, sums-mapped (number_extent r (Some i)) (λ (e : ℕ × ℕ). e.0) m'.id_to_index.entries, l);
@@ -151,12 +145,7 @@ taken r i types fs m m' outer outer' inner ds current empty none is once only l 
 pub taken-closed : {r : Resolve} {i : InterfaceId} {types : List ValueType} {fs : List (Text × Function)} {before : ℕ} (outer outer' inner : Declarations)
     → outer' ≡ append outer (Declarations.instance inner Declarations.no_more)
     → TakesFew r i types fs before (declared_extent outer + declared_extent inner) → TakesFew r i types fs (before + 8) (declared_extent outer')
-taken-closed outer outer' inner e t = record {
-  numbers = t.numbers;
-  different = t.different;
-  met = t.met;
-  few = omega (arith, instance-more outer outer' inner e, t.few);
-}
+taken-closed outer outer' inner e t = record { numbers = t.numbers; different = t.different; met = t.met; few = omega (arith, instance-more outer outer' inner e, t.few) }
 
 pub types-few : (r : Resolve) → IsValid r → (i : InterfaceId) (def : Interface) → interface_at r i.0 ≡ Some def → (types : List TypeId) → types ≡ values def.types → (outer outer' : Declarations)
     → TakesFew r i (referred types []) [] (declared_extent outer + 8) (declared_extent outer') → AddsBytes (types_extent r i.0) outer outer'
@@ -200,9 +189,8 @@ imports-next r q canonical xs k outer between outer' e l before more =
 
 -- all imports, and the interface itself
 pub component-few : (r q : Resolve) (v : IsValid r) (i : InterfaceId) (reached : List ℕ) (canonical : Bool) → q ≡ r → is_some (interface_path r i.0) ≡ true → AreReached r i.0 reached
-    → (empty outer outer' : Declarations) → empty ≡ Declarations.no_more
-    → AddsBytes (imports_extent q canonical reached) empty outer → AddsBytes (instance_extent (name_of_interface r canonical i.0) (whole_instance_weight q i.0)) outer outer'
-    → declared_extent outer' ≤ interface_weight r i.0
+    → (empty outer outer' : Declarations) → empty ≡ Declarations.no_more → AddsBytes (imports_extent q canonical reached) empty outer
+    → AddsBytes (instance_extent (name_of_interface r canonical i.0) (whole_instance_weight q i.0)) outer outer' → declared_extent outer' ≤ interface_weight r i.0
 component-few r q v i reached canonical e named reaches empty outer outer' none imports own =
     let light = components-light r i reached canonical v named reaches in
     let first = ap (λ (z : Resolve). imports_extent z canonical reached) e in
@@ -241,11 +229,7 @@ pub world-few : (r : Resolve) → IsValid r → (w : WorldId) (def : World) → 
     → began.id_to_index.entries ≡ [] → LearnsOnly (IsMetAmong r (entries_in def)) began m' → outer ≡ Declarations.no_more
     → AddsLearnt r (items_extent r canonical (entries_in def)) m m' outer outer' → declared_extent outer' ≤ world_weight r w.0
 world-few r v w def at canonical began m m' outer outer' once empty only none adds =
-    let met : (n : ℕ) → Contains (map (λ (e : ℕ × ℕ). e.0) m'.id_to_index.entries) n
-    → IsMetAmong r (entries_in def) n = λ n c. (let x = with-index m'.id_to_index.entries n c in elim (only.each n x.0 x.1) [
-      | inl old ↦ none-in (n, x.0) (subst (λ (es : List (ℕ × ℕ)). Contains es (n, x.0)) empty old)
-      | inr reached ↦ reached
-    ]) in
     let light = worlds-light r w def (map (λ (e : ℕ × ℕ). e.0) m'.id_to_index.entries) canonical v at
-    (pairs-map (λ (e : ℕ × ℕ). e.0) (λ x y. nat_eq x y ≡ false) m'.id_to_index.entries once.numbers) met in
+    (pairs-map (λ (e : ℕ × ℕ). e.0) (λ x y. nat_eq x y ≡ false) m'.id_to_index.entries once.numbers)
+    (λ n c. learnt-all (IsMetAmong r (entries_in def)) began m' empty only n (with-index m'.id_to_index.entries n c)) in
     omega (arith, light, sums-mapped (number_extent r None) (λ (e : ℕ × ℕ). e.0) m'.id_to_index.entries, ap declared_extent none ∙ nothing-taken, adds.few)

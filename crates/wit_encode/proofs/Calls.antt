@@ -33,12 +33,9 @@ pub record Calls {E : Type 0} (res : Result ℕ E) (s s' : Scope) (c c' : Conten
 pub calls-from : {E : Type 0} (res : Result ℕ E) (r : Resolve) (interface : Option InterfaceId) (around : Around) (c c' : Contents) (P : Standing → Type 0) (counts : Type 0) (x : Slot)
     → (scope_with r interface around c).is_sound ≡ true → is_slot_of (resources_in r interface) x ≡ true → IsOf x P → IfOk res (λ k. (k ≡ length c.slots) × Grew c c' x × counts) → OnErr res (c' ≡ c)
     → Calls res (scope_with r interface around c) (scope_with r interface around c') c c' P counts
-calls-from (Ok k) r interface around c c' P counts x sound o is h e = record {
-  ok = grew-adds c c' x k P h.1 h.0 is;
-  grows = grew-grows c c' x h.1;
-  scope_stays = grew-scope r interface around c c' x h.1 o sound;
-  counted = h.2;
-}
+calls-from (Ok k) r interface around c c' P counts x sound o is h e =
+    let scope_stays = grew-scope r interface around c c' x h.1 o sound in
+    record { ok = grew-adds c c' x k P h.1 h.0 is; grows = grew-grows c c' x h.1; scope_stays = scope_stays; counted = h.2 }
 calls-from (Err q) r interface around c c' P counts x sound o is h e = search std_rules
 
 -- ---- what is there
@@ -70,27 +67,23 @@ inner-grew : (place : Place) (outer : Declarations) (ds : List Declaration) (d :
 unfolding inner_contents
 inner-grew place outer ds d x shown m =
     let next = steps.steps-more place (outer_slots outer) new_instance m.at.scope m.after ds d m.at.is m.step in
-    record {
-      slots = ap (λ o. option_map_or (λ s. s.slots) o []) next ∙ m.one ∙ ap (λ xs. xs ++ x ∷ []) (sym m.at.slots);
-      functions_shown = ap (λ o. (option_map_or (λ s. s.shown) o no_view).functions) next ∙ m.functions ∙ sym (ap (λ o. (option_map_or (λ s. s.shown) o no_view).functions) m.at.is);
-      followed = ap is_some next ∙ sym (ap is_some m.at.is);
-    }
+    let slots = ap (λ o. option_map_or (λ s. s.slots) o []) next ∙ m.one ∙ ap (λ xs. xs ++ x ∷ []) (sym m.at.slots) in
+    let functions_shown = ap (λ o. (option_map_or (λ s. s.shown) o no_view).functions) next ∙ m.functions ∙ sym (ap (λ o. (option_map_or (λ s. s.shown) o no_view).functions) m.at.is) in
+    record { slots = slots; functions_shown = functions_shown; followed = ap is_some next ∙ sym (ap is_some m.at.is) }
 
 abbrev pub shown_meanings : List ShownType → List (Text × TypeMeaning)
 shown_meanings ts = map (λ t. (t.name, t.meaning)) ts
 
 inner-definitions : (place : Place) (outer : Declarations) (ds : List Declaration) (d : Declaration) (x : Slot) (shown : List ShownType) → InnerMore place outer ds d x shown
-    → (types exported functions : List ℕ)
-    → (inner_contents place outer ds).types ++ cond (is_value_type d) (type_slots ds ∷ []) [] ≡ types → (inner_contents place outer ds).exported ++ option_to_list (target_of d) ≡ exported
-    → (inner_contents place outer ds).functions ++ cond (is_function_type d) (type_slots ds ∷ []) [] ≡ functions
+    → (types exported functions : List ℕ) → (inner_contents place outer ds).types ++ cond (is_value_type d) (type_slots ds ∷ []) [] ≡ types
+    → (inner_contents place outer ds).exported ++ option_to_list (target_of d) ≡ exported → (inner_contents place outer ds).functions ++ cond (is_function_type d) (type_slots ds ∷ []) [] ≡ functions
     → definitions_with (inner_contents place outer (ds ++ d ∷ [])) ≡ record
     { types = types; exported = exported; functions = functions; exports = (definitions_with (inner_contents place outer ds)).exports ++ shown_meanings shown }
 unfolding inner_contents
 inner-definitions place outer ds d x shown m types exported functions t u f =
     let next = steps.steps-more place (outer_slots outer) new_instance m.at.scope m.after ds d m.at.is m.step in
     let exports = ap (λ o. shown_meanings (option_map_or (λ s. s.shown) o no_view).types) next ∙ ap shown_meanings m.types ∙ map-append (λ (t : ShownType). (t.name, t.meaning))
-    m.at.scope.shown.types shown
-    ∙ ap (λ xs. xs ++ shown_meanings shown) (sym (ap (λ o. shown_meanings (option_map_or (λ s. s.shown) o no_view).types) m.at.is)) in
+    m.at.scope.shown.types shown ∙ ap (λ xs. xs ++ shown_meanings shown) (sym (ap (λ o. shown_meanings (option_map_or (λ s. s.shown) o no_view).types) m.at.is)) in
     λ i. record { types = (slots-more is_value_type ds d ∙ t) i; exported = (targets-more ds d ∙ u) i; functions = (slots-more is_function_type ds d ∙ f) i; exports = exports i }
 
 -- ---- what stands in the new slot
@@ -158,8 +151,7 @@ module _ {E : Type 0} (res : Result ℕ E) (r : Resolve) (i : InterfaceId) (arou
         let a = inner-there in
         let m : InnerMore (place_in r here) outer ds d x [] =
         record { at = a; after = in_instance x a.scope; step = step; one = refl; types = sym (append-nil a.scope.shown.types); functions = refl } in
-        more-ok d x [] _ m (λ e. ap (λ zs. definitions_with (inner_contents (place_in r here) outer zs)) e
-        ∙ inner-definitions (place_in r here) outer ds d x [] m types exported functions t u f
+        more-ok d x [] _ m (λ e. ap (λ zs. definitions_with (inner_contents (place_in r here) outer zs)) e ∙ inner-definitions (place_in r here) outer ds d x [] m types exported functions t u f
         ∙ (λ j. record { types = types; exported = exported; functions = functions; exports = append-nil (definitions_with before).exports j })) ok
 
     pub defined-inside : (d : ComponentDefinedType) (t : Tree) → Follows (SlotsStand before.slots) d t → IsFormed (scope_with r here around before) t
@@ -189,15 +181,13 @@ module _ {E : Type 0} (res : Result ℕ E) (r : Resolve) (i : InterfaceId) (arou
 
     -- a type around that is the name of a named interface
     pub alias-inside : (k : ℕ) (x : Slot) (t : Tree) → slice_get (outer_slots outer) k ≡ Some x → is_foreign_name x ≡ true → is_slot_of (resources_in r here) x ≡ true
-        → standing_at (Some x) ≡ Some (tree t)
-        → IfOk res (λ k'. (k' ≡ type_slots ds) × (ds' ≡ ds ++ Declaration.alias_of (Alias.of_outer 1 k) ∷ [])) → OnErr res (ds' ≡ ds)
+        → standing_at (Some x) ≡ Some (tree t) → IfOk res (λ k'. (k' ≡ type_slots ds) × (ds' ≡ ds ++ Declaration.alias_of (Alias.of_outer 1 k) ∷ [])) → OnErr res (ds' ≡ ds)
         → Calls res (scope_with r here around before) (scope_with r here around after) before after (λ m. m ≡ tree t) (definitions_with after ≡ definitions_with before)
     alias-inside k x t at foreign kept stands ok err =
         calls-from res r here around before after _ _ x sound kept (record { gives = λ m e. stands ∙ ap Some (sym e); only = λ m e. some_is m _ (sym e ∙ stands) })
-        (plain-ok (Declaration.alias_of (Alias.of_outer 1 k)) x _ _ _
-        (bind (slice_get (outer_slots outer) k) x (λ slot. follow.provided (is_foreign_name slot) (in_instance slot inner-there.scope)) at
-        ∙ ap (λ b. follow.provided b (in_instance x inner-there.scope)) foreign)
-        (append-nil before.types) (append-nil before.exported) (append-nil before.functions) ok) (err-same err)
+        (plain-ok (Declaration.alias_of (Alias.of_outer 1 k)) x _ _ _ (bind (slice_get (outer_slots outer) k) x
+        (λ slot. follow.provided (is_foreign_name slot) (in_instance slot inner-there.scope)) at ∙ ap (λ b. follow.provided b (in_instance x inner-there.scope)) foreign) (append-nil before.types)
+        (append-nil before.exported) (append-nil before.functions) ok) (err-same err)
 
     -- ---- exports of types
 
@@ -206,12 +196,10 @@ module _ {E : Type 0} (res : Result ℕ E) (r : Resolve) (i : InterfaceId) (arou
 
     -- a declaration that is followed as it says
     exported-inside : (described : ComponentTypeRef) {slot : Option ℕ} → described_slot described ≡ slot → (name : ExternName) (d : Text × TypeMeaning) (x : Slot)
-        → IsDeclared (scope_with r here around before) d → name ≡ exported_name d → is_slot_of (resources_in r here) x ≡ true
-        → standing_at (Some x) ≡ Some (tree (named (place_in r here) name.text))
+        → IsDeclared (scope_with r here around before) d → name ≡ exported_name d → is_slot_of (resources_in r here) x ≡ true → standing_at (Some x) ≡ Some (tree (named (place_in r here) name.text))
         → ((m : InstanceScope) → instance_step (place_in r here) (outer_slots outer) m (Declaration.exported name described) ≡ show_type (place_in r here) name described m)
-        → named_type before.slots (place_in r here) name.text described ≡ Some (d.1.declaration, x)
-        → IfOk res (λ k. (k ≡ type_slots ds) × (ds' ≡ ds ++ Declaration.exported name described ∷ [])) → OnErr res (ds' ≡ ds)
-        → Calls res (scope_with r here around before) (scope_with r here around after) before after (λ m. m ≡ tree (named (place_in r here) name.text)) (ShownAs slot name)
+        → named_type before.slots (place_in r here) name.text described ≡ Some (d.1.declaration, x) → IfOk res (λ k. (k ≡ type_slots ds) × (ds' ≡ ds ++ Declaration.exported name described ∷ []))
+        → OnErr res (ds' ≡ ds) → Calls res (scope_with r here around before) (scope_with r here around after) before after (λ m. m ≡ tree (named (place_in r here) name.text)) (ShownAs slot name)
     exported-inside described {slot} from name d x declared is kept stands step found ok err =
         let a = inner-there in
         let t : ShownType = record { name = name.text; meaning = record { declaration = d.1.declaration; external_id = name.external_id }; slot = x } in
@@ -226,8 +214,7 @@ module _ {E : Type 0} (res : Result ℕ E) (r : Resolve) (i : InterfaceId) (arou
           functions = refl;
         } in
         let meant : (name.text, t.meaning) ≡ d = λ j. (ap (λ (n : ExternName). n.text) is j, record { declaration = d.1.declaration; external_id = ap (λ (n : ExternName). n.external_id) is j }) in
-        calls-from res r here around before after _ _ x sound kept
-        (record { gives = λ m e. stands ∙ ap Some (sym e); only = λ m e. some_is m _ (sym e ∙ stands) })
+        calls-from res r here around before after _ _ x sound kept (record { gives = λ m e. stands ∙ ap Some (sym e); only = λ m e. some_is m _ (sym e ∙ stands) })
         (more-ok (Declaration.exported name described) x (t ∷ []) _ m (λ e. record {
           declaration = d;
           there = declared.there;

@@ -18,8 +18,7 @@ use Rattle.base_lemmas.proofs.Lists.{map_of_map as map-twice}
 
 -- the instance type takes its slot
 pub closes : {E : Type 0} (res : Result ℕ E) (r : Resolve) (a : Around) (outer outer' : Declarations) (foreign foreign' : Foreign) (i : InterfaceId) (def : Interface) (types : List TypeId)
-    (declared : List Declaration) (fs : List Placed) → types ≡ values def.types
-    → AliasesMet r (Some i) (referred types (map (λ f. f.2.now) fs)) a (around_at outer foreign) → foreign' ≡ foreign
+    (declared : List Declaration) (fs : List Placed) → types ≡ values def.types → AliasesMet r (Some i) (referred types (map (λ f. f.2.now) fs)) a (around_at outer foreign) → foreign' ≡ foreign
     → DefinesKeys r (stands_inside r i outer declared) (map (λ f. f.2.now) fs) declared → DefinesTypes r (Some i) (stands_inside r i outer declared) types (map (λ f. f.2.now) fs) (from_list declared)
     → DeclaresFew r (Some i) types (map (λ f. f.2.now) fs) declared → StandInOrder declared → IsInstance r outer i declared (map (λ f. meaning_of r (placed_function f)) fs)
     → IfOk res (λ k. (k ≡ type_slots_of outer) × (outer' ≡ append outer (Declarations.instance (from_list declared) Declarations.no_more)))

@@ -22,8 +22,7 @@ none-more s s' e = ap length (sym e) ∙ (let y : length s.slots ≡ length s.sl
 
 seen-as : (direction : Direction) (name : ExternName) (n : ℕ) (s s' : Scope) (key : Key) (o : Option View)
     → (o >>= λ view. Some (see direction (record { key = key_text key; shown = Shown.instance key view; external_id = name.external_id })
-    (record s { instances = s.instances ++ record { interface = interface_of key; view = view } ∷ []; used = s.used ++ n ∷ [] }))) ≡ Some s'
-    → length s'.slots ≡ length s.slots + 0
+    (record s { instances = s.instances ++ record { interface = interface_of key; view = view } ∷ []; used = s.used ++ n ∷ [] }))) ≡ Some s' → length s'.slots ≡ length s.slots + 0
 seen-as direction name n s s' key x e = search std_rules
 
 instance-seen : (direction : Direction) (name : ExternName) (n : ℕ) (s s' : Scope) → see_instance direction name n s ≡ Some s' → length s'.slots ≡ length s.slots + 0
@@ -51,30 +50,27 @@ steps-count s s' (Declarations.instance inner rest) e =
 
 -- ---- one declaration more
 
+-- what stands behind is followed from where the declarations have led
+steps-behind : (s m : Scope) (ds more : Declarations) → component_steps s ds ≡ Some m → component_steps s (append ds more) ≡ component_steps m more
+steps-behind s m Declarations.no_more more e = ap (λ (z : Scope). component_steps z more) (some-same s m e)
+steps-behind s m (Declarations.declares x rest) more e =
+    let b = unbind (component_step s x) _ m e in
+    ap (λ o. o >>= λ next. component_steps next (append rest more)) b.is ∙ steps-behind b.item m rest more b.then
+steps-behind s m (Declarations.component inner rest) more e = absurd cc
+steps-behind s m (Declarations.instance inner rest) more e =
+    let b = unbind (flat inner) _ m e in
+    ap (λ o. o >>= λ ds. component_steps (in_scope (Slot.instance ds (length s.slots)) s) (append rest more)) b.is
+    ∙ steps-behind (in_scope (Slot.instance b.item (length s.slots)) s) m rest more b.then
+
 pub steps-more : (s m n : Scope) (ds : Declarations) (d : Declaration) → component_steps s ds ≡ Some m → component_step m d ≡ Some n
     → component_steps s (append ds (Declarations.declares d Declarations.no_more)) ≡ Some n
-steps-more s m n Declarations.no_more d e f = search std_rules
-steps-more s m n (Declarations.declares x rest) d e f =
-    let b = unbind (component_step s x) _ m e in
-    ap (λ o. o >>= λ next. component_steps next (append rest (Declarations.declares d Declarations.no_more))) b.is ∙ steps-more b.item m n rest d b.then f
-steps-more s m n (Declarations.component inner rest) d e f = absurd cc
-steps-more s m n (Declarations.instance inner rest) d e f =
-    let b = unbind (flat inner) _ m e in
-    ap (λ o. o >>= λ ds. component_steps (in_scope (Slot.instance ds (length s.slots)) s) (append rest (Declarations.declares d Declarations.no_more))) b.is
-    ∙ steps-more (in_scope (Slot.instance b.item (length s.slots)) s) m n rest d b.then f
+steps-more s m n ds d e f = steps-behind s m ds (Declarations.declares d Declarations.no_more) e ∙ ap (λ o. o >>= λ next. component_steps next Declarations.no_more) f
 
 -- an instance type more
 pub steps-instance : (s m : Scope) (ds : Declarations) (es : List Declaration) → component_steps s ds ≡ Some m
     → component_steps s (append ds (Declarations.instance (from_list es) Declarations.no_more)) ≡ Some (in_scope (Slot.instance es (length m.slots)) m)
-steps-instance s m Declarations.no_more es e = search (std_rules, flat-list, some-same)
-steps-instance s m (Declarations.declares x rest) es e =
-    let b = unbind (component_step s x) _ m e in
-    ap (λ o. o >>= λ next. component_steps next (append rest (Declarations.instance (from_list es) Declarations.no_more))) b.is ∙ steps-instance b.item m rest es b.then
-steps-instance s m (Declarations.component inner rest) es e = absurd cc
-steps-instance s m (Declarations.instance inner rest) es e =
-    let b = unbind (flat inner) _ m e in
-    ap (λ o. o >>= λ ds. component_steps (in_scope (Slot.instance ds (length s.slots)) s) (append rest (Declarations.instance (from_list es) Declarations.no_more))) b.is
-    ∙ steps-instance (in_scope (Slot.instance b.item (length s.slots)) s) m rest es b.then
+steps-instance s m ds es e = steps-behind s m ds (Declarations.instance (from_list es) Declarations.no_more) e
+    ∙ ap (λ o. o >>= λ xs. component_steps (in_scope (Slot.instance xs (length m.slots)) m) Declarations.no_more) (flat-list es)
 
 -- ---- how many are such
 

@@ -49,8 +49,7 @@ module _ {r r' : Resolve} {outer outer' : Declarations} {inner inner' : Option O
 
   -- a function that is exported
   pub continues-shown : {f : Text × FunctionMeaning} → r' ≡ r → outer' ≡ outer → own_of inner' ≡ own_of inner → ShowsFunction (contents_of r outer inner) (contents_of r' outer' inner') f
-      → MapsAgree r m (SlotsStand (contents_of r outer inner).slots) → m' ≡ m
-      → around_of outer' inner' ≡ around_of outer inner → Continues r r' outer outer' inner inner' m m'
+      → MapsAgree r m (SlotsStand (contents_of r outer inner).slots) → m' ≡ m → around_of outer' inner' ≡ around_of outer inner → Continues r r' outer outer' inner inner' m m'
   continues-shown e o w s a q around =
       let sound : ((contents_of r' outer' inner').is_followed && list_all (is_slot_of (resources_in r' (own_of inner'))) (contents_of r' outer' inner').slots)
       ≡ ((contents_of r outer inner).is_followed && list_all (is_slot_of (resources_in r (own_of inner))) (contents_of r outer inner).slots) =
@@ -74,21 +73,17 @@ pub record Showed {A E : Type 0} (res : Result A E) (r : Resolve) (o₀ o₂ : D
   pub continues : Continues r r o₀ o₂ i₀ i₂ m₀ m₂
   pub shows : OnOk res ((contents_of r o₂ i₂).shown.functions ≡ (contents_of r o₀ i₀).shown.functions ++ f ∷ [])
 
-pub function-showed : {A E : Type 0} (res : Result A E) (r r₀ r₁ r₂ : Resolve) (o₀ o₁ o₂ : Declarations) (i₀ i₁ i₂ : Option OpenInterface) (m₀ m₁ m₂ : TypeEncodingMaps)
-    (f g : Text × FunctionMeaning) → r₀ ≡ r
-    → encoder_scope r₁ o₁ i₁ ≡ encoder_scope r₀ o₀ i₀ → MapsAgree r m₁ (SlotsStand (contents_of r₁ o₁ i₁).slots) → GrowsAround r₀ (around_of o₀ i₀) (around_of o₁ i₁) → r₂ ≡ r₁ → o₂ ≡ o₁
-    → own_of i₂ ≡ own_of i₁ → around_of o₂ i₂ ≡ around_of o₁ i₁ → m₂ ≡ m₁ → g ≡ f
-    → OnOk res (ShowsFunction (contents_of r₁ o₁ i₁) (contents_of r₂ o₂ i₂) g) → OnErr res (i₂ ≡ i₁) → Showed res r o₀ o₂ i₀ i₂ m₀ m₂ f
+pub function-showed : {A E : Type 0} (res : Result A E) (r r₀ r₁ r₂ : Resolve) (o₀ o₁ o₂ : Declarations) (i₀ i₁ i₂ : Option OpenInterface) (m₀ m₁ m₂ : TypeEncodingMaps) (f g : Text × FunctionMeaning)
+    → r₀ ≡ r → encoder_scope r₁ o₁ i₁ ≡ encoder_scope r₀ o₀ i₀ → MapsAgree r m₁ (SlotsStand (contents_of r₁ o₁ i₁).slots) → GrowsAround r₀ (around_of o₀ i₀) (around_of o₁ i₁) → r₂ ≡ r₁ → o₂ ≡ o₁
+    → own_of i₂ ≡ own_of i₁ → around_of o₂ i₂ ≡ around_of o₁ i₁ → m₂ ≡ m₁ → g ≡ f → OnOk res (ShowsFunction (contents_of r₁ o₁ i₁) (contents_of r₂ o₂ i₂) g) → OnErr res (i₂ ≡ i₁)
+    → Showed res r o₀ o₂ i₀ i₂ m₀ m₂ f
 function-showed res r r₀ r₁ r₂ o₀ o₁ o₂ i₀ i₁ i₂ m₀ m₁ m₂ f g e s agree grown e₂ eo ei around em eg ok err =
     let e₁ : r₁ ≡ r₀ = ap (λ (z : Scope). z.packages) s in
     let agree₁ : MapsAgree r₁ m₁ (SlotsStand (contents_of r₁ o₁ i₁).slots) = subst (λ (z : Resolve). MapsAgree z m₁ (SlotsStand (contents_of r₁ o₁ i₁).slots)) (sym (e₁ ∙ e)) agree in
     let first : Continues r₀ r₁ o₀ o₁ i₀ i₁ m₀ m₁ = continues-kept s (subst (λ (z : Resolve). MapsAgree z m₁ (SlotsStand (contents_of r₁ o₁ i₁).slots)) e₁ agree₁) grown in
     let all : Continues r₀ r₂ o₀ o₂ i₀ i₂ m₀ m₂ = continues-trans first (second res agree₁ ok err) e₁ in
     let here : r₂ ≡ r = e₂ ∙ (e₁ ∙ e) in
-    record {
-      continues = subst (λ (z : Resolve). Continues z r o₀ o₂ i₀ i₂ m₀ m₂) e (subst (λ (z : Resolve). Continues r₀ z o₀ o₂ i₀ i₂ m₀ m₂) here all);
-      shows = more res here ok;
-    }
+    record { continues = subst (λ (z : Resolve). Continues z r o₀ o₂ i₀ i₂ m₀ m₂) e (subst (λ (z : Resolve). Continues r₀ z o₀ o₂ i₀ i₂ m₀ m₂) here all); shows = more res here ok }
   where
     second : {A E : Type 0} (res : Result A E) → MapsAgree r₁ m₁ (SlotsStand (contents_of r₁ o₁ i₁).slots) → OnOk res (ShowsFunction (contents_of r₁ o₁ i₁) (contents_of r₂ o₂ i₂) g)
         → OnErr res (i₂ ≡ i₁) → Continues r₁ r₂ o₁ o₂ i₁ i₂ m₁ m₂
@@ -102,8 +97,7 @@ function-showed res r r₀ r₁ r₂ o₀ o₁ o₂ i₀ i₁ i₂ m₀ m₁ m�
 
     more : {A E : Type 0} (res : Result A E) → r₂ ≡ r → OnOk res (ShowsFunction (contents_of r₁ o₁ i₁) (contents_of r₂ o₂ i₂) g)
         → OnOk res ((contents_of r o₂ i₂).shown.functions ≡ (contents_of r o₀ i₀).shown.functions ++ f ∷ [])
-    more (Ok a) here ok =
-        ap (λ (z : Resolve). (contents_of z o₂ i₂).shown.functions) (sym here) ∙ ok.functions_shown
+    more (Ok a) here ok = ap (λ (z : Resolve). (contents_of z o₂ i₂).shown.functions) (sym here) ∙ ok.functions_shown
         ∙ (λ j. ((ap (λ (z : Scope). z.functions) s ∙ ap (λ (z : Resolve). (contents_of z o₀ i₀).shown.functions) e) j) ++ eg j ∷ [])
     more (Err x) here ok = ok
 

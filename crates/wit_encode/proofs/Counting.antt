@@ -19,10 +19,10 @@ use Rattle.encode_types.specs.{Codes.IsTable, Codes.ListKey, Codes.names_of, Cod
 use Rattle.encode_types.specs.Counts.{Definitions, names_defined, is_defined_by_name, own_name, Shows, slots_of, named_slots, key_slots, AddsSlots, AddsKey, AddsTypes, AddsFunction}
 use Rattle.encode_types.specs.Distinct.{Key, key_of, key_view, are_same, KnowsKey, defined_under_names, AddsFunctions, DefinesKeys, DefinesTypes, value_slots, function_slots, is_function_type}
 use Rattle.encode_types.proofs.{Marking.slots-none, Marking.slots-then, Marking.more-then, Marking.same-keys, Marking.one-key-more, Pairs.pairs-map}
-use Rattle.encode_types.proofs.{Lists.none-in, Tables.kept-in, Tables.new-in, Tables.one-more-in}
+use Rattle.encode_types.proofs.{Tables.kept-in, Tables.new-in, Tables.one-more-in}
 use Rattle.wit_encode.proofs.{Calls.inner-at, Mapped.contains-filter, Mapped.from-filter}
 use Rattle.wit_encode.proofs.{ValueSlots.IsPlain, ValueSlots.inner-values, ValueSlots.slots-counted, DefinedTypes.HeldKinds, DefinedTypes.defines-types}
-use Rattle.wit_encode.proofs.HeldKeys.{same_equiv, HasList, alike, grown, shrunk, knows-same, knows-along, knows-none, keyed, stand-for-keys, slots-many}
+use Rattle.wit_encode.proofs.HeldKeys.{same_equiv, HasList, alike, grown, shrunk, knows-same, knows-along, knows-none, keyed, stand-for-keys, slots-many, learnt-all}
 use Rattle.encode_types.specs.declared.{key.FunctionKey.FunctionKey, maps.TypeEncodingMaps.TypeEncodingMaps}
 use Rattle.wit_encode.specs.declared.interface.{OpenInterface.OpenInterface, Foreign.Foreign}
 use Rattle.wit_encode.specs.Instance.{contents_of, inner_contents, outer_slots, standing_at, SlotsStand, stands_inside, encoder_scope, definitions_with, held_in, opened, DeclaresFew, ShowsFunction}
@@ -115,51 +115,33 @@ adds-function {r} {scope} {m} {m'} {d} {d'} key i f is once a = elim a.keys [
 ]
 
 pub adds-nothing : (r : Resolve) (scope : Scope) (m : TypeEncodingMaps) (d : Definitions) → AddsFunctions r scope m m d d []
-adds-nothing r scope m d = record {
-  slots = slots-none r scope m m d d refl refl refl refl;
-  types_added = [];
-  functions_ = sym (append-nil d.functions);
-  keys_ = same-keys m m refl;
-  known = λ q k. inl k;
-  stay = λ q k. k;
-  learnt = λ q h. absurd (none-member q h);
-}
+adds-nothing r scope m d =
+    let slots = slots-none r scope m m d d refl refl refl refl in
+    record { slots = slots; types_added = []; functions_ = sym (append-nil d.functions); keys_ = same-keys m m refl; known = λ q k. inl k; stay = λ q k. k; learnt = λ q h. absurd (none-member q h) }
 
 -- what has been defined is the same by a scope of the same interface
 slots-alike : {r : Resolve} {s s' : Scope} {m m' : TypeEncodingMaps} {d d' : Definitions} → s'.own_interface ≡ s.own_interface → AddsSlots r s' m m' d d' → AddsSlots r s m m' d d'
-slots-alike {r} {s} {s'} {m} {m'} {d} {d'} o p = record {
-  added = p.added;
-  targets = p.targets;
-  types = p.types;
-  exported = p.exported;
-  kinds = p.kinds;
-  names = ap (λ (n : ℕ). length (named_slots p.added) + n) (sym (names-alike r s s' m o)) ∙ p.names ∙ names-alike r s s' m' o;
-  own = p.own;
-  others = p.others;
-  numbers_stay = p.numbers_stay;
-}
+slots-alike {r} {s} {s'} {m} {m'} {d} {d'} o p =
+    let names = ap (λ (n : ℕ). length (named_slots p.added) + n) (sym (names-alike r s s' m o)) ∙ p.names ∙ names-alike r s s' m' o in
+    record { added = p.added; targets = p.targets; types = p.types; exported = p.exported; kinds = p.kinds; names = names; own = p.own; others = p.others; numbers_stay = p.numbers_stay }
 
 pub adds-trans : {r : Resolve} {s s' : Scope} {a b c : TypeEncodingMaps} {d e f : Definitions} (fs gs : List Function) → s'.own_interface ≡ s.own_interface
     → AddsFunctions r s a b d e fs → AddsFunctions r s' b c e f gs → AddsFunctions r s a c d f (fs ++ gs)
-adds-trans {r} {s} {s'} {a} {b} {c} {d} {e} {f} fs gs o p q =
-    record {
-      slots = slots-then p.slots (slots-alike o q.slots);
-      types_added = p.types_added ++ q.types_added;
-      functions_ = q.functions_ ∙ ap (λ xs. xs ++ q.types_added) p.functions_ ∙ append_assoc d.functions p.types_added q.types_added;
-      keys_ = more-then (key_slots a) (key_slots b) (key_slots c) p.types_added q.types_added p.keys_ q.keys_;
-      known = λ k h. elim (q.known k h) [
-        | inl x ↦ elim (p.known k x) [
-          | inl y ↦ inl y
-          | inr y ↦ inr (members-both fs gs k ∙ or-first (is_member are_same (map key_of fs) k) (is_member are_same (map key_of gs) k) y)
-        ]
-        | inr x ↦ inr (members-both fs gs k ∙ or-second (is_member are_same (map key_of fs) k) (is_member are_same (map key_of gs) k) x)
-      ];
-      stay = λ k h. q.stay k (p.stay k h);
-      learnt = λ k h. elim (either-one (is_member are_same (map key_of fs) k) (is_member are_same (map key_of gs) k) (sym (members-both fs gs k) ∙ h)) [
-        | inl x ↦ q.stay k (p.learnt k x)
-        | inr x ↦ q.learnt k x
-      ];
-    }
+adds-trans {r} {s} {s'} {a} {b} {c} {d} {e} {f} fs gs o p q = record {
+  slots = slots-then p.slots (slots-alike o q.slots);
+  types_added = p.types_added ++ q.types_added;
+  functions_ = q.functions_ ∙ ap (λ xs. xs ++ q.types_added) p.functions_ ∙ append_assoc d.functions p.types_added q.types_added;
+  keys_ = more-then (key_slots a) (key_slots b) (key_slots c) p.types_added q.types_added p.keys_ q.keys_;
+  known = λ k h. elim (q.known k h) [
+    | inl x ↦ elim (p.known k x) [ inl y ↦ inl y | inr y ↦ inr (members-both fs gs k ∙ or-first (is_member are_same (map key_of fs) k) (is_member are_same (map key_of gs) k) y) ]
+    | inr x ↦ inr (members-both fs gs k ∙ or-second (is_member are_same (map key_of fs) k) (is_member are_same (map key_of gs) k) x)
+  ];
+  stay = λ k h. q.stay k (p.stay k h);
+  learnt = λ k h. elim (either-one (is_member are_same (map key_of fs) k) (is_member are_same (map key_of gs) k) (sym (members-both fs gs k) ∙ h)) [
+    | inl x ↦ q.stay k (p.learnt k x)
+    | inr x ↦ q.learnt k x
+  ];
+}
 
 -- the same of what counts alike
 pub adds-alike : {r : Resolve} {s s' : Scope} {m m' m'' : TypeEncodingMaps} {d d' e e' : Definitions} {fs : List Function} → s'.own_interface ≡ s.own_interface
@@ -168,17 +150,10 @@ pub adds-alike : {r : Resolve} {s s' : Scope} {m m' m'' : TypeEncodingMaps} {d d
 adds-alike {r} {s} {s'} {m} {m'} {m''} {d} {d'} {e} {e'} {fs} o h a x b a' x' b' p = subst (λ (z : TypeEncodingMaps). AddsFunctions r s' m z e e' fs) (sym h) (
     let q : AddsSlots r s' m m' d d' = slots-alike (sym o) p.slots in
     record {
-      slots = record {
-        added = q.added;
-        targets = q.targets;
-        types = a' ∙ q.types ∙ ap (λ xs. xs ++ slots_of q.added) (sym a);
-        exported = x' ∙ q.exported ∙ ap (λ xs. xs ++ slots_of q.targets) (sym x);
-        kinds = q.kinds;
-        names = q.names;
-        own = q.own;
-        others = q.others;
-        numbers_stay = q.numbers_stay;
-      };
+      slots =
+          let types = a' ∙ q.types ∙ ap (λ xs. xs ++ slots_of q.added) (sym a) in
+          let exported = x' ∙ q.exported ∙ ap (λ xs. xs ++ slots_of q.targets) (sym x) in
+          record { added = q.added; targets = q.targets; types = types; exported = exported; kinds = q.kinds; names = q.names; own = q.own; others = q.others; numbers_stay = q.numbers_stay };
       types_added = p.types_added;
       functions_ = b' ∙ p.functions_ ∙ ap (λ xs. xs ++ p.types_added) (sym b);
       keys_ = p.keys_;
@@ -257,17 +232,13 @@ closed-counts r v outer outer' i known inner' current m m' fs ts is b held a agr
 
 -- it has no more declarations than it was asked to have
 pub declares-few : (r : Resolve) (i : InterfaceId) (ts : List TypeId) (fs : List (ℕ × Bor (String Global) × Bor Function)) (m m' : TypeEncodingMaps) (outer' : Declarations)
-    (inner' : Option OpenInterface) (ds : List Declaration) (current : OpenInterface)
-    → Began m → ds ≡ [] → inner' ≡ Some current → LearnsOnly (ReachedFrom r (Some i) (referred ts (map (λ f. f.2.now) fs))) m m'
-    → HoldsFor r (Some i) m m' (length ds) (held_in outer' inner') (length fs) → length m'.func_type_map.entries ≡ count_by is_function_type current.declared
-    → DeclaresFew r (Some i) ts (map (λ f. f.2.now) fs) current.declared
+    (inner' : Option OpenInterface) (ds : List Declaration) (current : OpenInterface) → Began m → ds ≡ [] → inner' ≡ Some current
+    → LearnsOnly (ReachedFrom r (Some i) (referred ts (map (λ f. f.2.now) fs))) m m' → HoldsFor r (Some i) m m' (length ds) (held_in outer' inner') (length fs)
+    → length m'.func_type_map.entries ≡ count_by is_function_type current.declared → DeclaresFew r (Some i) ts (map (λ f. f.2.now) fs) current.declared
 declares-few r i ts fs m m' outer' inner' ds current b none is only h keys = record {
   numbers = h.numbers;
   apart = h.new.apart;
-  met = λ n c. let k = h.known n c in elim (only.each n k.0 k.1) [
-    | inl old ↦ none-in (n, k.0) (subst (λ (es : List (ℕ × ℕ)). Contains es (n, k.0)) b.numbers old)
-    | inr reached ↦ reached
-  ];
+  met = λ n c. learnt-all (ReachedFrom r (Some i) (referred ts (map (λ f. f.2.now) fs))) m m' b.numbers only n (h.known n c);
   few =
       let at : held_in outer' inner' ≡ length current.declared = ap (held_in outer') is in
       omega (arith, h.held, at, ap length none, ap length b.keys, length-map fs (λ (f : ℕ × Bor (String Global) × Bor Function). f.2.now), keys);
@@ -288,11 +259,10 @@ count-keys fs gs ds p h = h.count ∙ length-from_keys same_equiv h.keys (map ke
 -- ---- the calls of an encoder of interfaces
 
 -- a function: its type, and then its export, which defines nothing
-pub function-counted : {A E : Type 0} (res : Result A E) (r r₀ r₁ r₂ : Resolve) (o₀ o₁ o₂ : Declarations) (i₀ i₁ i₂ : Option OpenInterface)
-    (m₀ m₁ m₂ : TypeEncodingMaps) (f : Function) (g : Text × FunctionMeaning) (index : ℕ)
-    → IsOnce m₀ → r₀ ≡ r → encoder_scope r₁ o₁ i₁ ≡ encoder_scope r₀ o₀ i₀ → r₂ ≡ r₁ → m₂ ≡ m₁
-    → (key : FunctionKey) × IsKeyOf key f × AddsFunction r (encoder_scope r₀ o₀ i₀) m₀ m₁ (definitions_with (contents_of r₀ o₀ i₀))
-    (definitions_with (contents_of r₁ o₁ i₁)) key index → OnOk res (ShowsFunction (contents_of r₁ o₁ i₁) (contents_of r₂ o₂ i₂) g)
+pub function-counted : {A E : Type 0} (res : Result A E) (r r₀ r₁ r₂ : Resolve) (o₀ o₁ o₂ : Declarations) (i₀ i₁ i₂ : Option OpenInterface) (m₀ m₁ m₂ : TypeEncodingMaps) (f : Function)
+    (g : Text × FunctionMeaning) (index : ℕ) → IsOnce m₀ → r₀ ≡ r → encoder_scope r₁ o₁ i₁ ≡ encoder_scope r₀ o₀ i₀ → r₂ ≡ r₁ → m₂ ≡ m₁ → (key : FunctionKey) × IsKeyOf key f
+    × AddsFunction r (encoder_scope r₀ o₀ i₀) m₀ m₁ (definitions_with (contents_of r₀ o₀ i₀)) (definitions_with (contents_of r₁ o₁ i₁)) key index
+    → OnOk res (ShowsFunction (contents_of r₁ o₁ i₁) (contents_of r₂ o₂ i₂) g)
     → OnOk res (AddsFunctions r (encoder_scope r o₀ i₀) m₀ m₂ (definitions_with (contents_of r o₀ i₀)) (definitions_with (contents_of r o₂ i₂)) (f ∷ []))
 function-counted (Err e) r r₀ r₁ r₂ o₀ o₁ o₂ i₀ i₁ i₂ m₀ m₁ m₂ f g index once e₀ s e₂ em (key, is, a) shown = shown
 function-counted (Ok x) r r₀ r₁ r₂ o₀ o₁ o₂ i₀ i₁ i₂ m₀ m₁ m₂ f g index once e₀ s e₂ em (key, is, a) shown =
@@ -303,28 +273,23 @@ function-counted (Ok x) r r₀ r₁ r₂ o₀ o₁ o₂ i₀ i₁ i₂ m₀ m₁
     (ap (λ (z : Resolve). (contents_of z o₂ i₂).functions) (sym here) ∙ shown.functions) (adds-function key index f is once a)
 
 -- types, and then functions
-pub parts-counted : {A E : Type 0} (res : Result A E) (r r₀ r₁ : Resolve) (o₀ o₁ o₂ : Declarations) (i₀ i₁ i₂ : Option OpenInterface) (m₀ m₁ m₂ : TypeEncodingMaps)
-    (fs : List Function)
-    → r₀ ≡ r → encoder_scope r₁ o₁ i₁ ≡ encoder_scope r₀ o₀ i₀ → AddsTypes r (encoder_scope r₀ o₀ i₀) m₀ m₁ (definitions_with (contents_of r₀ o₀ i₀))
-    (definitions_with (contents_of r₁ o₁ i₁))
+pub parts-counted : {A E : Type 0} (res : Result A E) (r r₀ r₁ : Resolve) (o₀ o₁ o₂ : Declarations) (i₀ i₁ i₂ : Option OpenInterface) (m₀ m₁ m₂ : TypeEncodingMaps) (fs : List Function) → r₀ ≡ r
+    → encoder_scope r₁ o₁ i₁ ≡ encoder_scope r₀ o₀ i₀ → AddsTypes r (encoder_scope r₀ o₀ i₀) m₀ m₁ (definitions_with (contents_of r₀ o₀ i₀)) (definitions_with (contents_of r₁ o₁ i₁))
     → OnOk res (AddsFunctions r (encoder_scope r o₁ i₁) m₁ m₂ (definitions_with (contents_of r o₁ i₁)) (definitions_with (contents_of r o₂ i₂)) fs)
     → OnOk res (AddsFunctions r (encoder_scope r o₀ i₀) m₀ m₂ (definitions_with (contents_of r o₀ i₀)) (definitions_with (contents_of r o₂ i₂)) fs)
 parts-counted (Err e) r r₀ r₁ o₀ o₁ o₂ i₀ i₁ i₂ m₀ m₁ m₂ fs e₀ s a b = b
 parts-counted (Ok x) r r₀ r₁ o₀ o₁ o₂ i₀ i₁ i₂ m₀ m₁ m₂ fs e₀ s a b =
     let e₁ : r₁ ≡ r = ap (λ (z : Scope). z.packages) s ∙ e₀ in
-    adds-trans [] fs (ap (λ (z : Scope). z.own_interface) s)
-    (adds-alike refl refl (ap (λ (z : Resolve). (contents_of z o₀ i₀).types) (sym e₀)) (ap (λ (z : Resolve). (contents_of z o₀ i₀).exported) (sym e₀))
-    (ap (λ (z : Resolve). (contents_of z o₀ i₀).functions) (sym e₀))
-    (ap (λ (z : Resolve). (contents_of z o₁ i₁).types) (sym e₁)) (ap (λ (z : Resolve). (contents_of z o₁ i₁).exported) (sym e₁)) (ap (λ (z : Resolve). (contents_of z o₁ i₁).functions) (sym e₁))
-    (adds-types a))
+    adds-trans [] fs (ap (λ (z : Scope). z.own_interface) s) (adds-alike refl refl (ap (λ (z : Resolve). (contents_of z o₀ i₀).types) (sym e₀))
+    (ap (λ (z : Resolve). (contents_of z o₀ i₀).exported) (sym e₀)) (ap (λ (z : Resolve). (contents_of z o₀ i₀).functions) (sym e₀)) (ap (λ (z : Resolve). (contents_of z o₁ i₁).types) (sym e₁))
+    (ap (λ (z : Resolve). (contents_of z o₁ i₁).exported) (sym e₁)) (ap (λ (z : Resolve). (contents_of z o₁ i₁).functions) (sym e₁)) (adds-types a))
     b
 
 -- one function more
 pub functions-counted : {r : Resolve} {s s' : Scope} {a b c : TypeEncodingMaps} {d e f : Definitions} {X : Type 0} (view : X → Function) (xs : List X) (i : ℕ)
     (x : X) → i < length xs → x ≡ get_or xs i x → s'.own_interface ≡ s.own_interface
     → AddsFunctions r s a b d e (map view (take i xs)) → AddsFunctions r s' b c e f (view x ∷ []) → AddsFunctions r s a c d f (map view (take (i + 1) xs))
-functions-counted {r} {s} {s'} {a} {b} {c} {d} {e} {f} view xs i x l is own p q =
-    subst (AddsFunctions r s a c d f) (ap (λ y. map view (take i xs) ++ view y ∷ []) is
+functions-counted {r} {s} {s'} {a} {b} {c} {d} {e} {f} view xs i x l is own p q = subst (AddsFunctions r s a c d f) (ap (λ y. map view (take i xs) ++ view y ∷ []) is
     ∙ sym (ap (map view) (take_more xs i x l) ∙ map-append view (take i xs) (get_or xs i x ∷ []))) (adds-trans (map view (take i xs)) (view x ∷ []) own p q)
 
 -- all of them
@@ -342,8 +307,7 @@ shown-where-defined r scope n = search std_rules
 pub exact-names : (r : Resolve) (scope : Scope) (m : TypeEncodingMaps) (types : List TypeId) → IsOnce m → ((t : TypeId) → Contains types t → IsKnown m t.0)
     → ((t : TypeId) (i : ℕ) → Contains m.id_to_index.entries (t.0, i) → (own_name r scope t.0 ≡ None) ⊎ Contains types t)
     → names_defined r scope m ≡ distinct_count nat_eq (defined_under_names r scope.own_interface types)
-exact-names r scope m types once known alone =
-    sym (length-map (filter test m.id_to_index.entries) number ∙ length-filter test m.id_to_index.entries)
+exact-names r scope m types once known alone = sym (length-map (filter test m.id_to_index.entries) number ∙ length-filter test m.id_to_index.entries)
     ∙ length-from_keys nat_eq_equiv names own distinct (λ q. both-ways (is_member nat_eq names q) (is_member nat_eq own q)
     (λ h. there-member own q (listed q (from-map number (filter test m.id_to_index.entries) q (member-there names q h))))
     (λ h. there-member names q (learnt q (from-map (λ (t : TypeId). t.0) (filter at types) q (member-there own q h)))))
@@ -382,28 +346,23 @@ exact-names r scope m types once known alone =
         subst (Contains names) e (contains-map number (filter test m.id_to_index.entries) (t.0, k.0) (contains-filter test m.id_to_index.entries (t.0, k.0) passed k.1))
 
 -- what exports nothing defines nothing under a name
-unshown-undefined : (r : Resolve) (scope : Scope) (es : List (ℕ × ℕ)) → filter_map (λ e. own_name r scope e.0) es ≡ []
-    → count_by (λ e. is_defined_by_name r scope e.0) es ≡ 0
+unshown-undefined : (r : Resolve) (scope : Scope) (es : List (ℕ × ℕ)) → filter_map (λ e. own_name r scope e.0) es ≡ [] → count_by (λ e. is_defined_by_name r scope e.0) es ≡ 0
 unshown-undefined r scope [] h = refl
 unshown-undefined r scope (e ∷ es) h = sum_by-append (λ (x : ℕ × ℕ). cond (is_defined_by_name r scope x.0) 1 0) (e ∷ []) es
     ∙ go (own_name r scope e.0) (is_defined_by_name r scope e.0) refl refl h (unshown-undefined r scope es)
   where
-    go : (o : Option Text) (b : Bool) → own_name r scope e.0 ≡ o → is_defined_by_name r scope e.0 ≡ b
-        → cons_option o (filter_map (λ e. own_name r scope e.0) es) ≡ []
-        → (filter_map (λ e. own_name r scope e.0) es ≡ [] → count_by (λ e. is_defined_by_name r scope e.0) es ≡ 0)
-        → 0 + cond b 1 0 + count_by (λ e. is_defined_by_name r scope e.0) es ≡ 0
+    go : (o : Option Text) (b : Bool) → own_name r scope e.0 ≡ o → is_defined_by_name r scope e.0 ≡ b → cons_option o (filter_map (λ e. own_name r scope e.0) es) ≡ []
+        → (filter_map (λ e. own_name r scope e.0) es ≡ [] → count_by (λ e. is_defined_by_name r scope e.0) es ≡ 0) → 0 + cond b 1 0 + count_by (λ e. is_defined_by_name r scope e.0) es ≡ 0
     go (Some name) b n d h rest = absurd cc
     go None true n d h rest = absurd (shown-where-defined r scope e.0 d n)
     go None false n d h rest = omega (arith, rest h)
 
-names-unchanged : (r : Resolve) (scope : Scope) (m m' : TypeEncodingMaps) (d d' : Definitions) → Shows r scope m m' d d' → d'.exports ≡ d.exports
-    → names_defined r scope m' ≡ names_defined r scope m
+names-unchanged : (r : Resolve) (scope : Scope) (m m' : TypeEncodingMaps) (d d' : Definitions) → Shows r scope m m' d d' → d'.exports ≡ d.exports → names_defined r scope m' ≡ names_defined r scope m
 names-unchanged r scope m m' d d' s same =
     let test : ℕ × ℕ → Bool = λ e. is_defined_by_name r scope e.0 in
     let none : s.shown ≡ [] = no-more d.exports s.shown (sym s.exports ∙ same) in
     let sum : names_defined r scope m' ≡ names_defined r scope m + count_by test s.learnt =
-    sum_by-IsPermutation (λ e. cond (test e) 1 0) (m.id_to_index.entries ++ s.learnt) m'.id_to_index.entries s.numbers
-    ∙ sum_by-append (λ e. cond (test e) 1 0) m.id_to_index.entries s.learnt in
+    sum_by-IsPermutation (λ e. cond (test e) 1 0) (m.id_to_index.entries ++ s.learnt) m'.id_to_index.entries s.numbers ∙ sum_by-append (λ e. cond (test e) 1 0) m.id_to_index.entries s.learnt in
     omega (arith, unshown-undefined r scope s.learnt (sym s.names ∙ ap (map (λ (x : Text × TypeMeaning). x.0)) none))
   where
     no-more : {X : Type 0} (xs ys : List X) → xs ++ ys ≡ xs → ys ≡ []
@@ -411,17 +370,15 @@ names-unchanged r scope m m' d d' s same =
     no-more xs (y ∷ ys) e = absurd (omega (arith, sym (length-append xs (y ∷ ys)) ∙ ap length e))
 
 -- a function, which exports no type
-pub function-names : {A E : Type 0} (res : Result A E) (r r₀ r₁ r₂ : Resolve) (o₀ o₁ o₂ : Declarations) (i₀ i₁ i₂ : Option OpenInterface)
-    (m₀ m₁ m₂ : TypeEncodingMaps) (g : Text × FunctionMeaning) → r₀ ≡ r → encoder_scope r₁ o₁ i₁ ≡ encoder_scope r₀ o₀ i₀ → r₂ ≡ r₁ → m₂ ≡ m₁
+pub function-names : {A E : Type 0} (res : Result A E) (r r₀ r₁ r₂ : Resolve) (o₀ o₁ o₂ : Declarations) (i₀ i₁ i₂ : Option OpenInterface) (m₀ m₁ m₂ : TypeEncodingMaps) (g : Text × FunctionMeaning)
+    → r₀ ≡ r → encoder_scope r₁ o₁ i₁ ≡ encoder_scope r₀ o₀ i₀ → r₂ ≡ r₁ → m₂ ≡ m₁
     → Shows r (encoder_scope r₀ o₀ i₀) m₀ m₁ (definitions_with (contents_of r₀ o₀ i₀)) (definitions_with (contents_of r₁ o₁ i₁))
-    → OnOk res (ShowsFunction (contents_of r₁ o₁ i₁) (contents_of r₂ o₂ i₂) g)
-    → OnOk res ((definitions_with (contents_of r o₂ i₂)).exports ≡ (definitions_with (contents_of r o₀ i₀)).exports)
+    → OnOk res (ShowsFunction (contents_of r₁ o₁ i₁) (contents_of r₂ o₂ i₂) g) → OnOk res ((definitions_with (contents_of r o₂ i₂)).exports ≡ (definitions_with (contents_of r o₀ i₀)).exports)
     → OnOk res (names_defined r (encoder_scope r o₀ i₀) m₂ ≡ names_defined r (encoder_scope r o₀ i₀) m₀)
 function-names (Err e) r r₀ r₁ r₂ o₀ o₁ o₂ i₀ i₁ i₂ m₀ m₁ m₂ g e₀ s e₂ em shows shown stays = stays
 function-names (Ok x) r r₀ r₁ r₂ o₀ o₁ o₂ i₀ i₁ i₂ m₀ m₁ m₂ g e₀ s e₂ em shows shown stays =
     let here : r₂ ≡ r = e₂ ∙ (ap (λ (z : Scope). z.packages) s ∙ e₀) in
-    ap (names_defined r (encoder_scope r₀ o₀ i₀)) em
-    ∙ names-unchanged r (encoder_scope r₀ o₀ i₀) m₀ m₁ (definitions_with (contents_of r₀ o₀ i₀)) (definitions_with (contents_of r₁ o₁ i₁)) shows
+    ap (names_defined r (encoder_scope r₀ o₀ i₀)) em ∙ names-unchanged r (encoder_scope r₀ o₀ i₀) m₀ m₁ (definitions_with (contents_of r₀ o₀ i₀)) (definitions_with (contents_of r₁ o₁ i₁)) shows
     (sym (ap (map (λ t. (t.name, t.meaning))) shown.types_shown) ∙ (ap (λ (z : Resolve). (definitions_with (contents_of z o₂ i₂)).exports) here
     ∙ (stays ∙ ap (λ (z : Resolve). (definitions_with (contents_of z o₀ i₀)).exports) (sym e₀))))
 

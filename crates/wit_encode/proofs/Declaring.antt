@@ -27,10 +27,8 @@ module _ (scope : Scope) (slots : List Slot) (sound : list_all (is_slot_of scope
 
       found : (x y : Slot) → slice_get slots k ≡ Some x → declared_by x ≡ Some (tree_of_types.type_ s.type_tree) → named_like x scope.place name.text ≡ y
           → named_type slots scope.place name.text (refs.TypeEq k) ≡ Some (s.declaration.1.declaration, y)
-      found x y at by like =
-          bind (slice_get slots k) x (λ slot. declared_by slot >>= λ d. Some (d, named_like slot scope.place name.text)) at
-          ∙ bind (declared_by x) (tree_of_types.type_ s.type_tree) (λ d. Some (d, named_like x scope.place name.text)) by
-          ∙ (λ j. Some (sym s.is_type j, like j))
+      found x y at by like = bind (slice_get slots k) x (λ slot. declared_by slot >>= λ d. Some (d, named_like slot scope.place name.text)) at
+          ∙ bind (declared_by x) (tree_of_types.type_ s.type_tree) (λ d. Some (d, named_like x scope.place name.text)) by ∙ (λ j. Some (sym s.is_type j, like j))
 
       go : (o : Option Slot) → slice_get slots k ≡ o → standing_at o ≡ Some (tree s.type_tree) → DeclaredAs scope slots name (refs.TypeEq k) s.declaration
       go (Some (Slot.value u)) at q =
@@ -53,9 +51,6 @@ module _ (scope : Scope) (slots : List Slot) (sound : list_all (is_slot_of scope
       go _ at q = absurd cc
 
   pub declared-resource : (s : DeclaresResource scope name) → DeclaredAs scope slots name refs.SubResource s.declaration
-  declared-resource s = record {
-    slot = Slot.resource scope.place name.text;
-    found = λ j. Some (sym s.is_resource j, Slot.resource scope.place name.text);
-    kept = ap (λ (n : ExternName). scope.resources scope.place n.text) s.named_ ∙ s.declared.alike ∙ ap (is_resource_declaration scope.resources) s.is_resource;
-    stands = refl;
-  }
+  declared-resource s =
+      let kept = ap (λ (n : ExternName). scope.resources scope.place n.text) s.named_ ∙ s.declared.alike ∙ ap (is_resource_declaration scope.resources) s.is_resource in
+      record { slot = Slot.resource scope.place name.text; found = λ j. Some (sym s.is_resource j, Slot.resource scope.place name.text); kept = kept; stands = refl }

@@ -1,5 +1,5 @@
 -- Which value types a scope defines, from what has been defined call by call.
-use Rattle.std.proofs.Common.{◌≡◌, refl, sym, ap, subst, ◌∙◌, ℕ, suc, Bool, true, false, List, [], ◌∷◌, ◌++◌, map, Option, Some, None, arith, count_by}
+use Rattle.std.proofs.Common.{◌≡◌, refl, sym, ap, subst, ◌∙◌, ℕ, suc, Bool, true, false, List, [], ◌∷◌, ◌++◌, map, Option, Some, None, arith, count_by, inl, inr}
 use Rattle.std.proofs.lemmas.List.Elements.{Contains-append_right}
 use Rattle.std.proofs.lemmas.List.Sorted.{IsPermutation-refl, IsPermutation-trans, IsPermutation-sym, IsPermutation-cons, IsPermutation-middle, IsPermutation-append_left, Contains-permutation}
 use Rattle.std.specs.Prelude.{nat_eq, not, cond, filter, IsPermutation, String, ◌||◌}
@@ -18,6 +18,7 @@ use Rattle.encode_types.specs.{Slots.Pairs, Slots.Standing, Slots.tree, MetKinds
 use Rattle.encode_types.specs.Counts.{Definitions, Marked, slots_of, named_slots, other_slots, kind_slots, names_defined, is_defined_by_name, IsTarget, AddsSlots}
 use Rattle.encode_types.proofs.Encoding.{tabled}
 use Rattle.wit_encode.proofs.{Validity.valid-unnamed, Validity.valid-layered, Reached.part-at, ValueSlots.IsPlain}
+use Rattle.std.proofs.lemmas.Bool.{cases_Bool}
 use Rattle.base_lemmas.proofs.{Bools.right_of as second_true, Elements.contains-one, Elements.member-there as slot-there, Elements.there-member as has-slot}
 use Rattle.wit_model.proofs.ValidLemmas.{type_passes}
 
@@ -28,8 +29,7 @@ split-marked : (xs : Marked) → IsPermutation (slots_of xs) (other_slots xs ++ 
 split-marked [] = IsPermutation-refl []
 split-marked ((false, i) ∷ xs) = IsPermutation-cons i (slots_of xs) (other_slots xs ++ named_slots xs) (split-marked xs)
 split-marked ((true, i) ∷ xs) = IsPermutation-trans (i ∷ slots_of xs) (i ∷ (other_slots xs ++ named_slots xs)) (other_slots xs ++ i ∷ named_slots xs)
-    (IsPermutation-cons i (slots_of xs) (other_slots xs ++ named_slots xs) (split-marked xs))
-    (IsPermutation-sym _ _ (IsPermutation-middle (other_slots xs) i (named_slots xs)))
+    (IsPermutation-cons i (slots_of xs) (other_slots xs ++ named_slots xs) (split-marked xs)) (IsPermutation-sym _ _ (IsPermutation-middle (other_slots xs) i (named_slots xs)))
 
 -- where a test holds of the marked ones alone, they pass
 passes-marked : (p : ℕ → Bool) (xs : Marked) → ((i : ℕ) → Contains (named_slots xs) i → p i ≡ true) → ((i : ℕ) → Contains (other_slots xs) i → p i ≡ false) → filter p (slots_of xs) ≡ named_slots xs
@@ -117,15 +117,13 @@ module _ (r : Resolve) (v : IsValid r) (own : Option InterfaceId) (scope : Scope
       has-slot (value_slots declared) i (subst (λ xs. Contains xs i) (sym values) there)
 
   no-value : (i : ℕ) → Contains (other_slots a.targets) i → is_member nat_eq (value_slots declared) i ≡ false
-  no-value i c = go (is_member nat_eq (value_slots declared) i) refl
-    where
-      go : (b : Bool) → is_member nat_eq (value_slots declared) i ≡ b → b ≡ false
-      go false e = refl
-      go true e =
-          let p = plain i (slot-there (value_slots declared) i e) in
-          let n = target-named r v m' S i agree (a.others i c) in
-          let same : tree p.0 ≡ tree (named n.0 n.1) = once i (tree p.0) (tree (named n.0 n.1)) p.1 n.2 in
-          absurd (p.2 n.0 n.1 cc)
+  no-value i c = elim (cases_Bool (is_member nat_eq (value_slots declared) i)) [
+    | inl e ↦ (let p = plain i (slot-there (value_slots declared) i e) in
+        let n = target-named r v m' S i agree (a.others i c) in
+        let same : tree p.0 ≡ tree (named n.0 n.1) = once i (tree p.0) (tree (named n.0 n.1)) p.1 n.2 in
+        absurd (p.2 n.0 n.1 cc))
+    | inr e ↦ e
+  ]
 
   pub defines-types : m.id_to_index.entries ≡ [] → m.def_to_index.entries ≡ [] → HeldKinds r own (referred ts fs) m' → names_defined r scope m' ≡ distinct_count nat_eq (defined_under_names r own ts)
       → DefinesTypes r own S ts fs declared

@@ -1,7 +1,7 @@
 -- The aliases in the component type of an interface.
-use Rattle.std.proofs.Common.{◌≡◌, refl, sym, subst, ap, ◌∙◌, ℕ, zero, suc, ◌⊎◌, inl, inr, nat_cmp, nat_eq, Bool, true, false, List, [], ◌∷◌, ◌++◌, append_assoc, append-nil, map, Option, Some, None, slice_get, arith}
+use Rattle.std.proofs.Common.{◌≡◌, refl, sym, subst, ap, ◌∙◌, ℕ, ◌⊎◌, inl, inr, nat_cmp, nat_eq, Bool, List, [], ◌∷◌, ◌++◌, append_assoc, append-nil, map, Option, Some, None, slice_get, arith}
 use Rattle.std.proofs.lemmas.{Cmp.nat_eq_equiv, List.Elements.Contains-append_cases, List.Elements.Contains-append_left, List.Elements.Contains-append_right}
-use Rattle.std.proofs.lemmas.{List.map-append, Map.Keys.IsDistinct-push}
+use Rattle.std.proofs.lemmas.{List.map-append, Map.Keys.IsDistinct-push, Bool.cases_Bool}
 use Rattle.std.specs.{BTreeMap.insert_entry, BTreeMap.is_at, List.Contains, List.IsDistinct}
 use Rattle.wit_model.specs.Lookup.{interface_at}
 use Rattle.wit_model.specs.declared.model.{Resolve.Resolve, Interface.Interface, InterfaceId.InterfaceId, «Type».«Type» as ValueType}
@@ -14,42 +14,39 @@ use Rattle.encode_types.specs.Known.{Aliased, AreAliases, Around, IsAlias, alias
 use Rattle.encode_types.proofs.Planning.{lacks-member}
 use Rattle.wit_encode.specs.{Dependencies.HasImported, Dependencies.ImportsTypes, Dependencies.with_export, Instance.EncodesInterface}
 use Rattle.wit_encode.specs.DependencyAliases.{HasAliased, HasAliases, IsAliasAmong, IsAskedFor, IsMetAmong, IsMetByWhole, alias_in, aliases_declared, export_alias}
-use Rattle.wit_encode.proofs.{Imported.other-slot, Imported.at-same, Importing.new-slot}
+use Rattle.wit_encode.proofs.{Imported.at-same, LatestInstances.found-new, LatestInstances.found-other}
+use Rattle.base_lemmas.proofs.Lists.{front_more}
 use Rattle.base_lemmas.proofs.Elements.{contains-later, contains-one, last_of as one-contained, map_from as from-map}
 use Rattle.base_lemmas.proofs.Numbers.{none-twice}
 use Rattle.comp_bytes.specs.declared.forms.ComponentTypeRef.TheVariants as refs
 
 -- ---- one declaration more
 
-aliases-behind : (ds : Declarations) (d : Declaration) → aliases_declared (append ds (Declarations.declares d Declarations.no_more)) ≡ aliases_declared ds ++ alias_in d
-aliases-behind Declarations.no_more d = append-nil (alias_in d)
-aliases-behind (Declarations.declares e rest) d = ap (λ xs. alias_in e ++ xs) (aliases-behind rest d) ∙ sym (append_assoc (alias_in e) (aliases_declared rest) (alias_in d))
-aliases-behind (Declarations.component inner rest) d = aliases-behind rest d
-aliases-behind (Declarations.instance inner rest) d = aliases-behind rest d
+aliases-both : (ds es : Declarations) → aliases_declared (append ds es) ≡ aliases_declared ds ++ aliases_declared es
+aliases-both Declarations.no_more es = refl
+aliases-both (Declarations.declares e rest) es = ap (λ xs. alias_in e ++ xs) (aliases-both rest es) ∙ sym (append_assoc (alias_in e) (aliases_declared rest) (aliases_declared es))
+aliases-both (Declarations.component inner rest) es = aliases-both rest es
+aliases-both (Declarations.instance inner rest) es = aliases-both rest es
 
-aliases-around : (ds inner : Declarations) → aliases_declared (append ds (Declarations.instance inner Declarations.no_more)) ≡ aliases_declared ds
-aliases-around Declarations.no_more inner = refl
-aliases-around (Declarations.declares e rest) inner = ap (λ xs. alias_in e ++ xs) (aliases-around rest inner)
-aliases-around (Declarations.component i rest) inner = aliases-around rest inner
-aliases-around (Declarations.instance i rest) inner = aliases-around rest inner
+aliases-behind : (ds : Declarations) (d : Declaration) → aliases_declared (append ds (Declarations.declares d Declarations.no_more)) ≡ aliases_declared ds ++ alias_in d
+aliases-behind ds d = aliases-both ds (Declarations.declares d Declarations.no_more) ∙ ap (λ xs. aliases_declared ds ++ xs) (append-nil (alias_in d))
 
 -- an instance type, and what uses it
 aliases-placed : (ds inner outer : Declarations) (d : Declaration) → outer ≡ append (append ds (Declarations.instance inner Declarations.no_more)) (Declarations.declares d Declarations.no_more)
     → alias_in d ≡ [] → aliases_declared outer ≡ aliases_declared ds
-aliases-placed ds inner outer d is none =
-    ap aliases_declared is ∙ aliases-behind (append ds (Declarations.instance inner Declarations.no_more)) d ∙ ap
+aliases-placed ds inner outer d is none = ap aliases_declared is ∙ aliases-behind (append ds (Declarations.instance inner Declarations.no_more)) d ∙ ap
     (λ xs. aliases_declared (append ds (Declarations.instance inner Declarations.no_more)) ++ xs) none
-    ∙ append-nil (aliases_declared (append ds (Declarations.instance inner Declarations.no_more))) ∙ aliases-around ds inner
+    ∙ append-nil (aliases_declared (append ds (Declarations.instance inner Declarations.no_more))) ∙ aliases-both ds (Declarations.instance inner Declarations.no_more)
+    ∙ append-nil (aliases_declared ds)
 
 -- ---- between two imports
 
 -- a type number that is known stays so
-pub known-kept : (n t m : ℕ) (es : List (ℕ × ℕ)) → known_slot es n ≡ None → (known_slot es m ≡ None → ⊥) → known_slot (insert_entry nat_cmp es n t) m ≡ None → ⊥
-known-kept n t m es new known none = by (is_at (nat_cmp m) n) refl
-  where
-    by : (b : Bool) → is_at (nat_cmp m) n ≡ b → ⊥
-    by true e = let there : known_slot (insert_entry nat_cmp es n t) m ≡ Some t = ap (known_slot (insert_entry nat_cmp es n t)) (at-same m n e) ∙ new-slot n t es new in cc
-    by false e = known (sym (other-slot n t m es e new) ∙ none)
+pub known-kept : (n t m : ℕ) (es : List (ℕ × ℕ)) → (known_slot es m ≡ None → ⊥) → known_slot (insert_entry nat_cmp es n t) m ≡ None → ⊥
+known-kept n t m es known none = elim (cases_Bool (is_at (nat_cmp m) n)) [
+  | inl e ↦ cc (sym (found-new n t es) ∙ (ap (known_slot (insert_entry nat_cmp es n t)) (sym (at-same m n e)) ∙ none))
+  | inr e ↦ known (sym (found-other n t m es e) ∙ none)
+]
 
 -- the instance of an interface has its place
 pub imported-lists : (r : Resolve) (a : Around) (ns : List ℕ) → HasImported r a ns → (i k : ℕ) → known_instance a.instances i ≡ Some k → slice_get ns k ≡ Some i
@@ -71,9 +68,8 @@ module _ (r : Resolve) (ns : List ℕ) (P : ℕ → Type 0) where
       asked = λ y c. elim (Contains-append_cases h.has.made (x ∷ []) y c) [ inl k ↦ h.has.asked y k | inr k ↦ subst (λ (z : Aliased). P z.number.0) (one-contained x y k) p ];
     };
     known = λ y c. elim (Contains-append_cases h.has.made (x ∷ []) y c) [
-      | inl k ↦ known-kept x.number.0 (type_slots_of a.declared) y.number.0 a.known is.first (h.known y k)
-      | inr k ↦ subst (λ (z : Aliased). known_slot (with_alias a x).known z.number.0 ≡ None → ⊥) (one-contained x y k)
-          (λ none. cc (new-slot x.number.0 (type_slots_of a.declared) a.known is.first))
+      | inl k ↦ known-kept x.number.0 (type_slots_of a.declared) y.number.0 a.known (h.known y k)
+      | inr k ↦ subst (λ (z : Aliased). known_slot (with_alias a x).known z.number.0 ≡ None → ⊥) (one-contained x y k) (λ none. cc (found-new x.number.0 (type_slots_of a.declared) a.known))
     ];
   }
     where
@@ -81,16 +77,9 @@ module _ (r : Resolve) (ns : List ℕ) (P : ℕ → Type 0) where
       new c = let y = from-map (λ (y : Aliased). y.number.0) h.has.made x.number.0 c in h.known y.0 y.1 (ap (known_slot a.known) y.2 ∙ is.first)
 
       among : IsAliasAmong r ns x
-      among = record {
-        def = is.def;
-        name = is.name;
-        interface = is.interface;
-        there = is.there;
-        named_ = is.named_;
-        owned = is.owned;
-        text = is.text;
-        instance = lists is.interface.0 x.instance is.instance;
-      }
+      among =
+          let instance = lists is.interface.0 x.instance is.instance in
+          record { def = is.def; name = is.name; interface = is.interface; there = is.there; named_ = is.named_; owned = is.owned; text = is.text; instance = instance }
 
   all-aliased : (a : Around) (made : List Aliased) → ((i k : ℕ) → known_instance a.instances i ≡ Some k → slice_get ns k ≡ Some i) → AreAliases r a made
       → ((x : Aliased) → Contains made x → P x.number.0) → HasAliased r ns P a → HasAliased r ns P (with_aliases a made)
@@ -114,31 +103,17 @@ module _ (r : Resolve) (ns ms : List ℕ) (P Q : ℕ → Type 0) (f : (n : ℕ) 
   unfolding has-along
   aliased-along a b e k h = record { has = has-along a.declared b.declared e h.has; known = λ x c none. h.known x c (ap (λ es. known_slot es x.number.0) (sym k) ∙ none) }
 
-get-left : (ns : List ℕ) (i k n : ℕ) → slice_get ns k ≡ Some n → slice_get (ns ++ i ∷ []) k ≡ Some n
-get-left [] i k n e = absurd cc
-get-left (m ∷ ns) i zero n e = e
-get-left (m ∷ ns) i (suc k) n e = get-left ns i k n e
-
 -- the types of one interface more have been imported
 pub import-aliased : (r : Resolve) (canonical : Bool) (a a' : Around) (ns : List ℕ) (i : InterfaceId) (number : ℕ) → ImportsTypes r canonical a a' i number → HasImported r a ns
     → HasAliased r ns (IsMetAmong r ns) a → HasAliased r (ns ++ i.0 ∷ []) (IsMetAmong r (ns ++ i.0 ∷ [])) a'
 import-aliased r canonical a a' ns i number t imported h =
     let part = t.encodes.part in
-    let wide : (x : Aliased) → IsAliasAmong r ns x → IsAliasAmong r (ns ++ i.0 ∷ []) x =
-    λ x y. record {
-      def = y.def;
-      name = y.name;
-      interface = y.interface;
-      there = y.there;
-      named_ = y.named_;
-      owned = y.owned;
-      text = y.text;
-      instance = get-left ns i.0 x.instance y.interface.0 y.instance;
-    } in
+    let wide : (x : Aliased) → IsAliasAmong r ns x → IsAliasAmong r (ns ++ i.0 ∷ []) x = λ x y.
+    let there = front_more ns i.0 x.instance y.interface.0 y.instance in
+    record { def = y.def; name = y.name; interface = y.interface; there = y.there; named_ = y.named_; owned = y.owned; text = y.text; instance = there } in
     let more : (n : ℕ) → IsMetAmong r ns n → IsMetAmong r (ns ++ i.0 ∷ []) n = λ n m. (m.0, Contains-append_left ns (i.0 ∷ []) m.0 m.1, m.2) in
     let first : HasAliased r ns (IsMetAmong r (ns ++ i.0 ∷ [])) a = aliased-along r ns ns (IsMetAmong r ns) (IsMetAmong r (ns ++ i.0 ∷ [])) more (λ x y. y) a a refl refl h in
-    let second : HasAliased r ns (IsMetAmong r (ns ++ i.0 ∷ [])) part.before =
-    met-aliased r ns (IsMetAmong r (ns ++ i.0 ∷ [])) (imported-lists r a ns imported) part.aliases
+    let second : HasAliased r ns (IsMetAmong r (ns ++ i.0 ∷ [])) part.before = met-aliased r ns (IsMetAmong r (ns ++ i.0 ∷ [])) (imported-lists r a ns imported) part.aliases
     (λ n m. (i.0, Contains-append_right ns (i.0 ∷ []) i.0 (contains-one i.0), record { def = t.def; there = t.there; met = m })) first in
     aliased-along r ns (ns ++ i.0 ∷ []) (IsMetAmong r (ns ++ i.0 ∷ [])) (IsMetAmong r (ns ++ i.0 ∷ [])) (λ n m. m) wide part.before a'
     (aliases-placed part.before.declared (from_list part.declared) a'.declared (Declaration.imported (name_of_interface r canonical i.0) (refs.Instance t.slot))

@@ -15,6 +15,8 @@ use Rattle.wit_encode.specs.Instance.{EncodesInterface, EncodesPart, LacksInstan
 use Rattle.wit_encode.proofs.{DependencyAliases.export-aliased, Refusing.counts-refused, Refusing.outer-slots-few, WorldHolding.brought-some}
 use Rattle.wit_encode.proofs.Places.{part-beside}
 use Rattle.wit_encode.proofs.Placed.{grown-few, grown-listed, one-behind, placed-counted, placed-few, placed-instances}
+use Rattle.wit_encode.proofs.WorldHolding.{by-name, defines-own}
+use Rattle.comp_meaning.specs.Follow.{import_}
 use Rattle.base_lemmas.proofs.{Elements.zip-append, Options.there as some-of}
 use Rattle.comp_bytes.specs.declared.forms.ComponentTypeRef.TheVariants as refs
 
@@ -55,17 +57,10 @@ module _ (r : Resolve) (canonical : Bool) (a a' : Around) (i : InterfaceId) (num
   }
     where
       one : DefinesTypesOf r i.0 (before.declared, inner)
-      one = record {
-        def = t.def;
-        there = t.there;
-        declarations = t.encodes.part.declared;
-        is = refl;
-        ordered = t.encodes.part.is_instance;
-        function_types = t.encodes.function_types;
-        value_types = t.encodes.part.value_types;
-        few = t.encodes.part.few;
-        places = t.encodes.part.places;
-      }
+      one =
+          let p = t.encodes.part in
+          let types = t.encodes.function_types in
+          record { def = t.def; there = t.there; declarations = p.declared; is = refl; ordered = p.is_instance; function_types = types; value_types = p.value_types; few = p.few; places = p.places }
 
 -- nothing is defined, and nothing is held, where nothing is declared
 pub nothing-held : (r : Resolve) (a : Around) → a.declared ≡ Declarations.no_more → HoldsImports r a []
@@ -96,32 +91,12 @@ module _ (r : Resolve) (canonical : Bool) (a a' : Around) (i : InterfaceId) (def
     own = (encodes.part.before.declared, own);
     are = placed-instances r a encodes.part.before encodes.part.aliases.grown own exported_by outer made_last;
     reached = subst (λ (xs : List ℕ). AllZip (DefinesTypesOf r) xs (instances_declared a.declared)) order h.inside;
-    exported = record {
-      def = def;
-      there = there;
-      declarations = encodes.part.declared;
-      is = refl;
-      ordered = encodes.part.is_instance;
-      function_types = encodes.part.function_types;
-      value_types = encodes.part.value_types;
-      few = encodes.part.few;
-      places = encodes.part.places;
-    };
+    exported = defines-own r a a' i def k there encodes;
     aliases = export-aliased r canonical a a' ns i def k outer there encodes is order imported aliased;
-    places = subst (λ (z : Declarations). are_beside 0 z ≡ true) (sym is)
-        (part-beside r a a' i def _ _ k encodes.part exported_by (eq-eqb k k refl) refl h.places);
+    places = subst (λ (z : Declarations). are_beside 0 z ≡ true) (sym is) (part-beside r a a' i def _ _ k encodes.part exported_by (eq-eqb k k refl) refl h.places);
   }
 
 -- ---- a call that has no room
-
--- a name doesn't fit, or the component type is full
-by-name : {Q : Type 0} (name : ExternName) (declared : Declarations) → (fits_name name ≡ false → Q) → (limit ≤ declaration_count declared → Q)
-    → (fits_name name && fits_counts (declaration_count declared + 1) (type_slots_of declared + 0)) ≡ false → Q
-by-name {Q} name declared unfit over = go (fits_name name) refl
-  where
-    go : (b : Bool) → fits_name name ≡ b → (b && fits_counts (declaration_count declared + 1) (type_slots_of declared + 0)) ≡ false → Q
-    go false u g = unfit u
-    go true u g = over (counts-refused (declaration_count declared) (type_slots_of declared + 0) (omega (arith, outer-slots-few declared)) g)
 
 full-after : {r : Resolve} {i : InterfaceId} {ts : List ValueType} {a : Around} (l : LacksInstanceRoom r i ts a) → limit ≤ declaration_count l.after.declared + 1
 full-after l =
@@ -136,8 +111,7 @@ module _ (r : Resolve) (canonical : Bool) (a : Around) (i : InterfaceId) (def : 
 pub import-lacks : (r : Resolve) (canonical : Bool) (a a' : Around) (i : InterfaceId) (def : Interface) (written : List (Text × Function)) (k : ℕ) → interface_at r i.0 ≡ Some def
     → (part : EncodesPart r a a' i def written [] k) (name : ExternName) → name ≡ name_of_interface r canonical i.0
     → (fits_name name && fits_counts (declaration_count a'.declared + 1) (type_slots_of a'.declared + 0)) ≡ false → LacksImport r canonical a i
-import-lacks r canonical a a' i def written k there part name named =
-    by-name name a'.declared (λ u. its_path (ap fits_name (sym named) ∙ u))
+import-lacks r canonical a a' i def written k there part name named = by-name import_ name (refs.Instance k) a'.declared refl (λ u. its_path (ap fits_name (sym named) ∙ u))
     (λ over. let one = one-behind part.before (from_list part.declared) a'.declared (ap (λ (z : Around). z.declared) part.one_more) in
     a_place part.before (record { def = def; there = there; made = part.aliases }) (omega (arith, over, one)))
 
@@ -165,6 +139,6 @@ module _ (r : Resolve) (ns : List ℕ) (a : Around) (h : HasImported r a ns) (he
       → (fits_name name && fits_counts (declaration_count a'.declared + 1) (type_slots_of a'.declared + 0)) ≡ false → ComponentLacksRoom r i ns
   export-lacks canonical a' k encodes name named =
       let part = encodes.part in
-      by-name name a'.declared (λ u. of_path canonical (ap fits_name (sym named) ∙ u))
+      by-name import_ name (refs.Instance k) a'.declared refl (λ u. of_path canonical (ap fits_name (sym named) ∙ u))
       (λ over. let one = one-behind part.before (from_list part.declared) a'.declared (ap (λ (z : Around). z.declared) part.one_more) in
       of_imports (place-lacks r ns ns (λ n c. c) (omega arith) a h held part.before part.aliases.grown (omega (arith, over, one))))

@@ -1,28 +1,27 @@
 -- An interface that has no room in a component type of its own weighs more than the largest number of 32 bits.
-use Rattle.std.proofs.Common.{rules as std_rules, ◌≡◌, refl, sym, subst, ap, ℕ, zero, suc, ◌+◌, ◌<◌, ◌≤◌, ◌==◌, inl, inr, Bool, true, false, not, nat_lt, List, [], ◌∷◌, Option, Some, is_some, arith}
-use Rattle.std.proofs.lemmas.{Bool.ltb-true, Bool.ltb-false, List.Filters.sum_by-filter_both, List.Kept.AllPairs-cons, List.Kept.AllPairs-filter}
-use Rattle.std.proofs.lemmas.List.Elements.{Contains-append_left, Contains-get_or, All-contains, filter_passes}
+use Rattle.std.proofs.Common.{rules as std_rules, ◌≡◌, refl, subst, ap, ℕ, zero, suc, ◌+◌, ◌≤◌, ◌==◌, inl, inr, Bool, true, List, [], ◌∷◌, Some, is_some, arith}
+use Rattle.std.proofs.lemmas.{List.Kept.AllPairs-cons}
+use Rattle.std.proofs.lemmas.List.Elements.{Contains-get_or}
 use Rattle.std.proofs.lemmas.List.Sums.{sum_by-cons}
-use Rattle.std.specs.{Prelude.sum_by, Prelude.AllPairs, Prelude.flat_map, List.AllByRecursion, List.Contains, List.IsDistinct, List.filter}
+use Rattle.std.specs.{Prelude.sum_by, Prelude.AllPairs, Prelude.flat_map, List.Contains, List.IsDistinct}
 use Rattle.std.specs.Option.{option_map_or}
 use Rattle.indexmap.specs.IndexMap.{values}
-use Rattle.wit_model.specs.{Lookup.interface_at, Lookup.interface_path, Lookup.type_at, Valid.IsValid, Valid.as_interface}
-use Rattle.wit_model.specs.{Parts.same_owner, Rules.interface_type_numbers, Rules.owner_in_range, Uses.has, Uses.direct_deps, Uses.once}
+use Rattle.wit_model.specs.{Lookup.interface_at, Lookup.interface_path, Valid.IsValid, Valid.as_interface}
+use Rattle.wit_model.specs.{Rules.interface_type_numbers, Uses.has, Uses.direct_deps, Uses.once}
 use Rattle.wit_model.specs.Weight.{unit_of, number_weight, function_weight, instance_numbers, instance_weight, types_instance_weight, whole_instance_weight, brought_into, path_texts, imports_of_interface, interface_weight}
-use Rattle.wit_model.specs.declared.model.{Resolve.Resolve, Interface.Interface, InterfaceId.InterfaceId, TypeDef.TypeDef, TypeId.TypeId, TypeOwner.TypeOwner}
+use Rattle.wit_model.specs.declared.model.{Resolve.Resolve, Interface.Interface, InterfaceId.InterfaceId, TypeId.TypeId}
 use Rattle.comp_bytes.specs.Fits.{fits_name}
 use Rattle.encode_shown.specs.Views.{AreReached, AreUsed}
 use Rattle.encode_shown.proofs.{Reach.Chain, Reach.chain-reached, Reach.further, Reach.used-chain, Dependencies.distinct-front}
 use Rattle.encode_types.specs.{MetKinds.ReachedFrom, MetKinds.referred, Room.IsUnfit, Room.LacksOne, Room.a_type, Room.a_request, Room.limit}
 use Rattle.encode_types.proofs.{Rooms.are-different, Rooms.counts-few, Lists.none-in}
-use Rattle.wit_model.proofs.{OnePath.found-in, Elements.has-contains, Elements.contains-has}
+use Rattle.wit_model.proofs.{Elements.has-contains, Elements.contains-has}
 use Rattle.encode_names.specs.WorldNames.{name_of_interface}
 use Rattle.wit_encode.specs.DependencyRoom.{TypesLackRoom, ImportsLackRoom, an_interface, a_path, too_many, ComponentLacksRoom, of_imports, of_interface, of_path, LackingComponentsAreHeavy}
-use Rattle.wit_encode.specs.WorldRoom.{IsNamedTypeOf}
-use Rattle.wit_encode.proofs.{Mapped.from-filter, ImportLoop.path-in-range, Reached.IsOwner, Reached.interface-owner, UsedPaths.used-path, Naming.valid-owner_in_range}
-use Rattle.wit_encode.proofs.Weighing.{Differ, at-least, contains-once, counted-least, counted-once, lacking-heavy, one-of, part-heavy-of, sum-among}
-use Rattle.wit_encode.proofs.WorldFunctions.{each, each-least, long, name-fits, number-least, suffix-long, written-long}
-use Rattle.base_lemmas.proofs.{Elements.contains-map, Numbers.same-number}
+use Rattle.wit_encode.proofs.{ImportLoop.path-in-range, Reached.IsOwner, Reached.interface-owner, UsedPaths.used-path}
+use Rattle.wit_encode.proofs.Weighing.{Differ, at-least, counted-least, counted-once, lacking-heavy, one-of, part-heavy-of, sum-among}
+use Rattle.wit_encode.proofs.WorldFunctions.{long, name-fits, suffix-long, written-long, named-stands, numbers-of, numbers-weigh}
+use Rattle.base_lemmas.proofs.{Elements.contains-map, Elements.all_at}
 use Rattle.wit_model.specs.declared.model.TypeOwner.TheVariants as owner
 
 -- ---- what is reached
@@ -56,12 +55,7 @@ among-imports r v n ns used m c =
 distinct-pairs : (xs : List ℕ) → IsDistinct (λ a b. a == b) xs → AllPairs Differ xs
 unfolding IsDistinct
 distinct-pairs [] d = λ i j d l m. absurd (omega (arith, m))
-distinct-pairs (x ∷ xs) d = AllPairs-cons Differ x xs (λ i d' l. others xs d.0 _ (Contains-get_or xs i d' l)) (distinct-pairs xs d.1)
-  where
-    others : (zs : List ℕ) → AllByRecursion (λ y. (x == y) ≡ false) zs → (y : ℕ) → Contains zs y → Differ x y
-    others [] a y c = none-in y c
-    others (z ∷ zs) a y (zero, l, e) = subst (λ (k : ℕ). Differ x k) e a.0
-    others (z ∷ zs) a y (suc k, l, e) = others zs a.1 y (k, omega (arith, l), e)
+distinct-pairs (x ∷ xs) d = AllPairs-cons Differ x xs (λ i d' l. all_at (Differ x) xs d.0 _ (Contains-get_or xs i d' l)) (distinct-pairs xs d.1)
 
 -- ---- the types of an interface alone
 
@@ -103,38 +97,8 @@ module _ (r : Resolve) (v : IsValid r) (i : InterfaceId) (def : Interface) (home
           absurd (omega (arith, a, one-of weigh own-numbers n (in-numbers n (h.met n c)), types-weigh, light))
       lacks (a_request q c u) = none-in q c
 
--- ---- named types of these interfaces
-
--- the numbers of an interface's types
-abbrev type-numbers : Resolve → ℕ → List ℕ
-type-numbers r j = option_map_or (λ d. instance_numbers r d []) (interface_at r j) []
-
--- the number is that of a type, and stands in the instance type of one of these interfaces
-abbrev StandsIn : Resolve → List ℕ → ℕ → Type 0
-StandsIn r js n = (d : TypeDef) × (type_at r n ≡ Some d) × (j : ℕ) × Contains js j × Contains (type-numbers r j) n
-
-types-least : (r : Resolve) (j : ℕ) → sum_by (number_weight r (as_interface j)) (type-numbers r j) ≤ types_instance_weight r j
+types-least : (r : Resolve) (j : ℕ) → sum_by (number_weight r (as_interface j)) (numbers-of r (λ d. []) j) ≤ types_instance_weight r j
 types-least r j = search std_rules
-
-numbers-weigh : (r : Resolve) (js ns : List ℕ) → AllPairs Differ ns → ((n : ℕ) → Contains ns n → StandsIn r js n) → each ns ≤ sum_by (types_instance_weight r) js
-numbers-weigh r [] [] apart h = omega arith
-numbers-weigh r [] (n ∷ ns) apart h = none-in (h n (0, omega arith, refl)).2 (h n (0, omega arith, refl)).3
-numbers-weigh r (j ∷ js) ns apart h =
-    let own = type-numbers r j in
-    let first = filter (has own) ns in
-    let others = filter (λ n. not (has own n)) ns in
-    let rest = numbers-weigh r js others (AllPairs-filter Differ (λ n. not (has own n)) ns apart) (λ n c. later n c (h n (from-filter (λ n. not (has own n)) ns n c))) in
-    let heavy = each-least (number_weight r (as_interface j)) first (λ n c. let x = h n (from-filter (has own) ns n c) in number-least r (as_interface j) n x.0 x.1) in
-    let inside = sum-among (number_weight r (as_interface j)) first own (AllPairs-filter Differ (has own) ns apart)
-    (λ n c. has-contains own n (All-contains (λ n. has own n ≡ true) first n (filter_passes (has own) ns) c)) in
-    let both = sum_by-filter_both (has own) (λ n. not (has own n)) (λ n. refl) (λ n. 64) ns in
-    omega (arith, rest, heavy, inside, types-least r j, both, sum_by-cons (types_instance_weight r) j js)
-  where
-    later : (n : ℕ) → Contains (filter (λ n. not (has (type-numbers r j) n)) ns) n → StandsIn r (j ∷ js) n → StandsIn r js n
-    later n c (d, at, k, (zero, l, e), there) =
-        let out = All-contains (λ n. not (has (type-numbers r j) n) ≡ true) (filter (λ n. not (has (type-numbers r j) n)) ns) n (filter_passes (λ n. not (has (type-numbers r j) n)) ns) c in
-        cc (contains-has (type-numbers r j) n (subst (λ (m : ℕ). Contains (type-numbers r m) n) (sym e) there))
-    later n c (d, at, k, (suc p, l, e), there) = (d, at, k, (p, omega (arith, l), e), there)
 
 -- ---- the whole
 
@@ -166,27 +130,13 @@ module _ (r : Resolve) (v : IsValid r) (i : InterfaceId) (named : is_some (inter
   path-fits : (canonical : Bool) (n : ℕ) → path-weight n ≤ limit → fits_name (name_of_interface r canonical n) ≡ true
   path-fits canonical n low =
       let is : path-weight n ≡ 64 + long (interface_path r n) = refl in
-      name-fits (name_of_interface r canonical n) (long (interface_path r n))
-      (written-long r n canonical) (omega arith) (suffix-long r n canonical) (omega arith) (omega (arith, low, is))
-
-  stands-in : (n : ℕ) → IsNamedTypeOf r ns n → StandsIn r ns n
-  stands-in n t = (t.def, t.there, t.interface.0, t.among, subst (λ (o : Option Interface). Contains (option_map_or (λ d. instance_numbers r d []) o []) n) (sym found.1) inside)
-    where
-      found : (d : Interface) × (interface_at r t.interface.0 ≡ Some d)
-      found = found-in r.interfaces.items t.interface.0 (subst (λ (o : TypeOwner). owner_in_range r o ≡ true) t.owned (valid-owner_in_range r v n t.def t.there))
-
-      owned : same_owner t.def.owner (owner.Interface t.interface) ≡ true
-      owned = subst (λ (o : TypeOwner). same_owner o (owner.Interface t.interface) ≡ true) (sym t.owned) (same-number t.interface.0)
-
-      inside : Contains (instance_numbers r found.0 []) n
-      inside = contains-once _ n (Contains-append_left (interface_type_numbers found.0) _ n ((interface-owner r v t.interface found.0 found.1).listed n t.def t.there t.named_ owned))
+      name-fits (name_of_interface r canonical n) (long (interface_path r n)) (written-long r n canonical) (omega arith) (suffix-long r n canonical) (omega arith) (omega (arith, low, is))
 
   imports-fit : total ≤ limit → ImportsLackRoom r ns → ⊥
-  imports-fit light (an_interface m def c at lacks) =
-      types-fit r v m def at (omega (arith, one-of (types_instance_weight r) ns m.0 c, types-within, light)) lacks
+  imports-fit light (an_interface m def c at lacks) = types-fit r v m def at (omega (arith, one-of (types_instance_weight r) ns m.0 c, types-within, light)) lacks
   imports-fit light (a_path canonical n c unfit) = cc (path-fits canonical n (omega (arith, one-of path-weight ns n c, paths-within, light)))
   imports-fit light (too_many brought are many) =
-      let types = numbers-weigh r ns brought are.different (λ n c. stands-in n (are.all n c)) in
+      let types = numbers-weigh r (λ d. []) (types_instance_weight r) (types-least r) ns brought are.different (λ n c. named-stands r (λ d. []) v ns n (are.all n c)) in
       let each-one = at-least (λ (n : ℕ). 64) brought (λ n c. omega arith) in
       absurd (omega (arith, types, types-within, each-one, paths-within, at-least path-weight ns (λ n c. omega arith), many, light))
 
@@ -196,9 +146,6 @@ module _ (r : Resolve) (v : IsValid r) (i : InterfaceId) (named : is_some (inter
   component-fits light (of_path canonical unfit) = cc (path-fits canonical i.0 (omega (arith, paths-within, light)))
 
 pub lacking-components-heavy : LackingComponentsAreHeavy
-lacking-components-heavy r i ns v named reaches lacks = by-order (nat_lt limit (interface_weight r i.0)) refl
-  where
-    by-order : (b : Bool) → nat_lt limit (interface_weight r i.0) ≡ b → limit < interface_weight r i.0
-    by-order true f = ltb-true limit (interface_weight r i.0) f
-    by-order false f = let is = weight-is r v i named ns reaches in
-        absurd (component-fits r v i named ns reaches (omega (arith, ltb-false limit (interface_weight r i.0) f, is)) lacks)
+lacking-components-heavy r i ns v named reaches lacks =
+    let no : interface_weight r i.0 ≤ limit → ⊥ = λ l. let is = weight-is r v i named ns reaches in component-fits r v i named ns reaches (omega (arith, l, is)) lacks in
+    omega (arith, no)

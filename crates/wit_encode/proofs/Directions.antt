@@ -1,7 +1,8 @@
 -- Imports and exports of a component type, in order: what declarations add to them, and that no import stands behind an export.
-use Rattle.std.proofs.Common.{rules as std_rules, ◌≡◌, refl, sym, subst, ap, ◌∙◌, append-nil, append_assoc, ℕ, zero, suc, ◌+◌, ◌⊎◌, inl, inr, List, [], ◌∷◌, ◌++◌, map, Option, Some, None, slice_get, length, length-append, arith}
-use Rattle.std.proofs.lemmas.{List.map-append, Option.same_Some as some-same}
-use Rattle.std.specs.{Prelude.not, Prelude.◌==◌, List.list_any}
+use Rattle.std.proofs.Common.{rules as std_rules, ◌≡◌, refl, sym, subst, ap, ◌∙◌, append-nil, append_assoc, ℕ, zero, suc, ◌+◌, ◌*◌, ◌⊎◌, inl, inr, List, [], ◌∷◌, ◌++◌, map, Option, Some, None, slice_get, length, length-append, arith}
+use Rattle.std.proofs.lemmas.{List.map-append, Option.same_Some as some-same, List.Elements.Contains-append_left, List.Elements.Contains-append_right}
+use Rattle.std.proofs.lemmas.List.Sums.{sum_by-append, sum_by-cons}
+use Rattle.std.specs.{Prelude.not, Prelude.◌==◌, List.list_any, List.Contains, List.sum_by}
 use Rattle.wit_model.specs.Tree.{Place}
 use Rattle.wit_model.specs.declared.model.{Resolve.Resolve, World.World}
 use Rattle.comp_bytes.specs.declared.forms.ComponentTypeRef.{ComponentTypeRef}
@@ -11,7 +12,7 @@ use Rattle.comp_meaning.proofs.FollowLemmas.{provided_is as unprovided}
 use Rattle.encode_types.specs.{Known.Around, View.Told}
 use Rattle.encode_names.specs.WorldSteps.{Entry, Entries, declared_towards, with_entry}
 use Rattle.wit_encode.specs.{Encoders.declared_after, WholeWorlds.direction_of, WholeWorlds.directions_of, WholeWorlds.imports_first, WorldAliases.KeepsListed}
-use Rattle.wit_encode.specs.{Places.GrowsBy, WorldItems.IsNext, Worlds.BeginsWith, Worlds.KeepsTold, Worlds.direction_at}
+use Rattle.wit_encode.specs.{Places.GrowsBy, WorldItems.IsNext, WorldItems.all_done, WorldRoom.entries_in, Worlds.BeginsWith, Worlds.KeepsTold, Worlds.direction_at}
 use Rattle.wit_encode.proofs.Steps.{unbind}
 use Rattle.base_lemmas.proofs.Lists.{map_of_map}
 use Rattle.comp_bytes.specs.declared.forms.ComponentTypeRef.TheVariants as refs
@@ -38,8 +39,7 @@ towards-direction export_ name described = refl
 pub order-next : (r : Resolve) (w : World) (direction : Direction) (done : Entries) (x : Entry) → IsNext r w direction done x → (outer outer' : Declarations) (name : ExternName)
     (described : ComponentTypeRef) → directions_of outer' ≡ directions_of (declared_after outer (declared_towards direction name described)) → directions_of outer ≡ imports_first done.0 done.1
     → directions_of outer' ≡ imports_first (with_entry direction done x).0 (with_entry direction done x).1
-order-next r w direction done x n outer outer' name described is before =
-    search (std_rules, directions-more, towards-direction, append-nil, map-append, append_assoc)
+order-next r w direction done x n outer outer' name described is before = search (std_rules, directions-more, towards-direction, append-nil, map-append, append_assoc)
 
 -- ---- what an encoder of a world keeps
 
@@ -67,48 +67,29 @@ begins-here imports exports outer is = record { more = []; are = is ∙ sym (num
 
 -- ---- how many imports and exports are seen
 
-imports_in : List Direction → ℕ
-imports_in [] = 0
-imports_in (import_ ∷ ds) = suc (imports_in ds)
-imports_in (export_ ∷ ds) = imports_in ds
+abbrev as_import : Direction → ℕ
+as_import import_ = 1
+as_import export_ = 0
 
-exports_in : List Direction → ℕ
-exports_in [] = 0
-exports_in (import_ ∷ ds) = exports_in ds
-exports_in (export_ ∷ ds) = suc (exports_in ds)
-
-imports-both : (xs ys : List Direction) → imports_in (xs ++ ys) ≡ imports_in xs + imports_in ys
-unfolding imports_in
-imports-both [] ys = omega arith
-imports-both (import_ ∷ xs) ys = omega (arith, imports-both xs ys)
-imports-both (export_ ∷ xs) ys = imports-both xs ys
-
-exports-both : (xs ys : List Direction) → exports_in (xs ++ ys) ≡ exports_in xs + exports_in ys
-unfolding exports_in
-exports-both [] ys = omega arith
-exports-both (import_ ∷ xs) ys = exports-both xs ys
-exports-both (export_ ∷ xs) ys = omega (arith, exports-both xs ys)
+abbrev as_export : Direction → ℕ
+as_export import_ = 0
+as_export export_ = 1
 
 -- from one scope to another so many imports and exports have been seen
 abbrev Sees : Scope → Scope → List Direction → Type 0
-Sees s s' ds = (length s'.imports ≡ length s.imports + imports_in ds) × (length s'.exports ≡ length s.exports + exports_in ds)
+Sees s s' ds = (length s'.imports ≡ length s.imports + sum_by as_import ds) × (length s'.exports ≡ length s.exports + sum_by as_export ds)
 
 sees : (direction : Direction) (seen : Seen) (s : Scope) → Sees s (see direction seen s) (direction ∷ [])
-unfolding imports_in exports_in
 sees import_ seen s = (length-append s.imports (seen ∷ []), omega arith)
 sees export_ seen s = (omega arith, length-append s.exports (seen ∷ []))
 
-sees-none : (s s' : Scope) → s.imports ≡ s'.imports → s.exports ≡ s'.exports → Sees s s' []
-unfolding imports_in exports_in
-sees-none s s' i e = search std_rules
-
-sees-left : (s s' : Scope) → s ≡ s' → Sees s s' []
-sees-left s s' e = sees-none s s' (ap (λ (z : Scope). z.imports) e) (ap (λ (z : Scope). z.exports) e)
+-- the same imports and exports
+sees-left : (s t s' : Scope) → t ≡ s' → s.imports ≡ t.imports → s.exports ≡ t.exports → Sees s s' []
+sees-left s t s' same i e = (omega (arith, ap (λ (z : Scope). length z.imports) same, ap length i), omega (arith, ap (λ (z : Scope). length z.exports) same, ap length e))
 
 view-seen : (direction : Direction) (name : ExternName) (n : ℕ) (s s' : Scope) (key : Key) (o : Option View)
     → (o >>= λ view. Some (see direction (record { key = key_text key; shown = Shown.instance key view; external_id = name.external_id })
-    (record s { instances = s.instances ++ record { interface = interface_of key; view = view } ∷ []; used = s.used ++ n ∷ [] }))) ≡ Some s'
-    → Sees s s' (direction ∷ [])
+    (record s { instances = s.instances ++ record { interface = interface_of key; view = view } ∷ []; used = s.used ++ n ∷ [] }))) ≡ Some s' → Sees s s' (direction ∷ [])
 view-seen direction name n s s' key None e = absurd cc
 view-seen direction name n s s' key (Some view) e =
     let t : Scope = record s { instances = s.instances ++ record { interface = interface_of key; view = view } ∷ []; used = s.used ++ n ∷ [] } in
@@ -121,8 +102,7 @@ instance-seen direction name n s s' e =
     view-seen direction name n s s' a.item (when (not (list_any (λ m. m == n) s.used)) (used_view s.slots (place_of (interface_of a.item)) (slice_get s.slots n))) a.then
 
 function-seen : (direction : Direction) (name : ExternName) (n : ℕ) (s s' : Scope) → see_function direction name n s ≡ Some s' → Sees s s' (direction ∷ [])
-function-seen direction name n s s' e =
-    subst (λ (z : Scope). Sees s z (direction ∷ [])) (unprovided _ _ s' (unbind (function_in (slice_get s.slots n)) _ s' e).then) (sees direction _ s)
+function-seen direction name n s s' e = subst (λ (z : Scope). Sees s z (direction ∷ [])) (unprovided _ _ s' (unbind (function_in (slice_get s.slots n)) _ s' e).then) (sees direction _ s)
 
 type-seen : (name : ExternName) (described : ComponentTypeRef) (s s' : Scope) → see_type name described s ≡ Some s' → Sees s s' (import_ ∷ [])
 type-seen name described s s' e =
@@ -130,15 +110,9 @@ type-seen name described s s' e =
     subst (λ (z : Scope). Sees s z (import_ ∷ [])) (unprovided _ _ s' a.then) (sees import_ _ (in_scope a.item.1 s))
 
 step-seen : (s s' : Scope) (d : Declaration) → component_step s d ≡ Some s' → Sees s s' (direction_of d)
-step-seen s s' (Declaration.defined q) e =
-    let same = some-same _ s' (unbind (definition s.slots q) _ s' e).then in
-    sees-none s s' (ap (λ (z : Scope). z.imports) same) (ap (λ (z : Scope). z.exports) same)
-step-seen s s' (Declaration.function q) e =
-    let same = some-same _ s' (unbind (function_signature s.slots q) _ s' e).then in
-    sees-none s s' (ap (λ (z : Scope). z.imports) same) (ap (λ (z : Scope). z.exports) same)
-step-seen s s' (Declaration.alias_of (Alias.of_export m name)) e =
-    let same = some-same _ s' (unbind (exported_slot name (slice_get s.instances m)) _ s' e).then in
-    sees-none s s' (ap (λ (z : Scope). z.imports) same) (ap (λ (z : Scope). z.exports) same)
+step-seen s s' (Declaration.defined q) e = sees-left s _ s' (some-same _ s' (unbind (definition s.slots q) _ s' e).then) refl refl
+step-seen s s' (Declaration.function q) e = sees-left s _ s' (some-same _ s' (unbind (function_signature s.slots q) _ s' e).then) refl refl
+step-seen s s' (Declaration.alias_of (Alias.of_export m name)) e = sees-left s _ s' (some-same _ s' (unbind (exported_slot name (slice_get s.instances m)) _ s' e).then) refl refl
 step-seen s s' (Declaration.alias_of (Alias.of_outer scopes n)) e = absurd cc
 step-seen s s' (Declaration.imported name (refs.Instance n)) e = instance-seen import_ name n s s' e
 step-seen s s' (Declaration.imported name (refs.Func n)) e = function-seen import_ name n s s' e
@@ -150,13 +124,12 @@ step-seen s s' _ e = absurd cc
 
 -- one after the other
 steps-seen : (s s' : Scope) (ds : Declarations) → component_steps s ds ≡ Some s' → Sees s s' (directions_of ds)
-steps-seen s s' Declarations.no_more e = sees-left s s' (some-same s s' e)
+steps-seen s s' Declarations.no_more e = sees-left s s s' (some-same s s' e) refl refl
 steps-seen s s' (Declarations.declares d rest) e =
     let b = unbind (component_step s d) _ s' e in
     let one = step-seen s b.item d b.is in
     let more = steps-seen b.item s' rest b.then in
-    let imports = imports-both (direction_of d) (directions_of rest) in
-    (omega (arith, one.0, more.0, imports), omega (arith, one.1, more.1, exports-both (direction_of d) (directions_of rest)))
+    (omega (arith, one.0, more.0, sum_by-append as_import (direction_of d) (directions_of rest)), omega (arith, one.1, more.1, sum_by-append as_export (direction_of d) (directions_of rest)))
 steps-seen s s' (Declarations.component inner rest) e = absurd cc
 steps-seen s s' (Declarations.instance inner rest) e =
     let b = unbind (flat inner) _ s' e in
@@ -164,23 +137,17 @@ steps-seen s s' (Declarations.instance inner rest) e =
 
 -- ---- no import behind an export
 
-all-imports : (ds : List Direction) (more : List Entry) → imports_in ds ≡ length more → exports_in ds ≡ 0 → ds ≡ map (λ (e : Entry). import_) more
-unfolding imports_in exports_in
+all-imports : (ds : List Direction) (more : List Entry) → sum_by as_import ds ≡ length more → sum_by as_export ds ≡ 0 → ds ≡ map (λ (e : Entry). import_) more
 all-imports [] [] i e = refl
 all-imports [] (x ∷ more) i e = absurd (omega (arith, i))
-all-imports (import_ ∷ ds) [] i e = absurd (omega (arith, i))
-all-imports (import_ ∷ ds) (x ∷ more) i e = ap (λ (xs : List Direction). import_ ∷ xs) (all-imports ds more (omega (arith, i)) e)
-all-imports (export_ ∷ ds) more i e = absurd (omega (arith, e))
+all-imports (import_ ∷ ds) [] i e = absurd (omega (arith, i, sum_by-cons as_import import_ ds))
+all-imports (import_ ∷ ds) (x ∷ more) i e =
+    ap (λ (xs : List Direction). import_ ∷ xs) (all-imports ds more (omega (arith, i, sum_by-cons as_import import_ ds)) (omega (arith, e, sum_by-cons as_export import_ ds)))
+all-imports (export_ ∷ ds) more i e = absurd (omega (arith, e, sum_by-cons as_export export_ ds))
 
-first-imports : (imports : List Entry) → (imports_in (map (λ (e : Entry). import_) imports) ≡ length imports) × (exports_in (map (λ (e : Entry). import_) imports) ≡ 0)
-unfolding imports_in exports_in
-first-imports [] = (refl, refl)
-first-imports (x ∷ imports) = let more = first-imports imports in (ap suc more.0, more.1)
-
-then-exports : (exports : List Entry) → (imports_in (map (λ (e : Entry). export_) exports) ≡ 0) × (exports_in (map (λ (e : Entry). export_) exports) ≡ length exports)
-unfolding imports_in exports_in
-then-exports [] = (refl, refl)
-then-exports (x ∷ exports) = let more = then-exports exports in (more.0, ap suc more.1)
+alike : (f : Direction → ℕ) (d : Direction) (es : List Entry) → sum_by f (map (λ (e : Entry). d) es) ≡ f d * length es
+alike f d [] = omega arith
+alike f d (x ∷ es) = omega (arith, alike f d es, sum_by-cons f d (map (λ (e : Entry). d) es))
 
 -- Behind imports and then exports, with so many imports more: these come last, where there was no export or there are none.
 pub order-then : (s s' : Scope) (outer : Declarations) (imports exports more : List Entry) → component_steps s outer ≡ Some s' → s.imports ≡ [] → s.exports ≡ []
@@ -191,24 +158,44 @@ order-then s s' outer imports exports more followed no_imports no_exports begins
     is : directions_of outer ≡ imports_first imports exports ++ begins.more
     is = begins.are ∙ ap (λ (xs : List Direction). xs ++ begins.more) (numbers-told imports exports)
 
+    counts : (f : Direction → ℕ) → sum_by f (directions_of outer) ≡ (f import_ * length imports + f export_ * length exports) + sum_by f begins.more
+    counts f = omega (
+      arith,
+      ap (sum_by f) is,
+      sum_by-append f (imports_first imports exports) begins.more,
+      sum_by-append f (map (λ (e : Entry). import_) imports) (map (λ (e : Entry). export_) exports),
+      alike f import_ imports,
+      alike f export_ exports,
+    )
+
     others : begins.more ≡ map (λ (e : Entry). import_) more
     others =
         let seen = steps-seen s s' outer followed in
-        let first = first-imports imports in
-        let later = then-exports exports in
-        let both_imports = imports-both (map (λ (e : Entry). import_) imports) (map (λ (e : Entry). export_) exports) in
-        let both_exports = exports-both (map (λ (e : Entry). import_) imports) (map (λ (e : Entry). export_) exports) in
-        let all_imports = ap imports_in is ∙ imports-both (imports_first imports exports) begins.more in
-        let all_exports = ap exports_in is ∙ exports-both (imports_first imports exports) begins.more in
-        all-imports begins.more more (omega (arith, seen.0, ap length no_imports, first.0, later.0, both_imports, all_imports, length-append imports more, i))
-        (omega (arith, seen.1, ap length no_exports, first.1, later.1, both_exports, all_exports, e))
+        all-imports begins.more more (omega (arith, seen.0, ap length no_imports, counts as_import, length-append imports more, i)) (omega (arith, seen.1, ap length no_exports, counts as_export, e))
 
     by : (exports ≡ []) ⊎ (more ≡ []) → imports_first imports exports ++ map (λ (e : Entry). import_) more ≡ imports_first (imports ++ more) exports
-    by (inl none) =
-        ap (λ (es : List Entry). imports_first imports es ++ map (λ (e : Entry). import_) more) none
-        ∙ ap (λ (xs : List Direction). xs ++ map (λ (e : Entry). import_) more) (append-nil (map (λ (e : Entry). import_) imports))
-        ∙ sym (map-append (λ (e : Entry). import_) imports more) ∙ sym (append-nil (map (λ (e : Entry). import_) (imports ++ more)))
-        ∙ ap (λ (es : List Entry). imports_first (imports ++ more) es) (sym none)
-    by (inr none) =
-        ap (λ (es : List Entry). imports_first imports exports ++ map (λ (e : Entry). import_) es) none ∙ append-nil (imports_first imports exports)
-        ∙ ap (λ (es : List Entry). imports_first es exports) (sym (append-nil imports) ∙ ap (λ (es : List Entry). imports ++ es) (sym none))
+    by (inl none) = simp (none, append-nil, map-append)
+    by (inr none) = simp (none, append-nil)
+
+-- ---- the entries of a world
+
+-- they are those that have been encoded, the next one, and others
+pub next-among : (r : Resolve) (w : World) (direction : Direction) (done : Entries) (x : Entry) → IsNext r w direction done x → (rest : List Entry) × (entries_in w ≡ all_done done ++ x ∷ rest)
+next-among r w import_ done x n =
+    let same : done.0 ≡ all_done done = sym (append-nil done.0) ∙ ap (λ es. done.0 ++ es) (sym n.begun) in
+    (n.rest ++ w.exports.entries, ap (λ es. es ++ w.exports.entries) n.next ∙ (append_assoc done.0 (x ∷ n.rest) w.exports.entries ∙ ap (λ es. es ++ (x ∷ (n.rest ++ w.exports.entries))) same))
+next-among r w export_ done x n =
+    let same : w.imports.entries ++ done.1 ≡ all_done done = ap (λ es. es ++ done.1) (sym n.begun) in
+    (n.rest, ap (λ es. w.imports.entries ++ es) n.next ∙ (sym (append_assoc w.imports.entries done.1 (x ∷ n.rest)) ∙ ap (λ es. es ++ (x ∷ n.rest)) same))
+
+-- with the next one they are one more
+pub done-next : (r : Resolve) (w : World) (direction : Direction) (done : Entries) (x : Entry) → IsNext r w direction done x → all_done (with_entry direction done x) ≡ all_done done ++ x ∷ []
+done-next r w import_ done x n = let none : done.1 ≡ [] = n.begun in simp (none, append-nil)
+done-next r w export_ done x n = sym (append_assoc done.0 done.1 (x ∷ []))
+
+module _ (r : Resolve) (w : World) (direction : Direction) (done : Entries) (x : Entry) (n : IsNext r w direction done x) where
+  pub next-entry : Contains (entries_in w) x
+  next-entry = let m = next-among r w direction done x n in subst (λ (es : List Entry). Contains es x) (sym m.1) (Contains-append_right (all_done done) (x ∷ m.0) x (zero, omega arith, refl))
+
+  pub done-entry : (y : Entry) → Contains (all_done done) y → Contains (entries_in w) y
+  done-entry y c = let m = next-among r w direction done x n in subst (λ (es : List Entry). Contains es y) (sym m.1) (Contains-append_left (all_done done) (x ∷ m.0) y c)

@@ -1,6 +1,6 @@
 -- An interface meets types of its own, and types of interfaces that it uses: where these stand around, all of it can be encoded.
 use Rattle.std.proofs.Common.{rules as std_rules, ◌≡◌, refl, sym, subst, ap, ◌∙◌, ℕ, suc, Bool, true, false, not, cond, ◌&&◌, ◌||◌, ◌==◌, List, [], ◌∷◌, map, length, option_to_list, Option, Some, String, is_some, arith}
-use Rattle.std.proofs.lemmas.{Bool.lt-ltb, Bool.and_from as both, Simd.map-map, Option.same_Some as some-same}
+use Rattle.std.proofs.lemmas.{Bool.lt-ltb, Simd.map-map, Option.same_Some as some-same}
 use Rattle.std.specs.declared.alloc.Global.{Global}
 use Rattle.std.specs.{List.Contains, List.list_all, Option.option_map_or, Prelude.option_map, Prelude.option_and_then, Str.bytes_eq, HashMap.get_by_text}
 use Rattle.std.specs.Map.{lookup}
@@ -21,7 +21,7 @@ use Rattle.wit_encode.specs.Instance.{CanEncodeFunction, CanEncodeInterface, enc
 use Rattle.wit_encode.specs.OwnerScope.{IsScopeOf, IsUsedBy, UsesStand, IsTypeOf, InterfaceUses, functions_of}
 use Rattle.wit_encode.proofs.{Naming.one-home, Naming.names-agree, Opening.opened-sound, Opening.opened-around}
 use Rattle.wit_encode.proofs.{OwnerScope.types_encode, OwnerScope.types_use, OwnerScope.functions_encode, OwnerScope.functions_use, Validity.valid-layered}
-use Rattle.base_lemmas.proofs.{Bools.left_of as first_true, Bools.right_of as second_true, Options.there as some-of}
+use Rattle.base_lemmas.proofs.{Bools.left_of as first_true, Bools.right_of as second_true, Options.there as some-of, Elements.all_pass}
 use Rattle.base_lemmas.proofs.{Elements.all-contained, Elements.contains-map, Elements.last_of as one-contained, Numbers.equal as equal-numbers}
 use Rattle.encode_shown.proofs.Members.{valid-listed}
 use Rattle.wit_model.specs.declared.model.TypeOwner.TheVariants as owner
@@ -65,17 +65,9 @@ abbrev UsesOther : Resolve → TypeDef → InterfaceId → Type 0
 UsesOther r def i = (m : ℕ) × (used_interface r def ≡ Some m) × ((m == i.0) ≡ false)
 
 -- a use is one
+-- a use is one
 used-other : (r : Resolve) (def : TypeDef) (i : InterfaceId) → def.owner ≡ owner.Interface i → is_use r def ≡ true → UsesOther r def i
 used-other r def i own h = search std_rules
-
--- ---- numbers in a list
-
-all-from : (p : ℕ → Bool) (ns : List ℕ) → ((n : ℕ) → Contains ns n → p n ≡ true) → list_all p ns ≡ true
-all-from p [] h = refl
-all-from p (n ∷ ns) h = both (p n) (list_all p ns) (h n (0, omega arith, refl)) (all-from p ns (λ m c. h m (suc c.0, omega (arith, c.1), c.2)))
-
-has-all : (ns : List ℕ) → list_all (has ns) ns ≡ true
-has-all ns = all-from (has ns) ns (contains-has ns)
 
 module _ (r : Resolve) (v : IsValid r) (i : InterfaceId) (home : Interface) (there : interface_at r i.0 ≡ Some home) where
   abbrev own : TypeOwner
@@ -113,8 +105,7 @@ module _ (r : Resolve) (v : IsValid r) (i : InterfaceId) (home : Interface) (the
 
   ranges : (list_all (λ id. in_list r.types.items id.0) (values home.types) && list_all (function_in_range r) (values home.functions)) ≡ true
   unfolding numbers_in_range
-  ranges = second_true (passes (in_list r.packages.items) (package_number home.package)) _
-      (second_true (is_place i.0) _ (interface_passes numbers_in_range r v.rules.numbers_in_range i.0 home there))
+  ranges = second_true (passes (in_list r.packages.items) (package_number home.package)) _ (second_true (is_place i.0) _ (interface_passes numbers_in_range r v.rules.numbers_in_range i.0 home there))
 
   types-inside : (t : TypeId) → Contains (values home.types) t → in_list r.types.items t.0 ≡ true
   types-inside t c = all-contained (λ id. in_list r.types.items id.0) (values home.types) t (first_true (list_all (λ id. in_list r.types.items id.0) (values home.types)) _ ranges) c
@@ -126,7 +117,7 @@ module _ (r : Resolve) (v : IsValid r) (i : InterfaceId) (home : Interface) (the
   is_dep m = (m == i.0) || has (direct_deps r i.0) m
 
   all-deps : list_all (λ id. list_all is_dep (option_to_list (interface_used_by r id.0))) (values home.types) ≡ true
-  all-deps = deps_pass (has (direct_deps r i.0)) r i.0 home there ∙ has-all (direct_deps r i.0)
+  all-deps = deps_pass (has (direct_deps r i.0)) r i.0 home there ∙ all_pass (has (direct_deps r i.0)) (direct_deps r i.0) (contains-has (direct_deps r i.0))
 
   dep-there : (n : ℕ) (def : TypeDef) (name : String Global) → type_at r n ≡ Some def → def.name ≡ Some name → def.owner ≡ own → (m : ℕ) → used_interface r def ≡ Some m → (m == i.0) ≡ false
       → Contains (direct_deps r i.0) m
@@ -152,12 +143,7 @@ module _ (r : Resolve) (v : IsValid r) (i : InterfaceId) (home : Interface) (the
   type-of t c =
       let found = found-in r.types.items t.0 (types-inside t c) in
       let listed = listed-own t c found.0 found.1 in
-      record {
-        def = found.0;
-        there = found.1;
-        named_ = first_true (is_some found.0.name) _ listed;
-        owned = same-owner found.0.owner own (second_true (is_some found.0.name) _ listed);
-      }
+      record { def = found.0; there = found.1; named_ = first_true (is_some found.0.name) _ listed; owned = same-owner found.0.owner own (second_true (is_some found.0.name) _ listed) }
 
   function-of : (f : Function) → Contains (functions_of_interface home) f → Contains (functions_of r own) f
   function-of f c = subst (λ (o : Option Interface). Contains (option_map_or functions_of_interface o []) f) (sym there) c
@@ -168,14 +154,7 @@ module _ (r : Resolve) (v : IsValid r) (i : InterfaceId) (home : Interface) (the
 
     -- the scope of the interface is that of its owner
     pub opened-scope : IsScopeOf r own scope
-    opened-scope = record {
-      packages_ = refl;
-      place_ = refl;
-      own = refl;
-      declares = own-there;
-      names = names-agree r v (is_met_owner r own) (one-home r v own);
-      sound = opened-sound r outer i known;
-    }
+    opened-scope = record { packages_ = refl; place_ = refl; own = refl; declares = own-there; names = names-agree r v (is_met_owner r own) (one-home r v own); sound = opened-sound r outer i known }
 
     module _ (around : UsedStand r (standing_instances r (around_at outer known)) i.0) where
       uses : UsesStand r own scope
@@ -205,12 +184,9 @@ valid-encodable r v outer i known def there around = record {
 
 -- a primitive type can be encoded in any scope of valid packages
 pub primitive-encodes : (r : Resolve) → IsValid r → (s : Scope) → s.packages ≡ r → CanEncode r s (ty.U32 ∷ [])
-primitive-encodes r v s p = record {
-  packages_ = p;
-  layered = valid-layered r v;
-  in_range = λ t h id e. absurd (cc (one-contained ty.U32 t h ∙ e));
-  fits = λ t h n k. absurd (nothing-reached t n (one-contained ty.U32 t h) k);
-}
+primitive-encodes r v s p =
+    let layered = valid-layered r v in
+    record { packages_ = p; layered = layered; in_range = λ t h id e. absurd (cc (one-contained ty.U32 t h ∙ e)); fits = λ t h n k. absurd (nothing-reached t n (one-contained ty.U32 t h) k) }
   where
     nothing-reached : (t : ValueType) (n : ℕ) → ty.U32 ≡ t → Reaches r s.own_interface t n → ⊥
     nothing-reached _ _ e (itself id) = cc

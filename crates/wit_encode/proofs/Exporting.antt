@@ -5,7 +5,7 @@ use Rattle.std.proofs.lemmas.{List.Sorted.IsPermutation-sym, List.Sorted.Contain
 use Rattle.std.proofs.Math.ListN.{get_or-map}
 use Rattle.std.proofs.lemmas.List.Elements.{Contains-append_left, Contains-append_right, Contains-append_cases, Contains-push, Contains-push_cases}
 use Rattle.std.specs.declared.alloc.Global.{Global}
-use Rattle.std.specs.{Prelude.AllPairs, Prelude.is_none, Prelude.IsPermutation, List.Contains, List.IsDistinct, List.AllByRecursion, List.list_all, Map.keys_of}
+use Rattle.std.specs.{Prelude.AllPairs, Prelude.is_none, Prelude.IsPermutation, List.Contains, List.IsDistinct, List.list_all, Map.keys_of}
 use Rattle.std.specs.{Str.bytes_eq, Option.option_map_or}
 use Rattle.indexmap.specs.IndexMap.{values}
 use Rattle.wit_model.specs.Text.{Text, text_of, text_eq}
@@ -26,9 +26,11 @@ use Rattle.encode_types.proofs.{Pairs.pairs-across, Pairs.pairs-right, Tables.pa
 use Rattle.wit_encode.proofs.Numbers.{once-before, gives-none, gives-one, one-mapped}
 use Rattle.wit_encode.proofs.ListedTypes.{IsListedType, numbers, owned-listed, listed-type, type-there, number-there, listed-once, listed-key, uses-before}
 use Rattle.wit_encode.proofs.Meeting.{AllMeetKnown, part-uses, meets-unnamed}
+use Rattle.base_lemmas.proofs.Lists.{get_back}
+use Rattle.std.proofs.lemmas.Option.{slice_get-map}
 use Rattle.encode_shown.proofs.Basics.{valid-references}
 use Rattle.base_lemmas.proofs.{Bools.left_of as first_true, Bools.right_of as second_true, Lists.nothing-mapped, Numbers.equal, Numbers.same-number}
-use Rattle.base_lemmas.proofs.Elements.{all-contained, contains-map, contains-one, last_of as one-contained, map_from as contains-mapped}
+use Rattle.base_lemmas.proofs.Elements.{all-contained, contains-map, contains-one, last_of as one-contained, map_from as contains-mapped, all_at_too}
 use Rattle.wit_model.specs.declared.model.«Type».TheVariants as ty
 
 -- ---- what is learnt
@@ -36,8 +38,7 @@ use Rattle.wit_model.specs.declared.model.«Type».TheVariants as ty
 -- no number has been learnt twice
 pub learnt-apart : (m m' : TypeEncodingMaps) (learnt : List (ℕ × ℕ)) → IsOnce m' → IsPermutation (m.id_to_index.entries ++ learnt) m'.id_to_index.entries
     → AllPairs (λ a b. nat_eq a.0 b.0 ≡ false) (m.id_to_index.entries ++ learnt)
-learnt-apart m m' learnt once p =
-    pairs-permuted (λ (a b : ℕ × ℕ). nat_eq a.0 b.0 ≡ false) (λ a b e. nat_eq_equiv.symm b.0 a.0 ∙ e) m'.id_to_index.entries (m.id_to_index.entries ++ learnt)
+learnt-apart m m' learnt once p = pairs-permuted (λ (a b : ℕ × ℕ). nat_eq a.0 b.0 ≡ false) (λ a b e. nat_eq_equiv.symm b.0 a.0 ∙ e) m'.id_to_index.entries (m.id_to_index.entries ++ learnt)
     (IsPermutation-sym (m.id_to_index.entries ++ learnt) m'.id_to_index.entries p) once.numbers
 
 -- what is known was, or has been learnt
@@ -50,10 +51,7 @@ was-or-learnt m m' learnt p x c = Contains-append_cases m.id_to_index.entries le
 pub learnt-one : (P : ℕ → Type 0) (m m' : TypeEncodingMaps) (learnt : List (ℕ × ℕ)) → IsOnce m' → IsPermutation (m.id_to_index.entries ++ learnt) m'.id_to_index.entries
     → LearnsOnly P m m' → (x : ℕ × ℕ) → Contains learnt x → P x.0
 learnt-one P m m' learnt once e l x c = elim (l.each x.0 x.1
-    (Contains-permutation (m.id_to_index.entries ++ learnt) m'.id_to_index.entries x e (Contains-append_right m.id_to_index.entries learnt x c))) [
-      | inl q ↦ absurd (twice q)
-      | inr p ↦ p
-    ]
+    (Contains-permutation (m.id_to_index.entries ++ learnt) m'.id_to_index.entries x e (Contains-append_right m.id_to_index.entries learnt x c))) [ inl q ↦ absurd (twice q) | inr p ↦ p ]
   where
     twice : Contains m.id_to_index.entries x → ⊥
     twice q =
@@ -77,8 +75,7 @@ function-unnamed r v scope m f known n (t, c, meets) = meets-unnamed r (valid-re
     met : AllMeetKnown r (valid-references r v) scope m t
     met id q def at home x d = known x (contains-flat (met_by (met_of r)) (function_numbers f) id.0 x
         (Contains-append_left (filter_map number_of (function_types f)) (option_to_list (resource_of f.kind)) id.0
-        (contains-filter_map number_of (function_types f) (ty.Id id) id.0 (subst (λ (u : ValueType). Contains (function_types f) u) q c) (contains-one id.0)))
-        d)
+        (contains-filter_map number_of (function_types f) (ty.Id id) id.0 (subst (λ (u : ValueType). Contains (function_types f) u) q c) (contains-one id.0))) d)
 
 functions-stay : (r : Resolve) → IsValid r → (i : ℕ) (interface : Interface) → interface_at r i ≡ Some interface
     → list_all (function_stays r (as_interface i)) (functions_of_interface interface) ≡ true
@@ -118,17 +115,48 @@ unique-entry {V} (x ∷ xs) h j k a b p q same = go (λ j k p q. unique-entry xs
     equal-keys : (c d : String Global) → text_of c ≡ text_of d → string_eq c d ≡ true
     equal-keys c d e = subst (λ (t : Text). bytes_eq (string_bytes c) t ≡ true) e (nat_list_eq_equiv.refl (string_bytes c))
 
-    apart : (es : List (String Global × V)) (n : ℕ) (y : String Global × V) → AllByRecursion (λ key. string_eq x.0 key ≡ false) (keys_of es) → slice_get es n ≡ Some y
-        → text_of x.0 ≡ text_of y.0 → ⊥
-    apart [] n y all e s = cc
-    apart (z ∷ zs) zero y all e s = cc (sym (equal-keys x.0 y.0 s) ∙ (ap (λ (w : String Global × V). string_eq x.0 w.0) (sym (same-some z y e)) ∙ all.0))
-    apart (z ∷ zs) (suc n) y all e s = apart zs n y all.1 e s
+    apart : (n : ℕ) (y : String Global × V) → slice_get xs n ≡ Some y → text_of x.0 ≡ text_of y.0 → ⊥
+    apart n y e s = cc (sym (equal-keys x.0 y.0 s) ∙ all_at_too (λ key. string_eq x.0 key ≡ false) (keys_of xs) h.0 n y.0
+        (slice_get-map (λ (w : String Global × V). w.0) xs n ∙ ap (option_map (λ w. w.0)) e))
 
     go : ((j k : ℕ) → slice_get xs j ≡ Some a → slice_get xs k ≡ Some b → a ≡ b) → (j k : ℕ) → slice_get (x ∷ xs) j ≡ Some a → slice_get (x ∷ xs) k ≡ Some b → a ≡ b
     go rest zero zero p q = sym (same-some x a p) ∙ same-some x b q
-    go rest zero (suc k) p q = absurd (apart xs k b h.0 q (ap (λ (w : String Global × V). text_of w.0) (same-some x a p) ∙ same))
-    go rest (suc j) zero p q = absurd (apart xs j a h.0 p (ap (λ (w : String Global × V). text_of w.0) (same-some x b q) ∙ sym same))
+    go rest zero (suc k) p q = absurd (apart k b q (ap (λ (w : String Global × V). text_of w.0) (same-some x a p) ∙ same))
+    go rest (suc j) zero p q = absurd (apart j a p (ap (λ (w : String Global × V). text_of w.0) (same-some x b q) ∙ sym same))
     go rest (suc j) (suc k) p q = rest j k p q
+
+-- a type, what the parts of which meet is known
+module _ (r : Resolve) (v : IsValid r) (scope : Scope) (m : TypeEncodingMaps) (id : TypeId) (def : TypeDef) (there : type_at r id.0 ≡ Some def)
+    (before : (part : TypeId) → Contains (parts_of def.kind) (ty.Id part) → (def' : TypeDef) → type_at r part.0 ≡ Some def' → foreign_owner scope.own_interface def'.owner ≡ None → (x : ℕ)
+    → Contains (met_by (met_of r) part.0) x → IsKnown m x) where
+  -- no other named type of the place is met by way of unknown numbers
+  meets-no-other : (t : ValueType) (n : ℕ) → t ≡ ty.Id id → Meets r scope.own_interface m t n → (n ≡ id.0 → ⊥) → own_name r scope n ≡ None
+  meets-no-other _ _ q (at_once id' lacks) other = absurd (other (ap (λ (x : TypeId). x.0) cc))
+  meets-no-other _ _ q (further id' def' t n lacks is f c more) other = meets-unnamed r (valid-references r v) scope m t n parts more
+    where
+      same : id' ≡ id
+      same = cc
+
+      its : def' ≡ def
+      its = same-some def' def (sym is ∙ ap (λ (x : TypeId). type_at r x.0) same ∙ there)
+
+      parts : AllMeetKnown r (valid-references r v) scope m t
+      parts part q' = before part (subst (λ (z : TypeDef). Contains (parts_of z.kind) (ty.Id part)) its (subst (λ (u : ValueType). Contains (parts_of def'.kind) u) q' c))
+
+  pub met-no-other : (n : ℕ) → MetFrom r scope.own_interface m (ty.Id id ∷ []) n → (n ≡ id.0 → ⊥) → own_name r scope n ≡ None
+  met-no-other n (t, c, meets) other = meets-no-other t n (sym (one-contained (ty.Id id) t c)) meets other
+
+  -- named, and not known yet
+  module _ (name : Text) (named : own_name r scope id.0 ≡ Some name) (fresh : IsKnown m id.0 → ⊥) (m' : TypeEncodingMaps) (d d' : Definitions) (once : IsOnce m') (ready : IsReady m' (ty.Id id))
+      (learns : LearnsOnly (MetFrom r scope.own_interface m (ty.Id id ∷ [])) m m') (shows : Shows r scope m m' d d') where
+    itself : Contains shows.learnt (id.0, (ready id refl).0)
+    itself = elim (was-or-learnt m m' shows.learnt shows.numbers (id.0, (ready id refl).0) (ready id refl).1) [ inl q ↦ absurd (fresh ((ready id refl).0, q)) | inr q ↦ q ]
+
+    -- its name alone has been learnt
+    pub one-name : filter_map (λ x. own_name r scope x.0) shows.learnt ≡ name ∷ []
+    one-name = gives-one (λ (x : ℕ × ℕ). x.0) (λ x. own_name r scope x.0) id.0 name shows.learnt
+        (pairs-right (λ (a b : ℕ × ℕ). nat_eq a.0 b.0 ≡ false) m.id_to_index.entries shows.learnt (learnt-apart m m' shows.learnt once shows.numbers)) (λ x q. ap (own_name r scope) q ∙ named)
+        (λ x c other. met-no-other x.0 (learnt-one (MetFrom r scope.own_interface m (ty.Id id ∷ [])) m m' shows.learnt once shows.numbers learns x c) other) (id.0, (ready id refl).0) itself refl
 
 module _ (r : Resolve) (v : IsValid r) (scope : Scope) (id : InterfaceId) (interface : Interface) (own : scope.own_interface ≡ Some id)
     (there : interface_at r id.0 ≡ Some interface) (declares : scope.declarations ≡ (interface_meaning_at r id.0).types) where
@@ -143,10 +171,7 @@ module _ (r : Resolve) (v : IsValid r) (scope : Scope) (id : InterfaceId) (inter
 
   pub ends : (k : ℕ) (m : TypeEncodingMaps) (d : Definitions) → length (values interface.types) ≤ k → ShowsFirst r scope (values interface.types) k m d
       → AllKnown m (values interface.types) × (d.exports ≡ scope.declarations)
-  ends k m d le s = (
-    (λ t c. s.known t (subst (λ (xs : List TypeId). Contains xs t) (sym (take_all k (values interface.types) le)) c)),
-    s.exported ∙ take_all k scope.declarations within,
-  )
+  ends k m d le s = ((λ t c. s.known t (subst (λ (xs : List TypeId). Contains xs t) (sym (take_all k (values interface.types) le)) c)), s.exported ∙ take_all k scope.declarations within)
     where
       within : length scope.declarations ≤ k
       within =
@@ -169,8 +194,7 @@ module _ (r : Resolve) (v : IsValid r) (scope : Scope) (id : InterfaceId) (inter
     named = ap (option_and_then (name_of_own scope)) entry.there ∙ (λ i. cond (is_none (home i)) (option_map text_of (entry.named_ i)) None)
       where
         home : foreign_owner scope.own_interface entry.def.owner ≡ None
-        home =
-            (λ i. foreign_owner (own i) (same-owner entry.def.owner (as_interface id.0) entry.owned i)) ∙ ap (λ b. cond b None (Some id)) (same-number id.0)
+        home = (λ i. foreign_owner (own i) (same-owner entry.def.owner (as_interface id.0) entry.owned i)) ∙ ap (λ b. cond b None (Some id)) (same-number id.0)
 
     -- and isn't known yet
     fresh : IsKnown m e.1.0 → ⊥
@@ -184,50 +208,21 @@ module _ (r : Resolve) (v : IsValid r) (scope : Scope) (id : InterfaceId) (inter
         unnamed : Some (text_of entry.name) ≡ None → ⊥
         unnamed q = cc
 
-    -- no other named type of the place is met by way of unknown numbers
-    meets-no-other : (t : ValueType) (n : ℕ) → t ≡ ty.Id e.1 → Meets r scope.own_interface m t n → (n ≡ e.1.0 → ⊥) → own_name r scope n ≡ None
-    meets-no-other _ _ q (at_once id' lacks) other = absurd (other (ap (λ (x : TypeId). x.0) cc))
-    meets-no-other _ _ q (further id' def t n lacks is f c more) other = meets-unnamed r (valid-references r v) scope m t n parts more
-      where
-        same : id' ≡ e.1
-        same = cc
-
-        its : def ≡ entry.def
-        its = same-some def entry.def (sym is ∙ ap (λ (x : TypeId). type_at r x.0) same ∙ entry.there)
-
-        parts : AllMeetKnown r (valid-references r v) scope m t
-        parts part q' def' at' home x met =
-            let stands : Contains (parts_of entry.def.kind) (ty.Id part) = subst (λ (z : TypeDef). Contains (parts_of z.kind) (ty.Id part)) its
-            (subst (λ (u : ValueType). Contains (parts_of def.kind) u) q' c) in
-            elim (uses-before r v id.0 interface there k e at entry) [
-              | inl before ↦ known-before x (before x (part-uses r (valid-references r v) entry.def part x stands met))
-              | inr apart ↦ absurd (apart part stands def' at' (ap (λ o. foreign_owner o def'.owner) (sym own) ∙ home))
-            ]
-
-    met-no-other : (n : ℕ) → MetFrom r scope.own_interface m (ty.Id e.1 ∷ []) n → (n ≡ e.1.0 → ⊥) → own_name r scope n ≡ None
-    met-no-other n (t, c, meets) other = meets-no-other t n (sym (one-contained (ty.Id e.1) t c)) meets other
+    -- what its parts meet is known
+    parts-known : (part : TypeId) → Contains (parts_of entry.def.kind) (ty.Id part) → (def' : TypeDef) → type_at r part.0 ≡ Some def' → foreign_owner scope.own_interface def'.owner ≡ None → (x : ℕ)
+        → Contains (met_by (met_of r) part.0) x → IsKnown m x
+    parts-known part stands def' at' home x met = elim (uses-before r v id.0 interface there k e at entry) [
+      | inl before ↦ known-before x (before x (part-uses r (valid-references r v) entry.def part x stands met))
+      | inr apart ↦ absurd (apart part stands def' at' (ap (λ o. foreign_owner o def'.owner) (sym own) ∙ home))
+    ]
 
     module _ (once : IsOnce m') (grow : MapsGrow m m') (ready : IsReady m' (ty.Id e.1)) (learns : LearnsOnly (MetFrom r scope.own_interface m (ty.Id e.1 ∷ [])) m m')
         (shows : Shows r scope m m' d d') where
-      met-learnt : (x : ℕ × ℕ) → Contains shows.learnt x → MetFrom r scope.own_interface m (ty.Id e.1 ∷ []) x.0
-      met-learnt = learnt-one (MetFrom r scope.own_interface m (ty.Id e.1 ∷ [])) m m' shows.learnt once shows.numbers learns
-
-      -- its number has been learnt
-      itself : Contains shows.learnt (e.1.0, (ready e.1 refl).0)
-      itself = elim (was-or-learnt m m' shows.learnt shows.numbers (e.1.0, (ready e.1 refl).0) (ready e.1 refl).1) [
-        | inl q ↦ absurd (fresh ((ready e.1 refl).0, q))
-        | inr q ↦ q
-      ]
-
-      one-name : filter_map (λ x. own_name r scope x.0) shows.learnt ≡ text_of entry.name ∷ []
-      one-name = gives-one (λ (x : ℕ × ℕ). x.0) (λ x. own_name r scope x.0) e.1.0 (text_of entry.name) shows.learnt
-          (pairs-right (λ (a b : ℕ × ℕ). nat_eq a.0 b.0 ≡ false) m.id_to_index.entries shows.learnt (learnt-apart m m' shows.learnt once shows.numbers))
-          (λ x q. ap (own_name r scope) q ∙ named) (λ x c other. met-no-other x.0 (met-learnt x c) other) (e.1.0, (ready e.1 refl).0) itself refl
-
       -- its declaration has been exported
       one-shown : shows.shown ≡ declaration e ∷ []
       one-shown =
-          let one = one-mapped (λ (x : Text × TypeMeaning). x.0) shows.shown (text_of entry.name) (shows.names ∙ one-name) in
+          let one = one-mapped (λ (x : Text × TypeMeaning). x.0) shows.shown (text_of entry.name)
+          (shows.names ∙ one-name r v scope m e.1 entry.def entry.there parts-known (text_of entry.name) named fresh m' d d' once ready learns shows) in
           let among = contains-mapped declaration interface.types.entries one.0
           (subst (λ (xs : List (Text × TypeMeaning)). Contains xs one.0) declarations-are
           (shows.declared one.0 (subst (λ (xs : List (Text × TypeMeaning)). Contains xs one.0) (sym one.1) (contains-one one.0)))) in
@@ -240,13 +235,11 @@ module _ (r : Resolve) (v : IsValid r) (scope : Scope) (id : InterfaceId) (inter
       within = slice_get_within interface.types.entries k e at
 
       types-more : take (k + 1) (values interface.types) ≡ take k (values interface.types) ++ e.1 ∷ []
-      types-more =
-          take_more (values interface.types) k e.1 (slice_get_within (values interface.types) k e.1 (type-there r v id.0 interface there k e at))
+      types-more = take_more (values interface.types) k e.1 (slice_get_within (values interface.types) k e.1 (type-there r v id.0 interface there k e at))
           ∙ ap (λ x. take k (values interface.types) ++ x ∷ []) (get_or_from_slice_get (values interface.types) k e.1 e.1 (type-there r v id.0 interface there k e at))
 
       declarations-more : take (k + 1) scope.declarations ≡ take k scope.declarations ++ declaration e ∷ []
-      declarations-more =
-          take_more scope.declarations k (declaration e) (omega (arith, within, ap length declarations-are, length-map interface.types.entries declaration))
+      declarations-more = take_more scope.declarations k (declaration e) (omega (arith, within, ap length declarations-are, length-map interface.types.entries declaration))
           ∙ ap (λ x. take k scope.declarations ++ x ∷ []) (ap (λ xs. get_or xs k (declaration e)) declarations-are ∙ get_or-map declaration interface.types.entries k e
           ∙ ap declaration (get_or_from_slice_get interface.types.entries k e e at))
 
@@ -266,24 +259,18 @@ module _ (r : Resolve) (v : IsValid r) (scope : Scope) (id : InterfaceId) (inter
         exported = shows.exports ∙ (λ j. first.exported j ++ one-shown j) ∙ sym declarations-more;
       }
         where
-          new : (t : TypeId) (i : ℕ) → Contains shows.learnt (t.0, i) → (b : Bool) → (t.0 == e.1.0) ≡ b → (own_name r scope t.0 ≡ None)
-              ⊎ Contains (take (k + 1) (values interface.types)) t
+          new : (t : TypeId) (i : ℕ) → Contains shows.learnt (t.0, i) → (b : Bool) → (t.0 == e.1.0) ≡ b → (own_name r scope t.0 ≡ None) ⊎ Contains (take (k + 1) (values interface.types)) t
           new t i q true s =
               let same : e.1 ≡ t = ap (λ n. record { 0 = n }) (sym (equal t.0 e.1.0 s)) in
               inr (subst (λ (xs : List TypeId). Contains xs t) (sym types-more)
               (subst (λ (x : TypeId). Contains (take k (values interface.types) ++ e.1 ∷ []) x) same (Contains-push (take k (values interface.types)) e.1)))
-          new t i q false s = inl (met-no-other t.0 (met-learnt (t.0, i) q) (λ same. differ same))
+          new t i q false s = inl (met-no-other r v scope m e.1 entry.def entry.there parts-known t.0
+              (learnt-one (MetFrom r scope.own_interface m (ty.Id e.1 ∷ [])) m m' shows.learnt once shows.numbers learns (t.0, i) q) differ)
             where
               differ : t.0 ≡ e.1.0 → ⊥
               differ same = cc (sym (subst (λ (n : ℕ). (t.0 == n) ≡ true) same (same-number t.0)) ∙ s)
 
 -- ---- the types of the place
-
-entry-of : (es : List (String Global × TypeId)) (k : ℕ) (t : TypeId) → slice_get (map (λ x. x.1) es) k ≡ Some t
-    → (e : String Global × TypeId) × (slice_get es k ≡ Some e) × (e.1 ≡ t)
-entry-of [] k t h = absurd cc
-entry-of (e ∷ es) zero t h = (e, refl, same-some e.1 t h)
-entry-of (e ∷ es) (suc k) t h = entry-of es k t h
 
 module _ (r : Resolve) (v : IsValid r) (scope : Scope) (types : List TypeId) (of : AreTypesOf r scope.own_interface types)
     (declares : scope.declarations ≡ declarations_in r scope.own_interface) where
@@ -293,21 +280,17 @@ module _ (r : Resolve) (v : IsValid r) (scope : Scope) (types : List TypeId) (of
   pub exports-start : (m : TypeEncodingMaps) (d : Definitions) → m.id_to_index.entries ≡ [] → d.exports ≡ [] → ShowsFirst r scope types 0 m d
   exports-start m d e f = subst (λ (ts : List TypeId). ShowsFirst r scope ts 0 m d) (sym of.listed) (starts r v scope of.id of.def of.is of.there here m d e f)
 
-  pub exports-end : (k : ℕ) (m : TypeEncodingMaps) (d : Definitions) → length types ≤ k → ShowsFirst r scope types k m d
-      → AllKnown m types × (d.exports ≡ declarations_in r scope.own_interface)
+  pub exports-end : (k : ℕ) (m : TypeEncodingMaps) (d : Definitions) → length types ≤ k → ShowsFirst r scope types k m d → AllKnown m types × (d.exports ≡ declarations_in r scope.own_interface)
   exports-end k m d le s =
       let done = ends r v scope of.id of.def of.is of.there here k m d (subst (λ (ts : List TypeId). length ts ≤ k) of.listed le)
       (subst (λ (ts : List TypeId). ShowsFirst r scope ts k m d) of.listed s) in
       (subst (λ (ts : List TypeId). AllKnown m ts) (sym of.listed) done.0, done.1 ∙ declares)
 
-  pub exports-next : (k : ℕ) (t : TypeId) → slice_get types k ≡ Some t → (scope' : Scope) → scope' ≡ scope → (m m' : TypeEncodingMaps) (d d' : Definitions)
-      → ShowsFirst r scope types k m d → IsOnce m' → MapsGrow m m' → IsReady m' (ty.Id t)
-      → LearnsOnly (MetFrom r scope'.own_interface m (ty.Id t ∷ [])) m m' → Shows r scope' m m' d d' → ShowsFirst r scope types (k + 1) m' d'
+  pub exports-next : (k : ℕ) (t : TypeId) → slice_get types k ≡ Some t → (scope' : Scope) → scope' ≡ scope → (m m' : TypeEncodingMaps) (d d' : Definitions) → ShowsFirst r scope types k m d → IsOnce m'
+      → MapsGrow m m' → IsReady m' (ty.Id t) → LearnsOnly (MetFrom r scope'.own_interface m (ty.Id t ∷ [])) m m' → Shows r scope' m m' d d' → ShowsFirst r scope types (k + 1) m' d'
   exports-next k t at scope' same m m' d d' first once grow ready learns shows =
-      let e = entry-of of.def.types.entries k t (ap (λ ts. slice_get ts k) (sym of.listed) ∙ at) in
+      let e = get_back (λ (x : String Global × TypeId). x.1) of.def.types.entries k t (ap (λ ts. slice_get ts k) (sym of.listed) ∙ at) in
       subst (λ (ts : List TypeId). ShowsFirst r scope ts (k + 1) m' d') (sym of.listed)
       (next r v scope of.id of.def of.is of.there here k e.0 e.1 m m' d d' (subst (λ (ts : List TypeId). ShowsFirst r scope ts k m d) of.listed first) once grow
-      (subst (λ (x : TypeId). IsReady m' (ty.Id x)) (sym e.2) ready)
-      (subst (λ (x : TypeId). LearnsOnly (MetFrom r scope.own_interface m (ty.Id x ∷ [])) m m') (sym e.2)
-      (subst (λ (s : Scope). LearnsOnly (MetFrom r s.own_interface m (ty.Id t ∷ [])) m m') same learns))
-      (subst (λ (s : Scope). Shows r s m m' d d') same shows))
+      (subst (λ (x : TypeId). IsReady m' (ty.Id x)) (sym e.2) ready) (subst (λ (x : TypeId). LearnsOnly (MetFrom r scope.own_interface m (ty.Id x ∷ [])) m m') (sym e.2)
+      (subst (λ (s : Scope). LearnsOnly (MetFrom r s.own_interface m (ty.Id t ∷ [])) m m') same learns)) (subst (λ (s : Scope). Shows r s m m' d d') same shows))

@@ -75,6 +75,5 @@ pub dependencies-light : DependenciesAreLight
 dependencies-light r i def numbers v home different met =
     let inside = sum-among (number_weight r (owner.Interface i)) numbers (instance_numbers r def []) different (λ n c. dependency.in-numbers r v i def home n (met n c)) in
     let each = each-below (number_extent r (Some i)) (number_weight r (owner.Interface i)) numbers
-    (λ n c. number-light r v (owner.Interface i) _ [] (dependency.types-owner r v i def home) (values def.types) []
-    (dependency.listed-here r v i def home) (λ f c. c) n (met n c)) in
+    (λ n c. number-light r v (owner.Interface i) _ [] (dependency.types-owner r v i def home) (values def.types) [] (dependency.listed-here r v i def home) (λ f c. c) n (met n c)) in
     omega (arith, dependency.types-weigh r v i def home)

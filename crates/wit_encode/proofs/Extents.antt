@@ -87,8 +87,7 @@ cases-short S (x ∷ xs) (c ∷ cs) h =
 
 names-short : (xs : List (Bor Text)) → length (flat_map name_bytes (map raw_text xs)) ≤ labels_extent (texts xs)
 names-short [] = omega arith
-names-short (x ∷ xs) =
-    omega (arith, names-short xs, name-short x.now, length-append (name_bytes x.now) (flat_map name_bytes (map raw_text xs)), next-label x.now (texts xs))
+names-short (x ∷ xs) = omega (arith, names-short xs, name-short x.now, length-append (name_bytes x.now) (flat_map name_bytes (map raw_text xs)), next-label x.now (texts xs))
 
 values-short : (xs : List ComponentValType) → length (flat_map value_bytes xs) ≤ 5 * length xs
 values-short [] = omega arith
@@ -114,8 +113,7 @@ defined-short S (form.Tuple xs) t h = of-tree _ t _ h.2 (
 defined-short S (form.Flags names) t h = of-tree _ t _ h (let a = vector-short name_bytes (map raw_text names.items) in let b = names-short names.items in omega arith)
 defined-short S (form.Enum names) t h = of-tree _ t _ h (omega (arith, vector-short name_bytes (map raw_text names.items), names-short names.items))
 defined-short S (form.Option x) t h = of-tree _ t _ h.2 (omega (arith, value-short x))
-defined-short S (form.Result x y) t h = of-tree _ t _ h.4 (let c =
-    length-append (optional_bytes value_bytes x) (optional_bytes value_bytes y) in omega (arith, optional-short x, optional-short y))
+defined-short S (form.Result x y) t h = of-tree _ t _ h.4 (let c = length-append (optional_bytes value_bytes x) (optional_bytes value_bytes y) in omega (arith, optional-short x, optional-short y))
 defined-short S (form.Own i) t h = of-tree _ t _ h.2 (omega (arith, u32-short i))
 defined-short S (form.Borrow i) t h = of-tree _ t _ h.2 (omega (arith, u32-short i))
 defined-short S (form.Stream x) t h = of-tree _ t _ h.2 (omega (arith, optional-short x))
@@ -134,8 +132,7 @@ attribute-extent a = 6 + length a.1
 
 each-attribute : (xs : List (ℕ × List ℕ)) → length (flat_map attribute_bytes xs) ≤ sum_by attribute-extent xs
 each-attribute [] = omega arith
-each-attribute (a ∷ xs) =
-    omega (arith, each-attribute xs, name-short a.1, length-append (attribute_bytes a) (flat_map attribute_bytes xs), sum_by-cons attribute-extent a xs)
+each-attribute (a ∷ xs) = omega (arith, each-attribute xs, name-short a.1, length-append (attribute_bytes a) (flat_map attribute_bytes xs), sum_by-cons attribute-extent a xs)
 
 attributed-short : (xs : List (ℕ × List ℕ)) (text : List ℕ) → length (attributed_bytes xs text) ≤ 11 + (length text + sum_by attribute-extent xs)
 attributed-short [] text = let name = name-short text in omega arith
@@ -206,8 +203,7 @@ pub types-light : TypesAreLight
 types-light r n def v at = by-name def.name refl
   where
     texts-are : definition_weight def ≡ (64 + (sum_by length (name_texts def) + given_length (optional_text def.external_id))) + members-weight def.kind
-    texts-are =
-        omega (arith, sum_by-append length (name_texts def) (option_to_list (optional_text def.external_id)), given-texts (optional_text def.external_id))
+    texts-are = omega (arith, sum_by-append length (name_texts def) (option_to_list (optional_text def.external_id)), given-texts (optional_text def.external_id))
 
     by-name : (name : Option (String Global)) → def.name ≡ name → tree_extent (kind_tree r def.kind) + own_name_extent r def ≤ definition_weight def
     by-name None e =

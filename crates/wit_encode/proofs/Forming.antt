@@ -42,16 +42,15 @@ module _ (r : Resolve) (resources : Names) where
 
   pub values-of : (ts : List ValueType) → list_all (λ t. not (is_resource_type r t)) ts ≡ true → Agree r resources ts → are_values resources (map (type_tree r) ts) ≡ true
   values-of [] h a = refl
-  values-of (t ∷ ts) h a =
-      search (
-        std_rules,
-        both,
-        agree-first,
-        first_true,
-        second_true,
-        agree-rest,
-        values-of ts (second_true (not (is_resource_type r t)) (list_all (λ t. not (is_resource_type r t)) ts) h) (agree-rest t ts a),
-      )
+  values-of (t ∷ ts) h a = search (
+    std_rules,
+    both,
+    agree-first,
+    first_true,
+    second_true,
+    agree-rest,
+    values-of ts (second_true (not (is_resource_type r t)) (list_all (λ t. not (is_resource_type r t)) ts) h) (agree-rest t ts a),
+  )
 
   pub optional-values : (o : Option ValueType) → list_all (λ t. not (is_resource_type r t)) (option_to_list o) ≡ true → Agree r resources (option_to_list o)
       → are_values resources (option_to_list (option_map (type_tree r) o)) ≡ true
@@ -71,8 +70,7 @@ module _ (r : Resolve) (resources : Names) where
       → is_formed resources (kind_tree r k) ≡ true
   kind-formed (kind.Record q) d s v h a = both _ _ (filled-twice (λ f. f.0) (λ f. (text_of f.name, type_tree r f.ty)) q.fields.items s)
       (by-children (map (type_tree r) (map (λ f. f.ty) q.fields.items)) _ (field-children r q.fields.items) (values-of _ v a))
-  kind-formed (kind.Variant q) d s v h a = both _ _
-      (filled-twice (λ c. (c.0, is_given c.1)) (λ c. (text_of c.name, option_map (type_tree r) c.ty)) q.cases.items s)
+  kind-formed (kind.Variant q) d s v h a = both _ _ (filled-twice (λ c. (c.0, is_given c.1)) (λ c. (text_of c.name, option_map (type_tree r) c.ty)) q.cases.items s)
       (by-children (map (type_tree r) (filter_map (λ c. c.ty) q.cases.items)) _ (case-children r q.cases.items) (values-of _ v a))
   kind-formed (kind.Flags q) d s v h a = filled-map _ q.flags.items ∙ s
   kind-formed (kind.Enum q) d s v h a = filled-map _ q.cases.items ∙ s

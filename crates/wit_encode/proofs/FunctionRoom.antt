@@ -68,8 +68,7 @@ module _ (r : Resolve) (own : Option InterfaceId) (N : Refusals) (t : Text) (f :
           | inl c ↦ inl ((keyed m once).known key (any-at (are_same key) ks found.0 c found.2))
           | inr c ↦ inr (any-at (are_same key) (key_of f ∷ []) found.0 c found.2)
         ]);
-        room = room-more refl (λ n x. x) (λ q c. Contains-append_left (its-type ∷ []) (its-name ∷ []) q c)
-            (omega (arith, entry-keys m once, length-append ks (key_of f ∷ []))) room;
+        room = room-more refl (λ n x. x) (λ q c. Contains-append_left (its-type ∷ []) (its-name ∷ []) q c) (omega (arith, entry-keys m once, length-append ks (key_of f ∷ []))) room;
       }
 
   -- its name has none, behind its type
@@ -89,9 +88,8 @@ module _ {r : Resolve} {own own' : Option InterfaceId} {N : Refusals} {ts ts' : 
     (only : LearnsOnly (ReachedFrom r own ts) a b) (reach : (n : ℕ) → ReachedFrom r own ts' n → ReachedFrom r own ts n) where
   -- one of these functions, behind others
   pub next-lacks : {i : ℕ} (fs : List Named) (g : Named) (done : List Function) → HoldsFor r own a b h h' i
-      → ((key : Key) → KnowsKey b key → KnowsKey a key ⊎ (is_member are_same (map key_of done) key ≡ true))
-      → ((f : Function) → Contains done f → Contains (map (λ (x : Named). x.1) fs) f) → Contains fs g → i + 1 ≤ length fs → LacksFunctions r own' ts' (g ∷ []) b h' h'' N
-      → LacksFunctions r own ts fs a h h'' N
+      → ((key : Key) → KnowsKey b key → KnowsKey a key ⊎ (is_member are_same (map key_of done) key ≡ true)) → ((f : Function) → Contains done f → Contains (map (λ (x : Named). x.1) fs) f)
+      → Contains fs g → i + 1 ≤ length fs → LacksFunctions r own' ts' (g ∷ []) b h' h'' N → LacksFunctions r own ts fs a h h'' N
   next-lacks {i} fs g done holds known among there many p = record {
     keys = p.keys;
     different = p.different;
@@ -104,27 +102,19 @@ module _ {r : Resolve} {own own' : Option InterfaceId} {N : Refusals} {ts ts' : 
     room = room-after e grow holds only reach (λ q c. contains-flat (function_requests r) fs g q there c) (omega (arith, many)) p.room;
   }
     where
-      keys-twice : (gs : List Named) → map key_of (map (λ (x : Named). x.1) gs) ≡ map (λ (x : Named). key_of x.1) gs
-      keys-twice [] = refl
-      keys-twice (x ∷ gs) = ap (λ ks. key_of x.1 ∷ ks) (keys-twice gs)
-
-      key-among : (ds : List Function) (gs : List Function) → ((f : Function) → Contains ds f → Contains gs f) → (k : Key) → Contains (map key_of ds) k → Contains (map key_of gs) k
-      key-among ds gs in_ k c = let x = from-map key_of ds k c in subst (Contains (map key_of gs)) x.2 (contains-map key_of gs x.0 (in_ x.0 x.1))
-
       of-done : (key : Key) → is_member are_same (map key_of done) key ≡ true → is_member are_same (map (λ (x : Named). key_of x.1) fs) key ≡ true
       of-done key m =
           let found = any-found (are_same key) (map key_of done) m in
-          any-at (are_same key) (map (λ (x : Named). key_of x.1) fs) found.0
-          (subst (λ (ks : List Key). Contains ks found.0) (keys-twice fs) (key-among done (map (λ (x : Named). x.1) fs) among found.0 found.1)) found.2
+          let f = from-map key_of done found.0 found.1 in
+          let x = from-map (λ (x : Named). x.1) fs f.0 (among f.0 f.1) in
+          any-at (are_same key) (map (λ (x : Named). key_of x.1) fs) found.0 (subst (Contains (map (λ (x : Named). key_of x.1) fs)) (ap key_of x.2 ∙ f.2)
+          (contains-map (λ (x : Named). key_of x.1) fs x.0 x.1)) found.2
 
   -- functions, behind types
   pub lacks-behind : (fs : List Named) → HoldsFor r own a b h h' 0 → ((key : Key) → KnowsKey b key → KnowsKey a key) → LacksFunctions r own' ts' fs b h' h'' N → LacksFunctions r own ts fs a h h'' N
-  lacks-behind fs holds known p = record {
-    keys = p.keys;
-    different = p.different;
-    from = λ key m. elim (p.from key m) [ inl k ↦ inl (known key k) | inr y ↦ inr y ];
-    room = room-after e grow holds only reach (λ q c. c) (omega arith) p.room;
-  }
+  lacks-behind fs holds known p =
+      let room = room-after e grow holds only reach (λ q c. c) (omega arith) p.room in
+      record { keys = p.keys; different = p.different; from = λ key m. elim (p.from key m) [ inl k ↦ inl (known key k) | inr y ↦ inr y ]; room = room }
 
 -- types, before all functions
 pub lacks-types : {r : Resolve} {own : Option InterfaceId} {N : Refusals} {ts ts' : List ValueType} {m : TypeEncodingMaps} {h h' : ℕ} (fs : List Named) → IsOnce m

@@ -1,25 +1,27 @@
 -- The keys of functions whose lists maps hold.
-use Rattle.std.proofs.Common.{rules as std_rules, ◌≡◌, refl, sym, subst, ap, ◌∙◌, ℕ, zero, suc, ◌<◌, Bool, true, false, List, [], ◌∷◌, ◌++◌, map, length, get_or, arith}
-use Rattle.std.proofs.lemmas.{List.Sorted.length_permutation, Cmp.on_equiv, Cmp.and_equiv, Cmp.lists_equiv, Map.Keys.IsDistinct-from_apart}
+use Rattle.std.proofs.Common.{rules as std_rules, ◌≡◌, refl, sym, subst, ap, ◌∙◌, ℕ, suc, ◌<◌, true, false, List, [], ◌∷◌, ◌++◌, map, length, get_or, arith, inl, inr}
+use Rattle.std.proofs.lemmas.{List.Sorted.length_permutation, Cmp.on_equiv, Cmp.and_equiv, Cmp.lists_equiv, Map.Keys.IsDistinct-from_apart, Bool.cases_Bool}
 use Rattle.std.specs.{Prelude.AllPairs, Prelude.IsPermutation, Set.is_member, Cmp.IsEquivalence, Cmp.bool_eq_equiv}
 use Rattle.std.specs.{List.Contains, List.IsDistinct, List.AllZip, Cmp.Lexicographic.pointwise, Cmp.Lexicographic.options_equiv}
 use Rattle.wit_model.specs.Text.{Text, text_of, text_eq}
 use Rattle.wit_model.specs.declared.model.{Param.Param, Resolve.Resolve}
 use Rattle.encode_types.specs.declared.{key.FunctionKey.FunctionKey, maps.TypeEncodingMaps.TypeEncodingMaps}
 use Rattle.encode_types.specs.{Key.same_type, Key.same_param, Maps.IsSomeKeyList, Maps.IsOnce, Maps.NamesGrow, Maps.MapsAgree, Maps.by_key, Counts.key_slots}
-use Rattle.encode_types.specs.{KeyLaws.type_equiv, KeyLaws.param_equiv, KeyLaws.text_same, Slots.Pairs, Slots.function}
+use Rattle.encode_types.specs.{KeyLaws.type_equiv, KeyLaws.param_equiv, KeyLaws.text_same, Slots.Pairs, Slots.function, Maps.LearnsOnly, Maps.IsKnown}
 use Rattle.encode_types.specs.Codes.{type_code, Names, IsTable, AreListed, IsListed, names_of, lists_of, ListKey}
 use Rattle.encode_types.specs.Distinct.{Key, key_view, are_same, KnowsKey, signature_of_key, function_slots, StandForKeys}
 use Rattle.comp_bytes.specs.Raw.{Declarations}
 use Rattle.encode_types.proofs.{Lists.none-in, EqualLists.keys-of-lists, EqualLists.lists-of-keys, EqualLists.key-shrink, EqualLists.async-same as async-alike}
 use Rattle.encode_types.proofs.{KindLaws.same_types, KindLaws.optional_same, Tables.key-grow}
-use Rattle.base_lemmas.proofs.{Bools.left_of as first_true, Bools.right_of as second_true, Elements.any-at, Elements.any-contains as any-found}
+use Rattle.base_lemmas.proofs.{Bools.left_of as first_true, Bools.right_of as second_true, Elements.any-at, Elements.any-contains as any-found, Elements.zip_at}
+use Rattle.base_lemmas.proofs.Elements.{zip_at_right, zip_long, get-contains}
+use Rattle.wit_model.proofs.Elements.{contains-get}
+use Rattle.std.proofs.lemmas.Option.{slice_get-get_or, get_or_from_slice_get}
 
 -- ---- keys and their lists
 
 pub same_equiv : IsEquivalence are_same
-same_equiv = and_equiv (on_equiv (λ k. k.is_async) bool_eq_equiv) (and_equiv (on_equiv (λ k. k.params) (lists_equiv param_equiv))
-    (on_equiv (λ k. k.result_type) (options_equiv type_equiv)))
+same_equiv = and_equiv (on_equiv (λ k. k.is_async) bool_eq_equiv) (and_equiv (on_equiv (λ k. k.params) (lists_equiv param_equiv)) (on_equiv (λ k. k.result_type) (options_equiv type_equiv)))
 
 abbrev pub HasList : Names → Key → List ℕ → Type 0
 HasList names k xs = IsListed names k.is_async k.params k.result_type xs
@@ -72,12 +74,14 @@ knows-along m m' e n k (xs, i, l, c) = search std_rules
 pub knows-none : (m : TypeEncodingMaps) (k : Key) → m.func_type_map.entries ≡ [] → KnowsKey m k → ⊥
 knows-none m k e (xs, i, l, c) = none-in (xs, i) (subst (λ (es : List (ListKey × ℕ)). Contains (map {B = List ℕ × ℕ} (λ e. (e.0.0.items, e.1)) es) (xs, i)) e c)
 
+-- where nothing was known, what is has been learnt
+pub learnt-all : (P : ℕ → Type 0) (m m' : TypeEncodingMaps) → m.id_to_index.entries ≡ [] → LearnsOnly P m m' → (n : ℕ) → IsKnown m' n → P n
+learnt-all P m m' empty only n known = elim (only.each n known.0 known.1) [ inl old ↦ none-in (n, known.0) (subst (λ (es : List (ℕ × ℕ)). Contains es (n, known.0)) empty old) | inr learnt ↦ learnt ]
+
 -- ---- one key for each entry
 
 abbrev pub AreKeysOf : Names → List Key → List (List ℕ × ℕ) → Type 0
-AreKeysOf names [] [] = Unit {0}
-AreKeysOf names (k ∷ ks) (e ∷ es) = HasList names k e.0 × AreKeysOf names ks es
-AreKeysOf names _ _ = ⊥
+AreKeysOf names ks es = AllZip (λ k e. HasList names k e.0) ks es
 
 keys-at : (names : Names) (es : List (List ℕ × ℕ)) → ((xs : List ℕ) (i : ℕ) → Contains es (xs, i) → IsSomeKeyList names xs) → (ks : List Key) × AreKeysOf names ks es
 keys-at names [] h = ([], tt)
@@ -86,45 +90,36 @@ keys-at names (e ∷ es) h =
     let more = keys-at names es (λ xs i c. h xs i (suc c.0, omega (arith, c.1), c.2)) in
     (key_view x.key ∷ more.0, (x.is, more.1))
 
-keys-long : (names : Names) (ks : List Key) (es : List (List ℕ × ℕ)) → AreKeysOf names ks es → length ks ≡ length es
-keys-long names [] [] h = refl
-keys-long names [] (e ∷ es) h = absurd h
-keys-long names (k ∷ ks) [] h = absurd h
-keys-long names (k ∷ ks) (e ∷ es) h = ap suc (keys-long names ks es h.1)
+module _ (names : Names) (ks : List Key) (es : List (List ℕ × ℕ)) (h : AreKeysOf names ks es) where
+  key-at : (i : ℕ) (d : Key) (e : List ℕ × ℕ) → i < length ks → HasList names (get_or ks i d) (get_or es i e).0
+  key-at i d e l =
+      let x = zip_at (λ k e. HasList names k e.0) ks es h i (get_or ks i d) (slice_get-get_or ks i d l) in
+      subst (λ (y : List ℕ × ℕ). HasList names (get_or ks i d) y.0) (sym (get_or_from_slice_get es i x.0 e x.1)) x.2
 
-key-at : (names : Names) (ks : List Key) (es : List (List ℕ × ℕ)) → AreKeysOf names ks es → (i : ℕ) (d : Key) (e : List ℕ × ℕ) → i < length ks → HasList names (get_or ks i d) (get_or es i e).0
-key-at names [] es h i d e l = absurd (omega (arith, l))
-key-at names (k ∷ ks) [] h i d e l = absurd h
-key-at names (k ∷ ks) (x ∷ es) h zero d e l = h.0
-key-at names (k ∷ ks) (x ∷ es) h (suc i) d e l = key-at names ks es h.1 i d e (omega (arith, l))
+  key-there : (k : Key) → Contains ks k → (e : List ℕ × ℕ) × Contains es e × HasList names k e.0
+  key-there k c =
+      let at = contains-get ks k c in
+      let x = zip_at (λ k e. HasList names k e.0) ks es h at.0 k at.1 in
+      (x.0, get-contains es at.0 x.0 x.1, x.2)
 
-key-there : (names : Names) (ks : List Key) (es : List (List ℕ × ℕ)) → AreKeysOf names ks es → (k : Key) → Contains ks k → (e : List ℕ × ℕ) × Contains es e × HasList names k e.0
-key-there names [] es h k c = none-in k c
-key-there names (x ∷ ks) [] h k c = absurd h
-key-there names (x ∷ ks) (e ∷ es) h k (zero, l, q) = (e, (0, omega arith, refl), subst (λ (z : Key). HasList names z e.0) q h.0)
-key-there names (x ∷ ks) (e ∷ es) h k (suc i, l, q) = let more = key-there names ks es h.1 k (i, omega (arith, l), q) in
-    (more.0, (suc more.1.0, omega (arith, more.1.1), more.1.2), more.2)
-
-list-there : (names : Names) (ks : List Key) (es : List (List ℕ × ℕ)) → AreKeysOf names ks es → (e : List ℕ × ℕ) → Contains es e → (k : Key) × Contains ks k × HasList names k e.0
-list-there names ks [] h e c = none-in e c
-list-there names [] (x ∷ es) h e c = absurd h
-list-there names (k ∷ ks) (x ∷ es) h e (zero, l, q) = (k, (0, omega arith, refl), subst (λ (z : List ℕ × ℕ). HasList names k z.0) q h.0)
-list-there names (k ∷ ks) (x ∷ es) h e (suc i, l, q) = let more = list-there names ks es h.1 e (i, omega (arith, l), q) in
-    (more.0, (suc more.1.0, omega (arith, more.1.1), more.1.2), more.2)
+  list-there : (e : List ℕ × ℕ) → Contains es e → (k : Key) × Contains ks k × HasList names k e.0
+  list-there e c =
+      let at = contains-get es e c in
+      let x = zip_at_right (λ k e. HasList names k e.0) ks es h at.0 e at.1 in
+      (x.0, get-contains ks at.0 x.0 x.1, x.2)
 
 keys-apart : (names : Names) → IsTable names → (ks : List Key) (es : List (List ℕ × ℕ)) → AreKeysOf names ks es → AllPairs (λ x y. x.0 ≡ y.0 → ⊥) es → AllPairs (λ x y. are_same x y ≡ false) ks
-keys-apart names t ks es h p i j d l n = go (are_same (get_or ks i d) (get_or ks j d)) refl
+keys-apart names t ks es h p i j d l n = elim (cases_Bool (are_same (get_or ks i d) (get_or ks j d))) [
+  | inl e ↦ absurd (p i j none l (omega (arith, long, n))
+      (lists-alike names (get_or ks i d) (get_or ks j d) (get_or es i none).0 (get_or es j none).0 t (key-at names ks es h i d none (omega (arith, l, n))) (key-at names ks es h j d none n) e))
+  | inr e ↦ e
+]
   where
     long : length ks ≡ length es
-    long = keys-long names ks es h
+    long = zip_long (λ k e. HasList names k e.0) ks es h
 
     none : List ℕ × ℕ
     none = ([], 0)
-
-    go : (b : Bool) → are_same (get_or ks i d) (get_or ks j d) ≡ b → are_same (get_or ks i d) (get_or ks j d) ≡ false
-    go false e = e
-    go true e = absurd (p i j none l (omega (arith, long, n))
-        (lists-alike names (get_or ks i d) (get_or ks j d) (get_or es i none).0 (get_or es j none).0 t (key-at names ks es h i d none (omega (arith, l, n))) (key-at names ks es h j d none n) e))
 
 -- These keys, no two of them the same, are those that the maps know.
 pub record Keyed (m : TypeEncodingMaps) : Type 0 where
@@ -144,7 +139,7 @@ keyed m once =
     record {
       keys = ks;
       lists = made.1;
-      count = keys-long names ks es made.1;
+      count = zip_long (λ k e. HasList names k e.0) ks es made.1;
       different = IsDistinct-from_apart are_same ks (keys-apart names once.names_.table ks es made.1 once.keys);
       known = λ q h.
           let found = any-found (are_same q) ks h in
@@ -181,10 +176,4 @@ stand-for-keys r S m m' k declared agree none added is p = record {
 
 -- there are as many of them as keys
 pub slots-many : (r : Resolve) (S : Pairs) (m : TypeEncodingMaps) (k : Keyed m) (declared : Declarations) → StandForKeys r S k.keys declared → length (function_slots declared) ≡ length k.keys
-slots-many r S m k declared s = sym (length_permutation (function_slots declared) s.slots s.all) ∙ sym (zip-long k.keys s.slots s.stand)
-  where
-    zip-long : (ks : List Key) (is : List ℕ) → AllZip (λ k i. S i (function (signature_of_key r k))) ks is → length ks ≡ length is
-    zip-long [] [] h = refl
-    zip-long [] (i ∷ is) h = absurd h
-    zip-long (k ∷ ks) [] h = absurd h
-    zip-long (k ∷ ks) (i ∷ is) h = ap suc (zip-long ks is h.1)
+slots-many r S m k declared s = sym (length_permutation (function_slots declared) s.slots s.all) ∙ sym (zip_long (λ k i. S i (function (signature_of_key r k))) k.keys s.slots s.stand)

@@ -1,8 +1,8 @@
 -- Interfaces imported one after the other, in the order in which they are reached.
-use Rattle.std.proofs.Common.{rules as std_rules, ◌≡◌, refl, sym, subst, ap, ◌∙◌, ℕ, zero, suc, ◌+◌, ◌<◌, ◌≤◌, ◌==◌, nat_lt, Bool, true, false, not, map, get_or, option_map, List, [], ◌∷◌, ◌++◌, length, take, append_assoc, Option, Some, None, slice_get, is_some, option_and_then, arith}
+use Rattle.std.proofs.Common.{rules as std_rules, ◌≡◌, refl, sym, subst, ap, ◌∙◌, ℕ, zero, suc, ◌+◌, ◌<◌, ◌≤◌, ◌==◌, Bool, true, false, not, map, get_or, option_map, List, [], ◌∷◌, ◌++◌, length, take, append_assoc, Option, Some, None, slice_get, is_some, option_and_then, arith}
 use Rattle.std.proofs.{lemmas.List.Elements.Contains-append_left, Math.ListN.length-map, lemmas.List.take_all, lemmas.Map.Steps.length-le_from_distinct_below}
-use Rattle.std.proofs.lemmas.{Option.slice_get_within, Option.slice_get-map, Option.slice_get-get_or, Option.same_Some as same-some, Bool.ltb-false}
-use Rattle.std.specs.List.{AllByRecursion, Contains, IsDistinct, list_any}
+use Rattle.std.proofs.lemmas.{Option.slice_get_within, Option.slice_get-map, Option.slice_get-get_or, Option.same_Some as same-some}
+use Rattle.std.specs.List.{Contains, IsDistinct, list_any}
 use Rattle.wit_model.specs.{Lookup.interface_at, Lookup.interface_path, Lookup.path_of_interface, Valid.IsValid, Valid.is_place, Valid.numbers_in_range}
 use Rattle.wit_model.specs.Uses.{direct_deps}
 use Rattle.wit_model.specs.declared.model.{Resolve.Resolve, Interface.Interface, InterfaceId.InterfaceId}
@@ -15,6 +15,11 @@ use Rattle.wit_encode.specs.{DependencyCounts.DefinesImports, WrittenNames.Names
 use Rattle.wit_encode.specs.{DependencyAliases.HasImportAliases, DependencyRoom.HoldsImports, DependencyRoom.ImportsLackRoom, DependencyRoom.LacksImport}
 use Rattle.wit_encode.proofs.{DependencyAliases.import-aliased, DependencyHolding.import-defines, DependencyHolding.import-few, DependencyHolding.next-lacks}
 use Rattle.wit_encode.proofs.{Imported.imports_grow, ImportsStand.imports_stand, UsedPaths.used-path, WrittenNames.imports-named}
+use Rattle.base_lemmas.proofs.Lists.{take_found}
+use Rattle.std.proofs.lemmas.Bool.{lt-ltb}
+use Rattle.std.proofs.Common.{drop}
+use Rattle.std.proofs.lemmas.List.{length-take-le, take-append-drop}
+use Rattle.base_lemmas.proofs.Elements.{all_at_too}
 use Rattle.encode_shown.proofs.Dependencies.{distinct-front}
 use Rattle.base_lemmas.proofs.{Bools.left_of as first_true, Elements.any-contains, Numbers.equal, Numbers.same-number, Options.there as some-of, Lists.at_last, Elements.get-contains}
 use Rattle.std.proofs.Math.Seq.{take-append_seam}
@@ -37,22 +42,13 @@ unfolding IsDistinct
 not-before [] k n d e c = cc
 not-before (x ∷ ns) zero n d e c = none-in n c
 not-before (x ∷ ns) (suc k) n d e (suc j, l, q) = not-before ns k n d.1 e (j, omega (arith, l), q)
-not-before (x ∷ ns) (suc k) n d e (zero, l, q) = differs ns k d.0 e
-  where
-    differs : (zs : List ℕ) (j : ℕ) → AllByRecursion (λ y. (x == y) ≡ false) zs → slice_get zs j ≡ Some n → ⊥
-    differs [] j a h = cc
-    differs (z ∷ zs) zero a h = cc (sym (same-number x) ∙ ap (λ y. x == y) (sym (same-some z n h ∙ sym q)) ∙ a.0)
-    differs (z ∷ zs) (suc j) a h = differs zs j a.1 h
+not-before (x ∷ ns) (suc k) n d e (zero, l, q) = cc (sym (same-number x) ∙ (ap (λ y. x == y) q ∙ all_at_too (λ y. (x == y) ≡ false) ns d.0 k n e))
 
 pub take-next : (ns : List ℕ) (k n : ℕ) → slice_get ns k ≡ Some n → take k ns ++ n ∷ [] ≡ take (suc k) ns
-take-next [] k n e = absurd cc
-take-next (x ∷ ns) zero n e = ap (λ y. y ∷ []) (sym (same-some x n e))
-take-next (x ∷ ns) (suc k) n e = ap (λ xs. x ∷ xs) (take-next ns k n e)
+take-next ns k n e = let more : k + 1 ≡ suc k = omega arith in sym (take_found ns k n e) ∙ ap (λ (j : ℕ). take j ns) more
 
 pub length-taken : (ns : List ℕ) (k n : ℕ) → slice_get ns k ≡ Some n → length (take k ns) ≡ k
-length-taken [] k n e = absurd cc
-length-taken (x ∷ ns) zero n e = refl
-length-taken (x ∷ ns) (suc k) n e = ap suc (length-taken ns k n e)
+length-taken ns k n e = let within = slice_get_within ns k n e in length-take-le k ns (omega (arith, within))
 
 -- ---- one import after the other
 
@@ -92,11 +88,9 @@ used-at r (x ∷ ns) last n u (zero, l, e) = (u.0.0, subst (Contains (direct_dep
 used-at r (x ∷ ns) last n u (suc k, l, e) = used-at r ns last n u.1 (k, omega (arith, l), e)
 
 pub reached-importable : (r : Resolve) → IsValid r → (n : ℕ) (ns : List ℕ) → AreReached r n ns → AreImportable r ns
-reached-importable r v n ns h = record {
-  earlier = earlier-front r [] ns (n ∷ []) h.earlier;
-  once = distinct-front ns (n ∷ []) h.once;
-  paths = λ m c. let u = used-at r ns n m h.used c in used-path r v u.0 m u.1;
-}
+reached-importable r v n ns h =
+    let earlier = earlier-front r [] ns (n ∷ []) h.earlier in
+    record { earlier = earlier; once = distinct-front ns (n ∷ []) h.once; paths = λ m c. let u = used-at r ns n m h.used c in used-path r v u.0 m u.1 }
 
 -- the interface itself uses these alone
 pub reached-used : (r : Resolve) (n : ℕ) (ns : List ℕ) → AreReached r n ns → (m : ℕ) → Contains (direct_deps r n) m → Contains ns m
@@ -112,15 +106,13 @@ unfolding numbers_in_range
 in-place r v n i at = first_true (is_place n) _ (interface_passes numbers_in_range r v.rules.numbers_in_range n i at)
 
 few-interfaces : (r : Resolve) → IsValid r → length r.interfaces.items ≤ 4294967295
-few-interfaces r v = go (nat_lt 4294967295 (length r.interfaces.items)) refl
-  where
-    go : (b : Bool) → nat_lt 4294967295 (length r.interfaces.items) ≡ b → length r.interfaces.items ≤ 4294967295
-    go false e = ltb-false 4294967295 (length r.interfaces.items) e
-    go true e = let found = found-in r.interfaces.items 4294967295 e in absurd (not-itself 4294967295 (in-place r v 4294967295 found.0 found.1))
+few-interfaces r v =
+    let none : 4294967295 < length r.interfaces.items → ⊥ = λ l. let found = found-in r.interfaces.items 4294967295 (lt-ltb 4294967295 (length r.interfaces.items) l) in
+    not-itself 4294967295 (in-place r v 4294967295 found.0 found.1) in
+    omega (arith, none)
 
 pub few-importable : (r : Resolve) → IsValid r → (ns : List ℕ) → AreImportable r ns → length ns ≤ 4294967295
-few-importable r v ns h =
-    omega (arith, length-le_from_distinct_below ns (length r.interfaces.items) h.once (λ q m. path-in-range r q (h.paths q (found q m))), few-interfaces r v)
+few-importable r v ns h = omega (arith, length-le_from_distinct_below ns (length r.interfaces.items) h.once (λ q m. path-in-range r q (h.paths q (found q m))), few-interfaces r v)
   where
     found : (q : ℕ) → list_any (λ y. q == y) ns ≡ true → Contains ns q
     found q m = let x = any-contains (λ y. q == y) ns m in subst (Contains ns) (sym (equal q x.0 x.2)) x.1
@@ -152,8 +144,7 @@ pub record IsNext (r : Resolve) (xs : List InterfaceId) (k : ℕ) (a : Around) :
 
 pub is-next : (r r' : Resolve) (xs : List InterfaceId) (k : ℕ) (a : Around) → r' ≡ r → IsValid r → AreImportable r (numbers xs) → k < length xs → HasImported r' a (take k (numbers xs))
     → IsNext r' xs k a
-is-next r r' xs k a e v can l = subst (λ (q : Resolve). HasImported q a (take k (numbers xs)) → IsNext q xs k a) (sym e)
-    (λ h.
+is-next r r' xs k a e v can l = subst (λ (q : Resolve). HasImported q a (take k (numbers xs)) → IsNext q xs k a) (sym e) (λ h.
     let at = number-at xs k l in
     let more : suc k ≡ k + 1 = omega arith in
     record {
@@ -170,7 +161,7 @@ all-of P xs k l h = subst P (take_all k (numbers xs) (omega (arith, length-map x
 -- ---- how much is held and defined
 
 pub numbers-next : (xs : List InterfaceId) (k : ℕ) → k < length xs → take k (numbers xs) ++ (item xs k).0 ∷ [] ≡ take (k + 1) (numbers xs)
-numbers-next xs k l = take-next (numbers xs) k (item xs k).0 (number-at xs k l) ∙ (let more : suc k ≡ k + 1 = omega arith in ap (λ (j : ℕ). take j (numbers xs)) more)
+numbers-next xs k l = sym (take_found (numbers xs) k (item xs k).0 (number-at xs k l))
 
 pub defines-next : (r r' : Resolve) (canonical : Bool) (xs : List InterfaceId) (k : ℕ) (a a' : Around) → r' ≡ r → k < length xs → ImportsTypes r' canonical a a' (item xs k) k
     → DefinesImports r a.declared (take k (numbers xs)) → DefinesImports r a'.declared (take (k + 1) (numbers xs))
@@ -180,8 +171,7 @@ defines-next r r' canonical xs k a a' e l t h =
 
 pub aliases-next : (r r' : Resolve) (canonical : Bool) (xs : List InterfaceId) (k : ℕ) (a a' : Around) → r' ≡ r → k < length xs → ImportsTypes r' canonical a a' (item xs k) k
     → HasImported r' a (take k (numbers xs)) → HasImportAliases r a (take k (numbers xs)) → HasImportAliases r a' (take (k + 1) (numbers xs))
-aliases-next r r' canonical xs k a a' e l t imported h =
-    subst (HasImportAliases r a') (numbers-next xs k l)
+aliases-next r r' canonical xs k a a' e l t imported h = subst (HasImportAliases r a') (numbers-next xs k l)
     (import-aliased r canonical a a' (take k (numbers xs)) (item xs k) k (subst (λ (q : Resolve). ImportsTypes q canonical a a' (item xs k) k) e t)
     (subst (λ (q : Resolve). HasImported q a (take k (numbers xs))) e imported) h)
 
@@ -197,20 +187,15 @@ next-refused r r' canonical xs k a e l h held lacks =
     let at = number-at xs k l in
     let few : length (take k (numbers xs)) ≡ k = length-taken (numbers xs) k (item xs k).0 at in
     let all : length (numbers xs) ≡ length xs = length-map xs (λ (id : InterfaceId). id.0) in
-    next-lacks r (numbers xs) (take k (numbers xs)) (taken (numbers xs) k) (omega (arith, few, all, l)) a (subst (λ (q : Resolve). HasImported q a (take k (numbers xs))) e h) held
+    next-lacks r (numbers xs) (take k (numbers xs)) taken (omega (arith, few, all, l)) a (subst (λ (q : Resolve). HasImported q a (take k (numbers xs))) e h) held
     canonical (item xs k) (get-contains (numbers xs) k (item xs k).0 at) (subst (λ (q : Resolve). LacksImport q canonical a (item xs k)) e lacks)
   where
-    taken : (ns : List ℕ) (k n : ℕ) → Contains (take k ns) n → Contains ns n
-    taken [] zero n c = none-in n c
-    taken [] (suc k) n c = none-in n c
-    taken (x ∷ ns) zero n c = none-in n c
-    taken (x ∷ ns) (suc k) n (zero, l, q) = (0, omega arith, q)
-    taken (x ∷ ns) (suc k) n (suc j, l, q) = let rest = taken ns k n (j, omega (arith, l), q) in (suc rest.0, omega (arith, rest.1), rest.2)
+    taken : (n : ℕ) → Contains (take k (numbers xs)) n → Contains (numbers xs) n
+    taken n c = subst (λ ns. Contains ns n) (take-append-drop k (numbers xs)) (Contains-append_left (take k (numbers xs)) (drop k (numbers xs)) n c)
 
 -- ---- names
 
 pub named-next : (r r' : Resolve) (canonical : Bool) (xs : List InterfaceId) (k : ℕ) (start : Declarations) (a a' : Around) → r' ≡ r → k < length xs → ImportsTypes r' canonical a a' (item xs k) k
     → NamesInterfaces r canonical (take k (numbers xs)) start a.declared → NamesInterfaces r canonical (take (k + 1) (numbers xs)) start a'.declared
-named-next r r' canonical xs k start a a' e l t named =
-    subst (λ (ns : List ℕ). NamesInterfaces r canonical ns start a'.declared) (numbers-next xs k l)
+named-next r r' canonical xs k start a a' e l t named = subst (λ (ns : List ℕ). NamesInterfaces r canonical ns start a'.declared) (numbers-next xs k l)
     (imports-named r canonical a a' (item xs k) k (take k (numbers xs)) start (subst (λ (q : Resolve). ImportsTypes q canonical a a' (item xs k) k) e t) named)

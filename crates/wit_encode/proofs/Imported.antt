@@ -1,10 +1,9 @@
 -- What a component type has imported, after aliases, and after one instance type more and the import or export that uses it.
-use Rattle.std.proofs.Common.{rules as std_rules, ◌≡◌, ◌⊎◌, inl, inr, refl, sym, subst, ap, ◌∙◌, ℕ, zero, suc, ◌+◌, ◌==◌, nat_lt, nat_cmp, Ordering, Bool, true, false, cond, List, [], ◌∷◌, ◌++◌, length, length-append, Some, None, slice_get, arith}
+use Rattle.std.proofs.Common.{rules as std_rules, ◌≡◌, inl, inr, refl, sym, subst, ap, ◌∙◌, ℕ, ◌+◌, ◌==◌, nat_lt, nat_cmp, Bool, true, List, [], ◌∷◌, ◌++◌, length, length-append, Some, None, slice_get, arith}
 use Rattle.std.proofs.{Math.Seq.take-append_seam, lemmas.List.map-append, lemmas.List.Elements.Contains-append_left, lemmas.List.Elements.Contains-append_right}
-use Rattle.std.proofs.lemmas.{Bool.cond-true, Bool.cond-false, Bool.lt-ltb, Bool.and_from as both, List.Folds.list_all-append, Option.same_Some as same-some}
+use Rattle.std.proofs.lemmas.{Bool.lt-ltb, Bool.and_from as both, List.Folds.list_all-append, Bool.cases_Bool}
 use Rattle.std.specs.List.{Contains, list_all}
-use Rattle.std.specs.{Option.option_map_or, BTreeMap.insert_entry, BTreeMap.is_at, FinMap.nat_cmp-IsAntisymmetric, Ordering.is_eq, Ordering.match_ordering}
-use Rattle.std.specs.declared.cmp.Ordering.TheVariants.{Less, Equal, Greater}
+use Rattle.std.specs.{Option.option_map_or, BTreeMap.insert_entry, BTreeMap.is_at, FinMap.nat_cmp-IsAntisymmetric}
 use Rattle.wit_model.specs.{Text.Text, Lookup.interface_path, Lookup.place_of_path, Valid.IsValid}
 use Rattle.wit_model.specs.declared.model.{Resolve.Resolve, Interface.Interface, InterfaceId.InterfaceId, Function.Function}
 use Rattle.wit_model.proofs.Elements.{zip-push}
@@ -14,13 +13,14 @@ use Rattle.encode_shown.specs.Views.{ShowsImport}
 use Rattle.encode_names.specs.{WorldNames.name_of_interface, WorldSteps.declared_towards, WorldSteps.seen_instance, WorldSteps.with_instance}
 use Rattle.encode_names.proofs.PathsRead.{path-key}
 use Rattle.encode_names.proofs.WorldSteps.{below-more, instance-step, slot-behind, types-appended, unused}
-use Rattle.encode_types.specs.Known.{Aliased, AreAliases, Around, IsAlias, are_right, known_instance, known_slot, outer_scope, outer_slots, with_alias, with_aliases}
+use Rattle.encode_types.specs.Known.{Aliased, AreAliases, Around, IsAlias, are_right, known_instance, outer_scope, outer_slots, with_alias, with_aliases}
 use Rattle.encode_types.proofs.Tables.{equal-is}
 use Rattle.wit_encode.specs.Instance.{EncodesPart}
 use Rattle.wit_encode.specs.Dependencies.{AliasesLeaveImports, ExportsEnd, HasImported, ImportsGrow, NothingIsImported, imported_instance, seen_import, with_export, with_import}
 use Rattle.wit_encode.proofs.Components.{steps-count, steps-instance, steps-more}
-use Rattle.wit_encode.proofs.Importing.{new-slot, right-more, stands, still-right, wide}
-use Rattle.base_lemmas.proofs.{Bools.left_of as first_true, Elements.contains-one, Numbers.same-number}
+use Rattle.wit_encode.proofs.Importing.{right-more, stands, still-right, wide}
+use Rattle.wit_encode.proofs.LatestInstances.{found-new, found-other}
+use Rattle.base_lemmas.proofs.{Bools.left_of as first_true, Elements.contains-one, Numbers.same-number, Lists.front_or_end}
 use Rattle.comp_bytes.specs.declared.forms.ComponentTypeRef.TheVariants as refs
 use Rattle.comp_meaning.specs.Follow as follow
 
@@ -73,48 +73,24 @@ each-leaves r a (x ∷ made) ns h are = each-leaves r (with_alias a x) made ns (
 pub aliases_leave_imports : AliasesLeaveImports
 aliases_leave_imports r around around' numbers h g = subst (λ (z : Around). HasImported r z numbers) (sym g.is) (each-leaves r around g.made numbers h g.are)
 
--- ---- one entry more in an ordered map
-
-pub other-slot : (n t m : ℕ) (es : List (ℕ × ℕ)) → is_at (nat_cmp m) n ≡ false → known_slot es n ≡ None → known_slot (insert_entry nat_cmp es n t) m ≡ known_slot es m
-other-slot n t m [] other h = cond-false _ _ _ other
-other-slot n t m (e ∷ es) other h = by (λ q. other-slot n t m es other (sym (cond-false _ _ _ (ap is_eq q)) ∙ h)) (nat_cmp n e.0) refl
-  where
-    by : (nat_cmp n e.0 ≡ Greater → known_slot (insert_entry nat_cmp es n t) m ≡ known_slot es m) → (o : Ordering) → nat_cmp n e.0 ≡ o
-        → known_slot (match_ordering o ((n, t) ∷ e ∷ es) ((e.0, t) ∷ es) (e ∷ insert_entry nat_cmp es n t)) m ≡ known_slot (e ∷ es) m
-    by more Less q = cond-false _ _ _ other
-    by more Equal q = let s : Some e.1 ≡ None = sym (cond-true _ _ _ (ap is_eq q)) ∙ h in absurd cc
-    by more Greater q = ap (λ o. cond (is_at (nat_cmp m) e.0) (Some e.1) o) (more q)
-
 pub at-same : (n m : ℕ) → is_at (nat_cmp n) m ≡ true → n ≡ m
 at-same n m h = nat_cmp-IsAntisymmetric n m (equal-is (nat_cmp n m) h)
-
--- what stands behind a list, or in it
-pub behind-cases : {X : Type 0} (xs : List X) (y x : X) (k : ℕ) → slice_get (xs ++ y ∷ []) k ≡ Some x → (slice_get xs k ≡ Some x) ⊎ ((k ≡ length xs) × (x ≡ y))
-behind-cases [] y x zero e = inr (refl, sym (same-some y x e))
-behind-cases [] y x (suc k) e = absurd cc
-behind-cases (w ∷ xs) y x zero e = inl e
-behind-cases (w ∷ xs) y x (suc k) e = elim (behind-cases xs y x k e) [ inl h ↦ inl h | inr h ↦ inr (ap suc h.0, h.1) ]
 
 module _ (i : ℕ) (ns : List ℕ) (es : List (ℕ × ℕ)) (first : known_instance es i ≡ None) where
   abbrev after : List (ℕ × ℕ)
   after = insert_entry nat_cmp es i (length ns)
 
   listed-more : ((k n : ℕ) → slice_get ns k ≡ Some n → known_instance es n ≡ Some k) → (k n : ℕ) → slice_get (ns ++ i ∷ []) k ≡ Some n → known_instance after n ≡ Some k
-  listed-more all k n e = elim (behind-cases ns i n k e) [
-    | inl h ↦ go h (is_at (nat_cmp n) i) refl
-    | inr h ↦ ap (known_instance after) h.1 ∙ new-slot i (length ns) es first ∙ ap Some (sym h.0)
+  listed-more all k n e = elim (front_or_end ns i k n e) [
+    | inl h ↦ elim (cases_Bool (is_at (nat_cmp n) i)) [ inl q ↦ cc (sym (all k n h) ∙ ap (known_instance es) (at-same n i q) ∙ first) | inr q ↦ found-other i (length ns) n es q ∙ all k n h ]
+    | inr h ↦ ap (known_instance after) (sym h.1) ∙ found-new i (length ns) es ∙ ap Some (sym h.0)
   ]
-    where
-      go : slice_get ns k ≡ Some n → (b : Bool) → is_at (nat_cmp n) i ≡ b → known_instance after n ≡ Some k
-      go h true q = let wrong : Some k ≡ None = sym (all k n h) ∙ ap (known_instance es) (at-same n i q) ∙ first in absurd cc
-      go h false q = other-slot i (length ns) n es q first ∙ all k n h
 
   alone-more : ((n k : ℕ) → known_instance es n ≡ Some k → Contains ns n) → (n k : ℕ) → known_instance after n ≡ Some k → Contains (ns ++ i ∷ []) n
-  alone-more all n k e = go (is_at (nat_cmp n) i) refl
-    where
-      go : (b : Bool) → is_at (nat_cmp n) i ≡ b → Contains (ns ++ i ∷ []) n
-      go true q = subst (Contains (ns ++ i ∷ [])) (sym (at-same n i q)) (Contains-append_right ns (i ∷ []) i (contains-one i))
-      go false q = Contains-append_left ns (i ∷ []) n (all n k (sym (other-slot i (length ns) n es q first) ∙ e))
+  alone-more all n k e = elim (cases_Bool (is_at (nat_cmp n) i)) [
+    | inl q ↦ subst (Contains (ns ++ i ∷ [])) (sym (at-same n i q)) (Contains-append_right ns (i ∷ []) i (contains-one i))
+    | inr q ↦ Contains-append_left ns (i ∷ []) n (all n k (sym (found-other i (length ns) n es q) ∙ e))
+  ]
 
 -- ---- one instance type more, and what uses it
 
@@ -147,8 +123,7 @@ module _ (r : Resolve) (v : IsValid r) (canonical : Bool) (a a' : Around) (ns : 
       e.index ∙ (let same : type_slots_of e.before.declared ≡ length s.slots = omega (arith, count) in same)
 
   viewed : used_view (in_scope x s).slots (follow.place_of (Some path)) (slice_get (in_scope x s).slots (length s.slots)) ≡ Some view
-  viewed =
-      ap (used_view (in_scope x s).slots (follow.place_of (Some path))) (slot-behind s.slots x)
+  viewed = ap (used_view (in_scope x s).slots (follow.place_of (Some path))) (slot-behind s.slots x)
       ∙ ap (λ slots. instance_view (follow.place_of (Some path)) slots e.declared) (take-append_seam s.slots (x ∷ []) ∙ sym around-slots)
       ∙ ap (λ o. instance_view (place_of_path o) (outer_slots e.before.declared) e.declared) (sym is) ∙ e.is_instance.followed
 
@@ -156,8 +131,7 @@ module _ (r : Resolve) (v : IsValid r) (canonical : Bool) (a a' : Around) (ns : 
   next direction = see direction (seen_instance name (Key.path path) view) (with_instance (Key.path path) view (length s.slots) (in_scope x s))
 
   stepped : (direction : Direction) → component_step (in_scope x s) (declared_towards direction name (refs.Instance k)) ≡ Some (next direction)
-  stepped direction =
-      ap (λ m. component_step (in_scope x s) (declared_towards direction name (refs.Instance m))) number
+  stepped direction = ap (λ m. component_step (in_scope x s) (declared_towards direction name (refs.Instance m))) number
       ∙ instance-step name (length s.slots) (in_scope x s) (Key.path path) view (path-key r v i.0 path is canonical) (unused (length s.slots) s.used before.in_range) viewed direction
 
   described : (direction : Direction) → outer_scope (append a'.declared (Declarations.declares (declared_towards direction name (refs.Instance k)) Declarations.no_more)) ≡ Some (next direction)
@@ -209,8 +183,7 @@ module _ (r : Resolve) (v : IsValid r) (canonical : Bool) (a a' : Around) (ns : 
       missing = ap (λ es. known_instance es i.0) (ap (λ (z : Around). z.instances) e.aliases.grown.is ∙ kept a e.aliases.grown.made) ∙ first
 
   export-ends : component_scope (with_export r canonical i k a'.declared) ≡ Some (next export_)
-  export-ends =
-      ap (λ o. o >>= λ t. provided (length t.used == instance_types t.slots) t) (described export_)
+  export-ends = ap (λ o. o >>= λ t. provided (length t.used == instance_types t.slots) t) (described export_)
       ∙ ap (λ b. provided b (next export_)) (ap (λ n. length (s.used ++ length s.slots ∷ []) == n) (sym used-once) ∙ same-number (length (s.used ++ length s.slots ∷ [])))
 
 pub imports_grow : ImportsGrow
@@ -225,9 +198,7 @@ exports_end r canonical around around' numbers i def path k v is h reached e =
       follows = export-ends r v canonical around around' numbers i def path _ _ k is h e.part;
       imports = b.views;
       exported = e.part.is_instance.view;
-      shows = record {
-        reached = record { numbers = numbers; reached = reached; shown_imports = b.shown; shows = e.shows };
-        imports_are = b.imports;
-        exports_are = ap (λ t. t ++ seen_import (path, e.part.is_instance.view) ∷ []) b.exports;
-      };
+      shows =
+          let exports_are = ap (λ t. t ++ seen_import (path, e.part.is_instance.view) ∷ []) b.exports in
+          record { reached = record { numbers = numbers; reached = reached; shown_imports = b.shown; shows = e.shows }; imports_are = b.imports; exports_are = exports_are };
     }

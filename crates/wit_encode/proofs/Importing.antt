@@ -1,5 +1,5 @@
 -- A type of another interface whose instance stands around is reached by an alias there.
-use Rattle.std.proofs.Common.{rules as std_rules, ◌≡◌, refl, sym, subst, ap, ◌∙◌, ℕ, zero, suc, ◌+◌, nat_cmp, Ordering, Bool, true, false, not, ◌&&◌, ◌||◌, if◌then◌else◌, List, [], ◌∷◌, length, Option, Some, None, String, slice_get, is_some, ◌++◌, Result, Ok, Err, IfOk, OnErr, OnOk, arith}
+use Rattle.std.proofs.Common.{rules as std_rules, ◌≡◌, refl, sym, subst, ap, ◌∙◌, ℕ, ◌+◌, nat_cmp, Ordering, Bool, true, false, not, ◌&&◌, ◌||◌, if◌then◌else◌, List, [], ◌∷◌, length, Option, Some, None, String, slice_get, is_some, ◌++◌, Result, Ok, Err, IfOk, OnErr, OnOk, arith}
 use Rattle.std.proofs.lemmas.{Bool.cond-true, Bool.cond-false, Bool.and_from as both, List.Elements.All-contains, List.Elements.filter_passes}
 use Rattle.std.specs.{List.Contains, List.list_all, List.list_any, List.filter, Option.option_map_or, BTreeMap.BTreeMap, BTreeMap.insert_entry, BTreeMap.is_at}
 use Rattle.std.specs.{Ordering.is_eq, Ordering.match_ordering, Map.remove_entry}
@@ -18,17 +18,15 @@ use Rattle.wit_encode.specs.Instance.{standing_at, SlotsStand, is_slot_of, outer
 use Rattle.encode_types.proofs.Tables.{at-some, number-found}
 use Rattle.wit_encode.proofs.{Contents.slots-kept, Calls.Calls, Calls.alias-inside, Wider.Widened, Wider.widened, Wider.contents-wider, LatestInstances.own-key}
 use Rattle.wit_encode.proofs.Within.{CallsTo}
+use Rattle.wit_encode.proofs.LatestInstances.{found-new}
+use Rattle.base_lemmas.proofs.Elements.{all_get}
+use Rattle.wit_model.proofs.Owners.{numbered_at}
 use Rattle.base_lemmas.proofs.{Bools.left_of as first_true, Bools.right_of as second_true, Elements.all-contained, Lists.front_more as get-left, Options.some_is}
 
 -- ---- lists
 
-numbered-all : {A : Type 0} (p : ℕ × A → Bool) (j : ℕ) (xs : List A) (k : ℕ) (x : A) → list_all p (numbered_from j xs) ≡ true → slice_get xs k ≡ Some x → p (j + k, x) ≡ true
-numbered-all p j [] k x h e = absurd cc
-numbered-all p j (y ∷ ys) zero x h e = subst (λ (m : ℕ). p (m, x) ≡ true) (omega arith) (subst (λ z. p (j, z) ≡ true) (cc) (first_true (p (j, y)) _ h))
-numbered-all p j (y ∷ ys) (suc k) x h e = subst (λ (m : ℕ). p (m, x) ≡ true) (omega arith) (numbered-all p (j + 1) ys k x (second_true (p (j, y)) _ h) e)
-
 numbered-one : {A : Type 0} (p : ℕ × A → Bool) (xs : List A) (k : ℕ) (x : A) → list_all p (numbered_from 0 xs) ≡ true → slice_get xs k ≡ Some x → p (k, x) ≡ true
-numbered-one p xs k x h e = subst (λ (m : ℕ). p (m, x) ≡ true) (omega arith) (numbered-all p 0 xs k x h e)
+numbered-one p xs k x h e = subst (λ (m : ℕ). p (m, x) ≡ true) (omega arith) (all_get p (numbered_from 0 xs) k (0 + k, x) h (numbered_at 0 xs k x e))
 
 -- ---- names
 
@@ -78,8 +76,7 @@ for-more r slots y n k (Some x) e h = ap (is_slot_for r n) (get-left slots y k x
 
 pub right-more : (r : Resolve) (known : List (ℕ × ℕ)) (slots : List Slot) (y : Slot) → are_right r known slots ≡ true → are_right r known (slots ++ y ∷ []) ≡ true
 right-more r [] slots y h = refl
-right-more r (x ∷ xs) slots y h =
-    both (is_slot_for r x.0 (slice_get (slots ++ y ∷ []) x.1)) (are_right r xs (slots ++ y ∷ []))
+right-more r (x ∷ xs) slots y h = both (is_slot_for r x.0 (slice_get (slots ++ y ∷ []) x.1)) (are_right r xs (slots ++ y ∷ []))
     (for-more r slots y x.0 x.1 (slice_get slots x.1) refl (first_true (is_slot_for r x.0 (slice_get slots x.1)) _ h))
     (right-more r xs slots y (second_true (is_slot_for r x.0 (slice_get slots x.1)) _ h))
 
@@ -119,17 +116,8 @@ module _ (r : Resolve) (a : Around) (j n : ℕ) (m : IsSource r a j n) where
   there-at k listed right None at h = absurd cc
   there-at k listed right (Some x) at h =
       let s = some-slot r n (find_type (text_of m.name) x.view.types) (shows x h) in
-      record {
-        number = k;
-        listed = listed;
-        instance = x;
-        at = at;
-        path = some-path (interface_path r j) x (first_true (is_instance_of (interface_path r j) x) _ h);
-        slot = s.0;
-        found = s.1;
-        fits = s.2;
-        right = right;
-      }
+      let path = some-path (interface_path r j) x (first_true (is_instance_of (interface_path r j) x) _ h) in
+      record { number = k; listed = listed; instance = x; at = at; path = path; slot = s.0; found = s.1; fits = s.2; right = right }
 
   there-listed : are_right r a.known (outer_slots a.declared) ≡ true → (o : Option ℕ) → known_instance a.instances j ≡ o
       → option_map_or (λ k. option_map_or (is_standing r j) (slice_get (outer_instances a.declared) k) false) o false ≡ true → Stands r a j n m.name
@@ -159,14 +147,9 @@ pub importable-stands : (b : Bool) (xs : List ℕ) (j : ℕ) → Contains (if b 
 importable-stands x xs j h = search std_rules
 
 pub has-source : (r : Resolve) (i : InterfaceId) (a : Around) (contents : Contents) (j n : ℕ) → IsImportable (scope_with r (Some i) a contents) j n → IsSource r a j n
-has-source r i a contents j n m = record {
-  def = m.def;
-  name = m.name;
-  there = m.there;
-  named_ = m.named_;
-  owned = m.owned;
-  stands = importable-stands (is_sound_in r (Some i) contents) (standing_instances r a) j m.stands;
-}
+has-source r i a contents j n m =
+    let stands = importable-stands (is_sound_in r (Some i) contents) (standing_instances r a) j m.stands in
+    record { def = m.def; name = m.name; there = m.there; named_ = m.named_; owned = m.owned; stands = stands }
 
 none-listed : (r : Resolve) (instances : List Instance) (ns : List ℕ) (j : ℕ) → Contains (filter (stands_around r [] instances) ns) j → ⊥
 none-listed r instances [] j (k, l, e) = omega (arith, l)
@@ -188,14 +171,7 @@ module _ (n t : ℕ) where
 
   -- it is found
   pub new-slot : (es : List (ℕ × ℕ)) → known_slot es n ≡ None → known_slot (insert_entry nat_cmp es n t) n ≡ Some t
-  new-slot [] h = cond-true _ _ _ (own-key n)
-  new-slot (e ∷ es) h = by (nat_cmp n e.0) refl (λ q. new-slot es (sym (cond-false _ _ _ q) ∙ h))
-    where
-      by : (o : Ordering) → nat_cmp n e.0 ≡ o → (is_eq (nat_cmp n e.0) ≡ false → known_slot (insert_entry nat_cmp es n t) n ≡ Some t)
-          → known_slot (match_ordering o ((n, t) ∷ e ∷ es) ((e.0, t) ∷ es) (e ∷ insert_entry nat_cmp es n t)) n ≡ Some t
-      by Less q more = cond-true _ _ _ (own-key n)
-      by Equal q more = absurd (apart e es h q)
-      by Greater q more = let f : is_eq (nat_cmp n e.0) ≡ false = ap is_eq q in cond-false _ _ _ f ∙ more f
+  new-slot es h = found-new n t es
 
   -- without it the entries are those that were there
   pub taken-back : (es : List (ℕ × ℕ)) → known_slot es n ≡ None → remove_entry (is_at (nat_cmp n)) (insert_entry nat_cmp es n t) ≡ es
@@ -246,8 +222,7 @@ module _ (r : Resolve) (a : Around) (al : Aliased) (is : IsAlias r a al) where
       (ap (are_right r a.known) wide.slots ∙ right-more r a.known (outer_slots a.declared) stands.slot stands.right) new-fits
 
   pub still-standing : standing_instances r next ≡ standing_instances r a
-  still-standing =
-      ap (λ b. if b then filter (stands_around r a.instances (outer_instances next.declared)) (below (length r.interfaces.items)) else []) still-right
+  still-standing = ap (λ b. if b then filter (stands_around r a.instances (outer_instances next.declared)) (below (length r.interfaces.items)) else []) still-right
       ∙ ap (λ xs. filter (stands_around r a.instances xs) (below (length r.interfaces.items))) wide.instances
       ∙ sym (ap (λ b. if b then filter (stands_around r a.instances (outer_instances a.declared)) (below (length r.interfaces.items)) else []) stands.right)
 
@@ -256,8 +231,7 @@ module _ {E : Type 0} (res : Result ℕ E) (r : Resolve) (outer outer' : Declara
   new = record { number = id; instance = k; name = name }
 
   pub made-slot : known_slot foreign.known.entries id.0 ≡ None → IfOk res (λ q. q ≡ type_slots_of outer)
-      → OnOk res (known'.entries ≡ insert_entry nat_cmp foreign.known.entries id.0 (type_slots_of outer))
-      → IfOk res (λ q. known_slot known'.entries id.0 ≡ Some q)
+      → OnOk res (known'.entries ≡ insert_entry nat_cmp foreign.known.entries id.0 (type_slots_of outer)) → IfOk res (λ q. known_slot known'.entries id.0 ≡ Some q)
   made-slot first ok listed = go res ok listed
     where
       go : {E : Type 0} (res : Result ℕ E) → IfOk res (λ q. q ≡ type_slots_of outer) → OnOk res (known'.entries ≡ insert_entry nat_cmp foreign.known.entries id.0 (type_slots_of outer))
@@ -278,8 +252,7 @@ module _ {E : Type 0} (res : Result ℕ E) (r : Resolve) (outer outer' : Declara
 
 -- the alias is one of the type that was asked for
 pub source-alias : (r : Resolve) (a : Around) (j k : ℕ) (id : TypeId) (def : TypeDef) (name : String Global) (shown : Text) → IsSource r a j id.0 → type_at r id.0 ≡ Some def → def.name ≡ Some name
-    → shown ≡ text_of name → known_instance a.instances j ≡ Some k → known_slot a.known id.0 ≡ None
-    → IsAlias r a (record { number = id; instance = k; name = shown })
+    → shown ≡ text_of name → known_instance a.instances j ≡ Some k → known_slot a.known id.0 ≡ None → IsAlias r a (record { number = id; instance = k; name = shown })
 source-alias r a j k id def name shown m at is text listed first = record {
   def = m.def;
   name = m.name;
@@ -327,11 +300,9 @@ module _ (r : Resolve) (i : InterfaceId) (a : Around) (ds : List Declaration) (j
   was-made : (al : Aliased) (is : IsAlias r a al) (k : ℕ) → known_slot (with_alias a al).known id.0 ≡ Some k → Reached (with_alias a al) k
   was-made al is k e =
       let next = with_alias a al in
-      record {
-        known = known-slot r i next id.0 k (slice_get (outer_slots next.declared) k) refl (known-right r next.known (outer_slots next.declared) id.0 k (still-right r a al is) e);
-        contents = contents-wider (place_in r (Some i)) a al (stands r a al is).slot ds (wide r a al is) (first_true before.is_followed _ is-sound);
-        standing = still-standing r a al is;
-      }
+      let known = known-slot r i next id.0 k (slice_get (outer_slots next.declared) k) refl (known-right r next.known (outer_slots next.declared) id.0 k (still-right r a al is) e) in
+      let contents = contents-wider (place_in r (Some i)) a al (stands r a al is).slot ds (wide r a al is) (first_true before.is_followed _ is-sound) in
+      record { known = known; contents = contents; standing = still-standing r a al is }
 
   reached : (a' : Around) (k : ℕ) → ReachesAround r id a a' → known_slot a'.known id.0 ≡ Some k → Reached a' k
   reached a' k (as_before e) h = subst (λ (z : Around). Reached z k) (sym e) (was-known k (ap (λ (z : Around). known_slot z.known id.0) (sym e) ∙ h))

@@ -1,8 +1,8 @@
 -- Instances of the interfaces that have been imported stand.
 use Rattle.std.proofs.Common.{◌≡◌, refl, sym, subst, ap, ◌∙◌, ℕ, zero, suc, ◌+◌, ◌<◌, nat_lt, Bool, true, false, not, ◌||◌, if◌then◌else◌, List, [], ◌∷◌, length, Option, Some, None, String, slice_get, is_some, map, option_map, option_and_then, arith}
 use Rattle.std.proofs.lemmas.{Bool.ltb-true, Bool.ltb-false, Bool.and_from as both, Bool.or_right as or-second, List.Sorted.IsPermutation-refl}
-use Rattle.std.proofs.lemmas.{Cmp.nat_list_eq_equiv, Option.slice_get-map, Option.slice_get_within, Option.same_Some as same-some}
-use Rattle.std.specs.{List.AllZip, List.Contains, List.filter, List.list_all, Option.option_map_or}
+use Rattle.std.proofs.lemmas.{Cmp.nat_list_eq_equiv, Option.slice_get-map, Option.slice_get_within}
+use Rattle.std.specs.{List.Contains, List.filter, List.list_all, Option.option_map_or}
 use Rattle.std.specs.declared.alloc.Global.{Global}
 use Rattle.wit_model.specs.{Text.Text, Text.text_of, Tree.named, Tree.of_interface, Types.number_tree, Parts.is_resource, Parts.numbered_from, Parts.same_owner}
 use Rattle.wit_model.specs.Lookup.{interface_at, interface_path, path_of_interface, place_of, place_of_path, type_at}
@@ -16,6 +16,7 @@ use Rattle.encode_names.proofs.TypesFound.{types_are_found}
 use Rattle.encode_types.specs.Resources.{is_named_interface, named_resources}
 use Rattle.encode_types.specs.Known.{Around, below, is_instance_of, is_known_as, is_named_of, is_slot_for, is_standing, outer_instances, shows_type, standing_instances, stands_around}
 use Rattle.wit_encode.proofs.Naming.{HaveHomes, names-agree, one-home}
+use Rattle.base_lemmas.proofs.Elements.{zip_at}
 use Rattle.wit_encode.specs.Dependencies.{HasImported, ImportsStand, imported_instance}
 use Rattle.base_lemmas.proofs.{Bools.left_of as first_true, Bools.right_of as second_true, Elements.filter_keeps as contains-filter, Options.there as some-of}
 use Rattle.wit_model.specs.declared.model.TypeOwner.TheVariants as owner
@@ -24,8 +25,7 @@ use Rattle.wit_model.specs.declared.model.TypeOwner.TheVariants as owner
 
 all-numbered : {A : Type 0} (p : ℕ × A → Bool) (j : ℕ) (xs : List A) → ((k : ℕ) (x : A) → slice_get xs k ≡ Some x → p (j + k, x) ≡ true) → list_all p (numbered_from j xs) ≡ true
 all-numbered p j [] all = refl
-all-numbered p j (x ∷ xs) all =
-    both (p (j, x)) _ (subst (λ (m : ℕ). p (m, x) ≡ true) (omega arith) (all 0 x refl))
+all-numbered p j (x ∷ xs) all = both (p (j, x)) _ (subst (λ (m : ℕ). p (m, x) ≡ true) (omega arith) (all 0 x refl))
     (all-numbered p (j + 1) xs (λ k y e. subst (λ (m : ℕ). p (m, y) ≡ true) (omega arith) (all (suc k) y e)))
 
 pub below-there : (m n : ℕ) → n < m → Contains (below m) n
@@ -35,13 +35,6 @@ below-there (suc m) n l = go (below-there m n) (nat_lt n m) refl
     go : (n < m → Contains (below m) n) → (b : Bool) → nat_lt n m ≡ b → Contains (m ∷ below m) n
     go more true e = let rest = more (ltb-true n m e) in (suc rest.0, omega (arith, rest.1), rest.2)
     go more false e = (0, omega arith, omega (arith, l, ltb-false n m e))
-
--- the second of two lists, place by place
-pub zip-at : {A B : Type 0} (R : A → B → Type 0) (xs : List A) (ys : List B) (k : ℕ) (x : A) → AllZip R xs ys → slice_get xs k ≡ Some x → (y : B) × (slice_get ys k ≡ Some y) × R x y
-zip-at R [] ys k x z e = absurd cc
-zip-at R (a ∷ xs) [] k x z e = absurd z
-zip-at R (a ∷ xs) (b ∷ ys) zero x z e = (b, refl, subst (λ w. R w b) (same-some a x e) z.0)
-zip-at R (a ∷ xs) (b ∷ ys) (suc k) x z e = zip-at R xs ys k x z.1 e
 
 module _ (r : Resolve) (v : IsValid r) where
   -- ---- the slot of a name
@@ -57,8 +50,7 @@ module _ (r : Resolve) (v : IsValid r) where
     tree = named-tree r v n def name at named_ ∙ ap (λ (o : TypeOwner). named (place_of r o) (text_of name)) owned ∙ ap (λ p. named p (text_of name)) home
 
     agrees : named_resources r (of_interface path) (text_of name) ≡ is_resource r n
-    agrees =
-        ap (λ p. named_resources r p (text_of name)) (sym home) ∙ ap (λ (o : TypeOwner). named_resources r (place_of r o) (text_of name)) (sym owned)
+    agrees = ap (λ p. named_resources r p (text_of name)) (sym home) ∙ ap (λ (o : TypeOwner). named_resources r (place_of r o) (text_of name)) (sym owned)
         ∙ names-agree r v (is_named_interface r) homes n def name at named_ (ap (is_named_interface r) owned ∙ ap is_some is)
 
     known-as : (b : Bool) → named_resources r (of_interface path) (text_of name) ≡ b
@@ -67,10 +59,8 @@ module _ (r : Resolve) (v : IsValid r) where
     known-as false e = both _ _ (ap not e) (both _ _ (place-alike (of_interface path)) (nat_list_eq_equiv.refl (text_of name)))
 
     slot-known : is_slot_for r n (Some (name_slot (is_resource r n) (home_of r i.0) (text_of name))) ≡ true
-    slot-known =
-        ap (λ t. is_known_as (named_resources r) t (name_slot (is_resource r n) (home_of r i.0) (text_of name))) tree
-        ∙ ap (λ p. is_known_as (named_resources r) (named (of_interface path) (text_of name)) (name_slot (is_resource r n) p (text_of name))) home
-        ∙ known-as (is_resource r n) agrees
+    slot-known = ap (λ t. is_known_as (named_resources r) t (name_slot (is_resource r n) (home_of r i.0) (text_of name))) tree
+        ∙ ap (λ p. is_known_as (named_resources r) (named (of_interface path) (text_of name)) (name_slot (is_resource r n) p (text_of name))) home ∙ known-as (is_resource r n) agrees
 
   -- ---- an instance
 
@@ -98,14 +88,11 @@ module _ (r : Resolve) (v : IsValid r) where
         let owned : def.owner ≡ owner.Interface id = sym (same-owner (owner.Interface id) def.owner (first_true (same_owner (owner.Interface id) def.owner) _ e)) in
         let name = some-of def.name (second_true (same_owner (owner.Interface id) def.owner) _ e) in
         ap (λ (o : Option (String Global)). option_map_or (λ x. is_slot_for r k (find_type (text_of x) w.1.types)) o false) name.1
-        ∙ ap (is_slot_for r k) (types_are_found r id there.0 k def name.0 with-functions v there.1 at name.1 owned whole-view)
-        ∙ slot-known id w.0 shows.path k def name.0 at name.1 owned
+        ∙ ap (is_slot_for r k) (types_are_found r id there.0 k def name.0 with-functions v there.1 at name.1 owned whole-view) ∙ slot-known id w.0 shows.path k def name.0 at name.1 owned
 
     pub instance-stands : is_standing r n (imported_instance w) ≡ true
-    instance-stands =
-        both (is_instance_of (interface_path r n) (imported_instance w)) _ (ap (λ o. is_instance_of o (imported_instance w)) shows.path ∙ nat_list_eq_equiv.refl w.0)
-        (all-numbered (λ (e : ℕ × TypeDef). not (is_named_of n e.1) || shows_type r (imported_instance w) e) 0 r.types.items
-        (λ k def at. let here : 0 + k ≡ k = omega arith in
+    instance-stands = both (is_instance_of (interface_path r n) (imported_instance w)) _ (ap (λ o. is_instance_of o (imported_instance w)) shows.path ∙ nat_list_eq_equiv.refl w.0)
+        (all-numbered (λ (e : ℕ × TypeDef). not (is_named_of n e.1) || shows_type r (imported_instance w) e) 0 r.types.items (λ k def at. let here : 0 + k ≡ k = omega arith in
         subst (λ (m : ℕ). (not (is_named_of n def) || shows_type r (imported_instance w) (m, def)) ≡ true) (sym here) (shows-one k def at (is_named_of n def) refl)))
 
   -- ---- the interfaces that have been imported
@@ -113,7 +100,7 @@ module _ (r : Resolve) (v : IsValid r) where
   pub import-stands : (a : Around) (ns : List ℕ) (n : ℕ) → HasImported r a ns → Contains ns n → Contains (standing_instances r a) n
   import-stands a ns n h c =
       let at = contains-get ns n c in
-      let w = zip-at (ShowsImport r) ns h.views at.0 n h.shown at.1 in
+      let w = zip_at (ShowsImport r) ns h.views h.shown at.0 n at.1 in
       let instances : outer_instances a.declared ≡ map imported_instance h.views = ap (λ o. option_map_or (λ s. s.instances) o []) h.followed ∙ h.instances in
       let found : slice_get (outer_instances a.declared) at.0 ≡ Some (imported_instance w.0) =
       ap (λ xs. slice_get xs at.0) instances ∙ slice_get-map imported_instance h.views at.0 ∙ ap (option_map imported_instance) w.1 in

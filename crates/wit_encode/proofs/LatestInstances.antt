@@ -1,6 +1,6 @@
 -- One instance more, which is listed as that of its interface.
-use Rattle.std.proofs.Common.{◌≡◌, refl, sym, subst, ap, ◌∙◌, ℕ, ◌<◌, nat_cmp, Ordering, Bool, true, false, cond, if◌then◌else◌, List, [], ◌∷◌, ◌++◌, length, Option, Some, None, slice_get}
-use Rattle.std.proofs.lemmas.{Bool.cond-true, Bool.cond-false, Cmp.nat_cmp_total}
+use Rattle.std.proofs.Common.{◌≡◌, refl, sym, subst, ap, ◌∙◌, ℕ, ◌<◌, nat_cmp, Ordering, Bool, true, false, cond, if◌then◌else◌, List, [], ◌∷◌, ◌++◌, length, Option, Some, None, slice_get, inl, inr}
+use Rattle.std.proofs.lemmas.{Bool.cond-true, Bool.cond-false, Cmp.nat_cmp_total, Bool.cases_Bool}
 use Rattle.std.specs.{BTreeMap.insert_entry, BTreeMap.is_at, FinMap.nat_cmp-IsAntisymmetric, Option.option_map_or, Ordering.is_eq, Ordering.match_ordering}
 use Rattle.std.specs.List.{Contains, filter}
 use Rattle.std.specs.declared.cmp.Ordering.TheVariants.{Less, Equal, Greater}
@@ -8,8 +8,8 @@ use Rattle.wit_model.specs.declared.model.Resolve.{Resolve}
 use Rattle.comp_meaning.specs.Follow.{Instance}
 use Rattle.encode_types.specs.Known.{Around, are_right, below, is_standing, known_instance, outer_instances, outer_slots, standing_instances, stands_around}
 use Rattle.encode_types.proofs.Tables.{equal-is, equal-self}
-use Rattle.wit_encode.proofs.{ImportsStand.below-there, WorldFunctions.at-length}
-use Rattle.base_lemmas.proofs.{Elements.filter_keeps as contains-filter, Elements.filter_kept as filter-contains, Lists.front_more as get-left}
+use Rattle.wit_encode.proofs.{ImportsStand.below-there}
+use Rattle.base_lemmas.proofs.{Elements.filter_keeps as contains-filter, Elements.filter_kept as filter-contains, Lists.front_more as get-left, Lists.at_last}
 
 -- ---- one entry in an ordered map, new or not
 
@@ -52,9 +52,8 @@ module _ (r : Resolve) (a a' : Around) (x : Instance) (i : ℕ) (instances : out
   at_number xs j o = option_map_or (λ k. option_map_or (is_standing r j) (slice_get xs k) false) o false
 
   new-stands : is_standing r i x ≡ true → stands_around r a'.instances (outer_instances a'.declared) i ≡ true
-  new-stands h =
-      ap (λ es. at_number (outer_instances a'.declared) i (known_instance es i)) listed ∙ ap (at_number (outer_instances a'.declared) i) (found-new i number a.instances)
-      ∙ ap (λ xs. option_map_or (is_standing r i) (slice_get xs number) false) instances ∙ ap (λ o. option_map_or (is_standing r i) o false) (at-length (outer_instances a.declared) [] x) ∙ h
+  new-stands h = ap (λ es. at_number (outer_instances a'.declared) i (known_instance es i)) listed ∙ ap (at_number (outer_instances a'.declared) i) (found-new i number a.instances)
+      ∙ ap (λ xs. option_map_or (is_standing r i) (slice_get xs number) false) instances ∙ ap (λ o. option_map_or (is_standing r i) o false) (at_last (outer_instances a.declared) x) ∙ h
 
   still-there : (j k : ℕ) (o : Option Instance) → slice_get (outer_instances a.declared) k ≡ o → option_map_or (is_standing r j) o false ≡ true
       → option_map_or (is_standing r j) (slice_get (outer_instances a.declared ++ x ∷ []) k) false ≡ true
@@ -66,8 +65,7 @@ module _ (r : Resolve) (a a' : Around) (x : Instance) (i : ℕ) (instances : out
   still-listed j (Some k) h = still-there j k (slice_get (outer_instances a.declared) k) refl h
 
   old-stands : (j : ℕ) → is_at (nat_cmp j) i ≡ false → stands_around r a.instances (outer_instances a.declared) j ≡ true → stands_around r a'.instances (outer_instances a'.declared) j ≡ true
-  old-stands j other h =
-      ap (λ es. at_number (outer_instances a'.declared) j (known_instance es j)) listed ∙ ap (at_number (outer_instances a'.declared) j) (found-other i number j a.instances other)
+  old-stands j other h = ap (λ es. at_number (outer_instances a'.declared) j (known_instance es j)) listed ∙ ap (at_number (outer_instances a'.declared) j) (found-other i number j a.instances other)
       ∙ ap (λ xs. at_number xs j (known_instance a.instances j)) instances ∙ still-listed j (known_instance a.instances j) h
 
   stands-after : (j : ℕ) → j < length r.interfaces.items → stands_around r a'.instances (outer_instances a'.declared) j ≡ true → Contains (standing_instances r a') j
@@ -76,17 +74,14 @@ module _ (r : Resolve) (a a' : Around) (x : Instance) (i : ℕ) (instances : out
       subst (λ (b : Bool). Contains (if b then filter (stands_around r a'.instances (outer_instances a'.declared)) (below (length r.interfaces.items)) else []) j) (sym right-after) all
 
   stood-before : (j : ℕ) → Contains (standing_instances r a) j → stands_around r a.instances (outer_instances a.declared) j ≡ true
-  stood-before j c =
-      (filter-contains (stands_around r a.instances (outer_instances a.declared)) (below (length r.interfaces.items)) j
+  stood-before j c = (filter-contains (stands_around r a.instances (outer_instances a.declared)) (below (length r.interfaces.items)) j
       (subst (λ (b : Bool). Contains (if b then filter (stands_around r a.instances (outer_instances a.declared)) (below (length r.interfaces.items)) else []) j) right c)).1
 
   -- the interface stands by the new instance, and the others by their own
   pub stands-then : (j : ℕ) → j < length r.interfaces.items → (j ≡ i → is_standing r i x ≡ true) → (is_at (nat_cmp j) i ≡ false → Contains (standing_instances r a) j)
       → Contains (standing_instances r a') j
-  stands-then j inside new old = by (is_at (nat_cmp j) i) refl
-    where
-      by : (b : Bool) → is_at (nat_cmp j) i ≡ b → Contains (standing_instances r a') j
-      by true e =
-          let same : j ≡ i = nat_cmp-IsAntisymmetric j i (equal-is (nat_cmp j i) e) in
-          subst (Contains (standing_instances r a')) (sym same) (stands-after i (subst (λ (z : ℕ). z < length r.interfaces.items) same inside) (new-stands (new same)))
-      by false e = stands-after j inside (old-stands j e (stood-before j (old e)))
+  stands-then j inside new old = elim (cases_Bool (is_at (nat_cmp j) i)) [
+    | inl e ↦ (let same : j ≡ i = nat_cmp-IsAntisymmetric j i (equal-is (nat_cmp j i) e) in
+        subst (Contains (standing_instances r a')) (sym same) (stands-after i (subst (λ (z : ℕ). z < length r.interfaces.items) same inside) (new-stands (new same))))
+    | inr e ↦ stands-after j inside (old-stands j e (stood-before j (old e)))
+  ]

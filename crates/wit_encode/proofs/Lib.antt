@@ -12,48 +12,12 @@ pub mod Declaring
 pub mod ValueSlots
 -- What the calls of an encoder of interfaces do to what it holds. Serves Counting, Importing, Opening, Outside and 5 more.
 pub mod Calls
--- A name in a place is that of one type among those that are met, so the names of resources are those of the types that are resources. Serves DependencyWeighing, Encodable, ImportsStand, OwnerScope
--- and 5 more.
+-- A name in a place is that of one type among those that are met, so the names of resources are those of the types that are resources. Serves Encodable, ImportsStand, OwnerScope, ShownSlots and 4
+-- more.
 pub mod Naming
 -- Instances of the interfaces that have been imported stand. Serves component_types::interface_type, laws::imports_stand; crates above.
 pub mod ImportsStand
--- Imports and exports of a component type, in order: what declarations add to them, and that no import stands behind an export. Serves WorldCalls, WorldFunctions, WorldInterfaces, WorldShown.
-pub mod Directions
--- Lists of numbers: what stands before a place, what stands once, and what is given by one element alone. Serves Aliases, Exporting, ListedTypes, WorldLists and 1 more.
-pub mod Numbers
--- What is met from a type of an owner is of that owner, but for what its aliases of types of other interfaces name. Serves ListedTypes, OwnerScope, Reached, UsedPaths and 2 more.
-pub mod Owned
--- The types of an interface in valid packages: each stands in the list once, under its name, behind those of the list that it uses. Serves Exporting, Reached, ShownSlots, UsedPaths.
-pub mod ListedTypes
--- Named types that are met through unnamed ones: where all of them are known, no named type of the place is met by way of unknown numbers. Serves Exporting, UsedPaths, WorldFunctions, WorldLists and
--- 1 more.
-pub mod Meeting
--- The types that are exported as those of an interface are encoded, one for each, in order. Serves interface::encode_instance, interface::encode_types.
-pub mod Exporting
--- How long the bytes of parts of a component are at most. Serves BytesWritten, Extents, PackageRoom; crates above.
-pub mod Lengths
--- What stands in a list that was mapped or filtered. Serves Counting, DependencyWeighing, Weighing, WorldFunctions and 1 more.
-pub mod Mapped
--- The trees of valid kinds are well formed, where the names stand for resources as their types do. Serves OwnerScope, Validity.
-pub mod Forming
--- What a valid `Resolve` gives for encoding. Serves DefinedTypes, Encodable, MetKinds, OwnerScope and 3 more.
-pub mod Validity
--- All that is met from the types and functions of an owner can be encoded in its scope, where an instance of each interface that it uses stands. Serves laws::functions_encode, laws::names_encode,
--- laws::table_scope_is_of_owner, laws::types_encode; crates above.
-pub mod OwnerScope
--- What an encoder of a world shows after a call that defines, imports and reaches types. Serves laws::items_meet_standing; crates above.
-pub mod WorldShown
--- What is met from the types and functions of an interface, or of a world, is counted in its weight. Serves DefinedTypes, DependencyWeighing, ExtentWeighing, Weighing and 1 more.
-pub mod Reached
--- An interface that has no room in an instance type weighs more than the largest number of 32 bits. Serves laws::lacking_interfaces_are_heavy.
-pub mod Weighing
--- How many bytes are written at most of a definition, of the type of a function and of a name, and that types and functions weigh no less. Serves component_types::import_dependency,
--- component_types::interface_type, interface::define_function_type, interface::defined_type and 8 more.
-pub mod Extents
--- A world that has no room in a component type weighs more than the largest number of 32 bits. Serves laws::lacking_worlds_are_heavy, world::encode_entries, world::encode_function,
--- world::encode_interface and 1 more.
-pub mod WorldFunctions
--- One instance more, which is listed as that of its interface. Serves Aliases, Importing, Placed, WorldInterfaces; crates above.
+-- One instance more, which is listed as that of its interface. Serves Aliases, DependencyAliases, Imported, Importing and 2 more; crates above.
 pub mod LatestInstances
 -- One alias more in a component type: what it shows, and what an instance type in it reads. Serves Importing, WorldCalls.
 pub mod Wider
@@ -68,6 +32,8 @@ pub mod Importing
 pub mod Imported
 -- The aliases in the component type of an interface. Serves component_types::interface_type.
 pub mod DependencyAliases
+-- Lists of numbers: what stands before a place, what stands once, and what is given by one element alone. Serves Aliases, Exporting, ListedTypes, WorldLists and 1 more.
+pub mod Numbers
 -- The names under which instances have been imported and exported stay, but for that of a new one. Serves component_types::interface_type, world::encode_entries, world::encode_function,
 -- world::encode_interface and 1 more.
 pub mod WrittenNames
@@ -83,6 +49,28 @@ pub mod FunctionRoom
 -- What has no room in an encoder of interfaces, where a call has refused it. Serves interface::define_function_outside, interface::define_function_type, interface::define_outside,
 -- interface::defined_type and 15 more.
 pub mod Refusing
+-- What is met from a type of an owner is of that owner, but for what its aliases of types of other interfaces name. Serves ListedTypes, OwnerScope, Reached, UsedPaths and 2 more.
+pub mod Owned
+-- The types of an interface in valid packages: each stands in the list once, under its name, behind those of the list that it uses. Serves Exporting, Reached, ShownSlots, UsedPaths.
+pub mod ListedTypes
+-- The trees of valid kinds are well formed, where the names stand for resources as their types do. Serves OwnerScope, Validity.
+pub mod Forming
+-- What a valid `Resolve` gives for encoding. Serves DefinedTypes, Encodable, MetKinds, OwnerScope and 3 more.
+pub mod Validity
+-- All that is met from the types and functions of an owner can be encoded in its scope, where an instance of each interface that it uses stands. Serves laws::functions_encode, laws::names_encode,
+-- laws::table_scope_is_of_owner, laws::types_encode; crates above.
+pub mod OwnerScope
+-- Imports and exports of a component type, in order: what declarations add to them, and that no import stands behind an export. Serves WorldCalls, WorldFunctions, WorldHolding, WorldInterfaces and 2
+-- more.
+pub mod Directions
+-- What stands in a list that was mapped or filtered. Serves Counting, Weighing, WorldShown.
+pub mod Mapped
+-- Named types that are met through unnamed ones: where all of them are known, no named type of the place is met by way of unknown numbers. Serves Exporting, UsedPaths, WorldFunctions, WorldShown.
+pub mod Meeting
+-- What an encoder of a world shows after a call that defines, imports and reaches types. Serves laws::items_meet_standing; crates above.
+pub mod WorldShown
+-- What is met from the types and functions of an interface, or of a world, is counted in its weight. Serves DefinedTypes, DependencyWeighing, ExtentWeighing, Weighing and 1 more.
+pub mod Reached
 -- Which value types a scope defines, from what has been defined call by call. Serves Counting, Referring, WorldHolding.
 pub mod DefinedTypes
 -- How much is defined for functions, and by an instance type as a whole. Serves interface::encode_function, interface::encode_functions, interface::encode_inside, interface::encode_parts and 1 more.
@@ -111,6 +99,18 @@ pub mod DependencyHolding
 pub mod UsedPaths
 -- Interfaces imported one after the other, in the order in which they are reached. Serves component_types::import_dependencies, component_types::interface_type; crates above.
 pub mod ImportLoop
+-- An interface that has no room in an instance type weighs more than the largest number of 32 bits. Serves laws::lacking_interfaces_are_heavy.
+pub mod Weighing
+-- The types that are exported as those of an interface are encoded, one for each, in order. Serves interface::encode_instance, interface::encode_types.
+pub mod Exporting
+-- How long the bytes of parts of a component are at most. Serves BytesWritten, Extents, PackageRoom; crates above.
+pub mod Lengths
+-- How many bytes are written at most of a definition, of the type of a function and of a name, and that types and functions weigh no less. Serves component_types::import_dependency,
+-- component_types::interface_type, interface::define_function_type, interface::defined_type and 8 more.
+pub mod Extents
+-- A world that has no room in a component type weighs more than the largest number of 32 bits. Serves laws::lacking_worlds_are_heavy, world::encode_entries, world::encode_function,
+-- world::encode_interface and 1 more.
+pub mod WorldFunctions
 -- An interface that has no room in a component type of its own weighs more than the largest number of 32 bits. Serves component_types::interface_type.
 pub mod DependencyWeighing
 -- What the parts of an instance type take in sum is no more than its interface weighs. Serves laws::types_and_functions_are_light.

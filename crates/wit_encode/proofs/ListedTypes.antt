@@ -1,5 +1,5 @@
 -- The types of an interface in valid packages: each stands in the list once, under its name, behind those of the list that it uses.
-use Rattle.std.proofs.Common.{◌≡◌, refl, sym, subst, ap, ◌∙◌, ℕ, ◌⊎◌, inl, inr, Bool, true, false, not, ◌&&◌, ◌||◌, ◌==◌, nat_lt, List, [], take, count_by, slice_get, Option, Some, None, is_some, String, string_bytes, option_map}
+use Rattle.std.proofs.Common.{◌≡◌, refl, sym, subst, ap, ◌∙◌, ℕ, ◌⊎◌, inl, inr, true, false, not, ◌&&◌, ◌||◌, ◌==◌, nat_lt, List, [], take, count_by, slice_get, Option, Some, None, is_some, String, string_bytes, option_map}
 use Rattle.std.proofs.lemmas.Option.{slice_get-map}
 use Rattle.std.specs.declared.alloc.Global.{Global}
 use Rattle.std.specs.{Prelude.is_none, List.Contains, List.list_all, Option.option_map_or, Str.bytes_eq, HashMap.get_by_text}
@@ -12,6 +12,7 @@ use Rattle.wit_model.proofs.{Listed.misfit, InOrder.found_stands, Elements.has-c
 use Rattle.wit_model.proofs.{Listings.given_all, Listings.given_found, OnePath.given-test, OnePath.found-in, OnePath.interface-passes as interface_passes}
 use Rattle.encode_types.specs.{KeyLaws.text_same, Kinds.parts_of, Plan.foreign_owner, Table.interface_of_owner}
 use Rattle.wit_encode.proofs.{Owned.alias-part, Owned.own-interface, Owned.owner-kept as kept-of-owner, Numbers.after-at}
+use Rattle.std.proofs.lemmas.Bool.{cases_Bool}
 use Rattle.encode_shown.proofs.Basics.{or-cases}
 use Rattle.base_lemmas.proofs.{Bools.left_of as first_true, Bools.not-false, Bools.right_of as second_true, Elements.all-contained, Elements.get-contains}
 use Rattle.base_lemmas.proofs.Numbers.{same-number}
@@ -32,13 +33,11 @@ module _ (r : Resolve) (v : IsValid r) (i : ℕ) (interface : Interface) (there 
 
   all-named : list_all (is_named_of r (as_interface i)) numbers ≡ true
   unfolding order_of_types
-  all-named = first_true (list_all (is_named_of r (as_interface i)) numbers) (are_in_order r numbers)
-      (interface_passes order_of_types r v.rules.order_of_types i interface there)
+  all-named = first_true (list_all (is_named_of r (as_interface i)) numbers) (are_in_order r numbers) (interface_passes order_of_types r v.rules.order_of_types i interface there)
 
   in-order : are_in_order r numbers ≡ true
   unfolding order_of_types
-  in-order = second_true (list_all (is_named_of r (as_interface i)) numbers) (are_in_order r numbers)
-      (interface_passes order_of_types r v.rules.order_of_types i interface there)
+  in-order = second_true (list_all (is_named_of r (as_interface i)) numbers) (are_in_order r numbers) (interface_passes order_of_types r v.rules.order_of_types i interface there)
 
   inside : list_all (λ (id : TypeId). in_list r.types.items id.0) (values interface.types) ≡ true
   unfolding numbers_in_range
@@ -64,14 +63,12 @@ module _ (r : Resolve) (v : IsValid r) (i : ℕ) (interface : Interface) (there 
   -- a type of the owner stands in the list under its name
   listed-as : (m : ℕ) (def : TypeDef) (name : String Global) → type_at r m ≡ Some def → def.name ≡ Some name → same_owner def.owner (as_interface i) ≡ true
       → is_listed_in_interface m (text_of name) interface ≡ true
-  listed-as m def name at named s =
-      ap (passes (is_listed_in_interface m (text_of name))) (sym there)
+  listed-as m def name at named s = ap (passes (is_listed_in_interface m (text_of name))) (sym there)
       ∙ subst (λ (a : TypeOwner). is_listed r m (text_of name) a ≡ true) (same-owner def.owner (as_interface i) s)
       (given-test (λ name. is_listed r m (text_of name) def.owner) def.name (same_owner def.owner owner.None) name named (passed m def at))
 
   stands : (m : ℕ) (t : Text) → is_listed_in_interface m t interface ≡ true → has numbers m ≡ true
-  stands m t h =
-      ap (λ ns. has ns m) (sym (given_all (values interface.types)))
+  stands m t h = ap (λ ns. has ns m) (sym (given_all (values interface.types)))
       ∙ found_stands (λ k. bytes_eq t (string_bytes k)) (λ (id : TypeId). Some id.0) m interface.types.entries
       (ap (λ o. option_map_or (λ k. k == m) o false) (given_found (get_by_text interface.types t)) ∙ first_true _ _ h)
 
@@ -111,16 +108,13 @@ module _ (r : Resolve) (v : IsValid r) (i : ℕ) (interface : Interface) (there 
 
       -- its key is its name
       pub listed-key : text_of e.0 ≡ text_of h.name
-      listed-key = go (bytes_eq (text_of h.name) (string_bytes e.0)) refl
-        where
-          go : (b : Bool) → bytes_eq (text_of h.name) (string_bytes e.0) ≡ b → text_of e.0 ≡ text_of h.name
-          go true q = sym (text_same (text_of h.name) (text_of e.0) q)
-          go false q =
-              let fails =
-              (λ j. option_map_or (λ m. m == e.1.0) (sym (given_found (get_by_text interface.types (text_of h.name))) j) false &&
-              (count_by (λ m. m == e.1.0) (sym (given_all (values interface.types)) j) == 1))
-              ∙ misfit (λ key. bytes_eq (text_of h.name) (string_bytes key)) (λ (id : TypeId). Some id.0) e.1.0 interface.types.entries k e at (same-number e.1.0) q in
-              cc (sym listed-here ∙ fails)
+      listed-key = elim (cases_Bool (bytes_eq (text_of h.name) (string_bytes e.0))) [
+        | inl q ↦ sym (text_same (text_of h.name) (text_of e.0) q)
+        | inr q ↦ (let fails = (λ j. option_map_or (λ m. m == e.1.0) (sym (given_found (get_by_text interface.types (text_of h.name))) j) false &&
+            (count_by (λ m. m == e.1.0) (sym (given_all (values interface.types)) j) == 1))
+            ∙ misfit (λ key. bytes_eq (text_of h.name) (string_bytes key)) (λ (id : TypeId). Some id.0) e.1.0 interface.types.entries k e at (same-number e.1.0) q in
+            cc (sym listed-here ∙ fails))
+      ]
 
       used-before : (x : ℕ) → Contains (used_by_type r h.def) x → has numbers x ≡ true → Contains (take k numbers) x
       used-before x c s =
@@ -138,8 +132,7 @@ module _ (r : Resolve) (v : IsValid r) (i : ℕ) (interface : Interface) (there 
           let target = sym (ap (λ t. option_map_or (λ target. not (same_owner target.owner h.def.owner) && option_map_or
           (λ i. option_map_or (λ other. is_some other.name) (interface_at r i) false) (owner_interface target.owner) false) t false) is) ∙ at in
           not-false (same_owner def.owner h.def.owner) (first_true _ _ target)
-          (subst (λ (a : TypeOwner). same_owner def.owner a ≡ true) (sym (same-owner h.def.owner (as_interface i) h.owned))
-          (belongs (owner_interface def.owner) refl (second_true _ _ target)))
+          (subst (λ (a : TypeOwner). same_owner def.owner a ≡ true) (sym (same-owner h.def.owner (as_interface i) h.owned)) (belongs (owner_interface def.owner) refl (second_true _ _ target)))
         where
           belongs : (j : Option ℕ) → owner_interface def.owner ≡ j
               → option_map_or (λ j. option_map_or (λ other. is_some other.name) (interface_at r j) false) j false ≡ true → same_owner def.owner (as_interface i) ≡ true
@@ -148,16 +141,13 @@ module _ (r : Resolve) (v : IsValid r) (i : ℕ) (interface : Interface) (there 
 
       -- What it uses stands before it in the list, or it names a type of another interface.
       pub uses-before : ((x : ℕ) → Contains (used_by_type r h.def) x → Contains (take k numbers) x)
-          ⊎ ((id : TypeId) → Contains (parts_of h.def.kind) (ty.Id id) → (def : TypeDef) → type_at r id.0 ≡ Some def
-          → foreign_owner (interface_of_owner (as_interface i)) def.owner ≡ None → ⊥)
-      uses-before = or-cases (is_none h.def.name) (list_all (has_owner r h.def.owner) (used_by_type r h.def) || is_use r h.def) (owner-kept e.1.0 h.def h.there)
-          (λ none. absurd (named-none none))
+          ⊎ ((id : TypeId) → Contains (parts_of h.def.kind) (ty.Id id) → (def : TypeDef) → type_at r id.0 ≡ Some def → foreign_owner (interface_of_owner (as_interface i)) def.owner ≡ None → ⊥)
+      uses-before = or-cases (is_none h.def.name) (list_all (has_owner r h.def.owner) (used_by_type r h.def) || is_use r h.def) (owner-kept e.1.0 h.def h.there) (λ none. absurd (named-none none))
           (λ rest. or-cases (list_all (has_owner r h.def.owner) (used_by_type r h.def)) (is_use r h.def) rest (λ used. inl (all-before used)) (λ used. inr (use-foreign used)))
         where
           named-none : is_none h.def.name ≡ true → ⊥
           named-none none = cc (ap is_none (sym h.named_) ∙ none)
 
           all-before : list_all (has_owner r h.def.owner) (used_by_type r h.def) ≡ true → (x : ℕ) → Contains (used_by_type r h.def) x → Contains (take k numbers) x
-          all-before used x c = used-before x c (owned-listed x
-              (subst (λ (a : TypeOwner). has_owner r a x ≡ true) (same-owner h.def.owner (as_interface i) h.owned)
+          all-before used x c = used-before x c (owned-listed x (subst (λ (a : TypeOwner). has_owner r a x ≡ true) (same-owner h.def.owner (as_interface i) h.owned)
               (all-contained (has_owner r h.def.owner) (used_by_type r h.def) x used c)))

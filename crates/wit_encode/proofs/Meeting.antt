@@ -36,13 +36,11 @@ module _ (r : Resolve) (below : Keeps references r) where
     unknown-unnamed : (n : ℕ) → MeetsKnown n → (IsKnown m n → ⊥) → own_name r scope n ≡ None
     unknown-unnamed n met lacks = go (type_at r n) refl
       where
-        named : (def : TypeDef) → type_at r n ≡ Some def → foreign_owner scope.own_interface def.owner ≡ None → (o : Option (String Global)) → def.name ≡ o
-            → option_map text_of o ≡ None
+        named : (def : TypeDef) → type_at r n ≡ Some def → foreign_owner scope.own_interface def.owner ≡ None → (o : Option (String Global)) → def.name ≡ o → option_map text_of o ≡ None
         named def at f None e = refl
         named def at f (Some name) e = absurd (lacks (met def at f n (named-meets n def name at e)))
 
-        own : (def : TypeDef) → type_at r n ≡ Some def → (o : Option InterfaceId) → foreign_owner scope.own_interface def.owner ≡ o
-            → cond (is_none o) (option_map text_of def.name) None ≡ None
+        own : (def : TypeDef) → type_at r n ≡ Some def → (o : Option InterfaceId) → foreign_owner scope.own_interface def.owner ≡ o → cond (is_none o) (option_map text_of def.name) None ≡ None
         own def at None f = named def at f def.name refl
         own def at (Some i) f = refl
 
@@ -56,7 +54,6 @@ module _ (r : Resolve) (below : Keeps references r) where
     meets-unnamed _ _ met (further id def t n lacks at f c more) = meets-unnamed t n (part def.name refl) more
       where
         part : (o : Option (String Global)) → def.name ≡ o → AllMeetKnown t
-        part None e = λ id' q def' at' f' x d. met id refl def at f x
-            (subst (λ (ns : List ℕ). Contains ns x) (sym (unnamed-meets id.0 def at e))
+        part None e = λ id' q def' at' f' x d. met id refl def at f x (subst (λ (ns : List ℕ). Contains ns x) (sym (unnamed-meets id.0 def at e))
             (part-uses def id' x (subst (λ (u : ValueType). Contains (parts_of def.kind) u) q c) d))
         part (Some name) e = absurd (lacks (met id refl def at f id.0 (named-meets id.0 def name at e)))

@@ -1,6 +1,6 @@
 -- Maps that began empty hold the kinds of the unnamed types that are met, each once.
-use Rattle.std.proofs.Common.{rules as std_rules, ◌≡◌, refl, sym, subst, ap, ◌∙◌, ℕ, zero, suc, ◌<◌, ◌⊎◌, inl, inr, Bool, true, false, List, [], ◌∷◌, map, length, get_or, arith, Option}
-use Rattle.std.specs.{Prelude.AllPairs, List.Contains, Cmp.Lexicographic.pointwise}
+use Rattle.std.proofs.Common.{rules as std_rules, ◌≡◌, refl, sym, subst, ◌∙◌, ℕ, zero, suc, ◌<◌, ◌⊎◌, inl, inr, true, false, List, [], ◌∷◌, map, length, get_or, arith, Option}
+use Rattle.std.specs.{Prelude.AllPairs, List.Contains, List.AllZip, Cmp.Lexicographic.pointwise}
 use Rattle.wit_model.specs.{Rules.is_named_kind, Valid.IsValid}
 use Rattle.wit_model.specs.declared.model.{Resolve.Resolve, Param.Param, TypeDefKind.TypeDefKind, InterfaceId.InterfaceId, «Type».«Type» as ValueType}
 use Rattle.encode_types.specs.declared.maps.TypeEncodingMaps.{TypeEncodingMaps}
@@ -9,7 +9,8 @@ use Rattle.encode_types.specs.Maps.{same_kind, IsKnown, IsReady, AllReady, IsOnc
 use Rattle.encode_types.specs.MetKinds.{ReachedFrom, IsMetKind, HasSame, AreMetKinds, IsKnownKind, IsHeld, Learns, MetKindsAreHeld}
 use Rattle.encode_types.proofs.{Lists.none-in, EqualLists.kinds-of-lists, EqualLists.lists-of-kinds, KindLaws.same_types}
 use Rattle.wit_encode.proofs.{OwnerScope.unnamed-home, Validity.valid-unnamed}
-use Rattle.base_lemmas.proofs.Bools.{left_of as first_true, right_of as second_true}
+use Rattle.base_lemmas.proofs.{Bools.left_of as first_true, Bools.right_of as second_true, Elements.zip_long, Elements.zip_map}
+use Rattle.std.proofs.lemmas.Bool.{false_from_ne_true}
 
 -- ---- empty maps
 
@@ -25,29 +26,15 @@ record IsKindOf (r : Resolve) (m : TypeEncodingMaps) (xs : List ℕ) (kind : Typ
   pub known : IsKnownKind r m kind
 
 abbrev AreKindsOf : Resolve → TypeEncodingMaps → List TypeDefKind → List (List ℕ × ℕ) → Type 0
-AreKindsOf r m [] [] = Unit {0}
-AreKindsOf r m (k ∷ ks) (e ∷ es) = IsKindOf r m e.0 k × AreKindsOf r m ks es
-AreKindsOf r m _ _ = ⊥
+AreKindsOf r m ks es = AllZip (λ k e. IsKindOf r m e.0 k) ks es
 
 kinds-at : (r : Resolve) (m : TypeEncodingMaps) (es : List (List ℕ × ℕ)) → ((xs : List ℕ) (i : ℕ) → Contains es (xs, i) → (k : TypeDefKind) × IsKindOf r m xs k) → (ks : List TypeDefKind)
     × AreKindsOf r m ks es
 kinds-at r m [] h = ([], tt)
-kinds-at r m (e ∷ es) h =
-    let x = h e.0 e.1 (0, omega arith, refl) in
-    let more = kinds-at r m es (λ xs i c. h xs i (suc c.0, omega (arith, c.1), c.2)) in
-    (x.0 ∷ more.0, (x.1, more.1))
+kinds-at r m (e ∷ es) h = let x = h e.0 e.1 (0, omega arith, refl) in let more = kinds-at r m es (λ xs i c. h xs i (suc c.0, omega (arith, c.1), c.2)) in (x.0 ∷ more.0, (x.1, more.1))
 
 kind-lists : (r : Resolve) (m : TypeEncodingMaps) (ks : List TypeDefKind) (es : List (List ℕ × ℕ)) → AreKindsOf r m ks es → map (λ e. e.0) es ≡ map kind_code ks
-kind-lists r m [] [] h = refl
-kind-lists r m [] (e ∷ es) h = absurd h
-kind-lists r m (k ∷ ks) [] h = absurd h
-kind-lists r m (k ∷ ks) (e ∷ es) h = λ i. h.0.is i ∷ (kind-lists r m ks es h.1) i
-
-kinds-long : (r : Resolve) (m : TypeEncodingMaps) (ks : List TypeDefKind) (es : List (List ℕ × ℕ)) → AreKindsOf r m ks es → length ks ≡ length es
-kinds-long r m [] [] h = refl
-kinds-long r m [] (e ∷ es) h = absurd h
-kinds-long r m (k ∷ ks) [] h = absurd h
-kinds-long r m (k ∷ ks) (e ∷ es) h = ap suc (kinds-long r m ks es h.1)
+kind-lists r m ks es h = zip_map (λ k (e : List ℕ × ℕ). IsKindOf r m e.0 k) kind_code (λ e. e.0) (λ k e x. x.is) ks es h
 
 kind-at : (r : Resolve) (m : TypeEncodingMaps) (ks : List TypeDefKind) (es : List (List ℕ × ℕ)) → AreKindsOf r m ks es → (i : ℕ) (d : TypeDefKind) (e : List ℕ × ℕ) → i < length ks
     → IsKindOf r m (get_or es i e).0 (get_or ks i d)
@@ -72,20 +59,10 @@ list-there r m (k ∷ ks) (x ∷ es) h e (suc i, l, q) = let more = list-there r
 
 kinds-apart : (r : Resolve) (m : TypeEncodingMaps) (ks : List TypeDefKind) (es : List (List ℕ × ℕ)) → AreKindsOf r m ks es → AllPairs (λ x y. x.0 ≡ y.0 → ⊥) es
     → AllPairs (λ x y. same_kind x y ≡ false) ks
-kinds-apart r m ks es h p i j d l n = go (same_kind (get_or ks i d) (get_or ks j d)) refl
-  where
-    long : length ks ≡ length es
-    long = kinds-long r m ks es h
-
-    none : List ℕ × ℕ
-    none = ([], 0)
-
-    go : (b : Bool) → same_kind (get_or ks i d) (get_or ks j d) ≡ b → same_kind (get_or ks i d) (get_or ks j d) ≡ false
-    go false e = e
-    go true e =
-        let first = kind-at r m ks es h i d none (omega (arith, l, n)) in
-        let second = kind-at r m ks es h j d none n in
-        absurd (p i j none l (omega (arith, long, n)) (first.is ∙ lists-of-kinds (get_or ks i d) (get_or ks j d) first.unnamed e ∙ sym second.is))
+kinds-apart r m ks es h p i j d l n = false_from_ne_true _ (λ e.
+    let first = kind-at r m ks es h i d ([], 0) (omega (arith, l, n)) in
+    p i j ([], 0) l (omega (arith, zip_long (λ k (e : List ℕ × ℕ). IsKindOf r m e.0 k) ks es h, n))
+    (first.is ∙ lists-of-kinds (get_or ks i d) (get_or ks j d) first.unnamed e ∙ sym (kind-at r m ks es h j d ([], 0) n).is))
 
 -- ---- keys
 
@@ -93,8 +70,7 @@ pub params-same : (ps qs : List Param) → pointwise same_param ps qs ≡ true �
 params-same [] [] e = refl
 params-same [] (q ∷ qs) e = absurd cc
 params-same (p ∷ ps) [] e = absurd cc
-params-same (p ∷ ps) (q ∷ qs) e =
-    search (std_rules, first_true, same_types, second_true, params-same ps qs (second_true (same_param p q) (pointwise same_param ps qs) e))
+params-same (p ∷ ps) (q ∷ qs) e = search (std_rules, first_true, same_types, second_true, params-same ps qs (second_true (same_param p q) (pointwise same_param ps qs) e))
 
 module _ (r : Resolve) (v : IsValid r) (own : Option InterfaceId) (ts : List ValueType) (m m' : TypeEncodingMaps) (learns : Learns r own m m') where
   module _ (none : m.id_to_index.entries ≡ []) where

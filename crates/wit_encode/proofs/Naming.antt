@@ -2,11 +2,9 @@
 use Rattle.std.proofs.Common.{rules as std_rules, ◌≡◌, refl, sym, subst, ap, ◌∙◌, ℕ, zero, suc, ◌+◌, Bool, true, false, ◌&&◌, ◌||◌, List, [], ◌∷◌, slice_get, Some, String, arith}
 use Rattle.std.proofs.lemmas.{Cmp.nat_list_eq_equiv, Bool.and_from as both, Bool.or_right as or-second}
 use Rattle.std.specs.declared.alloc.Global.{Global}
-use Rattle.std.specs.{List.list_any}
-use Rattle.wit_model.specs.{Text.Text, Text.text_of, Text.text_eq, Valid.IsValid, Valid.numbers_in_range}
-use Rattle.wit_model.specs.{Tree.Place, Tree.here, Tree.of_interface, Parts.numbered_from, Parts.same_owner, Parts.is_resource}
-use Rattle.wit_model.specs.Lookup.{type_at, place_of, place_of_path, interface_path}
-use Rattle.wit_model.specs.Rules.{is_listed, owner_in_range, text_is}
+use Rattle.std.specs.List.{list_any}
+use Rattle.wit_model.specs.{Text.Text, Text.text_of, Text.text_eq, Valid.IsValid, Valid.numbers_in_range, Tree.Place, Tree.here, Tree.of_interface, Parts.numbered_from, Parts.same_owner, Parts.is_resource}
+use Rattle.wit_model.specs.{Lookup.type_at, Lookup.place_of, Lookup.place_of_path, Lookup.interface_path, Rules.is_listed, Rules.owner_in_range, Rules.text_is}
 use Rattle.wit_model.specs.declared.model.{Resolve.Resolve, InterfaceId.InterfaceId, TypeDef.TypeDef, TypeOwner.TypeOwner}
 use Rattle.wit_model.proofs.{Entries.each_from_at, Entries.lists_pass, PartsLemmas.owner_same as same-owner, TextLemmas.text_named}
 use Rattle.wit_model.proofs.OnePath.{found-in, one-number, named-path, path-once}
@@ -14,8 +12,7 @@ use Rattle.comp_meaning.specs.Same.{same_place}
 use Rattle.encode_types.specs.KeyLaws.{text_same}
 use Rattle.encode_types.specs.{Resources.is_named_interface, Resources.is_resource_entry, Resources.resource_names, Table.is_met_owner, Table.has_named_owner}
 use Rattle.base_lemmas.proofs.Bools.{both_ways as either_way, left_of as first_true, right_of as second_true}
-use Rattle.encode_shown.proofs.Parts.{place-alike}
-use Rattle.encode_shown.proofs.Members.{valid-listed}
+use Rattle.encode_shown.proofs.{Parts.place-alike, Members.valid-listed}
 use Rattle.wit_model.specs.declared.model.TypeOwner.TheVariants as owner
 
 -- ---- numbered lists
@@ -27,9 +24,7 @@ any-numbered p j (x ∷ xs) h = go (λ e. any-numbered p (j + 1) xs e) (p (j, x)
     go : (list_any p (numbered_from (j + 1) xs) ≡ true → (k : ℕ) × (y : _) × (slice_get xs k ≡ Some y) × (p ((j + 1) + k, y) ≡ true)) → (b : Bool) → p (j, x) ≡ b
         → (b || list_any p (numbered_from (j + 1) xs)) ≡ true → (k : ℕ) × (y : _) × (slice_get (x ∷ xs) k ≡ Some y) × (p (j + k, y) ≡ true)
     go more true e h = (0, x, refl, subst (λ (m : ℕ). p (m, x) ≡ true) (omega arith) e)
-    go more false e h =
-        let rest = more h in
-        (suc rest.0, rest.1, rest.2, subst (λ (m : ℕ). p (m, rest.1) ≡ true) (omega arith) rest.3)
+    go more false e h = let rest = more h in (suc rest.0, rest.1, rest.2, subst (λ (m : ℕ). p (m, rest.1) ≡ true) (omega arith) rest.3)
 
 pub numbered-any : {A : Type 0} (p : ℕ × A → Bool) (j : ℕ) (xs : List A) (k : ℕ) (x : A) → slice_get xs k ≡ Some x → p (j + k, x) ≡ true → list_any p (numbered_from j xs) ≡ true
 numbered-any p j [] k x e h = absurd cc
@@ -87,13 +82,8 @@ module _ (r : Resolve) (v : IsValid r) where
             let same : text_eq x.path y.path ≡ true = ap (λ (z : Place). same_place z (of_interface y.path)) (sym (its-place r a x)) ∙ ap (same_place (place_of r a)) (sym (its-place r b y)) ∙ e in
             let numbers : x.number.0 ≡ y.number.0 = path-once r v x.number.0 y.number.0 x.path x.has (y.has ∙ ap Some (sym (text_same x.path y.path same))) in
             x.is ∙ ap (λ n. owner.Interface (record { 0 = n })) numbers ∙ sym y.is
-        go true p false q =
-            let wrong : false ≡ true = ap (λ (z : Place). same_place z here) (sym (its-place r a (named-place r a p))) ∙ ap (same_place (place_of r a)) (sym (unnamed-place r b q)) ∙ e in
-            absurd cc
-        go false p true q =
-            let wrong : false ≡ true = ap (λ (z : Place). same_place z (of_interface (named-place r b q).path)) (sym (unnamed-place r a p)) ∙ ap (same_place (place_of r a))
-            (sym (its-place r b (named-place r b q))) ∙ e in
-            absurd cc
+        go true p false q = let wrong : false ≡ true = (rw (its-place r a (named-place r a p), unnamed-place r b q) at e) in absurd cc
+        go false p true q = let wrong : false ≡ true = (rw (unnamed-place r a p, its-place r b (named-place r b q)) at e) in absurd cc
         go false p false q = sym (own a h p) ∙ own b k q
 
   module _ (met : TypeOwner → Bool) (homes : HaveHomes r met) where

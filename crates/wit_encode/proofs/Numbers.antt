@@ -5,8 +5,7 @@ use Rattle.std.specs.{Prelude.AllPairs, List.Contains, List.IsDistinct, List.con
 use Rattle.wit_model.specs.{Uses.has, Rules.each_after}
 use Rattle.encode_types.proofs.{Pairs.pairs-head, Pairs.pairs-tail, Lists.none-in}
 use Rattle.wit_model.proofs.Elements.{contains-has}
-use Rattle.base_lemmas.proofs.{Bools.left_of as first_true, Bools.right_of as second_true, Elements.all_at, Elements.contains-later, Elements.last_of}
-use Rattle.base_lemmas.proofs.{Lists.nothing-mapped, Numbers.equal, Numbers.same-number}
+use Rattle.base_lemmas.proofs.{Bools.left_of as first_true, Bools.right_of as second_true, Elements.all_at, Elements.contains-later, Elements.last_of, Lists.heads_equal, Lists.nothing-mapped, Lists.tails_equal, Numbers.equal, Numbers.same-number}
 
 -- ---- what stands once
 
@@ -19,9 +18,7 @@ count-cons n m ns = sum_by-cons (λ x. cond (x == n) 1 0) m ns
 
 counted : (ns : List ℕ) (k n : ℕ) → slice_get ns k ≡ Some n → 1 ≤ count_by (λ m. m == n) ns
 counted [] k n e = absurd cc
-counted (m ∷ ns) zero n e =
-    let here : same-times n m ≡ 1 = ap (λ b. cond b 1 0) (subst (λ (k : ℕ). (m == k) ≡ true) (same-some m n e) (same-number m)) in
-    omega (arith, here, count-cons n m ns)
+counted (m ∷ ns) zero n e = let here : same-times n m ≡ 1 = ap (λ b. cond b 1 0) (subst (λ (k : ℕ). (m == k) ≡ true) (same-some m n e) (same-number m)) in omega (arith, here, count-cons n m ns)
 counted (m ∷ ns) (suc k) n e = omega (arith, counted ns k n e, count-cons n m ns)
 
 -- a number that stands at a place and before it stands twice
@@ -53,13 +50,10 @@ apart-behind (x ∷ xs) ys n d front back = go (apart-behind xs ys n d.1) (Conta
 
 -- ---- each element, with those before it
 
-pub after-at : {V : Type 0} (q : List V → V → Bool) (before xs : List V) (k : ℕ) (v : V) → each_after q before xs ≡ true → slice_get xs k ≡ Some v
-    → q (before ++ take k xs) v ≡ true
+pub after-at : {V : Type 0} (q : List V → V → Bool) (before xs : List V) (k : ℕ) (v : V) → each_after q before xs ≡ true → slice_get xs k ≡ Some v → q (before ++ take k xs) v ≡ true
 after-at q before [] k v h e = absurd cc
-after-at q before (x ∷ xs) zero v h e = ap (λ b. q b v) (append-nil before)
-    ∙ (subst (λ z. q before z ≡ true) (same-some x v e) (first_true (q before x) (each_after q (before ++ x ∷ []) xs) h))
-after-at q before (x ∷ xs) (suc k) v h e =
-    ap (λ b. q b v) (sym (append_assoc before (x ∷ []) (take k xs)))
+after-at q before (x ∷ xs) zero v h e = ap (λ b. q b v) (append-nil before) ∙ (subst (λ z. q before z ≡ true) (same-some x v e) (first_true (q before x) (each_after q (before ++ x ∷ []) xs) h))
+after-at q before (x ∷ xs) (suc k) v h e = ap (λ b. q b v) (sym (append_assoc before (x ∷ []) (take k xs)))
     ∙ after-at q (before ++ x ∷ []) xs k v (second_true (q before x) (each_after q (before ++ x ∷ []) xs) h) e
 
 -- ---- what one element alone gives
@@ -69,9 +63,8 @@ gives-none h [] all = refl
 gives-none h (x ∷ xs) all = ap (λ o. cons_option o (filter_map h xs)) (all x (0, omega arith, refl)) ∙ gives-none h xs (λ y c. all y (contains-later x xs y c))
 
 -- of elements with different numbers, the one of this number gives y, and the others give nothing
-pub gives-one : {X Y : Type 0} (number : X → ℕ) (h : X → Option Y) (n : ℕ) (y : Y) (xs : List X) → AllPairs (λ a b. nat_eq (number a) (number b) ≡ false) xs
-    → ((x : X) → number x ≡ n → h x ≡ Some y) → ((x : X) → Contains xs x → (number x ≡ n → ⊥) → h x ≡ None)
-    → (x : X) → Contains xs x → number x ≡ n → filter_map h xs ≡ y ∷ []
+pub gives-one : {X Y : Type 0} (number : X → ℕ) (h : X → Option Y) (n : ℕ) (y : Y) (xs : List X) → AllPairs (λ a b. nat_eq (number a) (number b) ≡ false) xs → ((x : X) → number x ≡ n → h x ≡ Some y)
+    → ((x : X) → Contains xs x → (number x ≡ n → ⊥) → h x ≡ None) → (x : X) → Contains xs x → number x ≡ n → filter_map h xs ≡ y ∷ []
 gives-one number h n y [] apart is others x c e = none-in x c
 gives-one {X} {Y} number h n y (z ∷ zs) apart is others x c e =
     go (gives-one number h n y zs (pairs-tail (λ a b. nat_eq (number a) (number b) ≡ false) z zs apart) is (λ w d. others w (contains-later z zs w d)) x) (number z == n) refl
@@ -85,8 +78,7 @@ gives-one {X} {Y} number h n y (z ∷ zs) apart is others x c e =
 
     rest-differ : number z ≡ n → (w : X) → Contains zs w → number w ≡ n → ⊥
     rest-differ q w d p =
-        let wrong : true ≡ false = sym (subst (λ (k : ℕ). nat_eq (number z) k ≡ true) (q ∙ sym p) (same-number (number z)))
-        ∙ pairs-head (λ a b. nat_eq (number a) (number b) ≡ false) z zs w apart d in
+        let wrong : true ≡ false = sym (subst (λ (k : ℕ). nat_eq (number z) k ≡ true) (q ∙ sym p) (same-number (number z))) ∙ pairs-head (λ a b. nat_eq (number a) (number b) ≡ false) z zs w apart d in
         cc
 
     go : (Contains zs x → number x ≡ n → filter_map h zs ≡ y ∷ []) → (b : Bool) → (number z == n) ≡ b → filter_map h (z ∷ zs) ≡ y ∷ []
@@ -95,16 +87,7 @@ gives-one {X} {Y} number h n y (z ∷ zs) apart is others x c e =
         ap (λ o. cons_option o (filter_map h zs)) (is z here) ∙ ap (λ ys. y ∷ ys) (gives-none h zs (λ w d. others w (contains-later z zs w d) (rest-differ here w d)))
     go rest false q = ap (λ o. cons_option o (filter_map h zs)) (others z (0, omega arith, refl) (other q)) ∙ rest (later q c) e
 
-head-or : {A : Type 0} → A → List A → A
-head-or d [] = d
-head-or d (x ∷ xs) = x
-
-tail-of : {A : Type 0} → List A → List A
-tail-of [] = []
-tail-of (x ∷ xs) = xs
-
 -- a list that is mapped to one element
 pub one-mapped : {A B : Type 0} (f : A → B) (xs : List A) (y : B) → map f xs ≡ y ∷ [] → (x : A) × (xs ≡ x ∷ []) × (f x ≡ y)
-unfolding head-or tail-of
 one-mapped f [] y e = absurd cc
-one-mapped f (x ∷ xs) y e = (x, ap (λ zs. x ∷ zs) (nothing-mapped f xs (ap tail-of e)), ap (head-or y) e)
+one-mapped f (x ∷ xs) y e = (x, ap (λ zs. x ∷ zs) (nothing-mapped f xs (tails_equal _ _ _ _ e)), heads_equal _ _ _ _ e)

@@ -1,7 +1,7 @@
 -- An interface that is opened, encoded and closed again.
 use Rattle.std.proofs.Common.{rules as std_rules, ◌≡◌, refl, sym, ap, ◌∙◌, true, List, [], ◌++◌, Option, Some, None, Result, Ok, Err, ℕ, ◌∷◌, Contains, subst, Bool, false, OnErr, if◌then◌else◌, filter, length, arith}
-use Rattle.std.proofs.lemmas.{List.Elements.All-contains, List.Elements.filter_passes}
-use Rattle.std.proofs.lemmas.{List.Sorted.IsPermutation-map, Option.same_Some as some-same}
+use Rattle.std.proofs.lemmas.{List.Elements.All-contains, List.Elements.filter_passes, List.Sorted.IsPermutation-map, Option.same_Some as some-same}
+use Rattle.std.proofs.lemmas.List.Sorted.{Contains-permutation, IsPermutation-sym}
 use Rattle.std.specs.{Prelude.IsPermutation, Prelude.IfOk, Prelude.map, Prelude.String, Borrow.Bor, List.list_all, Option.option_map_or}
 use Rattle.std.specs.declared.alloc.Global.{Global}
 use Rattle.wit_model.specs.declared.model.{Interface.Interface, Function.Function, Resolve.Resolve, InterfaceId.InterfaceId, TypeId.TypeId}
@@ -12,13 +12,11 @@ use Rattle.encode_types.specs.declared.maps.TypeEncodingMaps.{TypeEncodingMaps}
 use Rattle.wit_encode.specs.declared.interface.{OpenInterface.OpenInterface, Foreign.Foreign}
 use Rattle.encode_types.specs.Known.{Around, GrowsAround, stands_around, are_right, below, outer_scope, outer_instances}
 use Rattle.encode_types.specs.{Scope.Scope, Slots.Keeps}
-use Rattle.wit_encode.proofs.{Components.steps-instance, Outside.instance-keeps}
-use Rattle.wit_encode.proofs.{ShownSlots.interface-shown, Calls.InnerAt, Calls.inner-at, Importing.grown-keeps, Importing.grown-stands, Importing.right-more}
+use Rattle.wit_encode.proofs.{Components.steps-instance, Outside.instance-keeps, ShownSlots.interface-shown, Calls.InnerAt, Calls.inner-at, Importing.grown-keeps, Importing.grown-stands, Importing.right-more}
 use Rattle.wit_encode.specs.Exports.{AreTypesOf}
 use Rattle.wit_encode.specs.Instance.{is_slot_of, no_view, outer_slots, inner_contents, outer_contents, stands_in, SlotsStand, own_of, around_at, standing_instances, resources_in, contents_of, encoder_scope, opened, keyed, placed_function, is_sound_in, IsInstance, Continues, definitions_with}
 use Rattle.indexmap.specs.IndexMap.{values}
 use Rattle.base_lemmas.proofs.{Bools.left_of as first_true, Bools.right_of as second_true, Lists.map_of_map as map-twice}
-use Rattle.std.proofs.lemmas.List.Sorted.{Contains-permutation, IsPermutation-sym}
 use Rattle.wit_model.specs.declared.model.TypeOwner.TheVariants as owner
 use Rattle.comp_meaning.specs.Follow as follow
 
@@ -100,10 +98,8 @@ opened-with i ds known known' e f = λ j. Some (record { interface = i; declared
 abbrev pub Placed : Type 0
 Placed = ℕ × Bor (String Global) × Bor Function
 
-pub values-permuted : (def : Interface) (fs : List Placed) → IsPermutation (map keyed def.functions.entries) (map placed_function fs)
-    → IsPermutation (values def.functions) (map (λ f. f.2.now) fs)
-values-permuted def fs p =
-    subst (λ (xs : List Function). IsPermutation xs (map (λ f. f.2.now) fs)) (map-twice (λ (x : Text × Function). x.1) keyed def.functions.entries)
+pub values-permuted : (def : Interface) (fs : List Placed) → IsPermutation (map keyed def.functions.entries) (map placed_function fs) → IsPermutation (values def.functions) (map (λ f. f.2.now) fs)
+values-permuted def fs p = subst (λ (xs : List Function). IsPermutation xs (map (λ f. f.2.now) fs)) (map-twice (λ (x : Text × Function). x.1) keyed def.functions.entries)
     (subst (λ (xs : List Function). IsPermutation (map (λ x. x.1) (map keyed def.functions.entries)) xs)
     (map-twice (λ (x : Text × Function). x.1) placed_function fs) (IsPermutation-map (λ (x : Text × Function). x.1) _ _ p))
 
@@ -130,8 +126,7 @@ grown-slots r a outer foreign grown =
 
 -- where no interface is open
 outside-keeps : (r r' : Resolve) (outer outer' : Declarations) (inner inner' : Option OpenInterface) → inner ≡ None → inner' ≡ None
-    → Keeps (SlotsStand (outer_contents outer).slots) (SlotsStand (outer_contents outer').slots)
-    → Keeps (stands_in r outer inner) (stands_in r' outer' inner')
+    → Keeps (SlotsStand (outer_contents outer).slots) (SlotsStand (outer_contents outer').slots) → Keeps (stands_in r outer inner) (stands_in r' outer' inner')
 outside-keeps r r' outer outer' inner inner' x y keeps = search std_rules
 
 pub reached-keeps : (r r' : Resolve) (a : Around) (outer : Declarations) (foreign : Foreign) (inner inner' : Option OpenInterface) → inner ≡ None → inner' ≡ None
@@ -183,11 +178,9 @@ pub grown-stay : (r : Resolve) (a a' : Around) → GrowsAround r a a' → (j : �
 grown-stay r a a' g j h = subst (λ xs. Contains xs j) (sym (ap (standing_instances r) g.is ∙ grown-stands r a g.made g.are)) h
 
 pub closed-stay : {E : Type 0} (res : Result ℕ E) (r : Resolve) (a : Around) (outer outer' : Declarations) (foreign foreign' : Foreign) (es : List Declaration)
-    → GrowsAround r a (around_at outer foreign) → foreign' ≡ foreign
-    → IfOk res (λ k. (k ≡ type_slots_of outer) × (outer' ≡ append outer (Declarations.instance (from_list es) Declarations.no_more))) → OnErr res (outer' ≡ outer)
-    → (j : ℕ) → Contains (standing_instances r a) j → Contains (standing_instances r (around_at outer' foreign')) j
-closed-stay (Ok k) r a outer outer' foreign foreign' es g e ok err j h =
-    subst (λ (z : Around). Contains (standing_instances r z) j) (λ i. around_at (sym ok.1 i) (sym e i))
+    → GrowsAround r a (around_at outer foreign) → foreign' ≡ foreign → IfOk res (λ k. (k ≡ type_slots_of outer) × (outer' ≡ append outer (Declarations.instance (from_list es) Declarations.no_more)))
+    → OnErr res (outer' ≡ outer) → (j : ℕ) → Contains (standing_instances r a) j → Contains (standing_instances r (around_at outer' foreign')) j
+closed-stay (Ok k) r a outer outer' foreign foreign' es g e ok err j h = subst (λ (z : Around). Contains (standing_instances r z) j) (λ i. around_at (sym ok.1 i) (sym e i))
     (instances-then r foreign outer es j (outer_scope outer) refl (are_right r foreign.known.entries (outer_slots outer)) refl (grown-stay r a (around_at outer foreign) g j h))
 closed-stay (Err x) r a outer outer' foreign foreign' es g e ok err j h =
     subst (λ (z : Around). Contains (standing_instances r z) j) (λ i. around_at (sym err i) (sym e i)) (grown-stay r a (around_at outer foreign) g j h)

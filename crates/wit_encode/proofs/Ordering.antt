@@ -4,8 +4,7 @@ use Rattle.std.proofs.lemmas.{Iterator.Adapters.position_from-zero, List.Sums.pr
 use Rattle.std.proofs.lemmas.Bool.{eqb-true, true≢false, not_from_false as opposite, not_from_true as negated, cond-true, cond-false, cases_Bool}
 use Rattle.std.proofs.lemmas.List.{Elements.filter_agree, Elements.All-head, Elements.All-tail, Sorted.length_permutation, Sorted.All-permutation}
 use Rattle.std.specs.Prelude.{not, nat_eq, All, IsPermutation, String}
-use Rattle.std.specs.{Borrow.Bor, Option.option_map_or, Option.is_some, BTreeMap.BTreeMap, BTreeMap.get, BTreeMap.Updates}
-use Rattle.std.specs.{List.position, List.position_from, List.position_or_len, List.Sorted.ties, List.Sorted.IsNonDecreasingBy, List.Sorted.IsStableByKey}
+use Rattle.std.specs.{Borrow.Bor, Option.option_map_or, Option.is_some, BTreeMap.BTreeMap, BTreeMap.get, BTreeMap.Updates, List.position, List.position_from, List.position_or_len, List.Sorted.ties, List.Sorted.IsNonDecreasingBy, List.Sorted.IsStableByKey}
 use Rattle.std.specs.declared.alloc.Global.{Global}
 use Rattle.wit_model.specs.{Text.Text, Lookup.resource_of}
 use Rattle.wit_model.specs.declared.model.{TypeId.TypeId, Function.Function}
@@ -28,10 +27,7 @@ at-least-from key n (y ∷ ys) h = (h zero y (suc-le-suc zero-le), at-least-from
 
 pub rises-from : {X : Type 0} (key : X → ℕ) (ys : List X) → IsNonDecreasingBy key ys → Rises key ys
 rises-from key [] h = tt
-rises-from key (y ∷ ys) h = (
-  at-least-from key (key y) ys (λ j d l. h zero (suc j) d zero-le (suc-le-suc l)),
-  rises-from key ys (λ i j d le l. h (suc i) (suc j) d (suc-le-suc le) (suc-le-suc l)),
-)
+rises-from key (y ∷ ys) h = (at-least-from key (key y) ys (λ j d l. h zero (suc j) d zero-le (suc-le-suc l)), rises-from key ys (λ i j d le l. h (suc i) (suc j) d (suc-le-suc le) (suc-le-suc l)))
 
 kept : {X : Type 0} (p : X → Bool) (y : X) (ys : List X) → p y ≡ true → filter p (y ∷ ys) ≡ y ∷ filter p ys
 kept p y ys h = cond-true _ _ _ h
@@ -88,8 +84,7 @@ in-order (t ∷ ts) xs ys up same =
     let key : Text × Function → ℕ = λ f. place_among (t ∷ ts) f.1 in
     let key' : Text × Function → ℕ = λ f. place_among ts f.1 in
     let p : Text × Function → Bool = is_function_of t in
-    let a : filter p ys ≡ filter p xs =
-    filter_agree p (λ f. nat_eq 0 (key f)) (class-first key key' p (place-first t ts) (place-later t ts)) ys ∙ same 0
+    let a : filter p ys ≡ filter p xs = filter_agree p (λ f. nat_eq 0 (key f)) (class-first key key' p (place-first t ts) (place-later t ts)) ys ∙ same 0
     ∙ sym (filter_agree p (λ f. nat_eq 0 (key f)) (class-first key key' p (place-first t ts) (place-later t ts)) xs) in
     let b : filter (λ f. not (p f)) ys ≡ by_resource ts (filter (λ f. not (p f)) xs) =
     in-order ts (filter (λ f. not (p f)) xs) (filter (λ f. not (p f)) ys) (rises-later key key' p (place-first t ts) (place-later t ts) ys up)
@@ -99,8 +94,7 @@ in-order (t ∷ ts) xs ys up same =
 -- where no function is of a resource, the order is that of the list
 pub in-list-order : (ts : List TypeId) (fs : List (Text × Function)) → any_of_resource fs ≡ false → by_resource ts fs ≡ fs
 in-list-order [] fs h = refl
-in-list-order (t ∷ ts) fs h =
-    ap (λ xs. xs ++ by_resource ts (filter (λ f. not (is_function_of t f)) fs)) (none fs h) ∙ ap (by_resource ts) (others fs h) ∙ in-list-order ts fs h
+in-list-order (t ∷ ts) fs h = ap (λ xs. xs ++ by_resource ts (filter (λ f. not (is_function_of t f)) fs)) (none fs h) ∙ ap (by_resource ts) (others fs h) ∙ in-list-order ts fs h
   where
     without : (f : Text × Function) (o : Option ℕ) → resource_of f.1.kind ≡ o → is_some o ≡ false → is_function_of t f ≡ false
     without f None e h = ap (λ o. option_map_or (λ n. nat_eq n t.0) o false) e
@@ -128,8 +122,7 @@ abbrev pub ArePlaced : List TypeId → List Placed → Type 0
 ArePlaced ts [] = Unit {0}
 ArePlaced ts (x ∷ xs) = (x.0 ≡ place_among ts x.2.now) × ArePlaced ts xs
 
-at-least-placed : (ts : List TypeId) (n : ℕ) (xs : List Placed) → ArePlaced ts xs → AreAtLeast (λ x. x.0) n xs
-    → AreAtLeast (λ f. place_among ts f.1) n (map placed_function xs)
+at-least-placed : (ts : List TypeId) (n : ℕ) (xs : List Placed) → ArePlaced ts xs → AreAtLeast (λ x. x.0) n xs → AreAtLeast (λ f. place_among ts f.1) n (map placed_function xs)
 at-least-placed ts n [] h up = tt
 at-least-placed ts n (x ∷ xs) h up = (subst (λ m. n ≤ m) h.0 up.0, at-least-placed ts n xs h.1 up.1)
 
@@ -145,8 +138,7 @@ class-placed ts k (x ∷ xs) h = search (std_rules, cases_Bool, cond-true, kept,
 tied : (m n : ℕ) → ties (λ x y. is_lt (nat_cmp x y)) m n ≡ nat_eq m n
 tied m n = grind (arith, nat_tests)
 
-classes : (xs ys : List Placed) → length ys ≡ length xs → IsStableByKey (λ x. x.0) nat_cmp xs ys → (k : ℕ)
-    → filter (λ x. nat_eq k x.0) ys ≡ filter (λ x. nat_eq k x.0) xs
+classes : (xs ys : List Placed) → length ys ≡ length xs → IsStableByKey (λ x. x.0) nat_cmp xs ys → (k : ℕ) → filter (λ x. nat_eq k x.0) ys ≡ filter (λ x. nat_eq k x.0) xs
 classes [] ys l stable k = ap (filter (λ (x : Placed). nat_eq k x.0)) (no-more ys l)
 classes (x ∷ xs) ys l stable k =
     let at : Placed = (k, x.1, x.2) in
@@ -156,10 +148,7 @@ classes (x ∷ xs) ys l stable k =
 
 placed-all : (ts : List TypeId) (xs : List Placed) → All (λ x. x.0 ≡ place_among ts x.2.now) xs → ArePlaced ts xs
 placed-all ts [] h = tt
-placed-all ts (x ∷ xs) h = (
-  All-head (λ (y : Placed). y.0 ≡ place_among ts y.2.now) x xs h,
-  placed-all ts xs (All-tail (λ (y : Placed). y.0 ≡ place_among ts y.2.now) x xs h),
-)
+placed-all ts (x ∷ xs) h = (All-head (λ (y : Placed). y.0 ≡ place_among ts y.2.now) x xs h, placed-all ts xs (All-tail (λ (y : Placed). y.0 ≡ place_among ts y.2.now) x xs h))
 
 -- a stable sort by their places puts functions in order
 pub sorted-in-order : (ts : List TypeId) (xs ys : List Placed) → All (λ x. x.0 ≡ place_among ts x.2.now) xs → IsPermutation xs ys → IsNonDecreasingBy (λ x. x.0) ys
@@ -177,8 +166,7 @@ from-push : {X : Type 0} (p : X → Bool) (i : ℕ) (xs : List X) (y : X) → po
 from-push p i [] y = ap (λ n. cond (p y) (Some n) None) (omega arith)
 from-push p i (x ∷ xs) y = search (std_rules, cases_Bool, cond-true, cond-false, from-push p (i + 1) xs y)
 
-pub position-push : {X : Type 0} (p : X → Bool) (xs : List X) (y : X) → position p (xs ++ y ∷ []) ≡ cond (is_some (position p xs)) (position p xs)
-    (cond (p y) (Some (length xs)) None)
+pub position-push : {X : Type 0} (p : X → Bool) (xs : List X) (y : X) → position p (xs ++ y ∷ []) ≡ cond (is_some (position p xs)) (position p xs) (cond (p y) (Some (length xs)) None)
 position-push p xs y = search (std_rules, position_from-zero, from-push)
 
 pub position-none : {X : Type 0} (p : X → Bool) (xs : List X) → position p xs ≡ None → length xs ≡ position_or_len p xs
@@ -190,8 +178,7 @@ none-among (t ∷ ts) = omega (arith, none-among ts)
 
 -- the places of one more type, where its number has none yet
 module _ (ts : List TypeId) (places : BTreeMap ℕ ℕ) (t : TypeId) (h : ArePlaces ts places) where
-  number-push : (n : ℕ) → position (λ s. nat_eq n s.0) (ts ++ t ∷ []) ≡ cond (is_some (get nat_cmp places n)) (get nat_cmp places n)
-      (cond (nat_eq n t.0) (Some (length ts)) None)
+  number-push : (n : ℕ) → position (λ s. nat_eq n s.0) (ts ++ t ∷ []) ≡ cond (is_some (get nat_cmp places n)) (get nat_cmp places n) (cond (nat_eq n t.0) (Some (length ts)) None)
   number-push n = position-push (λ s. nat_eq n s.0) ts t ∙ ap (λ o. cond (is_some o) o (cond (nat_eq n t.0) (Some (length ts)) None)) (sym (h.at n))
 
   -- it has one
@@ -199,8 +186,7 @@ module _ (ts : List TypeId) (places : BTreeMap ℕ ℕ) (t : TypeId) (h : ArePla
   places-same there = search (std_rules, number-push, cases_Bool, true≢false, eqb-true, cond-false)
 
   -- it gets this one
-  pub places-more : (places' : BTreeMap ℕ ℕ) → is_some (get nat_cmp places t.0) ≡ false → Updates nat_cmp places places' t.0 (Some (length ts))
-      → ArePlaces (ts ++ t ∷ []) places'
+  pub places-more : (places' : BTreeMap ℕ ℕ) → is_some (get nat_cmp places t.0) ≡ false → Updates nat_cmp places places' t.0 (Some (length ts)) → ArePlaces (ts ++ t ∷ []) places'
   places-more places' lacks u = search (std_rules, cases_Bool, true≢false, eqb-true, number-push, cond-true, nat_tests, cond-false)
 
 -- ---- the place of a function

@@ -2,10 +2,10 @@
 use Rattle.encode_types.specs.Distinct.{target_of}
 use Rattle.encode_types.specs.Slots.{Standing, Keeps, Follows, FollowsFunction, Defines, DefinesFunction}
 use Rattle.encode_types.specs.{Formed.IsFormed, Formed.IsFormedSignature, Known.no_around, Counts.one_type_more, Counts.one_function_more}
-use Rattle.wit_encode.proofs.{ValueSlots.slots-next, ValueSlots.targets-push, Components.steps-count, Components.steps-more, Components.steps-instance}
+use Rattle.wit_encode.proofs.{ValueSlots.slots-next, ValueSlots.targets-push, Components.steps-count, Components.steps-more, Components.steps-instance, Contents.Grew, Contents.slots-kept, Calls.Calls, Calls.calls-from, Calls.defines-of, Calls.function-of, Calls.formed-value}
 use Rattle.wit_encode.proofs.Strict.{bind, definition-strict, function-strict}
-use Rattle.wit_encode.proofs.{Contents.Grew, Contents.slots-kept, Calls.Calls, Calls.calls-from, Calls.defines-of, Calls.function-of, Calls.formed-value}
 use Rattle.std.proofs.Common.{rules as std_rules, ◌≡◌, refl, sym, subst, ap, ◌∙◌, ℕ, true, cond, [], ◌∷◌, ◌++◌, append-nil, List, Result, IfOk, OnErr, Option, Some, None, length}
+use Rattle.std.proofs.lemmas.Result.{on_err_weaker}
 use Rattle.std.specs.{List.list_all, Option.option_map_or, Option.is_some}
 use Rattle.wit_model.specs.{Tree.Tree, Meaning.Signature}
 use Rattle.wit_model.specs.declared.model.Resolve.{Resolve}
@@ -14,7 +14,6 @@ use Rattle.comp_bytes.specs.{Raw.Declaration, Raw.Declarations, Raw.append, Raw.
 use Rattle.comp_meaning.specs.Follow.{Slot, new_scope, definition, function_signature, component_step, in_scope}
 use Rattle.wit_encode.specs.Instance.{SlotsStand, is_slot_of, Contents, outer_scope, outer_contents, is_value_type, is_function_type, resources_in, scope_with, definitions_with}
 use Rattle.base_lemmas.proofs.{Bools.left_of as first_true, Bools.right_of as second_true, Options.there as some-of, Options.if_ok}
-use Rattle.std.proofs.lemmas.Result.{on_err_weaker}
 use Rattle.comp_meaning.specs.Follow as follow
 
 -- no slot stands for anything
@@ -91,9 +90,8 @@ module _ {E : Type 0} (res : Result ℕ E) (r : Resolve) (outer outer' : Declara
         h f.formed in
         calls-from res r None no_around before after _ _ (Slot.value t) sound (formed-value (resources_in r None) t f.formed) (defines-of before.slots d t h)
         (more-ok (Declaration.defined (raw_defined d)) (Slot.value t) _ (bind (definition a.scope.slots (raw_defined d)) t (λ u. Some (in_scope (Slot.value u) a.scope)) strict)
-        (λ e. ap (λ zs. definitions_with (outer_contents zs)) e
-        ∙ outer-definitions outer (Declaration.defined (raw_defined d)) (before.types ++ length before.slots ∷ []) before.functions (ap (λ (k : ℕ). before.types ++ k ∷ []) (outer-index outer a)) refl
-        (append-nil before.functions)) ok) (err-same err)
+        (λ e. ap (λ zs. definitions_with (outer_contents zs)) e ∙ outer-definitions outer (Declaration.defined (raw_defined d)) (before.types ++ length before.slots ∷ []) before.functions
+        (ap (λ (k : ℕ). before.types ++ k ∷ []) (outer-index outer a)) refl (append-nil before.functions)) ok) (err-same err)
 
     pub function-outside : (d : ComponentFuncType) (s : Signature) → FollowsFunction (SlotsStand before.slots) d s → IsFormedSignature (scope_with r None no_around before) s
         → IfOk res (λ k. (k ≡ type_slots_of outer) × (outer' ≡ append outer (Declarations.declares (Declaration.function (raw_function d)) Declarations.no_more))) → OnErr res (outer' ≡ outer)
@@ -105,9 +103,8 @@ module _ {E : Type 0} (res : Result ℕ E) (r : Resolve) (outer outer' : Declara
         ap (λ zs. function_signature zs (raw_function d)) (sym a.slots) ∙ function-strict (resources_in r None) before.slots outer-slots d s h f.params f.result_ in
         calls-from res r None no_around before after _ _ (Slot.function s) sound refl (function-of before.slots d s h)
         (more-ok (Declaration.function (raw_function d)) (Slot.function s) _ (bind (function_signature a.scope.slots (raw_function d)) s (λ u. Some (in_scope (Slot.function u) a.scope)) strict)
-        (λ e. ap (λ zs. definitions_with (outer_contents zs)) e
-        ∙ outer-definitions outer (Declaration.function (raw_function d)) before.types (before.functions ++ length before.slots ∷ []) (append-nil before.types) refl
-        (ap (λ (k : ℕ). before.functions ++ k ∷ []) (outer-index outer a))) ok) (err-same err)
+        (λ e. ap (λ zs. definitions_with (outer_contents zs)) e ∙ outer-definitions outer (Declaration.function (raw_function d)) before.types (before.functions ++ length before.slots ∷ [])
+        (append-nil before.types) refl (ap (λ (k : ℕ). before.functions ++ k ∷ []) (outer-index outer a))) ok) (err-same err)
 
 -- a component type in which nothing has been declared yet
 pub fresh-sound : (r : Resolve) (outer : Declarations) → outer ≡ Declarations.no_more → (scope_with r None no_around (outer_contents outer)).is_sound ≡ true

@@ -1,10 +1,10 @@
 -- What is met from a type of an owner is of that owner, but for what its aliases of types of other interfaces name.
-use Rattle.std.proofs.Common.{rules as std_rules, ◌≡◌, refl, sym, subst, ◌∙◌, ℕ, Bool, true, false, ◌||◌, Option, Some, None, is_some, String}
+use Rattle.std.proofs.Common.{rules as std_rules, ◌≡◌, refl, sym, subst, ◌∙◌, ℕ, Bool, true, false, ◌||◌, Option, Some, None, is_some, String, inl, inr}
+use Rattle.std.proofs.lemmas.Bool.{cases_Bool}
 use Rattle.std.specs.declared.alloc.Global.{Global}
 use Rattle.std.specs.{Prelude.is_none, List.Contains, List.list_all, Option.option_map_or}
-use Rattle.wit_model.specs.{Lookup.type_at, Uses.alias_target, Uses.owner_interface}
+use Rattle.wit_model.specs.{Lookup.type_at, Uses.alias_target, Uses.owner_interface, Text.Text, Text.text_of, Rules.is_use, Rules.is_listed, Rules.type_stays, Valid.IsValid, Valid.order_of_types, Valid.owners}
 use Rattle.wit_model.specs.Parts.{kind_numbers, met_by, met_of, used_by_type, same_owner, has_owner}
-use Rattle.wit_model.specs.{Text.Text, Text.text_of, Rules.is_use, Rules.is_listed, Rules.type_stays, Valid.IsValid, Valid.order_of_types, Valid.owners}
 use Rattle.wit_model.specs.declared.model.{Resolve.Resolve, TypeDef.TypeDef, TypeDefKind.TypeDefKind, TypeOwner.TypeOwner}
 use Rattle.wit_model.specs.declared.model.TypeId.{TypeId}
 use Rattle.wit_model.proofs.{Entries.each_from_at, Entries.lists_pass, Functions.all_flat, Owners.named_met, Owners.unnamed_met, Owners.owned_stays}
@@ -12,7 +12,7 @@ use Rattle.wit_model.proofs.PartsLemmas.{owner_same as same-owner}
 use Rattle.encode_types.specs.{Kinds.parts_of, Plan.foreign_owner, Table.interface_of_owner}
 use Rattle.encode_types.proofs.Planning.{part-number}
 use Rattle.encode_shown.proofs.Basics.{valid-references, or-cases}
-use Rattle.base_lemmas.proofs.{Bools.right_of as second_true, Elements.all-contained}
+use Rattle.base_lemmas.proofs.{Bools.right_of as second_true, Elements.all-contained, Options.nameless}
 use Rattle.wit_model.specs.declared.model.TypeOwner.TheVariants as owner
 use Rattle.wit_model.specs.declared.model.«Type».TheVariants as ty
 
@@ -65,22 +65,14 @@ module _ (r : Resolve) (v : IsValid r) (o : TypeOwner) where
     from-all h = all-contained stays (kind_numbers def.kind) id.0 h (part-number def.kind id c)
 
     used-stay : same_owner def.owner o ≡ true → list_all (has_owner r def.owner) (used_by_type r def) ≡ true → stays id.0 ≡ true
-    used-stay s h =
-        from-all (sym (all_flat (has_owner r o) (met_by (met_of r)) (kind_numbers def.kind))
+    used-stay s h = from-all (sym (all_flat (has_owner r o) (met_by (met_of r)) (kind_numbers def.kind))
         ∙ subst (λ (a : TypeOwner). list_all (has_owner r a) (used_by_type r def) ≡ true) (same-owner def.owner o s) h)
 
     -- a part of a type that stays does so too, unless it is that of a named alias which uses another interface
     pub part-met : {P : Type 0} → stays n ≡ true → (stays id.0 ≡ true → P) → (is_some def.name ≡ true → same_owner def.owner o ≡ true → is_use r def ≡ true → P) → P
-    part-met {P} h stay uses = go (is_some def.name) refl
-      where
-        some-none : {A : Type 0} (x : Option A) → is_some x ≡ true → is_none x ≡ true → ⊥
-        some-none None e f = cc
-        some-none (Some x) e f = cc
-
-        go : (b : Bool) → is_some def.name ≡ b → P
-        go false e = stay (from-all (unnamed_met r (valid-references r v) n def is o e ∙ h))
-        go true e =
-            let s : same_owner def.owner o ≡ true = named_met r (valid-references r v) n def is o e ∙ h in
-            or-cases (is_none def.name) (list_all (has_owner r def.owner) (used_by_type r def) || is_use r def) (owner-kept r v n def is)
-            (λ none. absurd (some-none def.name e none))
-            (λ rest. or-cases (list_all (has_owner r def.owner) (used_by_type r def)) (is_use r def) rest (λ used. stay (used-stay s used)) (uses e s))
+    part-met {P} h stay uses = elim (cases_Bool (is_some def.name)) [
+      | inl e ↦ (let s : same_owner def.owner o ≡ true = named_met r (valid-references r v) n def is o e ∙ h in
+          or-cases (is_none def.name) (list_all (has_owner r def.owner) (used_by_type r def) || is_use r def) (owner-kept r v n def is) (λ none. let named = nameless def.name e in absurd cc)
+          (λ rest. or-cases (list_all (has_owner r def.owner) (used_by_type r def)) (is_use r def) rest (λ used. stay (used-stay s used)) (uses e s)))
+      | inr e ↦ stay (from-all (unnamed_met r (valid-references r v) n def is o e ∙ h))
+    ]

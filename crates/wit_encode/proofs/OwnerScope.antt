@@ -11,22 +11,16 @@ use Rattle.wit_model.specs.Lookup.{type_at, interface_at, world_at, place_of, is
 use Rattle.wit_model.specs.Parts.{met_by, met_of, same_owner, has_owner, function_types, function_numbers, kind_numbers, is_resource_type}
 use Rattle.wit_model.specs.Rules.{in_list, is_use, owner_in_range, passes, package_number, function_in_range, function_stays, item_in_range, key_in_range, entries_in_range}
 use Rattle.wit_model.specs.Valid.{IsValid, numbers_in_range, owners, handles, is_place, functions_of_interface, functions_of_world, item_function}
-use Rattle.wit_model.specs.declared.model.{Resolve.Resolve, WorldId.WorldId, WorldItem.WorldItem, Function.Function, TypeDef.TypeDef, TypeOwner.TypeOwner}
-use Rattle.wit_model.specs.declared.model.{Interface.Interface, WorldKey.WorldKey, InterfaceId.InterfaceId, TypeDefKind.TypeDefKind, «Type».«Type» as ValueType}
-use Rattle.wit_model.specs.declared.model.{World.World, TypeId.TypeId}
-use Rattle.wit_model.proofs.{Lists.list_all_filter_map, Functions.all_flat, Elements.contains-filter_map, OnePath.interface-passes as interface_passes}
+use Rattle.wit_model.specs.declared.model.{Resolve.Resolve, WorldId.WorldId, WorldItem.WorldItem, Function.Function, TypeDef.TypeDef, TypeOwner.TypeOwner, Interface.Interface, WorldKey.WorldKey, InterfaceId.InterfaceId, TypeDefKind.TypeDefKind, «Type».«Type» as ValueType, World.World, TypeId.TypeId}
+use Rattle.wit_model.proofs.{Lists.list_all_filter_map, Functions.all_flat, Elements.contains-filter_map, OnePath.interface-passes as interface_passes, PartsLemmas.owner_itself as owner-itself, PartsLemmas.owner_same as same-owner, ValidLemmas.type_passes, ValidLemmas.world_passes}
 use Rattle.wit_model.proofs.Owners.{named_met}
-use Rattle.wit_model.proofs.{PartsLemmas.owner_itself as owner-itself, PartsLemmas.owner_same as same-owner, ValidLemmas.type_passes, ValidLemmas.world_passes}
-use Rattle.encode_types.specs.{Kinds.parts_of, Resources.is_named_interface, Resources.is_met_owner, Table.interface_of_owner, Table.has_named_owner}
-use Rattle.encode_types.specs.{Plan.foreign_owner, Plan.AllInRange, Plan.Reaches, Plan.itself, Plan.through, Scope.Scope, Scope.IsDeclared, Scope.IsImportable}
+use Rattle.encode_types.specs.{Kinds.parts_of, Resources.is_named_interface, Resources.is_met_owner, Table.interface_of_owner, Table.has_named_owner, Plan.foreign_owner, Plan.AllInRange, Plan.Reaches, Plan.itself, Plan.through, Scope.Scope, Scope.IsDeclared, Scope.IsImportable}
 use Rattle.encode_types.specs.Fits.{FitsScope, CanEncode}
 use Rattle.wit_encode.specs.OwnerScope.{IsScopeOf, IsMet, IsOfInstance, NamesStand, InstancesStand, IsUsedBy, UsesStand, IsTypeOf, functions_of, NamesEncode, TypesEncode, FunctionsEncode, TypesUse, FunctionsUse, TableScope, TableUsesStand}
-use Rattle.wit_encode.proofs.{Forming.Agree, ImportsStand.below-there}
-use Rattle.wit_encode.proofs.{Owned.stays, Owned.part-met, Owned.alias-part, Naming.one-home, Naming.named-owner, Naming.names-agree}
+use Rattle.wit_encode.proofs.{Forming.Agree, ImportsStand.below-there, Owned.stays, Owned.part-met, Owned.alias-part, Naming.one-home, Naming.named-owner, Naming.names-agree}
 use Rattle.wit_encode.proofs.Validity.{OwnersMet, valid-layered, valid-unnamed, valid-ownerless, valid-formed, signature-formed, has-name, named-agree, named-parts, named-alike, foreign-interface, declared-there}
 use Rattle.encode_shown.proofs.Basics.{valid-references}
-use Rattle.base_lemmas.proofs.{Bools.left_of as first_true, Bools.right_of as second_true, Lists.given-some, Options.there as some-of}
-use Rattle.base_lemmas.proofs.{Elements.all-contained, Elements.contains-one, Elements.last_of as one-contained}
+use Rattle.base_lemmas.proofs.{Bools.left_of as first_true, Bools.right_of as second_true, Lists.given-some, Options.there as some-of, Elements.all-contained, Elements.contains-one, Elements.last_of as one-contained}
 use Rattle.wit_model.specs.declared.model.TypeOwner.TheVariants as owner
 use Rattle.wit_model.specs.declared.model.«Type».TheVariants as ty
 
@@ -76,8 +70,7 @@ module _ (r : Resolve) (v : IsValid r) (o : TypeOwner) (scope : Scope) (s : IsSc
 
   module _ (ts : List ValueType) (stand : NamesStand r o scope ts) where
     -- the parts of what is met belong to owners that are met
-    parts-met : (n : ℕ) (def : TypeDef) → IsMet r scope ts n → type_at r n ≡ Some def → foreign_owner scope.own_interface def.owner ≡ None
-        → OwnersMet r (is_met_owner r o) (parts_of def.kind)
+    parts-met : (n : ℕ) (def : TypeDef) → IsMet r scope ts n → type_at r n ≡ Some def → foreign_owner scope.own_interface def.owner ≡ None → OwnersMet r (is_met_owner r o) (parts_of def.kind)
     parts-met n def m is f t c id e def' is' named =
         let met : Reaches r scope.own_interface m.0 id.0 = part-reached r scope.own_interface m.0 n m.2 def is f id (subst (λ (x : ValueType). Contains (parts_of def.kind) x) e c) in
         met-owner def' (stand id.0 def' (m.0, m.1, met) is' named)
@@ -119,19 +112,11 @@ module _ (r : Resolve) (v : IsValid r) (o : TypeOwner) (scope : Scope) (s : IsSc
       unnamed = λ f none. valid-unnamed r v n def is none;
       placed = λ f name e. ap (place_of r) (own-home def (stand n def m is (has-name def.name name e)) f) ∙ sym s.place_;
       declared = declared n def m is;
-      formed = λ f d. record {
-        sound = s.sound;
-        formed = valid-formed r scope.resources v n def is (named-parts r v scope.resources (is_met_owner r o) s.names n def is (parts-met n def m is f)) d;
-      };
+      formed = λ f d. record { sound = s.sound; formed = valid-formed r scope.resources v n def is (named-parts r v scope.resources (is_met_owner r o) s.names n def is (parts-met n def m is f)) d };
     }
 
     encodes : AllInRange r ts → CanEncode r scope ts
-    encodes inside = record {
-      packages_ = s.packages_;
-      layered = valid-layered r v;
-      in_range = inside;
-      fits = λ t c n re def is. fits n def (t, c, re) is;
-    }
+    encodes inside = record { packages_ = s.packages_; layered = valid-layered r v; in_range = inside; fits = λ t c n re def is. fits n def (t, c, re) is }
 
     agree : AllInRange r ts → Agree r scope.resources ts
     agree inside = named-agree r v scope.resources (is_met_owner r o) s.names ts inside
@@ -170,9 +155,7 @@ module _ (r : Resolve) (v : IsValid r) (o : TypeOwner) where
       passed = sym (ap (λ t. option_map_or tests t false) is') ∙ alias-part (λ t. option_map_or tests (type_at r t) false) def.kind id uses c
 
       target : alias_target def.kind ≡ Some id.0
-      target =
-          let t = some-of (alias_target def.kind) (given-some (λ t. option_map_or tests (type_at r t) false) (alias_target def.kind) uses) in
-          target-is def.kind t.0 id t.1 c
+      target = let t = some-of (alias_target def.kind) (given-some (λ t. option_map_or tests (type_at r t) false) (alias_target def.kind) uses) in target-is def.kind t.0 id t.1 c
 
       go : (a : TypeOwner) → def'.owner ≡ a → tests def' ≡ true → IsUse def'
       go (owner.Interface i) e h = record {
@@ -191,14 +174,7 @@ module _ (r : Resolve) (v : IsValid r) (o : TypeOwner) where
               ∙ (ap (option_and_then (λ target. owner_interface target.owner)) is' ∙ ap owner_interface e);
         };
       }
-      go (owner.World w) e h =
-          let wrong : false ≡ true = sym (ap (λ a. option_map_or (λ i. option_map_or (λ other. is_some other.name) (interface_at r i) false) (owner_interface a) false) e) ∙ second_true
-          (not (same_owner def'.owner def.owner)) _ h in
-          absurd cc
-      go owner.None e h =
-          let wrong : false ≡ true = sym (ap (λ a. option_map_or (λ i. option_map_or (λ other. is_some other.name) (interface_at r i) false) (owner_interface a) false) e) ∙ second_true
-          (not (same_owner def'.owner def.owner)) _ h in
-          absurd cc
+      go other e h = let wrong : false ≡ true = (rw e at (second_true (not (same_owner def'.owner def.owner)) _ h)) in absurd cc
 
   abbrev Meets : ℕ → Type 0
   Meets n = Stay n ⊎ ((def : TypeDef) → type_at r n ≡ Some def → IsUse def)
@@ -208,8 +184,7 @@ module _ (r : Resolve) (v : IsValid r) (o : TypeOwner) where
 
   reached-meets : (t : ValueType) (n : ℕ) → ((id : TypeId) → t ≡ ty.Id id → Meets id.0) → Reaches r (interface_of_owner o) t n → Meets n
   reached-meets _ _ p (itself id) = p id refl
-  reached-meets _ _ p (through id def t n at f c re) =
-      reached-meets t n (λ id' e. further (p id refl) id' (subst (λ (x : ValueType). Contains (parts_of def.kind) x) e c)) re
+  reached-meets _ _ p (through id def t n at f c re) = reached-meets t n (λ id' e. further (p id refl) id' (subst (λ (x : ValueType). Contains (parts_of def.kind) x) e c)) re
     where
       further : Meets id.0 → (id' : TypeId) → Contains (parts_of def.kind) (ty.Id id') → Meets id'.0
       further (inl h) id' c = part-met r v o id.0 def at id' c h inl (λ named here uses. inr (use-at id.0 def at id' c named here uses))
@@ -233,12 +208,10 @@ module _ (r : Resolve) (v : IsValid r) (o : TypeOwner) where
         go : Meets n → IsUsedBy r o i.0
         go (inl h) =
             let name = foreign-named r v scope.own_interface n def i is f in
-            no-some (foreign_owner scope.own_interface def.owner)
-            (ap (λ x. foreign_owner x def.owner) s.own ∙ at-home o def.owner (named-stays n def is h (has-name def.name name.0 name.1))) f
+            no-some (foreign_owner scope.own_interface def.owner) (ap (λ x. foreign_owner x def.owner) s.own ∙ at-home o def.owner (named-stays n def is h (has-name def.name name.0 name.1))) f
         go (inr u) =
             let use_ = u def is in
-            subst (λ (k : ℕ). IsUsedBy r o k)
-            (some-same use_.interface.0 i.0 (sym (ap owner_interface use_.owns) ∙ ap owner_interface (foreign-interface scope.own_interface def.owner i f))) use_.used
+            subst (λ (k : ℕ). IsUsedBy r o k) (some-same use_.interface.0 i.0 (sym (ap owner_interface use_.owns) ∙ ap owner_interface (foreign-interface scope.own_interface def.owner i f))) use_.used
 
     pub stay-stand : InstancesStand r scope ts → NamesStand r o scope ts
     stay-stand stand n def m is named = go (meets n m)
@@ -271,21 +244,18 @@ module _ (r : Resolve) (v : IsValid r) (o : TypeOwner) where
 none-there : {X P : Type 0} (x : X) → Contains [] x → P
 none-there x c = absurd (omega (arith, c.1))
 
+in-home : {X : Type 0} (fs : X → List Function) (q : Function → Bool) (x : Option X) → ((home : X) → x ≡ Some home → list_all q (fs home) ≡ true) → (f : Function) → Contains (option_map_or fs x []) f
+    → q f ≡ true
+in-home fs q None h f c = none-there f c
+in-home fs q (Some home) h f c = all-contained q (fs home) f (h home refl) c
+
 module _ (r : Resolve) (v : IsValid r) (p : TypeOwner → Function → Bool)
     (of_interface : (i : InterfaceId) (home : Interface) → interface_at r i.0 ≡ Some home → list_all (p (owner.Interface i)) (functions_of_interface home) ≡ true)
     (of_world : (w : WorldId) (home : World) → world_at r w.0 ≡ Some home → list_all (p (owner.World w)) (functions_of_world home) ≡ true) where
   each-function : (o : TypeOwner) (f : Function) → Contains (functions_of r o) f → p o f ≡ true
   each-function owner.None f c = none-there f c
-  each-function (owner.Interface i) f c = go (interface_at r i.0) refl c
-    where
-      go : (x : Option Interface) → interface_at r i.0 ≡ x → Contains (option_map_or functions_of_interface x []) f → p (owner.Interface i) f ≡ true
-      go None e c = none-there f c
-      go (Some home) e c = all-contained (p (owner.Interface i)) (functions_of_interface home) f (of_interface i home e) c
-  each-function (owner.World w) f c = go (world_at r w.0) refl c
-    where
-      go : (x : Option World) → world_at r w.0 ≡ x → Contains (option_map_or functions_of_world x []) f → p (owner.World w) f ≡ true
-      go None e c = none-there f c
-      go (Some home) e c = all-contained (p (owner.World w)) (functions_of_world home) f (of_world w home e) c
+  each-function (owner.Interface i) f c = in-home functions_of_interface (p (owner.Interface i)) (interface_at r i.0) (of_interface i) f c
+  each-function (owner.World w) f c = in-home functions_of_world (p (owner.World w)) (world_at r w.0) (of_world w) f c
 
 -- the functions of a world are in range
 abbrev fits-item : Resolve → WorldItem → Bool
@@ -296,8 +266,7 @@ item-fits r x h = search std_rules
 
 entries-fit : (r : Resolve) (es : List (WorldKey × WorldItem)) → entries_in_range r es ≡ true → list_all (fits-item r) (map (λ e. e.1) es) ≡ true
 entries-fit r [] h = refl
-entries-fit r (e ∷ es) h =
-    search (std_rules, first_true, both, item-fits, second_true, entries-fit r es (second_true (key_in_range r e.0 && item_in_range r e.1) (entries_in_range r es) h))
+entries-fit r (e ∷ es) h = search (std_rules, first_true, both, item-fits, second_true, entries-fit r es (second_true (key_in_range r e.0 && item_in_range r e.1) (entries_in_range r es) h))
 
 world-fits : (r : Resolve) (w : World) → entries_in_range r w.imports.entries ≡ true → entries_in_range r w.exports.entries ≡ true → list_all (function_in_range r) (functions_of_world w) ≡ true
 world-fits r w a b = search (std_rules, list_all_filter_map, list_all-append, both, entries-fit)
@@ -305,9 +274,8 @@ world-fits r w a b = search (std_rules, list_all_filter_map, list_all-append, bo
 module _ (r : Resolve) (v : IsValid r) where
   function-stays : (o : TypeOwner) (f : Function) → Contains (functions_of r o) f → function_stays r o f ≡ true
   unfolding owners
-  function-stays = each-function r v (function_stays r)
-      (λ i home e. first_true (list_all (function_stays r (owner.Interface i)) (functions_of_interface home)) _ (interface_passes owners r v.rules.owners i.0 home e))
-      (λ w home e. world_passes owners r v.rules.owners w.0 home e)
+  function-stays = each-function r v (function_stays r) (λ i home e. first_true (list_all (function_stays r (owner.Interface i)) (functions_of_interface home)) _
+      (interface_passes owners r v.rules.owners i.0 home e)) (λ w home e. world_passes owners r v.rules.owners w.0 home e)
 
   function-values : (o : TypeOwner) (f : Function) → Contains (functions_of r o) f → list_all (λ t. not (is_resource_type r t)) (function_types f) ≡ true
   unfolding handles
@@ -316,8 +284,7 @@ module _ (r : Resolve) (v : IsValid r) where
 
   pub function-ranges : (o : TypeOwner) (f : Function) → Contains (functions_of r o) f → function_in_range r f ≡ true
   unfolding numbers_in_range
-  function-ranges = each-function r v (λ o. function_in_range r)
-      (λ i home e. second_true (list_all (λ id. in_list r.types.items id.0) (values home.types)) _
+  function-ranges = each-function r v (λ o. function_in_range r) (λ i home e. second_true (list_all (λ id. in_list r.types.items id.0) (values home.types)) _
       (second_true (passes (in_list r.packages.items) (package_number home.package)) _ (second_true (is_place i.0) _ (interface_passes numbers_in_range r v.rules.numbers_in_range i.0 home e))))
       (λ w home e.
       let entries : (entries_in_range r home.imports.entries && entries_in_range r home.exports.entries) ≡ true =
@@ -365,8 +332,7 @@ table_is_scope r o v = search (std_rules, declared-there, is-owned, names-agree,
 
 owner-inside : (r : Resolve) → IsValid r → (t : ℕ) (def : TypeDef) → type_at r t ≡ Some def → owner_in_range r def.owner ≡ true
 unfolding numbers_in_range
-owner-inside r v t def at =
-    second_true (list_all (in_list r.types.items) (kind_numbers def.kind)) _ (second_true (is_place t) _ (type_passes numbers_in_range r v.rules.numbers_in_range t def at))
+owner-inside r v t def at = second_true (list_all (in_list r.types.items) (kind_numbers def.kind)) _ (second_true (is_place t) _ (type_passes numbers_in_range r v.rules.numbers_in_range t def at))
 
 -- the interface that an alias names is in the list
 used-inside : (r : Resolve) → IsValid r → (def : TypeDef) (j : ℕ) → used_interface r def ≡ Some j → j < length r.interfaces.items
@@ -374,8 +340,7 @@ used-inside r v def j used = at-target (alias_target def.kind) used
   where
     by-owner : (o : TypeOwner) → owner_interface o ≡ Some j → owner_in_range r o ≡ true → j < length r.interfaces.items
     by-owner (owner.Interface i) e h = subst (λ (n : ℕ). n < length r.interfaces.items) (some-same i.0 j e) (ltb-true i.0 (length r.interfaces.items) h)
-    by-owner (owner.World w) e h = absurd cc
-    by-owner owner.None e h = absurd cc
+    by-owner other e h = absurd cc
 
     at-type : (t : ℕ) (o : Option TypeDef) → type_at r t ≡ o → option_and_then (λ (target : TypeDef). owner_interface target.owner) o ≡ Some j → j < length r.interfaces.items
     at-type t None at e = absurd cc

@@ -94,8 +94,7 @@ one-short n x =
 exporting-short : (n : ℕ) (xs : List (Text × Declarations)) → parts_extent (exporting_from n xs) ≤ sum_by type-extent xs
 exporting-short n [] = omega arith
 exporting-short n (x ∷ xs) =
-    let rest = exporting-short (suc (suc n)) xs in
-    omega (arith, one-short n x, sum_by-append part_extent (one_exported n x) (exporting_from (suc (suc n)) xs), sum_by-cons type-extent x xs)
+    let rest = exporting-short (suc (suc n)) xs in omega (arith, one-short n x, sum_by-append part_extent (one_exported n x) (exporting_from (suc (suc n)) xs), sum_by-cons type-extent x xs)
 
 pub wrapper-short : (path : Text) (inner : Declarations) → length (declarations_bytes (wrapper path inner)) ≤ 21 + (length path + length (declarations_bytes inner))
 wrapper-short path inner =
@@ -129,8 +128,7 @@ module _ (r : Resolve) (v : IsValid r) (n : ℕ) (p : Package) (at : package_at 
   path-is : (e : ListedWorld) → Contains p.worlds.entries e → (w : World) → world_at r e.1.0 ≡ Some w → path_of_world r w ≡ Some (path_in (identity_of p.name) (text_of w.name))
   path-is e c w there =
       let own = own-world r v n p at e c w there in
-      ap (λ (o : Option PackageId). option_and_then (λ q. path_in_package r q.0 (text_of w.name)) o) own.1.1
-      ∙ ap (λ (k : ℕ). path_in_package r k (text_of w.name)) own.1.2
+      ap (λ (o : Option PackageId). option_and_then (λ q. path_in_package r q.0 (text_of w.name)) o) own.1.1 ∙ ap (λ (k : ℕ). path_in_package r k (text_of w.name)) own.1.2
       ∙ ap (λ (o : Option Package). option_map (λ q. path_in (identity_of q.name) (text_of w.name)) o) at
 
   world-within : (e : ListedWorld) → Contains p.worlds.entries e → (w : World) → world_at r e.1.0 ≡ Some w
@@ -199,8 +197,7 @@ module _ (r : Resolve) (v : IsValid r) (n : ℕ) (p : Package) (at : package_at 
     where
       by-lack : WorldsLackRoom r canonical (identity_of p.name) p.interfaces.entries p.worlds.entries → limit < package_weight r n
       by-lack (WorldsLackRoom.too_heavy e c heavy) =
-          let w = found-in r.worlds.items e.1.0 (lt-ltb e.1.0 (length r.worlds.items) (are-worlds r v n p at e c)) in
-          omega (arith, world-within e c w.0 w.1, heavy w.0 w.1)
+          let w = found-in r.worlds.items e.1.0 (lt-ltb e.1.0 (length r.worlds.items) (are-worlds r v n p at e c)) in omega (arith, world-within e c w.0 w.1, heavy w.0 w.1)
       by-lack (WorldsLackRoom.too_long first rest are long) = long-lacks canonical p.interfaces.entries [] first rest (sym (append-nil p.interfaces.entries)) are long
 
   pub all-lack : (canonical : Bool) (parts : List Part) → HoldsPackage r canonical p parts → fits_component parts ≡ false → limit < package_weight r n

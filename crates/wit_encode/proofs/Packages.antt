@@ -1,16 +1,15 @@
 -- Component types that are added one after the other.
-use Rattle.std.proofs.Common.{rules as std_rules, ◌≡◌, refl, sym, ap, subst, ◌∙◌, ℕ, Bool, true, List, [], ◌∷◌, ◌++◌, append_assoc, append-nil, Some, Result, Ok, Err, IfErr, OnOk, ◌⊎◌, inl, inr, ◌≤◌}
-use Rattle.std.proofs.lemmas.List.Elements.{Contains-append_cases, Contains-append_left, Contains-append_right}
+use Rattle.std.proofs.Common.{rules as std_rules, ◌≡◌, refl, sym, ap, subst, ◌∙◌, ℕ, Bool, true, List, [], ◌∷◌, ◌++◌, append_assoc, append-nil, Some, Result, IfErr, OnOk, inl, inr, ◌≤◌}
+use Rattle.std.proofs.lemmas.List.Elements.{Contains-push_cases, Contains-append_left, Contains-append_right}
 use Rattle.std.specs.{Prelude.IsErrAnd, List.Contains}
 use Rattle.wit_model.specs.{Text.Text, Text.text_of, Names.PackageIdentity, Lookup.interface_path, Lookup.world_at, Weight.interface_weight}
 use Rattle.wit_model.specs.declared.{model.World.World, error.Error.Error, model.Resolve.Resolve}
 use Rattle.wit_model.proofs.Elements.{zip-push}
 use Rattle.comp_bytes.specs.{Raw.Declarations, Parts.Part, Refusal.IsMemoryOrSize}
 use Rattle.encode_exports.specs.ExportedParts.{exporting}
-use Rattle.wit_encode.specs.{Dependencies.ShowsComponent, DependencyCounts.DefinesComponent, Scopes.HasNoEqualPaths, Scopes.RefusesInterface}
-use Rattle.wit_encode.specs.{Instance.declared_extent, WrittenNames.WritesPaths}
+use Rattle.wit_encode.specs.{Dependencies.ShowsComponent, DependencyCounts.DefinesComponent, Scopes.HasNoEqualPaths, Scopes.RefusesInterface, Instance.declared_extent, WrittenNames.WritesPaths}
 use Rattle.wit_encode.specs.Packages.{AddsInterface, AddsWorld, AddsWorlds, HasNoClashAt, HaveNoClash, HaveNoEqualPaths, HoldsInterfaces, IsWrapperOf, Listed, ListedWorld, RefusesInterfaces, RefusesWorldAt, RefusesWorlds, WrapsWorld}
-use Rattle.base_lemmas.proofs.Elements.{contains-one, last_of as one-contained}
+use Rattle.base_lemmas.proofs.{Elements.contains-one, Options.passed}
 
 pub on-ok : {X E A B : Type 0} (given : Result X E) → OnOk given A → (A → B) → OnOk given B
 on-ok x a f = search std_rules
@@ -21,12 +20,11 @@ pub type-added : (r : Resolve) (canonical : Bool) (e : Listed) (declared : Decla
     → AddsInterface r canonical e old new
 type-added r canonical e declared old new shows names once light more = search (std_rules, zip-push)
 
+each-more : {X : Type 0} (P : X → Type 0) (xs : List X) (x : X) → ((y : X) → Contains xs y → P y) → P x → (y : X) → Contains (xs ++ x ∷ []) y → P y
+each-more P xs x h one y c = elim (Contains-push_cases xs x y c) [ inl there ↦ h y there | inr e ↦ subst P e one ]
+
 pub paths-added : (r : Resolve) (entries : List Listed) (e : Listed) → HaveNoEqualPaths r entries → HasNoEqualPaths r e.1.0 → HaveNoEqualPaths r (entries ++ e ∷ [])
-paths-added r entries e h one = λ f c. go f (Contains-append_cases entries (e ∷ []) f c)
-  where
-    go : (f : Listed) → Contains entries f ⊎ Contains (e ∷ []) f → HasNoEqualPaths r f.1.0
-    go f (inl c) = h f c
-    go f (inr c) = subst (λ (g : Listed). HasNoEqualPaths r g.1.0) (one-contained e f c) one
+paths-added r entries e h one = each-more (λ f. HasNoEqualPaths r f.1.0) entries e h one
 
 pub room-refused : {X : Type 0} (r : Resolve) (n : ℕ) (canonical : Bool) (given : Result X Error) → (canonical ≡ true → HasNoEqualPaths r n) → IfErr given IsMemoryOrSize
     → IfErr given (RefusesInterface r n canonical)
@@ -34,9 +32,8 @@ room-refused r n canonical x differ h = search std_rules
 
 pub first-refused : {X : Type 0} (r : Resolve) (entries before after : List Listed) (f : Listed) (canonical : Bool) (e : Error) (given : Result X Error) → entries ≡ before ++ (f ∷ after)
     → (canonical ≡ true → HaveNoEqualPaths r before) → RefusesInterface r f.1.0 canonical e → IsErrAnd given (λ d. d ≡ e) → IfErr given (RefusesInterfaces r entries canonical)
-first-refused r entries before after f canonical e (Ok x) are differ refuses h = tt
-first-refused r entries before after f canonical e (Err d) are differ refuses h =
-    subst (RefusesInterfaces r entries canonical) (sym h) (record { before = before; refused = f; after = after; are = are; differ = differ; refuses = refuses })
+first-refused r entries before after f canonical e given are differ refuses h =
+    passed (RefusesInterfaces r entries canonical) given e h (record { before = before; refused = f; after = after; are = are; differ = differ; refuses = refuses })
 
 -- ---- one interface after the other
 
@@ -48,8 +45,7 @@ pub record IsBegun (r : Resolve) (canonical : Bool) (entries left : List Listed)
   pub differ : canonical ≡ true → HaveNoEqualPaths r done
 
 pub next-listed : (r : Resolve) (canonical : Bool) (entries left rest : List Listed) (parts : List Part) (e : Listed) → IsBegun r canonical entries left parts → left ≡ e ∷ rest → Contains entries e
-next-listed r canonical entries left rest parts e h is =
-    subst (λ (es : List Listed). Contains es e) (sym (h.split ∙ ap (λ (es : List Listed). h.done ++ es) is))
+next-listed r canonical entries left rest parts e h is = subst (λ (es : List Listed). Contains es e) (sym (h.split ∙ ap (λ (es : List Listed). h.done ++ es) is))
     (Contains-append_right h.done (e ∷ rest) e (Contains-append_left (e ∷ []) rest e (contains-one e)))
 
 pub next-done : (r : Resolve) (canonical : Bool) (entries left rest : List Listed) (parts parts' : List Part) (e : Listed) → IsBegun r canonical entries left parts → left ≡ e ∷ rest
@@ -81,8 +77,7 @@ world-added r canonical p e w declared old new there wraps more = λ interfaces 
 
 pub world-passed : {X : Type 0} (r : Resolve) (n : ℕ) (canonical : Bool) (e : Error) (given : Result X Error) → RefusesWorldAt r n canonical e → IsErrAnd given (λ d. d ≡ e)
     → IfErr given (RefusesWorldAt r n canonical)
-world-passed r n canonical e (Ok x) h same = tt
-world-passed r n canonical e (Err d) h same = subst (RefusesWorldAt r n canonical) (sym same) h
+world-passed r n canonical e given h same = passed (RefusesWorldAt r n canonical) given e same h
 
 -- The wrappers of the first worlds have been added behind these parts, and these worlds are left.
 pub record WorldsBegun (r : Resolve) (p : PackageIdentity) (canonical : Bool) (entries left : List ListedWorld) (parts parts' : List Part) : Type 0 where
@@ -93,16 +88,8 @@ pub record WorldsBegun (r : Resolve) (p : PackageIdentity) (canonical : Bool) (e
 
 pub next-world : (r : Resolve) (p : PackageIdentity) (canonical : Bool) (entries left rest : List ListedWorld) (parts parts' : List Part) (e : ListedWorld)
     → WorldsBegun r p canonical entries left parts parts' → left ≡ e ∷ rest → Contains entries e
-next-world r p canonical entries left rest parts parts' e h is =
-    subst (λ (es : List ListedWorld). Contains es e) (sym (h.split ∙ ap (λ (es : List ListedWorld). h.done ++ es) is))
+next-world r p canonical entries left rest parts parts' e h is = subst (λ (es : List ListedWorld). Contains es e) (sym (h.split ∙ ap (λ (es : List ListedWorld). h.done ++ es) is))
     (Contains-append_right h.done (e ∷ rest) e (Contains-append_left (e ∷ []) rest e (contains-one e)))
-
-worlds-apart : (r : Resolve) (entries : List ListedWorld) (e : ListedWorld) → HaveNoClash r entries → HasNoClashAt r e.1.0 → HaveNoClash r (entries ++ e ∷ [])
-worlds-apart r entries e h one = λ f c. go f (Contains-append_cases entries (e ∷ []) f c)
-  where
-    go : (f : ListedWorld) → Contains entries f ⊎ Contains (e ∷ []) f → HasNoClashAt r f.1.0
-    go f (inl c) = h f c
-    go f (inr c) = subst (λ (g : ListedWorld). HasNoClashAt r g.1.0) (one-contained e f c) one
 
 pub world-done : (r : Resolve) (p : PackageIdentity) (canonical : Bool) (entries left rest : List ListedWorld) (parts middle parts' : List Part) (e : ListedWorld)
     → WorldsBegun r p canonical entries left parts middle
@@ -111,15 +98,13 @@ world-done r p canonical entries left rest parts middle parts' e h is adds one =
   done = h.done ++ e ∷ [];
   split = h.split ∙ ap (λ (es : List ListedWorld). h.done ++ es) is ∙ sym (append_assoc h.done (e ∷ []) rest);
   adds = λ interfaces held. adds interfaces h.done (h.adds interfaces held);
-  differ = λ asked. worlds-apart r h.done e (h.differ asked) (one asked);
+  differ = λ asked. each-more (λ f. HasNoClashAt r f.1.0) h.done e (h.differ asked) (one asked);
 }
 
 pub world-refused : {X : Type 0} (r : Resolve) (p : PackageIdentity) (canonical : Bool) (entries left rest : List ListedWorld) (parts middle : List Part) (e : ListedWorld) (error : Error)
     (given : Result X Error)
     → WorldsBegun r p canonical entries left parts middle → left ≡ e ∷ rest → RefusesWorldAt r e.1.0 canonical error → IsErrAnd given (λ d. d ≡ error) → IfErr given (RefusesWorlds r entries canonical)
-world-refused r p canonical entries left rest parts middle e error (Ok x) h is refuses same = tt
-world-refused r p canonical entries left rest parts middle e error (Err d) h is refuses same =
-    subst (RefusesWorlds r entries canonical) (sym same)
+world-refused r p canonical entries left rest parts middle e error given h is refuses same = passed (RefusesWorlds r entries canonical) given error same
     (record { before = h.done; refused = e; after = rest; are = h.split ∙ ap (λ (es : List ListedWorld). h.done ++ es) is; differ = h.differ; refuses = refuses })
 
 pub all-worlds_apart : (r : Resolve) (p : PackageIdentity) (canonical : Bool) (entries left : List ListedWorld) (parts parts' : List Part)

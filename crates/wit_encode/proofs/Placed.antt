@@ -20,11 +20,9 @@ use Rattle.wit_encode.specs.Encoders.{DeclaresInside, declared_inside, KeepsInsi
 use Rattle.wit_encode.specs.Instance.{inner_contents, is_slot_of, resources_in, contents_of, defined_in, encoder_scope, exports_in, own_of, no_view, outer_slots, slots_in, count_declared}
 use Rattle.wit_encode.specs.Places.{describes, is_function, is_type, are_beside, takes_index, GrowsBy, StandInOrder}
 use Rattle.wit_encode.specs.Worlds.{brought_numbers, instances_declared, is_brought, is_of_listed}
-use Rattle.wit_encode.proofs.{Calls.InnerAt, Calls.inner-at, Calls.inner-index, Refusing.one-appended, LatestInstances.found-new, LatestInstances.found-other}
+use Rattle.wit_encode.proofs.{Calls.InnerAt, Calls.inner-at, Calls.inner-index, Refusing.one-appended, LatestInstances.found-new, LatestInstances.found-other, Steps.unbind, Steps.unwhen, Imported.at-same, WorldHolding.counts-declared, WorldHolding.brought-kept, WorldHolding.filters-more, Components.count-instance, ImportsStand.below-there, Importing.new-slot}
 use Rattle.wit_encode.proofs.ValueSlots.{list-slots, instances-behind, instances-kept, targets-instance, targets-kept, slots-instance, slots-kept}
-use Rattle.wit_encode.proofs.{Steps.unbind, Steps.unwhen, Imported.at-same, WorldHolding.counts-declared, WorldHolding.brought-kept, WorldHolding.filters-more}
 use Rattle.wit_encode.proofs.Places.{DefinesAtLast, function-beside, grows-more, grows-none, list-both, one-list, types-beside}
-use Rattle.wit_encode.proofs.{Components.count-instance, ImportsStand.below-there, Importing.new-slot}
 use Rattle.encode_types.proofs.Lists.{none-in}
 use Rattle.wit_model.specs.declared.model.TypeOwner.TheVariants as owner
 use Rattle.comp_bytes.specs.declared.forms.ComponentTypeRef.TheVariants as refs
@@ -57,21 +55,18 @@ types-both (x ∷ xs) ys = omega (arith, types-both xs ys)
 no-types : (ds : List Declaration) → types_in ds ≡ 0 → list_all (λ d. not (describes is_type d)) ds ≡ true
 unfolding types_in
 no-types [] e = refl
-no-types (d ∷ ds) e = by (describes is_type d) refl (no-types ds)
-  where
-    by : (b : Bool) → describes is_type d ≡ b → (types_in ds ≡ 0 → list_all (λ d. not (describes is_type d)) ds ≡ true) → list_all (λ d. not (describes is_type d)) (d ∷ ds) ≡ true
-    by true is more = absurd (omega (arith, ap {B = ℕ} (λ (b : Bool). cond b 1 0) is, e))
-    by false is more = both_true (ap not is) (more (omega (arith, ap {B = ℕ} (λ (b : Bool). cond b 1 0) is, e)))
+no-types (d ∷ ds) e = elim (cases_Bool (describes is_type d)) [
+  | inl is ↦ absurd (omega (arith, ap {B = ℕ} (λ (b : Bool). cond b 1 0) is, e))
+  | inr is ↦ both_true (ap not is) (no-types ds (omega (arith, ap {B = ℕ} (λ (b : Bool). cond b 1 0) is, e)))
+]
 
 -- an export of a type is shown, and nothing else
 same-types : (a b : InstanceScope) → a ≡ b → length b.shown.types ≡ length a.shown.types + 0
 same-types a b e = ap (λ (s : InstanceScope). length s.shown.types) (sym e) ∙ (let y : length a.shown.types ≡ length a.shown.types + 0 = omega arith in y)
 
-type-shown : (place : Place) (name : ExternName) (described : ComponentTypeRef) (s s' : InstanceScope) → show_type place name described s ≡ Some s'
-    → length s'.shown.types ≡ length s.shown.types + 1
+type-shown : (place : Place) (name : ExternName) (described : ComponentTypeRef) (s s' : InstanceScope) → show_type place name described s ≡ Some s' → length s'.shown.types ≡ length s.shown.types + 1
 type-shown place name described s s' e =
-    let b = unbind (named_type s.slots place name.text described) _ s' e in
-    ap (λ (z : InstanceScope). length z.shown.types) (sym (some_is _ s' b.then)) ∙ length-append s.shown.types _
+    let b = unbind (named_type s.slots place name.text described) _ s' e in ap (λ (z : InstanceScope). length z.shown.types) (sym (some_is _ s' b.then)) ∙ length-append s.shown.types _
 
 step-types : (place : Place) (outer : List Slot) (s s' : InstanceScope) (d : Declaration) → instance_step place outer s d ≡ Some s'
     → length s'.shown.types ≡ length s.shown.types + cond (describes is_type d) 1 0
@@ -92,9 +87,7 @@ steps-types : (place : Place) (outer : List Slot) (s s' : InstanceScope) (ds : L
     → length s'.shown.types ≡ length s.shown.types + types_in ds
 unfolding types_in
 steps-types place outer s s' [] e = same-types s s' (some_is s s' e)
-steps-types place outer s s' (d ∷ ds) e =
-    let b = unbind (instance_step place outer s d) _ s' e in
-    omega (arith, step-types place outer s b.item d b.is, steps-types place outer b.item s' ds b.then)
+steps-types place outer s s' (d ∷ ds) e = let b = unbind (instance_step place outer s d) _ s' e in omega (arith, step-types place outer s b.item d b.is, steps-types place outer b.item s' ds b.then)
 
 -- ---- an instance type that is open
 
@@ -118,8 +111,7 @@ slots-inside : (r : Resolve) (outer : Declarations) (inner : Option OpenInterfac
     → type_slots (declared_inside inner) ≡ slots_in r outer inner
 slots-inside r outer None some sound = absurd cc
 slots-inside r outer (Some current) some sound =
-    let place : Place = place_of r (owner.Interface current.interface) in
-    inner-index place outer current.declared (inner-at place outer current.declared (followed r outer (Some current) sound))
+    let place : Place = place_of r (owner.Interface current.interface) in inner-index place outer current.declared (inner-at place outer current.declared (followed r outer (Some current) sound))
 
 functions-inside : (r : Resolve) (outer : Declarations) (inner : Option OpenInterface) → IsSome inner → (defined_in r outer inner).functions ≡ function_slots (from_list (declared_inside inner))
 unfolding inner_contents
@@ -135,8 +127,7 @@ taken-no-function : (d : Declaration) → takes_index d ≡ true → not (descri
 taken-no-function x e = search std_rules
 
 pub types-in-order : (r r' : Resolve) (outer outer' : Declarations) (inner inner' : Option OpenInterface) → IsSome inner → IsSome inner' → declared_inside inner ≡ []
-    → ((told : Told) → KeepsInside inner told → KeepsInside inner' told) → (defined_in r' outer' inner').functions ≡ (defined_in r outer inner).functions
-    → StandInOrder (declared_inside inner')
+    → ((told : Told) → KeepsInside inner told → KeepsInside inner' told) → (defined_in r' outer' inner').functions ≡ (defined_in r outer inner).functions → StandInOrder (declared_inside inner')
 types-in-order r r' outer outer' inner inner' some some' none keeps same =
     let ds : List Declaration = declared_inside inner' in
     let g : GrowsBy Declarations.no_more (from_list ds) =
@@ -157,11 +148,10 @@ types-in-order r r' outer outer' inner inner' some some' none keeps same =
 
 module _ (r r₀ r₁ : Resolve) (o₀ o₁ o₂ : Declarations) (i₀ i₁ i₂ : Option OpenInterface) (some₀ : IsSome i₀) (some₁ : IsSome i₁) (some₂ : IsSome i₂)
     (sound₀ : (encoder_scope r o₀ i₀).is_sound ≡ true) (sound₁ : (encoder_scope r₁ o₁ i₁).is_sound ≡ true) (sound₂ : (encoder_scope r o₂ i₂).is_sound ≡ true) where
-  pub function-in-order : (index : ℕ) (name : ExternName) → ((told : Told) → KeepsInside i₀ told → KeepsInside i₁ told)
-      → ((defined_in r₁ o₁ i₁).functions ≡ (defined_in r₀ o₀ i₀).functions)
+  pub function-in-order : (index : ℕ) (name : ExternName) → ((told : Told) → KeepsInside i₀ told → KeepsInside i₁ told) → ((defined_in r₁ o₁ i₁).functions ≡ (defined_in r₀ o₀ i₀).functions)
       ⊎ (((defined_in r₁ o₁ i₁).functions ≡ (defined_in r₀ o₀ i₀).functions ++ index ∷ []) × (slots_in r₁ o₁ i₁ ≡ index + 1))
-      → declared_inside i₂ ≡ declared_inside i₁ ++ Declaration.exported name (refs.Func index) ∷ [] → exports_in r o₂ i₂ ≡ exports_in r o₀ i₀
-      → StandInOrder (declared_inside i₀) → StandInOrder (declared_inside i₂)
+      → declared_inside i₂ ≡ declared_inside i₁ ++ Declaration.exported name (refs.Func index) ∷ [] → exports_in r o₂ i₂ ≡ exports_in r o₀ i₀ → StandInOrder (declared_inside i₀)
+      → StandInOrder (declared_inside i₂)
   function-in-order index name keeps defines shown same s =
       let d : Declaration = Declaration.exported name (refs.Func index) in
       let ds : List Declaration = declared_inside i₀ in
@@ -199,9 +189,7 @@ filters-one p q h (x ∷ xs) z (zero, l, same) absent present =
 filters-one p q h (x ∷ xs) z (suc k, l, same) absent present = by (p x) refl (filters-one p q h xs z (k, omega (arith, l), same) absent present)
   where
     by : (b : Bool) → p x ≡ b → length (filter p xs) + 1 ≤ length (filter q xs) → length (filter p (x ∷ xs)) + 1 ≤ length (filter q (x ∷ xs))
-    by true e more =
-        let a = ap length (cond-true (p x) (x ∷ filter p xs) (filter p xs) e) in
-        omega (arith, a, ap length (cond-true (q x) (x ∷ filter q xs) (filter q xs) (h x e)), more)
+    by true e more = let a = ap length (cond-true (p x) (x ∷ filter p xs) (filter p xs) e) in omega (arith, a, ap length (cond-true (q x) (x ∷ filter q xs) (filter q xs) (h x e)), more)
     by false e more = elim (cases_Bool (q x)) [
       | inl f ↦ (let a = ap length (cond-false (p x) (x ∷ filter p xs) (filter p xs) e) in let b = ap length (cond-true (q x) (x ∷ filter q xs) (filter q xs) f) in omega (arith, a, b, more))
       | inr f ↦ (let a = ap length (cond-false (p x) (x ∷ filter p xs) (filter p xs) e) in let b = ap length (cond-false (q x) (x ∷ filter q xs) (filter q xs) f) in omega (arith, a, b, more))
@@ -209,8 +197,7 @@ filters-one p q h (x ∷ xs) z (suc k, l, same) absent present = by (p x) refl (
 
 -- a type with a new alias had none
 new-brought : (r : Resolve) (a : Around) (x : Aliased) → IsAlias r a x → is_brought r (with_alias a x) x.number.0 ≡ true
-new-brought r a x is =
-    both (is_some (known_slot (with_alias a x).known x.number.0)) (option_map_or (is_of_listed a.instances) (type_at r x.number.0) false)
+new-brought r a x is = both (is_some (known_slot (with_alias a x).known x.number.0)) (option_map_or (is_of_listed a.instances) (type_at r x.number.0) false)
     (ap is_some (new-slot x.number.0 (type_slots_of a.declared) a.known is.first))
     (ap (λ o. option_map_or (is_of_listed a.instances) o false) is.there ∙ both (is_some is.def.name) (option_map_or (λ i. is_some (known_instance a.instances i)) (owner_interface is.def.owner) false)
     (ap is_some is.named_) (ap (λ (o : TypeOwner). option_map_or (λ i. is_some (known_instance a.instances i)) (owner_interface o) false) is.owned ∙ ap is_some is.instance))
@@ -228,27 +215,9 @@ aliases-few : (r : Resolve) (a : Around) (made : List Aliased) → AreAliases r 
 aliases-few r a [] are = omega arith
 aliases-few r a (x ∷ made) are = omega (arith, alias-few r a x are.0, one-appended a.declared (alias_declared x), aliases-few r (with_alias a x) made are.1)
 
-aliases-listed : (a : Around) (made : List Aliased) → (with_aliases a made).instances ≡ a.instances
-aliases-listed a [] = refl
-aliases-listed a (x ∷ made) = aliases-listed (with_alias a x) made
-
-aliases-instances : (a : Around) (made : List Aliased) → instances_declared (with_aliases a made).declared ≡ instances_declared a.declared
-aliases-instances a [] = refl
-aliases-instances a (x ∷ made) = aliases-instances (with_alias a x) made ∙ instances-kept a.declared (alias_declared x)
-
-aliases-slots : (test : Declaration → Bool) → ((x : Aliased) → test (alias_declared x) ≡ false) → (a : Around) (made : List Aliased)
-    → slots_from test 0 (with_aliases a made).declared ≡ slots_from test 0 a.declared
-aliases-slots test none a [] = refl
-aliases-slots test none a (x ∷ made) = aliases-slots test none (with_alias a x) made ∙ slots-kept test a.declared (alias_declared x) (none x)
-
-aliases-targets : (a : Around) (made : List Aliased) → targets_of (with_aliases a made).declared ≡ targets_of a.declared
-aliases-targets a [] = refl
-aliases-targets a (x ∷ made) = aliases-targets (with_alias a x) made ∙ targets-kept a.declared (alias_declared x) refl
-
-aliases-counted : (test : Declaration → Bool) → ((x : Aliased) → test (alias_declared x) ≡ false) → (a : Around) (made : List Aliased)
-    → count_declared test (with_aliases a made).declared ≡ count_declared test a.declared
-aliases-counted test none a [] = refl
-aliases-counted test none a (x ∷ made) = aliases-counted test none (with_alias a x) made ∙ counts-declared test a.declared (alias_declared x) (none x)
+aliases-keep : {X : Type 0} (f : Around → X) → ((a : Around) (x : Aliased) → f (with_alias a x) ≡ f a) → (a : Around) (made : List Aliased) → f (with_aliases a made) ≡ f a
+aliases-keep f step a [] = refl
+aliases-keep f step a (x ∷ made) = aliases-keep f step (with_alias a x) made ∙ step a x
 
 one-instance : (ds inner : Declarations) → declaration_count (append ds (Declarations.instance inner Declarations.no_more)) ≡ declaration_count ds + 1
 one-instance Declarations.no_more inner = omega arith
@@ -261,18 +230,13 @@ one-instance (Declarations.instance i rest) inner = omega (arith, one-instance r
 module _ (i number : ℕ) (es : List (ℕ × ℕ)) where
   -- who is listed is the new one or was listed
   pub listed-cases : (m : ℕ) → is_some (known_instance (insert_entry nat_cmp es i number) m) ≡ true → (m ≡ i) ⊎ (is_some (known_instance es m) ≡ true)
-  listed-cases m h = by (is_at (nat_cmp m) i) refl
-    where
-      by : (b : Bool) → is_at (nat_cmp m) i ≡ b → (m ≡ i) ⊎ (is_some (known_instance es m) ≡ true)
-      by true e = inl (at-same m i e)
-      by false e = inr (ap is_some (sym (found-other i number m es e)) ∙ h)
+  listed-cases m h = elim (cases_Bool (is_at (nat_cmp m) i)) [ inl e ↦ inl (at-same m i e) | inr e ↦ inr (ap is_some (sym (found-other i number m es e)) ∙ h) ]
 
   still-listed : (m : ℕ) → is_some (known_instance es m) ≡ true → is_some (known_instance (insert_entry nat_cmp es i number) m) ≡ true
-  still-listed m h = by (is_at (nat_cmp m) i) refl
-    where
-      by : (b : Bool) → is_at (nat_cmp m) i ≡ b → is_some (known_instance (insert_entry nat_cmp es i number) m) ≡ true
-      by true e = subst (λ (k : ℕ). is_some (known_instance (insert_entry nat_cmp es i number) k) ≡ true) (sym (at-same m i e)) (ap is_some (found-new i number es))
-      by false e = ap is_some (found-other i number m es e) ∙ h
+  still-listed m h = elim (cases_Bool (is_at (nat_cmp m) i)) [
+    | inl e ↦ subst (λ (k : ℕ). is_some (known_instance (insert_entry nat_cmp es i number) k) ≡ true) (sym (at-same m i e)) (ap is_some (found-new i number es))
+    | inr e ↦ ap is_some (found-other i number m es e) ∙ h
+  ]
 
 -- more interfaces are listed, so no fewer types are counted
 listed-brought : (r : Resolve) (a : Around) (listed : List (ℕ × ℕ)) (outer : Declarations) → ((m : ℕ) → is_some (known_instance a.instances m) ≡ true → is_some (known_instance listed m) ≡ true)
@@ -292,12 +256,15 @@ listed-brought r a listed outer more = filters-more (is_brought r a) (is_brought
 
 -- ---- behind aliases
 
+-- what an alias keeps
+grown-keep : {X : Type 0} (r : Resolve) (a b : Around) → GrowsAround r a b → (f : Around → X) → ((a : Around) (x : Aliased) → f (with_alias a x) ≡ f a) → f b ≡ f a
+grown-keep r a b g f step = ap f g.is ∙ aliases-keep f step a g.made
+
 pub grown-listed : (r : Resolve) (a b : Around) → GrowsAround r a b → b.instances ≡ a.instances
-grown-listed r a b g = ap (λ (z : Around). z.instances) g.is ∙ aliases-listed a g.made
+grown-listed r a b g = grown-keep r a b g (λ z. z.instances) (λ a x. refl)
 
 pub grown-few : (r : Resolve) (a b : Around) → GrowsAround r a b → declaration_count b.declared + length (brought_numbers r a) ≤ declaration_count a.declared + length (brought_numbers r b)
-grown-few r a b g =
-    omega (arith, aliases-few r a g.made g.are, ap (λ (z : Around). declaration_count z.declared) g.is, ap (λ z. length (brought_numbers r z)) g.is)
+grown-few r a b g = omega (arith, aliases-few r a g.made g.are, ap (λ (z : Around). declaration_count z.declared) g.is, ap (λ z. length (brought_numbers r z)) g.is)
 
 -- the instance type, and the declaration that uses it
 module _ (r : Resolve) (a before : Around) (g : GrowsAround r a before) (inner : Declarations) (d : Declaration) (outer : Declarations)
@@ -306,31 +273,27 @@ module _ (r : Resolve) (a before : Around) (g : GrowsAround r a before) (inner :
   behind = append before.declared (Declarations.instance inner Declarations.no_more)
 
   pub placed-instances : instances_declared outer ≡ instances_declared a.declared ++ (before.declared, inner) ∷ []
-  placed-instances =
-      ap instances_declared made ∙ instances-kept behind d ∙ instances-behind before.declared inner
-      ∙ ap (λ (ds : List (Declarations × Declarations)). ds ++ (before.declared, inner) ∷ []) (ap (λ (z : Around). instances_declared z.declared) g.is ∙ aliases-instances a g.made)
+  placed-instances = ap instances_declared made ∙ instances-kept behind d ∙ instances-behind before.declared inner
+      ∙ ap (λ (ds : List (Declarations × Declarations)). ds ++ (before.declared, inner) ∷ [])
+      (grown-keep r a before g (λ z. instances_declared z.declared) (λ a x. instances-kept a.declared (alias_declared x)))
 
   -- nothing is defined beside it, and no type is imported
   pub placed-slots : (test : Declaration → Bool) → ((x : Aliased) → test (alias_declared x) ≡ false) → test d ≡ false → slots_from test 0 outer ≡ slots_from test 0 a.declared
-  placed-slots test none other =
-      ap (slots_from test 0) made ∙ slots-kept test behind d other ∙ slots-instance test 0 before.declared inner
-      ∙ ap (λ (z : Around). slots_from test 0 z.declared) g.is ∙ aliases-slots test none a g.made
+  placed-slots test none other = ap (slots_from test 0) made ∙ slots-kept test behind d other ∙ slots-instance test 0 before.declared inner
+      ∙ grown-keep r a before g (λ z. slots_from test 0 z.declared) (λ a x. slots-kept test a.declared (alias_declared x) (none x))
 
   pub placed-targets : target_of d ≡ None → targets_of outer ≡ targets_of a.declared
-  placed-targets other =
-      ap targets_of made ∙ targets-kept behind d other ∙ targets-instance before.declared inner
-      ∙ ap (λ (z : Around). targets_of z.declared) g.is ∙ aliases-targets a g.made
+  placed-targets other = ap targets_of made ∙ targets-kept behind d other ∙ targets-instance before.declared inner
+      ∙ grown-keep r a before g (λ z. targets_of z.declared) (λ a x. targets-kept a.declared (alias_declared x) refl)
 
   pub placed-counted : (test : Declaration → Bool) → ((x : Aliased) → test (alias_declared x) ≡ false) → test d ≡ false → count_declared test outer ≡ count_declared test a.declared
-  placed-counted test none other =
-      ap (count_declared test) made ∙ counts-declared test behind d other ∙ count-instance test before.declared inner
-      ∙ ap (λ (z : Around). count_declared test z.declared) g.is ∙ aliases-counted test none a g.made
+  placed-counted test none other = ap (count_declared test) made ∙ counts-declared test behind d other ∙ count-instance test before.declared inner
+      ∙ grown-keep r a before g (λ z. count_declared test z.declared) (λ a x. counts-declared test a.declared (alias_declared x) (none x))
 
   -- from then on the instance is listed
   pub placed-few : (i number : ℕ) (listed known : List (ℕ × ℕ)) → listed ≡ insert_entry nat_cmp a.instances i number → known ≡ before.known
       → declaration_count outer + length (brought_numbers r a) ≤ declaration_count a.declared + (length (brought_numbers r (record { declared = outer; instances = listed; known = known })) + 2)
-  placed-few i number listed known listed-is known-is =
-      omega (arith, grown-few r a before g, ap declaration_count made, one-appended behind d, one-instance before.declared inner, more)
+  placed-few i number listed known listed-is known-is = omega (arith, grown-few r a before g, ap declaration_count made, one-appended behind d, one-instance before.declared inner, more)
     where
       more : length (brought_numbers r before) ≤ length (brought_numbers r (record { declared = outer; instances = listed; known = known }))
       more =

@@ -1,6 +1,6 @@
 -- Where declarations stand: the type of a function and an instance type just before the import or export that has it, types before functions.
-use Rattle.std.proofs.Common.{rules as std_rules, ◌≡◌, refl, sym, ap, subst, ◌∙◌, ℕ, ◌+◌, ◌⊎◌, inl, inr, Bool, true, false, not, ◌&&◌, ◌||◌, cond, List, [], ◌∷◌, ◌++◌, append-nil, append_assoc, arith}
-use Rattle.std.proofs.lemmas.{Bool.eqb-true, Bool.eq-eqb, List.append_cancel_left, List.Folds.list_all-append}
+use Rattle.std.proofs.Common.{rules as std_rules, ◌≡◌, refl, sym, ap, subst, ◌∙◌, ℕ, ◌+◌, ◌⊎◌, inl, inr, Bool, true, false, not, ◌&&◌, ◌||◌, List, [], ◌∷◌, ◌++◌, append-nil, append_assoc, arith}
+use Rattle.std.proofs.lemmas.{Bool.eqb-true, Bool.eq-eqb, Bool.or_right, List.append_cancel_left, List.Folds.list_all-append}
 use Rattle.std.specs.{List.list_all, Cmp.Derive.both_true}
 use Rattle.base_lemmas.proofs.{Bools.left_of, Bools.right_of, Numbers.no-slot}
 use Rattle.wit_model.specs.Text.{Text}
@@ -28,10 +28,7 @@ pub one-list : (xs ys : List Declaration) → from_list xs ≡ from_list ys → 
 one-list [] [] e = refl
 one-list [] (y ∷ ys) e = absurd cc
 one-list (x ∷ xs) [] e = absurd cc
-one-list (x ∷ xs) (y ∷ ys) e =
-    let first : x ≡ y = cc in
-    let rest : from_list xs ≡ from_list ys = cc in
-    λ i. first i ∷ one-list xs ys rest i
+one-list (x ∷ xs) (y ∷ ys) e = let first : x ≡ y = cc in let rest : from_list xs ≡ from_list ys = cc in λ i. first i ∷ one-list xs ys rest i
 
 -- the slots of what passes a test, behind others
 slots-both : (test : Declaration → Bool) (n : ℕ) (a b : Declarations) → slots_from test n (append a b) ≡ slots_from test n a ++ slots_from test (n + type_slots_of a) b
@@ -46,8 +43,7 @@ pub grows-none : (a : Declarations) → GrowsBy a a
 grows-none a = record { more = []; are = sym (append-none a); indexes = refl }
 
 pub grows-more : (a b c : Declarations) (d : Declaration) → c ≡ declared_after b d → takes_index d ≡ true → GrowsBy a b → GrowsBy a c
-grows-more a b c d is one g =
-    search (std_rules, append-twice a (from_list g.more) (Declarations.declares d Declarations.no_more), from_list-push g.more d, list_all-append takes_index g.more (d ∷ []))
+grows-more a b c d is one g = search (std_rules, append-twice a (from_list g.more) (Declarations.declares d Declarations.no_more), from_list-push g.more d, list_all-append takes_index g.more (d ∷ []))
 
 -- ---- beside
 
@@ -62,10 +58,9 @@ beside-both n Declarations.no_more b h k = subst (λ (m : ℕ). are_beside m b �
 beside-both n (Declarations.declares d rest) b h k =
     let far : n + (declaration_slots d + type_slots_of rest) ≡ n + declaration_slots d + type_slots_of rest = omega arith in
     let here : Bool = not (is_function_type d) || begins_with (is_function_of n) rest in
-    both_true
-    (or-more (not (is_function_type d)) (begins_with (is_function_of n) rest) (begins_with (is_function_of n) (append rest b)) (left_of here (are_beside (n + declaration_slots d) rest) h)
-    (begins-more (is_function_of n) rest b))
-    (beside-both (n + declaration_slots d) rest b (right_of here (are_beside (n + declaration_slots d) rest) h) (subst (λ (m : ℕ). are_beside m b ≡ true) far k))
+    both_true (or-more (not (is_function_type d)) (begins_with (is_function_of n) rest) (begins_with (is_function_of n) (append rest b)) (left_of here (are_beside (n + declaration_slots d) rest) h)
+    (begins-more (is_function_of n) rest b)) (beside-both (n + declaration_slots d) rest b (right_of here (are_beside (n + declaration_slots d) rest) h)
+    (subst (λ (m : ℕ). are_beside m b ≡ true) far k))
 beside-both n (Declarations.component inner rest) b h k = beside-both (n + 1) rest b h (subst (λ (m : ℕ). are_beside m b ≡ true) (omega arith) k)
 beside-both n (Declarations.instance inner rest) b h k =
     let far : n + (1 + type_slots_of rest) ≡ n + 1 + type_slots_of rest = omega arith in
@@ -84,13 +79,10 @@ beside-plain : (n : ℕ) (ds : List Declaration) → slots_from is_function_type
 beside-plain n [] e = refl
 beside-plain n (d ∷ ds) e = by (is_function_type d) refl (beside-plain (n + declaration_slots d) ds)
   where
-    rest : (b : Bool) → is_function_type d ≡ b → cond b (n ∷ []) [] ++ slots_from is_function_type (n + declaration_slots d) (from_list ds) ≡ []
-    rest b is = ap (λ (b : Bool). cond b (n ∷ []) [] ++ slots_from is_function_type (n + declaration_slots d) (from_list ds)) (sym is) ∙ e
-
     by : (b : Bool) → is_function_type d ≡ b → (slots_from is_function_type (n + declaration_slots d) (from_list ds) ≡ [] → are_beside (n + declaration_slots d) (from_list ds) ≡ true)
         → are_beside n (from_list (d ∷ ds)) ≡ true
-    by true is more = absurd (cc (rest true is))
-    by false is more = both_true (ap (λ (b : Bool). not b || begins_with (is_function_of n) (from_list ds)) is) (more (rest false is))
+    by true is more = absurd (cc (rw is at e))
+    by false is more = both_true (ap (λ (b : Bool). not b || begins_with (is_function_of n) (from_list ds)) is) (more (rw is at e))
 
 -- ---- the type of a function, and what has it
 
@@ -103,31 +95,22 @@ none-taken (d ∷ ds) all e = search std_rules
 beside-last : (n i : ℕ) (ds : List Declaration) (d : Declaration) → list_all takes_index ds ≡ true → slots_from is_function_type n (from_list ds) ≡ i ∷ [] → n + type_slots ds ≡ i + 1
     → describes (is_function_of i) d ≡ true → is_function_type d ≡ false → are_beside n (from_list (ds ++ d ∷ [])) ≡ true
 beside-last n i [] d all e last has plain = absurd cc
-beside-last n i (x ∷ ds) d all e last has plain =
-    by (is_function_type x) refl
+beside-last n i (x ∷ ds) d all e last has plain = by (is_function_type x) refl
     (λ q. beside-last (n + declaration_slots x) i ds d (right_of (takes_index x) (list_all takes_index ds) all) q (omega (arith, last)) has plain)
   where
     one : declaration_slots x ≡ 1
     one = eqb-true (declaration_slots x) 1 (left_of (takes_index x) (list_all takes_index ds) all)
 
-    rest : (b : Bool) → is_function_type x ≡ b → cond b (n ∷ []) [] ++ slots_from is_function_type (n + declaration_slots x) (from_list ds) ≡ i ∷ []
-    rest b is = ap (λ (b : Bool). cond b (n ∷ []) [] ++ slots_from is_function_type (n + declaration_slots x) (from_list ds)) (sym is) ∙ e
-
-    or-right : (x y : Bool) → y ≡ true → (x || y) ≡ true
-    or-right true y h = refl
-    or-right false y h = h
-
-    by : (b : Bool) → is_function_type x ≡ b
-        → (slots_from is_function_type (n + declaration_slots x) (from_list ds) ≡ i ∷ [] → are_beside (n + declaration_slots x) (from_list (ds ++ d ∷ [])) ≡ true)
+    by : (b : Bool) → is_function_type x ≡ b → (slots_from is_function_type (n + declaration_slots x) (from_list ds) ≡ i ∷ [] → are_beside (n + declaration_slots x) (from_list (ds ++ d ∷ [])) ≡ true)
         → are_beside n (from_list ((x ∷ ds) ++ d ∷ [])) ≡ true
     by true is more =
-        let q : n ∷ slots_from is_function_type (n + declaration_slots x) (from_list ds) ≡ i ∷ [] = rest true is in
+        let q : n ∷ slots_from is_function_type (n + declaration_slots x) (from_list ds) ≡ i ∷ [] = (rw is at e) in
         let same : i ≡ n = cc in
         let none : ds ≡ [] = none-taken ds (right_of (takes_index x) (list_all takes_index ds) all) (omega (arith, one, same, last)) in
         subst (λ (zs : List Declaration). are_beside n (from_list (x ∷ zs ++ d ∷ [])) ≡ true) (sym none)
-        (both_true (or-right (not (is_function_type x)) (describes (is_function_of n) d)
+        (both_true (or_right (not (is_function_type x)) (describes (is_function_of n) d)
         (subst (λ (k : ℕ). describes (is_function_of k) d ≡ true) same has)) (beside-one (n + declaration_slots x) d plain))
-    by false is more = both_true (ap (λ (b : Bool). not b || begins_with (is_function_of n) (from_list (ds ++ d ∷ []))) is) (more (rest false is))
+    by false is more = both_true (ap (λ (b : Bool). not b || begins_with (is_function_of n) (from_list (ds ++ d ∷ []))) is) (more (rw is at e))
 
 -- no type of a function has been defined, or one, at the last index, i
 abbrev pub DefinesAtLast : Declarations → Declarations → ℕ → Type 0
@@ -146,8 +129,7 @@ slots-added (Declarations.instance inner rest) ds = omega (arith, slots-added re
 
 -- types alone
 pub types-beside : (before after : Declarations) → GrowsBy before after → function_slots after ≡ function_slots before → StaysBeside before after
-types-beside before after g e h =
-    subst (λ (z : Declarations). are_beside 0 z ≡ true) (sym g.are)
+types-beside before after g e h = subst (λ (z : Declarations). are_beside 0 z ≡ true) (sym g.are)
     (beside-both 0 before (from_list g.more) h (beside-plain (0 + type_slots_of before) g.more (added-slots before after g [] (e ∙ sym (append-nil (function_slots before))))))
 
 -- the type of a function, if it is new, and then the function
@@ -156,9 +138,7 @@ pub function-beside : (before after : Declarations) (i : ℕ) (d : Declaration) 
 function-beside before after i d g (inl same) has plain h = beside-after after d plain (types-beside before after g same h)
 function-beside before after i d g (inr new) has plain h =
     let n : ℕ = 0 + type_slots_of before in
-    let count : n + type_slots g.more ≡ i + 1 = (
-    omega (arith, ap type_slots_of g.are ∙ slots-added before g.more, new.1)
-    ) in
+    let count : n + type_slots g.more ≡ i + 1 = omega (arith, ap type_slots_of g.are ∙ slots-added before g.more, new.1) in
     let whole : append before (from_list (g.more ++ d ∷ [])) ≡ declared_after after d =
     ap (append before) (from_list-push g.more d) ∙ sym (append-twice before (from_list g.more) (Declarations.declares d Declarations.no_more))
     ∙ ap (λ (z : Declarations). declared_after z d) (sym g.are) in

@@ -19,7 +19,7 @@ use Rattle.wit_encode.proofs.Owned.{stays, part-met, own-interface, alias-part, 
 use Rattle.wit_encode.proofs.ListedTypes.{owned-listed, listed-type}
 use Rattle.wit_encode.proofs.{OwnerScope.function-ranges, OwnerScope.function-refers, OwnerScope.type-stays, OwnerScope.types-stay, WorldShown.own-type}
 use Rattle.base_lemmas.proofs.Bools.{left_of as first_true, not-false, right_of as second_true}
-use Rattle.base_lemmas.proofs.Elements.{all-contained, contains-one, flat-same, last_of as one-contained, map_from as from-map}
+use Rattle.base_lemmas.proofs.Elements.{all-contained, contains-later, contains-one, flat-same, last_of as one-contained, map_from as from-map}
 use Rattle.base_lemmas.proofs.Lists.{slice_take as get-take, within_there as there-at}
 use Rattle.wit_model.specs.declared.model.WorldItem.TheVariants as item
 use Rattle.wit_model.specs.declared.model.TypeOwner.TheVariants as owner
@@ -30,8 +30,7 @@ use Rattle.wit_model.specs.declared.model.«Type».TheVariants as ty
 module _ (r : Resolve) (v : IsValid r) where
   inside-step : (n : ℕ) (def : TypeDef) → type_at r n ≡ Some def → inside_number r n ≡ n ∷ (if is_some def.name then [] else flat_map (inside_number r) (kind_numbers def.kind))
   unfolding inside_of
-  inside-step n def is =
-      ap (λ o. unwrap_or o []) (grow_at inside_at (numbered_from 0 r.types.items) n (n, def) here)
+  inside-step n def is = ap (λ o. unwrap_or o []) (grow_at inside_at (numbered_from 0 r.types.items) n (n, def) here)
       ∙ ap (λ xs. n ∷ (if is_some def.name then [] else xs)) (flat-same (met_by (take n (inside_of r))) (met_by (inside_of r)) n (kind_numbers def.kind)
       (λ m low. ap (λ o. unwrap_or o []) (get-take (inside_of r) n m low)) (below_at r (valid-references r v) n def is))
     where
@@ -64,16 +63,12 @@ module _ (r : Resolve) (v : IsValid r) where
 
       go : ((b : ℕ) → b < fuel → (d : TypeDef) → type_at r b ≡ Some d → Contains (inside_number r b) k → Contains (inside_number r b) j) → (b : Bool) → is_some da.name ≡ b
           → Contains (inside_number r a) j
-      go down true named = head (subst (λ (xs : List ℕ). Contains xs k) (named-inside a da is named) h)
+      go down true named =
+          let e = one-contained a k (subst (λ (xs : List ℕ). Contains xs k) (named-inside a da is named) h) in
+          let wrong : true ≡ false = sym named ∙ (ap (λ (d : TypeDef). is_some d.name) (at-head e) ∙ none) in absurd cc
+      go down false bare = subst (λ (xs : List ℕ). Contains xs j) (sym (unnamed-inside a da is bare))
+          (contains-later a _ j (parts (subst (λ (xs : List ℕ). Contains xs k) (unnamed-inside a da is bare) h)))
         where
-          head : Contains (a ∷ []) k → Contains (inside_number r a) j
-          head (zero, m, e) = let wrong : true ≡ false = sym named ∙ (ap (λ (d : TypeDef). is_some d.name) (at-head e) ∙ none) in absurd cc
-          head (suc i, m, e) = absurd (omega (arith, m))
-      go down false bare = subst (λ (xs : List ℕ). Contains xs j) (sym (unnamed-inside a da is bare)) (later (parts (subst (λ (xs : List ℕ). Contains xs k) (unnamed-inside a da is bare) h)))
-        where
-          later : Contains (flat_map (inside_number r) (kind_numbers da.kind)) j → Contains (a ∷ flat_map (inside_number r) (kind_numbers da.kind)) j
-          later (i, m, e) = (suc i, omega (arith, m), e)
-
           parts : Contains (a ∷ flat_map (inside_number r) (kind_numbers da.kind)) k → Contains (flat_map (inside_number r) (kind_numbers da.kind)) j
           parts (zero, m, e) =
               let c' : Contains (kind_numbers da.kind) j = subst (λ (d : TypeDef). Contains (kind_numbers d.kind) j) (sym (at-head e)) c in
@@ -195,12 +190,10 @@ module _ (r : Resolve) (v : IsValid r) where
         → (n : ℕ) → ReachedFrom r (interface_of_owner o) (referred ts fs) n → IsCounted n × Stays n
     met-counted ts fs listed among n x = walk x.0 n x.2 (λ id e. elim (Contains-append_cases (map (λ t. ty.Id t) ts) (flat_map function_types fs) (ty.Id id)
         (subst (λ (t : ValueType). Contains (referred ts fs) t) e x.1)) [
-          | inl a ↦ (let y = from-map (λ (t : TypeId). ty.Id t) ts (ty.Id id) a in from-type id (subst (λ (t : TypeId). Contains ns t.0) (same-id y.0 id y.2) (listed y.0 y.1)))
+          | inl a ↦ (let y = from-map (λ (t : TypeId). ty.Id t) ts (ty.Id id) a in let q = y.2 in let same : y.0 ≡ id = cc in
+              from-type id (subst (λ (t : TypeId). Contains ns t.0) same (listed y.0 y.1)))
           | inr b ↦ (let y = from-flat function_types fs (ty.Id id) b in from-function y.0 (among y.0 y.1) id y.2)
         ])
-      where
-        same-id : (a b : TypeId) → ty.Id a ≡ ty.Id b → a ≡ b
-        same-id a b e = cc
 
     pub counted-in : (n : ℕ) → IsCounted n → Contains all-numbers n
     counted-in n c = c.all n c.inside
@@ -245,7 +238,6 @@ module _ (r : Resolve) (v : IsValid r) where
       there : (n : ℕ) (def : TypeDef) → type_at r n ≡ Some def → (x : Option (String Global)) → def.name ≡ x → is_some x ≡ true
           → option_map_or (λ name. is_listed r n (text_of name) (owner.World w)) x false ≡ true → Contains (world_type_numbers world) n
       there n def at None e named listed = absurd cc
-      there n def at (Some name) e named listed =
-          has-contains (world_type_numbers world) n
+      there n def at (Some name) e named listed = has-contains (world_type_numbers world) n
           (found_stands (is_name_key (text_of name)) item_type n world.imports.entries (first_true (is_id n (option_and_then item_type (get_by (is_name_key (text_of name)) world.imports))) _
           (subst (λ (o : Option World). passes (is_listed_in_world n (text_of name)) o ≡ true) home listed)))

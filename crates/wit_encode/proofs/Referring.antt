@@ -12,9 +12,7 @@ use Rattle.wit_model.specs.declared.model.{Resolve.Resolve, Function.Function, T
 use Rattle.wit_model.specs.declared.model.TypeId.{TypeId}
 use Rattle.comp_bytes.specs.Raw.{Declaration, Declarations}
 use Rattle.wit_encode.specs.{Instance.DeclaresFew, Exports.AllKnown}
-use Rattle.encode_types.specs.{Slots.Pairs, Scope.Scope}
-use Rattle.encode_types.specs.{Plan.Reaches, Key.same_type, Key.same_param, Maps.IsKnown, Maps.AllReady, Maps.IsOnce, Codes.names_of, Codes.ListKey}
-use Rattle.encode_types.specs.{Counts.Definitions, Distinct.key_of, Distinct.key_view, Distinct.are_same, Distinct.AddsFunctions, Distinct.DefinesTypes}
+use Rattle.encode_types.specs.{Slots.Pairs, Scope.Scope, Plan.Reaches, Key.same_type, Key.same_param, Maps.IsKnown, Maps.AllReady, Maps.IsOnce, Codes.names_of, Codes.ListKey, Counts.Definitions, Distinct.key_of, Distinct.key_view, Distinct.are_same, Distinct.AddsFunctions, Distinct.DefinesTypes}
 use Rattle.encode_types.specs.MetKinds.{referred, IsMetKind, AreMetKinds, LearnsMet, LearnsFrom, key_types}
 use Rattle.encode_types.specs.declared.{key.FunctionKey.FunctionKey, maps.TypeEncodingMaps.TypeEncodingMaps}
 use Rattle.encode_types.proofs.Lists.{none-in}
@@ -34,10 +32,7 @@ pub from-none : (r : Resolve) (own : Option InterfaceId) (ts : List ValueType) (
 from-none r own ts m = record { only = learns-nothing _ m; learns = learns-none r own m }
 
 pub from-met : (r : Resolve) (own : Option InterfaceId) (ts : List ValueType) (m m' : TypeEncodingMaps) → LearnsMet r own ts m m' → LearnsFrom r own ts m m'
-from-met r own ts m m' l = record {
-  only = record { each = λ n i c. elim (l.only.each n i c) [ inl h ↦ inl h | inr x ↦ inr (x.0, x.1, meets-reaches r own m x.0 n x.2) ] };
-  learns = l.learns;
-}
+from-met r own ts m m' l = record { only = record { each = λ n i c. elim (l.only.each n i c) [ inl h ↦ inl h | inr x ↦ inr (x.0, x.1, meets-reaches r own m x.0 n x.2) ] }; learns = l.learns }
 
 pub from-then : {r : Resolve} {own own' : Option InterfaceId} {xs ys : List ValueType} {a b c : TypeEncodingMaps} → own' ≡ own → LearnsFrom r own xs a b → LearnsFrom r own' ys b c
     → LearnsFrom r own (xs ++ ys) a c
@@ -57,10 +52,8 @@ on-both x f p q = search std_rules
 -- one type more
 pub from-type : (r : Resolve) (own own' : Option InterfaceId) (types : List TypeId) (i : ℕ) (t : TypeId) (a b c : TypeEncodingMaps) → i < length types → own' ≡ own
     → LearnsFrom r own (map (λ t. ty.Id t) (take i types)) a b → LearnsMet r own' (ty.Id (get_or types i t) ∷ []) b c → LearnsFrom r own (map (λ t. ty.Id t) (take (i + 1) types)) a c
-from-type r own own' types i t a b c l e p q =
-    subst (λ (ts : List ValueType). LearnsFrom r own ts a c)
-    (sym (ap (map (λ t. ty.Id t)) (take_more types i t l) ∙ map-append (λ t. ty.Id t) (take i types) (get_or types i t ∷ [])))
-    (from-then e p (from-met r own' (ty.Id (get_or types i t) ∷ []) b c q))
+from-type r own own' types i t a b c l e p q = subst (λ (ts : List ValueType). LearnsFrom r own ts a c)
+    (sym (ap (map (λ t. ty.Id t)) (take_more types i t l) ∙ map-append (λ t. ty.Id t) (take i types) (get_or types i t ∷ []))) (from-then e p (from-met r own' (ty.Id (get_or types i t) ∷ []) b c q))
 
 pub from-types : (r : Resolve) (own : Option InterfaceId) (types : List TypeId) (i : ℕ) (a b : TypeEncodingMaps) → length types ≤ i
     → LearnsFrom r own (map (λ t. ty.Id t) (take i types)) a b → LearnsFrom r own (map (λ t. ty.Id t) types) a b
@@ -70,14 +63,12 @@ from-types r own types i a b l p = subst (λ (ts : List TypeId). LearnsFrom r ow
 pub from-function : {X : Type 0} (view : X → Function) (r : Resolve) (own own' : Option InterfaceId) (xs : List X) (i : ℕ) (x : X) (a b c : TypeEncodingMaps) → i < length xs → x ≡ get_or xs i x
     → own' ≡ own → LearnsFrom r own (flat_map function_types (map view (take i xs))) a b → LearnsFrom r own' (function_types (view x)) b c
     → LearnsFrom r own (flat_map function_types (map view (take (i + 1) xs))) a c
-from-function view r own own' xs i x a b c l is e p q =
-    subst (λ (ts : List ValueType). LearnsFrom r own ts a c) (sym (more ∙ flat_map-append function_types (map view (take i xs)) (view x ∷ [])))
+from-function view r own own' xs i x a b c l is e p q = subst (λ (ts : List ValueType). LearnsFrom r own ts a c) (sym (more ∙ flat_map-append function_types (map view (take i xs)) (view x ∷ [])))
     (subst (λ (ts : List ValueType). LearnsFrom r own (flat_map function_types (map view (take i xs)) ++ ts) a c) one (from-then e p q))
   where
     more : flat_map function_types (map view (take (i + 1) xs)) ≡ flat_map function_types (map view (take i xs) ++ view x ∷ [])
     more = ap (λ ys. flat_map function_types (map view ys)) (take_more xs i x l)
-        ∙ (ap (flat_map function_types) (map-append view (take i xs) (get_or xs i x ∷ []))
-        ∙ ap (λ y. flat_map function_types (map view (take i xs) ++ view y ∷ [])) (sym is))
+        ∙ (ap (flat_map function_types) (map-append view (take i xs) (get_or xs i x ∷ [])) ∙ ap (λ y. flat_map function_types (map view (take i xs) ++ view y ∷ [])) (sym is))
 
     one : function_types (view x) ≡ flat_map function_types (view x ∷ [])
     one = sym (append-nil (function_types (view x)))
@@ -130,14 +121,7 @@ module _ (r : Resolve) (own : Option InterfaceId) (types : List TypeId) (fs gs :
   ]
 
   met-too : (xs ys : List Function) → ((f : Function) → Contains xs f → Contains ys f) → (kind : TypeDefKind) → IsMetKind r own (referred types xs) kind → IsMetKind r own (referred types ys) kind
-  met-too xs ys h kind k = record {
-    number = k.number;
-    met = (k.met.0, refers-too xs ys h k.met.0 k.met.1, k.met.2);
-    def = k.def;
-    there = k.there;
-    unnamed = k.unnamed;
-    same = k.same;
-  }
+  met-too xs ys h kind k = record { number = k.number; met = (k.met.0, refers-too xs ys h k.met.0 k.met.1, k.met.2); def = k.def; there = k.there; unnamed = k.unnamed; same = k.same }
 
   forth : (f : Function) → Contains gs f → Contains fs f
   forth f c = permuted-contains fs gs f p c

@@ -1,6 +1,6 @@
 -- What has no room in an encoder of interfaces, where a call has refused it.
-use Rattle.std.proofs.Common.{rules as std_rules, ◌≡◌, refl, sym, subst, ap, ◌∙◌, ◌&&◌, ℕ, ◌+◌, ◌≤◌, ◌^◌, ◌⊎◌, inl, inr, suc, Bool, false, nat_lt, arith, List, [], ◌∷◌, ◌++◌, map, length, length-append, Result, Err, OnOk, OnErr, IfErr, Option, Some, None, String}
-use Rattle.std.specs.{List.list_all, List.AllZip, List.flat_map, Set.distinct_count, Borrow.Bor}
+use Rattle.std.proofs.Common.{rules as std_rules, ◌≡◌, refl, sym, subst, ap, ◌∙◌, ◌&&◌, ℕ, ◌+◌, ◌≤◌, ◌^◌, ◌⊎◌, inl, inr, Bool, false, nat_lt, arith, List, [], ◌∷◌, ◌++◌, map, length, length-append, Result, Err, OnOk, OnErr, IfErr, Option, Some, None, String}
+use Rattle.std.specs.{List.AllZip, List.flat_map, Set.distinct_count, Borrow.Bor}
 use Rattle.std.specs.declared.alloc.Global.{Global}
 use Rattle.wit_model.specs.{Text.Text, Text.optional_text, Text.text_of as text_at, Tree.Tree, Meaning.Signature, Meant.type_meaning}
 use Rattle.wit_model.specs.declared.error.Error.{Error}
@@ -9,7 +9,7 @@ use Rattle.comp_bytes.specs.declared.forms.{ComponentDefinedType.ComponentDefine
 use Rattle.comp_bytes.specs.Raw.{Alias, Declaration, Declarations, ExternName, Labeled, append, declaration_count}
 use Rattle.comp_bytes.specs.RawOf.{raw_defined, raw_function, labeled}
 use Rattle.comp_bytes.specs.Held.{declaration_slots, type_slots, type_slots_of, fits_counts, fits_next, fits_added}
-use Rattle.comp_bytes.specs.Fits.{fits_length, fits_label, fits_labels, fits_names, fits_defined, fits_declaration}
+use Rattle.comp_bytes.specs.Fits.{fits_length, fits_labels, fits_names, fits_defined, fits_declaration}
 use Rattle.wit_encode.specs.declared.interface.OpenInterface.{OpenInterface}
 use Rattle.encode_types.specs.declared.maps.TypeEncodingMaps.{TypeEncodingMaps}
 use Rattle.encode_types.specs.Slots.{Pairs, NamedStands, Follows, FollowsFunction}
@@ -18,6 +18,7 @@ use Rattle.encode_types.specs.{Scope.exported_name, Kinds.kind_tree, MetKinds.re
 use Rattle.wit_encode.specs.{FunctionRoom.LacksFunctions, Instance.held_in, Instance.lacks_room_in, Instance.placed_function}
 use Rattle.wit_encode.proofs.{FunctionRoom.keys-few, HeldKeys.knows-none}
 use Rattle.base_lemmas.proofs.{Elements.zip_long as zip-length, Lists.map_of_map as map-twice}
+use Rattle.std.proofs.lemmas.List.{Folds.list_all-map, length-map}
 use Rattle.wit_model.proofs.TreeLemmas.{child_list_of_children as listed}
 use Rattle.wit_model.specs.declared.error.Error.TheVariants as errors
 
@@ -72,16 +73,8 @@ labels-fit {T} {B} R label same xs ys z = fits-by (map labeled xs) ∙ ap fits_n
     labels-same (x ∷ xs) [] h = absurd h
     labels-same (x ∷ xs) (y ∷ ys) h = λ i. same x y h.0 i ∷ labels-same xs ys h.1 i
 
-    count-by : (ls : List (Labeled T)) → length ls ≡ length (map (λ (x : Labeled T). x.label) ls)
-    count-by [] = refl
-    count-by (l ∷ ls) = ap suc (count-by ls)
-
-    each-by : (ls : List (Labeled T)) → list_all fits_label ls ≡ list_all fits_length (map (λ (x : Labeled T). x.label) ls)
-    each-by [] = refl
-    each-by (l ∷ ls) = ap (λ b. fits_length l.label && b) (each-by ls)
-
     fits-by : (ls : List (Labeled T)) → fits_labels ls ≡ fits_names (map (λ (x : Labeled T). x.label) ls)
-    fits-by ls = λ i. nat_lt (count-by ls i) (2 ^ 32) && each-by ls i
+    fits-by ls = λ i. nat_lt (sym (length-map ls (λ (x : Labeled T). x.label)) i) (2 ^ 32) && sym (list_all-map fits_length (λ (x : Labeled T). x.label) ls) i
 
 -- a definition fits exactly where the tree does
 pub tree-fits : (S : Pairs) (d : ComponentDefinedType) (t : Tree) → Follows S d t → fits_defined (raw_defined d) ≡ fits_tree t
@@ -161,10 +154,8 @@ module _ (r : Resolve) (own : Option InterfaceId) (ns : List ℕ) (qs : List Req
   by-part : (q : Request) → (IsUnfit r q → LacksOne r own (IsUnfit r) ns qs) → lacks_room_in r outer inner q → Parted
   by-part q f (inl (inl u)) = inl (inl (f u))
   by-part q f (inl (inr l)) = inl (inr l)
-  by-part (value_type t) f (inr z) = absurd z
-  by-part (function_type s) f (inr z) = absurd z
-  by-part (export_name name) f (inr z) = absurd z
   by-part (import_of n) f (inr full) = inr full
+  by-part _ f (inr z) = absurd z
 
   parted : LacksOne r own (lacks_room_in r outer inner) ns qs → Parted
   parted (a_type n def c at (its_definition f h)) = by-part (value_type (kind_tree r def.kind)) (λ u. a_type n def c at (its_definition f u)) h
@@ -182,12 +173,7 @@ no-room {r} {r'} {own} {own'} {ts} {fs} {m} {before} {Q} outer inner e none fres
     let few : length p.keys ≤ distinct_count are_same (map (λ f. key_of f.1) fs) =
     keys-few p.keys (map (λ f. key_of f.1) fs) p.different (λ key among. elim (p.from key among) [ inl known ↦ absurd (knows-none m key fresh known) | inr there ↦ there ]) in
     elim (parted r own p.room.numbers (flat_map (function_requests r) fs) outer inner p.room.lacks) [
-      | inl h ↦ inl (record {
-        numbers = p.room.numbers;
-        apart = p.room.new.apart;
-        met = p.room.met;
-        lacks = elim h [ inl u ↦ inl u | inr l ↦ inr (omega (arith, l, p.room.held, none, few)) ];
-      })
+      | inl h ↦ inl (record { numbers = p.room.numbers; apart = p.room.new.apart; met = p.room.met; lacks = elim h [ inl u ↦ inl u | inr l ↦ inr (omega (arith, l, p.room.held, none, few)) ] })
       | inr full ↦ inr (around full)
     ]
 

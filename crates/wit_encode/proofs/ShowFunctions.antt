@@ -26,14 +26,10 @@ shows-inside place outer ds name i s followed simple h =
     let a = inner-at place outer ds followed in
     let f : Text × FunctionMeaning = (name.text, record { signature = s; external_id = name.external_id }) in
     let after : InstanceScope = record { slots = a.scope.slots; shown = record { types = a.scope.shown.types; functions = a.scope.shown.functions ++ f ∷ [] } } in
-    let step : instance_step place (outer_slots outer) a.scope (Declaration.exported name (refs.Func i)) ≡ Some after =
-    ap (λ b. follow.when b (show_function name i a.scope)) simple
+    let step : instance_step place (outer_slots outer) a.scope (Declaration.exported name (refs.Func i)) ≡ Some after = ap (λ b. follow.when b (show_function name i a.scope)) simple
     ∙ bind (function_in (slice_get a.scope.slots i)) s (λ g. Some (record {
       slots = a.scope.slots;
-      shown = record {
-        types = a.scope.shown.types;
-        functions = a.scope.shown.functions ++ (name.text, record { signature = g; external_id = name.external_id }) ∷ [];
-      };
+      shown = record { types = a.scope.shown.types; functions = a.scope.shown.functions ++ (name.text, record { signature = g; external_id = name.external_id }) ∷ [] };
     })) (ap (λ zs. function_in (slice_get zs i)) (sym a.slots) ∙ function-there (inner_contents place outer ds).slots i s h) in
     let next = steps.steps-more place (outer_slots outer) new_instance a.scope after ds (Declaration.exported name (refs.Func i)) a.is step in
     record {
@@ -47,8 +43,7 @@ shows-inside place outer ds name i s followed simple h =
     }
 
 pub shows-within : {A E : Type 0} (res : Result A E) (r : Resolve) (outer : Declarations) (inner : Option OpenInterface) (current : OpenInterface) (ds' : List Declaration) (name : ExternName) (i : ℕ)
-    (s : Signature)
-    → inner ≡ Some current → (encoder_scope r outer inner).is_sound ≡ true → is_simple name ≡ true → OnOk res (ds' ≡ current.declared ++ Declaration.exported name (refs.Func i) ∷ [])
+    (s : Signature) → inner ≡ Some current → (encoder_scope r outer inner).is_sound ≡ true → is_simple name ≡ true → OnOk res (ds' ≡ current.declared ++ Declaration.exported name (refs.Func i) ∷ [])
     → SlotsStand (contents_of r outer inner).slots i (function s)
     → OnOk res (ShowsFunction (contents_of r outer inner) (contents_of r outer (Some (record current { declared = ds' }))) (name.text, record { signature = s; external_id = name.external_id }))
 shows-within x r outer inner current ds' name i s is sound simple ok h = search (std_rules, shows-inside, first_true)

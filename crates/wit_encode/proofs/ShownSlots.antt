@@ -1,12 +1,11 @@
 -- What the slots of the types stand for that an instance type shows: each for the name of its type, and for that of a resource exactly where the
 -- name is one.
-use Rattle.std.proofs.Common.{rules as std_rules, ◌≡◌, ◌⊎◌, inl, inr, refl, sym, subst, ap, ◌∙◌, Bool, true, false, not, List, [], ◌∷◌, ◌++◌, map, Option, Some, String, slice_get}
+use Rattle.std.proofs.Common.{rules as std_rules, ◌≡◌, ◌⊎◌, inl, inr, refl, sym, subst, ap, ◌∙◌, true, List, [], ◌∷◌, ◌++◌, map, Option, Some, String, slice_get}
 use Rattle.std.proofs.lemmas.List.Elements.{Contains-append_left, Contains-append_right, Contains-append_cases}
-use Rattle.std.proofs.lemmas.{Bool.or_left as or-first, Option.same_Some as some-same}
+use Rattle.std.proofs.lemmas.{Bool.not-true, Bool.or_left as or-first, Option.same_Some as some-same}
 use Rattle.std.specs.{List.Contains, List.list_all, Option.option_map_or}
 use Rattle.std.specs.declared.alloc.Global.{Global}
-use Rattle.wit_model.specs.{Text.Text, Text.text_of, Tree.Place, Tree.named, Lookup.interface_at, Lookup.place_of, Meaning.TypeMeaning, Valid.IsValid}
-use Rattle.wit_model.specs.{Parts.is_resource, Parts.same_owner, Meant.type_meaning_at, Meant.interface_meaning, Meant.interface_meaning_at, Meant.no_interface}
+use Rattle.wit_model.specs.{Text.Text, Text.text_of, Tree.Place, Tree.named, Lookup.interface_at, Lookup.place_of, Meaning.TypeMeaning, Valid.IsValid, Parts.is_resource, Parts.same_owner, Meant.type_meaning_at, Meant.interface_meaning, Meant.interface_meaning_at, Meant.no_interface}
 use Rattle.wit_model.specs.declared.model.{Resolve.Resolve, TypeId.TypeId, Interface.Interface, InterfaceId.InterfaceId, TypeOwner.TypeOwner}
 use Rattle.wit_model.proofs.{Elements.none-in, Elements.contains-get, PartsLemmas.owner_same as same-owner}
 use Rattle.comp_bytes.specs.declared.forms.ComponentTypeRef.{ComponentTypeRef}
@@ -50,8 +49,7 @@ module _ (place : Place) where
           → (Contains s.shown.types t ⊎ Contains (record { name = name.text; meaning = record { declaration = found.0; external_id = name.external_id }; slot = found.1 } ∷ []) t)
           → IsNameSlot t.name t.slot × Contains (s.slots ++ found.1 ∷ []) t.slot
       by found ok t (inl c) = let h = all t c in (h.0, Contains-append_left s.slots (found.1 ∷ []) t.slot h.1)
-      by found ok t (inr c) =
-          subst (λ (u : ShownType). IsNameSlot u.name u.slot × Contains (s.slots ++ found.1 ∷ []) u.slot) (one-contained _ t c)
+      by found ok t (inr c) = subst (λ (u : ShownType). IsNameSlot u.name u.slot × Contains (s.slots ++ found.1 ∷ []) u.slot) (one-contained _ t c)
           (ok, Contains-append_right s.slots (found.1 ∷ []) found.1 (contains-one found.1))
 
   function-more : (s s' : InstanceScope) (name : ExternName) (n : _) → show_function name n s ≡ Some s' → AllNamed s → AllNamed s'
@@ -61,40 +59,26 @@ module _ (place : Place) where
   step-named outer s s' (Declaration.defined d) e all = let t = unbind (definition s.slots d) _ s' e in subst AllNamed (some-same _ s' t.then) (slot-more s (Slot.value t.item) all)
   step-named outer s s' (Declaration.function f) e all = let t = unbind (function_signature s.slots f) _ s' e in subst AllNamed (some-same _ s' t.then) (slot-more s (Slot.function t.item) all)
   step-named outer s s' (Declaration.alias_of (Alias.of_outer scopes n)) e all =
-      let slot = unbind (slice_get outer n) _ s' e in
-      subst AllNamed (unprovided _ _ s' slot.then) (slot-more s slot.item all)
+      let slot = unbind (slice_get outer n) _ s' e in subst AllNamed (unprovided _ _ s' slot.then) (slot-more s slot.item all)
   step-named outer s s' (Declaration.alias_of (Alias.of_export m name)) e all = absurd cc
   step-named outer s s' (Declaration.imported name described) e all = absurd cc
   step-named outer s s' (Declaration.exported name (refs.Func n)) e all = function-more s s' name n (unwhen (is_simple name) (show_function name n s) s' e) all
-  step-named outer s s' (Declaration.exported name (refs.TypeEq n)) e all = type-more s s' name (refs.TypeEq n) (unwhen (is_simple name) (show_type place name (refs.TypeEq n) s) s' e) all
-  step-named outer s s' (Declaration.exported name refs.SubResource) e all = type-more s s' name refs.SubResource (unwhen (is_simple name) (show_type place name refs.SubResource s) s' e) all
-  step-named outer s s' (Declaration.exported name (refs.Instance n)) e all = type-more s s' name (refs.Instance n) (unwhen (is_simple name) (show_type place name (refs.Instance n) s) s' e) all
-  step-named outer s s' (Declaration.exported name (refs.Component n)) e all = type-more s s' name (refs.Component n) (unwhen (is_simple name) (show_type place name (refs.Component n) s) s' e) all
+  step-named outer s s' (Declaration.exported name described) e all = type-more s s' name described (unwhen (is_simple name) (show_type place name described s) s' e) all
 
   steps-named : (outer : List Slot) (ds : List Declaration) (s s' : InstanceScope) → instance_steps place outer s ds ≡ Some s' → AllNamed s → AllNamed s'
   steps-named outer [] s s' e all = subst AllNamed (some-same s s' e) all
-  steps-named outer (d ∷ ds) s s' e all =
-      let next = unbind (instance_step place outer s d) _ s' e in
-      steps-named outer ds next.item s' next.then (step-named outer s next.item d next.is all)
+  steps-named outer (d ∷ ds) s s' e all = let next = unbind (instance_step place outer s d) _ s' e in steps-named outer ds next.item s' next.then (step-named outer s next.item d next.is all)
 
   module _ (resources : Names) where
     -- with each resource in a slot of its own kind, the name says which slot it is
     name-slot : (name : Text) (slot : Slot) → IsNameSlot name slot → is_slot_of resources slot ≡ true → slot ≡ name_slot (resources place name) place name
-    name-slot name slot (inl e) h = by (resources place name) refl
-      where
-        kept : not (resources place name) ≡ true
-        kept = ap (is_slot_of resources) (sym e) ∙ h
-
-        by : (b : Bool) → resources place name ≡ b → slot ≡ name_slot b place name
-        by false q = e
-        by true q = absurd (cc (sym (ap not q) ∙ kept))
+    name-slot name slot (inl e) h = e ∙ ap (λ b. name_slot b place name) (sym (not-true (resources place name) (ap (is_slot_of resources) (sym e) ∙ h)))
     name-slot name slot (inr e) h = e ∙ ap (λ b. name_slot b place name) (sym (ap (is_slot_of resources) (sym e) ∙ h))
 
     pub shown-slots : (outer : List Slot) (ds : List Declaration) (s : InstanceScope) → instance_steps place outer new_instance ds ≡ Some s → list_all (is_slot_of resources) s.slots ≡ true
         → (t : ShownType) → Contains s.shown.types t → t.slot ≡ name_slot (resources place t.name) place t.name
     shown-slots outer ds s e sound t c =
-        let h = steps-named outer ds new_instance s e (λ u d. none-in u d) t c in
-        name-slot t.name t.slot h.0 (all-contained (is_slot_of resources) s.slots t.slot sound h.1)
+        let h = steps-named outer ds new_instance s e (λ u d. none-in u d) t c in name-slot t.name t.slot h.0 (all-contained (is_slot_of resources) s.slots t.slot sound h.1)
 
     -- types that are shown with the names and meanings of these, each with a slot of its name
     pub types-shown : (r : Resolve) (es : List (String Global × TypeId)) (ts : List ShownType)
@@ -134,16 +118,13 @@ module _ (r : Resolve) (v : IsValid r) (i : InterfaceId) (def : Interface) (ther
       let h = listed-type r v i.0 def there at.0 e at.1 in
       let home : h.def.owner ≡ own = same-owner h.def.owner own h.owned in
       let met : is_met_owner r own h.def.owner ≡ true = ap (is_met_owner r own) home ∙ or-first (same_owner own own) _ (same-number i.0) in
-      ap (resources (place_of r own)) (listed-key r v i.0 def there at.0 e at.1 h)
-      ∙ ap (λ (o : TypeOwner). resources (place_of r o) (text_of h.name)) (sym home)
+      ap (resources (place_of r own)) (listed-key r v i.0 def there at.0 e at.1 h) ∙ ap (λ (o : TypeOwner). resources (place_of r o) (text_of h.name)) (sym home)
       ∙ names-agree r v (is_met_owner r own) (one-home r v own) e.1.0 h.def h.name h.there h.named_ met
 
   -- what is shown with the names and meanings of the interface's types is its types
   pub interface-shown : (outer : List Slot) (ds : List Declaration) (s : InstanceScope) → instance_steps (place_of r own) outer new_instance ds ≡ Some s
-      → list_all (is_slot_of resources) s.slots ≡ true
-      → map {B = Text × TypeMeaning} (λ (t : ShownType). (t.name, t.meaning)) s.shown.types ≡ (interface_meaning_at r i.0).types
+      → list_all (is_slot_of resources) s.slots ≡ true → map {B = Text × TypeMeaning} (λ (t : ShownType). (t.name, t.meaning)) s.shown.types ≡ (interface_meaning_at r i.0).types
       → s.shown.types ≡ option_map_or (types_of r i.0) (interface_at r i.0) []
-  interface-shown outer ds s steps sound same =
-      types-shown (place_of r own) resources r def.types.entries s.shown.types (same ∙ ap (λ (o : Option Interface). (option_map_or (interface_meaning r) o no_interface).types) there)
-      (shown-slots (place_of r own) resources outer ds s steps sound) listed-resource
+  interface-shown outer ds s steps sound same = types-shown (place_of r own) resources r def.types.entries s.shown.types
+      (same ∙ ap (λ (o : Option Interface). (option_map_or (interface_meaning r) o no_interface).types) there) (shown-slots (place_of r own) resources outer ds s steps sound) listed-resource
       ∙ sym (ap (λ (o : Option Interface). option_map_or (types_of r i.0) o []) there)

@@ -27,20 +27,14 @@ more-slots : (s s' : InstanceScope) (x : Slot) → s.slots ++ x ∷ [] ≡ s'.sl
 more-slots s s' x e = ap length (sym e) ∙ length-append s.slots (x ∷ [])
 
 shown-count : (place : Place) (name : ExternName) (described : ComponentTypeRef) (s s' : InstanceScope) → show_type place name described s ≡ Some s' → length s'.slots ≡ length s.slots + 1
-shown-count place name described s s' e =
-    let b = unbind (named_type s.slots place name.text described) _ s' e in
-    more-slots s s' b.item.1 (ap (λ (s : InstanceScope). s.slots) (some_is _ s' b.then))
+shown-count place name described s s' e = let b = unbind (named_type s.slots place name.text described) _ s' e in more-slots s s' b.item.1 (ap (λ (s : InstanceScope). s.slots) (some_is _ s' b.then))
 
 pub step-count : (place : Place) (outer : List Slot) (s s' : InstanceScope) (d : Declaration) → instance_step place outer s d ≡ Some s' → length s'.slots ≡ length s.slots + declaration_slots d
-step-count place outer s s' (Declaration.defined q) e =
-    let b = unbind (definition s.slots q) _ s' e in
-    more-slots s s' (Slot.value b.item) (ap (λ (s : InstanceScope). s.slots) (some_is _ s' b.then))
+step-count place outer s s' (Declaration.defined q) e = let b = unbind (definition s.slots q) _ s' e in more-slots s s' (Slot.value b.item) (ap (λ (s : InstanceScope). s.slots) (some_is _ s' b.then))
 step-count place outer s s' (Declaration.function q) e =
-    let b = unbind (function_signature s.slots q) _ s' e in
-    more-slots s s' (Slot.function b.item) (ap (λ (s : InstanceScope). s.slots) (some_is _ s' b.then))
+    let b = unbind (function_signature s.slots q) _ s' e in more-slots s s' (Slot.function b.item) (ap (λ (s : InstanceScope). s.slots) (some_is _ s' b.then))
 step-count place outer s s' (Declaration.alias_of (Alias.of_outer scopes n)) e =
-    let b = unbind (slice_get outer n) _ s' e in
-    more-slots s s' b.item (ap (λ (s : InstanceScope). s.slots) (unprovided _ _ s' b.then))
+    let b = unbind (slice_get outer n) _ s' e in more-slots s s' b.item (ap (λ (s : InstanceScope). s.slots) (unprovided _ _ s' b.then))
 step-count place outer s s' (Declaration.alias_of (Alias.of_export m n)) e = absurd cc
 step-count place outer s s' (Declaration.imported name described) e = absurd cc
 step-count place outer s s' (Declaration.exported name (refs.Func n)) e = search std_rules
@@ -51,9 +45,7 @@ step-count place outer s s' (Declaration.exported name (refs.Instance n)) e = ab
 
 pub steps-count : (place : Place) (outer : List Slot) (s s' : InstanceScope) (ds : List Declaration) → instance_steps place outer s ds ≡ Some s' → length s'.slots ≡ length s.slots + type_slots ds
 steps-count place outer s s' [] e = let z : s ≡ s' = cc in ap (λ (s : InstanceScope). length s.slots) (sym z) ∙ (let y : length s.slots ≡ length s.slots + 0 = omega arith in y)
-steps-count place outer s s' (d ∷ ds) e =
-    let b = unbind (instance_step place outer s d) _ s' e in
-    omega (arith, step-count place outer s b.item d b.is, steps-count place outer b.item s' ds b.then)
+steps-count place outer s s' (d ∷ ds) e = let b = unbind (instance_step place outer s d) _ s' e in omega (arith, step-count place outer s b.item d b.is, steps-count place outer b.item s' ds b.then)
 
 -- ---- one declaration more
 
@@ -61,5 +53,4 @@ pub steps-more : (place : Place) (outer : List Slot) (s m n : InstanceScope) (ds
     → instance_step place outer m d ≡ Some n → instance_steps place outer s (ds ++ d ∷ []) ≡ Some n
 steps-more place outer s m n [] d e f = let z : s ≡ m = cc in ap (λ (x : InstanceScope). instance_step place outer x d >>= λ next. Some next) z ∙ ap (λ o. o >>= λ next. Some next) f
 steps-more place outer s m n (x ∷ ds) d e f =
-    let b = unbind (instance_step place outer s x) _ m e in
-    ap (λ o. o >>= λ next. instance_steps place outer next (ds ++ d ∷ [])) b.is ∙ steps-more place outer b.item m n ds d b.then f
+    let b = unbind (instance_step place outer s x) _ m e in ap (λ o. o >>= λ next. instance_steps place outer next (ds ++ d ∷ [])) b.is ∙ steps-more place outer b.item m n ds d b.then f

@@ -10,8 +10,7 @@ use Rattle.encode_types.specs.Resources.{named_resources}
 use Rattle.wit_encode.specs.declared.interface.{Foreign.Foreign, OpenInterface.OpenInterface}
 use Rattle.wit_encode.specs.Instance.{around_at, encoder_scope, is_slot_of, is_sound_in, outer_contents, outer_scope, outer_slots, resources_in}
 use Rattle.wit_encode.proofs.{Components.steps-instance, Importing.stands, Importing.wide, Outside.OuterAt, Outside.outer-at}
-use Rattle.base_lemmas.proofs.Bools.{left_of as first_true, right_of as second_true}
-use Rattle.base_lemmas.proofs.Options.{some_is}
+use Rattle.base_lemmas.proofs.{Bools.left_of as first_true, Bools.right_of as second_true, Options.some_is}
 use Rattle.comp_meaning.specs.Follow as follow
 
 -- what is sound, in parts

@@ -106,8 +106,7 @@ module _ (resources : Names) (slots : List Slot) (sound : list_all (is_slot_of r
 
   pub definition-strict : (d : ComponentDefinedType) (t : Tree) → Follows (SlotsStand slots) d t → is_formed resources t ≡ true → definition slots (raw_defined d) ≡ Some t
   definition-strict (form.Primitive x) t h f = ap Some (sym (h ∙ ap primitive (primitive-same x)))
-  definition-strict (form.Record fields) t (fs, z, e) f =
-      search (std_rules, children-list, second_true, bind, fields-strict, provided-true, zip-filled, first_true)
+  definition-strict (form.Record fields) t (fs, z, e) f = search (std_rules, children-list, second_true, bind, fields-strict, provided-true, zip-filled, first_true)
   definition-strict (form.Variant cases) t (cs, z, e) f =
       let g = sym (ap (is_formed resources) e) ∙ f in
       let values = second_true (is_filled (map (λ c. (c.0, is_given c.1)) cs)) (are_values resources (child_list (given (map (λ c. c.1) cs)))) g in

@@ -1,6 +1,6 @@
 -- An interface that another uses has a path.
 use Rattle.std.proofs.Common.{rules as std_rules, ◌≡◌, refl, sym, ap, ◌∙◌, ℕ, ◌==◌, Bool, true, false, not, ◌||◌, [], Option, Some, None, String, is_some, option_and_then}
-use Rattle.std.proofs.lemmas.Option.{same_Some as some-same}
+use Rattle.std.proofs.lemmas.{Bool.not-true, Option.same_Some as some-same}
 use Rattle.std.specs.declared.alloc.Global.{Global}
 use Rattle.std.specs.{Prelude.is_none, List.Contains, List.list_all, Option.option_map_or}
 use Rattle.indexmap.specs.IndexMap.{values}
@@ -52,14 +52,9 @@ module _ (r : Resolve) (v : IsValid r) (n k : ℕ) where
 
   listed-use : (def : TypeDef) (number : ℕ) (name : String Global) → type_at r number ≡ Some def → def.name ≡ Some name → def.owner ≡ owner.Interface (record { 0 = n }) → used_interface r def ≡ Some k
       → (k == n) ≡ false → is_named_at r k ≡ true
-  listed-use def number name at named owned used other =
-      or-cases (is_none def.name) (list_all (has_owner r def.owner) (used_by_type r def) || is_use r def) (owner-kept r v number def at)
-      (λ none. cc (ap is_none (sym named) ∙ none))
-      (λ rest. or-cases (list_all (has_owner r def.owner) (used_by_type r def)) (is_use r def) rest (λ all. absurd (other-owner number def at owned (target-of def used) other all))
-      (λ is. of-used def used is))
-
-  not-true : (b : Bool) → not b ≡ true → b ≡ false
-  not-true x h = search std_rules
+  listed-use def number name at named owned used other = or-cases (is_none def.name) (list_all (has_owner r def.owner) (used_by_type r def) || is_use r def) (owner-kept r v number def at)
+      (λ none. cc (ap is_none (sym named) ∙ none)) (λ rest. or-cases (list_all (has_owner r def.owner) (used_by_type r def)) (is_use r def) rest
+      (λ all. absurd (other-owner number def at owned (target-of def used) other all)) (λ is. of-used def used is))
 
   pub used-path : Contains (direct_deps r n) k → is_some (interface_path r k) ≡ true
   used-path c =

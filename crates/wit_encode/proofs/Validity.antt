@@ -4,16 +4,12 @@ use Rattle.std.proofs.lemmas.{Bool.or_left as or-first, Bool.or_right as or-seco
 use Rattle.std.proofs.lemmas.List.Elements.{Contains-append_left, Contains-append_right}
 use Rattle.std.specs.declared.alloc.Global.{Global}
 use Rattle.std.specs.{Prelude.is_some, Prelude.is_none, List.Contains, List.list_all, Option.option_map_or}
-use Rattle.wit_model.specs.{Text.text_of, Text.Text, Rules.is_named_kind, Rules.owner_in_range, Rules.passes, Tree.Tree}
-use Rattle.wit_model.specs.{Lookup.type_at, Lookup.place_of, Lookup.is_async, Meant.type_meaning}
+use Rattle.wit_model.specs.{Text.text_of, Text.Text, Rules.is_named_kind, Rules.owner_in_range, Rules.passes, Tree.Tree, Lookup.type_at, Lookup.place_of, Lookup.is_async, Meant.type_meaning}
 use Rattle.wit_model.specs.Parts.{same_owner, member_types, handled, is_resource, is_resource_kind, is_resource_type}
-use Rattle.wit_model.specs.Valid.{IsValid, named_kinds, order_of_types, shapes, handles}
+use Rattle.wit_model.specs.{Valid.IsValid, Valid.named_kinds, Valid.order_of_types, Valid.shapes, Valid.handles, Meaning.Signature}
 use Rattle.wit_model.specs.Types.{type_tree, number_tree, no_tree, trees_of, tree_of_definition, declaration_of}
-use Rattle.wit_model.specs.Meaning.{Signature}
-use Rattle.wit_model.specs.declared.model.{Resolve.Resolve, Param.Param, TypeDef.TypeDef, TypeOwner.TypeOwner, TypeId.TypeId}
-use Rattle.wit_model.specs.declared.model.{InterfaceId.InterfaceId, «Type».«Type» as ValueType, TypeDefKind.TypeDefKind}
-use Rattle.wit_model.proofs.{Entries.each_from_at, Entries.lists_pass, Resources.resource_step, PartsLemmas.owner_same as same-owner, ValidLemmas.type_passes, Elements.contains-flat}
-use Rattle.wit_model.proofs.{TreeTable.kept_numbers, TreeTable.kept_trees_at, OnePath.found-in}
+use Rattle.wit_model.specs.declared.model.{Resolve.Resolve, Param.Param, TypeDef.TypeDef, TypeOwner.TypeOwner, TypeId.TypeId, InterfaceId.InterfaceId, «Type».«Type» as ValueType, TypeDefKind.TypeDefKind}
+use Rattle.wit_model.proofs.{Entries.each_from_at, Entries.lists_pass, Resources.resource_step, PartsLemmas.owner_same as same-owner, ValidLemmas.type_passes, Elements.contains-flat, TreeTable.kept_numbers, TreeTable.kept_trees_at, OnePath.found-in}
 use Rattle.encode_types.specs.Plan.{IsLayered, InRange, AllInRange, Reaches, itself, foreign_owner}
 use Rattle.encode_types.specs.Scope.{IsImportable, Scope}
 use Rattle.encode_types.specs.Table.{table_scope, interface_of_owner, declaration_in, named_declaration, is_met_by, is_met_owner, has_named_owner, AllMetBy}
@@ -113,19 +109,16 @@ OwnersMet r met ts = (t : ValueType) → Contains ts t → (id : TypeId) → t �
 -- the parts of a type are in range
 pub parts-in_range : (r : Resolve) → IsValid r → (n : ℕ) (def : TypeDef) → type_at r n ≡ Some def → AllInRange r (parts_of def.kind)
 parts-in_range r v n def is t c id e =
-    let below : id.0 < n = part-smaller r (valid-layered r v) n def id is (subst (λ (x : ValueType). Contains (parts_of def.kind) x) e c) in
-    omega (arith, slice_get_within r.types.items n def is)
+    let below : id.0 < n = part-smaller r (valid-layered r v) n def id is (subst (λ (x : ValueType). Contains (parts_of def.kind) x) e c) in omega (arith, slice_get_within r.types.items n def is)
 
 module _ (r : Resolve) (v : IsValid r) (names : Names) (met : TypeOwner → Bool) (agree : NamesAgree r names met) where
   number-agrees : (n : ℕ) (def : TypeDef) → type_at r n ≡ Some def → (is_some def.name ≡ true → met def.owner ≡ true) → is_resource_tree names (number_tree r n) ≡ is_resource r n
   number-agrees n def at is = ap (λ x. is_resource_tree names (unwrap_or x no_tree)) (kept_trees_at r v.rules n def at) ∙ go def.name refl
     where
       go : (x : Option (String Global)) → def.name ≡ x → is_resource_tree names (tree_of_definition r (trees_of r) def) ≡ is_resource r n
-      go None q =
-          ap (λ x. is_resource_tree names (option_map_or (λ name. Tree.named (place_of r def.owner) (text_of name)) x (kind_tree r def.kind))) q
+      go None q = ap (λ x. is_resource_tree names (option_map_or (λ name. Tree.named (place_of r def.owner) (text_of name)) x (kind_tree r def.kind))) q
           ∙ unnamed-kind r names (is_resource r) def.kind (valid-unnamed r v n def at q) ∙ sym (valid-resource r v n def at)
-      go (Some name) q =
-          ap (λ x. is_resource_tree names (option_map_or (λ name. Tree.named (place_of r def.owner) (text_of name)) x (kind_tree r def.kind))) q
+      go (Some name) q = ap (λ x. is_resource_tree names (option_map_or (λ name. Tree.named (place_of r def.owner) (text_of name)) x (kind_tree r def.kind))) q
           ∙ agree n def name at q (is (has-name def.name name q))
 
   -- names stand for resources exactly where types that are met are resources
@@ -134,9 +127,7 @@ module _ (r : Resolve) (v : IsValid r) (names : Names) (met : TypeOwner → Bool
     where
       go : (t : ValueType) → InRange r t → ((id : TypeId) → t ≡ ty.Id id → (def : TypeDef) → type_at r id.0 ≡ Some def → is_some def.name ≡ true → met def.owner ≡ true)
           → is_resource_tree names (type_tree r t) ≡ is_resource_type r t
-      go (ty.Id id) inside is =
-          let found = found-in r.types.items id.0 (lt-ltb id.0 (length r.types.items) (inside id refl)) in
-          number-agrees id.0 found.0 found.1 (is id refl found.0 found.1)
+      go (ty.Id id) inside is = let found = found-in r.types.items id.0 (lt-ltb id.0 (length r.types.items) (inside id refl)) in number-agrees id.0 found.0 found.1 (is id refl found.0 found.1)
       go _ inside is = refl
 
   pub named-parts : (n : ℕ) (def : TypeDef) → type_at r n ≡ Some def → OwnersMet r met (parts_of def.kind) → Agree r names (parts_of def.kind)
@@ -199,11 +190,8 @@ module _ (r : Resolve) (v : IsValid r) (o : TypeOwner) where
   -- the named types of a list are met, where all that it meets may be
   pub all-met : (ts : List ValueType) → AllMetBy r o ts → AreMet ts
   all-met ts met t c id e def is named = owner-met def (either-owner (same_owner def.owner o) (is_some (foreign_owner (interface_of_owner o) def.owner)) (has_named_owner r def)
-      (named-met def (met id.0 def (t, c, reached) is) named))
+      (named-met def (met id.0 def (t, c, subst (λ (x : ValueType). Reaches r (interface_of_owner o) x id.0) (sym e) (itself id)) is) named))
     where
-      reached : Reaches r (interface_of_owner o) t id.0
-      reached = subst (λ (x : ValueType). Reaches r (interface_of_owner o) x id.0) (sym e) (itself id)
-
       either-owner : (a b c : Bool) → (a || (b && c)) ≡ true → (a ≡ true) ⊎ (c ≡ true)
       either-owner true b c h = inl refl
       either-owner false true c h = inr h

@@ -49,8 +49,7 @@ slots-counted test n (d ∷ ds) =
 
 pub slots-declared : (test : Declaration → Bool) (n : ℕ) (ds : Declarations) → length (slots_from test n ds) ≡ count_declared test ds
 slots-declared test n Declarations.no_more = refl
-slots-declared test n (Declarations.declares d rest) =
-    search (std_rules, length-append, one-long, count_by, count-push, slots-declared test (n + declaration_slots d) rest)
+slots-declared test n (Declarations.declares d rest) = search (std_rules, length-append, one-long, count_by, count-push, slots-declared test (n + declaration_slots d) rest)
 slots-declared test n (Declarations.component inner rest) = slots-declared test (n + 1) rest
 slots-declared test n (Declarations.instance inner rest) = slots-declared test (n + 1) rest
 
@@ -157,6 +156,14 @@ pub record HoldsPlain (slots : List Slot) (i : ℕ) : Type 0 where
   pub there : slice_get slots i ≡ Some (Slot.value type_there)
   pub plain : IsPlain type_there
 
+-- a value type that has just been defined
+new-plain : (slots slots' : List Slot) (q : DefinedType) (t : Tree) (i : ℕ) → definition slots q ≡ Some t → slots ++ Slot.value t ∷ [] ≡ slots' → length slots ≡ i → HoldsPlain slots' i
+new-plain slots slots' q t i is made at = record {
+  type_there = t;
+  there = sym (ap (λ zs. slice_get zs i) made) ∙ ap (slice_get (slots ++ Slot.value t ∷ [])) (sym at) ∙ get-end slots (Slot.value t);
+  plain = defined-plain slots q t is;
+}
+
 -- ---- slots are added behind the others
 
 abbrev Front : List Slot → List Slot → Type 0
@@ -187,21 +194,12 @@ inner-front place outer s s' x e = search std_rules
 inner-fronts : (place : Place) (outer : List Slot) (s s' : InstanceScope) (ds : List Declaration) → instance_steps place outer s ds ≡ Some s' → Front s.slots s'.slots
 inner-fronts place outer s s' [] e = same-front s.slots s'.slots (ap (λ (z : InstanceScope). z.slots) (some-same s s' e))
 inner-fronts place outer s s' (d ∷ ds) e =
-    let b = unbind (instance_step place outer s d) _ s' e in
-    then-front s.slots b.item.slots s'.slots (inner-front place outer s b.item d b.is) (inner-fronts place outer b.item s' ds b.then)
+    let b = unbind (instance_step place outer s d) _ s' e in then-front s.slots b.item.slots s'.slots (inner-front place outer s b.item d b.is) (inner-fronts place outer b.item s' ds b.then)
 
--- a value type that has just been defined
 inner-new : (place : Place) (outer : List Slot) (s m : InstanceScope) (d : Declaration) (i : ℕ) → instance_step place outer s d ≡ Some m → Contains (cond (is_value_type d) (length s.slots ∷ []) []) i
     → HoldsPlain m.slots i
 inner-new place outer s m (Declaration.defined q) i e c =
-    let b = unbind (definition s.slots q) _ m e in
-    let made : s.slots ++ Slot.value b.item ∷ [] ≡ m.slots = ap (λ (z : InstanceScope). z.slots) (some-same _ m b.then) in
-    record {
-      type_there = b.item;
-      there = sym (ap (λ zs. slice_get zs i) made) ∙ ap (slice_get (s.slots ++ Slot.value b.item ∷ [])) (sym (one-contained (length s.slots) i c)) ∙ get-end s.slots
-          (Slot.value b.item);
-      plain = defined-plain s.slots q b.item b.is;
-    }
+    let b = unbind (definition s.slots q) _ m e in new-plain s.slots m.slots q b.item i b.is (ap (λ (z : InstanceScope). z.slots) (some-same _ m b.then)) (one-contained (length s.slots) i c)
 inner-new place outer s m (Declaration.function q) i e c = none-in i c
 inner-new place outer s m _ i e c = none-in i c
 
@@ -253,24 +251,14 @@ outer-front s s' _ e = absurd cc
 outer-fronts : (s s' : Scope) (ds : Declarations) → component_steps s ds ≡ Some s' → Front s.slots s'.slots
 outer-fronts s s' Declarations.no_more e = same-front s.slots s'.slots (ap (λ (z : Scope). z.slots) (some-same s s' e))
 outer-fronts s s' (Declarations.declares d rest) e =
-    let b = unbind (component_step s d) _ s' e in
-    then-front s.slots b.item.slots s'.slots (outer-front s b.item d b.is) (outer-fronts b.item s' rest b.then)
+    let b = unbind (component_step s d) _ s' e in then-front s.slots b.item.slots s'.slots (outer-front s b.item d b.is) (outer-fronts b.item s' rest b.then)
 outer-fronts s s' (Declarations.component inner rest) e = absurd cc
 outer-fronts s s' (Declarations.instance inner rest) e =
-    let b = unbind (flat inner) _ s' e in
-    let x = Slot.instance b.item (length s.slots) in
-    then-front s.slots (s.slots ++ x ∷ []) s'.slots (x ∷ [], refl) (outer-fronts (in_scope x s) s' rest b.then)
+    let b = unbind (flat inner) _ s' e in let x = Slot.instance b.item (length s.slots) in then-front s.slots (s.slots ++ x ∷ []) s'.slots (x ∷ [], refl) (outer-fronts (in_scope x s) s' rest b.then)
 
 outer-new : (s m : Scope) (d : Declaration) (i : ℕ) → component_step s d ≡ Some m → Contains (cond (is_value_type d) (length s.slots ∷ []) []) i → HoldsPlain m.slots i
 outer-new s m (Declaration.defined q) i e c =
-    let b = unbind (definition s.slots q) _ m e in
-    let made : s.slots ++ Slot.value b.item ∷ [] ≡ m.slots = ap (λ (z : Scope). z.slots) (some-same _ m b.then) in
-    record {
-      type_there = b.item;
-      there = sym (ap (λ zs. slice_get zs i) made) ∙ ap (slice_get (s.slots ++ Slot.value b.item ∷ [])) (sym (one-contained (length s.slots) i c)) ∙ get-end s.slots
-          (Slot.value b.item);
-      plain = defined-plain s.slots q b.item b.is;
-    }
+    let b = unbind (definition s.slots q) _ m e in new-plain s.slots m.slots q b.item i b.is (ap (λ (z : Scope). z.slots) (some-same _ m b.then)) (one-contained (length s.slots) i c)
 outer-new s m (Declaration.function q) i e c = none-in i c
 outer-new s m _ i e c = none-in i c
 

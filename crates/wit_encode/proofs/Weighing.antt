@@ -1,23 +1,18 @@
 -- An interface that has no room in an instance type weighs more than the largest number of 32 bits.
-use Rattle.std.proofs.Common.{rules as std_rules, ◌≡◌, refl, sym, subst, ap, ◌∙◌, ℕ, zero, suc, ◌+◌, ◌*◌, ◌<◌, ◌≤◌, ◌^◌, ◌||◌, inl, inr, Bool, true, false, not, ◌&&◌, ◌==◌, nat_eq, nat_lt, List, [], ◌∷◌, ◌++◌, map, filter, flat_map, length, Option, Some, None, option_to_list, option_map, is_some, String, arith}
-use Rattle.std.proofs.lemmas.{Bool.lt-ltb, Bool.ltb-true, Bool.ltb-false, Bool.and_from as both-true, Map.Made.distinct_count-le}
+use Rattle.std.proofs.Common.{rules as std_rules, ◌≡◌, refl, sym, subst, ap, ◌∙◌, ℕ, zero, suc, ◌+◌, ◌*◌, ◌<◌, ◌≤◌, ◌^◌, ◌||◌, inl, inr, Bool, true, false, not, ◌&&◌, ◌==◌, nat_eq, List, [], ◌∷◌, ◌++◌, map, filter, flat_map, length, Option, Some, None, option_to_list, option_map, is_some, String, arith}
+use Rattle.std.proofs.lemmas.{Bool.cases_Bool, Bool.cases_lt, Bool.lt-ltb, Bool.and_from as both-true, Map.Made.distinct_count-le}
 use Rattle.std.proofs.{lemmas.List.Sums.sum_by-cons, lemmas.List.Sums.sum_by-append, lemmas.List.Sums.get_or-le-sum_by, Math.ListN.length-map}
 use Rattle.std.proofs.lemmas.List.{Elements.Contains-append_left, Elements.Contains-append_right, Elements.Contains-append_cases, Filters.sum_by-filter_both}
 use Rattle.std.specs.{Prelude.sum_by, Prelude.AllPairs, Prelude.if◌then◌else◌, List.Contains, List.list_all, Option.option_map_or}
 use Rattle.std.specs.declared.alloc.Global.{Global}
 use Rattle.indexmap.specs.IndexMap.{values}
-use Rattle.wit_model.specs.{Text.Text, Text.text_of, Text.optional_text, Text.text_eq, Tree.Tree, Tree.is_given, Tree.children, Tree.child_list, Tree.Place}
-use Rattle.wit_model.specs.{Lookup.type_at, Lookup.interface_at, Lookup.place_of, Parts.same_owner, Parts.kind_numbers}
-use Rattle.wit_model.specs.{Types.trees_of, Types.tree_of, Types.number_tree, Types.declared_by, Types.tree_of_declaration, Uses.once, Uses.alias_target}
-use Rattle.wit_model.specs.{Meant.signature_of, Valid.IsValid, Valid.as_interface, Valid.functions_of_interface, Valid.named_kinds, Valid.function_names}
+use Rattle.wit_model.specs.{Text.Text, Text.text_of, Text.optional_text, Text.text_eq, Tree.Tree, Tree.is_given, Tree.children, Tree.child_list, Tree.Place, Lookup.type_at, Lookup.interface_at, Lookup.place_of, Parts.same_owner, Parts.kind_numbers, Types.trees_of, Types.tree_of, Types.number_tree, Types.declared_by, Types.tree_of_declaration, Uses.once, Uses.alias_target, Meant.signature_of, Valid.IsValid, Valid.as_interface, Valid.functions_of_interface, Valid.named_kinds, Valid.function_names}
 use Rattle.wit_model.specs.Rules.{passes, is_named_number, is_named_kind, interface_type_numbers, is_member}
 use Rattle.wit_model.specs.Weight.{unit_of, members_of, name_texts, definition_weight, is_brought, number_weight, function_weight, numbers_of, instance_numbers, instance_weight, whole_instance_weight}
-use Rattle.wit_model.specs.declared.model.{Resolve.Resolve, Param.Param, TypeDef.TypeDef, TypeId.TypeId, TypeOwner.TypeOwner}
-use Rattle.wit_model.specs.declared.model.{Interface.Interface, Function.Function, TypeDefKind.TypeDefKind, InterfaceId.InterfaceId, «Type».«Type» as ValueType}
+use Rattle.wit_model.specs.declared.model.{Resolve.Resolve, Param.Param, TypeDef.TypeDef, TypeId.TypeId, TypeOwner.TypeOwner, Interface.Interface, Function.Function, TypeDefKind.TypeDefKind, InterfaceId.InterfaceId, «Type».«Type» as ValueType}
 use Rattle.comp_bytes.specs.Fits.{fits_length, fits_names, fits_given, fits_name}
-use Rattle.encode_types.specs.{Kinds.kind_tree, KeyLaws.text_same}
+use Rattle.encode_types.specs.{Kinds.kind_tree, KeyLaws.text_same, Plan.foreign_owner, Table.interface_of_owner, MetKinds.ReachedFrom, MetKinds.referred, Distinct.are_same, Distinct.key_of}
 use Rattle.encode_types.specs.Room.{Request, IsUnfit, LacksPart, its_definition, its_name, its_import, LacksOne, a_type, a_request, fits_tree, fits_request, limit, function_type, function_name, function_requests}
-use Rattle.encode_types.specs.{Plan.foreign_owner, Table.interface_of_owner, MetKinds.ReachedFrom, MetKinds.referred, Distinct.are_same, Distinct.key_of}
 use Rattle.wit_encode.specs.{Order.is_function_of, Order.by_resource, Order.functions_in_order, Encoders.InterfaceLacksRoom, RoomLaws.LackingInterfacesAreHeavy}
 use Rattle.wit_encode.proofs.{Validity.valid-layered, Mapped.contains-filter, Mapped.from-filter}
 use Rattle.wit_encode.proofs.Reached.{part-at, IsOwner, IsCounted, Stays, met-counted, counted-in, named-own, all-numbers, interface-owner}
@@ -48,9 +43,7 @@ fits-text t h = lt-ltb (length t) (2 ^ 32) (omega arith)
 
 each-fits : (ts : List Text) → sum_by named-unit ts ≤ limit → list_all fits_length ts ≡ true
 each-fits [] h = refl
-each-fits (t ∷ ts) h =
-    let next = next-text t ts in
-    both-true _ _ (fits-text t (omega arith)) (each-fits ts (omega arith))
+each-fits (t ∷ ts) h = let next = next-text t ts in both-true _ _ (fits-text t (omega arith)) (each-fits ts (omega arith))
 
 pub as-many : (ts : List Text) → 64 * length ts ≤ sum_by named-unit ts
 as-many [] = omega arith
@@ -84,8 +77,7 @@ heavy ts (kind.Variant x) alias e = names-heavy (map (λ c. text_of c.name) x.ca
     ∙ map-twice (λ (c : Text × Option Tree). c.0) (λ c. (text_of c.name, option_map (tree_of ts) c.ty)) x.cases.items)) ∙ e)
 heavy ts (kind.Flags x) alias e = names-heavy (map (λ f. text_of f.name) x.flags.items) e
 heavy ts (kind.Enum x) alias e = names-heavy (map (λ c. text_of c.name) x.cases.items) e
-heavy ts (kind.Tuple x) alias e = over (members-weight (kind.Tuple x)) _
-    (λ low. fits-text (child_list (children (map (tree_of ts) x.types.items))) (let many = as-many (members_of (kind.Tuple x)) in
+heavy ts (kind.Tuple x) alias e = over (members-weight (kind.Tuple x)) _ (λ low. fits-text (child_list (children (map (tree_of ts) x.types.items))) (let many = as-many (members_of (kind.Tuple x)) in
     let b : length (members_of (kind.Tuple x)) ≡ length x.types.items = length-map x.types.items (λ t. []) in
     omega (arith, ap length (listed (map (tree_of ts) x.types.items)), length-map x.types.items (tree_of ts), b))) e
 heavy ts (kind.Handle (handle.Own id)) alias e = absurd cc
@@ -137,10 +129,7 @@ sum-among g (x ∷ xs) ys apart among =
     omega (arith, rest, ap (sum_by g) s.2 ∙ sum_by-append g s.0 (x ∷ s.1), sum_by-append g s.0 s.1, sum_by-cons g x xs, sum_by-cons g x s.1)
   where
     without : (xs ys : List ℕ) (n : ℕ) → Differ x n → Contains (xs ++ x ∷ ys) n → Contains (xs ++ ys) n
-    without front back n d c = elim (Contains-append_cases front (x ∷ back) n c) [
-      | inl a ↦ Contains-append_left front back n a
-      | inr b ↦ Contains-append_right front back n (behind n d back b)
-    ]
+    without front back n d c = elim (Contains-append_cases front (x ∷ back) n c) [ inl a ↦ Contains-append_left front back n a | inr b ↦ Contains-append_right front back n (behind n d back b) ]
       where
         behind : (n : ℕ) → Differ x n → (zs : List ℕ) → Contains (x ∷ zs) n → Contains zs n
         behind n d zs (zero, l, e) = let same : nat_eq x n ≡ true = subst (λ (m : ℕ). nat_eq x m ≡ true) e (same-number x) in absurd cc
@@ -149,18 +138,14 @@ sum-among g (x ∷ xs) ys apart among =
 pub contains-once : (ns : List ℕ) (n : ℕ) → Contains ns n → Contains (once ns) n
 contains-once [] n c = none-in n c
 contains-once (m ∷ ns) n (zero, l, e) = (0, omega arith, e)
-contains-once (m ∷ ns) n (suc i, l, e) = go (n == m) refl (contains-once ns n (i, omega (arith, l), e))
-  where
-    go : (b : Bool) → (n == m) ≡ b → Contains (once ns) n → Contains (m ∷ filter (λ k. not (k == m)) (once ns)) n
-    go true q c = (0, omega arith, sym (equal n m q))
-    go false q c = contains-later m _ n (contains-filter (λ k. not (k == m)) (once ns) n (ap not q) c)
+contains-once (m ∷ ns) n (suc i, l, e) = elim (cases_Bool (n == m)) [
+  | inl q ↦ (0, omega arith, sym (equal n m q))
+  | inr q ↦ contains-later m _ n (contains-filter (λ k. not (k == m)) (once ns) n (ap not q) (contains-once ns n (i, omega (arith, l), e)))
+]
 
 pub at-least : {X : Type 0} (g : X → ℕ) (xs : List X) → ((x : X) → Contains xs x → 64 ≤ g x) → 64 * length xs ≤ sum_by g xs
 at-least g [] h = omega arith
-at-least g (x ∷ xs) h = omega (arith, at-least g xs (λ y c. h y (later y c)), h x (0, omega arith, refl), sum_by-cons g x xs)
-  where
-    later : (y : _) → Contains xs y → Contains (x ∷ xs) y
-    later y (i, l, e) = (suc i, omega (arith, l), e)
+at-least g (x ∷ xs) h = omega (arith, at-least g xs (λ y c. h y (contains-later x xs y c)), h x (0, omega arith, refl), sum_by-cons g x xs)
 
 pub one-of : {X : Type 0} (g : X → ℕ) (xs : List X) (x : X) → Contains xs x → g x ≤ sum_by g xs
 one-of g xs x (i, l, e) = subst (λ y. g y ≤ sum_by g xs) e (get_or-le-sum_by g xs i x l)
@@ -228,8 +213,7 @@ module _ (r : Resolve) (v : IsValid r) (o : TypeOwner) (ns : List ℕ) (all : Li
 
   -- a number of the owner itself weighs its definition
   pub own-weight : (n : ℕ) (d : TypeDef) → MetBy n → type_at r n ≡ Some d → foreign_owner (interface_of_owner o) d.owner ≡ None → weighs n ≡ definition_weight d
-  own-weight n d m at f =
-      ap (λ t. option_map_or (λ d. if is_brought r o n then unit_of (name_texts d) else definition_weight d) t 0) at
+  own-weight n d m at f = ap (λ t. option_map_or (λ d. if is_brought r o n then unit_of (name_texts d) else definition_weight d) t 0) at
       ∙ ap (λ b. if b then unit_of (name_texts d) else definition_weight d)
       (ap (λ t. option_map_or (λ d. if is_some d.name then not (same_owner d.owner o) else false) t false) at ∙ go (is_some d.name) refl)
     where
@@ -359,8 +343,4 @@ module _ (r : Resolve) (v : IsValid r) (i : InterfaceId) (def : Interface) (home
       lacks (a_request q c u) = let f = from-flat (function_requests r) fs q c in let a = request-heavy f.0 f.1 q f.2 u in let b = function-within f.0 f.1 in absurd (omega (arith, a, b, light))
 
 pub lacking-heavy : LackingInterfacesAreHeavy
-lacking-heavy r i def v home lacks = by-order (nat_lt limit (whole_instance_weight r i.0)) refl
-  where
-    by-order : (b : Bool) → nat_lt limit (whole_instance_weight r i.0) ≡ b → limit < whole_instance_weight r i.0
-    by-order true f = ltb-true limit (whole_instance_weight r i.0) f
-    by-order false f = absurd (no-lack r v i def home (ltb-false limit (whole_instance_weight r i.0) f) lacks)
+lacking-heavy r i def v home lacks = elim (cases_lt limit (whole_instance_weight r i.0)) [ inl f ↦ f | inr f ↦ absurd (no-lack r v i def home f lacks) ]

@@ -3,18 +3,17 @@ use Rattle.std.proofs.Common.{rules as std_rules, arith, ◌≡◌, refl, sym, a
 use Rattle.std.proofs.lemmas.{Bool.true≢false, Bool.ltb-true, List.Elements.Contains-append_left, List.Elements.Contains-append_right}
 use Rattle.std.specs.{List.list_all, List.AllZip, List.Contains, Prelude.IsErrAnd}
 use Rattle.wit_model.specs.{Text.Text, Lookup.package_at, Lookup.identity_of, Rules.in_list, Valid.is_place, Valid.numbers_in_range, Valid.IsValid}
-use Rattle.comp_bytes.specs.{Raw.Declarations, Raw.Section, Parts.Part, Parts.sections_of_parts, Parts.with_part, Spelling.IsComponent, Spelling.preamble}
-use Rattle.comp_bytes.specs.{Reading.◌>>=◌, Refusal.IsMemoryOrSize}
+use Rattle.wit_model.specs.declared.{error.Error.Error, model.Resolve.Resolve, model.Package.Package, model.InterfaceId.InterfaceId, model.WorldId.WorldId}
+use Rattle.comp_bytes.specs.{Raw.Declarations, Raw.Section, Parts.Part, Parts.sections_of_parts, Parts.with_part, Spelling.IsComponent, Spelling.preamble, Reading.◌>>=◌, Refusal.IsMemoryOrSize}
 use Rattle.comp_meaning.specs.{Follow.each, Follow.when, Follow.is_filled, Reads.Top, Reads.exported_types, Reads.steps, Reads.top_section, Rules.distinct}
 use Rattle.wit_encode.specs.Packages.{is_custom, AddsWorlds, AreNamed, AreWorlds, HasMembers, HasNoClashes, HasNoMembers, HaveNoEqualPaths, HoldsInterfaces, HoldsMembers, HoldsPackage, IsTypeOf, IsWrapperOf, Listed, ListedWorld, MeansPackage, PartsMean, RefusesInterfaces, RefusesPackage, RefusesPackageAt, RefusesWorlds}
 use Rattle.wit_model.proofs.OnePath.{package-passes}
-use Rattle.wit_model.specs.declared.{error.Error.Error, model.Resolve.Resolve, model.Package.Package, model.InterfaceId.InterfaceId, model.WorldId.WorldId}
 use Rattle.indexmap.specs.IndexMap.{values}
 use Rattle.encode_exports.specs.ExportedParts.{exporting}
 use Rattle.encode_exports.proofs.Exports.{all_exported}
 use Rattle.encode_shown.specs.PackageTypes.{ArePackageTypes, IsInterfaceType, IsListedWorldType}
 use Rattle.encode_shown.proofs.Owning.{own-path}
-use Rattle.base_lemmas.proofs.{Bools.right_of as second_true, Elements.all-contained, Elements.contains-map, Elements.contains-one}
+use Rattle.base_lemmas.proofs.{Bools.right_of as second_true, Elements.all-contained, Elements.contains-map, Elements.contains-one, Elements.zip-kept}
 use Rattle.encode_shown.proofs.PackageTypes as shown
 
 -- ---- Custom sections behind the types and the exports of a component change nothing of what it exports.
@@ -55,9 +54,7 @@ steps-behind top [] cs h = customs-pass top cs h
 steps-behind top (s ∷ ss) cs h = same-then (top_section top s) (λ next. steps top_section next (ss ++ cs)) (λ next. steps top_section next ss) (λ next. steps-behind next ss cs h)
 
 abbrev exported-at : Top → Option (List (Text × Declarations))
-exported-at top =
-    when (length top.exported == length top.types && distinct (map (λ x. x.0) top.exported))
-    (each (λ x. slice_get top.types x.1 >>= λ ds. Some (x.0, ds)) top.exported)
+exported-at top = when (length top.exported == length top.types && distinct (map (λ x. x.0) top.exported)) (each (λ x. slice_get top.types x.1 >>= λ ds. Some (x.0, ds)) top.exported)
 
 pub exported-behind : (ps more : List Part) → list_all is_custom more ≡ true → exported_types (sections_of_parts (ps ++ more)) ≡ exported_types (sections_of_parts ps)
 exported-behind ps more h = search (std_rules, parts-behind, steps-behind, customs-are)
@@ -73,9 +70,7 @@ module _ (r : Resolve) (v : IsValid r) (n : ℕ) (p : Package) (at : package_at 
   numbers-inside = second_true (is_place n) _ (package-passes numbers_in_range r v.rules.numbers_in_range n p at)
 
   pub are-worlds : AreWorlds r p.worlds.entries
-  are-worlds e c =
-      ltb-true e.1.0 (length r.worlds.items)
-      (all-contained (λ (id : WorldId). in_list r.worlds.items id.0) (values p.worlds) e.1
+  are-worlds e c = ltb-true e.1.0 (length r.worlds.items) (all-contained (λ (id : WorldId). in_list r.worlds.items id.0) (values p.worlds) e.1
       (second_true (list_all (λ (id : InterfaceId). in_list r.interfaces.items id.0) (values p.interfaces)) _ numbers-inside) (contains-map (λ x. x.1) p.worlds.entries e c))
 
   type-of : (canonical : Bool) (e : Listed) → Contains p.interfaces.entries e → (x : Text × Declarations) → IsTypeOf r canonical e x → IsInterfaceType r p e x
@@ -102,13 +97,6 @@ module _ (r : Resolve) (v : IsValid r) (n : ℕ) (p : Package) (at : package_at 
     shows = is.wraps.shows.shows;
   }
 
-  wrappers-of : (canonical : Bool) (entries : List ListedWorld) (types : List (Text × Declarations)) → AllZip (IsWrapperOf r canonical (identity_of p.name)) entries types
-      → AllZip (IsListedWorldType r p) entries types
-  wrappers-of canonical [] [] h = tt
-  wrappers-of canonical [] (x ∷ xs) h = absurd h
-  wrappers-of canonical (e ∷ es) [] h = absurd h
-  wrappers-of canonical (e ∷ es) (x ∷ xs) h = (wrapper-of canonical e x h.0, wrappers-of canonical es xs h.1)
-
   pub no-worlds_yet : (canonical : Bool) (entries : List Listed) (parts : List Part) → HoldsInterfaces r canonical entries parts → HoldsMembers r canonical (identity_of p.name) entries [] parts
   no-worlds_yet canonical entries parts h = grind (arith, append-nil)
 
@@ -122,7 +110,7 @@ module _ (r : Resolve) (v : IsValid r) (n : ℕ) (p : Package) (at : package_at 
           interface_types = all.interface_types;
           world_types = all.world_types;
           interfaces = types-of canonical p.interfaces.entries all.interface_types (λ e c. c) all.interfaces_are;
-          worlds = wrappers-of canonical p.worlds.entries all.world_types all.worlds_are;
+          worlds = zip-kept (IsWrapperOf r canonical (identity_of p.name)) (IsListedWorldType r p) (wrapper-of canonical) p.worlds.entries all.world_types all.worlds_are;
           are = refl;
         };
         is = all.is;
@@ -135,8 +123,7 @@ module _ (r : Resolve) (v : IsValid r) (n : ℕ) (p : Package) (at : package_at 
   members-filled types are = search std_rules
 
   pub parts-mean : (canonical : Bool) (parts : List Part) → HoldsPackage r canonical p parts → HasMembers p → PartsMean r n parts
-  parts-mean canonical parts h some more custom bytes spelled =
-      shown.bytes-mean r v n p at h.types (sections_of_parts (exporting h.types ++ more)) bytes h.are (members-filled h.types h.are ∙ some)
+  parts-mean canonical parts h some more custom bytes spelled = shown.bytes-mean r v n p at h.types (sections_of_parts (exporting h.types ++ more)) bytes h.are (members-filled h.types h.are ∙ some)
       (exported-behind (exporting h.types) more custom ∙ all_exported h.types (shown.all-labels r v n p at h.types h.are) (shown.labels-apart r v n p at h.types h.are))
       (subst (λ (ps : List Part). IsComponent (sections_of_parts (ps ++ more)) bytes) h.is spelled)
 

@@ -17,8 +17,7 @@ step-wider : (place : Place) (outer : List Slot) (x : Slot) (s m : InstanceScope
 step-wider place outer x s m (Declaration.defined q) e = e
 step-wider place outer x s m (Declaration.function q) e = e
 step-wider place outer x s m (Declaration.alias_of (Alias.of_outer scopes n)) e =
-    let b = unbind (slice_get outer n) _ m e in
-    bind (slice_get (outer ++ x ∷ []) n) b.item _ (get-left outer x n b.item b.is) ∙ b.then
+    let b = unbind (slice_get outer n) _ m e in bind (slice_get (outer ++ x ∷ []) n) b.item _ (get-left outer x n b.item b.is) ∙ b.then
 step-wider place outer x s m (Declaration.alias_of (Alias.of_export k name)) e = e
 step-wider place outer x s m _ e = e
 

@@ -67,8 +67,7 @@ module _ {E : Type 0} (res : Result ℕ E) (r : Resolve) (outer : Declarations) 
         → IfOk res (λ k'. (k' ≡ type_slots current.declared) × (ds' ≡ current.declared ++ Declaration.exported name (refs.TypeEq k) ∷ [])) → OnErr res (ds' ≡ current.declared)
         → ShowsTo res r outer inner next (Some k) name
     type-within k name q ok err = subst (λ (o : Option OpenInterface). DeclaresSlot (encoder_scope r outer o) (SlotsStand (contents_of r outer o).slots) name k
-        → ShowsTo res r outer o next (Some k) name) (sym is)
-        (λ q. type-inside res r current.interface (around_at outer current.foreign) current.declared ds' q.declared.sound k name q ok err) q
+        → ShowsTo res r outer o next (Some k) name) (sym is) (λ q. type-inside res r current.interface (around_at outer current.foreign) current.declared ds' q.declared.sound k name q ok err) q
 
     pub resource-within : (name : ExternName) → DeclaresResource (encoder_scope r outer inner) name
         → IfOk res (λ k'. (k' ≡ type_slots current.declared) × (ds' ≡ current.declared ++ Declaration.exported name refs.SubResource ∷ [])) → OnErr res (ds' ≡ current.declared)

@@ -22,6 +22,7 @@ use Rattle.wit_encode.specs.Worlds.{declared_type, is_sound_outside, world_defin
 use Rattle.wit_encode.proofs.{Aliases.keeps-alias, Aliases.keeps-plain, ValueSlots.slots-next, ValueSlots.targets-push, ValueSlots.instances-kept, Places.grows-more, Components.steps-count, Components.steps-more, Contents.IsOf, Contents.slots-kept, WrittenNames.instances-left, Directions.directions-more, Directions.keeps-both, Declaring.DeclaredAs, Declaring.declared-slot, Declaring.declared-resource, Calls.defines-of, Calls.formed-value, Calls.function-of, Strict.bind, Strict.definition-strict, Strict.function-strict, Refusing.outer-pushed, Wider.alias-step}
 use Rattle.wit_encode.proofs.Importing.{Stands, importable-sound, importable-stands, known-right, right-more, stands, still-right}
 use Rattle.wit_encode.proofs.WorldShown.{Extends, SoundOutside, Widens, WorldCalls, exports-more, scope-stays, slot-extends, slots-more, sound-outside, world-calls}
+use Rattle.std.proofs.Common.{length-append}
 use Rattle.encode_types.proofs.Around.{around-same}
 use Rattle.encode_names.specs.WorldSteps.{seen_type}
 use Rattle.encode_names.proofs.WorldSteps.{named-slot as named-plain, type-step}
@@ -64,10 +65,9 @@ module _ (r : Resolve) (w : WorldId) (a : Around) (sound : SoundOutside r w a) w
       }
 
   -- what has been defined afterwards
-  definitions-after : (outer : Declarations) (d : Declaration) (x : Slot) (types : List Seen) → Widens r w a (after_declaring a outer) x types → outer ≡ declared_after a.declared d → (n u k : List ℕ)
-      (es : List (Text × TypeMeaning))
-      → (world_definitions a.declared).types ++ cond (is_value_type d) (type_slots_of a.declared ∷ []) [] ≡ n → (world_definitions a.declared).exported ++ option_to_list (target_of d) ≡ u
-      → (world_definitions a.declared).functions ++ cond (is_function_type d) (type_slots_of a.declared ∷ []) [] ≡ k
+  definitions-after : (outer : Declarations) (d : Declaration) (x : Slot) (types : List Seen) → Widens r w a (after_declaring a outer) x types → outer ≡ declared_after a.declared d
+      → (n u k : List ℕ) (es : List (Text × TypeMeaning)) → (world_definitions a.declared).types ++ cond (is_value_type d) (type_slots_of a.declared ∷ []) [] ≡ n
+      → (world_definitions a.declared).exported ++ option_to_list (target_of d) ≡ u → (world_definitions a.declared).functions ++ cond (is_function_type d) (type_slots_of a.declared ∷ []) [] ≡ k
       → (world_definitions a.declared).exports ++ filter_map declared_type types ≡ es → world_definitions outer ≡ record { types = n; exported = u; functions = k; exports = es }
   definitions-after outer d x types m e n u k es t q f s = λ i. record {
     types = (ap (λ z. (world_definitions z).types) e ∙ slots-next is_value_type a.declared d ∙ t) i;
@@ -100,11 +100,9 @@ module _ {E : Type 0} (res : Result ℕ E) (r : Resolve) (w : WorldId) (count : 
 
     -- a call that declares something
     declares : (d : Declaration) (x : Slot) (types : List Seen) (after : follow.Scope) (P : Standing → Type 0) (counts : Type 0) → component_step sound.scope d ≡ Some after
-        → Extends sound.scope after x types → instance_name d ≡ [] → alias_in d ≡ [] → takes_index d ≡ true
-        → is_slot_of (world_resources r w) x ≡ true → IsOf x P → (Widens r w a next x types → outer ≡ declared_after a.declared d → counts) → Declared d → OnErr res (outer ≡ a.declared)
-        → Leads P counts
-    declares d x types after P counts step extends plain none index kept is q ok err =
-        world-calls res r w count a next maps P counts x types is_sound is (if_ok _ _ (λ k h.
+        → Extends sound.scope after x types → instance_name d ≡ [] → alias_in d ≡ [] → takes_index d ≡ true → is_slot_of (world_resources r w) x ≡ true → IsOf x P
+        → (Widens r w a next x types → outer ≡ declared_after a.declared d → counts) → Declared d → OnErr res (outer ≡ a.declared) → Leads P counts
+    declares d x types after P counts step extends plain none index kept is q ok err = world-calls res r w count a next maps P counts x types is_sound is (if_ok _ _ (λ k h.
         let m = declared-widens r w a sound outer d x types after step extends plain kept h.1 in (
           h.0 ∙ index-next r w a sound,
           m,
@@ -135,8 +133,7 @@ module _ {E : Type 0} (res : Result ℕ E) (r : Resolve) (w : WorldId) (count : 
         ∙ function-strict (world_resources r w) (outer_slots a.declared) (slots-sound r w a sound) d s h f.params f.result_ in
         declares (Declaration.function (raw_function d)) (Slot.function s) [] (in_scope (Slot.function s) sound.scope) _ _
         (bind (function_signature sound.scope.slots (raw_function d)) s (λ u. Some (in_scope (Slot.function u) sound.scope)) strict) (slot-extends sound.scope (Slot.function s) refl)
-        refl refl refl refl (function-of (outer_slots a.declared) d s h)
-        (λ m e. definitions-after r w a sound outer (Declaration.function (raw_function d)) (Slot.function s) [] m e _ _ _ _
+        refl refl refl refl (function-of (outer_slots a.declared) d s h) (λ m e. definitions-after r w a sound outer (Declaration.function (raw_function d)) (Slot.function s) [] m e _ _ _ _
         (append-nil (world_definitions a.declared).types) (append-nil (world_definitions a.declared).exported)
         (ap (λ (k : ℕ). (world_definitions a.declared).functions ++ k ∷ []) (index-next r w a sound)) (append-nil (world_definitions a.declared).exports))
         ok err
@@ -155,20 +152,13 @@ module _ {E : Type 0} (res : Result ℕ E) (r : Resolve) (w : WorldId) (count : 
         let there : named_type sound.scope.slots here name.text described ≡ Some (d.1.declaration, x) = ap (λ zs. named_type zs here name.text described) (sym (same-slots r w a sound)) ∙ found in
         let seen : Seen = seen_type name d.1.declaration in
         let after : follow.Scope = see import_ seen (in_scope x sound.scope) in
-        let extends : Extends sound.scope after x (seen ∷ []) = record {
-          slots = refl;
-          plain = named-plain sound.scope.slots here name.text described d.1.declaration x there;
-          imports = refl;
-          are_types = refl;
-          exports = refl;
-          instances = refl;
-          used = refl;
-        } in
+        let extends : Extends sound.scope after x (seen ∷ []) =
+        let plain = named-plain sound.scope.slots here name.text described d.1.declaration x there in
+        record { slots = refl; plain = plain; imports = refl; are_types = refl; exports = refl; instances = refl; used = refl } in
         let meaning : TypeMeaning = record { declaration = d.1.declaration; external_id = name.external_id } in
         let meant : (name.text, meaning) ≡ d = λ j. (ap (λ (n : ExternName). n.text) is j, record { declaration = d.1.declaration; external_id = ap (λ (n : ExternName). n.external_id) is j }) in
         declares (Declaration.imported name described) x (seen ∷ []) after _ _ (type-step name described sound.scope d.1.declaration x there (ap is_simple is)) extends plain refl index kept
-        (record { gives = λ m e. stands ∙ ap Some (sym e); only = λ m e. some_is m _ (sym e ∙ stands) })
-        (λ m e. record {
+        (record { gives = λ m e. stands ∙ ap Some (sym e); only = λ m e. some_is m _ (sym e ∙ stands) }) (λ m e. record {
           declaration = d;
           there = declared.there;
           named_ = is;
@@ -224,14 +214,7 @@ module _ (r : Resolve) (w : WorldId) (count : ℕ) (a : Around) (maps : TypeEnco
   importable = sound-outside r w a (importable-sound (is_sound_outside r w a) (standing_instances r a) j m.stands)
 
   pub world-source : IsSource r a j id.0
-  world-source = record {
-    def = m.def;
-    name = m.name;
-    there = m.there;
-    named_ = m.named_;
-    owned = m.owned;
-    stands = importable-stands (is_sound_outside r w a) (standing_instances r a) j m.stands;
-  }
+  world-source = record { def = m.def; name = m.name; there = m.there; named_ = m.named_; owned = m.owned; stands = importable-stands (is_sound_outside r w a) (standing_instances r a) j m.stands }
 
   abbrev ImportsTo : Around → Type 0
   ImportsTo a' = WorldImports r (world_view r w count a maps) (world_view r w count a' maps) id.0 a'.known
@@ -275,7 +258,7 @@ module _ (r : Resolve) (w : WorldId) (count : ℕ) (a : Around) (maps : TypeEnco
         stands = λ k e. slot-stands r w id.0 (slice_get (outer_slots (with_alias a al).declared) k) (known-right r (with_alias a al).known (outer_slots (with_alias a al).declared) id.0 k right e);
         grows = record {
           kept = λ i q h. subst (λ (zs : List Slot). SlotsStand zs i q) (sym more) (slots-kept x (outer_slots a.declared) i q h);
-          more = omega (arith, ap length more, longer (outer_slots a.declared) x);
+          more = omega (arith, ap length more, length-append (outer_slots a.declared) (x ∷ []));
           around_ = around-same (λ i. record { declared = wide.instances i; instances = []; known = [] });
           own_ = keeps-both [] (λ ns. keeps-alias r count (interfaces_in ns) (aliases_in ns) a al is) (directions-more a.declared (alias_declared al))
               (λ ds. grows-more ds a.declared (with_alias a al).declared (alias_declared al) refl refl);
@@ -287,10 +270,6 @@ module _ (r : Resolve) (w : WorldId) (count : ℕ) (a : Around) (maps : TypeEnco
             (append-nil (world_definitions a.declared).types) (append-nil (world_definitions a.declared).exported) (append-nil (world_definitions a.declared).functions)
             (append-nil (world_definitions a.declared).exports);
       }
-    where
-      longer : (xs : List Slot) (x : Slot) → length xs ≤ length (xs ++ x ∷ [])
-      longer [] x = omega arith
-      longer (y ∷ xs) x = omega (arith, longer xs x)
 
   pub world-imports : (a' : Around) → ReachesAround r id a a' → ImportsTo a'
   world-imports a' (as_before e) = subst ImportsTo (sym e) was-known

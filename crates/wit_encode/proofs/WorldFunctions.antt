@@ -1,8 +1,8 @@
 -- A world that has no room in a component type weighs more than the largest number of 32 bits.
-use Rattle.std.proofs.Common.{rules as std_rules, ◌≡◌, refl, sym, subst, ap, ◌∙◌, append-nil, append_assoc, ℕ, zero, ◌≤◌, inl, inr, Bool, true, List, [], ◌∷◌, ◌++◌, map, filter_map, slice_get, take, Option, Some, None, option_to_list, length, arith, suc, ◌+◌, ◌*◌, ◌<◌, ◌⊎◌, false, not, ◌&&◌, nat_lt, flat_map, length-append, option_map}
-use Rattle.std.proofs.lemmas.{List.map-append, Bool.ltb-true, Bool.ltb-false, List.Sums.sum_by-cons, List.Sums.sum_by-append}
+use Rattle.std.proofs.Common.{rules as std_rules, ◌≡◌, refl, sym, subst, ap, ◌∙◌, append-nil, ℕ, zero, ◌≤◌, inl, inr, Bool, true, List, [], ◌∷◌, ◌++◌, map, filter_map, slice_get, take, Option, Some, None, option_to_list, length, arith, suc, ◌+◌, ◌*◌, ◌⊎◌, false, not, ◌&&◌, flat_map, length-append, option_map}
+use Rattle.std.proofs.lemmas.{List.map-append, List.Sums.sum_by-cons, List.Sums.sum_by-append}
 use Rattle.std.proofs.lemmas.List.{Concat.flat_map-append, Filters.sum_by-filter_both, Kept.AllPairs-filter}
-use Rattle.std.proofs.lemmas.List.Elements.{Contains-append_left, Contains-append_right, filter_map-append, Contains-append_cases, All-contains, filter_passes}
+use Rattle.std.proofs.lemmas.List.Elements.{Contains-append_left, filter_map-append, Contains-append_cases}
 use Rattle.std.specs.List.{Contains, cons_option, filter}
 use Rattle.std.specs.{Option.option_map_or, Prelude.if◌then◌else◌, Prelude.sum_by, Prelude.AllPairs, Prelude.unwrap_or}
 use Rattle.indexmap.specs.IndexMap.{values}
@@ -24,21 +24,21 @@ use Rattle.encode_names.specs.WorldNames.{name_of_item, written_path, written_su
 use Rattle.encode_names.specs.WorldSteps.{Entry, Entries, IsEntryOf, declared_towards, interfaces_among, seen_function, with_entry}
 use Rattle.encode_names.proofs.{WorldSteps.functions_are_shown, NamesRead.no-suffix as no-suffix-written}
 use Rattle.encode_types.proofs.Lists.{none-in}
-use Rattle.wit_encode.specs.{Encoders.declared_after, OwnerScope.IsScopeOf, WholeWorlds.directions_of, WorldUses.StandBefore}
+use Rattle.wit_encode.specs.{Encoders.declared_after, OwnerScope.IsScopeOf, WholeWorlds.directions_of, WorldUses.StandBefore, WorldRoom.IsNamedTypeOf}
 use Rattle.wit_encode.specs.{Instance.CanEncodeFunction, WorldItems.HasShown, WorldItems.IsNext, WorldItems.all_done, WorldItems.types_among}
 use Rattle.wit_encode.specs.Worlds.{WorldEncoder, is_sound_outside, world_around, world_definitions, world_encoder_view, world_view_of}
-use Rattle.wit_encode.specs.WorldRoom.{functions_among, type_ids_among, IsMetAmong, IsTypeAmong, count_among, entries_in, WorldLacksRoom, an_interface, a_name, a_type, a_function, too_many, LackingWorldsAreHeavy}
+use Rattle.wit_encode.specs.WorldRoom.{functions_among, type_ids_among, IsMetAmong, count_among, entries_in, WorldLacksRoom, an_interface, a_name, a_type, a_function, too_many, LackingWorldsAreHeavy}
 use Rattle.wit_encode.proofs.{Components.steps-more, Components.see-slots, Reached.IsOwner, Reached.interface-owner, Reached.world-owner, Naming.valid-owner_in_range}
 use Rattle.wit_encode.proofs.WorldShown.{function-listed, function-there, items_meet_standing, types-shown, no-type-exported}
 use Rattle.wit_encode.proofs.{Directions.order-next, Meeting.meets-unnamed, Exporting.shows-nothing, OwnerScope.functions_encode, OwnerScope.table_is_scope}
-use Rattle.wit_encode.proofs.{Extents.bytes-few, Mapped.from-filter}
+use Rattle.wit_encode.proofs.{Extents.bytes-few, Directions.done-next, Directions.next-among, Directions.next-entry}
 use Rattle.wit_encode.proofs.Weighing.{Differ, sum-among, contains-once, at-least, one-of, type-heavy, counted-once, counted-least, part-heavy-of, lacking-heavy}
 use Rattle.encode_shown.proofs.{Basics.valid-references, Items.typed-item, Zips.given-contains, Used.contains-flat-from as from-flat}
 use Rattle.comp_bytes.specs.declared.forms.ComponentTypeRef.{ComponentTypeRef}
 use Rattle.wit_model.proofs.{PathParts.canonical_paths_join, OnePath.found-in}
 use Rattle.wit_model.proofs.{Elements.contains-filter_map, Elements.has-contains, Elements.contains-has, ValidLemmas.world_passes}
-use Rattle.base_lemmas.proofs.{Bools.left_of as first_true, Numbers.same-number}
-use Rattle.base_lemmas.proofs.Elements.{all-contained, contains-later, contains-map, contains-one, map_from as from-map}
+use Rattle.base_lemmas.proofs.{Bools.left_of as first_true, Numbers.same-number, Lists.middle_get, Lists.filter_of_map}
+use Rattle.base_lemmas.proofs.Elements.{all-contained, contains-later, contains-map, contains-one, map_from as from-map, filter_kept}
 use Rattle.std.proofs.Math.Seq.{take-append_seam}
 use Rattle.std.proofs.Common.{String}
 use Rattle.std.specs.declared.alloc.Global.{Global}
@@ -58,58 +58,33 @@ starts r w e there packages outer instances known count ids agree = search std_r
 
 -- ---- the place of the next item
 
-pub at-length : {A : Type 0} (xs ys : List A) (y : A) → slice_get (xs ++ y ∷ ys) (length xs) ≡ Some y
-at-length [] ys y = refl
-at-length (x ∷ xs) ys y = at-length xs ys y
-
 abbrev pub second : Entry → WorldItem
 second x = x.1
 
 abbrev pub done_items : Entries → List WorldItem
 done_items done = map (λ x. x.1) (all_done done)
 
--- what has been done stands before the next item, and more behind it
-pub next-item : (r : Resolve) (w : World) (direction : Direction) (done : Entries) (e : Entry) → IsNext r w direction done e → (rest : List WorldItem) × (items_of w ≡ done_items done ++ e.1 ∷ rest)
-next-item r w import_ done e n =
-    let behind : List WorldItem = map second n.rest in
-    let one : map second w.imports.entries ≡ map second done.0 ++ (e.1 ∷ behind) = ap (map second) n.next ∙ map-append second done.0 (e ∷ n.rest) in
-    let two : map second w.imports.entries ++ values w.exports ≡ map second done.0 ++ (e.1 ∷ (behind ++ values w.exports)) =
-    ap (λ (xs : List WorldItem). xs ++ values w.exports) one ∙ append_assoc (map second done.0) (e.1 ∷ behind) (values w.exports) in
-    let same : map second done.0 ≡ done_items done = ap (map second) (sym (append-nil done.0) ∙ ap (λ (ys : List Entry). done.0 ++ ys) (sym n.begun)) in
-    (behind ++ values w.exports, two ∙ ap (λ (xs : List WorldItem). xs ++ (e.1 ∷ (behind ++ values w.exports))) same)
-next-item r w export_ done e n =
-    let behind : List WorldItem = map second n.rest in
-    let one : map second w.exports.entries ≡ map second done.1 ++ (e.1 ∷ behind) = ap (map second) n.next ∙ map-append second done.1 (e ∷ n.rest) in
-    let two : values w.imports ++ map second w.exports.entries ≡ (values w.imports ++ map second done.1) ++ (e.1 ∷ behind) =
-    ap (λ (xs : List WorldItem). values w.imports ++ xs) one ∙ sym (append_assoc (values w.imports) (map second done.1) (e.1 ∷ behind)) in
-    let same : values w.imports ++ map second done.1 ≡ done_items done = sym (map-append second w.imports.entries done.1) ∙ ap (λ (es : List Entry). map second (es ++ done.1)) (sym n.begun) in
-    (behind, two ∙ ap (λ (xs : List WorldItem). xs ++ (e.1 ∷ behind)) same)
+module _ (r : Resolve) (w : World) (direction : Direction) (done : Entries) (e : Entry) (n : IsNext r w direction done e) where
+  -- what has been done stands before the next item, and more behind it
+  next-item : (rest : List WorldItem) × (items_of w ≡ done_items done ++ e.1 ∷ rest)
+  next-item =
+      let m = next-among r w direction done e n in
+      (map second m.0, sym (map-append second w.imports.entries w.exports.entries) ∙ ap (map second) m.1 ∙ map-append second (all_done done) (e ∷ m.0))
 
-pub next-place : (r : Resolve) (w : World) (direction : Direction) (done : Entries) (e : Entry) → IsNext r w direction done e → slice_get (items_of w) (length (done_items done)) ≡ Some e.1
-next-place r w direction done e n = let m = next-item r w direction done e n in ap (λ xs. slice_get xs (length (done_items done))) m.1 ∙ at-length (done_items done) m.0 e.1
+  pub next-place : slice_get (items_of w) (length (done_items done)) ≡ Some e.1
+  next-place = ap (λ xs. slice_get xs (length (done_items done))) next-item.1 ∙ middle_get (done_items done) e.1 next-item.0
 
-pub before-next : (r : Resolve) (w : World) (direction : Direction) (done : Entries) (e : Entry) → IsNext r w direction done e → take (length (done_items done)) (items_of w) ≡ done_items done
-before-next r w direction done e n = let m = next-item r w direction done e n in ap (take (length (done_items done))) m.1 ∙ take-append_seam (done_items done) (e.1 ∷ m.0)
-
--- the next entry is one of the world
-pub next-entry : (r : Resolve) (w : World) (direction : Direction) (done : Entries) (e : Entry) → IsNext r w direction done e → Contains (w.imports.entries ++ w.exports.entries) e
-next-entry r w import_ done e n = Contains-append_left w.imports.entries w.exports.entries e
-    (subst (λ (es : List Entry). Contains es e) (sym n.next) (Contains-append_right done.0 (e ∷ n.rest) e (zero, omega arith, refl)))
-next-entry r w export_ done e n = Contains-append_right w.imports.entries w.exports.entries e
-    (subst (λ (es : List Entry). Contains es e) (sym n.next) (Contains-append_right done.1 (e ∷ n.rest) e (zero, omega arith, refl)))
+  pub before-next : take (length (done_items done)) (items_of w) ≡ done_items done
+  before-next = ap (take (length (done_items done))) next-item.1 ∙ take-append_seam (done_items done) (e.1 ∷ next-item.0)
 
 -- the interfaces, and the types, among entries are those among their items
 interfaces-given : (es : List Entry) → filter_map item_interface (map (λ x. x.1) es) ≡ interfaces_among es
 interfaces-given [] = refl
-interfaces-given (e ∷ es) = by (item_interface e.1) ∙ ap (λ xs. option_to_list (item_interface e.1) ++ xs) (interfaces-given es)
-  where
-    by : (o : Option ℕ) → cons_option o (filter_map item_interface (map (λ x. x.1) es)) ≡ option_to_list o ++ filter_map item_interface (map (λ x. x.1) es)
-    by None = refl
-    by (Some n) = refl
+interfaces-given (e ∷ es) = (elim (item_interface e.1) as (λ o. cons_option o (filter_map item_interface (map (λ x. x.1) es)) ≡ option_to_list o ++ filter_map item_interface (map (λ x. x.1) es))
+    [ None ↦ refl | Some n ↦ refl ]) ∙ ap (λ xs. option_to_list (item_interface e.1) ++ xs) (interfaces-given es)
 
 pub types-given : (es : List Entry) → filter_map item_type (map (λ x. x.1) es) ≡ types_among es
-types-given [] = refl
-types-given (e ∷ es) = ap (λ xs. cons_option (item_type e.1) xs) (types-given es)
+types-given es = filter_of_map item_type (λ x. x.1) es
 
 -- ---- what stands before it
 
@@ -160,20 +135,17 @@ see-instances import_ seen s = refl
 see-instances export_ seen s = refl
 
 -- what a function brings
-pub nothing-brought : {A : Type 0} (given : List Entry → List A) → ((es gs : List Entry) → given (es ++ gs) ≡ given es ++ given gs) → (direction : Direction) (done : Entries) (x : Entry)
-    → given (x ∷ []) ≡ [] → given (all_done (with_entry direction done x)) ≡ given (all_done done)
-nothing-brought given split import_ done x none =
-    split (done.0 ++ x ∷ []) done.1 ∙ ap (λ xs. xs ++ given done.1) (split done.0 (x ∷ []) ∙ ap (λ xs. given done.0 ++ xs) none ∙ append-nil (given done.0)) ∙ sym (split done.0 done.1)
-nothing-brought given split export_ done x none =
-    split done.0 (done.1 ++ x ∷ []) ∙ ap (λ xs. given done.0 ++ xs) (split done.1 (x ∷ []) ∙ ap (λ xs. given done.1 ++ xs) none ∙ append-nil (given done.1)) ∙ sym (split done.0 done.1)
+pub nothing-brought : {A : Type 0} (given : List Entry → List A) → ((es gs : List Entry) → given (es ++ gs) ≡ given es ++ given gs) → (r : Resolve) (w : World) (direction : Direction)
+    (done : Entries) (x : Entry) → IsNext r w direction done x → given (x ∷ []) ≡ [] → given (all_done (with_entry direction done x)) ≡ given (all_done done)
+nothing-brought given split r w direction done x n none =
+    ap given (done-next r w direction done x n) ∙ split (all_done done) (x ∷ []) ∙ ap (λ xs. given (all_done done) ++ xs) none ∙ append-nil (given (all_done done))
 
 signature-at : (o : Option Slot) (s : Signature) → standing_at o ≡ Some (function s) → function_in o ≡ Some s
 signature-at x s h = search std_rules
 
 pub function-behind : (r : Resolve) → IsValid r → (w : World) (e : WorldEncoder) (done : Entries) → HasShown r w e done
-    → (direction : Direction) (canonical : Bool) (k : WorldKey) (f : Function) (n : ℕ) (outer : Declarations)
-    → IsNext r w direction done (k, item.Function f) → SlotsStand (outer_slots e.outer) n (function (signature_of r f))
-    → outer ≡ declared_after e.outer (declared_towards direction (name_of_item r canonical (k, item.Function f)) (refs.Func n))
+    → (direction : Direction) (canonical : Bool) (k : WorldKey) (f : Function) (n : ℕ) (outer : Declarations) → IsNext r w direction done (k, item.Function f)
+    → SlotsStand (outer_slots e.outer) n (function (signature_of r f)) → outer ≡ declared_after e.outer (declared_towards direction (name_of_item r canonical (k, item.Function f)) (refs.Func n))
     → HasShown r w (record e { outer = outer }) (with_entry direction done (k, item.Function f))
 function-behind r v w e done h direction canonical k f n outer next stands is =
     let x : Entry = (k, item.Function f) in
@@ -189,8 +161,9 @@ function-behind r v w e done h direction canonical k f n outer next stands is =
     let slots : outer_slots outer ≡ outer_slots e.outer = ap (λ o. option_map_or (λ s. s.slots) o []) followed ∙ see-slots direction seen h.scope ∙ sym slots_there in
     let instances : outer_instances outer ≡ outer_instances e.outer = ap (λ o. option_map_or (λ s. s.instances) o []) followed ∙ see-instances direction seen h.scope ∙ sym
     (ap (λ o. option_map_or (λ s. s.instances) o []) h.followed) in
-    let interfaces : interfaces_among (all_done (with_entry direction done x)) ≡ interfaces_among (all_done done) = nothing-brought interfaces_among (flat_map-append _) direction done x refl in
-    let types : types_among (all_done (with_entry direction done x)) ≡ types_among (all_done done) = nothing-brought types_among (filter_map-append _) direction done x refl in
+    let interfaces : interfaces_among (all_done (with_entry direction done x)) ≡ interfaces_among (all_done done) =
+    nothing-brought interfaces_among (flat_map-append _) r w direction done x next refl in
+    let types : types_among (all_done (with_entry direction done x)) ≡ types_among (all_done done) = nothing-brought types_among (filter_map-append _) r w direction done x next refl in
     let a = world_around e in
     let a' = record a { declared = outer } in
     record {
@@ -293,8 +266,7 @@ interface-name r canonical (key.Interface j) i id external texts at given sum lo
 interface-name r canonical (key.Name name) i id external texts at given sum low = by (implemented-as r name i id.0 at)
   where
     by : (implemented r (key.Name name) i ≡ None) ⊎ (implemented r (key.Name name) i ≡ Some id.0) → fits_name (name_of_item r canonical (key.Name name, i)) ≡ true
-    by (inl none) = name-fits (name_of_item r canonical (key.Name name, i)) texts (omega (arith, sum))
-        (omega (arith, ap (λ o. long (option_map (written_path r canonical) o)) none))
+    by (inl none) = name-fits (name_of_item r canonical (key.Name name, i)) texts (omega (arith, sum)) (omega (arith, ap (λ o. long (option_map (written_path r canonical) o)) none))
         (omega (arith, ap (λ o. long (written_suffix r canonical o)) none ∙ ap long (no-suffix-written r canonical))) (omega (arith, ap long given, sum)) low
     by (inr there) = name-fits (name_of_item r canonical (key.Name name, i)) texts (omega (arith, sum))
         (let a = ap (λ o. long (option_map (written_path r canonical) o)) there ∙ some-long (written_path r canonical id.0) in let b = written-long r id.0 canonical in omega (arith, a, b, sum))
@@ -302,55 +274,73 @@ interface-name r canonical (key.Name name) i id external texts at given sum low 
 
 -- ---- type numbers of interfaces
 
-abbrev numbers-of-interface : Resolve → ℕ → List ℕ
-numbers-of-interface r j = option_map_or (λ d. instance_numbers r d (functions_of_interface d)) (interface_at r j) []
+-- the types of an interface, and what these functions of it name
+abbrev pub numbers-of : Resolve → (Interface → List Function) → ℕ → List ℕ
+numbers-of r fs j = option_map_or (λ d. instance_numbers r d (fs d)) (interface_at r j) []
 
 -- the number is that of a type, and stands in the instance type of one of these interfaces
-abbrev StandsAmong : Resolve → List Entry → ℕ → Type 0
-StandsAmong r es n = (d : TypeDef) × (type_at r n ≡ Some d) × (j : ℕ) × Contains (interfaces_among es) j × Contains (numbers-of-interface r j) n
+abbrev StandsAmong : Resolve → (Interface → List Function) → List ℕ → ℕ → Type 0
+StandsAmong r fs js n = (d : TypeDef) × (type_at r n ≡ Some d) × (j : ℕ) × Contains js j × Contains (numbers-of r fs j) n
 
-pub number-least : (r : Resolve) (o : TypeOwner) (n : ℕ) (d : TypeDef) → type_at r n ≡ Some d → 64 ≤ number_weight r o n
+number-least : (r : Resolve) (o : TypeOwner) (n : ℕ) (d : TypeDef) → type_at r n ≡ Some d → 64 ≤ number_weight r o n
 number-least r o n d at = search std_rules
 
-whole-least : (r : Resolve) (j : ℕ) → sum_by (number_weight r (as_interface j)) (numbers-of-interface r j) ≤ whole_instance_weight r j
+whole-least : (r : Resolve) (j : ℕ) → sum_by (number_weight r (as_interface j)) (numbers-of r functions_of_interface j) ≤ whole_instance_weight r j
 whole-least r j = search std_rules
 
 abbrev pub each : List ℕ → ℕ
 each ns = sum_by (λ n. 64) ns
 
 -- each number of these weighs 64 at least
-pub each-least : (g : ℕ → ℕ) (ns : List ℕ) → ((n : ℕ) → Contains ns n → 64 ≤ g n) → each ns ≤ sum_by g ns
+each-least : (g : ℕ → ℕ) (ns : List ℕ) → ((n : ℕ) → Contains ns n → 64 ≤ g n) → each ns ≤ sum_by g ns
 each-least g [] h = omega arith
-each-least g (n ∷ ns) h =
-    omega (arith, each-least g ns (λ m c. h m (contains-later n ns m c)), h n (0, omega arith, refl), sum_by-cons g n ns, sum_by-cons (λ n. 64) n ns)
+each-least g (n ∷ ns) h = omega (arith, each-least g ns (λ m c. h m (contains-later n ns m c)), h n (0, omega arith, refl), sum_by-cons g n ns, sum_by-cons (λ n. 64) n ns)
+
+module _ (r : Resolve) (fs : Interface → List Function) where
+  -- named types of these interfaces do
+  pub named-stands : IsValid r → (js : List ℕ) (n : ℕ) → IsNamedTypeOf r js n → StandsAmong r fs js n
+  named-stands v js n t = (t.def, t.there, t.interface.0, t.among, subst (λ (o : Option Interface). Contains (option_map_or (λ d. instance_numbers r d (fs d)) o []) n) (sym found.1) inside)
+    where
+      found : (d : Interface) × (interface_at r t.interface.0 ≡ Some d)
+      found = found-in r.interfaces.items t.interface.0 (subst (λ (o : TypeOwner). owner_in_range r o ≡ true) t.owned (valid-owner_in_range r v n t.def t.there))
+
+      owned : same_owner t.def.owner (owner.Interface t.interface) ≡ true
+      owned = subst (λ (o : TypeOwner). same_owner o (owner.Interface t.interface) ≡ true) (sym t.owned) (same-number t.interface.0)
+
+      inside : Contains (instance_numbers r found.0 (fs found.0)) n
+      inside = contains-once _ n (Contains-append_left (interface_type_numbers found.0) _ n ((interface-owner r v t.interface found.0 found.1).listed n t.def t.there t.named_ owned))
+
+  -- and the interfaces weigh 64 for each of these numbers
+  pub numbers-weigh : (weight : ℕ → ℕ) → ((j : ℕ) → sum_by (number_weight r (as_interface j)) (numbers-of r fs j) ≤ weight j) → (js ns : List ℕ) → AllPairs Differ ns
+      → ((n : ℕ) → Contains ns n → StandsAmong r fs js n) → each ns ≤ sum_by weight js
+  numbers-weigh weight least [] [] apart h = omega arith
+  numbers-weigh weight least [] (n ∷ ns) apart h = none-in (h n (0, omega arith, refl)).2 (h n (0, omega arith, refl)).3
+  numbers-weigh weight least (j ∷ js) ns apart h =
+      let own = numbers-of r fs j in
+      let first = filter (has own) ns in
+      let others = filter (λ n. not (has own n)) ns in
+      let rest = numbers-weigh weight least js others (AllPairs-filter Differ (λ n. not (has own n)) ns apart)
+      (λ n c. let k = filter_kept (λ n. not (has own n)) ns n c in later n k.1 (h n k.0)) in
+      let heavy = each-least (number_weight r (as_interface j)) first (λ n c. let x = h n (filter_kept (has own) ns n c).0 in number-least r (as_interface j) n x.0 x.1) in
+      let inside = sum-among (number_weight r (as_interface j)) first own (AllPairs-filter Differ (has own) ns apart) (λ n c. has-contains own n (filter_kept (has own) ns n c).1) in
+      let both = sum_by-filter_both (has own) (λ n. not (has own n)) (λ n. refl) (λ n. 64) ns in
+      omega (arith, rest, heavy, inside, least j, both, sum_by-cons weight j js)
+    where
+      later : (n : ℕ) → not (has (numbers-of r fs j) n) ≡ true → StandsAmong r fs (j ∷ js) n → StandsAmong r fs js n
+      later n out (d, at, k, (zero, l, e), there) = cc (contains-has (numbers-of r fs j) n (subst (λ (m : ℕ). Contains (numbers-of r fs m) n) (sym e) there))
+      later n out (d, at, k, (suc p, l, e), there) = (d, at, k, (p, omega (arith, l), e), there)
 
 module _ (r : Resolve) where
   abbrev entry-weight : Entry → ℕ
   entry-weight e = item_weight r e.0 e.1
 
-  -- the entries weigh 64 for each function and interface, and for each of these numbers
-  entries-weigh : (es : List Entry) (ns : List ℕ) → AllPairs Differ ns → ((n : ℕ) → Contains ns n → StandsAmong r es n) → 64 * count_among es + each ns ≤ sum_by entry-weight es
-  entries-weigh [] [] apart h = omega arith
-  entries-weigh [] (n ∷ ns) apart h = none-in (h n (0, omega arith, refl)).2 (h n (0, omega arith, refl)).3
-  entries-weigh ((k, item.Function f) ∷ es) ns apart h = omega (arith, entries-weigh es ns apart h, sum_by-cons entry-weight (k, item.Function f) es)
-  entries-weigh ((k, item.Type_ id) ∷ es) ns apart h = omega (arith, entries-weigh es ns apart h, sum_by-cons entry-weight (k, item.Type_ id) es)
-  entries-weigh ((k, item.Interface id stability docs external) ∷ es) ns apart h =
-      let own = numbers-of-interface r id.0 in
-      let first = filter (has own) ns in
-      let others = filter (λ n. not (has own n)) ns in
-      let rest = entries-weigh es others (AllPairs-filter Differ (λ n. not (has own n)) ns apart) (λ n c. later n c (h n (from-filter (λ n. not (has own n)) ns n c))) in
-      let heavy = each-least (number_weight r (as_interface id.0)) first (λ n c. let x = h n (from-filter (has own) ns n c) in number-least r (as_interface id.0) n x.0 x.1) in
-      let inside = sum-among (number_weight r (as_interface id.0)) first own (AllPairs-filter Differ (has own) ns apart)
-      (λ n c. has-contains own n (All-contains (λ n. has own n ≡ true) first n (filter_passes (has own) ns) c)) in
-      let both = sum_by-filter_both (has own) (λ n. not (has own n)) (λ n. refl) (λ n. 64) ns in
-      omega (arith, rest, heavy, inside, whole-least r id.0, both, sum_by-cons entry-weight (k, item.Interface id stability docs external) es)
-    where
-      later : (n : ℕ) → Contains (filter (λ n. not (has (numbers-of-interface r id.0) n)) ns) n → StandsAmong r ((k, item.Interface id stability docs external) ∷ es) n → StandsAmong r es n
-      later n c (d, at, j, (zero, l, e), there) =
-          let out = All-contains (λ n. not (has (numbers-of-interface r id.0) n) ≡ true) (filter (λ n. not (has (numbers-of-interface r id.0) n)) ns) n
-          (filter_passes (λ n. not (has (numbers-of-interface r id.0) n)) ns) c in
-          cc (contains-has (numbers-of-interface r id.0) n (subst (λ (m : ℕ). Contains (numbers-of-interface r m) n) (sym e) there))
-      later n c (d, at, j, (suc p, l, e), there) = (d, at, j, (p, omega (arith, l), e), there)
+  -- the entries weigh 64 for each function and interface, and what the interfaces do
+  entries-weigh : (es : List Entry) → 64 * count_among es + sum_by (whole_instance_weight r) (interfaces_among es) ≤ sum_by entry-weight es
+  entries-weigh [] = omega arith
+  entries-weigh ((k, item.Function f) ∷ es) = omega (arith, entries-weigh es, sum_by-cons entry-weight (k, item.Function f) es)
+  entries-weigh ((k, item.Type_ id) ∷ es) = omega (arith, entries-weigh es, sum_by-cons entry-weight (k, item.Type_ id) es)
+  entries-weigh ((k, item.Interface id stability docs external) ∷ es) =
+      omega (arith, entries-weigh es, sum_by-cons entry-weight (k, item.Interface id stability docs external) es, sum_by-cons (whole_instance_weight r) id.0 (interfaces_among es))
 
 -- ---- a world
 
@@ -372,10 +362,7 @@ module _ (r : Resolve) (v : IsValid r) (w : WorldId) (def : World) (home : world
   weight-is = search std_rules
 
   item-of : (e : Entry) → Contains es e → Contains (items_of def) e.1
-  item-of e c = elim (Contains-append_cases def.imports.entries def.exports.entries e c) [
-    | inl a ↦ Contains-append_left (values def.imports) (values def.exports) e.1 (contains-map (λ (x : Entry). x.1) def.imports.entries e a)
-    | inr b ↦ Contains-append_right (values def.imports) (values def.exports) e.1 (contains-map (λ (x : Entry). x.1) def.exports.entries e b)
-  ]
+  item-of e c = subst (λ (is : List WorldItem). Contains is e.1) (map-append second def.imports.entries def.exports.entries) (contains-map second es e c)
 
   pub listed : (t : TypeId) → Contains (type_ids_among es) t → Contains (world_type_numbers def) t.0
   listed t c =
@@ -434,26 +421,6 @@ module _ (r : Resolve) (v : IsValid r) (w : WorldId) (def : World) (home : world
       let rest = sum_by-append length (implemented_texts r k id.0) (option_to_list (optional_text external)) in
       interface-name r canonical k (item.Interface id stability docs external) id (optional_text external) texts refl refl (omega (arith, first, rest)) (omega (arith, low))
 
-  -- ---- types of interfaces
-
-  stands-among : (n : ℕ) → IsTypeAmong r es n → StandsAmong r es n
-  stands-among n t = (
-    t.def,
-    t.there,
-    t.interface.0,
-    t.among,
-    subst (λ (o : Option Interface). Contains (option_map_or (λ d. instance_numbers r d (functions_of_interface d)) o []) n) (sym found.1) inside,
-  )
-    where
-      found : (d : Interface) × (interface_at r t.interface.0 ≡ Some d)
-      found = found-in r.interfaces.items t.interface.0 (subst (λ (o : TypeOwner). owner_in_range r o ≡ true) t.owned (valid-owner_in_range r v n t.def t.there))
-
-      owned : same_owner t.def.owner (owner.Interface t.interface) ≡ true
-      owned = subst (λ (o : TypeOwner). same_owner o (owner.Interface t.interface) ≡ true) (sym t.owned) (same-number t.interface.0)
-
-      inside : Contains (instance_numbers r found.0 (functions_of_interface found.0)) n
-      inside = contains-once _ n (Contains-append_left (interface_type_numbers found.0) _ n ((interface-owner r v t.interface found.0 found.1).listed n t.def t.there t.named_ owned))
-
   -- ---- the whole
 
   no-lack : total ≤ limit → WorldLacksRoom r def → ⊥
@@ -482,13 +449,12 @@ module _ (r : Resolve) (v : IsValid r) (w : WorldId) (def : World) (home : world
       let met = sum-among weigh m.met numbers m.are_met.different (λ n c. counted n (m.are_met.all n c)) in
       let met-each = at-least weigh m.met (λ n c. counted-least r v (owner.World w) (world_type_numbers def) (functions_of_world def) own (type_ids_among es) (functions_among es) listed among n
       (m.are_met.all n c)) in
-      let brought = entries-weigh r es m.brought m.are_brought.different (λ n c. stands-among n (m.are_brought.all n c)) in
+      let brought = numbers-weigh r functions_of_interface (whole_instance_weight r) (whole-least r) (interfaces_among es) m.brought m.are_brought.different
+      (λ n c. named-stands r functions_of_interface v (interfaces_among es) n (m.are_brought.all n c)) in
       let brought-each = at-least (λ (n : ℕ). 64) m.brought (λ n c. omega arith) in
-      absurd (omega (arith, met, met-each, brought, brought-each, m.many, light))
+      absurd (omega (arith, met, met-each, brought, brought-each, entries-weigh r es, m.many, light))
 
 pub lacking-worlds-heavy : LackingWorldsAreHeavy
-lacking-worlds-heavy r w def v home lacks = by-order (nat_lt limit (world_weight r w.0)) refl
-  where
-    by-order : (b : Bool) → nat_lt limit (world_weight r w.0) ≡ b → limit < world_weight r w.0
-    by-order true f = ltb-true limit (world_weight r w.0) f
-    by-order false f = absurd (no-lack r v w def home (omega (arith, ltb-false limit (world_weight r w.0) f, weight-is r v w def home)) lacks)
+lacking-worlds-heavy r w def v home lacks =
+    let no : world_weight r w.0 ≤ limit → ⊥ = λ l. no-lack r v w def home (omega (arith, l, weight-is r v w def home)) lacks in
+    omega (arith, no)

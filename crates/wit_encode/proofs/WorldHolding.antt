@@ -1,16 +1,16 @@
 -- Which types of listed interfaces have an alias in a component type, and how much it holds beside them.
 use Rattle.std.proofs.Common.{rules as std_rules, ◌≡◌, refl, sym, subst, ap, ◌∙◌, ℕ, ◌+◌, inl, inr, Bool, true, false, ◌⊎◌, List, [], ◌∷◌, ◌++◌, map, flat_map, append-nil, append_assoc, length, None, is_some, slice_get, arith, zero, suc, ◌*◌, ◌≤◌, ◌&&◌, length-append, Some}
-use Rattle.std.proofs.lemmas.{List.map-append, List.length-map, Bool.cases_Bool, Bool.and_from as both}
+use Rattle.std.proofs.lemmas.{List.map-append, List.length-map, Bool.and_from as both}
 use Rattle.std.proofs.lemmas.List.{Concat.flat_map-append, Kept.AllPairs-filter, Sums.length-filter, Sums.sum_by-le-sum_by}
 use Rattle.std.proofs.lemmas.List.Elements.{Contains-append_left, Contains-append_right, Contains-append_cases, filter_map-append, All-contains, filter_passes}
-use Rattle.std.specs.{Prelude.nat_eq, Prelude.cond, Prelude.AllPairs, List.AllZip, List.Contains, List.filter, BTreeMap.is_at, BTreeMap.insert_entry}
-use Rattle.std.specs.{Set.is_member, Set.distinct_count, Option.option_map_or, Ordering.nat_cmp}
-use Rattle.wit_model.specs.{Parts.function_types, Valid.IsValid, Lookup.type_at, Text.text_of, Meant.signature_of, Meant.type_meaning}
+use Rattle.std.specs.{Prelude.nat_eq, Prelude.cond, Prelude.AllPairs, List.AllZip, List.Contains, List.filter}
+use Rattle.std.specs.{Set.is_member, Set.distinct_count, Option.option_map_or}
+use Rattle.wit_model.specs.{Parts.function_types, Valid.IsValid, Lookup.type_at, Text.text_of, Meant.signature_of, Meant.type_meaning, Valid.item_function}
 use Rattle.wit_model.specs.Tree.{Tree}
-use Rattle.wit_model.specs.declared.model.{Resolve.Resolve, World.World, TypeId.TypeId, TypeDef.TypeDef}
+use Rattle.wit_model.specs.declared.model.{Resolve.Resolve, World.World, TypeId.TypeId, TypeDef.TypeDef, InterfaceId.InterfaceId, Interface.Interface}
 use Rattle.wit_model.specs.declared.model.{WorldKey.WorldKey, WorldItem.WorldItem, Function.Function, «Type».«Type» as ValueType}
-use Rattle.comp_bytes.specs.Raw.{Declaration, Declarations, ExternName, declaration_count}
-use Rattle.comp_bytes.specs.{Held.declaration_slots, Held.fits_added, Held.fits_counts, Held.type_slots_of, Fits.fits_declaration, Fits.fits_name}
+use Rattle.comp_bytes.specs.Raw.{Declaration, Declarations, ExternName, declaration_count, from_list}
+use Rattle.comp_bytes.specs.{Held.declaration_slots, Held.fits_added, Held.type_slots_of, Fits.fits_declaration, Fits.fits_name}
 use Rattle.comp_bytes.specs.declared.forms.ComponentTypeRef.{ComponentTypeRef}
 use Rattle.comp_meaning.specs.Follow.{Direction, import_, export_, new_scope}
 use Rattle.encode_types.specs.{Slots.tree, Key.IsKeyOf}
@@ -25,20 +25,28 @@ use Rattle.encode_types.proofs.{Defining.lists-longer, Lists.none-in, Pairs.pair
 use Rattle.encode_names.specs.{WorldSteps.Entry, WorldSteps.Entries, WorldSteps.declared_towards, WorldSteps.interfaces_among, WorldNames.name_of_item}
 use Rattle.wit_encode.specs.Places.{are_beside}
 use Rattle.wit_encode.specs.{Encoders.declared_after, WorldItems.HasShown, WorldItems.all_done, WorldItems.types_among, WorldItems.IsNext, WorldHolds.HoldsFew}
-use Rattle.wit_encode.specs.WorldRoom.{functions_among, referred_among, type_ids_among, IsMetAmong, IsNamedTypeOf, IsTypeAmong, AreSome, count_among, entries_in, WorldLacksRoom, a_name, a_type as a_met_type, a_function, too_many}
+use Rattle.wit_encode.specs.WorldRoom.{functions_among, referred_among, type_ids_among, IsMetAmong, IsNamedTypeOf, IsTypeAmong, AreSome, count_among, WorldLacksRoom, a_name, a_type as a_met_type, a_function, too_many}
 use Rattle.wit_encode.specs.{Instance.count_declared, Instance.SlotsStand, Instance.outer_slots, Instance.standing_at, DependencyAliases.alias_in}
 use Rattle.wit_encode.specs.WorldAliases.{KeepsAliases, KeepsBehind, KeepsListed, PlacedAlias, place_and_number}
 use Rattle.wit_encode.specs.WorldCounts.{DefinesInterface, DefinesOnce, HasDefined, IsAskedBehind, IsAskedBy, no_interface, nothing_defined}
 use Rattle.wit_encode.specs.Worlds.{WorldEncoder, instances_declared, world_around, world_definitions, world_view_of, brought_numbers, held_beside, is_brought, is_of_listed}
 use Rattle.wit_encode.proofs.Aliases.{alias-new, aliases-in-end, keeps-nothing, keeps-plain, keeps-told, none-since, slot-there, there-slot}
 use Rattle.wit_encode.proofs.{WrittenNames.no-function-name, HeldKeys.Keyed, HeldKeys.keyed, HeldKeys.knows-none, HeldKeys.stand-for-keys, HeldKeys.slots-many}
-use Rattle.wit_encode.proofs.{Components.count-more, WorldShown.sound-outside, Importing.new-slot, WorldCalls.reached-held}
+use Rattle.wit_encode.proofs.{Components.count-more, WorldShown.sound-outside, WorldCalls.reached-held, Directions.next-among, HeldKeys.learnt-all}
 use Rattle.wit_encode.proofs.{DefinedTypes.HeldKinds, DefinedTypes.defines-types, Refusing.counts-refused, Refusing.outer-pushed, Refusing.outer-slots-few}
 use Rattle.wit_encode.proofs.ValueSlots.{IsPlain, slots-kept, slots-declared, targets-kept, instances-kept, outer-values}
-use Rattle.wit_encode.proofs.{Referring.from-met, Referring.from-none, Referring.from-then, Referring.interface-kinds, Imported.at-same, Imported.other-slot}
+use Rattle.wit_encode.proofs.{Referring.from-met, Referring.from-none, Referring.from-then, Referring.interface-kinds}
 use Rattle.wit_encode.proofs.Counting.{slots-once, adds-alike, adds-function, adds-nothing, adds-trans, adds-types, exact-names}
+use Rattle.wit_encode.proofs.Directions.{next-entry}
+use Rattle.wit_encode.proofs.DependencyAliases.{known-kept}
+use Rattle.wit_encode.specs.Instance.{EncodesInterface}
+use Rattle.wit_model.specs.Lookup.{interface_at}
+use Rattle.comp_bytes.specs.Held.{described_slots}
+use Rattle.wit_encode.specs.WorldHolds.{LacksDeclaration}
+use Rattle.wit_model.proofs.Elements.{contains-filter_map}
+use Rattle.wit_encode.specs.WorldRoom.{entries_in}
 use Rattle.base_lemmas.proofs.Bools.{both_ways as both-ways, left_of as first_true, right_of as second_true}
-use Rattle.base_lemmas.proofs.Elements.{contains-map, map_from as from-map, last_of as one-contained}
+use Rattle.base_lemmas.proofs.Elements.{contains-map, map_from as from-map, last_of as one-contained, contains-one}
 use Rattle.wit_model.specs.declared.model.WorldItem.TheVariants as item
 use Rattle.wit_model.specs.declared.model.«Type».TheVariants as ty
 use Rattle.comp_bytes.specs.declared.forms.ComponentTypeRef.TheVariants as refs
@@ -56,26 +64,21 @@ interfaces-more es fs = flat_map-append _ es fs
 types-more : (es fs : List Entry) → type_ids_among (es ++ fs) ≡ type_ids_among es ++ type_ids_among fs
 types-more es fs = ap (map _) (filter_map-append _ es fs) ∙ map-append _ (types_among es) (types_among fs)
 
--- what some of them refer to
-pub referred-front : (es fs : List Entry) (t : ValueType) → Contains (referred_among es) t → Contains (referred_among (es ++ fs)) t
-referred-front es fs t c = elim (Contains-append_cases (map (λ x. ty.Id x) (type_ids_among es)) (flat_map function_types (functions_among es)) t c) [
-  | inl a ↦ Contains-append_left (map (λ x. ty.Id x) (type_ids_among (es ++ fs))) _ t
-      (subst (λ xs. Contains xs t) (sym (ap (map (λ x. ty.Id x)) (types-more es fs) ∙ map-append (λ x. ty.Id x) (type_ids_among es) (type_ids_among fs)))
-      (Contains-append_left (map (λ x. ty.Id x) (type_ids_among es)) (map (λ x. ty.Id x) (type_ids_among fs)) t a))
-  | inr b ↦ Contains-append_right (map (λ x. ty.Id x) (type_ids_among (es ++ fs))) _ t
-      (subst (λ xs. Contains xs t) (sym (ap (flat_map function_types) (functions-more es fs) ∙ flat_map-append function_types (functions_among es) (functions_among fs)))
-      (Contains-append_left (flat_map function_types (functions_among es)) (flat_map function_types (functions_among fs)) t b))
+mixed : {X : Type 0} (xs ys us vs : List X) (t : X) → Contains (xs ++ ys) t ⊎ Contains (us ++ vs) t → Contains ((xs ++ us) ++ (ys ++ vs)) t
+mixed xs ys us vs t (inl c) = elim (Contains-append_cases xs ys t c) [
+  | inl a ↦ Contains-append_left (xs ++ us) (ys ++ vs) t (Contains-append_left xs us t a)
+  | inr b ↦ Contains-append_right (xs ++ us) (ys ++ vs) t (Contains-append_left ys vs t b)
+]
+mixed xs ys us vs t (inr c) = elim (Contains-append_cases us vs t c) [
+  | inl a ↦ Contains-append_left (xs ++ us) (ys ++ vs) t (Contains-append_right xs us t a)
+  | inr b ↦ Contains-append_right (xs ++ us) (ys ++ vs) t (Contains-append_right ys vs t b)
 ]
 
-pub referred-behind : (es fs : List Entry) (t : ValueType) → Contains (referred_among fs) t → Contains (referred_among (es ++ fs)) t
-referred-behind es fs t c = elim (Contains-append_cases (map (λ x. ty.Id x) (type_ids_among fs)) (flat_map function_types (functions_among fs)) t c) [
-  | inl a ↦ Contains-append_left (map (λ x. ty.Id x) (type_ids_among (es ++ fs))) _ t
-      (subst (λ xs. Contains xs t) (sym (ap (map (λ x. ty.Id x)) (types-more es fs) ∙ map-append (λ x. ty.Id x) (type_ids_among es) (type_ids_among fs)))
-      (Contains-append_right (map (λ x. ty.Id x) (type_ids_among es)) (map (λ x. ty.Id x) (type_ids_among fs)) t a))
-  | inr b ↦ Contains-append_right (map (λ x. ty.Id x) (type_ids_among (es ++ fs))) _ t
-      (subst (λ xs. Contains xs t) (sym (ap (flat_map function_types) (functions-more es fs) ∙ flat_map-append function_types (functions_among es) (functions_among fs)))
-      (Contains-append_right (flat_map function_types (functions_among es)) (flat_map function_types (functions_among fs)) t b))
-]
+-- what some of them refer to
+referred-both : (es fs : List Entry) (t : ValueType) → Contains (referred_among es) t ⊎ Contains (referred_among fs) t → Contains (referred_among (es ++ fs)) t
+referred-both es fs t c = subst (λ xs. Contains xs t) (λ i. sym (ap (map (λ x. ty.Id x)) (types-more es fs) ∙ map-append (λ x. ty.Id x) (type_ids_among es) (type_ids_among fs)) i
+    ++ sym (ap (flat_map function_types) (functions-more es fs) ∙ flat_map-append function_types (functions_among es) (functions_among fs)) i)
+    (mixed (map (λ x. ty.Id x) (type_ids_among es)) (flat_map function_types (functions_among es)) (map (λ x. ty.Id x) (type_ids_among fs)) (flat_map function_types (functions_among fs)) t c)
 
 pub function-referred : (k : WorldKey) (f : Function) (t : ValueType) → Contains (function_types f) t → Contains (referred_among ((k, item.Function f) ∷ [])) t
 function-referred k f t c = Contains-append_left (function_types f) [] t c
@@ -85,23 +88,16 @@ type-referred k id t c = c
 
 -- what some of them ask for, where they do
 asked-front : (r : Resolve) (es fs : List Entry) (n t : ℕ) → IsAskedBehind r es n t → IsAskedBehind r (es ++ fs) n t
-asked-front r es fs n t a = record {
-  before = a.before;
-  entry = a.entry;
-  behind = a.behind ++ fs;
-  are = ap (λ (xs : List Entry). xs ++ fs) a.are ∙ append_assoc a.before (a.entry ∷ a.behind) fs;
-  place = a.place;
-  asked = a.asked;
-}
+asked-front r es fs n t a =
+    let are = ap (λ (xs : List Entry). xs ++ fs) a.are ∙ append_assoc a.before (a.entry ∷ a.behind) fs in
+    record { before = a.before; entry = a.entry; behind = a.behind ++ fs; are = are; place = a.place; asked = a.asked }
 
 -- the aliases behind one entry more: the new ones are of types that it asks for
 asked-more : {r : Resolve} {count count' : ℕ} {a a' : Around} {ms : List ℕ} (es : List Entry) (x : Entry) (k : KeepsAliases r count a (interfaces_among es))
-    (b : KeepsBehind r count' a' ms (map place_and_number k.has.made) (length (interfaces_among es)))
-    → ((y : PlacedAlias) → Contains k.has.made y → IsAskedBehind r es y.0 y.1.number.0)
-    → ((t : ℕ) → is_some (known_slot a'.known t) ≡ true → (is_some (known_slot a.known t) ≡ true) ⊎ IsAskedBy r x t)
-    → (y : PlacedAlias) → Contains b.keeps.has.made y → IsAskedBehind r (es ++ x ∷ []) y.0 y.1.number.0
-asked-more {r} {a = a} {a' = a'} es x k b old new y c =
-    elim (Contains-append_cases (map place_and_number k.has.made) b.more (place_and_number y)
+    (b : KeepsBehind r count' a' ms (map place_and_number k.has.made) (length (interfaces_among es))) → ((y : PlacedAlias) → Contains k.has.made y → IsAskedBehind r es y.0 y.1.number.0)
+    → ((t : ℕ) → is_some (known_slot a'.known t) ≡ true → (is_some (known_slot a.known t) ≡ true) ⊎ IsAskedBy r x t) → (y : PlacedAlias) → Contains b.keeps.has.made y
+    → IsAskedBehind r (es ++ x ∷ []) y.0 y.1.number.0
+asked-more {r} {a = a} {a' = a'} es x k b old new y c = elim (Contains-append_cases (map place_and_number k.has.made) b.more (place_and_number y)
     (subst (λ (zs : List (ℕ × ℕ)). Contains zs (place_and_number y)) b.are (contains-map place_and_number b.keeps.has.made y c))) [
       | inl front ↦ (let z = from-map place_and_number k.has.made (place_and_number y) front in
           subst (λ (p : ℕ × ℕ). IsAskedBehind r (es ++ x ∷ []) p.0 p.1) z.2 (asked-front r es (x ∷ []) z.0.0 z.0.1.number.0 (old z.0 z.1)))
@@ -119,7 +115,7 @@ from-wider h l = record { only = only-more (λ n x. (x.0, h x.0 x.1, x.2)) l.onl
 module _ (r : Resolve) (e e' : WorldEncoder) (es : List Entry) (h : HasDefined r e es) (x : Entry) (fs : List Function) (ts : List ValueType)
     (brings : functions_among (x ∷ []) ≡ fs) (refers : (t : ValueType) → Contains ts t → Contains (referred_among (x ∷ [])) t) where
   learns-more : LearnsFrom r None ts e.maps e'.maps → LearnsFrom r None (referred_among (es ++ x ∷ [])) h.began e'.maps
-  learns-more l = from-wider (λ t c. elim (Contains-append_cases (referred_among es) ts t c) [ inl a ↦ referred-front es (x ∷ []) t a | inr b ↦ referred-behind es (x ∷ []) t (refers t b) ])
+  learns-more l = from-wider (λ t c. elim (Contains-append_cases (referred_among es) ts t c) [ inl a ↦ referred-both es (x ∷ []) t (inl a) | inr b ↦ referred-both es (x ∷ []) t (inr (refers t b)) ])
       (from-then refl h.learns l)
 
   -- an item, with the instance type of its interface, if it is one
@@ -156,10 +152,11 @@ module _ (r : Resolve) (e e' : WorldEncoder) (es : List Entry) (h : HasDefined r
       (subst (λ (is : List ℕ). AllZip (DefinesInterface r) is (instances_declared e'.outer)) (sym same) (subst (AllZip (DefinesInterface r) (interfaces_among es)) (sym stays) h.inside))
       (subst (λ (is : List ℕ). KeepsBehind r e'.instances (world_around e') is (map place_and_number h.keeps.has.made) (length (interfaces_among es))) (sym same) keeps) (asks-more met)
 
--- an import or an export of an item is no definition
-pub towards-value : (direction : Direction) (name : ExternName) (described : ComponentTypeRef) → is_value_type (declared_towards direction name described) ≡ false
-towards-value import_ name described = refl
-towards-value export_ name described = refl
+-- an import or an export of an item is no definition and no alias
+pub towards-plain : (direction : Direction) (name : ExternName) (described : ComponentTypeRef)
+    → (is_value_type (declared_towards direction name described) ≡ false) × (alias_in (declared_towards direction name described) ≡ [])
+towards-plain import_ name described = (refl, refl)
+towards-plain export_ name described = (refl, refl)
 
 pub towards-target : (direction : Direction) (name : ExternName) (described : ComponentTypeRef) → described_slot described ≡ None → target_of (declared_towards direction name described) ≡ None
 towards-target import_ name described e = e
@@ -176,9 +173,25 @@ counts-declared test outer d e = count-more test outer d ∙ none (count_declare
     none n false q = omega arith
     none n true q = absurd cc
 
-pub towards-alias : (direction : Direction) (name : ExternName) (described : ComponentTypeRef) → alias_in (declared_towards direction name described) ≡ []
-towards-alias import_ name described = refl
-towards-alias export_ name described = refl
+-- where it has no room its name doesn't fit, or there are too many declarations
+pub by-name : {Q : Type 0} (direction : Direction) (name : ExternName) (described : ComponentTypeRef) (outer : Declarations) → described_slots described ≡ 0 → (fits_name name ≡ false → Q)
+    → (limit ≤ declaration_count outer → Q) → LacksDeclaration outer (declared_towards direction name described) → Q
+by-name {Q} direction name described outer none unfit over refused = go (fits_name name) refl (towards direction refused)
+  where
+    towards : (direction : Direction) → LacksDeclaration outer (declared_towards direction name described) → (fits_name name && fits_added outer (described_slots described)) ≡ false
+    towards import_ g = g
+    towards export_ g = g
+
+    go : (b : Bool) → fits_name name ≡ b → (b && fits_added outer (described_slots described)) ≡ false → Q
+    go false u g = unfit u
+    go true u g = over (counts-refused (declaration_count outer) (type_slots_of outer + described_slots described) (omega (arith, outer-slots-few outer, none)) g)
+
+-- what an instance type of an interface defines
+pub defines-own : (r : Resolve) (a a' : Around) (i : InterfaceId) (def : Interface) (k : ℕ) → interface_at r i.0 ≡ Some def → (encodes : EncodesInterface r a a' i def k)
+    → DefinesInterface r i.0 (encodes.part.before.declared, from_list encodes.part.declared)
+defines-own r a a' i def k there encodes =
+    let p = encodes.part in
+    record { def = def; there = there; declarations = p.declared; is = refl; ordered = p.is_instance; function_types = p.function_types; value_types = p.value_types; few = p.few; places = p.places }
 
 -- ---- the calls
 
@@ -207,23 +220,20 @@ function-defined r e e' es scope own k i f is key n direction name outer h once 
     let x : Entry = (k, item.Function f) in
     let next : WorldEncoder = record e' { outer = outer } in
     let d = declared_towards direction name (refs.Func n) in
-    let values_ : value_slots outer ≡ value_slots e'.outer = ap value_slots made ∙ slots-kept is_value_type e'.outer d (towards-value direction name (refs.Func n)) in
+    let values_ : value_slots outer ≡ value_slots e'.outer = ap value_slots made ∙ slots-kept is_value_type e'.outer d (towards-plain direction name (refs.Func n)).0 in
     let targets_ : targets_of outer ≡ targets_of e'.outer = ap targets_of made ∙ targets-kept e'.outer d (towards-target direction name (refs.Func n) refl) in
     let functions_ : function_slots outer ≡ function_slots e'.outer = ap function_slots made ∙ slots-kept is_function_type e'.outer d (towards-function direction name (refs.Func n)) in
     subst (λ (j : WorldItem). HasDefined r next (es ++ (k, j) ∷ [])) (sym is)
-    (defines-more r e next es h x (f ∷ []) (function_types f) refl (function-referred k f)
-    (adds-alike (sym own) refl refl refl refl values_ targets_ functions_ (adds-function key n f is_key once a))
+    (defines-more r e next es h x (f ∷ []) (function_types f) refl (function-referred k f) (adds-alike (sym own) refl refl refl refl values_ targets_ functions_ (adds-function key n f is_key once a))
     (from-met r None (function_types f) e.maps e'.maps learns) refl (ap instances_declared made ∙ (instances-kept e'.outer d ∙ stays))
-    (keeps-plain r e'.instances (interfaces_among es) (map place_and_number h.keeps.has.made) (world_around e') outer d made (towards-alias direction name (refs.Func n))
+    (keeps-plain r e'.instances (interfaces_among es) (map place_and_number h.keeps.has.made) (world_around e') outer d made (towards-plain direction name (refs.Func n)).1
     (no-function-name direction name n) (keeps-on r e e' (function_types f) goes (interfaces_among es) h.keeps)) goes.imports)
 
 -- a type
 pub type-defined : (r : Resolve) (e e' : WorldEncoder) (es : List Entry) (scope : Scope) → scope.own_interface ≡ None → (k : WorldKey) (i : WorldItem) (id : TypeId) → i ≡ item.Type_ id
-    → HasDefined r e es
-    → AddsTypes r scope e.maps e'.maps (world_definitions e.outer) (world_definitions e'.outer) → LearnsMet r None (ty.Id id ∷ []) e.maps e'.maps
+    → HasDefined r e es → AddsTypes r scope e.maps e'.maps (world_definitions e.outer) (world_definitions e'.outer) → LearnsMet r None (ty.Id id ∷ []) e.maps e'.maps
     → instances_declared e'.outer ≡ instances_declared e.outer → GoesOnMet r e e' (ty.Id id ∷ []) → HasDefined r e' (es ++ (k, i) ∷ [])
-type-defined r e e' es scope own k i id is h a learns stays goes =
-    subst (λ (j : WorldItem). HasDefined r e' (es ++ (k, j) ∷ [])) (sym is)
+type-defined r e e' es scope own k i id is h a learns stays goes = subst (λ (j : WorldItem). HasDefined r e' (es ++ (k, j) ∷ [])) (sym is)
     (defines-more r e e' es h (k, item.Type_ id) [] (ty.Id id ∷ []) refl (type-referred k id) (adds-alike (sym own) refl refl refl refl refl refl refl (adds-types a))
     (from-met r None (ty.Id id ∷ []) e.maps e'.maps learns) refl stays (keeps-on r e e' (ty.Id id ∷ []) goes (interfaces_among es) h.keeps) goes.imports)
 
@@ -305,15 +315,6 @@ count-both es fs =
     ap length (filter_map-append _ es fs) ∙ length-append (functions_among es) (functions_among fs) in
     omega (arith, a, ap length (flat_map-append _ es fs) ∙ length-append (interfaces_among es) (interfaces_among fs))
 
--- the entries of the world are those that have been encoded, the next one, and others
-pub next-among : (r : Resolve) (w : World) (direction : Direction) (done : Entries) (x : Entry) → IsNext r w direction done x → (rest : List Entry) × (entries_in w ≡ all_done done ++ x ∷ rest)
-next-among r w import_ done x n =
-    let same : done.0 ≡ all_done done = sym (append-nil done.0) ∙ ap (λ es. done.0 ++ es) (sym n.begun) in
-    (n.rest ++ w.exports.entries, ap (λ es. es ++ w.exports.entries) n.next ∙ (append_assoc done.0 (x ∷ n.rest) w.exports.entries ∙ ap (λ es. es ++ (x ∷ (n.rest ++ w.exports.entries))) same))
-next-among r w export_ done x n =
-    let same : w.imports.entries ++ done.1 ≡ all_done done = ap (λ es. es ++ done.1) (sym n.begun) in
-    (n.rest, ap (λ es. w.imports.entries ++ es) n.next ∙ (sym (append_assoc w.imports.entries done.1 (x ∷ n.rest)) ∙ ap (λ es. es ++ (x ∷ n.rest)) same))
-
 -- ---- numbers, each once
 
 below-apart : (n m : ℕ) → n ≤ m → (k : ℕ) → Contains (below n) k → nat_eq m k ≡ false
@@ -356,7 +357,7 @@ module _ (r : Resolve) (a : Around) (interfaces : List ℕ) (listed : (i : ℕ) 
 -- ---- what is met
 
 met-front : (r : Resolve) (es fs : List Entry) (n : ℕ) → IsMetAmong r es n → IsMetAmong r (es ++ fs) n
-met-front r es fs n m = (m.0, referred-front es fs m.0 m.1, m.2)
+met-front r es fs n m = (m.0, referred-both es fs m.0 (inl m.1), m.2)
 
 type-front : (r : Resolve) (es fs : List Entry) (n : ℕ) → IsTypeAmong r es n → IsTypeAmong r (es ++ fs) n
 type-front r es fs n t = record {
@@ -370,29 +371,22 @@ type-front r es fs n t = record {
 
 -- what is known of a world so far has been met
 known-met : (r : Resolve) (e : WorldEncoder) (es : List Entry) → HasDefined r e es → (n : ℕ) → IsKnown e.maps n → IsMetAmong r es n
-known-met r e es h n known = elim (h.learns.only.each n known.0 known.1) [
-  | inl c ↦ none-in (n, known.0) (subst (λ (xs : List (ℕ × ℕ)). Contains xs (n, known.0)) h.no_numbers c)
-  | inr m ↦ m
-]
+known-met r e es h n known = learnt-all (IsMetAmong r es) h.began e.maps h.no_numbers h.learns.only n known
 
 -- ---- one item more
 
 -- a call leaves the interfaces that are listed
-same-listed : (e e' : WorldEncoder) (es : List Entry) → e'.foreign.instances.entries ≡ e.foreign.instances.entries
+listed-on : (e e' : WorldEncoder) (es fs : List Entry) → e'.foreign.instances.entries ≡ e.foreign.instances.entries
     → ((i : ℕ) → is_some (known_instance e.foreign.instances.entries i) ≡ true → Contains (interfaces_among es) i)
-    → (i : ℕ) → is_some (known_instance e'.foreign.instances.entries i) ≡ true → Contains (interfaces_among es) i
-same-listed e e' es same listed i h = listed i (ap (λ xs. is_some (known_instance xs i)) (sym same) ∙ h)
-
-listed-front : (e : WorldEncoder) (es fs : List Entry) → ((i : ℕ) → is_some (known_instance e.foreign.instances.entries i) ≡ true → Contains (interfaces_among es) i)
-    → (i : ℕ) → is_some (known_instance e.foreign.instances.entries i) ≡ true → Contains (interfaces_among (es ++ fs)) i
-listed-front e es fs listed i h = subst (λ is. Contains is i) (sym (flat_map-append _ es fs)) (Contains-append_left (interfaces_among es) (interfaces_among fs) i (listed i h))
+    → (i : ℕ) → is_some (known_instance e'.foreign.instances.entries i) ≡ true → Contains (interfaces_among (es ++ fs)) i
+listed-on e e' es fs same listed i h =
+    subst (λ is. Contains is i) (sym (interfaces-more es fs)) (Contains-append_left (interfaces_among es) (interfaces_among fs) i (listed i (ap (λ xs. is_some (known_instance xs i)) (sym same) ∙ h)))
 
 -- how much a call leaves, beside the aliases that there are
 held-after : (r p p' : Resolve) (e e' : WorldEncoder) (es : List Entry) (n : ℕ) → p ≡ r → p' ≡ r → HoldsFew r e es → length e'.maps.func_type_map.entries ≤ length e.maps.func_type_map.entries + n
     → HoldsFor r None e.maps e'.maps (held_beside p (world_around e)) (held_beside p' (world_around e')) 0
     → declaration_count e'.outer ≤ 2 * length e'.maps.id_to_index.entries + (length (brought_numbers r (world_around e')) + (2 * count_among es + n))
-held-after r p p' e e' es n q q' h keys f =
-    omega (arith, ap (λ z. held_beside z (world_around e)) q, ap (λ z. held_beside z (world_around e')) q', h.held, holds-few n keys f)
+held-after r p p' e e' es n q q' h keys f = omega (arith, ap (λ z. held_beside z (world_around e)) q, ap (λ z. held_beside z (world_around e')) q', h.held, holds-few n keys f)
 
 -- the type of a function brings one key at most
 pub one-key : {r : Resolve} {scope : Scope} {m m' : TypeEncodingMaps} {d d' : Definitions} {key : FunctionKey} {i : ℕ} → AddsFunction r scope m m' d d' key i
@@ -405,27 +399,22 @@ one-key {r} {scope} {m} {m'} a = elim a.keys [
 -- a function: its type, and then its import or export
 pub function-few : (r p p' : Resolve) (e e' : WorldEncoder) (es : List Entry) (k : WorldKey) (i : WorldItem) (f : Function) (direction : Direction) (name : ExternName) (described : ComponentTypeRef)
     (outer : Declarations) → i ≡ item.Function f → p ≡ r → p' ≡ r → e'.foreign.instances.entries ≡ e.foreign.instances.entries → HoldsFew r e es
-    → length e'.maps.func_type_map.entries ≤ length e.maps.func_type_map.entries + 1
-    → HoldsFor r None e.maps e'.maps (held_beside p (world_around e)) (held_beside p' (world_around e')) 0 → outer ≡ declared_after e'.outer (declared_towards direction name described)
-    → HoldsFew r (record e' { outer = outer }) (es ++ (k, i) ∷ [])
+    → length e'.maps.func_type_map.entries ≤ length e.maps.func_type_map.entries + 1 → HoldsFor r None e.maps e'.maps (held_beside p (world_around e)) (held_beside p' (world_around e')) 0
+    → outer ≡ declared_after e'.outer (declared_towards direction name described) → HoldsFew r (record e' { outer = outer }) (es ++ (k, i) ∷ [])
 function-few r p p' e e' es k i f direction name described outer is q q' same h keys held made =
     subst (λ (j : WorldItem). HoldsFew r (record e' { outer = outer }) (es ++ (k, j) ∷ [])) (sym is) (record {
-      listed = listed-front e' es ((k, item.Function f) ∷ []) (same-listed e e' es same h.listed);
-      held =
-          (let x = held-after r p p' e e' es 1 q q' h keys held in
-          omega (arith, x, outer-pushed e'.outer outer (declared_towards direction name described) made, count-both es ((k, item.Function f) ∷ [])));
+      listed = listed-on e e' es ((k, item.Function f) ∷ []) same h.listed;
+      held = omega (arith, held-after r p p' e e' es 1 q q' h keys held, outer-pushed e'.outer outer (declared_towards direction name described) made, count-both es ((k, item.Function f) ∷ []));
     })
 
 -- a type
 pub type-few : (r p p' : Resolve) (e e' : WorldEncoder) (es : List Entry) (k : WorldKey) (i : WorldItem) (id : TypeId) → i ≡ item.Type_ id → p ≡ r → p' ≡ r
-    → e'.foreign.instances.entries ≡ e.foreign.instances.entries
-    → HoldsFew r e es → e'.maps.func_type_map.entries ≡ e.maps.func_type_map.entries → HoldsFor r None e.maps e'.maps (held_beside p (world_around e)) (held_beside p' (world_around e')) 0
-    → HoldsFew r e' (es ++ (k, i) ∷ [])
-type-few r p p' e e' es k i id is q q' same h keys held =
-    subst (λ (j : WorldItem). HoldsFew r e' (es ++ (k, j) ∷ [])) (sym is) (record {
-      listed = listed-front e' es ((k, item.Type_ id) ∷ []) (same-listed e e' es same h.listed);
-      held = omega (arith, held-after r p p' e e' es 0 q q' h (omega (arith, ap length keys)) held, count-both es ((k, item.Type_ id) ∷ []));
-    })
+    → e'.foreign.instances.entries ≡ e.foreign.instances.entries → HoldsFew r e es → e'.maps.func_type_map.entries ≡ e.maps.func_type_map.entries
+    → HoldsFor r None e.maps e'.maps (held_beside p (world_around e)) (held_beside p' (world_around e')) 0 → HoldsFew r e' (es ++ (k, i) ∷ [])
+type-few r p p' e e' es k i id is q q' same h keys held = subst (λ (j : WorldItem). HoldsFew r e' (es ++ (k, j) ∷ [])) (sym is) (record {
+  listed = listed-on e e' es ((k, item.Type_ id) ∷ []) same h.listed;
+  held = omega (arith, held-after r p p' e e' es 0 q q' h (omega (arith, ap length keys)) held, count-both es ((k, item.Type_ id) ∷ []));
+})
 
 -- nothing is held by a new encoder
 pub none-held : (r : Resolve) (e : WorldEncoder) → e.outer ≡ Declarations.no_more → e.foreign.instances.entries ≡ [] → HoldsFew r e []
@@ -448,7 +437,7 @@ module _ (r : Resolve) (w : World) (e : WorldEncoder) (done : Entries) (directio
 
   met-here : (ts : List ValueType) → ((t : ValueType) → Contains ts t → Contains (referred_among (x ∷ [])) t) → (m : ℕ) → ReachedFrom r None ts m → IsMetAmong r all m
   met-here ts refers m reached = subst (λ (ys : List Entry). IsMetAmong r ys m) (sym among.1)
-      (reached.0, referred-behind es (x ∷ among.0) reached.0 (referred-front (x ∷ []) among.0 reached.0 (refers reached.0 reached.1)), reached.2)
+      (reached.0, referred-both es (x ∷ among.0) reached.0 (inr (referred-both (x ∷ []) among.0 reached.0 (inl (refers reached.0 reached.1)))), reached.2)
 
   brought-all : (a : Around) → a.instances ≡ e.foreign.instances.entries → AreSome (IsTypeAmong r all) (brought_numbers r a)
   brought-all a same =
@@ -461,13 +450,9 @@ module _ (r : Resolve) (w : World) (e : WorldEncoder) (done : Entries) (directio
   -- the component type is full
   pub full : (a : Around) → a.instances ≡ e.foreign.instances.entries → (met : List ℕ) → AllPairs (λ x y. nat_eq x y ≡ false) met → ((m : ℕ) → Contains met m → IsMetAmong r all m)
       → declaration_count a.declared ≤ 2 * length met + (length (brought_numbers r a) + 2 * (count_among es + count_among (x ∷ []))) → limit ≤ declaration_count a.declared → WorldLacksRoom r w
-  full a same met apart are held over = too_many (record {
-    met = met;
-    brought = brought_numbers r a;
-    are_met = record { different = apart; all = are };
-    are_brought = brought-all a same;
-    many = omega (arith, held, over, counted);
-  })
+  full a same met apart are held over = too_many (
+      let brought = brought_numbers r a in
+      record { met = met; brought = brought; are_met = record { different = apart; all = are }; are_brought = brought-all a same; many = omega (arith, held, over, counted) })
 
   module _ (e' : WorldEncoder) (same : e'.foreign.instances.entries ≡ e.foreign.instances.entries) where
     -- what is asked for doesn't fit, or the component type is full
@@ -481,10 +466,7 @@ module _ (r : Resolve) (w : World) (e : WorldEncoder) (done : Entries) (directio
           overfull over = full (world_around e') same (known-numbers e.maps ++ f.numbers)
               (pairs-both (λ x y. nat_eq x y ≡ false) (known-numbers e.maps) f.numbers (known-once e.maps once) (are-different r None f.numbers f.new.apart)
               (λ a b c g. unknown-apart e.maps a b (known-number e.maps a c) (f.new.unknown b g)))
-              (λ m c. elim (Contains-append_cases (known-numbers e.maps) f.numbers m c) [
-                | inl a ↦ met-before m (known-number e.maps m a)
-                | inr b ↦ met-here ts refers m (f.met m b)
-              ])
+              (λ m c. elim (Contains-append_cases (known-numbers e.maps) f.numbers m c) [ inl a ↦ met-before m (known-number e.maps m a) | inr b ↦ met-here ts refers m (f.met m b) ])
               (let before : held_beside p (world_around e) ≡ held_beside r (world_around e) = ap (λ z. held_beside z (world_around e)) q in
               let after : held_beside p' (world_around e') ≡ held_beside r (world_around e') = ap (λ z. held_beside z (world_around e')) q' in
               let a = length-append (known-numbers e.maps) f.numbers in
@@ -504,74 +486,40 @@ module _ (r : Resolve) (w : World) (e : WorldEncoder) (done : Entries) (directio
           by (a_type m def c at l) = part m def (met-here ts refers m (f.met m c)) at l
           by (a_request a c l) = either a (unfit a c) l
 
-    -- a name doesn't fit, or the component type is full behind what a call has left
-    pub name-lacks : (p p' : Resolve) → p ≡ r → p' ≡ r → (ts : List ValueType) → ((t : ValueType) → Contains ts t → Contains (referred_among (x ∷ [])) t) → (k : ℕ) → k ≤ 2 * count_among (x ∷ [])
-        → length e'.maps.func_type_map.entries ≤ length e.maps.func_type_map.entries + k → IsOnce e'.maps
-        → LearnsMet r None ts e.maps e'.maps → HoldsFor r None e.maps e'.maps (held_beside p (world_around e)) (held_beside p' (world_around e')) 0 → (fits : Bool) (slots : ℕ)
-        → slots ≤ declaration_count e'.outer + 1
-        → (fits ≡ false → WorldLacksRoom r w) → (fits && fits_counts (declaration_count e'.outer + 1) slots) ≡ false → WorldLacksRoom r w
-    name-lacks p p' q q' ts refers k few keys once learns held fits slots low unfit refused = by fits refl refused
-      where
-        met-after : (m : ℕ) → IsKnown e'.maps m → IsMetAmong r all m
-        met-after m known = elim ((only-reached r None ts learns.only).each m known.0 known.1) [
-          | inl c ↦ met-before m (known.0, c)
-          | inr reached ↦ met-here ts refers m reached
-        ]
-
-        overfull : limit ≤ declaration_count e'.outer → WorldLacksRoom r w
-        overfull over = full (world_around e') same (known-numbers e'.maps) (known-once e'.maps once) (λ m c. met-after m (known-number e'.maps m c))
-            (omega (arith, held-after r p p' e e' es k q q' h keys held, length-map e'.maps.id_to_index.entries (λ (y : ℕ × ℕ). y.0), few))
-            over
-
-        by : (b : Bool) → fits ≡ b → (b && fits_counts (declaration_count e'.outer + 1) slots) ≡ false → WorldLacksRoom r w
-        by false e g = unfit e
-        by true e g = overfull (counts-refused (declaration_count e'.outer) slots low g)
-
 -- ---- the calls
 
 pub function-lacks : (r p p' : Resolve) (w : World) (e e' : WorldEncoder) (done : Entries) (direction : Direction) (k : WorldKey) (i : WorldItem) (f : Function) → i ≡ item.Function f
-    → IsNext r w direction done (k, i)
-    → HasDefined r e (all_done done) → HoldsFew r e (all_done done) → e'.foreign.instances.entries ≡ e.foreign.instances.entries → IsOnce e.maps → p ≡ r → p' ≡ r
+    → IsNext r w direction done (k, i) → HasDefined r e (all_done done) → HoldsFew r e (all_done done) → e'.foreign.instances.entries ≡ e.foreign.instances.entries → IsOnce e.maps → p ≡ r → p' ≡ r
     → FindsNoRoom r None (function_types f) (function_type (signature_of r f) ∷ []) 1 e.maps (held_beside p (world_around e)) (held_beside p' (world_around e'))
     (LacksRoomBehind p' (declaration_count e'.outer)) → WorldLacksRoom r w
 function-lacks r p p' w e e' done direction k i f is n d h same once q q' lacks =
     let m : IsNext r w direction done (k, item.Function f) = subst (λ (j : WorldItem). IsNext r w direction done (k, j)) is n in
-    let among = next-among r w direction done (k, item.Function f) m in
     call-lacks r w e done direction (k, item.Function f) m d h e' same once p p' q q' (function_types f) (function-referred k f) (function_type (signature_of r f) ∷ []) 1 (omega arith)
-    (λ a c u. a_function f (subst (λ (ys : List Entry). Contains (functions_among ys) f) (sym among.1) (functions-there (all_done done) among.0))
-    (subst (IsUnfit r) (sym (one-contained (function_type (signature_of r f)) a c)) u))
-    lacks
-  where
-    functions-there : (es rest : List Entry) → Contains (functions_among (es ++ (k, item.Function f) ∷ rest)) f
-    functions-there es rest = subst (λ (fs : List Function). Contains fs f) (sym (filter_map-append _ es ((k, item.Function f) ∷ rest)))
-        (Contains-append_right (functions_among es) (f ∷ functions_among rest) f (0, omega arith, refl))
+    (λ a c u. a_function f (contains-filter_map (λ (e : Entry). item_function e.1) (entries_in w) (k, item.Function f) f (next-entry r w direction done (k, item.Function f) m) (contains-one f))
+    (subst (IsUnfit r) (sym (one-contained (function_type (signature_of r f)) a c)) u)) lacks
 
 pub function-name-lacks : (r p p' : Resolve) (w : World) (e e' : WorldEncoder) (done : Entries) (direction : Direction) (canonical : Bool) (k : WorldKey) (i : WorldItem) (f : Function)
-    (name : ExternName) (index : ℕ) → i ≡ item.Function f
-    → IsNext r w direction done (k, i) → HasDefined r e (all_done done) → HoldsFew r e (all_done done) → e'.foreign.instances.entries ≡ e.foreign.instances.entries → IsOnce e'.maps → p ≡ r → p' ≡ r
-    → length e'.maps.func_type_map.entries ≤ length e.maps.func_type_map.entries + 1 → LearnsMet r None (function_types f) e.maps e'.maps
-    → HoldsFor r None e.maps e'.maps (held_beside p (world_around e)) (held_beside p' (world_around e')) 0 → name ≡ name_of_item r canonical (k, i)
+    (name : ExternName) (index : ℕ) → i ≡ item.Function f → IsNext r w direction done (k, i) → HasDefined r e (all_done done) → HoldsFew r e (all_done done)
+    → e'.foreign.instances.entries ≡ e.foreign.instances.entries → IsOnce e'.maps → p ≡ r → p' ≡ r → length e'.maps.func_type_map.entries ≤ length e.maps.func_type_map.entries + 1
+    → LearnsMet r None (function_types f) e.maps e'.maps → HoldsFor r None e.maps e'.maps (held_beside p (world_around e)) (held_beside p' (world_around e')) 0 → name ≡ name_of_item r canonical (k, i)
     → (fits_declaration (declared_towards direction name (refs.Func index)) && fits_added e'.outer (declaration_slots (declared_towards direction name (refs.Func index)))) ≡ false → WorldLacksRoom r w
-function-name-lacks r p p' w e e' done direction canonical k i f name index is n d h same once q q' keys learns held named refused =
-    let m : IsNext r w direction done (k, item.Function f) = subst (λ (j : WorldItem). IsNext r w direction done (k, j)) is n in
-    let among = next-among r w direction done (k, item.Function f) m in
-    name-lacks r w e done direction (k, item.Function f) m d h e' same p p' q q' (function_types f) (function-referred k f) 1 (omega arith) keys once learns held (fits_name name)
-    (type_slots_of e'.outer + 0) (omega (arith, outer-slots-few e'.outer))
-    (λ u. a_name canonical (k, item.Function f) (subst (λ (ys : List Entry). Contains ys (k, item.Function f)) (sym among.1) (there (all_done done) among.0)) refl
-    (ap fits_name (sym (named ∙ ap (λ (j : WorldItem). name_of_item r canonical (k, j)) is)) ∙ u)) (towards direction refused)
+function-name-lacks r p p' w e e' done direction canonical k i f name index is n d h same once q q' keys learns held named refused = by-name direction name (refs.Func index) e'.outer refl
+    (λ u. a_name canonical (k, item.Function f) (next-entry r w direction done (k, item.Function f) next) refl
+    (ap fits_name (sym (named ∙ ap (λ (j : WorldItem). name_of_item r canonical (k, j)) is)) ∙ u))
+    (full r w e done direction (k, item.Function f) next d h (world_around e') same (known-numbers e'.maps) (known-once e'.maps once) (λ m c. met-after m (known-number e'.maps m c))
+    (omega (arith, held-after r p p' e e' (all_done done) 1 q q' h keys held, length-map e'.maps.id_to_index.entries (λ (y : ℕ × ℕ). y.0)))) refused
   where
-    there : (es rest : List Entry) → Contains (es ++ (k, item.Function f) ∷ rest) (k, item.Function f)
-    there es rest = Contains-append_right es ((k, item.Function f) ∷ rest) (k, item.Function f) (0, omega arith, refl)
+    next : IsNext r w direction done (k, item.Function f)
+    next = subst (λ (j : WorldItem). IsNext r w direction done (k, j)) is n
 
-    towards : (direction : Direction)
-        → (fits_declaration (declared_towards direction name (refs.Func index)) && fits_added e'.outer (declaration_slots (declared_towards direction name (refs.Func index)))) ≡ false
-        → (fits_name name && fits_counts (declaration_count e'.outer + 1) (type_slots_of e'.outer + 0)) ≡ false
-    towards import_ g = g
-    towards export_ g = g
+    met-after : (m : ℕ) → IsKnown e'.maps m → IsMetAmong r (entries_in w) m
+    met-after m known = elim ((only-reached r None (function_types f) learns.only).each m known.0 known.1) [
+      | inl c ↦ met-before r w e done direction (k, item.Function f) next d h m (known.0, c)
+      | inr reached ↦ met-here r w e done direction (k, item.Function f) next d h (function_types f) (function-referred k f) m reached
+    ]
 
 pub type-lacks : (r p p' : Resolve) (w : World) (e e' : WorldEncoder) (done : Entries) (direction : Direction) (k : WorldKey) (i : WorldItem) (id : TypeId) → i ≡ item.Type_ id
-    → IsNext r w direction done (k, i)
-    → HasDefined r e (all_done done) → HoldsFew r e (all_done done) → e'.foreign.instances.entries ≡ e.foreign.instances.entries → IsOnce e.maps → p ≡ r → p' ≡ r
+    → IsNext r w direction done (k, i) → HasDefined r e (all_done done) → HoldsFew r e (all_done done) → e'.foreign.instances.entries ≡ e.foreign.instances.entries → IsOnce e.maps → p ≡ r → p' ≡ r
     → FindsNoRoom r None (ty.Id id ∷ []) [] 0 e.maps (held_beside p (world_around e)) (held_beside p' (world_around e')) (LacksRoomBehind p' (declaration_count e'.outer)) → WorldLacksRoom r w
 type-lacks r p p' w e e' done direction k i id is n d h same once q q' lacks =
     let m : IsNext r w direction done (k, item.Type_ id) = subst (λ (j : WorldItem). IsNext r w direction done (k, j)) is n in
@@ -588,18 +536,10 @@ filters-more p q h xs = omega (arith, length-filter p xs, length-filter q xs, su
     each true true h = omega arith
     each true false h = cc (h refl)
 
--- a type that has an alias keeps one
-known-kept : (n t m : ℕ) (es : List (ℕ × ℕ)) → known_slot es n ≡ None → is_some (known_slot es m) ≡ true → is_some (known_slot (insert_entry nat_cmp es n t) m) ≡ true
-known-kept n t m es none there = elim (cases_Bool (is_at (nat_cmp m) n)) [
-  | inl same ↦ (ap is_some (ap (known_slot (insert_entry nat_cmp es n t)) (at-same m n same) ∙ new-slot n t es none))
-  | inr other ↦ ap is_some (other-slot n t m es other none) ∙ there
-]
-
 pub brought-kept : (r : Resolve) (a : Around) (x : Aliased) → IsAlias r a x → (m : ℕ) → is_brought r a m ≡ true → is_brought r (with_alias a x) m ≡ true
-brought-kept r a x is m h =
-    both (is_some (known_slot (with_alias a x).known m)) (option_map_or (is_of_listed a.instances) (type_at r m) false)
-    (known-kept x.number.0 (type_slots_of a.declared) m a.known is.first (first_true (is_some (known_slot a.known m)) _ h))
-    (second_true (is_some (known_slot a.known m)) _ h)
+brought-kept r a x is m h = both (is_some (known_slot (with_alias a x).known m)) (option_map_or (is_of_listed a.instances) (type_at r m) false)
+    (slot-there (known_slot (with_alias a x).known m) (known-kept x.number.0 (type_slots_of a.declared) m a.known
+    (there-slot (known_slot a.known m) (first_true (is_some (known_slot a.known m)) _ h)))) (second_true (is_some (known_slot a.known m)) _ h)
 
 -- a call that makes one alias at most
 pub reached-beside : {r : Resolve} {id : TypeId} {a a' : Around} → ReachesAround r id a a' → held_beside r a' ≤ held_beside r a + 1

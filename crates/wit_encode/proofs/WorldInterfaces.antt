@@ -1,7 +1,7 @@
 -- An interface of a world, imported or exported behind what has been: its instance type shows it, and from then on its instance stands.
 use Rattle.std.proofs.Common.{rules as std_rules, ◌≡◌, refl, sym, subst, ap, ◌∙◌, append-nil, ℕ, ◌≤◌, inl, inr, Bool, true, if◌then◌else◌, List, [], ◌∷◌, ◌++◌, length, arith, ◌+◌, ◌<◌, ◌⊎◌, nat_cmp, false, ◌&&◌, length-append, Option, Some, option_to_list}
-use Rattle.std.proofs.lemmas.{Cmp.nat_cmp_total, List.Concat.flat_map-append, Slice.Zip.AllZip-long, Bool.and_from as both}
-use Rattle.std.proofs.lemmas.List.Elements.{Contains-append_cases, Contains-append_left, Contains-append_right, filter_map-append}
+use Rattle.std.proofs.lemmas.{Cmp.nat_cmp_total, List.Concat.flat_map-append, Slice.Zip.AllZip-long}
+use Rattle.std.proofs.lemmas.List.Elements.{Contains-append_cases, filter_map-append}
 use Rattle.std.specs.{List.Contains, List.list_all, BTreeMap.insert_entry, BTreeMap.is_at, Ordering.is_eq, Option.option_map_or}
 use Rattle.wit_model.specs.declared.model.{Resolve.Resolve, World.World, WorldId.WorldId, WorldKey.WorldKey, Interface.Interface, InterfaceId.InterfaceId}
 use Rattle.comp_bytes.specs.{Raw.Declarations, Raw.Declaration, Raw.append, Raw.from_list, Held.type_slots_of}
@@ -16,12 +16,14 @@ use Rattle.wit_encode.specs.{Instance.around_at, Instance.EncodesInterface, Worl
 use Rattle.wit_encode.specs.{WholeWorlds.directions_of, WrittenNames.instance_declarations, Places.GrowsBy, Encoders.declared_after}
 use Rattle.wit_encode.specs.Worlds.{WorldEncoder, is_sound_outside, world_around, world_definitions, world_scope, world_view_of, world_resources}
 use Rattle.wit_encode.specs.WorldItems.{HasShown, types_among, DefinesInstance, IsNext, ListsInstance, all_done}
-use Rattle.wit_encode.proofs.{Aliases.keeps-aliases, Places.grows-more, ImportLoop.path-in-range, UsedPaths.used-path}
+use Rattle.wit_encode.proofs.{Aliases.keeps-aliases, Places.grows-more, ImportLoop.path-in-range, UsedPaths.used-path, Directions.done-entry}
 use Rattle.wit_encode.proofs.{Directions.directions-more, Directions.keeps-both, Directions.directions-around, Directions.order-next, WorldCalls.world-imports}
 use Rattle.wit_encode.proofs.{WrittenNames.instances-left, Contents.slots-kept, Importing.importable-stands, Importing.right-more, LatestInstances.stands-then}
 use Rattle.wit_encode.proofs.WorldShown.{types-shown, entries-range, interfaces-ready, SoundOutside, sound-again, sound-outside}
 use Rattle.wit_encode.proofs.{Components.steps-count, Components.steps-instance, Components.steps-more, Components.see-slots, ImportsStand.instance-stands}
-use Rattle.wit_encode.proofs.WorldFunctions.{done_items, next-entry, next-place, nothing-brought, see-instances, stand-before}
+use Rattle.wit_encode.proofs.WorldFunctions.{done_items, next-place, nothing-brought, see-instances, stand-before}
+use Rattle.wit_encode.proofs.Directions.{done-next, next-entry}
+use Rattle.base_lemmas.proofs.Elements.{joined_well}
 use Rattle.wit_model.specs.{Text.Text, Valid.IsValid}
 use Rattle.wit_model.specs.{Lookup.interface_at, Lookup.interface_path, Rules.entries_in_range, Rules.item_in_range, Rules.key_in_range, Uses.item_interface}
 use Rattle.comp_meaning.specs.Follow.{Direction, import_, export_, Instance, Key, Seen, Slot, View, in_scope, instance_view, interface_of, new_scope, see}
@@ -62,13 +64,9 @@ module _ (r : Resolve) (w : WorldId) (count : ℕ) (maps : TypeEncodingMaps) whe
   aliases-leave a (x ∷ made) sound are =
       let one = alias-leaves a x sound are.0 in
       let rest = aliases-leave (with_alias a x) made (ap (λ (s : Scope). s.is_sound) one.scope_stays ∙ sound) are.1 in
-      record {
-        scope_stays = rest.scope_stays ∙ one.scope_stays;
-        kept = λ i m h. rest.kept i m (one.kept i m h);
-        more = omega (arith, one.more, rest.more);
-        counted = rest.counted ∙ one.counted;
-        instances = rest.instances ∙ one.instances;
-      }
+      let scope_stays = rest.scope_stays ∙ one.scope_stays in
+      let instances = rest.instances ∙ one.instances in
+      record { scope_stays = scope_stays; kept = λ i m h. rest.kept i m (one.kept i m h); more = omega (arith, one.more, rest.more); counted = rest.counted ∙ one.counted; instances = instances }
 
 -- aliases are no imports or exports
 directions-aliases : (a : Around) (made : List Aliased) → directions_of (with_aliases a made).declared ≡ directions_of a.declared ++ []
@@ -92,22 +90,17 @@ aliases-shown r w e done h outer foreign g =
     let leaves : Leaves q e.world e.instances (world_around e) (around_at outer foreign) =
     subst (Leaves q e.world e.instances (world_around e)) (sym g.is) (aliases-leave q e.world e.instances e.maps (world_around e) g.made sound g.are) in
     let same : done.0 ++ [] ≡ done.0 = append-nil done.0 in
-    let grows : Grows (world_view_of q e) (world_view_of q (with_outer e outer foreign)) =
-    record {
+    let grows : Grows (world_view_of q e) (world_view_of q (with_outer e outer foreign)) = record {
       kept = leaves.kept;
       more = leaves.more;
       around_ = around-same (λ j. record { declared = leaves.instances j; instances = []; known = [] });
-      own_ =
-          keeps-both []
-          (λ ns k. subst (λ (z : Around). KeepsListed q e.instances z ns) (sym g.is)
-          (keeps-aliases q e.instances (interfaces_in ns) (aliases_in ns) (world_around e) g.made g.are k))
+      own_ = keeps-both [] (λ ns k. subst (λ (z : Around). KeepsListed q e.instances z ns) (sym g.is) (keeps-aliases q e.instances (interfaces_in ns) (aliases_in ns) (world_around e) g.made g.are k))
           (ap (λ (z : Around). directions_of z.declared) g.is ∙ directions-aliases (world_around e) g.made)
           (λ ds k. subst (λ (z : Around). GrowsBy ds z.declared) (sym g.is) (grows-aliases ds (world_around e) g.made k));
     } in
     let left : HasShown r w (with_outer e outer foreign) (done.0 ++ [], done.1) = types-shown r w e (with_outer e outer foreign) done h leaves.scope_stays grows []
     (ap (λ d. d.exports) leaves.counted ∙ sym (append-nil (world_definitions e.outer).exports)) [] tt refl (inr refl)
-    (record { says = λ k i holds. leaves.kept i _ (h.agree.says k i holds); once = h.agree.once })
-    (λ m c. h.known m (subst (λ (es : List Entry). Contains (types_among (es ++ done.1)) m) same c))
+    (record { says = λ k i holds. leaves.kept i _ (h.agree.says k i holds); once = h.agree.once }) (λ m c. h.known m (subst (λ (es : List Entry). Contains (types_among (es ++ done.1)) m) same c))
     (λ m known. elim (h.alone m known) [ inl none ↦ inl none | inr c ↦ inr (subst (λ (es : List Entry). Contains (types_among (es ++ done.1)) m) (sym same) c) ]) in
     subst (λ (es : List Entry). HasShown r w (with_outer e outer foreign) (es, done.1)) same left
 
@@ -121,42 +114,13 @@ key-path x path = search std_rules
 
 -- ---- entries
 
-one-more : {A : Type 0} (given : List Entry → List A) → ((es gs : List Entry) → given (es ++ gs) ≡ given es ++ given gs) → (direction : Direction) (done : Entries) (x : Entry) (y : A)
-    → given (x ∷ []) ≡ y ∷ [] → length (given (all_done (with_entry direction done x))) ≡ length (given (all_done done)) + 1
-one-more given split import_ done x y one =
-    let a = ap length (split (done.0 ++ x ∷ []) done.1) ∙ length-append (given (done.0 ++ x ∷ [])) (given done.1) in
-    let b = ap length (split done.0 (x ∷ [])) ∙ length-append (given done.0) (given (x ∷ [])) in
-    omega (arith, a, b, ap length one, ap length (split done.0 done.1) ∙ length-append (given done.0) (given done.1))
-one-more given split export_ done x y one =
-    let a = ap length (split done.0 (done.1 ++ x ∷ [])) ∙ length-append (given done.0) (given (done.1 ++ x ∷ [])) in
-    let b = ap length (split done.1 (x ∷ [])) ∙ length-append (given done.1) (given (x ∷ [])) in
-    omega (arith, a, b, ap length one, ap length (split done.0 done.1) ∙ length-append (given done.0) (given done.1))
+module _ (r : Resolve) (w : World) (direction : Direction) (done : Entries) (x : Entry) (n : IsNext r w direction done x) where
+  with-next : interfaces_among (all_done (with_entry direction done x)) ≡ interfaces_among (all_done done) ++ interfaces_among (x ∷ [])
+  with-next = ap interfaces_among (done-next r w direction done x n) ∙ flat_map-append _ (all_done done) (x ∷ [])
 
--- an entry that is done is an old one or the new one
-done-cases : (direction : Direction) (done : Entries) (x : Entry) (j : ℕ) → Contains (interfaces_among (all_done (with_entry direction done x))) j → Contains (interfaces_among (all_done done)) j
-    ⊎ Contains (interfaces_among (x ∷ [])) j
-done-cases direction done x j c = by direction c
-  where
-    split : (es gs : List Entry) → interfaces_among (es ++ gs) ≡ interfaces_among es ++ interfaces_among gs
-    split es gs = flat_map-append _ es gs
-
-    left : Contains (interfaces_among done.0) j → Contains (interfaces_among (all_done done)) j
-    left d = subst (λ (ns : List ℕ). Contains ns j) (sym (split done.0 done.1)) (Contains-append_left (interfaces_among done.0) (interfaces_among done.1) j d)
-
-    right : Contains (interfaces_among done.1) j → Contains (interfaces_among (all_done done)) j
-    right d = subst (λ (ns : List ℕ). Contains ns j) (sym (split done.0 done.1)) (Contains-append_right (interfaces_among done.0) (interfaces_among done.1) j d)
-
-    by : (direction : Direction) → Contains (interfaces_among (all_done (with_entry direction done x))) j → Contains (interfaces_among (all_done done)) j ⊎ Contains (interfaces_among (x ∷ [])) j
-    by import_ c = elim (Contains-append_cases (interfaces_among (done.0 ++ x ∷ [])) (interfaces_among done.1) j (subst (λ (ns : List ℕ). Contains ns j) (split (done.0 ++ x ∷ []) done.1) c)) [
-      | inl d ↦ elim (Contains-append_cases (interfaces_among done.0) (interfaces_among (x ∷ [])) j (subst (λ (ns : List ℕ). Contains ns j) (split done.0 (x ∷ [])) d))
-          [ inl old ↦ inl (left old) | inr new ↦ inr new ]
-      | inr d ↦ inl (right d)
-    ]
-    by export_ c = elim (Contains-append_cases (interfaces_among done.0) (interfaces_among (done.1 ++ x ∷ [])) j (subst (λ (ns : List ℕ). Contains ns j) (split done.0 (done.1 ++ x ∷ [])) c)) [
-      | inl d ↦ inl (left d)
-      | inr d ↦ elim (Contains-append_cases (interfaces_among done.1) (interfaces_among (x ∷ [])) j (subst (λ (ns : List ℕ). Contains ns j) (split done.1 (x ∷ [])) d))
-          [ inl old ↦ inl (right old) | inr new ↦ inr new ]
-    ]
+  -- an entry that is done is an old one or the new one
+  done-cases : (j : ℕ) → Contains (interfaces_among (all_done (with_entry direction done x))) j → Contains (interfaces_among (all_done done)) j ⊎ Contains (interfaces_among (x ∷ [])) j
+  done-cases j c = Contains-append_cases (interfaces_among (all_done done)) (interfaces_among (x ∷ [])) j (subst (λ (ns : List ℕ). Contains ns j) with-next c)
 
 -- the interface among one entry
 pub among-one : (x : Entry) (n : ℕ) → item_interface x.1 ≡ Some n → interfaces_among (x ∷ []) ≡ n ∷ []
@@ -168,23 +132,6 @@ only-one n j x = search std_rules
 turn : (r : Resolve) (w : World) (direction : Direction) (done : Entries) (x : Entry) → IsNext r w direction done x → IsTurnOf direction done
 turn r w import_ done x n = n.begun
 turn r w export_ done x n = tt
-
--- what has been done is of the world
-done-entry : (r : Resolve) (w : World) (direction : Direction) (done : Entries) (x : Entry) → IsNext r w direction done x → (y : Entry) → Contains (all_done done) y
-    → Contains (w.imports.entries ++ w.exports.entries) y
-done-entry r w direction done x n y c = by direction n (Contains-append_cases done.0 done.1 y c)
-  where
-    front : (es : List Entry) (ds : List Entry) (rest : List Entry) → es ≡ ds ++ x ∷ rest → Contains ds y → Contains es y
-    front es ds rest e d = subst (λ (zs : List Entry). Contains zs y) (sym e) (Contains-append_left ds (x ∷ rest) y d)
-
-    empty : (es : List Entry) → es ≡ [] → Contains es y → ⊥
-    empty es e (k, l, q) = omega (arith, l, ap length e)
-
-    by : (direction : Direction) → IsNext r w direction done x → Contains done.0 y ⊎ Contains done.1 y → Contains (w.imports.entries ++ w.exports.entries) y
-    by import_ n (inl d) = Contains-append_left w.imports.entries w.exports.entries y (front w.imports.entries done.0 n.rest n.next d)
-    by import_ n (inr d) = absurd (empty done.1 n.begun d)
-    by export_ n (inl d) = Contains-append_left w.imports.entries w.exports.entries y (subst (λ (es : List Entry). Contains es y) n.begun d)
-    by export_ n (inr d) = Contains-append_right w.imports.entries w.exports.entries y (front w.exports.entries done.1 n.rest n.next d)
 
 -- ---- the instance type, and the import or export behind it
 
@@ -205,8 +152,7 @@ module _ (r : Resolve) (v : IsValid r) (w : World) (e : WorldEncoder) (done : En
 
   -- instances of the interfaces that it uses stand
   pub used-stand : UsedStand r (standing_instances r (world_around e)) i.0
-  used-stand j c =
-      importable-stands (is_sound_outside r e.world (world_around e)) (standing_instances r (world_around e)) j
+  used-stand j c = importable-stands (is_sound_outside r e.world (world_around e)) (standing_instances r (world_around e)) j
       (stand-before r v w e done h direction x n j (interfaces-ready r v e.world w h.world_ place x.1 (next-place r w direction done x n) j (uses-of r x.1 i.0 j is c)) (used-path r v i.0 j c))
 
   module _ (canonical : Bool) (ds : List Declaration) (view : View) (k : ℕ) (outer : Declarations) (followed : instance_view (home_of r i.0) (outer_slots e.outer) ds ≡ Some view)
@@ -247,12 +193,10 @@ module _ (r : Resolve) (v : IsValid r) (w : World) (e : WorldEncoder) (done : En
         (turn r w direction done x n) (subst (λ (zs : List Slot). instance_view (home_of r i.0) zs ds ≡ Some view) slots-there followed) shows
 
     next : outer_scope outer ≡ Some after
-    next =
-        ap outer_scope (declared ∙ ap (λ m. declared_after (append e.outer (Declarations.instance (from_list ds) Declarations.no_more))
+    next = ap outer_scope (declared ∙ ap (λ m. declared_after (append e.outer (Declarations.instance (from_list ds) Declarations.no_more))
         (declared_towards direction (name_of_item r canonical x) (refs.Instance m))) number)
         ∙ steps-more new_scope (in_scope slot s) after (append e.outer (Declarations.instance (from_list ds) Declarations.no_more))
-        (declared_towards direction (name_of_item r canonical x) (refs.Instance (length s.slots)))
-        (steps-instance new_scope s e.outer ds h.followed) steps.step
+        (declared_towards direction (name_of_item r canonical x) (refs.Instance (length s.slots))) (steps-instance new_scope s e.outer ds h.followed) steps.step
 
     after-slots : after.slots ≡ s.slots ++ slot ∷ []
     after-slots = see-slots direction seen inside
@@ -287,22 +231,16 @@ module _ (r : Resolve) (v : IsValid r) (w : World) (e : WorldEncoder) (done : En
       sound-then = sound-again r e.world (world_around e') (record {
         scope = after;
         followed = next;
-        slots = ap (list_all (is_slot_of (world_resources r e.world))) (sym (ap (λ o. option_map_or (λ z. z.slots) o []) next) ∙ slots-more) ∙ all-more (outer_slots e.outer)
-            (ap (list_all (is_slot_of (world_resources r e.world))) (sym same-slots) ∙ sound-before.slots);
+        slots = ap (list_all (is_slot_of (world_resources r e.world))) (sym (ap (λ o. option_map_or (λ z. z.slots) o []) next) ∙ slots-more)
+            ∙ joined_well (is_slot_of (world_resources r e.world)) (outer_slots e.outer)
+            (slot ∷ []) (ap (list_all (is_slot_of (world_resources r e.world))) (sym same-slots) ∙ sound-before.slots) refl;
         right = ap (are_right r (world_around e').known) (sym (ap (λ o. option_map_or (λ z. z.slots) o []) next)) ∙ right-after;
       })
-        where
-          all-more : (zs : List Slot) → list_all (is_slot_of (world_resources r e.world)) zs ≡ true → list_all (is_slot_of (world_resources r e.world)) (zs ++ slot ∷ []) ≡ true
-          all-more [] all = refl
-          all-more (z ∷ zs) all = both (is_slot_of (world_resources r e.world) z) _ (first_true (is_slot_of (world_resources r e.world) z) _ all)
-              (all-more zs (second_true (is_slot_of (world_resources r e.world) z) _ all))
 
       -- the instances that were there are those of the interfaces among what has been done
       counted : e.instances ≡ length (outer_instances e.outer)
-      counted =
-          h.count ∙ sym (AllZip-long (StandsAs r) (interfaces_among (all_done done)) s.instances (instances_stand r done s v
-          (λ y c. record { number = e.world.0; world = w; there = h.world_; listed = done-entry r w direction done x n y c }) h.shows))
-          ∙ ap length (sym instances-there)
+      counted = h.count ∙ sym (AllZip-long (StandsAs r) (interfaces_among (all_done done)) s.instances
+          (instances_stand r done s v (λ y c. record { number = e.world.0; world = w; there = h.world_; listed = done-entry r w direction done x n y c }) h.shows)) ∙ ap length (sym instances-there)
 
       stands-itself : (path : Text) → interface_path r i.0 ≡ Some path → is_standing r i.0 new_instance ≡ true
       stands-itself path p =
@@ -310,7 +248,7 @@ module _ (r : Resolve) (v : IsValid r) (w : World) (e : WorldEncoder) (done : En
           ∙ instance-stands r v i.0 (path, record { types = view.types; functions = [] }) (record { path = p; shows = record { types = shows.types; functions = refl } })
 
       types-same : types_among (all_done (with_entry direction done x)) ≡ types_among (all_done done)
-      types-same = nothing-brought types_among (filter_map-append _) direction done x (no-type x i.0 is)
+      types-same = nothing-brought types_among (filter_map-append _) r w direction done x n (no-type x i.0 is)
 
       old-key : (j : ℕ) → is_at (nat_cmp j) i.0 ≡ false → j ≡ i.0 → ⊥
       old-key j other same = cc (sym (ap is_eq (equal-self nat_cmp_total i.0)) ∙ subst (λ (m : ℕ). is_at (nat_cmp m) i.0 ≡ false) same other)
@@ -325,19 +263,17 @@ module _ (r : Resolve) (v : IsValid r) (w : World) (e : WorldEncoder) (done : En
         order = order-next r w direction done x n (append e.outer (Declarations.instance (from_list ds) Declarations.no_more)) outer (name_of_item r canonical x) (refs.Instance k)
             (ap directions_of declared) (directions-around e.outer (from_list ds) ∙ h.order);
         agree = record {
-          says = λ q m holds. subst (λ (zs : List Slot). SlotsStand zs m (standing_of r q)) (sym slots-more)
-              (slots-kept slot (outer_slots e.outer) m (standing_of r q) (h.agree.says q m holds));
+          says = λ q m holds. subst (λ (zs : List Slot). SlotsStand zs m (standing_of r q)) (sym slots-more) (slots-kept slot (outer_slots e.outer) m (standing_of r q) (h.agree.says q m holds));
           once = h.agree.once;
         };
         sound = sound-then;
         stand = λ j c p. stands-then r (world_around e) (world_around e') new_instance i.0 instances-more (listed ∙ ap (insert_entry nat_cmp e.foreign.instances.entries i.0) counted) right-before
-            right-after j (path-in-range r j p)
-            (λ same. let path = some-of (interface_path r j) p in stands-itself path.0 (ap (interface_path r) (sym same) ∙ path.1))
-            (λ other. elim (done-cases direction done x j c) [
+            right-after j (path-in-range r j p) (λ same. let path = some-of (interface_path r j) p in stands-itself path.0 (ap (interface_path r) (sym same) ∙ path.1))
+            (λ other. elim (done-cases r w direction done x n j c) [
               | inl old ↦ h.stand j old p
               | inr new ↦ absurd (old-key j other (only-one i.0 j (subst (λ (ns : List ℕ). Contains ns j) (among-one x i.0 is) new)))
             ]);
-        count = omega (arith, h.count, one-more interfaces_among (flat_map-append _) direction done x i.0 (among-one x i.0 is));
+        count = omega (arith, h.count, ap length (with-next r w direction done x n), length-append (interfaces_among (all_done done)) (interfaces_among (x ∷ [])), ap length (among-one x i.0 is));
         typed = omega (arith, h.typed, ap length after-slots ∙ length-append s.slots (slot ∷ []));
         known = λ m c. h.known m (subst (λ (ns : List ℕ). Contains ns m) types-same c);
         alone = λ m q. elim (h.alone m q) [ inl none ↦ inl none | inr c ↦ inr (subst (λ (ns : List ℕ). Contains ns m) (sym types-same) c) ];
@@ -346,9 +282,8 @@ module _ (r : Resolve) (v : IsValid r) (w : World) (e : WorldEncoder) (done : En
 -- ---- the call
 
 module _ (r : Resolve) (v : IsValid r) (w : World) (e e' : WorldEncoder) (done : Entries) (h : HasShown r w e done) (direction : Direction) (canonical : Bool) (x : Entry)
-    (n : IsNext r w direction done x) (i : InterfaceId) (is : item_interface x.1 ≡ Some i.0) (k : ℕ)
-    (rest : e' ≡ record e { outer = e'.outer; foreign = e'.foreign }) (defines : DefinesInstance e e' i k) (outer : Declarations)
-    (declared : outer ≡ declared_after e'.outer (declared_towards direction (name_of_item r canonical x) (refs.Instance k))) where
+    (n : IsNext r w direction done x) (i : InterfaceId) (is : item_interface x.1 ≡ Some i.0) (k : ℕ) (rest : e' ≡ record e { outer = e'.outer; foreign = e'.foreign })
+    (defines : DefinesInstance e e' i k) (outer : Declarations) (declared : outer ≡ declared_after e'.outer (declared_towards direction (name_of_item r canonical x) (refs.Instance k))) where
   there : (def : Interface) × (interface_at r i.0 ≡ Some def)
   there = interface-there r v w e done h direction x n i is
 

@@ -1,22 +1,22 @@
 -- A type of a world, imported behind what has been: nothing else that is named in the world is learnt with it.
-use Rattle.std.proofs.Common.{rules as std_rules, ◌≡◌, refl, sym, subst, ap, ◌∙◌, ℕ, ◌+◌, ◌≤◌, ◌⊎◌, inl, inr, nat_cmp, Bool, true, false, ◌&&◌, List, [], ◌∷◌, ◌++◌, length, map, Some, None, is_some, arith, append-nil, append_assoc, Option, ◌==◌, cond, filter_map, slice_get, take, option_map, option_and_then, String, count_by, nat_eq}
+use Rattle.std.proofs.Common.{rules as std_rules, ◌≡◌, refl, sym, subst, ap, ◌∙◌, ℕ, ◌+◌, ◌≤◌, ◌⊎◌, inl, inr, nat_cmp, Bool, true, false, List, [], ◌∷◌, ◌++◌, length, map, Some, None, is_some, arith, append-nil, append_assoc, Option, ◌==◌, cond, filter_map, slice_get, take, option_map, option_and_then, String, count_by, option_to_list}
 use Rattle.std.proofs.lemmas.{List.length-map, List.Sums.sum_by-append, Option.same_Some as same-some}
 use Rattle.std.proofs.lemmas.List.Elements.{Contains-append_left, Contains-append_right, Contains-append_cases, filter_map-append}
 use Rattle.std.specs.{BTreeMap.insert_entry, List.AllZip, List.Contains, Prelude.is_none, Option.option_map_or}
 use Rattle.wit_model.specs.{Lookup.interface_at, Lookup.key_text, Lookup.type_at, Meant.no_type, Meant.type_meaning, Meant.type_meaning_at, Meaning.TypeMeaning}
 use Rattle.wit_model.specs.Rules.{item_type, is_id, is_listed, is_listed_in_world, passes, world_type_numbers}
-use Rattle.wit_model.specs.{Uses.item_interface, Uses.items_of, Text.Text, Text.text_of, Parts.same_owner, Valid.IsValid}
+use Rattle.wit_model.specs.{Uses.item_interface, Uses.items_of, Text.Text, Text.text_of, Parts.same_owner, Valid.IsValid, Parts.met_by, Parts.met_of}
 use Rattle.wit_model.specs.declared.model.{Resolve.Resolve, World.World, WorldKey.WorldKey, TypeDef.TypeDef, TypeId.TypeId}
-use Rattle.wit_model.specs.declared.model.{Interface.Interface, InterfaceId.InterfaceId, WorldItem.WorldItem, TypeOwner.TypeOwner, «Type».«Type» as ValueType}
+use Rattle.wit_model.specs.declared.model.{Interface.Interface, InterfaceId.InterfaceId, WorldItem.WorldItem, TypeOwner.TypeOwner}
 use Rattle.comp_bytes.specs.Raw.{Declaration, Declarations, ExternName, append, declaration_count, from_list}
-use Rattle.comp_bytes.specs.{Held.fits_counts, Held.type_slots_of, Fits.fits_name}
+use Rattle.comp_bytes.specs.{Held.type_slots_of, Fits.fits_name}
 use Rattle.comp_meaning.specs.Follow.{Direction, import_, export_, Shown, View}
 use Rattle.encode_types.specs.declared.maps.TypeEncodingMaps.{TypeEncodingMaps}
 use Rattle.encode_types.specs.{Aliases.IsMetElsewhere, MetKinds.LearnsFrom, Room.limit, Kinds.parts_of, Leaves.Leaves, Fits.CanEncode}
 use Rattle.encode_types.specs.{Maps.IsOnce, Maps.IsKnown, Maps.IsReady, Maps.LearnsOnly, Maps.by_number, Distinct.is_value_type, Distinct.is_function_type}
 use Rattle.encode_types.specs.{Known.Around, Known.GrowsAround, Known.known_instance, Known.known_slot, Table.declaration_in, Table.named_declaration}
-use Rattle.encode_types.specs.{Counts.Shows, Counts.own_name, Counts.name_of_own, Plan.foreign_owner, Plan.Meets, Plan.at_once, Plan.further, Plan.MetFrom}
-use Rattle.encode_types.proofs.{Lists.none-in, Pairs.pairs-right}
+use Rattle.encode_types.specs.{Counts.Shows, Counts.own_name, Counts.name_of_own, Plan.foreign_owner, Plan.MetFrom}
+use Rattle.encode_types.proofs.{Lists.none-in}
 use Rattle.encode_names.specs.WorldNames.{name_of_item}
 use Rattle.encode_names.specs.WorldSteps.{Entry, Entries, declared_towards, interfaces_among, with_entry}
 use Rattle.wit_encode.specs.{Encoders.InterfaceLacksRoom, Encoders.declared_after, WorldAliases.KeepsBehind, WorldAliases.place_and_number}
@@ -29,18 +29,22 @@ use Rattle.wit_encode.specs.Worlds.{WorldEncoder, brought_numbers, instances_dec
 use Rattle.wit_encode.specs.WrittenBytes.{AddsLearnt, items_extent}
 use Rattle.wit_encode.proofs.{Counting.adds-alike, Counting.adds-nothing, BytesWritten.learnt-most, BytesWritten.learnt-nothing, BytesWritten.learnt-then}
 use Rattle.wit_encode.proofs.{Aliases.keeps-instance, Aliases.keeps-aliases, Aliases.known-among, Aliases.none-since, WorldInterfaces.among-one}
-use Rattle.wit_encode.proofs.{WrittenNames.interface-name, WrittenNames.names-nothing, WrittenNames.names-then, Meeting.AllMeetKnown, Meeting.meets-unnamed}
+use Rattle.wit_encode.proofs.{WrittenNames.interface-name, WrittenNames.names-nothing, WrittenNames.names-then}
 use Rattle.wit_encode.proofs.Placed.{grown-few, grown-listed, listed-cases, one-behind, placed-few, placed-instances, placed-targets, placed-slots}
 use Rattle.wit_encode.proofs.{Referring.from-none, Refusing.counts-refused, Refusing.outer-slots-few, OwnerScope.types_encode, Owned.named-listed}
-use Rattle.wit_encode.proofs.WorldHolding.{defines-behind, interfaces-more, towards-alias, towards-function, towards-target, towards-value, count-both, full, known-number, known-numbers, known-once, met-before, next-among}
-use Rattle.wit_encode.proofs.{Exporting.learnt-apart, Exporting.learnt-one, Exporting.was-or-learnt, Numbers.gives-one, Numbers.once-before, Numbers.one-mapped}
+use Rattle.wit_encode.proofs.WorldHolding.{defines-behind, interfaces-more, towards-function, towards-target, count-both, full, known-number, known-numbers, known-once, met-before, towards-plain}
+use Rattle.wit_encode.proofs.{Numbers.once-before, Numbers.one-mapped}
 use Rattle.wit_encode.proofs.WorldShown.{type_seen, types-shown, items_meet_standing, no-type-exported, own-type, parts-listed, type-key}
-use Rattle.wit_encode.proofs.WorldFunctions.{at-length, before-next, done_items, next-entry, next-place, scope-of, second, stand-before, types-given}
+use Rattle.wit_encode.proofs.WorldFunctions.{before-next, done_items, next-place, scope-of, second, stand-before, types-given}
+use Rattle.wit_encode.proofs.Directions.{done-next, next-entry}
+use Rattle.wit_encode.proofs.WorldHolding.{by-name, defines-own}
+use Rattle.wit_encode.proofs.Exporting.{met-no-other, one-name as only-name}
+use Rattle.base_lemmas.proofs.Lists.{middle_get}
 use Rattle.base_lemmas.proofs.Elements.{zip-append, contains-one, first-contained as contains-first, last_of as one-contained}
 use Rattle.base_lemmas.proofs.{Bools.left_of as first_true, Bools.right_of as second_true, Numbers.equal, Numbers.same-number, Options.there as some-of}
 use Rattle.std.specs.declared.alloc.Global.{Global}
-use Rattle.encode_shown.proofs.{Used.contains-flat-from, Basics.valid-references}
-use Rattle.wit_model.proofs.{Elements.contains-get, PartsLemmas.owner_same as same-owner, OnePath.one-number}
+use Rattle.encode_shown.proofs.{Used.contains-flat-from}
+use Rattle.wit_model.proofs.{Elements.contains-get, PartsLemmas.owner_same as same-owner, OnePath.one-number, Elements.contains-flat}
 use Rattle.std.proofs.Math.Seq.{take-append_seam}
 use Rattle.wit_model.specs.declared.model.WorldItem.TheVariants as item
 use Rattle.comp_bytes.specs.declared.forms.ComponentTypeRef.TheVariants as refs
@@ -91,81 +95,58 @@ module _ (r : Resolve) (e e' e'' : WorldEncoder) (x : Entry) (i : InterfaceId) (
   instances-then : instances_declared e''.outer ≡ instances_declared e.outer ++ (before.declared, inner) ∷ []
   instances-then = placed-instances r (world_around e) before encodes.part.aliases.grown inner described e''.outer outer-then
 
+  among-then : (es : List Entry) → interfaces_among (es ++ x ∷ []) ≡ interfaces_among es ++ i.0 ∷ []
+  among-then es = interfaces-more es (x ∷ []) ∙ ap (λ (ns : List ℕ). interfaces_among es ++ ns) (among-one x i.0 is)
+
   -- nothing is defined beside the instance type
   pub interface-defined : (es : List Entry) → HasDefined r e es → HasDefined r e'' (es ++ x ∷ [])
   interface-defined es h = defines-behind r e e'' es h x [] [] (no-function x i.0 is) (λ t c. none-in t c)
       (adds-alike refl same-maps refl refl refl (placed-slots r (world_around e) before encodes.part.aliases.grown inner described e''.outer outer-then is_value_type (λ a. refl)
-      (towards-value direction name (refs.Instance k)))
-      (placed-targets r (world_around e) before encodes.part.aliases.grown inner described e''.outer outer-then (towards-target direction name (refs.Instance k) refl))
-      (placed-slots r (world_around e) before encodes.part.aliases.grown inner described e''.outer outer-then is_function_type (λ a. refl) (towards-function direction name (refs.Instance k)))
-      (adds-nothing r (no_interface r) e.maps (world_definitions e.outer)))
+      (towards-plain direction name (refs.Instance k)).0) (placed-targets r (world_around e) before encodes.part.aliases.grown inner described e''.outer outer-then
+      (towards-target direction name (refs.Instance k) refl)) (placed-slots r (world_around e) before encodes.part.aliases.grown inner described e''.outer outer-then is_function_type (λ a. refl)
+      (towards-function direction name (refs.Instance k))) (adds-nothing r (no_interface r) e.maps (world_definitions e.outer)))
       (subst (λ (m : TypeEncodingMaps). LearnsFrom r None [] e.maps m) (sym same-maps) (from-none r None [] e.maps))
-      (subst (λ (ns : List ℕ). AllZip (DefinesInterface r) ns (instances_declared e''.outer)) (sym (interfaces-more es (x ∷ []) ∙ ap (λ (ns : List ℕ). interfaces_among es ++ ns) (among-one x i.0 is)))
+      (subst (λ (ns : List ℕ). AllZip (DefinesInterface r) ns (instances_declared e''.outer)) (sym (among-then es))
       (subst (AllZip (DefinesInterface r) (interfaces_among es ++ i.0 ∷ [])) (sym instances-then)
-      (zip-append (DefinesInterface r) (interfaces_among es) (instances_declared e.outer) (i.0 ∷ []) ((before.declared, inner) ∷ []) h.inside (one, tt))))
-      (subst (λ (ns : List ℕ). KeepsBehind r e''.instances (world_around e'') ns (map place_and_number h.keeps.has.made) (length (interfaces_among es))) (sym among-then) keeps-then) asked-then
+      (zip-append (DefinesInterface r) (interfaces_among es) (instances_declared e.outer) (i.0 ∷ []) ((before.declared, inner) ∷ []) h.inside
+      (defines-own r (world_around e) (world_around e') i def k there encodes, tt))))
+      (subst (λ (ns : List ℕ). KeepsBehind r e''.instances (world_around e'') ns (map place_and_number h.keeps.has.made) (length (interfaces_among es))) (sym (among-then es)) keeps-then) asked-then
     where
-      among-then : interfaces_among (es ++ x ∷ []) ≡ interfaces_among es ++ i.0 ∷ []
-      among-then = interfaces-more es (x ∷ []) ∙ ap (λ (ns : List ℕ). interfaces_among es ++ ns) (among-one x i.0 is)
-
       counted : e'.instances ≡ e.instances
       counted = ap (λ (z : WorldEncoder). z.instances) rest
 
       keeps-before : KeepsBehind r e.instances before (interfaces_among es) (map place_and_number h.keeps.has.made) (length (interfaces_among es))
       keeps-before = subst (λ (z : Around). KeepsBehind r e.instances z (interfaces_among es) (map place_and_number h.keeps.has.made) (length (interfaces_among es)))
-          (sym encodes.part.aliases.grown.is)
-          (keeps-aliases r e.instances (interfaces_among es) (map place_and_number h.keeps.has.made) (world_around e)
-          encodes.part.aliases.grown.made encodes.part.aliases.grown.are (none-since h.keeps))
+          (sym encodes.part.aliases.grown.is) (keeps-aliases r e.instances (interfaces_among es) (map place_and_number h.keeps.has.made) (world_around e) encodes.part.aliases.grown.made
+          encodes.part.aliases.grown.are (none-since h.keeps))
 
       keeps-then : KeepsBehind r e''.instances (world_around e'') (interfaces_among es ++ i.0 ∷ []) (map place_and_number h.keeps.has.made) (length (interfaces_among es))
       keeps-then = subst (λ (n : ℕ). KeepsBehind r n (world_around e'') (interfaces_among es ++ i.0 ∷ []) (map place_and_number h.keeps.has.made) (length (interfaces_among es)))
           (sym (ap (λ (z : WorldEncoder). z.instances) lists.rest ∙ ap (λ n. n + 1) counted))
           (keeps-instance r e.instances (interfaces_among es) i.0 (map place_and_number h.keeps.has.made) before (world_around e'')
-          inner described outer-then (towards-alias direction name (refs.Instance k)) (ap length (interface-name direction name k))
+          inner described outer-then (towards-plain direction name (refs.Instance k)).1 (ap length (interface-name direction name k))
           (listed-then ∙ (λ j. insert_entry nat_cmp (sym (grown-listed r (world_around e) before encodes.part.aliases.grown) j) i.0 (counted j))) known-then keeps-before)
 
       asked-then : (t : ℕ) → is_some (known_slot e''.foreign.known.entries t) ≡ true → (is_some (known_slot e.foreign.known.entries t) ≡ true) ⊎ IsAskedBy r x t
-      asked-then t known =
-          elim (known-among (world_around e) encodes.part.aliases.grown.made r encodes.part.aliases.grown.are t
+      asked-then t known = elim (known-among (world_around e) encodes.part.aliases.grown.made t
           (ap (λ (z : Around). is_some (known_slot z.known t)) (sym encodes.part.aliases.grown.is) ∙ ap (λ ks. is_some (known_slot ks t)) (sym known-then) ∙ known)) [
             | inl known ↦ inl known
-            | inr new ↦ inr (inr (
-              i.0,
-              is,
-              record { def = def; there = there; met = subst (λ (m : ℕ). IsMetElsewhere r (Some i) (whole_interface def) m) new.2 (encodes.part.aliases.met new.0 new.1) },
-            ))
+            | inr n ↦ inr (inr (i.0, is, record { def = def; there = there; met = subst (λ (m : ℕ). IsMetElsewhere r (Some i) (whole_interface def) m) n.2 (encodes.part.aliases.met n.0 n.1) }))
           ]
-
-      one : DefinesInterface r i.0 (before.declared, inner)
-      one = record {
-        def = def;
-        there = there;
-        declarations = encodes.part.declared;
-        is = refl;
-        ordered = encodes.part.is_instance;
-        function_types = encodes.part.function_types;
-        value_types = encodes.part.value_types;
-        few = encodes.part.few;
-        places = encodes.part.places;
-      }
 
   pub interface-few : (es : List Entry) → HoldsFew r e es → HoldsFew r e'' (es ++ x ∷ [])
   interface-few es h = record {
-    listed = λ j f. elim (listed-cases i.0 e'.instances e.foreign.instances.entries j (ap (λ xs. is_some (known_instance xs j)) (sym listed-then) ∙ f)) [
-      | inl same ↦ subst (λ (m : ℕ). Contains (interfaces_among (es ++ x ∷ [])) m) (sym same) here
-      | inr old ↦ subst (λ (ns : List ℕ). Contains ns j) (sym (interfaces-more es (x ∷ []))) (Contains-append_left (interfaces_among es) (interfaces_among (x ∷ [])) j (h.listed j old))
-    ];
-    held =
-        (let few = h.held in
+    listed = λ j f. subst (λ (ns : List ℕ). Contains ns j) (sym (among-then es))
+        (elim (listed-cases i.0 e'.instances e.foreign.instances.entries j (ap (λ xs. is_some (known_instance xs j)) (sym listed-then) ∙ f)) [
+          | inl same ↦ subst (Contains (interfaces_among es ++ i.0 ∷ [])) (sym same) (Contains-append_right (interfaces_among es) (i.0 ∷ []) i.0 (contains-one i.0))
+          | inr old ↦ Contains-append_left (interfaces_among es) (i.0 ∷ []) j (h.listed j old)
+        ]);
+    held = (let few = h.held in
         let a : declaration_count e''.outer + length (brought_numbers r (world_around e)) ≤ declaration_count e.outer + (length (brought_numbers r (world_around e'')) + 2) =
         placed-few r (world_around e) before encodes.part.aliases.grown inner described e''.outer outer-then i.0 e'.instances e''.foreign.instances.entries e''.foreign.known.entries listed-then
         known-then in
         omega (arith, few, a, ap (λ (z : TypeEncodingMaps). length z.id_to_index.entries) same-maps, count-both es (x ∷ []), count-one x i.0 is));
   }
-    where
-      here : Contains (interfaces_among (es ++ x ∷ [])) i.0
-      here = subst (λ (ns : List ℕ). Contains ns i.0) (sym (interfaces-more es (x ∷ []))) (Contains-append_right (interfaces_among es) (interfaces_among (x ∷ [])) i.0
-          (subst (λ (ns : List ℕ). Contains ns i.0) (sym (among-one x i.0 is)) (0, omega arith, refl)))
 
 -- ---- no room
 
@@ -184,17 +165,10 @@ module _ (r : Resolve) (w : World) (e : WorldEncoder) (done : Entries) (directio
       let same : length (brought_numbers r (record a { declared = more })) ≡ length (brought_numbers r a) = refl in
       omega (arith, h.held, grown-few r (world_around e) a g, o, count-one x i.0 is, one, same)) over
 
-  among : (rest : List Entry) × (entries_in w ≡ all_done done ++ x ∷ rest)
-  among = next-among r w direction done x n
-
   -- the instance type has none, or there is none for it
   pub instance-lacks : (def : Interface) → interface_at r i.0 ≡ Some def → InterfaceLacksRoom r i def ⊎ LacksInstanceRoom r i (whole_interface def) (world_around e) → WorldLacksRoom r w
-  instance-lacks def there (inl l) = an_interface i def (subst (λ (es : List Entry). Contains (interfaces_among es) i.0) (sym among.1) (here (all_done done) among.0)) there l
-    where
-      here : (es rest : List Entry) → Contains (interfaces_among (es ++ x ∷ rest)) i.0
-      here es rest = subst (λ (ns : List ℕ). Contains ns i.0) (sym (interfaces-more es (x ∷ rest))) (Contains-append_right (interfaces_among es) (interfaces_among (x ∷ rest)) i.0
-          (subst (λ (ns : List ℕ). Contains ns i.0) (sym (interfaces-more (x ∷ []) rest)) (Contains-append_left (interfaces_among (x ∷ [])) (interfaces_among rest) i.0
-          (subst (λ (ns : List ℕ). Contains ns i.0) (sym (among-one x i.0 is)) (0, omega arith, refl)))))
+  instance-lacks def there (inl l) = an_interface i def (contains-flat (λ (e : Entry). option_to_list (item_interface e.1)) (entries_in w) x i.0 (next-entry r w direction done x n)
+      (subst (λ (o : Option ℕ). Contains (option_to_list o) i.0) (sym is) (contains-one i.0))) there l
   instance-lacks def there (inr l) =
       let few = outer-slots-few l.after.declared in
       over-behind l.after l.grown.grown l.after.declared (omega arith) (counts-refused (declaration_count l.after.declared) (type_slots_of l.after.declared + 1) (omega (arith, few)) l.full)
@@ -202,22 +176,10 @@ module _ (r : Resolve) (w : World) (e : WorldEncoder) (done : Entries) (directio
   -- its import or export has none
   pub placed-lacks : (canonical : Bool) (name : ExternName) (k : ℕ) (a : Around) (def : Interface) → EncodesInterface r (world_around e) a i def k → name ≡ name_of_item r canonical x
       → LacksDeclaration a.declared (declared_towards direction name (refs.Instance k)) → WorldLacksRoom r w
-  placed-lacks canonical name k a def encodes named refused = by (fits_name name) refl (towards direction refused)
-    where
-      there : (es rest : List Entry) → Contains (es ++ x ∷ rest) x
-      there es rest = Contains-append_right es (x ∷ rest) x (0, omega arith, refl)
-
-      towards : (direction : Direction) → LacksDeclaration a.declared (declared_towards direction name (refs.Instance k))
-          → (fits_name name && fits_counts (declaration_count a.declared + 1) (type_slots_of a.declared + 0)) ≡ false
-      towards import_ g = g
-      towards export_ g = g
-
-      by : (b : Bool) → fits_name name ≡ b → (b && fits_counts (declaration_count a.declared + 1) (type_slots_of a.declared + 0)) ≡ false → WorldLacksRoom r w
-      by false u g = a_name canonical x (subst (λ (es : List Entry). Contains es x) (sym among.1) (there (all_done done) among.0)) (no-type x i.0 is) (ap fits_name (sym named) ∙ u)
-      by true u g =
-          over-behind encodes.part.before encodes.part.aliases.grown a.declared
-          (one-behind encodes.part.before (from_list encodes.part.declared) a.declared (ap (λ (z : Around). z.declared) encodes.part.one_more))
-          (counts-refused (declaration_count a.declared) (type_slots_of a.declared + 0) (omega (arith, outer-slots-few a.declared)) g)
+  placed-lacks canonical name k a def encodes named =
+      by-name direction name (refs.Instance k) a.declared refl (λ u. a_name canonical x (next-entry r w direction done x n) (no-type x i.0 is) (ap fits_name (sym named) ∙ u))
+      (over-behind encodes.part.before encodes.part.aliases.grown a.declared
+      (one-behind encodes.part.before (from_list encodes.part.declared) a.declared (ap (λ (z : Around). z.declared) encodes.part.one_more)))
 
 -- ---- The imports of a world, or its exports, one after the other.
 
@@ -258,16 +220,52 @@ pub record NextEntry (r : Resolve) (e' : WorldEncoder) (direction : Direction) (
   pub shown : HasShown r world e' done
   pub next : IsNext r world direction done x
 
-pub goes-next : (r : Resolve) (canonical : Bool) (e e' : WorldEncoder) (direction : Direction) (entries rest more : List Entry) (x : Entry) → AwaitsAll r e direction entries
-    → Goes r canonical e e' direction entries rest → rest ≡ x ∷ more → NextEntry r e' direction x
-goes-next r canonical e e' direction entries rest more x a g is = by direction a.world (g.shown a.world a.shown) (sym a.are ∙ g.split ∙ ap (λ (xs : List Entry). g.front ++ xs) is)
-  where
-    by : (direction : Direction) (w : World) → HasShown r w e' (so_far direction w g.front) → entries_of direction w ≡ g.front ++ x ∷ more → NextEntry r e' direction x
-    by import_ w h q = record { world = w; done = (g.front, []); shown = h; next = record { rest = more; next = q; begun = refl } }
-    by export_ w h q = record { world = w; done = (w.imports.entries, g.front); shown = h; next = record { rest = more; next = q; begun = refl } }
-
 world-of : (r : Resolve) (e : WorldEncoder) (w v : World) (d d' : Entries) → HasShown r w e d → HasShown r v e d' → v ≡ w
 world-of r e w v d d' h k = search std_rules
+
+with-behind : (direction : Direction) (w : World) (front : List Entry) (x : Entry) → with_entry direction (so_far direction w front) x ≡ so_far direction w (front ++ x ∷ [])
+with-behind import_ w front x = refl
+with-behind export_ w front x = refl
+
+done-behind : (direction : Direction) (w : World) (front : List Entry) → all_done (begun direction w) ++ front ≡ all_done (so_far direction w front)
+done-behind import_ w front = sym (append-nil front)
+done-behind export_ w front = ap (λ (es : List Entry). es ++ front) (append-nil w.imports.entries)
+
+module _ (r : Resolve) (canonical : Bool) (e e' : WorldEncoder) (direction : Direction) (entries rest : List Entry) where
+  next-is : (more : List Entry) (x : Entry) → AwaitsAll r e direction entries → (g : Goes r canonical e e' direction entries rest) → rest ≡ x ∷ more → (w : World)
+      → HasShown r w e (begun direction w) → IsNext r w direction (so_far direction w g.front) x
+  next-is more x a g is w h = by direction (sym (a.are ∙ ap (entries_of direction) (sym (world-of r e a.world w _ _ a.shown h))) ∙ g.split ∙ ap (λ (xs : List Entry). g.front ++ xs) is)
+    where
+      by : (direction : Direction) → entries_of direction w ≡ g.front ++ x ∷ more → IsNext r w direction (so_far direction w g.front) x
+      by import_ q = record { rest = more; next = q; begun = refl }
+      by export_ q = record { rest = more; next = q; begun = refl }
+
+  pub goes-next : (more : List Entry) (x : Entry) → AwaitsAll r e direction entries → Goes r canonical e e' direction entries rest → rest ≡ x ∷ more → NextEntry r e' direction x
+  goes-next more x a g is = record { world = a.world; done = so_far direction a.world g.front; shown = g.shown a.world a.shown; next = next-is more x a g is a.world a.shown }
+
+  -- the next one has no room
+  pub goes-lacks : (more : List Entry) (x : Entry) → AwaitsAll r e direction entries → Goes r canonical e e' direction entries rest → rest ≡ x ∷ more
+      → ((w : World) (done : Entries) → HasShown r w e' done → IsNext r w direction done x → HasDefined r e' (all_done done) → HoldsFew r e' (all_done done) → WorldLacksRoom r w)
+      → LacksRoomTowards r e direction
+  goes-lacks more x a g is lacks w h d few = lacks w (so_far direction w g.front) (g.shown w h) (next-is more x a g is w h)
+      (subst (HasDefined r e') (done-behind direction w g.front) (g.defines (all_done (begun direction w)) d))
+      (subst (HoldsFew r e') (done-behind direction w g.front) (g.holds (all_done (begun direction w)) few))
+
+  pub goes-whole : AwaitsAll r e direction entries → Goes r canonical e e' direction entries rest → rest ≡ [] → EncodesAll r e e' direction
+  goes-whole a g none w h = search std_rules
+
+  module _ (g : Goes r canonical e e' direction entries rest) (none : rest ≡ []) where
+    pub names-whole : NamesMore r canonical entries e.outer e'.outer
+    names-whole = search std_rules
+
+    pub defines-whole : DefinesAll r e e' entries
+    defines-whole = subst (DefinesAll r e e') (sym (g.split ∙ ap (λ (xs : List Entry). g.front ++ xs) none ∙ append-nil g.front)) g.defines
+
+    pub holds-whole : HoldsAll r e e' entries
+    holds-whole = subst (HoldsAll r e e') (sym (g.split ∙ ap (λ (xs : List Entry). g.front ++ xs) none ∙ append-nil g.front)) g.holds
+
+    pub written-whole : AddsLearnt r (items_extent r canonical entries) e.maps e'.maps e.outer e'.outer
+    written-whole = search std_rules
 
 pub goes-on : (r : Resolve) (canonical : Bool) (e e' e'' : WorldEncoder) (direction : Direction) (entries rest more : List Entry) (x : Entry) → AwaitsAll r e direction entries
     → Goes r canonical e e' direction entries rest → rest ≡ x ∷ more
@@ -276,56 +274,13 @@ pub goes-on : (r : Resolve) (canonical : Bool) (e e' e'' : WorldEncoder) (direct
 goes-on r canonical e e' e'' direction entries rest more x a g is encodes named defines holds written = record {
   front = g.front ++ x ∷ [];
   split = g.split ∙ ap (λ (xs : List Entry). g.front ++ xs) is ∙ sym (append_assoc g.front (x ∷ []) more);
-  shown = λ w h. by direction w (g.shown w h) (sym (a.are ∙ ap (entries_of direction) (sym (world-of r e a.world w _ _ a.shown h))) ∙ g.split ∙ ap (λ (xs : List Entry). g.front ++ xs) is) encodes;
+  shown = λ w h. subst (HasShown r w e'') (with-behind direction w g.front x)
+      (encodes w (so_far direction w g.front) (g.shown w h) (next-is r canonical e e' direction entries rest more x a g is w h));
   names = names-then r canonical g.front (x ∷ []) e.outer e'.outer e''.outer g.names named;
   defines = λ es h. subst (HasDefined r e'') (append_assoc es g.front (x ∷ [])) (defines (es ++ g.front) (g.defines es h));
   holds = λ es h. subst (HoldsFew r e'') (append_assoc es g.front (x ∷ [])) (holds (es ++ g.front) (g.holds es h));
   written = learnt-most (omega (arith, sum_by-append (item_extent r canonical) g.front (x ∷ []))) (learnt-then g.written written);
 }
-  where
-    by : (direction : Direction) (w : World) → HasShown r w e' (so_far direction w g.front) → entries_of direction w ≡ g.front ++ x ∷ more
-        → ((w : World) (done : Entries) → HasShown r w e' done → IsNext r w direction done x → HasShown r w e'' (with_entry direction done x))
-        → HasShown r w e'' (so_far direction w (g.front ++ x ∷ []))
-    by import_ w h q encodes = encodes w (g.front, []) h (record { rest = more; next = q; begun = refl })
-    by export_ w h q encodes = encodes w (w.imports.entries, g.front) h (record { rest = more; next = q; begun = refl })
-
-pub goes-whole : (r : Resolve) (canonical : Bool) (e e' : WorldEncoder) (direction : Direction) (entries rest : List Entry) → AwaitsAll r e direction entries
-    → Goes r canonical e e' direction entries rest → rest ≡ [] → EncodesAll r e e' direction
-goes-whole r canonical e e' direction entries rest a g none w h = search std_rules
-
--- the next one has no room
-pub goes-lacks : (r : Resolve) (canonical : Bool) (e e' : WorldEncoder) (direction : Direction) (entries rest more : List Entry) (x : Entry) → AwaitsAll r e direction entries
-    → Goes r canonical e e' direction entries rest → rest ≡ x ∷ more
-    → ((w : World) (done : Entries) → HasShown r w e' done → IsNext r w direction done x → HasDefined r e' (all_done done) → HoldsFew r e' (all_done done) → WorldLacksRoom r w)
-    → LacksRoomTowards r e direction
-goes-lacks r canonical e e' direction entries rest more x a g is lacks = λ w h d few.
-    by direction w (g.shown w h) (sym (a.are ∙ ap (entries_of direction) (sym (world-of r e a.world w _ _ a.shown h))) ∙ g.split ∙ ap (λ (xs : List Entry). g.front ++ xs) is)
-    (g.defines (all_done (begun direction w)) d) (g.holds (all_done (begun direction w)) few) lacks
-  where
-    by : (direction : Direction) (w : World) → HasShown r w e' (so_far direction w g.front) → entries_of direction w ≡ g.front ++ x ∷ more → HasDefined r e' (all_done (begun direction w) ++ g.front)
-        → HoldsFew r e' (all_done (begun direction w) ++ g.front)
-        → ((w : World) (done : Entries) → HasShown r w e' done → IsNext r w direction done x → HasDefined r e' (all_done done) → HoldsFew r e' (all_done done) → WorldLacksRoom r w)
-        → WorldLacksRoom r w
-    by import_ w h q d few lacks = lacks w (g.front, []) h (record { rest = more; next = q; begun = refl }) (subst (HasDefined r e') (sym (append-nil g.front)) d)
-        (subst (HoldsFew r e') (sym (append-nil g.front)) few)
-    by export_ w h q d few lacks = lacks w (w.imports.entries, g.front) h (record { rest = more; next = q; begun = refl })
-        (subst (λ (es : List Entry). HasDefined r e' (es ++ g.front)) (append-nil w.imports.entries) d) (subst (λ (es : List Entry). HoldsFew r e' (es ++ g.front)) (append-nil w.imports.entries) few)
-
-pub names-whole : (r : Resolve) (canonical : Bool) (e e' : WorldEncoder) (direction : Direction) (entries rest : List Entry) → Goes r canonical e e' direction entries rest → rest ≡ []
-    → NamesMore r canonical entries e.outer e'.outer
-names-whole r canonical e e' direction entries rest g none = search std_rules
-
-pub defines-whole : (r : Resolve) (canonical : Bool) (e e' : WorldEncoder) (direction : Direction) (entries rest : List Entry) → Goes r canonical e e' direction entries rest → rest ≡ []
-    → DefinesAll r e e' entries
-defines-whole r canonical e e' direction entries rest g none = subst (DefinesAll r e e') (sym (g.split ∙ ap (λ (xs : List Entry). g.front ++ xs) none ∙ append-nil g.front)) g.defines
-
-pub holds-whole : (r : Resolve) (canonical : Bool) (e e' : WorldEncoder) (direction : Direction) (entries rest : List Entry) → Goes r canonical e e' direction entries rest → rest ≡ []
-    → HoldsAll r e e' entries
-holds-whole r canonical e e' direction entries rest g none = subst (HoldsAll r e e') (sym (g.split ∙ ap (λ (xs : List Entry). g.front ++ xs) none ∙ append-nil g.front)) g.holds
-
-pub written-whole : (r : Resolve) (canonical : Bool) (e e' : WorldEncoder) (direction : Direction) (entries rest : List Entry) → Goes r canonical e e' direction entries rest → rest ≡ []
-    → AddsLearnt r (items_extent r canonical entries) e.maps e'.maps e.outer e'.outer
-written-whole r canonical e e' direction entries rest g none = search std_rules
 
 -- ---- a type of a world, imported behind what has been
 
@@ -408,44 +363,22 @@ module _ (r : Resolve) (v : IsValid r) (w : World) (e : WorldEncoder) (done : En
         let once : (count_by (λ m. m == id.0) (world_type_numbers w) == 1) ≡ true = second_true (is_id id.0 _) _ ours in
         let before : Contains (types_among done.0) id.0 = subst (λ (es : List Entry). Contains (types_among es) id.0) (ap (λ (es : List Entry). done.0 ++ es) n.begun ∙ append-nil done.0) c in
         once-before (world_type_numbers w) (length (types_among done.0)) id.0
-        (ap (λ ns. slice_get ns (length (types_among done.0))) types-of-world ∙ at-length (types_among done.0) (types_among n.rest) id.0) once
+        (ap (λ ns. slice_get ns (length (types_among done.0))) types-of-world ∙ middle_get (types_among done.0) id.0 (types_among n.rest)) once
         (subst (λ (ns : List ℕ). Contains ns id.0) (sym (ap (take (length (types_among done.0))) types-of-world ∙ take-append_seam (types_among done.0) (id.0 ∷ types_among n.rest))) before))
   ]
 
-  meets-no-other : (t : ValueType) (m : ℕ) → t ≡ ty.Id id → Meets r None e.maps t m → (m ≡ id.0 → ⊥) → own_name r (world_view_of r e).scope m ≡ None
-  meets-no-other _ _ q (at_once id' lacks) other = absurd (other (ap (λ (y : TypeId). y.0) cc))
-  meets-no-other _ _ q (further id' def t m lacks there f c more) other = meets-unnamed r (valid-references r v) (world_view_of r e).scope e.maps t m parts more
-    where
-      same : id' ≡ id
-      same = cc
-
-      its : def ≡ own.def
-      its = same-some def own.def (sym there ∙ ap (λ (y : TypeId). type_at r y.0) same ∙ own.there)
-
-      parts : AllMeetKnown r (valid-references r v) (world_view_of r e).scope e.maps t
-      parts part q' def' at' at_home y met = h.known y (subst (λ (ns : List ℕ). Contains ns y) (ap (filter_map item_type) (before-next r w import_ done entry n) ∙ types-given (all_done done))
-          (parts-listed r v e.world w h.world_ place id at own part (subst (λ (z : TypeDef). Contains (parts_of z.kind) (ty.Id part)) its
-          (subst (λ (u : ValueType). Contains (parts_of def.kind) u) q' c)) def' at' at_home y met))
-
-  met-no-other : (m : ℕ) → MetFrom r None e.maps (ty.Id id ∷ []) m → (m ≡ id.0 → ⊥) → own_name r (world_view_of r e).scope m ≡ None
-  met-no-other m (t, c, met) other = meets-no-other t m (sym (one-contained (ty.Id id) t c)) met other
+  parts-known : (part : TypeId) → Contains (parts_of own.def.kind) (ty.Id part) → (def' : TypeDef) → type_at r part.0 ≡ Some def' → foreign_owner None def'.owner ≡ None → (y : ℕ)
+      → Contains (met_by (met_of r) part.0) y → IsKnown e.maps y
+  parts-known part c def' at' at_home y met = h.known y (subst (λ (ns : List ℕ). Contains ns y) (ap (filter_map item_type) (before-next r w import_ done entry n) ∙ types-given (all_done done))
+      (parts-listed r v e.world w h.world_ place id at own part c def' at' at_home y met))
 
   -- ---- what a call learns
 
   module _ (e' : WorldEncoder) (leaves : Leaves r (world_encoder_view e) (world_encoder_view e')) (only : LearnsOnly (MetFrom r None e.maps (ty.Id id ∷ [])) e.maps e'.maps)
       (shows : Shows r (world_encoder_view e).scope e.maps e'.maps (world_definitions e.outer) (world_definitions e'.outer)) (ready : IsReady e'.maps (ty.Id id)) where
-    itself : Contains shows.learnt (id.0, (ready id refl).0)
-    itself = elim (was-or-learnt e.maps e'.maps shows.learnt shows.numbers (id.0, (ready id refl).0) (ready id refl).1) [
-      | inl q ↦ absurd (fresh ((ready id refl).0, q))
-      | inr q ↦ q
-    ]
-
     one-name : filter_map (λ y. own_name r (world_view_of r e).scope y.0) shows.learnt ≡ text_of name ∷ []
-    one-name = gives-one (λ (y : ℕ × ℕ). y.0) (λ y. own_name r (world_view_of r e).scope y.0) id.0 (text_of name) shows.learnt
-        (pairs-right (λ (a b : ℕ × ℕ). nat_eq a.0 b.0 ≡ false) e.maps.id_to_index.entries shows.learnt (learnt-apart e.maps e'.maps shows.learnt leaves.agree.once shows.numbers))
-        (λ y q. ap (own_name r (world_view_of r e).scope) q ∙ named)
-        (λ y c other. met-no-other y.0 (learnt-one (MetFrom r None e.maps (ty.Id id ∷ [])) e.maps e'.maps shows.learnt leaves.agree.once shows.numbers only y c) other)
-        (id.0, (ready id refl).0) itself refl
+    one-name = only-name r v (world_encoder_view e).scope e.maps id own.def own.there parts-known (text_of name) named fresh e'.maps (world_definitions e.outer) (world_definitions e'.outer)
+        leaves.agree.once ready only shows
 
     one-shown : shows.shown ≡ (text_of name, type_meaning r own.def) ∷ []
     one-shown =
@@ -469,31 +402,19 @@ module _ (r : Resolve) (v : IsValid r) (w : World) (e : WorldEncoder) (done : En
     abbrev nothing_viewed : View
     nothing_viewed = record { types = []; functions = [] }
 
-    old-or-new : (es : List Entry) → types_among (es ++ entry ∷ []) ≡ types_among es ++ (id.0 ∷ [])
-    old-or-new es = filter_map-append _ es (entry ∷ [])
-
-    done-same : all_done (done.0 ++ entry ∷ [], done.1) ≡ all_done done ++ entry ∷ []
-    done-same =
-        let none : done.1 ≡ [] = n.begun in
-        ap (λ (es : List Entry). (done.0 ++ entry ∷ []) ++ es) none ∙ append-nil (done.0 ++ entry ∷ [])
-        ∙ ap (λ (es : List Entry). es ++ entry ∷ []) (sym (append-nil done.0) ∙ ap (λ (es : List Entry). done.0 ++ es) (sym none))
-
     types-then : types_among (all_done (done.0 ++ entry ∷ [], done.1)) ≡ types_among (all_done done) ++ (id.0 ∷ [])
-    types-then = ap types_among done-same ∙ old-or-new (all_done done)
+    types-then = ap types_among (done-next r w import_ done entry n) ∙ filter_map-append _ (all_done done) (entry ∷ [])
 
     pub type-imported : HasShown r w e' (done.0 ++ entry ∷ [], done.1)
     type-imported = types-shown r w e e' done h leaves.scope_stays leaves.grows ((text_of name, type_meaning r own.def) ∷ [])
-        (shows.exports ∙ ap (λ ys. (world_definitions e.outer).exports ++ ys) one-shown)
-        (entry ∷ []) (record { view = nothing_viewed; is_view = tt; is = seen-right }, tt) refl (inl n.begun) leaves.agree
-        (λ m c. elim (Contains-append_cases (types_among (all_done done)) (id.0 ∷ []) m (subst (λ (ns : List ℕ). Contains ns m) types-then c)) [
+        (shows.exports ∙ ap (λ ys. (world_definitions e.outer).exports ++ ys) one-shown) (entry ∷ []) (record { view = nothing_viewed; is_view = tt; is = seen-right }, tt) refl (inl n.begun)
+        leaves.agree (λ m c. elim (Contains-append_cases (types_among (all_done done)) (id.0 ∷ []) m (subst (λ (ns : List ℕ). Contains ns m) types-then c)) [
           | inl q ↦ (let old = h.known m q in (old.0, leaves.maps_grow.keeps (by_number m) old.0 old.1))
           | inr q ↦ subst (λ (x : ℕ). IsKnown e'.maps x) (one-contained id.0 m q) (ready id refl)
-        ])
-        (λ m q. elim (only.each m q.0 q.1) [
+        ]) (λ m q. elim (only.each m q.0 q.1) [
           | inl old ↦ elim (h.alone m (q.0, old)) [
             | inl nothing ↦ inl nothing
-            | inr c ↦
-                inr (subst (λ (ns : List ℕ). Contains ns m) (sym types-then) (Contains-append_left (types_among (all_done done)) (id.0 ∷ []) m c))
+            | inr c ↦ inr (subst (λ (ns : List ℕ). Contains ns m) (sym types-then) (Contains-append_left (types_among (all_done done)) (id.0 ∷ []) m c))
           ]
           | inr met ↦ by-number m met (m == id.0) refl
         ])
@@ -502,7 +423,8 @@ module _ (r : Resolve) (v : IsValid r) (w : World) (e : WorldEncoder) (done : En
             ⊎ Contains (types_among (all_done (done.0 ++ entry ∷ [], done.1))) m
         by-number m met true q = inr (subst (λ (ns : List ℕ). Contains ns m) (sym types-then)
             (Contains-append_right (types_among (all_done done)) (id.0 ∷ []) m (subst (λ (x : ℕ). Contains (id.0 ∷ []) x) (sym (equal m id.0 q)) (contains-one id.0))))
-        by-number m met false q = inl (met-no-other m met (λ same. cc (sym (subst (λ (x : ℕ). (m == x) ≡ true) same (same-number m)) ∙ q)))
+        by-number m met false q = inl (met-no-other r v (world_view_of r e).scope e.maps id own.def own.there parts-known m met
+            (λ same. cc (sym (subst (λ (x : ℕ). (m == x) ≡ true) same (same-number m)) ∙ q)))
 
 -- ---- the call, by the item and the list that it stands in
 
@@ -521,10 +443,8 @@ type-encodable r v w e done h k id i is direction n =
     can-encode-type r v w e done h k id (subst (λ (z : Direction). IsNext r w z done (k, item.Type_ id)) (type-next r v w e done h k id direction m) m)
 
 pub type-encoded : (r : Resolve) → IsValid r → (w : World) (e e' : WorldEncoder) (done : Entries) → HasShown r w e done → (k : WorldKey) (id : TypeId) (i : WorldItem) → i ≡ item.Type_ id
-    → (direction : Direction) → IsNext r w direction done (k, i)
-    → Leaves r (world_encoder_view e) (world_encoder_view e') → LearnsOnly (MetFrom r None e.maps (ty.Id id ∷ [])) e.maps e'.maps
-    → Shows r (world_encoder_view e).scope e.maps e'.maps (world_definitions e.outer) (world_definitions e'.outer)
-    → IsReady e'.maps (ty.Id id) → HasShown r w e' (with_entry direction done (k, i))
+    → (direction : Direction) → IsNext r w direction done (k, i) → Leaves r (world_encoder_view e) (world_encoder_view e') → LearnsOnly (MetFrom r None e.maps (ty.Id id ∷ [])) e.maps e'.maps
+    → Shows r (world_encoder_view e).scope e.maps e'.maps (world_definitions e.outer) (world_definitions e'.outer) → IsReady e'.maps (ty.Id id) → HasShown r w e' (with_entry direction done (k, i))
 type-encoded r v w e e' done h k id i is direction n leaves only shows ready =
     let m : IsNext r w direction done (k, item.Type_ id) = subst (λ (j : WorldItem). IsNext r w direction done (k, j)) is n in
     let d : direction ≡ import_ = type-next r v w e done h k id direction m in

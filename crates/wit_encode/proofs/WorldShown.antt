@@ -1,7 +1,7 @@
 -- What an encoder of a world shows after a call that defines, imports and reaches types.
 use Rattle.std.proofs.Common.{rules as std_rules, ◌≡◌, refl, sym, subst, ap, ◌∙◌, ℕ, true, ◌&&◌, if◌then◌else◌, List, [], ◌∷◌, ◌++◌, append-nil, filter_map, Result, Ok, Err, IfOk, OnOk, OnErr, Some, length, arith, zero, suc, ◌<◌, ◌≤◌, ◌⊎◌, inl, inr, slice_get, take, option_to_list, Option, None, String, map}
 use Rattle.std.proofs.lemmas.{List.Elements.filter_map-append, List.Elements.Contains-append_cases, Option.same_Some as some-same, List.Concat.flat_map-append}
-use Rattle.std.proofs.lemmas.{List.Folds.list_all-append, Bool.and_from as both, List.map-append}
+use Rattle.std.proofs.lemmas.{List.Folds.list_all-append, Bool.and_from as both, List.map-append, Option.slice_get_within, List.length-take}
 use Rattle.std.specs.{List.list_all, List.Contains, List.AllZip, Option.option_map_or, Option.is_some, Prelude.option_and_then}
 use Rattle.wit_model.specs.declared.model.{Resolve.Resolve, WorldId.WorldId, World.World, TypeDef.TypeDef, TypeId.TypeId, WorldKey.WorldKey}
 use Rattle.wit_model.specs.declared.model.{Function.Function, WorldItem.WorldItem, InterfaceId.InterfaceId, TypeOwner.TypeOwner, «Type».«Type» as ValueType}
@@ -114,12 +114,8 @@ module _ (r : Resolve) (w : WorldId) (a a' : Around) (x : Slot) (types : List Se
   still-sound =
       let test = is_slot_of (world_resources r w) in
       let more : m.after.slots ≡ sound.scope.slots ++ x ∷ [] = sym slots-after ∙ slots-more ∙ ap (λ xs. xs ++ x ∷ []) sound-slots in
-      record {
-        scope = m.after;
-        followed = m.next;
-        slots = ap (list_all test) more ∙ list_all-append test sound.scope.slots (x ∷ []) ∙ both (list_all test sound.scope.slots) (test x && true) sound.slots (both (test x) true m.kept refl);
-        right = ap (are_right r a'.known) (sym slots-after) ∙ m.right;
-      }
+      let slots = ap (list_all test) more ∙ list_all-append test sound.scope.slots (x ∷ []) ∙ both (list_all test sound.scope.slots) (test x && true) sound.slots (both (test x) true m.kept refl) in
+      record { scope = m.after; followed = m.next; slots = slots; right = ap (are_right r a'.known) (sym slots-after) ∙ m.right }
 
   imports-after : seen_imports a'.declared ≡ seen_imports a.declared ++ types
   imports-after = ap (λ o. option_map_or (λ s. s.imports) o []) m.next ∙ m.extends.imports ∙ ap (λ xs. xs ++ types) (sym (ap (λ o. option_map_or (λ s. s.imports) o []) m.followed))
@@ -128,27 +124,27 @@ module _ (r : Resolve) (w : WorldId) (a a' : Around) (x : Slot) (types : List Se
   same-types = search (std_rules, types-appended (outer_slots a.declared) (x ∷ []), slots-more)
 
   others-stay : (count : ℕ) → others_of w count a' ≡ others_of w count a
-  others-stay count = λ i. record {
-    world = Some w.0;
-    listed = m.listed i;
-    instance_count = count;
-    imports = (ap (others_seen 0) imports-after ∙ others-before 0 (seen_imports a.declared) types m.extends.are_types) i;
-    exports = (ap (λ o. option_map_or (λ s. s.exports) o []) m.next ∙ m.extends.exports ∙ sym (ap (λ o. option_map_or (λ s. s.exports) o []) m.followed)) i;
-    instances = instances-stay i;
-    instance_types = same-types i;
-    used = (ap (λ o. option_map_or (λ s. s.used) o []) m.next ∙ m.extends.used ∙ sym (ap (λ o. option_map_or (λ s. s.used) o []) m.followed)) i;
-    declared = m.inside i;
-  }
+  others-stay count =
+      let imports = ap (others_seen 0) imports-after ∙ others-before 0 (seen_imports a.declared) types m.extends.are_types in
+      let exports = ap (λ o. option_map_or (λ s. s.exports) o []) m.next ∙ m.extends.exports ∙ sym (ap (λ o. option_map_or (λ s. s.exports) o []) m.followed) in
+      let used = ap (λ o. option_map_or (λ s. s.used) o []) m.next ∙ m.extends.used ∙ sym (ap (λ o. option_map_or (λ s. s.used) o []) m.followed) in
+      λ i. record {
+        world = Some w.0;
+        listed = m.listed i;
+        instance_count = count;
+        imports = imports i;
+        exports = exports i;
+        instances = instances-stay i;
+        instance_types = same-types i;
+        used = used i;
+        declared = m.inside i;
+      }
 
   same-sound : is_sound_outside r w a' ≡ is_sound_outside r w a
   same-sound = sound-again r w a' still-sound ∙ sym (sound-again r w a sound)
 
   pub scope-stays : (count : ℕ) → world_scope r w count a' ≡ world_scope r w count a
-  scope-stays count = λ i. record (world_scope r w count a) {
-    instances = if same-sound i then standing-stay i else [];
-    is_sound = same-sound i;
-    others = others-stay count i;
-  }
+  scope-stays count = λ i. record (world_scope r w count a) { instances = if same-sound i then standing-stay i else []; is_sound = same-sound i; others = others-stay count i }
 
   pub exports-more : filter_map declared_type (seen_imports a'.declared) ≡ filter_map declared_type (seen_imports a.declared) ++ filter_map declared_type types
   exports-more = ap (filter_map declared_type) imports-after ∙ filter_map-append declared_type (seen_imports a.declared) types
@@ -167,9 +163,8 @@ pub record WorldCalls {E : Type 0} (res : Result ℕ E) (v v' : View) (P : Stand
   pub counted : OnOk res counts
 
 pub world-calls : {E : Type 0} (res : Result ℕ E) (r : Resolve) (w : WorldId) (count : ℕ) (a a' : Around) (m : TypeEncodingMaps) (P : Standing → Type 0) (counts : Type 0) (x : Slot)
-    (types : List Seen)
-    → is_sound_outside r w a ≡ true → IsOf x P → IfOk res (λ k. (k ≡ length (outer_slots a.declared)) × Widens r w a a' x types
-    × ((told : Told) → KeepsTold r count a told → KeepsTold r count a' told) × counts) → OnErr res (a' ≡ a)
+    (types : List Seen) → is_sound_outside r w a ≡ true → IsOf x P
+    → IfOk res (λ k. (k ≡ length (outer_slots a.declared)) × Widens r w a a' x types × ((told : Told) → KeepsTold r count a told → KeepsTold r count a' told) × counts) → OnErr res (a' ≡ a)
     → WorldCalls res (world_view r w count a m) (world_view r w count a' m) P counts
 world-calls (Ok k) r w count a a' m P counts x types sound is h e =
     let s = sound-outside r w a sound in
@@ -189,10 +184,10 @@ world-calls (Err q) r w count a a' m P counts x types sound is h e = search std_
 -- ---- beginnings of lists
 
 taken-at : {A : Type 0} (xs : List A) (k p : ℕ) (x : A) → slice_get (take k xs) p ≡ Some x → (p < k) × (slice_get xs p ≡ Some x)
-taken-at xs zero p x h = absurd cc
-taken-at [] (suc k) p x h = absurd cc
-taken-at (y ∷ ys) (suc k) zero x h = (omega arith, h)
-taken-at (y ∷ ys) (suc k) (suc p) x h = let m = taken-at ys k p x h in (omega (arith, m.0), m.1)
+taken-at xs k p x h =
+    let within = slice_get_within (take k xs) p x h in
+    let low : p < k = omega (arith, within, length-take k xs) in
+    (low, sym (slice_take xs k p low) ∙ h)
 
 -- what is given before a place is given before a later one
 given-later : {A B : Type 0} (f : A → Option B) (xs : List A) (p k : ℕ) (y : B) → p ≤ k → Contains (filter_map f (take p xs)) y → Contains (filter_map f (take k xs)) y
@@ -290,8 +285,7 @@ module _ (r : Resolve) (v : IsValid r) (id : WorldId) (w : World) (there : world
         (types-ready t.place (item.Type_ t.id') t.at x (contains-filter (has_owner r home) (used_by_number r t.id'.0) x (all-contained (has_owner r home) (met_by (met_of r) id'.0) x stay d) used))
 
     part-meets : (n : ℕ) (def : TypeDef) → type_at r n ≡ Some def → Among n → (id' : TypeId) → Contains (parts_of def.kind) (ty.Id id') → Meets id'.0
-    part-meets n def is a id' c = part-met r v home n def is id' c a.own
-        (λ stay. inl (record { own = stay; listed = part-listed n def is a def.name refl id' c stay }))
+    part-meets n def is a id' c = part-met r v home n def is id' c a.own (λ stay. inl (record { own = stay; listed = part-listed n def is a def.name refl id' c stay }))
         (λ named here uses. inr (λ def' is'. let name = some-of def.name named in
         use-stands n def is (type-item (suc k) n (a.listed n (named-meets r (valid-references r v) n def name.0 is name.1))) id' c def' is' uses
         (use-at r v home n def is id' c named here uses def' is')))
@@ -343,35 +337,37 @@ module _ (r : Resolve) (v : IsValid r) (id : WorldId) (w : World) (there : world
   unfolding world_items
   entries-stand = world_passes world_items r v.rules.world_items id.0 w there
 
+  imports-stand : (e : WorldKey × WorldItem) → Contains w.imports.entries e → import_stands r id.0 e.0 e.1 ≡ true
+  imports-stand e c = all-contained (λ e. import_stands r id.0 e.0 e.1) w.imports.entries e (first_true (list_all (λ e. import_stands r id.0 e.0 e.1) w.imports.entries) _ entries-stand) c
+
+  -- no export is a type
+  pub no-type-exported : (k : WorldKey) (t : TypeId) → Contains w.exports.entries (k, item.Type_ t) → ⊥
+  no-type-exported k t c = wrong k (all-contained (λ e. export_stands r e.0 e.1) w.exports.entries (k, item.Type_ t)
+      (second_true (list_all (λ e. import_stands r id.0 e.0 e.1) w.imports.entries) _ entries-stand) c)
+    where
+      wrong : (k : WorldKey) → export_stands r k (item.Type_ t) ≡ true → ⊥
+      wrong (key.Name name) h = cc
+      wrong (key.Interface i) h = cc
+
   -- a type that is an item is one of the world
   pub own-type : (k : ℕ) (id' : TypeId) → slice_get items k ≡ Some (item.Type_ id') → IsTypeOf r home id'
   own-type k id' at = elim (Contains-append_cases (values w.imports) (values w.exports) (item.Type_ id') (get-contains items k (item.Type_ id') at)) [
     | inl c ↦ (let e = contains-mapped (λ (e : WorldKey × WorldItem). e.1) w.imports.entries (item.Type_ id') c in
-        let stands = all-contained (λ e. import_stands r id.0 e.0 e.1) w.imports.entries e.0 (first_true (list_all (λ e. import_stands r id.0 e.0 e.1) w.imports.entries) _ entries-stand) e.1 in
         let range = second_true (key_in_range r e.0.0) _ (all-contained (λ e. key_in_range r e.0 && item_in_range r e.1) w.imports.entries e.0
         (first_true (entries_in_range r w.imports.entries) _ entries-range) e.1) in
-        imported e.0.0 (subst (λ (i : WorldItem). import_stands r id.0 e.0.0 i ≡ true) e.2 stands) (subst (λ (i : WorldItem). item_in_range r i ≡ true) e.2 range))
+        imported e.0.0 (subst (λ (i : WorldItem). import_stands r id.0 e.0.0 i ≡ true) e.2 (imports-stand e.0 e.1)) (subst (λ (i : WorldItem). item_in_range r i ≡ true) e.2 range))
     | inr c ↦ (let e = contains-mapped (λ (e : WorldKey × WorldItem). e.1) w.exports.entries (item.Type_ id') c in
-        let stands = all-contained (λ e. export_stands r e.0 e.1) w.exports.entries e.0 (second_true (list_all (λ e. import_stands r id.0 e.0 e.1) w.imports.entries) _ entries-stand) e.1 in
-        exported e.0.0 (subst (λ (i : WorldItem). export_stands r e.0.0 i ≡ true) e.2 stands))
+        absurd (no-type-exported e.0.0 id' (subst (λ (i : WorldItem). Contains w.exports.entries (e.0.0, i)) e.2 e.1)))
   ]
     where
-      exported : (k : WorldKey) → export_stands r k (item.Type_ id') ≡ true → IsTypeOf r home id'
-      exported (key.Name name) h = absurd cc
-      exported (key.Interface i) h = absurd cc
-
       imported : (k : WorldKey) → import_stands r id.0 k (item.Type_ id') ≡ true → item_in_range r (item.Type_ id') ≡ true → IsTypeOf r home id'
       imported (key.Interface i) h range = absurd cc
       imported (key.Name name) h range =
           let found = found-in r.types.items id'.0 range in
           let test : (text_is found.0.name (text_of name) && same_owner found.0.owner home) ≡ true =
           subst (λ (o : Option TypeDef). passes (λ def. text_is def.name (text_of name) && same_owner def.owner home) o ≡ true) found.1 h in
-          record {
-            def = found.0;
-            there = found.1;
-            named_ = named_too found.0.name (text_of name) (first_true (text_is found.0.name (text_of name)) _ test);
-            owned = same-owner found.0.owner home (second_true (text_is found.0.name (text_of name)) _ test);
-          }
+          let named_ = named_too found.0.name (text_of name) (first_true (text_is found.0.name (text_of name)) _ test) in
+          record { def = found.0; there = found.1; named_ = named_; owned = same-owner found.0.owner home (second_true (text_is found.0.name (text_of name)) _ test) }
 
   -- a function that is an item is one of the world
   pub function-there : (f : Function) (k : ℕ) → slice_get items k ≡ Some (item.Function f) → Contains (functions_of r home) f
@@ -396,19 +392,9 @@ module _ (r : Resolve) (v : IsValid r) (id : WorldId) (w : World) (there : world
       (subst (λ (o : Option TypeDef). Contains (option_map_or (used_by_type r) o []) x) (sym own.there) (part-uses r (valid-references r v) own.def id' x c d))))
       (λ named here uses. absurd (use-foreign r v home def' (use-at r v home t.0 own.def own.there id' c named here uses def' at') f))
 
-  -- no export is a type
-  pub no-type-exported : (k : WorldKey) (t : TypeId) → Contains w.exports.entries (k, item.Type_ t) → ⊥
-  no-type-exported k t c = wrong k (all-contained (λ e. export_stands r e.0 e.1) w.exports.entries (k, item.Type_ t)
-      (second_true (list_all (λ e. import_stands r id.0 e.0 e.1) w.imports.entries) _ entries-stand) c)
-    where
-      wrong : (k : WorldKey) → export_stands r k (item.Type_ t) ≡ true → ⊥
-      wrong (key.Name name) h = cc
-      wrong (key.Interface i) h = cc
-
   -- a type is imported under its name
   pub type-key : (k : WorldKey) (t : TypeId) → Contains w.imports.entries (k, item.Type_ t) → (own : IsTypeOf r home t) (name : String Global) → own.def.name ≡ Some name → text_of name ≡ key_text r k
-  type-key k t c own name named = of k (all-contained (λ e. import_stands r id.0 e.0 e.1) w.imports.entries (k, item.Type_ t)
-      (first_true (list_all (λ e. import_stands r id.0 e.0 e.1) w.imports.entries) _ entries-stand) c)
+  type-key k t c own name named = of k (imports-stand (k, item.Type_ t) c)
     where
       of : (k : WorldKey) → import_stands r id.0 k (item.Type_ t) ≡ true → text_of name ≡ key_text r k
       of (key.Interface i) h = absurd cc
@@ -490,6 +476,9 @@ module _ (r : Resolve) (w : World) (e e' : WorldEncoder) (done : Entries) (h : H
 
   module _ (grows : Grows (world_view_of e.resolve.now e) (world_view_of e'.resolve.now e')) (types : List (Text × TypeMeaning))
       (exported : (world_definitions e'.outer).exports ≡ (world_definitions e.outer).exports ++ types) where
+    stay : {A : Type 0} (f : Option follow.Scope → A) → f (outer_scope e'.outer) ≡ f (outer_scope e.outer) → f (Some sound-there.scope) ≡ f (Some h.scope)
+    stay f same = ap f (sym sound-there.followed) ∙ same ∙ ap f h.followed
+
     -- the scope of the component type
     adds : AddsTypes h.scope sound-there.scope (map type_seen types)
     adds =
@@ -498,24 +487,18 @@ module _ (r : Resolve) (w : World) (e e' : WorldEncoder) (done : Entries) (h : H
           more_types = ap (λ o. types_seen (option_map_or (λ s. s.imports) o [])) (sym sound-there.followed) ∙ types-back (seen_imports e'.outer) ∙ ap (map type_seen) exported
               ∙ map-append type_seen (filter_map declared_type (seen_imports e.outer)) types
               ∙ ap (λ xs. xs ++ map type_seen types) (sym (types-back (seen_imports e.outer)) ∙ ap (λ o. types_seen (option_map_or (λ s. s.imports) o [])) h.followed);
-          others_stay = ap (λ o. others_seen 0 (option_map_or (λ s. s.imports) o [])) (sym sound-there.followed) ∙ ap (λ (o : Others). o.imports) others-same ∙ ap
-              (λ o. others_seen 0 (option_map_or (λ s. s.imports) o [])) h.followed;
-          exports_stay = ap (λ o. option_map_or (λ s. s.exports) o []) (sym sound-there.followed) ∙ ap (λ (o : Others). o.exports) others-same ∙ ap
-              (λ o. option_map_or (λ s. s.exports) o []) h.followed;
-          instances_stay = ap (λ o. option_map_or (λ s. s.instances) o []) (sym sound-there.followed) ∙ ap (λ (o : Others). o.instances) others-same ∙ ap
-              (λ o. option_map_or (λ s. s.instances) o []) h.followed;
-          used_stay = ap (λ o. option_map_or (λ s. s.used) o []) (sym sound-there.followed) ∙ ap (λ (o : Others). o.used) others-same ∙ ap (λ o. option_map_or (λ s. s.used) o []) h.followed;
-          same_instance_types = ap (λ o. instance_types (option_map_or (λ s. s.slots) o [])) (sym sound-there.followed) ∙ ap (λ (o : Others). o.instance_types) others-same ∙ ap
-              (λ o. instance_types (option_map_or (λ s. s.slots) o [])) h.followed;
+          others_stay = stay (λ o. others_seen 0 (option_map_or (λ s. s.imports) o [])) (ap (λ (o : Others). o.imports) others-same);
+          exports_stay = stay (λ o. option_map_or (λ s. s.exports) o []) (ap (λ (o : Others). o.exports) others-same);
+          instances_stay = stay (λ o. option_map_or (λ s. s.instances) o []) (ap (λ (o : Others). o.instances) others-same);
+          used_stay = stay (λ o. option_map_or (λ s. s.used) o []) (ap (λ (o : Others). o.used) others-same);
+          same_instance_types = stay (λ o. instance_types (option_map_or (λ s. s.slots) o [])) (ap (λ (o : Others). o.instance_types) others-same);
           more_slots = omega (arith, grows.more, before, ap (λ o. length (option_map_or (λ s. s.slots) o [])) sound-there.followed);
         }
 
     module _ (more : List Entry) (shown : AllZip (ShowsItem r) more (map type_seen types)) (no_interface : interfaces_among more ≡ []) where
       same-interfaces : interfaces_among (all_done (done.0 ++ more, done.1)) ≡ interfaces_among (all_done done)
-      same-interfaces =
-          flat_map-append _ (done.0 ++ more) done.1
-          ∙ ap (λ xs. xs ++ interfaces_among done.1) (flat_map-append _ done.0 more ∙ ap (λ xs. interfaces_among done.0 ++ xs) no_interface ∙ append-nil (interfaces_among done.0))
-          ∙ sym (flat_map-append _ done.0 done.1)
+      same-interfaces = flat_map-append _ (done.0 ++ more) done.1 ∙ ap (λ xs. xs ++ interfaces_among done.1)
+          (flat_map-append _ done.0 more ∙ ap (λ xs. interfaces_among done.0 ++ xs) no_interface ∙ append-nil (interfaces_among done.0)) ∙ sym (flat_map-append _ done.0 done.1)
 
       shows-then : ShowsEntries r (done.0 ++ more, done.1) sound-there.scope
       shows-then = entries_are_rebuilt r done h.scope sound-there.scope more (map type_seen types) h.shows adds shown

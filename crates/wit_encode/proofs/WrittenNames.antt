@@ -74,8 +74,7 @@ type-names r q canonical x id ds es is g =
     names-stay q ds es g ∙ sym (append-nil (instance_names ds)) ∙ ap (λ (ns : List ExternName). instance_names ds ++ ns) (sym (none-among r canonical x (ap item_interface is)))
 
 pub function-names : (r q : Resolve) (canonical : Bool) (x : Entry) (f : Function) (ds es outer : Declarations) (direction : Direction) (name : ExternName) (k : ℕ) → x.1 ≡ item.Function f
-    → GrowsAround q (instances_around ds) (instances_around es)
-    → outer ≡ declared_after es (declared_towards direction name (refs.Func k)) → NamesMore r canonical (x ∷ []) ds outer
+    → GrowsAround q (instances_around ds) (instances_around es) → outer ≡ declared_after es (declared_towards direction name (refs.Func k)) → NamesMore r canonical (x ∷ []) ds outer
 function-names r q canonical x f ds es outer direction name k is g declared =
     ap instance_names declared ∙ names-more es (declared_towards direction name (refs.Func k)) ∙ ap (λ (ns : List ExternName). instance_names es ++ ns) (no-function-name direction name k)
     ∙ append-nil (instance_names es) ∙ names-stay q ds es g ∙ sym (append-nil (instance_names ds)) ∙ ap (λ (ns : List ExternName). instance_names ds ++ ns)
@@ -87,11 +86,9 @@ part-names : (q : Resolve) (a a' : Around) (i : InterfaceId) (def : Interface) (
 part-names q a a' i def written functions k part = search (std_rules, names-behind, names-aliased)
 
 pub interface-names : (r q : Resolve) (canonical : Bool) (x : Entry) (i : InterfaceId) (a a' : Around) (def : Interface) (outer : Declarations) (direction : Direction) (name : ExternName) (k : ℕ)
-    → item_interface x.1 ≡ Some i.0
-    → EncodesInterface q a a' i def k → outer ≡ declared_after a'.declared (declared_towards direction name (refs.Instance k)) → name ≡ name_of_item r canonical x
+    → item_interface x.1 ≡ Some i.0 → EncodesInterface q a a' i def k → outer ≡ declared_after a'.declared (declared_towards direction name (refs.Instance k)) → name ≡ name_of_item r canonical x
     → NamesMore r canonical (x ∷ []) a.declared outer
-interface-names r q canonical x i a a' def outer direction name k is encodes declared named =
-    ap instance_names declared ∙ names-more a'.declared (declared_towards direction name (refs.Instance k))
+interface-names r q canonical x i a a' def outer direction name k is encodes declared named = ap instance_names declared ∙ names-more a'.declared (declared_towards direction name (refs.Instance k))
     ∙ (λ j. part-names q a a' i def _ _ k encodes.part j
     ++ (interface-name direction name k ∙ ap (λ (n : ExternName). n ∷ []) named ∙ sym (one-among r canonical x i.0 is)) j)
 
@@ -112,18 +109,15 @@ module _ (r : Resolve) (canonical : Bool) where
 
   -- one import more
   pub import-named : (a a' : Around) (i : InterfaceId) (number : ℕ) → ImportsTypes r canonical a a' i number → instance_names a'.declared ≡ instance_names a.declared ++ name i.0 ∷ []
-  import-named a a' i number t =
-      search (std_rules, names-more t.encoded.declared (Declaration.imported (name i.0) (refs.Instance t.slot)), part-names r a t.encoded i t.def _ _ t.slot t.encodes.part)
+  import-named a a' i number t = search (std_rules, names-more t.encoded.declared (Declaration.imported (name i.0) (refs.Instance t.slot)), part-names r a t.encoded i t.def _ _ t.slot t.encodes.part)
 
   pub imports-named : (a a' : Around) (i : InterfaceId) (number : ℕ) (ns : List ℕ) (start : Declarations) → ImportsTypes r canonical a a' i number → NamesInterfaces r canonical ns start a.declared
       → NamesInterfaces r canonical (ns ++ i.0 ∷ []) start a'.declared
-  imports-named a a' i number ns start t named =
-      search (std_rules, import-named a a' i number t, append_assoc (instance_names start) (map name ns) (name i.0 ∷ []), map-append name ns (i.0 ∷ []))
+  imports-named a a' i number ns start t named = search (std_rules, import-named a a' i number t, append_assoc (instance_names start) (map name ns) (name i.0 ∷ []), map-append name ns (i.0 ∷ []))
 
   -- behind all that it reaches, the interface itself
   pub all-named : (a a' : Around) (ns : List ℕ) (i : InterfaceId) (def : Interface) (k : ℕ) (start outer : Declarations) → start ≡ Declarations.no_more
-      → NamesInterfaces r canonical ns start a.declared → ns ≡ reached_in_order r i.0
-      → EncodesInterface r a a' i def k → outer ≡ append a'.declared (Declarations.declares (Declaration.exported (name i.0) (refs.Instance k)) Declarations.no_more)
-      → WritesPaths r canonical i.0 outer
+      → NamesInterfaces r canonical ns start a.declared → ns ≡ reached_in_order r i.0 → EncodesInterface r a a' i def k
+      → outer ≡ append a'.declared (Declarations.declares (Declaration.exported (name i.0) (refs.Instance k)) Declarations.no_more) → WritesPaths r canonical i.0 outer
   all-named a a' ns i def k start outer nothing named order encodes is =
       search (std_rules, names-more a'.declared (Declaration.exported (name i.0) (refs.Instance k)), part-names r a a' i def _ _ k encodes.part, map-append name ns (i.0 ∷ []))

@@ -33,12 +33,10 @@ loop-number-preserved c = record {
   closed = c.import_dependency.ensures.closed;
   packages_ = c.import_dependency.ensures.resolve ∙ c.loop-number.invariant.packages_;
   imported =
-      let here = is-next c.args.encoder.now.resolve.now c.loop-number.encoder.resolve.now
-      c.args.interfaces.now c.loop-number.number (outside c.loop-number.encoder) c.loop-number.invariant.packages_
+      let here = is-next c.args.encoder.now.resolve.now c.loop-number.encoder.resolve.now c.args.interfaces.now c.loop-number.number (outside c.loop-number.encoder) c.loop-number.invariant.packages_
       c.requires.valid c.requires.importable c.loop-number-test.true c.loop-number.invariant.imported in
       subst (λ (q : Resolve). HasImported q (outside c.import_dependency.new.encoder) (take (c.loop-number.number + 1) (map (λ (id : InterfaceId). id.0) c.args.interfaces.now)))
-      (sym c.import_dependency.ensures.resolve)
-      (here.then c.args.canonical_names (outside c.import_dependency.new.encoder) c.in_ok-import_dependency.ensures.imports);
+      (sym c.import_dependency.ensures.resolve) (here.then c.args.canonical_names (outside c.import_dependency.new.encoder) c.in_ok-import_dependency.ensures.imports);
   named = named-next c.args.encoder.now.resolve.now c.loop-number.encoder.resolve.now c.args.canonical_names c.args.interfaces.now c.loop-number.number c.args.encoder.now.outer
       (outside c.loop-number.encoder) (outside c.import_dependency.new.encoder)
       c.loop-number.invariant.packages_ c.loop-number-test.true c.in_ok-import_dependency.ensures.imports c.loop-number.invariant.named;
@@ -46,16 +44,12 @@ loop-number-preserved c = record {
       c.loop-number.encoder.outer c.import_dependency.new.encoder.outer
       c.loop-number.invariant.packages_ c.loop-number-test.true c.loop-number.invariant.written c.in_ok-import_dependency.ensures.written;
   held = λ h. held-next c.args.encoder.now.resolve.now c.loop-number.encoder.resolve.now c.args.canonical_names c.args.interfaces.now c.loop-number.number (outside c.loop-number.encoder)
-      (outside c.import_dependency.new.encoder)
-      c.loop-number.invariant.packages_ c.loop-number-test.true c.in_ok-import_dependency.ensures.imports (c.loop-number.invariant.held h);
-  aliases = λ h. aliases-next c.args.encoder.now.resolve.now c.loop-number.encoder.resolve.now c.args.canonical_names
-      c.args.interfaces.now c.loop-number.number (outside c.loop-number.encoder)
-      (outside c.import_dependency.new.encoder)
-      c.loop-number.invariant.packages_ c.loop-number-test.true c.in_ok-import_dependency.ensures.imports c.loop-number.invariant.imported (c.loop-number.invariant.aliases h);
-  defines = λ h. defines-next c.args.encoder.now.resolve.now c.loop-number.encoder.resolve.now c.args.canonical_names
-      c.args.interfaces.now c.loop-number.number (outside c.loop-number.encoder)
-      (outside c.import_dependency.new.encoder)
-      c.loop-number.invariant.packages_ c.loop-number-test.true c.in_ok-import_dependency.ensures.imports (c.loop-number.invariant.defines h);
+      (outside c.import_dependency.new.encoder) c.loop-number.invariant.packages_ c.loop-number-test.true c.in_ok-import_dependency.ensures.imports (c.loop-number.invariant.held h);
+  aliases = λ h. aliases-next c.args.encoder.now.resolve.now c.loop-number.encoder.resolve.now c.args.canonical_names c.args.interfaces.now c.loop-number.number (outside c.loop-number.encoder)
+      (outside c.import_dependency.new.encoder) c.loop-number.invariant.packages_ c.loop-number-test.true c.in_ok-import_dependency.ensures.imports c.loop-number.invariant.imported
+      (c.loop-number.invariant.aliases h);
+  defines = λ h. defines-next c.args.encoder.now.resolve.now c.loop-number.encoder.resolve.now c.args.canonical_names c.args.interfaces.now c.loop-number.number (outside c.loop-number.encoder)
+      (outside c.import_dependency.new.encoder) c.loop-number.invariant.packages_ c.loop-number-test.true c.in_ok-import_dependency.ensures.imports (c.loop-number.invariant.defines h);
 }
 
 pub returns : goal.returns
@@ -63,26 +57,21 @@ returns c = record {
   closed = c.loop-number.invariant.closed;
   resolve = c.loop-number.invariant.packages_;
   imported = subst (λ (q : Resolve). HasImported q (outside c.loop-number.encoder) (numbers c.args.interfaces.now)) c.loop-number.invariant.packages_
-      (all-of (HasImported c.loop-number.encoder.resolve.now (outside c.loop-number.encoder))
-      c.args.interfaces.now c.loop-number.number c.loop-number-test.false c.loop-number.invariant.imported);
-  held = λ h. all-of (HoldsImports c.args.encoder.now.resolve.now (outside c.loop-number.encoder))
-      c.args.interfaces.now c.loop-number.number c.loop-number-test.false (c.loop-number.invariant.held h);
+      (all-of (HasImported c.loop-number.encoder.resolve.now (outside c.loop-number.encoder)) c.args.interfaces.now c.loop-number.number c.loop-number-test.false c.loop-number.invariant.imported);
+  held = λ h. all-of (HoldsImports c.args.encoder.now.resolve.now (outside c.loop-number.encoder)) c.args.interfaces.now c.loop-number.number c.loop-number-test.false (c.loop-number.invariant.held h);
   once = λ h. all-of (DefinesImports c.args.encoder.now.resolve.now c.loop-number.encoder.outer)
       c.args.interfaces.now c.loop-number.number c.loop-number-test.false (c.loop-number.invariant.defines h);
   aliases = λ h. all-of (HasImportAliases c.args.encoder.now.resolve.now (outside c.loop-number.encoder))
       c.args.interfaces.now c.loop-number.number c.loop-number-test.false (c.loop-number.invariant.aliases h);
-  written = all-of (λ ns. AddsBytes (imports_extent c.args.encoder.now.resolve.now c.args.canonical_names ns) c.args.encoder.now.outer c.loop-number.encoder.outer)
-      c.args.interfaces.now c.loop-number.number c.loop-number-test.false
-      c.loop-number.invariant.written;
-  named = all-of (λ ns. NamesInterfaces c.args.encoder.now.resolve.now c.args.canonical_names ns c.args.encoder.now.outer c.loop-number.encoder.outer)
-      c.args.interfaces.now c.loop-number.number c.loop-number-test.false
-      c.loop-number.invariant.named;
+  written = all-of (λ ns. AddsBytes (imports_extent c.args.encoder.now.resolve.now c.args.canonical_names ns) c.args.encoder.now.outer c.loop-number.encoder.outer) c.args.interfaces.now
+      c.loop-number.number c.loop-number-test.false c.loop-number.invariant.written;
+  named = all-of (λ ns. NamesInterfaces c.args.encoder.now.resolve.now c.args.canonical_names ns c.args.encoder.now.outer c.loop-number.encoder.outer) c.args.interfaces.now c.loop-number.number
+      c.loop-number-test.false c.loop-number.invariant.named;
   size = search rules;
   refuses = search rules;
 }
 
 pub returns-in_err-import_dependency-clause-size : goal.returns-in_err-import_dependency-clause-size
-returns-in_err-import_dependency-clause-size c = λ h.
-    λ held. next-refused c.args.encoder.now.resolve.now c.loop-number.encoder.resolve.now c.args.canonical_names c.args.interfaces.now c.loop-number.number (outside c.loop-number.encoder)
-    c.loop-number.invariant.packages_
-    c.loop-number-test.true c.loop-number.invariant.imported (c.loop-number.invariant.held held) (c.import_dependency.ensures.size (search rules))
+returns-in_err-import_dependency-clause-size c = λ h. λ held. next-refused c.args.encoder.now.resolve.now c.loop-number.encoder.resolve.now c.args.canonical_names c.args.interfaces.now
+    c.loop-number.number (outside c.loop-number.encoder) c.loop-number.invariant.packages_ c.loop-number-test.true c.loop-number.invariant.imported (c.loop-number.invariant.held held)
+    (c.import_dependency.ensures.size (search rules))

@@ -45,7 +45,6 @@ returns-in_err-import-clause-size c = λ h.
     c.in_ok-name.ensures.ok (c.import.ensures.size (search rules))
 
 pub returns-clause-written : goal.returns-clause-written
-returns-clause-written c =
-    adds-described (types_instance_weight c.args.encoder.now.resolve.now c.args.interface.0) c.args.encoder.now.outer c.encode_dependency.new.self.outer c.import.new.self _ _
+returns-clause-written c = adds-described (types_instance_weight c.args.encoder.now.resolve.now c.args.interface.0) c.args.encoder.now.outer c.encode_dependency.new.self.outer c.import.new.self _ _
     (name_of_interface c.args.encoder.now.resolve.now c.args.canonical_names c.args.interface.0) c.in_ok-slot.ensures.written c.in_ok-import.ensures.ok
     (bytes-few.imports _ (refs.Instance c.in_ok-slot.slot)) c.in_ok-name.ensures.ok

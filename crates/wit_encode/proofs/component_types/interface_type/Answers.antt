@@ -5,14 +5,9 @@ use Rattle.wit_model.specs.declared.{model.Resolve.Resolve, model.InterfaceId.In
 use Rattle.comp_bytes.specs.Raw.{Declaration, Declarations, append}
 use Rattle.encode_types.specs.Known.{Around, UsedStand, standing_instances}
 use Rattle.wit_model.proofs.OnePath.{found-in}
-use Rattle.wit_encode.specs.{DependencyAliases.HasImportAliases, DependencyAliases.IsMetAmong, DependencyRoom.ImportsLackRoom, DependencyRoom.of_imports}
-use Rattle.wit_encode.specs.{DependencyCounts.DefinesImports, Instance.EncodesInterface, Instance.LacksInstanceRoom, Instance.whole_interface}
-use Rattle.wit_encode.specs.{Encoders.InterfaceLacksRoom, Encoders.outside, Dependencies.AreImportable, Dependencies.HasImported, Dependencies.ShowsComponent}
-use Rattle.wit_encode.specs.{WrittenBytes.AddsBytes, WrittenBytes.imports_extent, WrittenNames.NamesInterfaces}
-use Rattle.wit_encode.proofs.{DependencyAliases.nothing-aliased, DependencyWeighing.lacking-components-heavy, Scopes.paths-fit, Scopes.refused-by_paths}
+use Rattle.wit_encode.specs.{DependencyAliases.HasImportAliases, DependencyAliases.IsMetAmong, DependencyRoom.ImportsLackRoom, DependencyRoom.of_imports, DependencyCounts.DefinesImports, Instance.EncodesInterface, Instance.LacksInstanceRoom, Instance.whole_interface, Encoders.InterfaceLacksRoom, Encoders.outside, Dependencies.AreImportable, Dependencies.HasImported, Dependencies.ShowsComponent, WrittenBytes.AddsBytes, WrittenBytes.imports_extent, WrittenNames.NamesInterfaces}
+use Rattle.wit_encode.proofs.{DependencyAliases.nothing-aliased, DependencyWeighing.lacking-components-heavy, Scopes.paths-fit, Scopes.refused-by_paths, Imported.nothing_is_imported, Imported.exports_end, BytesWritten.adds-described, BytesWritten.component-few, Extents.bytes-few, ImportsStand.imports_stand, WrittenNames.all-named}
 use Rattle.wit_encode.proofs.DependencyHolding.{export-defines, export-lacks, nothing-defined, nothing-held, own-lacks}
-use Rattle.wit_encode.proofs.{Imported.nothing_is_imported, Imported.exports_end, BytesWritten.adds-described, BytesWritten.component-few, Extents.bytes-few}
-use Rattle.wit_encode.proofs.{ImportsStand.imports_stand, WrittenNames.all-named}
 use Rattle.wit_encode.proofs.ImportLoop.{few-importable, moved, moved-held, path-in-range, reached-importable, reached-used}
 use Rattle.encode_names.specs.WorldNames.{name_of_interface}
 use Rattle.comp_bytes.specs.declared.forms.ComponentTypeRef.TheVariants as refs
@@ -30,8 +25,7 @@ import_dependencies-requires-clause-nothing c =
     (nothing_is_imported new.result.resolve.now)
 
 pub import_dependencies-requires-clause-importable : goal.import_dependencies-requires-clause-importable
-import_dependencies-requires-clause-importable c =
-    subst (λ (q : Resolve). AreImportable q (map (λ (id : InterfaceId). id.0) c.deref-2.result.now)) (sym c.new-encoder.ensures.resolve)
+import_dependencies-requires-clause-importable c = subst (λ (q : Resolve). AreImportable q (map (λ (id : InterfaceId). id.0) c.deref-2.result.now)) (sym c.new-encoder.ensures.resolve)
     (subst (λ (xs : List InterfaceId). AreImportable c.args.resolve.now (map (λ (id : InterfaceId). id.0) xs)) (sym c.deref-2.ensures.value)
     (reached-importable c.args.resolve.now c.requires.valid c.args.interface.0 (map (λ (id : InterfaceId). id.0) c.in_ok-reached.reached.items) c.in_ok-reached.ensures.reached))
 
@@ -43,8 +37,7 @@ import_dependencies-requires-clause-few c =
     omega (arith, few, length-map c.in_ok-reached.reached.items (λ (id : InterfaceId). id.0), ap length c.deref-2.ensures.value)
 
 pub encode_instance-requires-clause-in_range : goal.encode_instance-requires-clause-in_range
-encode_instance-requires-clause-in_range c =
-    subst (λ (q : Resolve). c.args.interface.0 < length q.interfaces.items) (sym (c.import_dependencies.ensures.resolve ∙ c.new-encoder.ensures.resolve))
+encode_instance-requires-clause-in_range c = subst (λ (q : Resolve). c.args.interface.0 < length q.interfaces.items) (sym (c.import_dependencies.ensures.resolve ∙ c.new-encoder.ensures.resolve))
     (path-in-range c.args.resolve.now c.args.interface.0 c.requires.named)
 
 pub encode_instance-requires-clause-around : goal.encode_instance-requires-clause-around
@@ -107,8 +100,7 @@ returns c =
 
 pub returns-in_err-refuse_equal_paths-clause-size : goal.returns-in_err-refuse_equal_paths-clause-size
 returns-in_err-refuse_equal_paths-clause-size c = λ refused. paths-fit c.args.resolve.now (map (λ (id : InterfaceId). id.0) c.deref.result.now) c.args.canonical_names
-    c.in_err-refuse_equal_paths.field-0.0
-    c.from_residual-in_err-refuse_equal_paths.result c.in_err-refuse_equal_paths.ensures.refuses c.from_residual-in_err-refuse_equal_paths.ensures.1 refused
+    c.in_err-refuse_equal_paths.field-0.0 c.from_residual-in_err-refuse_equal_paths.result c.in_err-refuse_equal_paths.ensures.refuses c.from_residual-in_err-refuse_equal_paths.ensures.1 refused
 
 pub returns-in_err-import_dependencies-clause-size : goal.returns-in_err-import_dependencies-clause-size
 returns-in_err-import_dependencies-clause-size c = λ h.

@@ -29,16 +29,13 @@ first c = sym c.slot_around.ensures ∙ c.in-None.is
 pub returns-in-Some-name : goal.returns-in-Some-name
 returns-in-Some-name c =
     let is-alias = source-alias c.args.resolve.now (around_at c.args.outer.now c.args.foreign.now) c.args.interface.0 c.in-Some-instance_around.instance c.args.id c.index.result.now
-    c.in-Some-name.name
-    c.deref.result.now c.requires.source (slice_get_read _ _ _ _ refl c.requires.in_range c.index.ensures) c.in-Some-name.is c.deref.ensures
+    c.in-Some-name.name c.deref.result.now c.requires.source (slice_get_read _ _ _ _ refl c.requires.in_range c.index.ensures) c.in-Some-name.is c.deref.ensures
     (sym c.instance_around.ensures ∙ c.in-Some-instance_around.is) (first c) in
     record {
-      slot = made-slot c.make_alias.result c.args.resolve.now c.args.outer.now c.make_alias.new.outer c.args.foreign.now c.make_alias.new.known c.args.id
-          c.in-Some-instance_around.instance c.deref.result.now
-          (first (goal.at.returns-in-Some-name c).After-make_alias) c.make_alias.ensures.ok c.make_alias.ensures.listed;
-      reaches = made-reaches c.make_alias.result c.args.resolve.now c.args.outer.now c.make_alias.new.outer c.args.foreign.now c.make_alias.new.known c.args.id
-          c.in-Some-instance_around.instance c.deref.result.now
-          is-alias c.make_alias.ensures.made c.make_alias.ensures.listed c.make_alias.ensures.err c.make_alias.ensures.same;
+      slot = made-slot c.make_alias.result c.args.resolve.now c.args.outer.now c.make_alias.new.outer c.args.foreign.now c.make_alias.new.known c.args.id c.in-Some-instance_around.instance
+          c.deref.result.now (first (goal.at.returns-in-Some-name c).After-make_alias) c.make_alias.ensures.ok c.make_alias.ensures.listed;
+      reaches = made-reaches c.make_alias.result c.args.resolve.now c.args.outer.now c.make_alias.new.outer c.args.foreign.now c.make_alias.new.known c.args.id c.in-Some-instance_around.instance
+          c.deref.result.now is-alias c.make_alias.ensures.made c.make_alias.ensures.listed c.make_alias.ensures.err c.make_alias.ensures.same;
       err = search rules;
       size = λ h.
           let def = there (goal.at.returns-in-Some-name c).After-index in

@@ -18,10 +18,8 @@ returns-clause-order c =
     let key : ℕ × Bor (String Global) × Bor Function → ℕ = λ e. e.0 in
     sorted-in-order c.in_ok-types.types.items c.in_ok-all.all.items c.sort_by_key.new.self.items
     (subst (λ (ts : List TypeId). All (λ (e : ℕ × Bor (String Global) × Bor Function). e.0 ≡ place_among ts e.2.now) c.in_ok-all.all.items)
-    c.deref-2.ensures.value c.in_ok-all.ensures.places) c.sort_by_key.ensures.permutation
-    (IsNonDecreasingBy-from_sort_by_key key _ c.in_ok-sort_by_key.ensures.sorted (λ a r q k. search rules))
-    (c.sort_by_key.ensures.stable key (always_returns_same _ (λ a r. r ≡ key a.0.now) _ (λ a r q k. search rules)))
-    ∙ (λ i. by_resource (c.in_ok-types.ensures i) (c.in_ok-all.ensures.functions i))
+    c.deref-2.ensures.value c.in_ok-all.ensures.places) c.sort_by_key.ensures.permutation (IsNonDecreasingBy-from_sort_by_key key _ c.in_ok-sort_by_key.ensures.sorted (λ a r q k. search rules))
+    (c.sort_by_key.ensures.stable key (always_returns_same _ (λ a r. r ≡ key a.0.now) _ (λ a r q k. search rules))) ∙ (λ i. by_resource (c.in_ok-types.ensures i) (c.in_ok-all.ensures.functions i))
 
 pub returns-then-not-has_resource-clause-order : goal.returns-then-not-has_resource-clause-order
 returns-then-not-has_resource-clause-order c = IfOk-weaker c.placed.result _ _

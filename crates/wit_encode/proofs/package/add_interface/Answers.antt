@@ -6,13 +6,11 @@ use Rattle.wit_encode.proofs.{Packages.type-added, Packages.on-ok, PackageRoom.i
 use Rattle.wit_encode.proofs.package.add_interface.Goals as goal
 
 pub returns-clause-adds : goal.returns-clause-adds
-returns-clause-adds c =
-    on-ok c.export_component_type.result c.export_component_type.ensures.more (λ more.
-    type-added c.args.resolve.now c.args.canonical_names (c.args.name.now, c.args.interface) c.in_ok-component.component c.args.builder.now c.export_component_type.new.builder
+returns-clause-adds c = on-ok c.export_component_type.result c.export_component_type.ensures.more
+    (λ more. type-added c.args.resolve.now c.args.canonical_names (c.args.name.now, c.args.interface) c.in_ok-component.component c.args.builder.now c.export_component_type.new.builder
     c.in_ok-component.ensures.shows c.in_ok-component.ensures.names c.in_ok-component.ensures.once c.in_ok-component.ensures.light
     (subst (λ (label : Text). (types : List (Text × Declarations)) → c.args.builder.now ≡ exporting types
-    → c.export_component_type.new.builder ≡ exporting (types ++ (label, c.in_ok-component.component) ∷ []))
-    c.deref.ensures more))
+    → c.export_component_type.new.builder ≡ exporting (types ++ (label, c.in_ok-component.component) ∷ [])) c.deref.ensures more))
 
 pub returns-in_err-component-clause-size : goal.returns-in_err-component-clause-size
 returns-in_err-component-clause-size c = λ h. inl (c.interface_type.ensures.size (search rules))

@@ -7,9 +7,8 @@ use Rattle.wit_encode.proofs.package.add_worlds.Goals as goal
 pub add_world-requires-clause-in_range : goal.add_world-requires-clause-in_range
 add_world-requires-clause-in_range c =
     let next = rest_more deref_pair c.loop-name.name-iterator c.next.new.self c.next.result (c.in-Some.name, c.in-Some.world) c.in-Some.is c.next.ensures.steps in
-    c.requires.in_range (c.in-Some.name.now, c.in-Some.world.now)
-    (next-world c.args.resolve.now (identity_of c.args.package.now) c.args.canonical_names c.args.worlds.now.entries c.loop-name.name-iterator c.next.new.self c.args.builder.now c.loop-name.builder
-    (c.in-Some.name.now, c.in-Some.world.now) c.loop-name.invariant next)
+    c.requires.in_range (c.in-Some.name.now, c.in-Some.world.now) (next-world c.args.resolve.now (identity_of c.args.package.now) c.args.canonical_names c.args.worlds.now.entries
+    c.loop-name.name-iterator c.next.new.self c.args.builder.now c.loop-name.builder (c.in-Some.name.now, c.in-Some.world.now) c.loop-name.invariant next)
 
 pub loop-name-preserved : goal.loop-name-preserved
 loop-name-preserved c =
@@ -23,8 +22,7 @@ returns-in_err-add_world c =
     record {
       adds = search rules;
       differ = search rules;
-      size = λ h.
-          next-world_lacks c.args.resolve.now (identity_of c.args.package.now) c.args.canonical_names c.args.worlds.now.entries c.loop-name.name-iterator c.next.new.self c.args.builder.now
+      size = λ h. next-world_lacks c.args.resolve.now (identity_of c.args.package.now) c.args.canonical_names c.args.worlds.now.entries c.loop-name.name-iterator c.next.new.self c.args.builder.now
           c.loop-name.builder (c.in-Some.name.now, c.in-Some.world.now) c.loop-name.invariant next (c.add_world.ensures.size (search rules));
       refuses = world-refused c.args.resolve.now (identity_of c.args.package.now) c.args.canonical_names c.args.worlds.now.entries c.loop-name.name-iterator c.next.new.self
           c.args.builder.now c.loop-name.builder
@@ -32,6 +30,5 @@ returns-in_err-add_world c =
     }
 
 pub returns-clause-differ : goal.returns-clause-differ
-returns-clause-differ c =
-    all-worlds_apart c.args.resolve.now (identity_of c.args.package.now) c.args.canonical_names c.args.worlds.now.entries c.loop-name.name-iterator c.args.builder.now c.loop-name.builder
-    c.loop-name.invariant (search rules)
+returns-clause-differ c = all-worlds_apart c.args.resolve.now (identity_of c.args.package.now) c.args.canonical_names c.args.worlds.now.entries c.loop-name.name-iterator c.args.builder.now
+    c.loop-name.builder c.loop-name.invariant (search rules)

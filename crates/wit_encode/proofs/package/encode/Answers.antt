@@ -36,9 +36,8 @@ returns c =
     }
 
 pub returns-in_err-encode_component-clause-refuses : goal.returns-in_err-encode_component-clause-refuses
-returns-in_err-encode_component-clause-refuses c =
-    package-passed c.args.resolve.now c.args.package.0 c.args.canonical_names c.in_err-encode_component.field-0.0 c.from_residual.result c.in_err-encode_component.ensures.refuses
-    c.from_residual.ensures.1
+returns-in_err-encode_component-clause-refuses c = package-passed c.args.resolve.now c.args.package.0 c.args.canonical_names c.in_err-encode_component.field-0.0 c.from_residual.result
+    c.in_err-encode_component.ensures.refuses c.from_residual.ensures.1
 
 pub returns-in_err-encode_component-clause-size : goal.returns-in_err-encode_component-clause-size
 returns-in_err-encode_component-clause-size c = λ h. c.encode_component.ensures.size (search rules)

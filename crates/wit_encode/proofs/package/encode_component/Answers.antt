@@ -12,8 +12,7 @@ interfaces_component-requires-clause-named c =
     are-named c.args.resolve.now c.requires.valid c.args.package.0 c.index-own.result.now (slice_get_read _ _ _ _ refl c.requires.in_range c.index-own.ensures)
 
 pub add_worlds-requires-clause-in_range : goal.add_worlds-requires-clause-in_range
-add_worlds-requires-clause-in_range c =
-    are-worlds c.args.resolve.now c.requires.valid c.args.package.0 c.index-own.result.now (slice_get_read _ _ _ _ refl c.requires.in_range c.index-own.ensures)
+add_worlds-requires-clause-in_range c = are-worlds c.args.resolve.now c.requires.valid c.args.package.0 c.index-own.result.now (slice_get_read _ _ _ _ refl c.requires.in_range c.index-own.ensures)
 
 pub returns-in_err-builder-clause-refuses : goal.returns-in_err-builder-clause-refuses
 returns-in_err-builder-clause-refuses c = package-at c.args.resolve.now c.args.package.0 c.args.canonical_names c.from_residual.result (λ p is.
@@ -44,16 +43,14 @@ returns c =
       holds = λ p is. subst (λ (q : Package). HoldsPackage r c.args.canonical_names q c.add_worlds.new.builder) (some-same own p (sym at ∙ is))
           (package-held r c.requires.valid c.args.package.0 own at c.args.canonical_names c.in_ok-builder.builder c.add_worlds.new.builder c.in_ok-builder.ensures.holds
           c.in_ok-add_worlds.ensures.adds);
-      differ = λ asked p is.
-          subst (HasNoClashes r) (some-same own p (sym at ∙ is)) (record { interfaces = c.in_ok-builder.ensures.differ asked; worlds = c.in_ok-add_worlds.ensures.differ asked });
+      differ = λ asked p is. subst (HasNoClashes r) (some-same own p (sym at ∙ is)) (record { interfaces = c.in_ok-builder.ensures.differ asked; worlds = c.in_ok-add_worlds.ensures.differ asked });
       size = search rules;
       refuses = search rules;
     }
 
 pub returns-in_err-builder-clause-size : goal.returns-in_err-builder-clause-size
-returns-in_err-builder-clause-size c = λ h.
-    interfaces-lack c.args.resolve.now c.requires.valid c.args.package.0 c.index-own.result.now (slice_get_read _ _ _ _ refl c.requires.in_range c.index-own.ensures) c.args.canonical_names
-    (c.interfaces_component.ensures.size (search rules))
+returns-in_err-builder-clause-size c = λ h. interfaces-lack c.args.resolve.now c.requires.valid c.args.package.0 c.index-own.result.now
+    (slice_get_read _ _ _ _ refl c.requires.in_range c.index-own.ensures) c.args.canonical_names (c.interfaces_component.ensures.size (search rules))
 
 pub returns-in_err-add_worlds-clause-size : goal.returns-in_err-add_worlds-clause-size
 returns-in_err-add_worlds-clause-size c = λ h.

@@ -15,12 +15,10 @@ returns-in_err-add_interface c =
     record {
       holds = search rules;
       differ = search rules;
-      size = λ h.
-          next-lacks c.args.resolve.now c.args.canonical_names c.args.interfaces.now.entries c.loop-name.name-iterator c.next.new.self c.loop-name.builder (c.in-Some.name.now, c.in-Some.interface.now)
-          c.loop-name.invariant next (c.add_interface.ensures.size (search rules));
+      size = λ h. next-lacks c.args.resolve.now c.args.canonical_names c.args.interfaces.now.entries c.loop-name.name-iterator c.next.new.self c.loop-name.builder
+          (c.in-Some.name.now, c.in-Some.interface.now) c.loop-name.invariant next (c.add_interface.ensures.size (search rules));
       refuses = next-refused c.args.resolve.now c.args.canonical_names c.args.interfaces.now.entries c.loop-name.name-iterator c.next.new.self c.loop-name.builder (
         c.in-Some.name.now,
         c.in-Some.interface.now,
-      )
-          c.in_err-add_interface.field-0.0 c.from_residual.result c.loop-name.invariant next c.in_err-add_interface.ensures.refuses c.from_residual.ensures.1;
+      ) c.in_err-add_interface.field-0.0 c.from_residual.result c.loop-name.invariant next c.in_err-add_interface.ensures.refuses c.from_residual.ensures.1;
     }

@@ -20,8 +20,7 @@ returns c =
           let inner = c.in_ok-component.component in
           let at : world_at r c.args.world.0 ≡ Some c.index.result.now = slice_get_read _ _ _ _ refl c.requires.in_range c.index.ensures in
           IfOk-weaker c.wrapper_of.result (λ wrapped. wrapped ≡ wrapper (path_in p c.deref.result.now) inner)
-          (λ declared. (w : World) → world_at r c.args.world.0 ≡ Some w → WrapsWorld r c.args.canonical_names p c.args.world.0 w declared)
-          (λ declared is w there. record {
+          (λ declared. (w : World) → world_at r c.args.world.0 ≡ Some w → WrapsWorld r c.args.canonical_names p c.args.world.0 w declared) (λ declared is w there. record {
             inner = inner;
             is = is ∙ ap (λ t. wrapper (path_in p t) inner) (c.deref.ensures ∙ ap (λ (z : World). text_of z.name) (some-same c.index.result.now w (sym at ∙ there)));
             shows = c.in_ok-component.ensures.shows w there;
@@ -32,13 +31,11 @@ returns c =
       differ = search rules;
       size = λ h w there.
           let at : world_at c.args.resolve.now c.args.world.0 ≡ Some c.index.result.now = slice_get_read _ _ _ _ refl c.requires.in_range c.index.ensures in
-          let long : 4294967295 < length (path_in p (text_of w.name)) =
-          subst (λ (t : Text). 4294967295 < length (path_in p t)) (c.deref.ensures ∙ ap (λ (z : World). text_of z.name) (some-same c.index.result.now w (sym at ∙ there)))
-          (c.wrapper_of.ensures.size h) in
+          let long : 4294967295 < length (path_in p (text_of w.name)) = subst (λ (t : Text). 4294967295 < length (path_in p t))
+          (c.deref.ensures ∙ ap (λ (z : World). text_of z.name) (some-same c.index.result.now w (sym at ∙ there))) (c.wrapper_of.ensures.size h) in
           omega arith;
       refuses = search rules;
     }
 
 pub returns-in_err-component-clause-size : goal.returns-in_err-component-clause-size
-returns-in_err-component-clause-size c = λ h w there.
-    omega (arith, c.encode_world.ensures.size (search rules))
+returns-in_err-component-clause-size c = λ h w there. omega (arith, c.encode_world.ensures.size (search rules))

@@ -36,8 +36,7 @@ returns c =
           let imported = subst (λ (z : World). HasDefined r c.encode_items.new.self z.imports.entries) same (c.in_ok-encode_items.ensures.once [] c.new-encoder.ensures.defines) in
           let exported = subst (λ (z : World). HasDefined r c.encode_items-2.new.self (w.imports.entries ++ z.exports.entries)) same (c.in_ok-encode_items-2.ensures.once w.imports.entries imported) in
           defines-once r c.requires.valid w c.encode_items-2.new.self (ended export_ w) (c.in_ok-encode_items-2.ensures.ok w (c.in_ok-encode_items.ensures.ok w (c.new-encoder.ensures.starts
-          w is))) exported
-          (c.in_ok-encode_items-2.ensures.places (c.in_ok-encode_items.ensures.places (subst (λ (z : Declarations). are_beside 0 z ≡ true) (sym c.new-encoder.ensures.empty) refl)));
+          w is))) exported (c.in_ok-encode_items-2.ensures.places (c.in_ok-encode_items.ensures.places (subst (λ (z : Declarations). are_beside 0 z ≡ true) (sym c.new-encoder.ensures.empty) refl)));
       light =
           let w = c.index-def.result.now in
           let at = there (goal.at.returns c).After-index-def in
@@ -72,7 +71,6 @@ returns-in_err-encode_items-2-clause-size c = λ h.
     let r = c.args.resolve.now in
     let w = c.index-def.result.now in
     let at = there (goal.at.returns-in_err-encode_items-2-clause-size c).After-index-def in
-    lacking-worlds-heavy r c.args.world w c.requires.valid at
-    ((c.encode_items-2.ensures.size (search rules)) w (c.in_ok-encode_items.ensures.ok w (c.new-encoder.ensures.starts w at))
+    lacking-worlds-heavy r c.args.world w c.requires.valid at ((c.encode_items-2.ensures.size (search rules)) w (c.in_ok-encode_items.ensures.ok w (c.new-encoder.ensures.starts w at))
     (subst (HasDefined r c.encode_items.new.self) (sym (append-nil w.imports.entries)) (c.in_ok-encode_items.ensures.once [] c.new-encoder.ensures.defines))
     (subst (HoldsFew r c.encode_items.new.self) (sym (append-nil w.imports.entries)) (c.in_ok-encode_items.ensures.few [] c.new-encoder.ensures.few)))

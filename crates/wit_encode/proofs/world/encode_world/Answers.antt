@@ -23,8 +23,7 @@ pub returns-in_err-refuse_clashes-clause-refuses : goal.returns-in_err-refuse_cl
 returns-in_err-refuse_clashes-clause-refuses c = world-at c.args.resolve.now c.args.world.0 c.args.canonical_names c.from_residual.result
     (λ w is. names-refused c.args.resolve.now w c.args.canonical_names c.in_err-refuse_clashes.field-0.0 c.from_residual.result
     (subst (λ (z : World). RefusesNames c.args.resolve.now z c.args.canonical_names c.in_err-refuse_clashes.field-0.0)
-    (there (goal.at.returns-in_err-refuse_clashes-clause-refuses c).After-index-def w is) c.in_err-refuse_clashes.ensures.refuses)
-    c.from_residual.ensures.1)
+    (there (goal.at.returns-in_err-refuse_clashes-clause-refuses c).After-index-def w is) c.in_err-refuse_clashes.ensures.refuses) c.from_residual.ensures.1)
 
 pub returns-in_err-refuse_clashes-clause-size : goal.returns-in_err-refuse_clashes-clause-size
 returns-in_err-refuse_clashes-clause-size c = λ refused. clash-fits c.args.resolve.now c.index-def.result.now c.args.canonical_names c.in_err-refuse_clashes.field-0.0 c.from_residual.result

@@ -5,8 +5,7 @@ use Rattle.wit_model.specs.Lookup.{interface_at}
 use Rattle.wit_model.specs.declared.model.{TypeId.TypeId, Interface.Interface}
 use Rattle.wit_encode.specs.{Encoders.outside, Instance.CanEncodeInterface, Instance.EncodesDependency, Instance.EncodesPart, Instance.AliasesForTypes}
 use Rattle.indexmap.specs.IndexMap.{values}
-use Rattle.wit_encode.proofs.{Refusing.room-listed, Closing.types-alone, BytesWritten.types-few}
-use Rattle.wit_encode.proofs.{Encodable.valid-encodable, interface.InstanceEncoderOf+TypeEncodingMaps.encode_dependency.Goals.After-index-def}
+use Rattle.wit_encode.proofs.{Refusing.room-listed, Closing.types-alone, BytesWritten.types-few, Encodable.valid-encodable, interface.InstanceEncoderOf+TypeEncodingMaps.encode_dependency.Goals.After-index-def}
 use Rattle.encode_types.proofs.{Agree.on_ok, Aliasing.met-none}
 use Rattle.encode_types.specs.{Aliases.AliasesMet, MetKinds.referred}
 use Rattle.base_lemmas.proofs.Options.{at_err as when-err}
@@ -19,8 +18,7 @@ encodable : (c : After-index-def) → CanEncodeInterface c.args.self.now.resolve
 encodable c = valid-encodable c.args.self.now.resolve.now c.requires.valid c.args.self.now.outer c.args.interface c.args.self.now.foreign c.index-def.result.now (there c) c.requires.around
 
 pub encode_part-requires-clause-types : goal.encode_part-requires-clause-types
-encode_part-requires-clause-types c = λ t h.
-    (encodable (goal.at.encode_part-requires-clause-types c).After-index-def).types t
+encode_part-requires-clause-types c = λ t h. (encodable (goal.at.encode_part-requires-clause-types c).After-index-def).types t
     (subst (λ (xs : List TypeId). Contains xs t) (c.deref.ensures.value ∙ c.in_ok-types.ensures) h)
 
 pub encode_part-requires-clause-listed : goal.encode_part-requires-clause-listed
@@ -55,10 +53,9 @@ returns-clause-size c = λ h def is.
     ]
 
 pub returns-clause-written : goal.returns-clause-written
-returns-clause-written c = on_ok c.encode_part.result _ _
-    (λ t. types-few c.args.self.now.resolve.now c.requires.valid c.args.interface c.index-def.result.now (there (goal.at.returns-clause-written c).After-index-def) c.deref.result.now
-    (c.deref.ensures.value ∙ c.in_ok-types.ensures)
-    c.args.self.now.outer c.encode_part.new.self.outer t) c.encode_part.ensures.written
+returns-clause-written c = on_ok c.encode_part.result _ _ (λ t. types-few c.args.self.now.resolve.now c.requires.valid c.args.interface c.index-def.result.now
+    (there (goal.at.returns-clause-written c).After-index-def) c.deref.result.now (c.deref.ensures.value ∙ c.in_ok-types.ensures) c.args.self.now.outer c.encode_part.new.self.outer t)
+    c.encode_part.ensures.written
 
 nothing-new : (c : After-index-def) → AliasesForTypes c.args.self.now.resolve.now c.args.interface (outside c.args.self.now) (outside c.args.self.now)
 nothing-new c = record { def = c.index-def.result.now; there = there c; made = met-none refl }
@@ -67,10 +64,9 @@ pub returns-in_err-types-clause-err : goal.returns-in_err-types-clause-err
 returns-in_err-types-clause-err c = when-err _ (nothing-new (goal.at.returns-in_err-types-clause-err c).After-index-def)
 
 pub returns-clause-err : goal.returns-clause-err
-returns-clause-err c = err-then c.encode_part.result
-    (λ made. record {
-      def = c.index-def.result.now;
-      there = there (goal.at.returns-clause-err c).After-index-def;
-      made = subst (λ (ts : List TypeId). AliasesMet c.args.self.now.resolve.now (Some c.args.interface) (referred ts []) (outside c.args.self.now) (outside c.encode_part.new.self))
-          (c.deref.ensures.value ∙ c.in_ok-types.ensures) made;
-    }) c.encode_part.ensures.err
+returns-clause-err c = err-then c.encode_part.result (λ made. record {
+  def = c.index-def.result.now;
+  there = there (goal.at.returns-clause-err c).After-index-def;
+  made = subst (λ (ts : List TypeId). AliasesMet c.args.self.now.resolve.now (Some c.args.interface) (referred ts []) (outside c.args.self.now) (outside c.encode_part.new.self))
+      (c.deref.ensures.value ∙ c.in_ok-types.ensures) made;
+}) c.encode_part.ensures.err

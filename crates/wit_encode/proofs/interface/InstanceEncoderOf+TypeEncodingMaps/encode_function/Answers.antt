@@ -15,37 +15,34 @@ pub encode_func_type-requires : goal.encode_func_type-requires
 encode_func_type-requires c = λ _. ((refl, tt), rw c.requires.open.packages_ (c.requires.encodable.types, (c.requires.encodable.formed, c.requires.open.agree)))
 
 pub export_function-requires-clause-sound : goal.export_function-requires-clause-sound
-export_function-requires-clause-sound c =
-    ap (λ (s : Scope). s.is_sound) c.encode_func_type.ensures.leaves.scope_stays
+export_function-requires-clause-sound c = ap (λ (s : Scope). s.is_sound) c.encode_func_type.ensures.leaves.scope_stays
     ∙ ap (λ (r : Resolve). (encoder_scope r c.args.self.now.outer c.args.self.now.inner).is_sound) c.requires.open.packages_ ∙ c.requires.encodable.formed.sound
 
 pub returns : goal.returns
 returns c =
     let showed = function-showed c.export_function.result c.args.resolve.now c.args.self.now.resolve.now c.encode_func_type.new.enc.resolve.now c.export_function.new.self.resolve.now
-    c.args.self.now.outer
-    c.encode_func_type.new.enc.outer c.export_function.new.self.outer c.args.self.now.inner c.encode_func_type.new.enc.inner c.export_function.new.self.inner c.args.self.now.maps
+    c.args.self.now.outer c.encode_func_type.new.enc.outer c.export_function.new.self.outer c.args.self.now.inner c.encode_func_type.new.enc.inner c.export_function.new.self.inner c.args.self.now.maps
     c.encode_func_type.new.enc.maps c.export_function.new.self.maps (text_of c.args.name.now, function_meaning c.args.resolve.now c.args.func.now)
-    ((raw_name c.name_of.result).text, record { signature = signature_of c.args.resolve.now c.args.func.now; external_id = (raw_name c.name_of.result).external_id })
-    c.requires.open.packages_ c.encode_func_type.ensures.leaves.scope_stays c.encode_func_type.ensures.leaves.agree c.encode_func_type.ensures.leaves.grows.around_
-    (λ i. (c.export_function.ensures.resolve i).now) c.export_function.ensures.outer c.export_function.ensures.own c.export_function.ensures.around c.export_function.ensures.maps
+    ((raw_name c.name_of.result).text, record { signature = signature_of c.args.resolve.now c.args.func.now; external_id = (raw_name c.name_of.result).external_id }) c.requires.open.packages_
+    c.encode_func_type.ensures.leaves.scope_stays c.encode_func_type.ensures.leaves.agree c.encode_func_type.ensures.leaves.grows.around_ (λ i. (c.export_function.ensures.resolve i).now)
+    c.export_function.ensures.outer c.export_function.ensures.own c.export_function.ensures.around c.export_function.ensures.maps
     (λ i. (c.name_of.ensures.text i, record { signature = signature_of c.args.resolve.now c.args.func.now; external_id = c.name_of.ensures.external_id i }))
     (c.export_function.ensures.ok (signature_of c.args.resolve.now c.args.func.now) c.in_ok-index.ensures.ok) c.export_function.ensures.err in
     let stays = function-stays c.export_function.result c.args.resolve.now c.args.self.now.resolve.now c.encode_func_type.new.enc.resolve.now c.export_function.new.self.resolve.now
-    c.args.self.now.outer
-    c.encode_func_type.new.enc.outer c.export_function.new.self.outer
-    c.args.self.now.inner c.encode_func_type.new.enc.inner c.export_function.new.self.inner c.args.self.now.maps c.encode_func_type.new.enc.maps c.args.func.now
-    ((raw_name c.name_of.result).text, record { signature = signature_of c.args.resolve.now c.args.func.now; external_id = (raw_name c.name_of.result).external_id })
-    c.requires.open.valid c.requires.used c.requires.open.packages_ c.encode_func_type.ensures.leaves.scope_stays (λ i. (c.export_function.ensures.resolve i).now)
-    c.encode_func_type.ensures.leaves.agree.once c.in_ok-index.ensures.learns.only c.in_ok-index.ensures.counts.2.shows
-    (c.export_function.ensures.ok (signature_of c.args.resolve.now c.args.func.now) c.in_ok-index.ensures.ok) in
+    c.args.self.now.outer c.encode_func_type.new.enc.outer c.export_function.new.self.outer c.args.self.now.inner c.encode_func_type.new.enc.inner c.export_function.new.self.inner c.args.self.now.maps
+    c.encode_func_type.new.enc.maps c.args.func.now (
+      (raw_name c.name_of.result).text,
+      record { signature = signature_of c.args.resolve.now c.args.func.now; external_id = (raw_name c.name_of.result).external_id },
+    ) c.requires.open.valid c.requires.used c.requires.open.packages_
+    c.encode_func_type.ensures.leaves.scope_stays (λ i. (c.export_function.ensures.resolve i).now) c.encode_func_type.ensures.leaves.agree.once c.in_ok-index.ensures.learns.only
+    c.in_ok-index.ensures.counts.2.shows (c.export_function.ensures.ok (signature_of c.args.resolve.now c.args.func.now) c.in_ok-index.ensures.ok) in
     record {
       continues = record { packages_ = search rules; inside = search rules; continues = showed.continues };
       aliases = makes-same c.export_function.ensures.around c.encode_func_type.ensures.aliases;
       shows = showed.shows;
-      counts = function-counted c.export_function.result c.args.resolve.now c.args.self.now.resolve.now c.encode_func_type.new.enc.resolve.now
-          c.export_function.new.self.resolve.now c.args.self.now.outer c.encode_func_type.new.enc.outer c.export_function.new.self.outer c.args.self.now.inner
-          c.encode_func_type.new.enc.inner c.export_function.new.self.inner c.args.self.now.maps c.encode_func_type.new.enc.maps c.export_function.new.self.maps
-          c.args.func.now (
+      counts = function-counted c.export_function.result c.args.resolve.now c.args.self.now.resolve.now c.encode_func_type.new.enc.resolve.now c.export_function.new.self.resolve.now
+          c.args.self.now.outer c.encode_func_type.new.enc.outer c.export_function.new.self.outer c.args.self.now.inner c.encode_func_type.new.enc.inner c.export_function.new.self.inner
+          c.args.self.now.maps c.encode_func_type.new.enc.maps c.export_function.new.self.maps c.args.func.now (
             (raw_name c.name_of.result).text,
             record { signature = signature_of c.args.resolve.now c.args.func.now; external_id = (raw_name c.name_of.result).external_id },
           ) c.in_ok-index.index c.requires.open.agree.once
@@ -56,13 +53,11 @@ returns c =
           (from-met c.args.resolve.now (own_of c.args.self.now.inner) (function_types c.args.func.now) c.args.self.now.maps c.encode_func_type.new.enc.maps c.in_ok-index.ensures.learns));
       maps_grow = subst (λ (m : TypeEncodingMaps). MapsGrow c.args.self.now.maps m) (sym c.export_function.ensures.maps) c.encode_func_type.ensures.leaves.maps_grow;
       types_stay = stays;
-      names_stay = function-names c.export_function.result c.args.resolve.now c.args.self.now.resolve.now c.encode_func_type.new.enc.resolve.now
-          c.export_function.new.self.resolve.now c.args.self.now.outer c.encode_func_type.new.enc.outer c.export_function.new.self.outer
-          c.args.self.now.inner c.encode_func_type.new.enc.inner c.export_function.new.self.inner c.args.self.now.maps c.encode_func_type.new.enc.maps
-          c.export_function.new.self.maps
-          ((raw_name c.name_of.result).text, record { signature = signature_of c.args.resolve.now c.args.func.now; external_id = (raw_name c.name_of.result).external_id })
-          c.requires.open.packages_ c.encode_func_type.ensures.leaves.scope_stays (λ i. (c.export_function.ensures.resolve i).now)
-          c.export_function.ensures.maps c.in_ok-index.ensures.counts.2.shows
+      names_stay = function-names c.export_function.result c.args.resolve.now c.args.self.now.resolve.now c.encode_func_type.new.enc.resolve.now c.export_function.new.self.resolve.now
+          c.args.self.now.outer c.encode_func_type.new.enc.outer c.export_function.new.self.outer c.args.self.now.inner c.encode_func_type.new.enc.inner c.export_function.new.self.inner
+          c.args.self.now.maps c.encode_func_type.new.enc.maps c.export_function.new.self.maps
+          ((raw_name c.name_of.result).text, record { signature = signature_of c.args.resolve.now c.args.func.now; external_id = (raw_name c.name_of.result).external_id }) c.requires.open.packages_
+          c.encode_func_type.ensures.leaves.scope_stays (λ i. (c.export_function.ensures.resolve i).now) c.export_function.ensures.maps c.in_ok-index.ensures.counts.2.shows
           (c.export_function.ensures.ok (signature_of c.args.resolve.now c.args.func.now) c.in_ok-index.ensures.ok) stays;
       held = on-any c.export_function.result (holds-same 0 1 c.export_function.ensures.maps c.export_function.ensures.held c.in_ok-index.ensures.held);
       places =
@@ -106,9 +101,8 @@ returns-in_err-index-clause-continues c = record {
   packages_ = search rules;
   inside = search rules;
   continues = after-types c.args.resolve.now c.args.self.now.resolve.now c.encode_func_type.new.enc.resolve.now c.args.self.now.outer c.encode_func_type.new.enc.outer c.args.self.now.inner
-      c.encode_func_type.new.enc.inner
-      c.args.self.now.maps c.encode_func_type.new.enc.maps c.requires.open.packages_ c.encode_func_type.ensures.leaves.scope_stays c.encode_func_type.ensures.leaves.agree
-      c.encode_func_type.ensures.leaves.grows.around_;
+      c.encode_func_type.new.enc.inner c.args.self.now.maps c.encode_func_type.new.enc.maps c.requires.open.packages_ c.encode_func_type.ensures.leaves.scope_stays
+      c.encode_func_type.ensures.leaves.agree c.encode_func_type.ensures.leaves.grows.around_;
 }
 
 pub returns-in_err-index-clause-size : goal.returns-in_err-index-clause-size

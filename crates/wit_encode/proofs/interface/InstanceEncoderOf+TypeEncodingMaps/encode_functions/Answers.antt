@@ -24,25 +24,19 @@ loop-entry-preserved c = record {
   packages_ = search rules;
   own = search rules;
   continues = continues-trans c.loop-entry.invariant.continues c.encode_function.ensures.continues.continues refl;
-  aliases = makes-then c.loop-entry.invariant.own c.loop-entry.invariant.aliases (met-more
-      (λ n x. (
-        x.0,
-        contains-flat function_types _ c.entry-item.result.2.now x.0 (contains-map (λ (f : ℕ × Bor (String Global) × Bor Function). f.2.now) c.args.functions.now c.entry-item.result
-            (contains-at c.args.functions.now c.loop-entry.entry-index c.entry-item.result c.loop-entry-test.true c.entry-item.is)) x.1,
-        x.2,
-      ))
-      c.encode_function.ensures.aliases);
+  aliases = makes-then c.loop-entry.invariant.own c.loop-entry.invariant.aliases (met-more (λ n x. (
+    x.0,
+    contains-flat function_types _ c.entry-item.result.2.now x.0 (contains-map (λ (f : ℕ × Bor (String Global) × Bor Function). f.2.now) c.args.functions.now c.entry-item.result
+        (contains-at c.args.functions.now c.loop-entry.entry-index c.entry-item.result c.loop-entry-test.true c.entry-item.is)) x.1,
+    x.2,
+  )) c.encode_function.ensures.aliases);
   shows = grind (arith, common_steps);
-  counts =
-      functions-counted (λ (f : ℕ × Bor (String Global) × Bor Function). f.2.now)
-      c.args.functions.now c.loop-entry.entry-index c.entry-item.result c.loop-entry-test.true c.entry-item.is c.loop-entry.invariant.own c.loop-entry.invariant.counts
-      c.in_ok-encode_function.ensures.counts;
+  counts = functions-counted (λ (f : ℕ × Bor (String Global) × Bor Function). f.2.now) c.args.functions.now c.loop-entry.entry-index c.entry-item.result c.loop-entry-test.true c.entry-item.is
+      c.loop-entry.invariant.own c.loop-entry.invariant.counts c.in_ok-encode_function.ensures.counts;
   learns = from-function (λ (f : ℕ × Bor (String Global) × Bor Function). f.2.now) c.args.resolve.now (own_of c.args.self.now.inner) (own_of c.loop-entry.self.inner) c.args.functions.now
-      c.loop-entry.entry-index c.entry-item.result
-      c.args.self.now.maps c.loop-entry.self.maps c.encode_function.new.self.maps c.loop-entry-test.true c.entry-item.is c.loop-entry.invariant.own c.loop-entry.invariant.learns
-      c.in_ok-encode_function.ensures.learns;
-  names =
-      names-after c.args.resolve.now (encoder_scope c.args.resolve.now c.args.self.now.outer c.args.self.now.inner)
+      c.loop-entry.entry-index c.entry-item.result c.args.self.now.maps c.loop-entry.self.maps c.encode_function.new.self.maps c.loop-entry-test.true c.entry-item.is c.loop-entry.invariant.own
+      c.loop-entry.invariant.learns c.in_ok-encode_function.ensures.learns;
+  names = names-after c.args.resolve.now (encoder_scope c.args.resolve.now c.args.self.now.outer c.args.self.now.inner)
       (encoder_scope c.args.resolve.now c.loop-entry.self.outer c.loop-entry.self.inner) c.args.self.now.maps c.loop-entry.self.maps c.encode_function.new.self.maps
       c.loop-entry.invariant.own c.loop-entry.invariant.names c.in_ok-encode_function.ensures.names_stay;
   within = omega arith;
@@ -64,9 +58,8 @@ pub returns : goal.returns
 returns c = record {
   continues = search rules;
   aliases = search rules;
-  shows = c.loop-entry.invariant.shows
-      ∙ ap (λ fs. (contents_of c.args.resolve.now c.args.self.now.outer c.args.self.now.inner).shown.functions ++ map (λ f. meaning_of c.args.resolve.now (placed_function f)) fs)
-      (take_all c.loop-entry.entry-index c.args.functions.now c.loop-entry-test.false);
+  shows = c.loop-entry.invariant.shows ∙ ap (λ fs. (contents_of c.args.resolve.now c.args.self.now.outer c.args.self.now.inner).shown.functions
+      ++ map (λ f. meaning_of c.args.resolve.now (placed_function f)) fs) (take_all c.loop-entry.entry-index c.args.functions.now c.loop-entry-test.false);
   counts = functions-all (λ (f : ℕ × Bor (String Global) × Bor Function). f.2.now) c.args.functions.now c.loop-entry.entry-index c.loop-entry-test.false c.loop-entry.invariant.counts;
   learns = from-functions (λ (f : ℕ × Bor (String Global) × Bor Function). f.2.now) c.args.resolve.now (own_of c.args.self.now.inner) c.args.functions.now c.loop-entry.entry-index
       c.args.self.now.maps c.loop-entry.self.maps c.loop-entry-test.false c.loop-entry.invariant.learns;
@@ -95,18 +88,14 @@ returns-in_err-encode_function-clause-size c = λ h.
     let before = c.loop-entry-test.true in
     next-lacks c.loop-entry.invariant.own c.loop-entry.invariant.grow
     (only-more (λ n x. (x.0, flat-taken function_types (λ (f : ℕ × Bor (String Global) × Bor Function). f.2.now) c.args.functions.now c.loop-entry.entry-index x.0 x.1, x.2))
-    c.loop-entry.invariant.learns.only)
-    (λ n x. (
+    c.loop-entry.invariant.learns.only) (λ n x. (
       x.0,
-      contains-flat function_types _ c.entry-item.result.2.now x.0
-          (contains-map (λ (f : ℕ × Bor (String Global) × Bor Function). f.2.now) c.args.functions.now c.entry-item.result at) x.1,
+      contains-flat function_types _ c.entry-item.result.2.now x.0 (contains-map (λ (f : ℕ × Bor (String Global) × Bor Function). f.2.now) c.args.functions.now c.entry-item.result at) x.1,
       x.2,
-    ))
-    (map placed_function c.args.functions.now) (placed_function c.entry-item.result) (map (λ f. f.2.now) (take c.loop-entry.entry-index c.args.functions.now)) c.loop-entry.invariant.held
-    c.loop-entry.invariant.counts.known
-    (λ f k. subst (λ (fs : List Function). Contains fs f) (sym (map-twice (λ (g : Text × Function). g.1) placed_function c.args.functions.now))
-    (map-taken (λ (f : ℕ × Bor (String Global) × Bor Function). f.2.now) c.args.functions.now c.loop-entry.entry-index f k))
-    (contains-map placed_function c.args.functions.now c.entry-item.result at) (omega (arith, before, length-is)) (c.encode_function.ensures.size (search rules))
+    )) (map placed_function c.args.functions.now) (placed_function c.entry-item.result) (map (λ f. f.2.now) (take c.loop-entry.entry-index c.args.functions.now)) c.loop-entry.invariant.held
+    c.loop-entry.invariant.counts.known (λ f k. subst (λ (fs : List Function). Contains fs f) (sym (map-twice (λ (g : Text × Function). g.1) placed_function c.args.functions.now))
+    (map-taken (λ (f : ℕ × Bor (String Global) × Bor Function). f.2.now) c.args.functions.now c.loop-entry.entry-index f k)) (contains-map placed_function c.args.functions.now c.entry-item.result at)
+    (omega (arith, before, length-is)) (c.encode_function.ensures.size (search rules))
 
 pub loop-entry-init : goal.loop-entry-init
 loop-entry-init c = record {
@@ -128,12 +117,9 @@ loop-entry-init c = record {
 }
 
 pub returns-in_err-encode_function-clause-aliases : goal.returns-in_err-encode_function-clause-aliases
-returns-in_err-encode_function-clause-aliases c =
-    makes-then c.loop-entry.invariant.own c.loop-entry.invariant.aliases (met-more
-    (λ n x. (
-      x.0,
-      contains-flat function_types _ c.entry-item.result.2.now x.0 (contains-map (λ (f : ℕ × Bor (String Global) × Bor Function). f.2.now) c.args.functions.now c.entry-item.result
-          (contains-at c.args.functions.now c.loop-entry.entry-index c.entry-item.result c.loop-entry-test.true c.entry-item.is)) x.1,
-      x.2,
-    ))
-    c.encode_function.ensures.aliases)
+returns-in_err-encode_function-clause-aliases c = makes-then c.loop-entry.invariant.own c.loop-entry.invariant.aliases (met-more (λ n x. (
+  x.0,
+  contains-flat function_types _ c.entry-item.result.2.now x.0 (contains-map (λ (f : ℕ × Bor (String Global) × Bor Function). f.2.now) c.args.functions.now c.entry-item.result
+      (contains-at c.args.functions.now c.loop-entry.entry-index c.entry-item.result c.loop-entry-test.true c.entry-item.is)) x.1,
+  x.2,
+)) c.encode_function.ensures.aliases)

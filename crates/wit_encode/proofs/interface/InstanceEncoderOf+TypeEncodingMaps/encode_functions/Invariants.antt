@@ -15,9 +15,8 @@ invariant-loop-entry l = record {
   aliases : AliasesMet l.resolve (own_of l.fn.self.inner) (flat_map function_types (map (λ f. f.2.now) l.functions)) (around_of l.fn.self.outer l.fn.self.inner) (around_of l.self.outer l.self.inner);
   shows : (contents_of l.resolve l.self.outer l.self.inner).shown.functions ≡ (contents_of l.resolve l.fn.self.outer l.fn.self.inner).shown.functions ++ map
       (λ f. meaning_of l.resolve (placed_function f)) (take l.entry-index l.functions);
-  counts : AddsFunctions l.resolve (encoder_scope l.resolve l.fn.self.outer l.fn.self.inner) l.fn.self.maps l.self.maps
-      (definitions_with (contents_of l.resolve l.fn.self.outer l.fn.self.inner)) (definitions_with (contents_of l.resolve l.self.outer l.self.inner))
-      (map (λ f. f.2.now) (take l.entry-index l.functions));
+  counts : AddsFunctions l.resolve (encoder_scope l.resolve l.fn.self.outer l.fn.self.inner) l.fn.self.maps l.self.maps (definitions_with (contents_of l.resolve l.fn.self.outer l.fn.self.inner))
+      (definitions_with (contents_of l.resolve l.self.outer l.self.inner)) (map (λ f. f.2.now) (take l.entry-index l.functions));
   learns : LearnsFrom l.resolve (own_of l.fn.self.inner) (flat_map function_types (map (λ f. f.2.now) (take l.entry-index l.functions))) l.fn.self.maps l.self.maps;
   names : names_defined l.resolve (encoder_scope l.resolve l.fn.self.outer l.fn.self.inner) l.self.maps ≡ names_defined l.resolve
       (encoder_scope l.resolve l.fn.self.outer l.fn.self.inner) l.fn.self.maps;

@@ -5,8 +5,7 @@ use Rattle.wit_encode.specs.declared.interface.OpenInterface.{OpenInterface}
 use Rattle.encode_types.specs.{Fits.CanEncode, Maps.MapsAgree, Distinct.AddsFunctions, Aliases.AliasesMet, MetKinds.referred}
 use Rattle.wit_encode.specs.Instance.{Contents, SlotsStand, stands_inside, encoder_scope, contents_of, definitions_with, CanEncodeFunction, Continues, placed_function, meaning_of, exports_in, opened, own_of, around_of, around_at}
 use Rattle.wit_encode.specs.{Encoders.declared_inside, Places.StandInOrder}
-use Rattle.wit_encode.proofs.{Referring.interface-kinds, Counting.Began, Counting.Counted, Counting.closed-counts, Counting.declares-few, Refusing.no-room}
-use Rattle.wit_encode.proofs.{Opening.closed, Opening.closed-instance, Opening.listed-there, Opening.opened-exports, Opening.opened-with, BytesWritten.taken}
+use Rattle.wit_encode.proofs.{Referring.interface-kinds, Counting.Began, Counting.Counted, Counting.closed-counts, Counting.declares-few, Refusing.no-room, Opening.closed, Opening.closed-instance, Opening.listed-there, Opening.opened-exports, Opening.opened-with, BytesWritten.taken}
 use Rattle.wit_encode.proofs.interface.InstanceEncoderOf+TypeEncodingMaps.encode_inside.Goals.{After-new-2, In-Some, In_ok-outcome-in-Some}
 use Rattle.base_lemmas.proofs.Bools.{left_of as first_true}
 use Rattle.wit_model.specs.declared.model.«Type».TheVariants as ty
@@ -22,8 +21,7 @@ encode_parts-outcome-requires-clause-types c = λ t h. subst (λ (o : Option Ope
 
 pub encode_parts-outcome-requires-clause-functions : goal.encode_parts-outcome-requires-clause-functions
 encode_parts-outcome-requires-clause-functions c = λ f h. subst (λ (o : Option OpenInterface). CanEncodeFunction c.args.self.now.resolve.now
-    (encoder_scope c.args.self.now.resolve.now c.args.self.now.outer o) f.2.now)
-    (sym (begun (goal.at.encode_parts-outcome-requires-clause-functions c).After-new-2)) (c.requires.functions f h)
+    (encoder_scope c.args.self.now.resolve.now c.args.self.now.outer o) f.2.now) (sym (begun (goal.at.encode_parts-outcome-requires-clause-functions c).After-new-2)) (c.requires.functions f h)
 
 continued : (c : In-Some)
     → Continues c.args.self.now.resolve.now c.args.self.now.resolve.now c.args.self.now.outer c.encode_parts-outcome.new.self.outer (opened c.args.interface c.args.self.now.foreign)
@@ -101,12 +99,10 @@ returns c =
           c.in-Some.current new
           c.new-2.ensures (sym c.replace-inner.ensures.value ∙ c.in-Some.is) c.in_ok-outcome-in-Some.ensures.learns.only c.in_ok-outcome-in-Some.ensures.held
           (counted c new (continued (goal.at.returns c).In-Some)).known;
-      places = subst (λ (o : Option OpenInterface). StandInOrder (declared_inside o)) (sym c.replace-inner.ensures.value ∙ c.in-Some.is)
-          (c.in_ok-outcome-in-Some.ensures.places c.new-2.ensures);
+      places = subst (λ (o : Option OpenInterface). StandInOrder (declared_inside o)) (sym c.replace-inner.ensures.value ∙ c.in-Some.is) (c.in_ok-outcome-in-Some.ensures.places c.new-2.ensures);
       written = taken c.args.self.now.resolve.now c.args.interface _ _ c.replace-saved.new.dest after.maps c.args.self.now.outer after.outer after.inner c.new-2.result c.in-Some.current
-          (began (goal.at.returns c).In-Some).numbers c.new-2.ensures
-          (sym c.replace-inner.ensures.value ∙ c.in-Some.is) c.encode_parts-outcome.ensures.continues.continues.agree.once c.in_ok-outcome-in-Some.ensures.learns.only
-          c.in_ok-outcome-in-Some.ensures.written.extent;
+          (began (goal.at.returns c).In-Some).numbers c.new-2.ensures (sym c.replace-inner.ensures.value ∙ c.in-Some.is) c.encode_parts-outcome.ensures.continues.continues.agree.once
+          c.in_ok-outcome-in-Some.ensures.learns.only c.in_ok-outcome-in-Some.ensures.written.extent;
       size = search rules;
       refuses = search rules;
     }

@@ -6,8 +6,7 @@ use Rattle.wit_model.specs.declared.model.{TypeId.TypeId, Interface.Interface}
 use Rattle.wit_encode.specs.Instance.{keyed, EncodesPart, EncodesInterface, CanEncodeInterface, placed_function, AliasesFor, whole_interface}
 use Rattle.wit_encode.specs.{Encoders.outside, Exports.UsesListed, Order.functions_in_order}
 use Rattle.indexmap.specs.IndexMap.{values}
-use Rattle.wit_encode.proofs.{Encodable.valid-encodable, Closing.whole, Exporting.uses-listed, BytesWritten.whole-few}
-use Rattle.wit_encode.proofs.{Opening.permuted-contains, Opening.values-permuted, FunctionExports.keyed-value, Refusing.room-listed, Referring.permuted-aliases}
+use Rattle.wit_encode.proofs.{Encodable.valid-encodable, Closing.whole, Exporting.uses-listed, BytesWritten.whole-few, Opening.permuted-contains, Opening.values-permuted, FunctionExports.keyed-value, Refusing.room-listed, Referring.permuted-aliases}
 use Rattle.wit_encode.proofs.interface.InstanceEncoderOf+TypeEncodingMaps.encode_instance.Goals.{After-index-def, After-encode_part}
 use Rattle.encode_types.proofs.{Agree.on_ok, Aliasing.met-none}
 use Rattle.encode_types.specs.{Aliases.AliasesMet, Known.Around, MetKinds.referred}
@@ -21,13 +20,11 @@ encodable : (c : After-index-def) → CanEncodeInterface c.args.self.now.resolve
 encodable c = valid-encodable c.args.self.now.resolve.now c.requires.valid c.args.self.now.outer c.args.interface c.args.self.now.foreign c.index-def.result.now (there c) c.requires.around
 
 pub encode_part-requires-clause-types : goal.encode_part-requires-clause-types
-encode_part-requires-clause-types c = λ t h.
-    (encodable (goal.at.encode_part-requires-clause-types c).After-index-def).types t
+encode_part-requires-clause-types c = λ t h. (encodable (goal.at.encode_part-requires-clause-types c).After-index-def).types t
     (subst (λ (xs : List TypeId). Contains xs t) (c.deref.ensures.value ∙ c.in_ok-types.ensures) h)
 
 pub encode_part-requires-clause-functions : goal.encode_part-requires-clause-functions
-encode_part-requires-clause-functions c = λ f h.
-    (encodable (goal.at.encode_part-requires-clause-functions c).After-index-def).functions (placed_function f)
+encode_part-requires-clause-functions c = λ f h. (encodable (goal.at.encode_part-requires-clause-functions c).After-index-def).functions (placed_function f)
     (permuted-contains _ _ (placed_function f) c.in_ok-functions.ensures.all (contains-map placed_function c.in_ok-functions.functions.items f (rw c.deref-2.ensures.value at h)))
 
 pub encode_part-requires-clause-listed : goal.encode_part-requires-clause-listed
@@ -55,8 +52,7 @@ returns-clause-ok c =
     let fs = c.deref-2.result.now in
     ok-then c.encode_part.result (λ k. (def : Interface) → interface_at r c.args.interface.0 ≡ Some def
     → EncodesPart r (outside c.args.self.now) (outside c.encode_part.new.self) c.args.interface def (map placed_function fs) (map (λ f. f.2.now) fs) k)
-    (λ k. (def : Interface) → interface_at r c.args.interface.0 ≡ Some def → EncodesInterface r (outside c.args.self.now) (outside c.encode_part.new.self) c.args.interface def k)
-    (λ k all def is.
+    (λ k. (def : Interface) → interface_at r c.args.interface.0 ≡ Some def → EncodesInterface r (outside c.args.self.now) (outside c.encode_part.new.self) c.args.interface def k) (λ k all def is.
     let is_def = some-same c.index-def.result.now def (sym at ∙ is) in
     whole r c.requires.valid (outside c.args.self.now) (outside c.encode_part.new.self) c.args.interface def fs k is
     (subst (λ (d : Interface). IsPermutation (map keyed d.functions.entries) (map placed_function fs)) is_def
@@ -80,8 +76,7 @@ pub returns-clause-size : goal.returns-clause-size
 returns-clause-size c = λ h def is.
     let at = there (goal.at.returns-clause-size c).After-index-def in
     let is_def = some-same c.index-def.result.now def (sym at ∙ is) in
-    let same : map placed_function c.deref-2.result.now ≡ functions_in_order def =
-    ap (map placed_function) c.deref-2.ensures.value ∙ c.in_ok-functions.ensures.order ∙ ap functions_in_order is_def in
+    let same : map placed_function c.deref-2.result.now ≡ functions_in_order def = ap (map placed_function) c.deref-2.ensures.value ∙ c.in_ok-functions.ensures.order ∙ ap functions_in_order is_def in
     elim (c.encode_part.ensures.size h) [
       | inl room ↦ inl (room-listed c.args.self.now.resolve.now c.args.interface _ _ c.deref-2.result.now _
           (c.deref.ensures.value ∙ c.in_ok-types.ensures ∙ ap (λ (z : Interface). values z.types) is_def) same room)
@@ -94,10 +89,9 @@ returns-clause-size c = λ h def is.
     ]
 
 pub returns-clause-written : goal.returns-clause-written
-returns-clause-written c = on_ok c.encode_part.result _ _
-    (λ t. whole-few c.args.self.now.resolve.now c.requires.valid c.args.interface c.index-def.result.now (there (goal.at.returns-clause-written c).After-index-def) c.deref.result.now
-    (c.deref.ensures.value ∙ c.in_ok-types.ensures)
-    c.deref-2.result.now (ap (map placed_function) c.deref-2.ensures.value ∙ c.in_ok-functions.ensures.order) c.args.self.now.outer c.encode_part.new.self.outer t) c.encode_part.ensures.written
+returns-clause-written c = on_ok c.encode_part.result _ _ (λ t. whole-few c.args.self.now.resolve.now c.requires.valid c.args.interface c.index-def.result.now
+    (there (goal.at.returns-clause-written c).After-index-def) c.deref.result.now (c.deref.ensures.value ∙ c.in_ok-types.ensures) c.deref-2.result.now
+    (ap (map placed_function) c.deref-2.ensures.value ∙ c.in_ok-functions.ensures.order) c.args.self.now.outer c.encode_part.new.self.outer t) c.encode_part.ensures.written
 
 nothing-new : (c : After-index-def) → AliasesFor c.args.self.now.resolve.now c.args.interface (outside c.args.self.now) (outside c.args.self.now)
 nothing-new c = record { def = c.index-def.result.now; there = there c; made = met-none refl }
@@ -109,10 +103,8 @@ pub returns-in_err-functions-clause-err : goal.returns-in_err-functions-clause-e
 returns-in_err-functions-clause-err c = when-err _ (nothing-new (goal.at.returns-in_err-functions-clause-err c).After-index-def)
 
 pub returns-clause-err : goal.returns-clause-err
-returns-clause-err c = err-then c.encode_part.result
-    (λ made. record {
-      def = c.index-def.result.now;
-      there = there (goal.at.returns-clause-err c).After-index-def;
-      made =
-          whole-met (goal.at.returns-clause-err c).After-encode_part (outside c.encode_part.new.self) made;
-    }) c.encode_part.ensures.err
+returns-clause-err c = err-then c.encode_part.result (λ made. record {
+  def = c.index-def.result.now;
+  there = there (goal.at.returns-clause-err c).After-index-def;
+  made = whole-met (goal.at.returns-clause-err c).After-encode_part (outside c.encode_part.new.self) made;
+}) c.encode_part.ensures.err

@@ -33,11 +33,9 @@ returns c = record {
       sound-closed r c.close.new.self.resolve.now c.close.new.self.outer c.close.new.self.inner ((λ i. (c.close.ensures.rest i).resolve.now) ∙ c.encode_inside.ensures.resolve)
       ((λ i. (c.close.ensures.rest i).inner) ∙ c.encode_inside.ensures.closed)
       ∙ closed-sound c.close.result r (outside c.args.self.now) c.encode_inside.new.self.outer c.close.new.self.outer c.encode_inside.new.self.foreign c.in_ok-declared.declared
-      c.encode_inside.ensures.reaches.grown c.close.ensures.ok c.close.ensures.err
-      (sym (sound-closed r r c.args.self.now.outer c.args.self.now.inner refl c.requires.closed) ∙ h);
+      c.encode_inside.ensures.reaches.grown c.close.ensures.ok c.close.ensures.err (sym (sound-closed r r c.args.self.now.outer c.args.self.now.inner refl c.requires.closed) ∙ h);
   instances = closed-stay c.close.result c.args.self.now.resolve.now (outside c.args.self.now) c.encode_inside.new.self.outer c.close.new.self.outer c.encode_inside.new.self.foreign
-      c.close.new.self.foreign c.in_ok-declared.declared
-      c.encode_inside.ensures.reaches.grown (λ i. (c.close.ensures.rest i).foreign) c.close.ensures.ok c.close.ensures.err;
+      c.close.new.self.foreign c.in_ok-declared.declared c.encode_inside.ensures.reaches.grown (λ i. (c.close.ensures.rest i).foreign) c.close.ensures.ok c.close.ensures.err;
   written = when-ok c.close.result _ _ (λ k made. taken-closed c.encode_inside.new.self.outer c.close.new.self.outer (from_list c.in_ok-declared.declared) made.1
       c.in_ok-declared.ensures.written) c.close.ensures.ok;
   size = λ h. inr (record { after = outside c.encode_inside.new.self; grown = c.encode_inside.ensures.reaches; full = c.close.ensures.size h });
@@ -45,10 +43,8 @@ returns c = record {
 }
 
 pub returns-in_err-declared-clause-stands : goal.returns-in_err-declared-clause-stands
-returns-in_err-declared-clause-stands c =
-    reached-keeps c.args.self.now.resolve.now c.encode_inside.new.self.resolve.now (outside c.args.self.now) c.encode_inside.new.self.outer c.encode_inside.new.self.foreign c.args.self.now.inner
-    c.encode_inside.new.self.inner c.requires.closed
-    c.encode_inside.ensures.closed c.encode_inside.ensures.reaches.grown
+returns-in_err-declared-clause-stands c = reached-keeps c.args.self.now.resolve.now c.encode_inside.new.self.resolve.now (outside c.args.self.now) c.encode_inside.new.self.outer
+    c.encode_inside.new.self.foreign c.args.self.now.inner c.encode_inside.new.self.inner c.requires.closed c.encode_inside.ensures.closed c.encode_inside.ensures.reaches.grown
 
 pub returns-in_err-declared-clause-instances : goal.returns-in_err-declared-clause-instances
 returns-in_err-declared-clause-instances c = grown-stay c.args.self.now.resolve.now (outside c.args.self.now) (outside c.encode_inside.new.self) c.encode_inside.ensures.reaches.grown

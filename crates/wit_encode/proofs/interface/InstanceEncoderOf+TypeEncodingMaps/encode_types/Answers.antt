@@ -40,26 +40,22 @@ encode_valtype-requires c = λ _. (
 pub loop-id-preserved : goal.loop-id-preserved
 loop-id-preserved c = record {
   leaves = leaves-trans c.loop-id.invariant.leaves c.encode_valtype.ensures.leaves;
-  aliases = makes-then (ap (λ (z : Scope). z.own_interface) c.loop-id.invariant.leaves.scope_stays) c.loop-id.invariant.aliases (met-more
-      (λ n x. (
-        x.0,
-        subst (Contains (map (λ (t : TypeId). ty.Id t) c.args.types.now)) (one-contained (ty.Id (get_or c.args.types.now c.loop-id.id-index (record { 0 = 0 }))) x.0 x.1)
-            (contains-map (λ (t : TypeId). ty.Id t) c.args.types.now (get_or c.args.types.now c.loop-id.id-index (record { 0 = 0 }))
-            (Contains-get_or c.args.types.now c.loop-id.id-index (record { 0 = 0 }) c.loop-id-test.true)),
-        x.2,
-      ))
-      c.encode_valtype.ensures.aliases);
+  aliases = makes-then (ap (λ (z : Scope). z.own_interface) c.loop-id.invariant.leaves.scope_stays) c.loop-id.invariant.aliases (met-more (λ n x. (
+    x.0,
+    subst (Contains (map (λ (t : TypeId). ty.Id t) c.args.types.now)) (one-contained (ty.Id (get_or c.args.types.now c.loop-id.id-index (record { 0 = 0 }))) x.0 x.1)
+        (contains-map (λ (t : TypeId). ty.Id t) c.args.types.now (get_or c.args.types.now c.loop-id.id-index (record { 0 = 0 }))
+        (Contains-get_or c.args.types.now c.loop-id.id-index (record { 0 = 0 }) c.loop-id-test.true)),
+    x.2,
+  )) c.encode_valtype.ensures.aliases);
   held = holds-then (ap (λ (z : Scope). z.own_interface) c.loop-id.invariant.leaves.scope_stays) c.loop-id.invariant.leaves.maps_grow c.encode_valtype.ensures.leaves.maps_grow c.loop-id.invariant.held
       c.in_ok-encode_valtype.ensures.held;
   written = writes-then c.loop-id.invariant.leaves.scope_stays c.loop-id.invariant.written c.in_ok-encode_valtype.ensures.written;
   learns = from-type c.args.resolve.now (own_of c.args.self.now.inner) (own_of c.loop-id.self.inner) c.args.types.now c.loop-id.id-index (record { 0 = 0 }) c.args.self.now.maps c.loop-id.self.maps
-      c.encode_valtype.new.enc.maps
-      c.loop-id-test.true (ap (λ (z : Scope). z.own_interface) c.loop-id.invariant.leaves.scope_stays) c.loop-id.invariant.learns c.in_ok-encode_valtype.ensures.learns;
+      c.encode_valtype.new.enc.maps c.loop-id-test.true (ap (λ (z : Scope). z.own_interface) c.loop-id.invariant.leaves.scope_stays) c.loop-id.invariant.learns c.in_ok-encode_valtype.ensures.learns;
   first = exports-next c.args.resolve.now c.requires.begins.valid (encoder_scope c.args.self.now.resolve.now c.args.self.now.outer c.args.self.now.inner) c.args.types.now c.requires.begins.listed
-      (ap (λ (z : Resolve). declarations_in z (own_of c.args.self.now.inner)) c.requires.begins.packages_)
-      c.loop-id.id-index (get_or c.args.types.now c.loop-id.id-index (record { 0 = 0 })) (slice_get-get_or c.args.types.now c.loop-id.id-index (record { 0 = 0 }) c.loop-id-test.true) _
-      c.loop-id.invariant.leaves.scope_stays _ _ _ _
-      c.loop-id.invariant.first c.encode_valtype.ensures.leaves.agree.once c.encode_valtype.ensures.leaves.maps_grow c.in_ok-encode_valtype.ensures.knows c.in_ok-encode_valtype.ensures.learns.only
+      (ap (λ (z : Resolve). declarations_in z (own_of c.args.self.now.inner)) c.requires.begins.packages_) c.loop-id.id-index (get_or c.args.types.now c.loop-id.id-index (record { 0 = 0 }))
+      (slice_get-get_or c.args.types.now c.loop-id.id-index (record { 0 = 0 }) c.loop-id-test.true) _ c.loop-id.invariant.leaves.scope_stays _ _ _ _ c.loop-id.invariant.first
+      c.encode_valtype.ensures.leaves.agree.once c.encode_valtype.ensures.leaves.maps_grow c.in_ok-encode_valtype.ensures.knows c.in_ok-encode_valtype.ensures.learns.only
       c.in_ok-encode_valtype.ensures.counts.shows;
   counts = counts-trans c.loop-id.invariant.leaves.scope_stays c.loop-id.invariant.counts c.in_ok-encode_valtype.ensures.counts;
 }
@@ -70,21 +66,18 @@ returns-in_err-encode_valtype-clause-leaves c = leaves-trans c.loop-id.invariant
 pub returns-clause-known : goal.returns-clause-known
 returns-clause-known c = (exports-end c.args.resolve.now c.requires.begins.valid (encoder_scope c.args.self.now.resolve.now c.args.self.now.outer c.args.self.now.inner) c.args.types.now
     c.requires.begins.listed (ap (λ (z : Resolve). declarations_in z (own_of c.args.self.now.inner)) c.requires.begins.packages_) c.loop-id.id-index c.loop-id.self.maps
-    (definitions_with (contents_of c.loop-id.self.resolve.now c.loop-id.self.outer c.loop-id.self.inner))
-    c.loop-id-test.false c.loop-id.invariant.first).0
+    (definitions_with (contents_of c.loop-id.self.resolve.now c.loop-id.self.outer c.loop-id.self.inner)) c.loop-id-test.false c.loop-id.invariant.first).0
 
 pub returns-clause-exported : goal.returns-clause-exported
 returns-clause-exported c = (exports-end c.args.resolve.now c.requires.begins.valid (encoder_scope c.args.self.now.resolve.now c.args.self.now.outer c.args.self.now.inner) c.args.types.now
     c.requires.begins.listed (ap (λ (z : Resolve). declarations_in z (own_of c.args.self.now.inner)) c.requires.begins.packages_) c.loop-id.id-index c.loop-id.self.maps
-    (definitions_with (contents_of c.loop-id.self.resolve.now c.loop-id.self.outer c.loop-id.self.inner))
-    c.loop-id-test.false c.loop-id.invariant.first).1
+    (definitions_with (contents_of c.loop-id.self.resolve.now c.loop-id.self.outer c.loop-id.self.inner)) c.loop-id-test.false c.loop-id.invariant.first).1
 
 pub returns-clause-defined : goal.returns-clause-defined
 returns-clause-defined c =
     let all : take c.loop-id.id-index c.args.types.now ≡ c.args.types.now = take_all c.loop-id.id-index c.args.types.now c.loop-id-test.false in
     exact-names c.args.resolve.now (encoder_scope c.args.self.now.resolve.now c.args.self.now.outer c.args.self.now.inner)
-    c.loop-id.self.maps c.args.types.now c.loop-id.invariant.leaves.agree.once
-    (λ t h. c.loop-id.invariant.first.known t (subst (λ (ts : List TypeId). Contains ts t) (sym all) h))
+    c.loop-id.self.maps c.args.types.now c.loop-id.invariant.leaves.agree.once (λ t h. c.loop-id.invariant.first.known t (subst (λ (ts : List TypeId). Contains ts t) (sym all) h))
     (λ t i h. elim (c.loop-id.invariant.first.alone t i h) [ inl n ↦ inl n | inr l ↦ inr (subst (λ (ts : List TypeId). Contains ts t) all l) ])
 
 pub returns-clause-learns : goal.returns-clause-learns
@@ -95,8 +88,7 @@ pub returns-in_err-encode_valtype-clause-size : goal.returns-in_err-encode_valty
 returns-in_err-encode_valtype-clause-size c = λ h.
     let t : TypeId = get_or c.args.types.now c.loop-id.id-index (record { 0 = 0 }) in
     room-after (ap (λ (z : Scope). z.own_interface) c.loop-id.invariant.leaves.scope_stays) c.loop-id.invariant.leaves.maps_grow c.loop-id.invariant.held
-    (only-more (λ n x. (x.0, map-taken (λ (t : TypeId). ty.Id t) c.args.types.now c.loop-id.id-index x.0 x.1, x.2)) c.loop-id.invariant.learns.only)
-    (λ n x. (
+    (only-more (λ n x. (x.0, map-taken (λ (t : TypeId). ty.Id t) c.args.types.now c.loop-id.id-index x.0 x.1, x.2)) c.loop-id.invariant.learns.only) (λ n x. (
       x.0,
       subst (Contains (map (λ (t : TypeId). ty.Id t) c.args.types.now)) (one-contained (ty.Id t) x.0 x.1)
           (contains-map (λ (t : TypeId). ty.Id t) c.args.types.now t (Contains-get_or c.args.types.now c.loop-id.id-index (record { 0 = 0 }) c.loop-id-test.true)),
@@ -104,13 +96,10 @@ returns-in_err-encode_valtype-clause-size c = λ h.
     )) (λ q k. k) (omega (arith, ap length c.loop-id.invariant.counts.keys.lists)) (c.encode_valtype.ensures.size (search rules))
 
 pub returns-in_err-encode_valtype-clause-aliases : goal.returns-in_err-encode_valtype-clause-aliases
-returns-in_err-encode_valtype-clause-aliases c = makes-then (ap (λ (z : Scope). z.own_interface) c.loop-id.invariant.leaves.scope_stays) c.loop-id.invariant.aliases
-    (met-more
-    (λ n x. (
-      x.0,
-      subst (Contains (map (λ (t : TypeId). ty.Id t) c.args.types.now)) (one-contained (ty.Id (get_or c.args.types.now c.loop-id.id-index (record { 0 = 0 }))) x.0 x.1)
-          (contains-map (λ (t : TypeId). ty.Id t) c.args.types.now (get_or c.args.types.now c.loop-id.id-index (record { 0 = 0 }))
-          (Contains-get_or c.args.types.now c.loop-id.id-index (record { 0 = 0 }) c.loop-id-test.true)),
-      x.2,
-    ))
-    c.encode_valtype.ensures.aliases)
+returns-in_err-encode_valtype-clause-aliases c = makes-then (ap (λ (z : Scope). z.own_interface) c.loop-id.invariant.leaves.scope_stays) c.loop-id.invariant.aliases (met-more (λ n x. (
+  x.0,
+  subst (Contains (map (λ (t : TypeId). ty.Id t) c.args.types.now)) (one-contained (ty.Id (get_or c.args.types.now c.loop-id.id-index (record { 0 = 0 }))) x.0 x.1)
+      (contains-map (λ (t : TypeId). ty.Id t) c.args.types.now (get_or c.args.types.now c.loop-id.id-index (record { 0 = 0 }))
+      (Contains-get_or c.args.types.now c.loop-id.id-index (record { 0 = 0 }) c.loop-id-test.true)),
+  x.2,
+)) c.encode_valtype.ensures.aliases)

@@ -1,6 +1,5 @@
 use Rattle.comp_bytes.specs.{RawOf.raw_name, Raw.Declaration, Held.fits_next}
-use Rattle.wit_encode.proofs.{ShowFunctions.shows-within, Extents.bytes-few}
-use Rattle.wit_encode.proofs.{Refusing.on-size, Refusing.name-inside, Refusing.held-inside, Refusing.kept-inside, Refusing.one-pushed, BytesWritten.inside-more}
+use Rattle.wit_encode.proofs.{ShowFunctions.shows-within, Extents.bytes-few, Refusing.on-size, Refusing.name-inside, Refusing.held-inside, Refusing.kept-inside, Refusing.one-pushed, BytesWritten.inside-more}
 use Rattle.std.proofs.Common.{inl, sym, subst, List, ◌≡◌, false}
 use Rattle.encode_types.proofs.Agree.{on_ok}
 use Rattle.comp_bytes.specs.declared.forms.ComponentTypeRef.TheVariants as refs
@@ -23,8 +22,6 @@ returns-clause-size c = λ h. record {
 }
 
 pub returns-clause-written : goal.returns-clause-written
-returns-clause-written c = on_ok c.export.result _ _
-    (λ made. record {
-      extent = inside-more c.args.self.now.outer c.args.self.now.inner c.in-Some.current c.export.new.self _ _ c.in-Some.is made
-          (bytes-few.exports (raw_name c.args.name) (refs.Func c.args.index));
-    }) c.export.ensures.ok
+returns-clause-written c = on_ok c.export.result _ _ (λ made. record {
+  extent = inside-more c.args.self.now.outer c.args.self.now.inner c.in-Some.current c.export.new.self _ _ c.in-Some.is made (bytes-few.exports (raw_name c.args.name) (refs.Func c.args.index));
+}) c.export.ensures.ok

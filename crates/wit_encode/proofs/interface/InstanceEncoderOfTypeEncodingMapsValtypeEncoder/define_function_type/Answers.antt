@@ -21,11 +21,9 @@ returns-in-Some c =
       maps_stay = search rules;
       counts = slot-function c.define_function_inside.result _ _ _ _ _ _ _ calls.ok calls.counted;
       held = held-inside c.args.self.now.outer c.args.self.now.inner c.in-Some.current c.define_function_inside.new.inner c.in-Some.is c.define_function_inside.ensures.held;
-      written = when-ok c.define_function_inside.result _ _
-          (λ i made s f. record {
-            extent = inside-more c.args.self.now.outer c.args.self.now.inner c.in-Some.current c.define_function_inside.new.inner _ _ c.in-Some.is made.1
-                (bytes-few.functions _ c.args.def s f);
-          }) c.define_function_inside.ensures.ok;
+      written = when-ok c.define_function_inside.result _ _ (λ i made s f. record {
+        extent = inside-more c.args.self.now.outer c.args.self.now.inner c.in-Some.current c.define_function_inside.new.inner _ _ c.in-Some.is made.1 (bytes-few.functions _ c.args.def s f);
+      }) c.define_function_inside.ensures.ok;
       size = λ h s f. record {
         lacks = inl (function-inside c.args.self.now.resolve.now c.define_function_inside.result h (stands_in c.args.self.now.resolve.now c.args.self.now.outer c.args.self.now.inner)
             c.define_function_inside.new.inner c.args.def c.define_function_inside.ensures.size s f);
@@ -41,20 +39,16 @@ returns c =
     c.args.def c.requires c.define_function_outside.ensures.ok c.define_function_outside.ensures.err in
     record {
       ok = calls.ok;
-      grows = slots-grow calls.grows
-          (ap (around_of c.define_function_outside.new.outer) c.in-None.is ∙ sym (ap (around_of c.args.self.now.outer) c.in-None.is)) (λ ns h. h);
+      grows = slots-grow calls.grows (ap (around_of c.define_function_outside.new.outer) c.in-None.is ∙ sym (ap (around_of c.args.self.now.outer) c.in-None.is)) (λ ns h. h);
       scope_stays = calls.scope_stays;
       around_stays = ap (around_of c.define_function_outside.new.outer) c.in-None.is ∙ sym (ap (around_of c.args.self.now.outer) c.in-None.is);
       imports_stay = search rules;
       maps_stay = search rules;
       counts = slot-function c.define_function_outside.result _ _ _ _ _ _ _ calls.ok calls.counted;
       held = held-outside c.args.self.now.outer c.define_function_outside.new.outer c.args.self.now.inner c.in-None.is c.define_function_outside.ensures.held;
-      written = when-ok c.define_function_outside.result _ _
-          (λ i made s f. record {
-            extent = outside-more c.args.self.now.outer c.define_function_outside.new.outer c.args.self.now.inner _ _ c.in-None.is made.1 (bytes-few.functions _
-                c.args.def s f);
-          })
-          c.define_function_outside.ensures.ok;
+      written = when-ok c.define_function_outside.result _ _ (λ i made s f. record {
+        extent = outside-more c.args.self.now.outer c.define_function_outside.new.outer c.args.self.now.inner _ _ c.in-None.is made.1 (bytes-few.functions _ c.args.def s f);
+      }) c.define_function_outside.ensures.ok;
       size = λ h s f. record {
         lacks = inl (function-outside c.args.self.now.resolve.now c.define_function_outside.result h c.define_function_outside.new.outer c.args.self.now.inner c.in-None.is
             (stands_in c.args.self.now.resolve.now c.args.self.now.outer c.args.self.now.inner) c.args.def c.define_function_outside.ensures.size s f);

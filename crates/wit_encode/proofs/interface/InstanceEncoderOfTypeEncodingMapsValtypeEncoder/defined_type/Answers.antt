@@ -21,11 +21,9 @@ returns-in-Some c =
       maps_stay = search rules;
       counts = slot-defined c.define_inside.result _ _ _ _ _ _ _ calls.ok calls.counted;
       held = held-inside c.args.self.now.outer c.args.self.now.inner c.in-Some.current c.define_inside.new.inner c.in-Some.is c.define_inside.ensures.held;
-      written = when-ok c.define_inside.result _ _
-          (λ i made t f. record {
-            extent = inside-more c.args.self.now.outer c.args.self.now.inner c.in-Some.current c.define_inside.new.inner _ _ c.in-Some.is made.1
-                (bytes-few.definitions _ c.args.def t f);
-          }) c.define_inside.ensures.ok;
+      written = when-ok c.define_inside.result _ _ (λ i made t f. record {
+        extent = inside-more c.args.self.now.outer c.args.self.now.inner c.in-Some.current c.define_inside.new.inner _ _ c.in-Some.is made.1 (bytes-few.definitions _ c.args.def t f);
+      }) c.define_inside.ensures.ok;
       size = λ h t f. record {
         lacks = inl (value-inside c.args.self.now.resolve.now c.define_inside.result h (stands_in c.args.self.now.resolve.now c.args.self.now.outer c.args.self.now.inner) c.define_inside.new.inner
             c.args.def c.define_inside.ensures.size t f);
@@ -40,17 +38,16 @@ returns c =
     c.define_outside.ensures.ok c.define_outside.ensures.err in
     record {
       ok = calls.ok;
-      grows = slots-grow calls.grows
-          (ap (around_of c.define_outside.new.outer) c.in-None.is ∙ sym (ap (around_of c.args.self.now.outer) c.in-None.is)) (λ ns h. h);
+      grows = slots-grow calls.grows (ap (around_of c.define_outside.new.outer) c.in-None.is ∙ sym (ap (around_of c.args.self.now.outer) c.in-None.is)) (λ ns h. h);
       scope_stays = calls.scope_stays;
       around_stays = ap (around_of c.define_outside.new.outer) c.in-None.is ∙ sym (ap (around_of c.args.self.now.outer) c.in-None.is);
       imports_stay = search rules;
       maps_stay = search rules;
       counts = slot-defined c.define_outside.result _ _ _ _ _ _ _ calls.ok calls.counted;
       held = held-outside c.args.self.now.outer c.define_outside.new.outer c.args.self.now.inner c.in-None.is c.define_outside.ensures.held;
-      written = when-ok c.define_outside.result _ _
-          (λ i made t f. record { extent = outside-more c.args.self.now.outer c.define_outside.new.outer c.args.self.now.inner _ _ c.in-None.is made.1 (bytes-few.definitions _ c.args.def t f) })
-          c.define_outside.ensures.ok;
+      written = when-ok c.define_outside.result _ _ (λ i made t f. record {
+        extent = outside-more c.args.self.now.outer c.define_outside.new.outer c.args.self.now.inner _ _ c.in-None.is made.1 (bytes-few.definitions _ c.args.def t f);
+      }) c.define_outside.ensures.ok;
       size = λ h t f. record {
         lacks = inl (value-outside c.args.self.now.resolve.now c.define_outside.result h c.define_outside.new.outer c.args.self.now.inner c.in-None.is
             (stands_in c.args.self.now.resolve.now c.args.self.now.outer c.args.self.now.inner) c.args.def c.define_outside.ensures.size t f);

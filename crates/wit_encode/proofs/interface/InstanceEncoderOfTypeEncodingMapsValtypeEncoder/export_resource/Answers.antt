@@ -21,11 +21,10 @@ returns c =
       maps_stay = search rules;
       counts = calls.counted;
       held = held-inside c.args.self.now.outer c.args.self.now.inner c.in-Some.current c.export_inside.new.inner c.in-Some.is c.export_inside.ensures.held;
-      written = when-ok c.export_inside.result _ _
-          (λ i made. record {
-            extent = inside-more c.args.self.now.outer c.args.self.now.inner c.in-Some.current c.export_inside.new.inner _ _ c.in-Some.is made.1
-                (bytes-few.exports (raw_name c.args.name) refs.SubResource);
-          }) c.export_inside.ensures.ok;
+      written = when-ok c.export_inside.result _ _ (λ i made. record {
+        extent = inside-more c.args.self.now.outer c.args.self.now.inner c.in-Some.current c.export_inside.new.inner _ _ c.in-Some.is made.1
+            (bytes-few.exports (raw_name c.args.name) refs.SubResource);
+      }) c.export_inside.ensures.ok;
       size = λ h. record {
         lacks = inl (name-inside c.args.self.now.resolve.now c.export_inside.new.inner (raw_name c.args.name) refs.SubResource (c.export_inside.ensures.size h));
         held = kept-inside c.args.self.now.outer c.args.self.now.inner c.in-Some.current c.export_inside.new.inner c.in-Some.is (on-size c.export_inside.result _ c.export_inside.ensures.err h);

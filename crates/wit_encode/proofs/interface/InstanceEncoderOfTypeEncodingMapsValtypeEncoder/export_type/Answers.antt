@@ -11,9 +11,8 @@ use Rattle.wit_encode.proofs.interface.InstanceEncoderOfTypeEncodingMapsValtypeE
 pub returns : goal.returns
 returns c =
     let res : Result ℕ Error = Ok c.in_ok-slot-in-Some.slot in
-    let made = type-within res c.args.self.now.resolve.now c.args.self.now.outer c.args.self.now.inner c.in-Some.current c.export_inside.new.inner c.in-Some.is c.args.index
-    (raw_name c.args.name) c.requires
-    c.in_ok-slot-in-Some.ensures.ok tt in
+    let made = type-within res c.args.self.now.resolve.now c.args.self.now.outer c.args.self.now.inner c.in-Some.current c.export_inside.new.inner c.in-Some.is c.args.index (raw_name c.args.name)
+    c.requires c.in_ok-slot-in-Some.ensures.ok tt in
     record {
       ok = made.ok;
       grows = slots-grow made.grows (ap (around_of c.args.self.now.outer) (sym c.in-Some.is))

@@ -23,9 +23,8 @@ unreachable-requires c = none-outside c.args.self.now.resolve.now c.args.self.no
 pub returns : goal.returns
 returns c =
     let imports = imported c.alias_inside.result c.args.self.now.resolve.now c.args.self.now.outer c.reach.new.outer c.args.self.now.inner c.in-Some.current c.reach.new.foreign
-    c.alias_inside.new.inner
-    c.in-Some.is c.args.interface.0 c.args.id c.in_ok-slot-in-Some.slot c.requires
-    c.reach.ensures.reaches c.in_ok-slot-in-Some.ensures.slot c.alias_inside.ensures.ok c.alias_inside.ensures.err in
+    c.alias_inside.new.inner c.in-Some.is c.args.interface.0 c.args.id c.in_ok-slot-in-Some.slot c.requires c.reach.ensures.reaches c.in_ok-slot-in-Some.ensures.slot c.alias_inside.ensures.ok
+    c.alias_inside.ensures.err in
     record {
       ok = imported-stands c.alias_inside.result c.args.self.now.resolve.now c.args.self.now.outer c.reach.new.outer c.args.self.now.inner c.in-Some.current c.reach.new.foreign
           c.alias_inside.new.inner c.in-Some.is c.args.id.0 imports;
@@ -40,19 +39,17 @@ returns c =
                 (record { interface = c.in-Some.current.interface; declared = c.alias_inside.new.inner; foreign = c.reach.new.foreign }) _
                 c.in-Some.is refl c.alias_inside.ensures.ok c.alias_inside.ensures.err;
           };
-      reaches = subst (λ (o : Option OpenInterface). ReachesAround c.args.self.now.resolve.now c.args.id (around_of c.args.self.now.outer o) (around_at c.reach.new.outer
-          c.reach.new.foreign)) (sym c.in-Some.is)
-          c.reach.ensures.reaches;
+      reaches = subst (λ (o : Option OpenInterface). ReachesAround c.args.self.now.resolve.now c.args.id (around_of c.args.self.now.outer o) (around_at c.reach.new.outer c.reach.new.foreign))
+          (sym c.in-Some.is) c.reach.ensures.reaches;
       imports = record { each = λ n h. inl h };
       scope_stays = imports.scope_stays;
       maps_stay = search rules;
       counts = imports.counted;
       held = held-inside c.args.self.now.outer c.args.self.now.inner c.in-Some.current c.alias_inside.new.inner c.in-Some.is c.alias_inside.ensures.held;
-      written = when-ok c.alias_inside.result _ _
-          (λ i made def at. record {
-            extent = imported-more (around_at c.args.self.now.outer c.in-Some.current.foreign) (around_at c.reach.new.outer c.reach.new.foreign) c.args.self.now.inner c.in-Some.current
-                c.alias_inside.new.inner c.in_ok-slot-in-Some.slot def c.reach.ensures.reaches at c.in-Some.is made.1;
-          }) c.alias_inside.ensures.ok;
+      written = when-ok c.alias_inside.result _ _ (λ i made def at. record {
+        extent = imported-more (around_at c.args.self.now.outer c.in-Some.current.foreign) (around_at c.reach.new.outer c.reach.new.foreign) c.args.self.now.inner c.in-Some.current
+            c.alias_inside.new.inner c.in_ok-slot-in-Some.slot def c.reach.ensures.reaches at c.in-Some.is made.1;
+      }) c.alias_inside.ensures.ok;
       size = λ h. record {
         lacks = inl (alias-inside c.args.self.now.resolve.now c.alias_inside.new.inner c.args.id.0 c.in_ok-slot-in-Some.slot (c.alias_inside.ensures.size h));
         held = kept-inside c.args.self.now.outer c.args.self.now.inner c.in-Some.current c.alias_inside.new.inner c.in-Some.is (on-size c.alias_inside.result _ c.alias_inside.ensures.err h);
@@ -65,8 +62,7 @@ returns-in_err-slot-in-Some c = record {
   ok = search rules;
   grows = search rules;
   reaches = subst (λ (o : Option OpenInterface). ReachesAround c.args.self.now.resolve.now c.args.id (around_of c.args.self.now.outer o) (around_at c.reach.new.outer c.reach.new.foreign))
-      (sym c.in-Some.is)
-      c.reach.ensures.reaches;
+      (sym c.in-Some.is) c.reach.ensures.reaches;
   imports = record { each = λ n h. inl h };
   scope_stays = ap (λ (z : Around). scope_with c.args.self.now.resolve.now (Some c.in-Some.current.interface) z
       (inner_contents (place_in c.args.self.now.resolve.now (Some c.in-Some.current.interface)) z.declared c.in-Some.current.declared)) c.in_err-slot-in-Some.ensures.err

@@ -12,8 +12,7 @@ use Rattle.wit_encode.proofs.world.WorldEncoderOf+TypeEncodingMaps.define_instan
 pub encode_instance-outcome-requires-clause-around : goal.encode_instance-outcome-requires-clause-around
 encode_instance-outcome-requires-clause-around c =
     let q = c.args.self.now.resolve.now in
-    subst (λ (z : Around). UsedStand q (standing_instances q z) c.args.interface.0)
-    (around-moves (sym c.replace.ensures.value) (sym c.replace-2.ensures.value)) c.requires.around
+    subst (λ (z : Around). UsedStand q (standing_instances q z) c.args.interface.0) (around-moves (sym c.replace.ensures.value) (sym c.replace-2.ensures.value)) c.requires.around
 
 pub returns : goal.returns
 returns c =
@@ -21,16 +20,13 @@ returns c =
     let after = c.encode_instance-outcome.new.self in
     record {
       ok = subst (λ (z : Around). IfOk c.encode_instance-outcome.result (λ k. (def : Interface) → interface_at q c.args.interface.0 ≡ Some def
-          → EncodesInterface q z (around_at after.outer after.foreign) c.args.interface def k))
-          (around-moves c.replace.ensures.value c.replace-2.ensures.value) c.encode_instance-outcome.ensures.ok;
+          → EncodesInterface q z (around_at after.outer after.foreign) c.args.interface def k)) (around-moves c.replace.ensures.value c.replace-2.ensures.value) c.encode_instance-outcome.ensures.ok;
       err = subst (λ (z : Around). OnErr c.encode_instance-outcome.result (AliasesFor q c.args.interface z (around_at after.outer after.foreign)))
           (around-moves c.replace.ensures.value c.replace-2.ensures.value) c.encode_instance-outcome.ensures.err;
       written = subst (λ (z : Declarations). OnOk c.encode_instance-outcome.result (AddsBytes (whole_extent c.args.self.now.resolve.now c.args.interface.0) z c.encode_instance-outcome.new.self.outer))
           c.replace.ensures.value c.encode_instance-outcome.ensures.written;
-      size = λ refused.
-          subst (λ (z : Around). (def : Interface) → interface_at q c.args.interface.0 ≡ Some def → InterfaceLacksRoom q c.args.interface def ⊎ LacksInstanceRoom q c.args.interface
-          (whole_interface def) z)
-          (around-moves c.replace.ensures.value c.replace-2.ensures.value) (c.encode_instance-outcome.ensures.size refused);
+      size = λ refused. subst (λ (z : Around). (def : Interface) → interface_at q c.args.interface.0 ≡ Some def → InterfaceLacksRoom q c.args.interface def
+          ⊎ LacksInstanceRoom q c.args.interface (whole_interface def) z) (around-moves c.replace.ensures.value c.replace-2.ensures.value) (c.encode_instance-outcome.ensures.size refused);
       rest = search rules;
       refuses = search rules;
     }

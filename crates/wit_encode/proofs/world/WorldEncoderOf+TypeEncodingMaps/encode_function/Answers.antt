@@ -29,21 +29,18 @@ returns c = record {
       c.in_ok-index.index c.declare.new.outer (subst (λ (i : WorldItem). IsNext c.args.resolve.now w direction done (c.args.placed.key.now, i)) is next)
       c.encode_func_type.ensures.leaves c.in_ok-index.ensures.learns.only c.in_ok-index.ensures.counts.2.shows c.in_ok-index.ensures.ok
       (made ∙ ap (λ n. declared_after c.encode_func_type.new.enc.outer (declared_towards direction n (refs.Func c.in_ok-index.index))) name))) c.declare.ensures.ok;
-  once = on-each c.declare.result (λ made es h. function-defined c.args.resolve.now c.args.self.now c.encode_func_type.new.enc es (world_encoder_view c.args.self.now).scope refl
-      c.args.placed.key.now c.args.placed.item.now c.args.func.now c.requires.item
-      c.in_ok-index.ensures.counts.0 c.in_ok-index.index (towards c.args.placed.direction) _ c.declare.new.outer h c.requires.next.shown.agree.once c.in_ok-index.ensures.counts.1
-      c.in_ok-index.ensures.counts.2 c.in_ok-index.ensures.learns (ap (λ (s : Scope). s.others.declared) c.encode_func_type.ensures.leaves.scope_stays) made
-      (record {
+  once = on-each c.declare.result (λ made es h. function-defined c.args.resolve.now c.args.self.now c.encode_func_type.new.enc es (world_encoder_view c.args.self.now).scope refl c.args.placed.key.now
+      c.args.placed.item.now c.args.func.now c.requires.item c.in_ok-index.ensures.counts.0 c.in_ok-index.index (towards c.args.placed.direction) _ c.declare.new.outer h
+      c.requires.next.shown.agree.once c.in_ok-index.ensures.counts.1 c.in_ok-index.ensures.counts.2 c.in_ok-index.ensures.learns
+      (ap (λ (s : Scope). s.others.declared) c.encode_func_type.ensures.leaves.scope_stays) made (record {
         packages_ = c.requires.next.shown.packages_;
         packages_stay = ap (λ (s : Scope). s.packages) c.encode_func_type.ensures.leaves.scope_stays;
         keeps = λ ns. c.encode_func_type.ensures.leaves.grows.own_ (Told.numbers (zero ∷ ns));
         imports = c.encode_func_type.ensures.imports;
       })) c.declare.ensures.ok;
-  few = on-each c.declare.result (λ made es h. function-few c.args.resolve.now c.args.self.now.resolve.now c.encode_func_type.new.enc.resolve.now c.args.self.now
-      c.encode_func_type.new.enc es
+  few = on-each c.declare.result (λ made es h. function-few c.args.resolve.now c.args.self.now.resolve.now c.encode_func_type.new.enc.resolve.now c.args.self.now c.encode_func_type.new.enc es
       c.args.placed.key.now c.args.placed.item.now c.args.func.now (towards c.args.placed.direction) _ (refs.Func c.in_ok-index.index) c.declare.new.outer c.requires.item
-      c.requires.next.shown.packages_
-      (ap (λ (s : Scope). s.packages) c.encode_func_type.ensures.leaves.scope_stays ∙ c.requires.next.shown.packages_)
+      c.requires.next.shown.packages_ (ap (λ (s : Scope). s.packages) c.encode_func_type.ensures.leaves.scope_stays ∙ c.requires.next.shown.packages_)
       (ap (λ (s : Scope). s.others.listed) c.encode_func_type.ensures.leaves.scope_stays) h (one-key c.in_ok-index.ensures.counts.2) c.in_ok-index.ensures.held made) c.declare.ensures.ok;
   written =
       let r = c.args.resolve.now in
@@ -52,12 +49,11 @@ returns c = record {
       record { few = c.in_ok-index.ensures.written.extent } in
       on-each c.declare.result (λ made. learnt-most (omega (arith, whole, ap name_extent c.in_ok-name.ensures.ok))
       (learnt-more _ c.encode_func_type.new.enc.outer c.declare.new.outer _ types made (declared-few (towards c.args.placed.direction) _ (refs.Func c.in_ok-index.index)))) c.declare.ensures.ok;
-  size = λ refused w done shown next d h. function-name-lacks c.args.resolve.now c.args.self.now.resolve.now c.encode_func_type.new.enc.resolve.now w c.args.self.now
-      c.encode_func_type.new.enc done
+  size = λ refused w done shown next d h. function-name-lacks c.args.resolve.now c.args.self.now.resolve.now c.encode_func_type.new.enc.resolve.now w c.args.self.now c.encode_func_type.new.enc done
       (towards c.args.placed.direction) c.args.placed.canonical_names c.args.placed.key.now c.args.placed.item.now c.args.func.now _ c.in_ok-index.index c.requires.item next d h
       (ap (λ (s : Scope). s.others.listed) c.encode_func_type.ensures.leaves.scope_stays) c.encode_func_type.ensures.leaves.agree.once shown.packages_
-      (ap (λ (s : Scope). s.packages) c.encode_func_type.ensures.leaves.scope_stays ∙ shown.packages_)
-      (one-key c.in_ok-index.ensures.counts.2) c.in_ok-index.ensures.learns c.in_ok-index.ensures.held c.in_ok-name.ensures.ok (c.declare.ensures.size refused);
+      (ap (λ (s : Scope). s.packages) c.encode_func_type.ensures.leaves.scope_stays ∙ shown.packages_) (one-key c.in_ok-index.ensures.counts.2) c.in_ok-index.ensures.learns c.in_ok-index.ensures.held
+      c.in_ok-name.ensures.ok (c.declare.ensures.size refused);
   names = on-each c.declare.result (λ made. function-names c.args.resolve.now c.args.self.now.resolve.now c.args.placed.canonical_names (entry_of c.args.placed) c.args.func.now
       c.args.self.now.outer c.encode_func_type.new.enc.outer c.declare.new.outer
       (towards c.args.placed.direction) _ c.in_ok-index.index c.requires.item c.encode_func_type.ensures.leaves.grows.around_ made) c.declare.ensures.ok;

@@ -19,9 +19,8 @@ loop-key-preserved c =
     let is = rest_more deref_pair c.loop-key.key-iterator c.next.new.self c.next.result (c.in-Some.key, c.in-Some.item) c.in-Some.is c.next.ensures.steps in
     record {
       going = goes-on c.args.resolve.now c.args.canonical_names c.args.self.now c.loop-key.self c.encode_item.new.self (towards c.args.direction) c.args.items.now.entries c.loop-key.key-iterator
-          c.next.new.self (c.in-Some.key.now, c.in-Some.item.now)
-          c.requires.begins c.loop-key.invariant.going is c.in_ok-encode_item.ensures.ok c.in_ok-encode_item.ensures.names c.in_ok-encode_item.ensures.once c.in_ok-encode_item.ensures.few
-          c.in_ok-encode_item.ensures.written;
+          c.next.new.self (c.in-Some.key.now, c.in-Some.item.now) c.requires.begins c.loop-key.invariant.going is c.in_ok-encode_item.ensures.ok c.in_ok-encode_item.ensures.names
+          c.in_ok-encode_item.ensures.once c.in_ok-encode_item.ensures.few c.in_ok-encode_item.ensures.written;
       places = λ h. c.in_ok-encode_item.ensures.places (c.loop-key.invariant.places h);
     }
 

@@ -22,8 +22,7 @@ returns c =
           (λ i made s f. record { extent = one-more c.args.self.now.outer c.define_function_outside.new.outer _ _ made.1 (bytes-few.functions _ c.args.def s f) }) c.define_function_outside.ensures.ok;
       size = λ h s f. record {
         lacks = function-outside c.args.self.now.resolve.now c.define_function_outside.result h c.define_function_outside.new.outer None refl (SlotsStand (outer_slots c.args.self.now.outer))
-            c.args.def
-            c.define_function_outside.ensures.size s f;
+            c.args.def c.define_function_outside.ensures.size s f;
         held = beside-kept c.args.self.now.resolve.now (world_around c.args.self.now) c.define_function_outside.new.outer
             (on-size c.define_function_outside.result _ c.define_function_outside.ensures.err h);
       };

@@ -18,9 +18,8 @@ returns c =
       maps_stay = search rules;
       counts = calls.counted;
       held = beside-more c.args.self.now.resolve.now (world_around c.args.self.now) c.import_type_outside.new.outer c.import_type_outside.ensures.held;
-      written = when-ok c.import_type_outside.result _ _
-          (λ i made. record { extent = one-more c.args.self.now.outer c.import_type_outside.new.outer _ _ made.1 (bytes-few.imports (raw_name c.args.name) refs.SubResource) })
-          c.import_type_outside.ensures.ok;
+      written = when-ok c.import_type_outside.result _ _ (λ i made. record
+          { extent = one-more c.args.self.now.outer c.import_type_outside.new.outer _ _ made.1 (bytes-few.imports (raw_name c.args.name) refs.SubResource) }) c.import_type_outside.ensures.ok;
       size = λ h. record {
         lacks = name-outside c.args.self.now.resolve.now c.import_type_outside.new.outer (raw_name c.args.name) refs.SubResource (c.import_type_outside.ensures.size h);
         held = beside-kept c.args.self.now.resolve.now (world_around c.args.self.now) c.import_type_outside.new.outer (on-size c.import_type_outside.result _ c.import_type_outside.ensures.err h);

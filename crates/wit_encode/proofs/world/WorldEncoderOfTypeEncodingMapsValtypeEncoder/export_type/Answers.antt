@@ -21,10 +21,7 @@ returns c =
       maps_stay = search rules;
       counts = made.counted;
       held = beside-more c.args.self.now.resolve.now (world_around c.args.self.now) c.import_type_outside.new.outer c.import_type_outside.ensures.held;
-      written = record {
-        extent = one-more c.args.self.now.outer c.import_type_outside.new.outer _ _ c.in_ok-slot.ensures.ok.1
-            (bytes-few.imports (raw_name c.args.name) (refs.TypeEq c.args.index));
-      };
+      written = record { extent = one-more c.args.self.now.outer c.import_type_outside.new.outer _ _ c.in_ok-slot.ensures.ok.1 (bytes-few.imports (raw_name c.args.name) (refs.TypeEq c.args.index)) };
       size = search rules;
       refuses = search rules;
     }

@@ -1,6 +1,5 @@
-use Rattle.std.proofs.Common.{rules, arith}
+use Rattle.std.proofs.{Common.rules, Common.arith, lemmas.Option.slice_get_within}
 use Rattle.base_lemmas.proofs.Options.{at_ok, if_ok}
-use Rattle.std.proofs.lemmas.Option.{slice_get_within}
 use Rattle.encode_types.specs.Known.{as_before}
 use Rattle.wit_encode.specs.{Instance.around_at, Worlds.world_around}
 use Rattle.wit_encode.proofs.{Aliases.known-reached, WorldCalls.world-imports, WorldCalls.world-source, BytesWritten.reached-more, Refusing.alias-behind, Refusing.on-size}
