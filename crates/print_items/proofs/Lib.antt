@@ -5,7 +5,7 @@ pub mod Runs
 -- How calls in turn move a view: one call and then the others, some calls and then some more. Serves spelled::print_case, spelled::print_character, spelled::print_feature, spelled::print_length and 5
 -- more; crates above.
 pub mod Moves
--- Calls of a driver: one call, calls after calls, and what they come to at the end. Serves alias, alias::write_kind_behind, alias::write_map, alias::write_type_alias and 45 more; crates above.
+-- Calls of a driver: one call, calls after calls, and what they come to at the end. Serves alias, alias::write_kind_behind, alias::write_map, alias::write_type_alias and 52 more; crates above.
 pub mod Driven
 -- The lines of a text have no line end in them. Serves prefix::write_lines.
 pub mod DocLines

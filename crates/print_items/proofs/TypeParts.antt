@@ -251,8 +251,7 @@ module _ (r : Resolve) (valid : IsValid r) (id : TypeId) (def : TypeDef) (at : t
 -- the types from a number on begin with the next
 pub types_next : (trees : List TypeTree) (ts : List ValueType) (n : ℕ) (t : ValueType) → slice_get ts n ≡ Some t
     → types_from trees n (drop n ts) ≡ (comma_calls n ++ type_calls (used_type trees t)) ++ types_from trees (n + 1) (drop (n + 1) ts)
-types_next trees ts n t e =
-    rw (drop_next ts n t (slice_get_within ts n t e) (sym (get_or_from_slice_get ts n t t e)), add-one)
+types_next trees ts n t e = rw (drop_next ts n t (slice_get_within ts n t e) (sym (get_or_from_slice_get ts n t t e)), add-one)
     (sym (append_assoc (comma_calls n) (type_calls (used_type trees t)) (types_from trees (suc n) (drop (suc n) ts))))
 
 pub types_past : (trees : List TypeTree) (ts : List ValueType) (n : ℕ) → length ts ≤ n → types_from trees n (drop n ts) ≡ []

@@ -1,4 +1,4 @@
-use Rattle.std.proofs.Common.{◌≡◌, ◌++◌, ◌+◌, ◌*◌, ◌<◌, ap, sym, ◌∙◌, drop, arith}
+use Rattle.std.proofs.Common.{◌≡◌, ◌++◌, ◌+◌, ◌*◌, ◌<◌, refl, ap, sym, ◌∙◌, drop, arith}
 use Rattle.std.specs.Prelude.{is_some}
 use Rattle.wit_model.specs.Parts.{member_types}
 use Rattle.print_grammar.specs.Calls.{type_calls}
