@@ -68,8 +68,7 @@ module _ (r : Resolve) (valid : IsValid r) (id : InterfaceId) (i : Interface) (a
 
   -- its types can be printed
   pub types_listed : list_all (is_listed_type r (owner.Interface id)) (listed_types i) ≡ true
-  types_listed =
-      all_both (λ (t : Listed). in_list r.types.items t.id.0) (is_known_listed r (owner.Interface id)) (listed_types i)
+  types_listed = all_both (λ (t : Listed). in_list r.types.items t.id.0) (is_known_listed r (owner.Interface id)) (listed_types i)
       (list_all-map (λ (t : Listed). in_list r.types.items t.id.0) (λ (e : String Global × TypeId). record { name = text_of e.0; id = e.1 }) i.types.entries ∙ interface_range r valid id.0 i at)
       (interface_types r valid id.0 i at)
 

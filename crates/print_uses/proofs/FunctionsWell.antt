@@ -18,8 +18,7 @@ module _ (r : Resolve) (valid : IsValid r) where
 
   params_known : (ps : List Param) → list_all is_label (map (λ p. text_of p.name) ps) ≡ true → list_all (is_below (length r.types.items)) (map (λ p. p.ty) ps) ≡ true → list_all known_param ps ≡ true
   params_known [] h g = refl
-  params_known (p ∷ ps) h g =
-      search (std_rules, left_of, is_below, both, right_of, params_known ps (right_of (is_label (text_of p.name)) _ h) (right_of (is_below (length r.types.items) p.ty) _ g))
+  params_known (p ∷ ps) h g = search (std_rules, left_of, is_below, both, right_of, params_known ps (right_of (is_label (text_of p.name)) _ h) (right_of (is_below (length r.types.items) p.ty) _ g))
 
   params_well : (ps : List Param) → list_all known_param ps ≡ true → list_all is_well_param (map (shown_param r) ps) ≡ true
   params_well [] h = refl
@@ -37,8 +36,7 @@ module _ (r : Resolve) (valid : IsValid r) where
       let names = left_of _ _ (left_of _ _ (right_of (not (is_freestanding f.kind) || is_label (text_of f.name)) _ named)) in
       let known = params_known f.params.items names (left_of _ _ split) in
       both (list_all is_well_param (shown_params r f)) _ (params_well (if is_method f.kind then drop 1 f.params.items else f.params.items)
-      (written_well known_param (is_method f.kind) f.params.items known))
-      (optional_type_well f.result (right_of (list_all (is_below (length r.types.items)) (map (λ p. p.ty) f.params.items)) _ split))
+      (written_well known_param (is_method f.kind) f.params.items known)) (optional_type_well f.result (right_of (list_all (is_below (length r.types.items)) (map (λ p. p.ty) f.params.items)) _ split))
 
 -- So is what stands in front of it.
 pub function_prefix_well : (f : Function) → function_labels f ≡ true → is_well_prefix (function_prefix f) ≡ true

@@ -1,5 +1,5 @@
 -- One type of an owner's list after the other is printed.
-use Rattle.std.proofs.Common.{rules as std_rules, ◌≡◌, refl, sym, ap, subst, ◌∙◌, ℕ, Bool, true, false, ◌&&◌, ◌||◌, List, [], ◌∷◌, ◌++◌, map, filter_map, Option, Some, None, option_and_then, if◌then◌else◌, ◌+◌, ◌<◌, length, drop, get_or}
+use Rattle.std.proofs.Common.{rules as std_rules, ◌≡◌, refl, sym, ap, subst, ◌∙◌, ℕ, Bool, true, false, ◌&&◌, ◌||◌, List, [], ◌∷◌, ◌++◌, map, filter_map, Option, Some, None, option_and_then, ◌+◌, ◌<◌, length, drop, get_or}
 use Rattle.std.proofs.lemmas.{Bool.lt-ltb, Bool.and_from as both, Option.slice_get_within, List.drop_more}
 use Rattle.std.specs.{Prelude.is_some, Prelude.option_map, Option.option_map_or, List.list_all, List.cons_option, Borrow.Bor}
 use Rattle.wit_model.specs.declared.model.{Resolve.Resolve, TypeDef.TypeDef, TypeId.TypeId}
@@ -53,8 +53,7 @@ module _ (r : Resolve) where
 
       -- a declaration that can be printed
       pub declaration_printable : (fs : List Function) → list_all (is_known_function r o) fs ≡ true → is_printable_type r fs id ≡ true
-      declaration_printable fs functions =
-          both (in_list r.types.items id.0) _ (left_of _ _ known)
+      declaration_printable fs functions = both (in_list r.types.items id.0) _ (left_of _ _ known)
           (subst (λ d. option_map_or (λ x. is_well_prefix (shown_prefix x.docs x.stability x.external_id) && is_well_declared (shown_declared r fs id x)) d false ≡ true) (sym at)
           (both (is_well_prefix (shown_prefix def.docs def.stability def.external_id)) _ (shown_prefix_well def.docs def.stability def.external_id gated)
           (declared_well r valid o fs id def at (name_well r valid id.0 def at (left_of _ _ its)) functions)))
@@ -63,31 +62,14 @@ module _ (r : Resolve) where
     pub listed_use_at : listed_use r o (record { name = name; id = id }) ≡ used_of r o name def
     listed_use_at = ap (λ d. option_and_then (used_of r o name) d) at
 
-    pub declared_here : (fs : List Function) → used_of r o name def ≡ None → listed_declaration r o fs (record { name = name; id = id }) ≡ declaration_of r fs id
-    declared_here fs none =
-        ap (λ d. option_map_or (λ (x : DeclaredWith). let ms : List MemberTree = TypeMember x.prefix x.declared ∷ [] in ms)
-        (option_and_then (declared_with r o fs (record { name = name; id = id })) d) []) at
-        ∙ ap (λ u. let given : Option DeclaredWith = if is_some u then None else Some
-        (record { prefix = shown_prefix def.docs def.stability def.external_id; declared = shown_declared r fs id def }) in
-        option_map_or (λ (x : DeclaredWith). let ms : List MemberTree = TypeMember x.prefix x.declared ∷ [] in ms) given []) none
-        ∙ sym (declaration_at r fs id def at)
-
-    pub declared_nowhere : (fs : List Function) (u : Used) → used_of r o name def ≡ Some u → listed_declaration r o fs (record { name = name; id = id }) ≡ []
-    declared_nowhere fs u e =
-        ap (λ d. option_map_or (λ (x : DeclaredWith). let ms : List MemberTree = TypeMember x.prefix x.declared ∷ [] in ms)
-        (option_and_then (declared_with r o fs (record { name = name; id = id })) d) []) at
-        ∙ ap (λ w. let given : Option DeclaredWith = if is_some w then None else Some
-        (record { prefix = shown_prefix def.docs def.stability def.external_id; declared = shown_declared r fs id def }) in
-        option_map_or (λ (x : DeclaredWith). let ms : List MemberTree = TypeMember x.prefix x.declared ∷ [] in ms) given []) e
-
     -- by whether it is a use
     pub nothing_declared : (fs : List Function) (u : Option Use) → option_map shown_use u ≡ used_of r o name def → is_some u ≡ true → listed_declaration r o fs (record { name = name; id = id }) ≡ []
     nothing_declared fs None e h = absurd cc
-    nothing_declared fs (Some u) e h = declared_nowhere fs (shown_use u) (sym e)
+    nothing_declared fs (Some u) e h = rw (at, sym e) refl
 
     pub something_declared : (fs : List Function) (u : Option Use) → option_map shown_use u ≡ used_of r o name def → is_some u ≡ false
         → listed_declaration r o fs (record { name = name; id = id }) ≡ declaration_of r fs id
-    something_declared fs None e h = declared_here fs (sym e)
+    something_declared fs None e h = rw (at, sym e) refl
     something_declared fs (Some u) e h = absurd cc
 
     -- a declaration is something printed
@@ -144,42 +126,33 @@ module _ (ts : List (Bor Text × TypeId)) (i : ℕ) (d : Bor Text × TypeId) (wi
     pub known_here : list_all (is_listed_type r o) (listed_of (drop i ts)) ≡ true → is_listed_type r o (entry (get_or ts i d)) ≡ true
     known_here h = left_of _ _ (subst (λ ls. list_all (is_listed_type r o) ls ≡ true) at_place h)
 
-    known_then : list_all (is_listed_type r o) (listed_of (drop i ts)) ≡ true → list_all (is_listed_type r o) (listed_of (drop (i + 1) ts)) ≡ true
-    known_then h = right_of (is_listed_type r o (entry (get_or ts i d))) _ (subst (λ ls. list_all (is_listed_type r o) ls ≡ true) at_place h)
-
     -- ---- uses
 
     module _ (path : InterfaceId → PathTree) (before : Option Used) where
-      uses_next : uses_calls path before (filter_map (listed_use r o) (listed_of (drop i ts)))
-          ≡ listed_use_calls path before (listed_use r o (entry (get_or ts i d))) ++ uses_calls path (use_after before (listed_use r o (entry (get_or ts i d))))
-          (filter_map (listed_use r o) (listed_of (drop (i + 1) ts)))
+      uses_next : uses_calls path before (filter_map (listed_use r o) (listed_of (drop i ts))) ≡ listed_use_calls path before (listed_use r o (entry (get_or ts i d)))
+          ++ uses_calls path (use_after before (listed_use r o (entry (get_or ts i d)))) (filter_map (listed_use r o) (listed_of (drop (i + 1) ts)))
       uses_next = ap (λ ls. uses_calls path before (filter_map (listed_use r o) ls)) at_place ∙ next_listed_use r o path before (entry (get_or ts i d)) (listed_of (drop (i + 1) ts))
 
       pub use_made : {Kept : Type 0} {keeps : View Kept → OutputCall → Kept} {all : List OutputCall} {old now new : View Kept} (after : Option Used)
-          → Going keeps (uses_calls path before (filter_map (listed_use r o) (listed_of (drop i ts)))) all old now
-          → after ≡ use_after before (listed_use r o (entry (get_or ts i d)))
+          → Going keeps (uses_calls path before (filter_map (listed_use r o) (listed_of (drop i ts)))) all old now → after ≡ use_after before (listed_use r o (entry (get_or ts i d)))
           → Moves keeps now (listed_use_calls path before (listed_use r o (entry (get_or ts i d)))) new
           → Going keeps (uses_calls path after (filter_map (listed_use r o) (listed_of (drop (i + 1) ts)))) all old new
-      use_made after g e m =
-          made_on (listed_use_calls path before (listed_use r o (entry (get_or ts i d)))) (uses_calls path after (filter_map (listed_use r o) (listed_of (drop (i + 1) ts)))) g
+      use_made after g e m = made_on (listed_use_calls path before (listed_use r o (entry (get_or ts i d)))) (uses_calls path after (filter_map (listed_use r o) (listed_of (drop (i + 1) ts)))) g
           (uses_next ∙ ap (λ b. listed_use_calls path before (listed_use r o (entry (get_or ts i d))) ++ uses_calls path b (filter_map (listed_use r o) (listed_of (drop (i + 1) ts)))) (sym e)) m
 
       pub use_refused : {Kept : Type 0} {keeps : View Kept → OutputCall → Kept} {all : List OutputCall} {old now new : View Kept}
           → Going keeps (uses_calls path before (filter_map (listed_use r o) (listed_of (drop i ts)))) all old now
-          → Begins keeps now (listed_use_calls path before (listed_use r o (entry (get_or ts i d)))) new
-          → Begins keeps old all new
-      use_refused g b =
-          refused_in (listed_use_calls path before (listed_use r o (entry (get_or ts i d))))
+          → Begins keeps now (listed_use_calls path before (listed_use r o (entry (get_or ts i d)))) new → Begins keeps old all new
+      use_refused g b = refused_in (listed_use_calls path before (listed_use r o (entry (get_or ts i d))))
           (uses_calls path (use_after before (listed_use r o (entry (get_or ts i d)))) (filter_map (listed_use r o) (listed_of (drop (i + 1) ts)))) g uses_next b
 
     pub uses_some : (before after : Option Used) (all : Bool) → (is_some before || has_items (filter_map (listed_use r o) (listed_of (drop i ts)))) ≡ all
         → after ≡ use_after before (listed_use r o (entry (get_or ts i d))) → (is_some after || has_items (filter_map (listed_use r o) (listed_of (drop (i + 1) ts)))) ≡ all
-    uses_some before after all h e =
-        ap (λ b. is_some b || has_items (filter_map (listed_use r o) (listed_of (drop (i + 1) ts)))) e
-        ∙ sym (next_listed_some r o before (entry (get_or ts i d)) (listed_of (drop (i + 1) ts)))
-        ∙ ap (λ ls. is_some before || has_items (filter_map (listed_use r o) ls)) (sym at_place)
-        ∙ h
+    uses_some before after all h e = ap (λ b. is_some b || has_items (filter_map (listed_use r o) (listed_of (drop (i + 1) ts)))) e
+        ∙ sym (next_listed_some r o before (entry (get_or ts i d)) (listed_of (drop (i + 1) ts))) ∙ ap (λ ls. is_some before || has_items (filter_map (listed_use r o) ls)) (sym at_place) ∙ h
 
 pub known_after : (ts : List (Bor Text × TypeId)) (i : ℕ) → i < length ts → (r : Resolve) (o : TypeOwner) → list_all (is_listed_type r o) (listed_of (drop i ts)) ≡ true
     → list_all (is_listed_type r o) (listed_of (drop (i + 1) ts)) ≡ true
-known_after ts i within r o h = let there = one_there ts i within in known_then ts i there.0 within r o h
+known_after ts i within r o h =
+    let there = one_there ts i within in
+    right_of (is_listed_type r o (entry (get_or ts i there.0))) _ (subst (λ ls. list_all (is_listed_type r o) ls ≡ true) (at_place ts i there.0 within) h)

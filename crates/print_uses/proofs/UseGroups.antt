@@ -70,8 +70,7 @@ module _ (emits : Bool) (path : InterfaceId → PathTree) where
         others = rest.others;
         groups = ap (grouped_with used) rest.groups ∙ ap (λ b. if b then record used { names = used.names ++ (next.names ++ rest.more) } ∷ rest.others else used ∷ record next
             { names = next.names ++ rest.more } ∷ rest.others) e;
-        calls =
-            ap (λ b. (if b then more_names_calls next.names else group_end_calls ++ new_group_calls path next) ++ uses_calls path (Some next) uses) e
+        calls = ap (λ b. (if b then more_names_calls next.names else group_end_calls ++ new_group_calls path next) ++ uses_calls path (Some next) uses) e
             ∙ ap (λ x. more_names_calls next.names ++ x) rest.calls
             ∙ sym (append_assoc (more_names_calls next.names) (more_names_calls rest.more) (group_end_calls ++ members_calls emits true (map shown rest.others)))
             ∙ ap (λ x. x ++ (group_end_calls ++ members_calls emits true (map shown rest.others))) (sym (flat_map-append (λ n. Str (codes ", ") ∷ used_name_calls n) next.names rest.more));
@@ -81,8 +80,7 @@ module _ (emits : Bool) (path : InterfaceId → PathTree) where
         others = group ∷ rest.others;
         groups = ap (grouped_with used) rest.groups ∙ ap (λ b. if b then record used { names = used.names ++ (next.names ++ rest.more) } ∷ rest.others else used ∷ group ∷ rest.others) e
             ∙ (ap (λ (names : List UsedName). let all : List Used = record used { names = names } ∷ group ∷ rest.others in all) (sym (append-nil used.names)));
-        calls =
-            ap (λ b. (if b then more_names_calls next.names else group_end_calls ++ new_group_calls path next) ++ uses_calls path (Some next) uses) e
+        calls = ap (λ b. (if b then more_names_calls next.names else group_end_calls ++ new_group_calls path next) ++ uses_calls path (Some next) uses) e
             ∙ append_assoc group_end_calls (new_group_calls path next) (uses_calls path (Some next) uses)
             ∙ ap (λ x. group_end_calls ++ x)
             (ap (λ x. new_group_calls path next ++ x) (rest.calls ∙ sym (append_assoc (more_names_calls rest.more) group_end_calls (members_calls emits true (map shown rest.others))))
@@ -97,8 +95,7 @@ module _ (emits : Bool) (path : InterfaceId → PathTree) where
       let g = grouped_calls used uses (right_of (is_plain_use used) _ h) in
       ap (λ x. new_group_calls path used ++ x) (g.calls ∙ sym (append_assoc (more_names_calls g.more) group_end_calls (members_calls emits true (map shown g.others))))
       ∙ sym (append_assoc (new_group_calls path used) (more_names_calls g.more ++ group_end_calls) (members_calls emits true (map shown g.others)))
-      ∙ ap (λ x. x ++ members_calls emits true (map shown g.others)) (sym (group_calls used g.more (left_of _ _ h)))
-      ∙ ap (λ gs. members_calls emits printed (map shown gs)) (sym g.groups)
+      ∙ ap (λ x. x ++ members_calls emits true (map shown g.others)) (sym (group_calls used g.more (left_of _ _ h))) ∙ ap (λ gs. members_calls emits printed (map shown gs)) (sym g.groups)
 
   -- ---- whether there are any
 

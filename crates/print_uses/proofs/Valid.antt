@@ -22,7 +22,7 @@ use Rattle.wit_model.proofs.{TextLemmas.text_same, NameLaws.label_lacks, Prefixe
 use Rattle.print_items.specs.Shown.{Listed, present_name, shown_type, type_name, type_trees, kind_tree, shown_field, shown_case, shown_flag, shown_enum_case, constructor_result, shown_resource_member, belongs_to, shown_declared, shown_prefix, full_path, path_from, shown_path, Used, own_name, used_of, same_group, grouped_with, grouped, shown_uses, DeclaredWith, declared_with, shown_declarations, path_from_owner, listed_types, listed_functions, shown_function, shown_interface}
 use Rattle.print_items.proofs.TypesWell.{type_rule, label_of, is_below, below_of_numbers, shape_of, handled_label, shown_type_well, shown_kind_well, name_well}
 use Rattle.print_items.proofs.ShownWell.{docs_well, given_label, optional_version, shown_prefix_well}
-use Rattle.base_lemmas.proofs.{Bools.left_of, Bools.right_of, Bools.given-not as implied, Lists.within_there as one_there, Elements.joined_well}
+use Rattle.base_lemmas.proofs.{Bools.left_of, Bools.right_of, Bools.given-not as implied, Bools.and-true, Lists.within_there as one_there, Elements.joined_well, Numbers.nothing_more}
 use Rattle.print_grammar.specs.WellNamed.{is_well_type, is_well_field, is_well_case, is_well_label, is_well_prefix, is_well_resource_member, is_well_declared, is_well_path, is_well_used, are_well_some, is_well_member}
 use Rattle.print_grammar.specs.Tree.{PathTree.Local, MemberTree.UseMember, MemberTree.TypeMember}
 use Rattle.print_uses.proofs.WellLists.{kept_well, some_well, given_well, joined_some, each_well}
@@ -63,9 +63,8 @@ module _ (r : Resolve) (valid : IsValid r) where
 
   smaller_references : Keeps references r
   unfolding references
-  smaller_references = references_kept r (each_from_all (references.type_ r) 0 r.types.items (λ n def e.
-      let number : n ≡ 0 + n = omega arith in
-      subst (λ m. references.type_ r m def ≡ true) number (kept_numbers r valid.rules n def e)))
+  smaller_references = references_kept r (each_from_all (references.type_ r) 0 r.types.items
+      (λ n def e. subst (λ m. references.type_ r m def ≡ true) (sym (nothing_more n)) (kept_numbers r valid.rules n def e)))
 
   module _ (n : ℕ) (def : TypeDef) (at : type_at r n ≡ Some def) (t : TypeId) (alias : def.kind ≡ defined.Type_ (value.Id t)) (target : TypeDef) (there : type_at r t.0 ≡ Some target) (named : is_some target.name ≡ true) where
     -- an alias uses its target alone
@@ -74,11 +73,7 @@ module _ (r : Resolve) (valid : IsValid r) where
         let numbers : kind_numbers def.kind ≡ t.0 ∷ [] = ap kind_numbers alias in
         let met = named_met r smaller_references t.0 target there def.owner named in
         ap (λ ns. list_all (has_owner r def.owner) (flat_map (met_by (met_of r)) ns)) numbers
-        ∙ (list_all-append (has_owner r def.owner) (met_by (met_of r) t.0) [] ∙ (and_true (list_all (has_owner r def.owner) (met_by (met_of r) t.0)) ∙ sym met))
-      where
-        and_true : (b : Bool) → (b && true) ≡ b
-        and_true true = refl
-        and_true false = refl
+        ∙ (list_all-append (has_owner r def.owner) (met_by (met_of r) t.0) [] ∙ (and-true (list_all (has_owner r def.owner) (met_by (met_of r) t.0)) ∙ sym met))
 
     named_by_use : is_use r def ≡ true → has_named_owner r target ≡ true
     named_by_use h =
@@ -106,9 +101,8 @@ module _ (r : Resolve) (valid : IsValid r) where
 
   listed_interfaces : KeepsIn listings r lists.Interfaces
   unfolding listings order_of_types
-  listed_interfaces = each_from_all (listings.interface_ r) 0 r.interfaces.items (λ n i e.
-      let number : n ≡ 0 + n = omega arith in
-      subst (λ m. listings.interface_ r m i ≡ true) number (left_of _ _ (interface-passes order_of_types r valid.rules.order_of_types n i e)))
+  listed_interfaces = each_from_all (listings.interface_ r) 0 r.interfaces.items
+      (λ n i e. subst (λ m. listings.interface_ r m i ≡ true) (sym (nothing_more n)) (left_of _ _ (interface-passes order_of_types r valid.rules.order_of_types n i e)))
 
   -- The types of an interface stand under their own names.
   pub own_names : (n : ℕ) (i : Interface) → interface_at r n ≡ Some i → list_all (λ e. has_name r (λ name. text_eq name (text_of e.0)) e.1.0) i.types.entries ≡ true
@@ -133,16 +127,14 @@ module _ (r : Resolve) (valid : IsValid r) where
       → list_all (λ e. has_name r (λ name. text_eq name (text_of e.0)) e.1.0) es ≡ true → list_all (is_named_of r o) (map (λ id. id.0) (values_of es)) ≡ true
       → list_all (is_known_listed r o) (map (λ e. record { name = text_of e.0; id = e.1 }) es) ≡ true
   listed_known o [] range names own = refl
-  listed_known o (e ∷ es) range names own =
-      search (
-        std_rules,
-        left_of,
-        both,
-        own_name_label,
-        right_of,
-        listed_known o es (right_of (in_list r.types.items e.1.0) _ range)
-            (right_of (has_name r (λ name. text_eq name (text_of e.0)) e.1.0) _ names) (right_of (is_named_of r o e.1.0) _ own),
-      )
+  listed_known o (e ∷ es) range names own = search (
+    std_rules,
+    left_of,
+    both,
+    own_name_label,
+    right_of,
+    listed_known o es (right_of (in_list r.types.items e.1.0) _ range) (right_of (has_name r (λ name. text_eq name (text_of e.0)) e.1.0) _ names) (right_of (is_named_of r o e.1.0) _ own),
+  )
 
 -- ---- The own names of a valid `Resolve`'s functions are labels.
 
@@ -157,8 +149,7 @@ first_dot [] ys h = refl
 first_dot (x ∷ xs) ys h = search (std_rules, left_of, right_of, first_dot xs ys (right_of (is_no_dot x) _ h))
 
 after_first_dot : (xs ys : Text) → list_all is_no_dot xs ≡ true → after_dot (xs ++ (46 ∷ ys)) ≡ ys
-after_first_dot xs ys h =
-    search (std_rules, first_dot xs ys h, append_assoc xs (46 ∷ []) ys, drop_at (xs ++ (46 ∷ [])) ys (length xs + 1) (length_push xs 46), length_push xs 46)
+after_first_dot xs ys h = search (std_rules, first_dot xs ys h, append_assoc xs (46 ∷ []) ys, drop_at (xs ++ (46 ∷ [])) ys (length xs + 1) (length_push xs 46), length_push xs 46)
 
 -- what follows a front, a label and a dot
 member_label : (front name : Text) (f : Function) → list_all is_no_dot front ≡ true → is_label name ≡ true → is_member_name (front ++ (name ++ (46 ∷ []))) f ≡ true
@@ -240,22 +231,20 @@ module _ (r : Resolve) (valid : IsValid r) where
   cases_well : (cs : List Case) → list_all is_label (map (λ c. text_of c.name) cs) ≡ true → list_all (λ c. list_all (is_below (length r.types.items)) (option_to_list c.ty)) cs ≡ true
       → list_all is_well_case (map (shown_case r) cs) ≡ true
   cases_well [] h g = refl
-  cases_well (c ∷ cs) h g =
-      search (
-        std_rules,
-        left_of,
-        is_below,
-        both,
-        docs_well,
-        optional_type_well,
-        right_of,
-        cases_well cs (right_of (is_label (text_of c.name)) _ h) (right_of (list_all (is_below (length r.types.items)) (option_to_list c.ty)) _ g),
-      )
+  cases_well (c ∷ cs) h g = search (
+    std_rules,
+    left_of,
+    is_below,
+    both,
+    docs_well,
+    optional_type_well,
+    right_of,
+    cases_well cs (right_of (is_label (text_of c.name)) _ h) (right_of (list_all (is_below (length r.types.items)) (option_to_list c.ty)) _ g),
+  )
 
   -- ---- functions of resources
 
-  constructor_well : (id : TypeId) (result : Option ValueType) → passes is_well_type (option_map (shown_type r) result) ≡ true
-      → passes is_well_type (constructor_result r id result) ≡ true
+  constructor_well : (id : TypeId) (result : Option ValueType) → passes is_well_type (option_map (shown_type r) result) ≡ true → passes is_well_type (constructor_result r id result) ≡ true
   constructor_well id x h = search std_rules
 
   resource_member_well : (o : TypeOwner) (f : Function) → is_known_function r o f ≡ true → is_well_resource_member (shown_resource_member r f) ≡ true
@@ -316,8 +305,7 @@ module _ (r : Resolve) (valid : IsValid r) where
   full_path_well name n p e label =
       let named = left_of _ _ (package-passes package_names r valid.rules.package_names n p e) in
       let rest = right_of (is_label (text_of p.name.namespace)) _ named in
-      both (is_label (text_of p.name.namespace)) _ (left_of _ _ named)
-      (both (is_label (text_of p.name.name)) _ (left_of _ _ rest)
+      both (is_label (text_of p.name.namespace)) _ (left_of _ _ named) (both (is_label (text_of p.name.name)) _ (left_of _ _ rest)
       (both (is_label name) _ label (optional_version p.name.version (right_of (is_label (text_of p.name.name)) _ rest))))
 
   path_from_well : (here : PackageId) (i : Interface) → is_label (present_name i.name) ≡ true → is_well_path (path_from r here i) ≡ true
@@ -356,13 +344,12 @@ module _ (r : Resolve) (valid : IsValid r) where
         gates = shown_prefix_well (record { contents = None }) def.stability def.external_id
             (left_of _ _ (right_of (passes (λ s. is_label (text_of s)) def.name) _ (type_rule r valid labels valid.rules.labels n def at)))
 
-        to_interface : (t : TypeId) (target : TypeDef) (id : InterfaceId) → is_label (present_name target.name) ≡ true → is_named_interface r id.0 ≡ true
-            → is_known_use r (record {
-              interface = id;
-              prefix = shown_prefix (record { contents = None }) def.stability def.external_id;
-              names =
-                  record { other = present_name target.name; own = own_name own (present_name target.name) } ∷ [];
-            }) ≡ true
+        to_interface : (t : TypeId) (target : TypeDef) (id : InterfaceId) → is_label (present_name target.name) ≡ true → is_named_interface r id.0 ≡ true → is_known_use r (record {
+          interface = id;
+          prefix = shown_prefix (record { contents = None }) def.stability def.external_id;
+          names =
+              record { other = present_name target.name; own = own_name own (present_name target.name) } ∷ [];
+        }) ≡ true
         to_interface t target id other named =
             let one : is_well_used (record { other = present_name target.name; own = own_name own (present_name target.name) }) ≡ true =
             both (is_label (present_name target.name)) _ other (own_name_well own (present_name target.name) label) in
@@ -422,8 +409,7 @@ module _ (r : Resolve) (valid : IsValid r) where
 
     -- The uses among known types are known.
     pub uses_known : (types : List Listed) → list_all (is_known_listed r o) types ≡ true → list_all (is_known_use r) (shown_uses r o types) ≡ true
-    uses_known types h =
-        grouped_known (filter_map (λ listed. option_and_then (used_of r o listed.name) (type_at r listed.id.0)) types)
+    uses_known types h = grouped_known (filter_map (λ listed. option_and_then (used_of r o listed.name) (type_at r listed.id.0)) types)
         (given_well (is_known_listed r o) (λ listed. option_and_then (used_of r o listed.name) (type_at r listed.id.0)) (is_known_use r)
         (λ listed known. one listed known (type_at r listed.id.0) refl (right_of (is_label listed.name) _ known)) types h)
       where
@@ -436,9 +422,8 @@ module _ (r : Resolve) (valid : IsValid r) where
     pub declarations_well : (functions : List Function) (types : List Listed) → list_all (is_known_function r o) functions ≡ true → list_all (is_known_listed r o) types ≡ true
         → list_all is_well_declared_with (shown_declarations r o functions types) ≡ true
     unfolding labels
-    declarations_well functions types functions_known h =
-        given_well (is_known_listed r o) (λ listed. option_and_then (declared_with r o functions listed) (type_at r listed.id.0)) is_well_declared_with
-        (λ listed known. one listed (type_at r listed.id.0) refl (right_of (is_label listed.name) _ known)) types h
+    declarations_well functions types functions_known h = given_well (is_known_listed r o) (λ listed. option_and_then (declared_with r o functions listed) (type_at r listed.id.0))
+        is_well_declared_with (λ listed known. one listed (type_at r listed.id.0) refl (right_of (is_label listed.name) _ known)) types h
       where
         pick : (b : Bool) (d : DeclaredWith) → is_well_declared_with d ≡ true → passes is_well_declared_with (if b then None else Some d) ≡ true
         pick true d h = refl
@@ -468,15 +453,13 @@ module _ (r : Resolve) (valid : IsValid r) where
   functions_known : (o : TypeOwner) (es : List (String Global × Function)) → list_all (function_in_range r) (values_of es) ≡ true → list_all function_labels (values_of es) ≡ true
       → list_all (λ e. text_eq (text_of e.0) (text_of e.1.name) && is_member r o e.1) es ≡ true → list_all (is_known_function r o) (map (λ e. e.1) es) ≡ true
   functions_known o [] range named own = refl
-  functions_known o (e ∷ es) range named own =
-      search (
-        std_rules,
-        left_of,
-        both,
-        right_of,
-        functions_known o es (right_of (function_in_range r e.1) _ range) (right_of (function_labels e.1) _ named)
-            (right_of (text_eq (text_of e.0) (text_of e.1.name) && is_member r o e.1) _ own),
-      )
+  functions_known o (e ∷ es) range named own = search (
+    std_rules,
+    left_of,
+    both,
+    right_of,
+    functions_known o es (right_of (function_in_range r e.1) _ range) (right_of (function_labels e.1) _ named) (right_of (text_eq (text_of e.0) (text_of e.1.name) && is_member r o e.1) _ own),
+  )
 
   -- ---- what validity says
 
@@ -485,9 +468,7 @@ module _ (r : Resolve) (valid : IsValid r) where
   interface_functions n i e =
       let range = right_of (passes (in_list r.packages.items) (package_number i.«package»)) _ (right_of (is_place n) _ (interface-passes numbers_in_range r valid.rules.numbers_in_range n i e)) in
       let named = right_of (is_stability i.stability) _ (right_of (passes (λ name. is_label (text_of name)) i.name) _ (interface-passes labels r valid.rules.labels n i e)) in
-      functions_known (owner.Interface (record { 0 = n })) i.functions.entries
-      (right_of (list_all (λ id. in_list r.types.items id.0) (values i.types)) _ range)
-      (left_of _ _ named)
+      functions_known (owner.Interface (record { 0 = n })) i.functions.entries (right_of (list_all (λ id. in_list r.types.items id.0) (values i.types)) _ range) (left_of _ _ named)
       (interface-passes function_names r valid.rules.function_names n i e)
 
   pub interface_range : (n : ℕ) (i : Interface) → interface_at r n ≡ Some i → list_all (λ e. in_list r.types.items e.1.0) i.types.entries ≡ true
@@ -515,13 +496,9 @@ module _ (r : Resolve) (valid : IsValid r) where
 
   -- What is shown of an interface is well named.
   pub interface_well : (id : InterfaceId) (i : Interface) → interface_at r id.0 ≡ Some i → list_all is_well_member (shown_interface r id i) ≡ true
-  interface_well id i e =
-      joined_well is_well_member
-      (map (λ used. UseMember used.prefix (path_from_owner r i.«package» used.interface) used.names) uses ++ map (λ d. TypeMember d.prefix d.declared) declarations)
-      (map (shown_function r) (filter (λ f. is_freestanding f.kind) (listed_functions i)))
-      (joined_well is_well_member
-      (map (λ used. UseMember used.prefix (path_from_owner r i.«package» used.interface) used.names) uses)
-      (map (λ d. TypeMember d.prefix d.declared) declarations)
+  interface_well id i e = joined_well is_well_member (map (λ used. UseMember used.prefix (path_from_owner r i.«package» used.interface) used.names) uses
+      ++ map (λ d. TypeMember d.prefix d.declared) declarations) (map (shown_function r) (filter (λ f. is_freestanding f.kind) (listed_functions i)))
+      (joined_well is_well_member (map (λ used. UseMember used.prefix (path_from_owner r i.«package» used.interface) used.names) uses) (map (λ d. TypeMember d.prefix d.declared) declarations)
       (each_well (is_known_use r) (λ used. UseMember used.prefix (path_from_owner r i.«package» used.interface) used.names) is_well_member (use_well i (in_package id.0 i e)) uses
       (uses_known r valid (owner.Interface id) refl (listed_types i) (interface_types id.0 i e)))
       (each_well is_well_declared_with (λ d. TypeMember d.prefix d.declared) is_well_member (λ d h. h) declarations

@@ -16,8 +16,7 @@ each_well known shown well each (x ∷ xs) h = both (well (shown x)) _ (each x (
 pub kept_well : {X Y : Type 0} (known test : X → Bool) (shown : X → Y) (well : Y → Bool) → ((x : X) → known x ≡ true → test x ≡ true → well (shown x) ≡ true) → (xs : List X) → list_all known xs ≡ true
     → list_all well (map shown (filter test xs)) ≡ true
 kept_well known test shown well each [] h = refl
-kept_well known test shown well each (x ∷ xs) h =
-    search (std_rules, cases_Bool, both, left_of, right_of, kept_well known test shown well each xs (right_of (known x) _ h))
+kept_well known test shown well each (x ∷ xs) h = search (std_rules, cases_Bool, both, left_of, right_of, kept_well known test shown well each xs (right_of (known x) _ h))
 
 -- what is given by some elements
 pub given_well : {X Y : Type 0} (known : X → Bool) (give : X → Option Y) (well : Y → Bool) → ((x : X) → known x ≡ true → passes well (give x) ≡ true) → (xs : List X) → list_all known xs ≡ true

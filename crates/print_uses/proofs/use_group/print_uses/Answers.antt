@@ -1,4 +1,4 @@
-use Rattle.std.proofs.Common.{◌||◌, ◌∙◌, [], append-nil, ap, filter_map, refl, subst, sym}
+use Rattle.std.proofs.Common.{◌||◌, ◌∙◌, [], append-nil, ap, filter_map, refl, subst, sym, tt}
 use Rattle.std.proofs.lemmas.List.{drop_all}
 use Rattle.std.specs.Prelude.{is_some, option_map}
 use Rattle.wit_model.specs.Rules.{has_items}
@@ -17,9 +17,7 @@ pub print_listed_use-requires-clause-known : goal.print_listed_use-requires-clau
 print_listed_use-requires-clause-known g c = known_here c.args.types.now c.loop-listed.listed-index _ c.loop-listed-test.true c.args.resolve.now c.args.owner c.loop-listed.invariant.known
 
 pub returns-in_err-next-clause-err : goal.returns-in_err-next-clause-err
-returns-in_err-next-clause-err g c =
-    at_err c.from_residual.result
-    (subst (λ calls. Begins g.O.Output.keeps (g.O.Output.view c.args.output.now) calls (g.O.Output.view c.print_listed_use.new.output))
+returns-in_err-next-clause-err g c = at_err c.from_residual.result (subst (λ calls. Begins g.O.Output.keeps (g.O.Output.view c.args.output.now) calls (g.O.Output.view c.print_listed_use.new.output))
     (all_uses c.args.resolve.now c.args.owner c.args.emits_docs c.args.has_printed c.args.here (listed_of c.args.types.now))
     (use_refused c.args.types.now c.loop-listed.listed-index _ c.loop-listed-test.true c.args.resolve.now c.args.owner (shown_path c.args.resolve.now c.args.here)
     (option_map shown_use c.loop-listed.last) c.loop-listed.invariant.going c.in_err-next.ensures.err))
@@ -43,33 +41,26 @@ returns-in_err-print_open_end-clause-err g c =
     let path = shown_path r c.args.here in
     let before = option_map shown_use c.loop-listed.last in
     let none = drop_all c.loop-listed.listed-index c.args.types.now c.loop-listed-test.false in
-    at_err c.from_residual-in_err-print_open_end.result
-    (subst (λ calls. Begins g.O.Output.keeps (g.O.Output.view c.args.output.now) calls (g.O.Output.view c.print_open_end.new.output))
+    at_err c.from_residual-in_err-print_open_end.result (subst (λ calls. Begins g.O.Output.keeps (g.O.Output.view c.args.output.now) calls (g.O.Output.view c.print_open_end.new.output))
     (all_uses r c.args.owner c.args.emits_docs c.args.has_printed c.args.here (listed_of c.args.types.now))
-    (refused_in (open_end_calls before) [] c.loop-listed.invariant.going
-    (ap (λ ts. uses_calls path before (filter_map (listed_use r c.args.owner) (listed_of ts))) none ∙ sym (append-nil (open_end_calls before)))
+    (refused_in (open_end_calls before) [] c.loop-listed.invariant.going (ap (λ ts. uses_calls path before (filter_map (listed_use r c.args.owner) (listed_of ts))) none
+    ∙ sym (append-nil (open_end_calls before)))
     c.in_err-print_open_end.ensures.err))
 
-pub returns-clause-ok : goal.returns-clause-ok
-returns-clause-ok g c =
+pub returns : goal.returns
+returns g c =
     let r = c.args.resolve.now in
     let path = shown_path r c.args.here in
     let before = option_map shown_use c.loop-listed.last in
     let none = drop_all c.loop-listed.listed-index c.args.types.now c.loop-listed-test.false in
-    subst (λ calls. Moves g.O.Output.keeps (g.O.Output.view c.args.output.now) calls (g.O.Output.view c.print_open_end.new.output))
-    (all_uses r c.args.owner c.args.emits_docs c.args.has_printed c.args.here (listed_of c.args.types.now))
-    (made_all (made_on (open_end_calls before) [] c.loop-listed.invariant.going
-    (ap (λ ts. uses_calls path before (filter_map (listed_use r c.args.owner) (listed_of ts))) none ∙ sym (append-nil (open_end_calls before)))
-    c.in_ok-print_open_end.ensures.ok) refl)
-
-pub returns-clause-printed : goal.returns-clause-printed
-returns-clause-printed g c =
-    let r = c.args.resolve.now in
-    let before = option_map shown_use c.loop-listed.last in
-    let none = drop_all c.loop-listed.listed-index c.args.types.now c.loop-listed-test.false in
-    c.either.ensures
-    ∙ ap (λ b. c.args.has_printed || b)
-    (c.is_some.ensures ∙ sym (some_mapped c.loop-listed.last) ∙ sym (or_false (is_some before))
-    ∙ ap (λ ts. is_some before || has_items (filter_map (listed_use r c.args.owner) (listed_of ts))) (sym none)
-    ∙ c.loop-listed.invariant.printed)
-    ∙ sym (all_printed r c.args.owner c.args.has_printed c.args.here (listed_of c.args.types.now))
+    record {
+      ok = subst (λ calls. Moves g.O.Output.keeps (g.O.Output.view c.args.output.now) calls (g.O.Output.view c.print_open_end.new.output))
+          (all_uses r c.args.owner c.args.emits_docs c.args.has_printed c.args.here (listed_of c.args.types.now))
+          (made_all (made_on (open_end_calls before) [] c.loop-listed.invariant.going
+          (ap (λ ts. uses_calls path before (filter_map (listed_use r c.args.owner) (listed_of ts))) none ∙ sym (append-nil (open_end_calls before))) c.in_ok-print_open_end.ensures.ok) refl);
+      err = tt;
+      printed = c.either.ensures ∙ ap (λ b. c.args.has_printed || b) (c.is_some.ensures ∙ sym (some_mapped c.loop-listed.last) ∙ sym (or_false (is_some before))
+          ∙ ap (λ ts. is_some before || has_items (filter_map (listed_use r c.args.owner) (listed_of ts))) (sym none) ∙ c.loop-listed.invariant.printed)
+          ∙ sym (all_printed r c.args.owner c.args.has_printed c.args.here (listed_of c.args.types.now));
+      memory = tt;
+    }
