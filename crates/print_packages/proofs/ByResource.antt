@@ -45,7 +45,5 @@ module _ (r : Resolve) (o : TypeOwner) where
   pub declared_by_resource : (entries : Functions) (fs : List Function) → ((id : TypeId) → functions_under entries id ≡ filter (belongs_to id) fs) → (types : List Listed)
       → given_declarations r o entries types ≡ declared_members r o fs types
   declared_by_resource entries fs same [] = refl
-  declared_by_resource entries fs same (t ∷ ts) =
-      ap (λ ms. ms ++ given_declarations r o entries ts) (ap (λ gs. listed_declaration r o gs t) (same t.id) ∙ own_alone fs t)
-      ∙ ap (λ ms. listed_declaration r o fs t ++ ms) (declared_by_resource entries fs same ts)
-      ∙ sym (next_declarations r o fs t ts)
+  declared_by_resource entries fs same (t ∷ ts) = ap (λ ms. ms ++ given_declarations r o entries ts) (ap (λ gs. listed_declaration r o gs t) (same t.id) ∙ own_alone fs t)
+      ∙ ap (λ ms. listed_declaration r o fs t ++ ms) (declared_by_resource entries fs same ts) ∙ sym (next_declarations r o fs t ts)

@@ -40,8 +40,7 @@ implied_by : (a b : Bool) → (a ≡ true → b ≡ true) → (not a || b) ≡ t
 implied_by x b f = search std_rules
 
 pub functions_printable : (r : Resolve) (id : InterfaceId) (i : Interface) → IsValid r → interface_at r id.0 ≡ Some i → list_all (λ e. is_printable_function r e.1) i.functions.entries ≡ true
-functions_printable r id i valid at =
-    sym (list_all-map (is_printable_function r) (λ e. e.1) i.functions.entries)
+functions_printable r id i valid at = sym (list_all-map (is_printable_function r) (λ e. e.1) i.functions.entries)
     ∙ weaker_all (is_known_function r (owner.Interface id)) (is_printable_function r)
     (λ f known. implied_by (is_freestanding f.kind) (is_well_member (shown_function r f)) (λ free. function_well r valid (owner.Interface id) f known free))
     (listed_functions i) (interface_functions r valid id.0 i at)

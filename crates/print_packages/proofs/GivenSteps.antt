@@ -14,9 +14,8 @@ use Rattle.print_uses.proofs.Declarations.{members_append, printed_append}
 use Rattle.print_items.proofs.Moves.{Going, made_on, refused_in}
 use Rattle.base_lemmas.proofs.Bools.{left_of, right_of}
 
-under_test : (r : Resolve) (o : TypeOwner) (fs : Vec (Bor Function) Global) (found : Option (Vec (Bor Function) Global)) (b : Bool)
-    → list_all (is_listed_function r o) (behind fs) ≡ true → list_all (is_listed_function r o) (option_map_or behind found []) ≡ true
-    → list_all (is_listed_function r o) (option_map_or behind (cond b (Some fs) found) []) ≡ true
+under_test : (r : Resolve) (o : TypeOwner) (fs : Vec (Bor Function) Global) (found : Option (Vec (Bor Function) Global)) (b : Bool) → list_all (is_listed_function r o) (behind fs) ≡ true
+    → list_all (is_listed_function r o) (option_map_or behind found []) ≡ true → list_all (is_listed_function r o) (option_map_or behind (cond b (Some fs) found) []) ≡ true
 under_test r o fs found x here then = search std_rules
 
 -- the functions under a type number are of the owner's resources, as all are
@@ -42,27 +41,19 @@ module _ (ts : List (Bor Text × TypeId)) (i : ℕ) (d : Bor Text × TypeId) (wi
   calls_next emits = ap (members_calls emits has) given_next ∙ members_append emits has one rest
 
   pub given_made : {Kept : Type 0} {keeps : View Kept → OutputCall → Kept} {all : List OutputCall} {old now new : View Kept} (fs : List Function) (emits printed : Bool)
-      → fs ≡ functions_under entries (get_or ts i d).1
-      → Going keeps (members_calls emits has (given_declarations r o entries (listed_of (drop i ts)))) all old now
-      → printed ≡ printed_after has (listed_declaration r o fs here)
-      → Moves keeps now (members_calls emits has (listed_declaration r o fs here)) new
+      → fs ≡ functions_under entries (get_or ts i d).1 → Going keeps (members_calls emits has (given_declarations r o entries (listed_of (drop i ts)))) all old now
+      → printed ≡ printed_after has (listed_declaration r o fs here) → Moves keeps now (members_calls emits has (listed_declaration r o fs here)) new
       → Going keeps (members_calls emits printed rest) all old new
-  given_made {keeps = keeps} {now = now} {new = new} fs emits printed same g e m =
-      made_on (members_calls emits has one) (members_calls emits printed rest) g
+  given_made {keeps = keeps} {now = now} {new = new} fs emits printed same g e m = made_on (members_calls emits has one) (members_calls emits printed rest) g
       (calls_next emits ∙ ap (λ b. members_calls emits has one ++ members_calls emits b rest) (sym (e ∙ ap (λ gs. printed_after has (listed_declaration r o gs here)) same)))
       (subst (λ gs. Moves keeps now (members_calls emits has (listed_declaration r o gs here)) new) same m)
 
   pub given_refused : {Kept : Type 0} {keeps : View Kept → OutputCall → Kept} {all : List OutputCall} {old now new : View Kept} (fs : List Function) (emits : Bool)
-      → fs ≡ functions_under entries (get_or ts i d).1
-      → Going keeps (members_calls emits has (given_declarations r o entries (listed_of (drop i ts)))) all old now
-      → Begins keeps now (members_calls emits has (listed_declaration r o fs here)) new
-      → Begins keeps old all new
-  given_refused {keeps = keeps} {now = now} {new = new} fs emits same g b =
-      refused_in (members_calls emits has one) (members_calls emits (printed_after has one) rest) g (calls_next emits)
+      → fs ≡ functions_under entries (get_or ts i d).1 → Going keeps (members_calls emits has (given_declarations r o entries (listed_of (drop i ts)))) all old now
+      → Begins keeps now (members_calls emits has (listed_declaration r o fs here)) new → Begins keeps old all new
+  given_refused {keeps = keeps} {now = now} {new = new} fs emits same g b = refused_in (members_calls emits has one) (members_calls emits (printed_after has one) rest) g (calls_next emits)
       (subst (λ gs. Begins keeps now (members_calls emits has (listed_declaration r o gs here)) new) same b)
 
-  pub given_some : (fs : List Function) (printed all : Bool)
-      → fs ≡ functions_under entries (get_or ts i d).1
-      → printed_after has (given_declarations r o entries (listed_of (drop i ts))) ≡ all
+  pub given_some : (fs : List Function) (printed all : Bool) → fs ≡ functions_under entries (get_or ts i d).1 → printed_after has (given_declarations r o entries (listed_of (drop i ts))) ≡ all
       → printed ≡ printed_after has (listed_declaration r o fs here) → printed_after printed rest ≡ all
   given_some fs printed all same h e = search (std_rules, printed_append, given_next)

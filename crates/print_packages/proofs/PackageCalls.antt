@@ -85,25 +85,19 @@ members_shown emits r id w here =
     let p = imports_interfaces xs in
     let tail = line_after_calls (printed_imports r here id w && has_items w.exports.entries) ++ flat_map (entry_calls emits r here (codes "export")) w.exports.entries in
     let types = members_calls emits p (uses ++ declared) in
-    ap (world_members_calls emits false false)
-    (five (map (shown_import r here) interfaces) (map (λ used. WorldUse used.prefix (shown_path r here used.interface) used.names) us) (map (λ d. WorldType d.prefix d.declared) ds) calls ends)
-    ∙ entries_calls emits r here false interfaces _
+    ap (world_members_calls emits false false) (five (map (shown_import r here) interfaces) (map (λ used. WorldUse used.prefix (shown_path r here used.interface) used.names) us)
+    (map (λ d. WorldType d.prefix d.declared) ds) calls ends) ∙ entries_calls emits r here false interfaces _
     ∙ ap (λ b. flat_map run interfaces ++ world_members_calls emits b false
     (map (λ used. WorldUse used.prefix (shown_path r here used.interface) used.names) us ++ (map (λ d. WorldType d.prefix d.declared) ds ++ (calls ++ ends))))
-    (shown_after_is emits r here false interfaces)
-    ∙ ap (λ x. flat_map run interfaces ++ x)
+    (shown_after_is emits r here false interfaces) ∙ ap (λ x. flat_map run interfaces ++ x)
     (world_uses emits r here p us (map (λ d. WorldType d.prefix d.declared) ds ++ (calls ++ ends))
-    ∙ ap (λ x. members_calls emits p uses ++ x)
-    (world_declared emits r here (printed_after p uses) ds (calls ++ ends)
-    ∙ ap (λ x. members_calls emits (printed_after p uses) declared ++ x)
-    (entries_calls emits r here (printed_after (printed_after p uses) declared) functions ends
-    ∙ ap (λ x. flat_map run functions ++ x)
-    (ap (λ b. world_members_calls emits b false ends) (shown_after_is emits r here (printed_after (printed_after p uses) declared) functions ∙ ap (λ b. b || has_items functions)
-    (sym (printed_append p uses declared)))
+    ∙ ap (λ x. members_calls emits p uses ++ x) (world_declared emits r here (printed_after p uses) ds (calls ++ ends)
+    ∙ ap (λ x. members_calls emits (printed_after p uses) declared ++ x) (entries_calls emits r here (printed_after (printed_after p uses) declared) functions ends
+    ∙ ap (λ x. flat_map run functions ++ x) (ap (λ b. world_members_calls emits b false ends)
+    (shown_after_is emits r here (printed_after (printed_after p uses) declared) functions ∙ ap (λ b. b || has_items functions) (sym (printed_append p uses declared)))
     ∙ exports_after emits r here (printed_imports r here id w) w.exports.entries)))
     ∙ sym (append_assoc (members_calls emits p uses) (members_calls emits (printed_after p uses) declared) (flat_map run functions ++ tail))
-    ∙ ap (λ x. x ++ (flat_map run functions ++ tail)) (sym (members_append emits p uses declared))
-    ∙ sym (append_assoc types (flat_map run functions) tail))
+    ∙ ap (λ x. x ++ (flat_map run functions ++ tail)) (sym (members_append emits p uses declared)) ∙ sym (append_assoc types (flat_map run functions) tail))
     ∙ sym (append_assoc (flat_map run interfaces) (types ++ flat_map run functions) tail)
     ∙ ap (λ x. (x ++ (types ++ flat_map run functions)) ++ tail) (kept_runs emits r here run (λ e. is_interface_item e.1) xs)
     ∙ ap (λ x. (flat_map (interface_entry_calls emits r here) xs ++ (types ++ x)) ++ tail) (kept_runs emits r here run (λ e. is_freestanding_item e.1) xs)
@@ -127,8 +121,7 @@ calls_listed emits r here entry w e h = rw e (sym (shown_calls emits r here (tex
 -- ---- packages
 
 given_calls : (emits main : Bool) (o : Option World) (show : World → ItemTree) (same : (w : World) → package_item_calls emits main (show w) ≡ package_item_calls emits false (show w))
-    (items : List ItemTree) (rest : List OutputCall)
-    → flat_map (package_item_calls emits main) items ≡ rest
+    (items : List ItemTree) (rest : List OutputCall) → flat_map (package_item_calls emits main) items ≡ rest
     → flat_map (package_item_calls emits main) (cons_option (option_map show o) items) ≡ option_map_or (package_item_calls emits false) (option_map show o) [] ++ rest
 given_calls emits main x show same items rest e = search std_rules
 
@@ -174,8 +167,7 @@ pub listed_at : (r : Resolve) (here : PackageId) (entry : String Global × World
 listed_at r here entry w e h = search (std_rules, listed_world, read_is)
 
 pub calls_at : (emits : Bool) (r : Resolve) (here : PackageId) (entry : String Global × WorldId) (w : World) (name : Text) → name ≡ text_of entry.0 → w ≡ get_or r.worlds.items entry.1.0 w
-    → is_printable_listed r here entry ≡ true
-    → world_calls emits r here name entry.1 w ≡ listed_calls emits r entry
+    → is_printable_listed r here entry ≡ true → world_calls emits r here name entry.1 w ≡ listed_calls emits r entry
 calls_at emits r here entry w name n e h = search (std_rules, listed_at, calls_listed)
 
 -- the gates and the name of an interface that can be printed

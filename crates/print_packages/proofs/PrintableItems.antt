@@ -4,7 +4,7 @@ use Rattle.std.specs.Prelude.{String, is_some}
 use Rattle.std.specs.declared.alloc.Global.{Global}
 use Rattle.wit_model.specs.declared.model.{Resolve.Resolve, Docs.Docs, Function.Function, WorldKey.WorldKey}
 use Rattle.wit_model.specs.declared.model.{Interface.Interface, InterfaceId.InterfaceId, PackageId.PackageId, Stability.Stability, WorldItem.WorldItem}
-use Rattle.wit_model.specs.{Lookup.interface_at, Text.Text, Text.text_of, Rules.in_list, Rules.is_export_item, Rules.item_in_range, Rules.key_in_range}
+use Rattle.wit_model.specs.{Lookup.interface_at, Text.Text, Text.text_of, Rules.is_export_item, Rules.item_in_range, Rules.key_in_range}
 use Rattle.print_grammar.specs.{Tree.ExternTree.NamedFunction, Tree.ExternTree.NamedInterface, Tree.ExternTree.NamedPath}
 use Rattle.print_grammar.specs.Calls.{world_extern_calls}
 use Rattle.print_grammar.specs.WellNamed.{is_well_extern, is_well_path, is_well_prefix, is_well_world_member}
@@ -29,22 +29,13 @@ module _ (r : Resolve) (here : PackageId) where
     known : is_printable_entry r here (k, item.Interface id gates docs external_id) ≡ true
     known = subst (λ j. is_printable_entry r here (k, j) ≡ true) is h
 
-    pub item_there : in_list r.interfaces.items id.0 ≡ true
-    item_there = right_of (key_in_range r k) _ (left_of _ _ known)
-
-    pub key_there : (m : InterfaceId) → k ≡ key.Interface m → in_list r.interfaces.items m.0 ≡ true
-    key_there m e = let whole = subst (λ l. is_printable_entry r here (l, item.Interface id gates docs external_id) ≡ true) e known in
-        left_of _ _ (left_of (in_list r.interfaces.items m.0 && in_list r.interfaces.items id.0) _ whole)
-
     pub key_path : (m : InterfaceId) → k ≡ key.Interface m → is_well_path (shown_path r here m) ≡ true
-    key_path m e =
-        let whole = subst (λ l. is_printable_entry r here (l, item.Interface id gates docs external_id) ≡ true) e known in
-        right_of (is_well_prefix (extern_prefix r (key.Interface m) (item.Interface id gates docs external_id))) _ (well_of (key.Interface m) (item.Interface id gates docs external_id) whole)
+    key_path m e = right_of (is_well_prefix (extern_prefix r (key.Interface m) (item.Interface id gates docs external_id))) _
+        (well_of (key.Interface m) (item.Interface id gates docs external_id) (rw e at known))
 
     pub label_well : (s : String Global) → k ≡ key.Name s → is_well_extern (labelled_tree r here (text_of s) id) ≡ true
     label_well s e =
-        let whole = subst (λ l. is_printable_entry r here (l, item.Interface id gates docs external_id) ≡ true) e known in
-        right_of (is_well_prefix (extern_prefix r (key.Name s) (item.Interface id gates docs external_id))) _ (well_of (key.Name s) (item.Interface id gates docs external_id) whole)
+        right_of (is_well_prefix (extern_prefix r (key.Name s) (item.Interface id gates docs external_id))) _ (well_of (key.Name s) (item.Interface id gates docs external_id) (rw e at known))
 
   -- ---- functions
 

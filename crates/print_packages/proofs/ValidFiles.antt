@@ -61,10 +61,9 @@ module _ (r : Resolve) (valid : IsValid r) where
       let named = left_of _ _ (package-passes package_names r valid.rules.package_names n p at) in
       let rest = right_of (is_label (text_of p.name.namespace)) _ named in
       let keys = package-passes names_in_packages r valid.rules.names_in_packages n p at in
-      both _ _
-      (both (list_all is_one_line (shown_docs p.docs)) _ (docs_well p.docs)
-      (both (is_label (text_of p.name.namespace)) _ (left_of _ _ named)
-      (both (is_label (text_of p.name.name)) _ (left_of _ _ rest) (optional_version p.name.version (right_of (is_label (text_of p.name.name)) _ rest)))))
+      both _ _ (both (list_all is_one_line (shown_docs p.docs)) _ (docs_well p.docs)
+      (both (is_label (text_of p.name.namespace)) _ (left_of _ _ named) (both (is_label (text_of p.name.name)) _ (left_of _ _ rest)
+      (optional_version p.name.version (right_of (is_label (text_of p.name.name)) _ rest)))))
       (joined_well is_well_item (filter_map (shown_interface_item r) p.interfaces.entries) (filter_map (shown_world_item r) p.worlds.entries)
       (given_well (λ e. passes (λ i. text_is i.name (text_of e.0)) (interface_at r e.1.0)) (shown_interface_item r) is_well_item interface_item_well p.interfaces.entries (left_of _ _ keys))
       (given_well (λ e. passes (λ w. text_eq (text_of w.name) (text_of e.0)) (world_at r e.1.0)) (shown_world_item r) is_well_item world_item_well p.worlds.entries

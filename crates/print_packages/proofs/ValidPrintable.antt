@@ -73,8 +73,7 @@ valid_world : (r : Resolve) (here : PackageId) (n : ℕ) (w : World) → IsValid
 valid_world r here n w v e belongs =
     let names = world_labels r n w v e in
     let known = world_is_shown r v n w e in
-    both_true _ _ (gates_well w.stability names.1)
-    (both_true _ _ belongs
+    both_true _ _ (gates_well w.stability names.1) (both_true _ _ belongs
     (both_true _ _ (both_true _ _ (imports_printable r v here n w.imports.entries known.imports) (exports_printable r v here n w.exports.entries known.exports))
     (both_true _ _ (types_listed r v here n w known.imports known.types) (functions_listed r v here n w known.imports))))
 

@@ -57,8 +57,7 @@ module _ (r : Resolve) (valid : IsValid r) where
   -- ---- imports and exports
 
   key_named : (n : ℕ) → in_list r.interfaces.items n ≡ true → passes (λ other. is_some other.name) (interface_at r n) ≡ true → is_named_interface r n ≡ true
-  key_named n inside h =
-      search (std_rules, one_there r.interfaces.items n (ltb-true n (length r.interfaces.items) inside), ltb-true n (length r.interfaces.items) inside)
+  key_named n inside h = search (std_rules, one_there r.interfaces.items n (ltb-true n (length r.interfaces.items) inside), ltb-true n (length r.interfaces.items) inside)
 
   extern_docs_well : (k : WorldKey) (id : InterfaceId) (docs : Docs) → list_all is_one_line (extern_docs r k id docs) ≡ true
   extern_docs_well x id docs = search (std_rules, docs_well)
@@ -80,15 +79,13 @@ module _ (r : Resolve) (valid : IsValid r) where
       both (is_well_prefix (extern_prefix r (key.Interface m) (item.Interface id gates docs external_id))) _ (interface_prefix_well (key.Interface m) id gates docs external_id stable)
       (path_well r valid here m (key_named m.0 (left_of _ _ (left_of (in_list r.interfaces.items m.0 && in_list r.interfaces.items id.0) _ known)) (right_of (is_id m.0 (Some id.0)) _ stands)))
   extern_well here n (key.Interface m) (item.Function f) known shown = search (std_rules, right_of)
-  extern_well here n (key.Interface m) (item.Type_ id) known shown = absurd cc
   extern_well here n (key.Name s) (item.Interface id gates docs external_id) known shown =
       let named : (is_label (text_of s) && is_stability gates) ≡ true = left_of _ _ (right_of (in_list r.interfaces.items id.0) _ known) in
       both (is_well_prefix (extern_prefix r (key.Name s) (item.Interface id gates docs external_id))) _
       (interface_prefix_well (key.Name s) id gates docs external_id (right_of (is_label (text_of s)) _ named))
       (labelled_interface_well here (text_of s) id (left_of _ _ named) (is_named_interface r id.0) refl)
-  extern_well here n (key.Name s) (item.Function f) known shown =
-      search (std_rules, left_of, right_of, both, function_prefix_well, freestanding_label, signature_well)
-  extern_well here n (key.Name s) (item.Type_ id) known shown = absurd cc
+  extern_well here n (key.Name s) (item.Function f) known shown = search (std_rules, left_of, right_of, both, function_prefix_well, freestanding_label, signature_well)
+  extern_well here n _ (item.Type_ id) known shown = absurd cc
 
   -- ---- types and functions of a world
 
@@ -106,10 +103,7 @@ module _ (r : Resolve) (valid : IsValid r) where
       go (key.Name s) (item.Type_ id) label first rest =
           both (is_label (text_of s) && is_named_of r o id.0) _ (both (is_label (text_of s)) _ (left_of _ _ label) (left_of _ _ first)) (rest (right_of (is_named_of r o id.0) _ first))
       go (key.Interface m) (item.Type_ id) label first rest = rest (right_of (is_named_of r o id.0) _ first)
-      go (key.Name s) (item.Function f) label first rest = rest first
-      go (key.Interface m) (item.Function f) label first rest = rest first
-      go (key.Name s) (item.Interface id gates docs external_id) label first rest = rest first
-      go (key.Interface m) (item.Interface id gates docs external_id) label first rest = rest first
+      go _ _ label first rest = rest first
 
   -- ---- what validity says
 
@@ -136,9 +130,8 @@ module _ (r : Resolve) (valid : IsValid r) where
             (weaker_all (λ x. import_stands r n x.0 x.1) (λ x. stands_under r x.0 x.1) (λ x h. import_under r n x.0 x.1 h) w.imports.entries (left_of _ _ stand));
         exports = all_both (is_known_entry r n) (λ x. is_export_item x.1) w.exports.entries
             (entries_known n w.exports.entries (right_of (entries_in_range r w.imports.entries) _ range) (right_of (entries_labels w.imports.entries) _ named)
-            (right_of (list_all (is_own_entry r n) w.imports.entries) _ own)
-            (weaker_all (λ x. export_stands r x.0 x.1) (λ x. stands_under r x.0 x.1) (λ x h. export_under r x.0 x.1 h) w.exports.entries exported))
-            (weaker_all (λ x. export_stands r x.0 x.1) (λ x. is_export_item x.1) (λ x h. export_item r x.0 x.1 h) w.exports.entries exported);
+            (right_of (list_all (is_own_entry r n) w.imports.entries) _ own) (weaker_all (λ x. export_stands r x.0 x.1) (λ x. stands_under r x.0 x.1) (λ x h. export_under r x.0 x.1 h)
+            w.exports.entries exported)) (weaker_all (λ x. export_stands r x.0 x.1) (λ x. is_export_item x.1) (λ x h. export_item r x.0 x.1 h) w.exports.entries exported);
         types = listed_imports_known (owner.World (record { 0 = n })) w.imports.entries (left_of _ _ named) (left_of _ _ (world_rule r valid order_of_types valid.rules.order_of_types n w e));
       }
 
@@ -148,20 +141,16 @@ module _ (r : Resolve) (valid : IsValid r) where
   use_well here used known = search (std_rules, right_of, is_named_interface, both, left_of, path_well)
 
   world_in_well : (id : WorldId) (w : World) (here : PackageId) → IsShownWorld id.0 w → list_all is_well_world_member (shown_world_in r id w here) ≡ true
-  world_in_well id w here h =
-      joined_well is_well_world_member (interfaces ++ uses ++ declared ++ functions) (map (shown_export r here) w.exports.entries)
+  world_in_well id w here h = joined_well is_well_world_member (interfaces ++ uses ++ declared ++ functions) (map (shown_export r here) w.exports.entries)
       (joined_well is_well_world_member (interfaces ++ uses ++ declared) functions
-      (joined_well is_well_world_member (interfaces ++ uses) declared
-      (joined_well is_well_world_member interfaces uses
+      (joined_well is_well_world_member (interfaces ++ uses) declared (joined_well is_well_world_member interfaces uses
       (kept_well (is_known_entry r id.0) (λ e. is_interface_item e.1) (shown_import r here) is_well_world_member (λ e known test. extern_well here id.0 e.0 e.1 known (interface_import e.1 test))
-      w.imports.entries h.imports)
-      (each_well (is_known_use r) (λ used. WorldUse used.prefix (shown_path r here used.interface) used.names) is_well_world_member (use_well here) (shown_uses r (owner.World id) (listed_imports w))
-      (uses_known r valid (owner.World id) refl (listed_imports w) h.types)))
+      w.imports.entries h.imports) (each_well (is_known_use r) (λ used. WorldUse used.prefix (shown_path r here used.interface) used.names) is_well_world_member (use_well here)
+      (shown_uses r (owner.World id) (listed_imports w)) (uses_known r valid (owner.World id) refl (listed_imports w) h.types)))
       (each_well is_well_declared_with (λ d. WorldType d.prefix d.declared) is_well_world_member (λ d g. g) (shown_declarations r (owner.World id) (imported_functions w) (listed_imports w))
       (declarations_well r valid (owner.World id) refl (imported_functions w) (listed_imports w) functions_known h.types)))
       (kept_well (is_known_entry r id.0) (λ e. is_freestanding_item e.1) (shown_import r here) is_well_world_member (λ e known test. extern_well here id.0 e.0 e.1 known (function_import e.1 test))
-      w.imports.entries h.imports))
-      (each_well (λ e. is_known_entry r id.0 e && is_export_item e.1) (shown_export r here) is_well_world_member
+      w.imports.entries h.imports)) (each_well (λ e. is_known_entry r id.0 e && is_export_item e.1) (shown_export r here) is_well_world_member
       (λ e known. extern_well here id.0 e.0 e.1 (left_of _ _ known) (right_of (is_known_entry r id.0 e) _ known)) w.exports.entries h.exports)
     where
       interfaces : List WorldMember

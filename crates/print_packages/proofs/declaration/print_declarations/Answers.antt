@@ -15,10 +15,8 @@ pub print_type_with_functions-requires-clause-known : goal.print_type_with_funct
 print_type_with_functions-requires-clause-known g c = known_here c.args.types.now c.loop-listed.listed-index _ c.loop-listed-test.true c.args.resolve.now c.args.owner c.loop-listed.invariant.known
 
 pub returns-in_err-printed-clause-err : goal.returns-in_err-printed-clause-err
-returns-in_err-printed-clause-err g c =
-    at_err c.from_residual.result
-    (given_refused c.args.types.now c.loop-listed.listed-index _ c.loop-listed-test.true c.args.resolve.now c.args.owner c.args.functions.now.entries c.loop-listed.has_printed _ c.args.emits_docs refl
-    c.loop-listed.invariant.going c.in_err-printed.ensures.err)
+returns-in_err-printed-clause-err g c = at_err c.from_residual.result (given_refused c.args.types.now c.loop-listed.listed-index _ c.loop-listed-test.true c.args.resolve.now c.args.owner
+    c.args.functions.now.entries c.loop-listed.has_printed _ c.args.emits_docs refl c.loop-listed.invariant.going c.in_err-printed.ensures.err)
 
 pub loop-listed-preserved : goal.loop-listed-preserved
 loop-listed-preserved g c =

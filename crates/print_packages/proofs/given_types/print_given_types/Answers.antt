@@ -1,5 +1,6 @@
-use Rattle.std.proofs.Common.{◌≡◌, ◌++◌, ◌∙◌, ap, subst, sym, IfOk, OnOk, OnErr}
-use Rattle.print_output.specs.OutputCall.{Moves, Begins}
+use Rattle.std.proofs.Common.{◌≡◌, ◌++◌, ◌∙◌, ap, subst, sym, IfOk, OnErr}
+use Rattle.wit_model.specs.declared.model.PackageId.{PackageId}
+use Rattle.print_output.specs.OutputCall.{Begins}
 use Rattle.print_grammar.specs.Calls.{members_calls, printed_after}
 use Rattle.print_uses.specs.UseGroups.{listed_of, use_members}
 use Rattle.print_packages.specs.GivenTypes.{given_declarations}
@@ -12,52 +13,27 @@ use Rattle.std.proofs.lemmas.Result.{on_err_weaker as on_err, on_ok_weaker as on
 
 pub returns-in_err-has_used-clause-err : goal.returns-in_err-has_used-clause-err
 returns-in_err-has_used-clause-err g c =
-    let r = c.args.resolve.now in
-    let types = listed_of c.args.types.now in
-    let uses = use_members r c.here_of-here.result c.args.owner types in
-    let declared = given_declarations r c.args.owner c.args.functions.now.entries types in
-    subst (λ h. OnErr c.from_residual.result (Begins g.O.Output.keeps (g.O.Output.view c.args.output.now)
-    (members_calls c.args.emits_docs c.args.has_printed (use_members c.args.resolve.now h c.args.owner (listed_of c.args.types.now) ++ given_declarations c.args.resolve.now c.args.owner
-    c.args.functions.now.entries (listed_of c.args.types.now))) (g.O.Output.view c.print_uses.new.output))) c.here_of-here.ensures
-    (at_err c.from_residual.result
-    (begun_first (members_calls c.args.emits_docs (printed_after c.args.has_printed uses) declared) c.in_err-has_used.ensures.err
-    (sym (members_append c.args.emits_docs c.args.has_printed uses declared))))
+    let uses = λ (h : PackageId). use_members c.args.resolve.now h c.args.owner (listed_of c.args.types.now) in
+    let declared = given_declarations c.args.resolve.now c.args.owner c.args.functions.now.entries (listed_of c.args.types.now) in
+    subst (λ h. OnErr c.from_residual.result (Begins g.O.Output.keeps (g.O.Output.view c.args.output.now) (members_calls c.args.emits_docs c.args.has_printed (uses h ++ declared))
+    (g.O.Output.view c.print_uses.new.output))) c.here_of-here.ensures (at_err c.from_residual.result
+    (begun_first (members_calls c.args.emits_docs (printed_after c.args.has_printed (uses c.here_of-here.result)) declared) c.in_err-has_used.ensures.err
+    (sym (members_append c.args.emits_docs c.args.has_printed (uses c.here_of-here.result) declared))))
 
-pub returns-clause-ok : goal.returns-clause-ok
-returns-clause-ok g c =
-    let r = c.args.resolve.now in
-    let types = listed_of c.args.types.now in
-    let uses = use_members r c.here_of-here.result c.args.owner types in
-    let declared = given_declarations r c.args.owner c.args.functions.now.entries types in
-    let same = ap (λ b. members_calls c.args.emits_docs c.args.has_printed uses ++ members_calls c.args.emits_docs b declared) c.in_ok-has_used.ensures.printed ∙ sym
-    (members_append c.args.emits_docs c.args.has_printed uses declared) in
-    subst (λ h. OnOk c.print_declarations.result (Moves g.O.Output.keeps (g.O.Output.view c.args.output.now)
-    (members_calls c.args.emits_docs c.args.has_printed (use_members c.args.resolve.now h c.args.owner (listed_of c.args.types.now) ++ given_declarations c.args.resolve.now c.args.owner
-    c.args.functions.now.entries (listed_of c.args.types.now))) (g.O.Output.view c.print_declarations.new.output))) c.here_of-here.ensures
-    (on_ok c.print_declarations.result (λ m. moved_on c.in_ok-has_used.ensures.ok m same) c.print_declarations.ensures.ok)
-
-pub returns-clause-err : goal.returns-clause-err
-returns-clause-err g c =
-    let r = c.args.resolve.now in
-    let types = listed_of c.args.types.now in
-    let uses = use_members r c.here_of-here.result c.args.owner types in
-    let declared = given_declarations r c.args.owner c.args.functions.now.entries types in
-    let same = ap (λ b. members_calls c.args.emits_docs c.args.has_printed uses ++ members_calls c.args.emits_docs b declared) c.in_ok-has_used.ensures.printed ∙ sym
-    (members_append c.args.emits_docs c.args.has_printed uses declared) in
-    subst (λ h. OnErr c.print_declarations.result (Begins g.O.Output.keeps (g.O.Output.view c.args.output.now)
-    (members_calls c.args.emits_docs c.args.has_printed (use_members c.args.resolve.now h c.args.owner (listed_of c.args.types.now) ++ given_declarations c.args.resolve.now c.args.owner
-    c.args.functions.now.entries (listed_of c.args.types.now))) (g.O.Output.view c.print_declarations.new.output))) c.here_of-here.ensures
-    (on_err c.print_declarations.result (λ b. begun_on c.in_ok-has_used.ensures.ok b same) c.print_declarations.ensures.err)
-
-pub returns-clause-printed : goal.returns-clause-printed
-returns-clause-printed g c =
-    let r = c.args.resolve.now in
-    let types = listed_of c.args.types.now in
-    let uses = use_members r c.here_of-here.result c.args.owner types in
-    let declared = given_declarations r c.args.owner c.args.functions.now.entries types in
-    subst (λ y. IfOk c.print_declarations.result (λ x. x ≡ y)) (ap (λ b. printed_after b declared) c.in_ok-has_used.ensures.printed ∙ sym (printed_append c.args.has_printed uses declared) ∙ ap
-    (λ h. printed_after c.args.has_printed (use_members c.args.resolve.now h c.args.owner (listed_of c.args.types.now) ++ given_declarations c.args.resolve.now c.args.owner
-    c.args.functions.now.entries (listed_of c.args.types.now))) c.here_of-here.ensures) c.print_declarations.ensures.printed
+pub returns : goal.returns
+returns g c =
+    let uses = λ (h : PackageId). use_members c.args.resolve.now h c.args.owner (listed_of c.args.types.now) in
+    let here = uses c.here_of-here.result in
+    let declared = given_declarations c.args.resolve.now c.args.owner c.args.functions.now.entries (listed_of c.args.types.now) in
+    let same = ap (λ b. members_calls c.args.emits_docs c.args.has_printed here ++ members_calls c.args.emits_docs b declared) c.in_ok-has_used.ensures.printed ∙ sym
+    (members_append c.args.emits_docs c.args.has_printed here declared) ∙ ap (λ h. members_calls c.args.emits_docs c.args.has_printed (uses h ++ declared)) c.here_of-here.ensures in
+    record {
+      ok = on_ok c.print_declarations.result (λ m. moved_on c.in_ok-has_used.ensures.ok m same) c.print_declarations.ensures.ok;
+      err = on_err c.print_declarations.result (λ b. begun_on c.in_ok-has_used.ensures.ok b same) c.print_declarations.ensures.err;
+      printed = subst (λ y. IfOk c.print_declarations.result (λ x. x ≡ y)) (ap (λ b. printed_after b declared) c.in_ok-has_used.ensures.printed
+          ∙ sym (printed_append c.args.has_printed here declared) ∙ ap (λ h. printed_after c.args.has_printed (uses h ++ declared)) c.here_of-here.ensures) c.print_declarations.ensures.printed;
+      memory = c.print_declarations.ensures.memory;
+    }
 
 pub print_declarations-requires-clause-functions : goal.print_declarations-requires-clause-functions
 print_declarations-requires-clause-functions g c = λ id. under_known c.args.resolve.now c.args.owner id c.args.functions.now.entries c.requires.functions

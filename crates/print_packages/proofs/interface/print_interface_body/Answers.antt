@@ -17,27 +17,21 @@ returns-in_err-has_printed-clause-err g c =
     let r = c.args.resolve.now in
     let i = c.args.interface.now in
     let types = type_members r c.in-Some.here (owner.Interface c.args.id) (listed_functions i) (listed_types i) in
-    at_err c.from_residual.result
-    (begun_first (members_calls c.args.emits_docs (printed_after false types) (shown_functions r i.functions.entries)) c.in_err-has_printed.ensures.err
+    at_err c.from_residual.result (begun_first (members_calls c.args.emits_docs (printed_after false types) (shown_functions r i.functions.entries)) c.in_err-has_printed.ensures.err
     (interface_calls r c.requires.valid c.args.id i c.requires.at c.args.emits_docs c.in-Some.here c.in-Some.is))
 
 pub print_functions-requires-clause-printable : goal.print_functions-requires-clause-printable
 print_functions-requires-clause-printable g c = functions_printable c.args.resolve.now c.args.id c.args.interface.now c.requires.valid c.requires.at
 
-pub returns-clause-ok : goal.returns-clause-ok
-returns-clause-ok g c =
+pub returns : goal.returns
+returns g c =
     let r = c.args.resolve.now in
     let i = c.args.interface.now in
     let types = type_members r c.in-Some.here (owner.Interface c.args.id) (listed_functions i) (listed_types i) in
     let same = ap (λ b. members_calls c.args.emits_docs false types ++ members_calls c.args.emits_docs b (shown_functions r i.functions.entries)) c.in_ok-has_printed.ensures.printed
     ∙ interface_calls r c.requires.valid c.args.id i c.requires.at c.args.emits_docs c.in-Some.here c.in-Some.is in
-    on_ok c.print_functions.result (λ m. moved_on c.in_ok-has_printed.ensures.ok m same) c.print_functions.ensures.ok
-
-pub returns-clause-err : goal.returns-clause-err
-returns-clause-err g c =
-    let r = c.args.resolve.now in
-    let i = c.args.interface.now in
-    let types = type_members r c.in-Some.here (owner.Interface c.args.id) (listed_functions i) (listed_types i) in
-    let same = ap (λ b. members_calls c.args.emits_docs false types ++ members_calls c.args.emits_docs b (shown_functions r i.functions.entries)) c.in_ok-has_printed.ensures.printed
-    ∙ interface_calls r c.requires.valid c.args.id i c.requires.at c.args.emits_docs c.in-Some.here c.in-Some.is in
-    on_err c.print_functions.result (λ b. begun_on c.in_ok-has_printed.ensures.ok b same) c.print_functions.ensures.err
+    record {
+      ok = on_ok c.print_functions.result (λ m. moved_on c.in_ok-has_printed.ensures.ok m same) c.print_functions.ensures.ok;
+      err = on_err c.print_functions.result (λ b. begun_on c.in_ok-has_printed.ensures.ok b same) c.print_functions.ensures.err;
+      memory = c.print_functions.ensures.memory;
+    }

@@ -1,15 +1,10 @@
-use Rattle.std.proofs.Common.{[], ◌∙◌, refl, subst, sym}
-use Rattle.std.specs.Prelude.{codes, if◌then◌else◌}
-use Rattle.print_output.specs.{OutputCall.Moves, OutputCall.Moves.nothing_moved}
-use Rattle.print_uses.specs.Printable.{entry_calls}
+use Rattle.std.proofs.Common.{◌∙◌, refl, sym}
+use Rattle.print_output.specs.OutputCall.Moves.{nothing_moved}
 use Rattle.print_packages.proofs.{PrintableItems.import_shown, ValidWorlds.function_import}
 use Rattle.print_packages.proofs.items.print_imported_function.Goals as goal
 
 pub returns-then-not-is_freestanding-clause-ok : goal.returns-then-not-is_freestanding-clause-ok
-returns-then-not-is_freestanding-clause-ok g c =
-    let view = g.O.Output.view c.args.output.now in
-    subst (λ b. Moves g.O.Output.keeps view (if b then entry_calls c.args.emits_docs c.args.resolve.now c.args.here (codes "import") (c.args.key.now, c.args.item.now) else []) view)
-    (sym (sym c.is_freestanding.ensures ∙ c.if-not-is_freestanding.true)) (nothing_moved refl)
+returns-then-not-is_freestanding-clause-ok g c = rw (sym c.is_freestanding.ensures ∙ c.if-not-is_freestanding.true) (nothing_moved refl)
 
 pub print_item-requires-clause-printable : goal.print_item-requires-clause-printable
 print_item-requires-clause-printable g c =

@@ -1,6 +1,5 @@
-use Rattle.std.proofs.Common.{◌++◌, ◌∙◌, ◌||◌, ap, subst}
+use Rattle.std.proofs.Common.{◌++◌, ◌∙◌, ◌||◌, ap}
 use Rattle.std.specs.List.{flat_map}
-use Rattle.print_output.specs.OutputCall.{Moves, Begins}
 use Rattle.print_grammar.specs.Calls.{members_calls, printed_after}
 use Rattle.print_uses.specs.Printable.{function_entry_calls, imports_interfaces, world_type_members}
 use Rattle.print_items.proofs.Moves.{Moves-append, Begins-append, Begins-more}
@@ -16,36 +15,23 @@ returns-in_err-print_imported_interfaces-clause-err g c =
 
 pub returns-in_err-has_types-clause-err : goal.returns-in_err-has_types-clause-err
 returns-in_err-has_types-clause-err g c =
-    let w = c.args.world.now in
-    let called = flat_map (function_entry_calls c.args.emits_docs c.args.resolve.now c.args.here) w.imports.entries in
-    let begun = subst (λ b. Begins g.O.Output.keeps (g.O.Output.view c.print_imported_interfaces.new.output)
-    (members_calls c.args.emits_docs b (world_type_members c.args.resolve.now c.args.here c.args.id w)) (g.O.Output.view c.print_world_types.new.output)) c.has_interfaces-is_begun.ensures
-    c.in_err-has_types.ensures.err in
-    at_err c.from_residual-in_err-has_types.result (Begins-append g.O.Output.keeps c.in_ok-print_imported_interfaces.ensures.ok (Begins-more g.O.Output.keeps called begun))
+    let called = flat_map (function_entry_calls c.args.emits_docs c.args.resolve.now c.args.here) c.args.world.now.imports.entries in
+    at_err c.from_residual-in_err-has_types.result (Begins-append g.O.Output.keeps c.in_ok-print_imported_interfaces.ensures.ok
+    (Begins-more g.O.Output.keeps called (rw c.has_interfaces-is_begun.ensures at c.in_err-has_types.ensures.err)))
 
 pub returns-in_err-print_imported_functions-clause-err : goal.returns-in_err-print_imported_functions-clause-err
-returns-in_err-print_imported_functions-clause-err g c =
-    let w = c.args.world.now in
-    let moved = subst (λ b. Moves g.O.Output.keeps (g.O.Output.view c.print_imported_interfaces.new.output)
-    (members_calls c.args.emits_docs b (world_type_members c.args.resolve.now c.args.here c.args.id w)) (g.O.Output.view c.print_world_types.new.output)) c.has_interfaces-is_begun.ensures
-    c.in_ok-has_types.ensures.ok in
-    at_err c.from_residual-in_err-print_imported_functions.result (Begins-append g.O.Output.keeps c.in_ok-print_imported_interfaces.ensures.ok
-    (Begins-append g.O.Output.keeps moved c.in_err-print_imported_functions.ensures.err))
+returns-in_err-print_imported_functions-clause-err g c = at_err c.from_residual-in_err-print_imported_functions.result (Begins-append g.O.Output.keeps c.in_ok-print_imported_interfaces.ensures.ok
+    (Begins-append g.O.Output.keeps (rw c.has_interfaces-is_begun.ensures at c.in_ok-has_types.ensures.ok) c.in_err-print_imported_functions.ensures.err))
 
 pub returns-clause-ok : goal.returns-clause-ok
-returns-clause-ok g c =
-    let w = c.args.world.now in
-    let moved = subst (λ b. Moves g.O.Output.keeps (g.O.Output.view c.print_imported_interfaces.new.output)
-    (members_calls c.args.emits_docs b (world_type_members c.args.resolve.now c.args.here c.args.id w)) (g.O.Output.view c.print_world_types.new.output)) c.has_interfaces-is_begun.ensures
-    c.in_ok-has_types.ensures.ok in
-    Moves-append g.O.Output.keeps c.in_ok-print_imported_interfaces.ensures.ok (Moves-append g.O.Output.keeps moved c.in_ok-print_imported_functions.ensures.ok)
+returns-clause-ok g c = Moves-append g.O.Output.keeps c.in_ok-print_imported_interfaces.ensures.ok
+    (Moves-append g.O.Output.keeps (rw c.has_interfaces-is_begun.ensures at c.in_ok-has_types.ensures.ok) c.in_ok-print_imported_functions.ensures.ok)
 
 pub returns-clause-printed : goal.returns-clause-printed
 returns-clause-printed g c =
     let w = c.args.world.now in
     let members = world_type_members c.args.resolve.now c.args.here c.args.id w in
-    c.either.ensures
-    ∙ ap (λ b. b || c.has_functions-has_called.result) (c.in_ok-has_types.ensures.printed ∙ ap (λ b. printed_after b members) c.has_interfaces-is_begun.ensures)
+    c.either.ensures ∙ ap (λ b. b || c.has_functions-has_called.result) (c.in_ok-has_types.ensures.printed ∙ ap (λ b. printed_after b members) c.has_interfaces-is_begun.ensures)
     ∙ ap (λ b. printed_after (imports_interfaces w.imports.entries) members || b) c.has_functions-has_called.ensures
 
 pub print_imported_interfaces-requires-clause-printable : goal.print_imported_interfaces-requires-clause-printable
@@ -54,8 +40,5 @@ print_imported_interfaces-requires-clause-printable g c = c.requires.world.impor
 pub print_imported_functions-requires-clause-printable : goal.print_imported_functions-requires-clause-printable
 print_imported_functions-requires-clause-printable g c = c.requires.world.imports
 
-pub print_world_types-requires-clause-known : goal.print_world_types-requires-clause-known
-print_world_types-requires-clause-known g c = c.requires.world.types
-
-pub print_world_types-requires-clause-functions : goal.print_world_types-requires-clause-functions
-print_world_types-requires-clause-functions g c = c.requires.world.functions
+pub print_world_types-requires : goal.print_world_types-requires
+print_world_types-requires g c = record { valid = c.requires.valid; known = c.requires.world.types; functions = c.requires.world.functions }

@@ -1,6 +1,3 @@
-use Rattle.std.proofs.Common.{◌≡◌, subst, sym, true}
-use Rattle.print_items.specs.ItemCalls.{labelled_tree}
-use Rattle.print_grammar.specs.WellNamed.{is_well_extern}
 use Rattle.print_packages.proofs.PrintableItems.{key_path, label_well, function_known}
 use Rattle.print_packages.proofs.items.print_item.Goals as goal
 
@@ -8,9 +5,7 @@ pub print_keyed-requires-clause-path : goal.print_keyed-requires-clause-path
 print_keyed-requires-clause-path g c = key_path c.args.resolve.now c.args.here c.args.key.now c.args.item.now _ _ _ _ c.in-Interface.is c.requires.printable _ c.in-Interface-key.is
 
 pub print_labelled-requires-clause-well : goal.print_labelled-requires-clause-well
-print_labelled-requires-clause-well g c =
-    subst (λ t. is_well_extern (labelled_tree c.args.resolve.now c.args.here t c.in-Interface.id) ≡ true) (sym c.deref.ensures)
-    (label_well c.args.resolve.now c.args.here c.args.key.now c.args.item.now _ _ _ _ c.in-Interface.is c.requires.printable _ c.in-Name.is)
+print_labelled-requires-clause-well g c = rw c.deref.ensures (label_well c.args.resolve.now c.args.here c.args.key.now c.args.item.now _ _ _ _ c.in-Interface.is c.requires.printable _ c.in-Name.is)
 
 pub print_world_function-requires-clause-prefix : goal.print_world_function-requires-clause-prefix
 print_world_function-requires-clause-prefix g c = let known = function_known c.args.resolve.now c.args.here c.args.key.now c.args.item.now _ c.in-Function.is c.requires.printable in known.0

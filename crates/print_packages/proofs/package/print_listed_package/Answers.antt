@@ -20,16 +20,13 @@ returns-in_err-print_interfaces-clause-err g c =
     (Begins-more g.O.Output.keeps (worlds ++ package_end_calls c.args.is_main) c.in_err-print_interfaces.ensures.err))
 
 pub returns-in_err-print_worlds-clause-err : goal.returns-in_err-print_worlds-clause-err
-returns-in_err-print_worlds-clause-err g c =
-    at_err c.from_residual-in_err-print_worlds.result (Begins-append g.O.Output.keeps c.in_ok-print_package_start.ensures.ok
+returns-in_err-print_worlds-clause-err g c = at_err c.from_residual-in_err-print_worlds.result (Begins-append g.O.Output.keeps c.in_ok-print_package_start.ensures.ok
     (Begins-append g.O.Output.keeps c.in_ok-print_interfaces.ensures.ok (Begins-more g.O.Output.keeps (package_end_calls c.args.is_main) c.in_err-print_worlds.ensures.err)))
 
 pub returns-clause-ok : goal.returns-clause-ok
-returns-clause-ok g c =
-    on_ok c.print_package_end.result (λ m. Moves-append g.O.Output.keeps c.in_ok-print_package_start.ensures.ok
+returns-clause-ok g c = on_ok c.print_package_end.result (λ m. Moves-append g.O.Output.keeps c.in_ok-print_package_start.ensures.ok
     (Moves-append g.O.Output.keeps c.in_ok-print_interfaces.ensures.ok (Moves-append g.O.Output.keeps c.in_ok-print_worlds.ensures.ok m))) c.print_package_end.ensures.ok
 
 pub returns-clause-err : goal.returns-clause-err
-returns-clause-err g c =
-    on_err c.print_package_end.result (λ b. Begins-append g.O.Output.keeps c.in_ok-print_package_start.ensures.ok
+returns-clause-err g c = on_err c.print_package_end.result (λ b. Begins-append g.O.Output.keeps c.in_ok-print_package_start.ensures.ok
     (Begins-append g.O.Output.keeps c.in_ok-print_interfaces.ensures.ok (Begins-append g.O.Output.keeps c.in_ok-print_worlds.ensures.ok b))) c.print_package_end.ensures.err
