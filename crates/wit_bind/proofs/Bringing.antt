@@ -1,22 +1,23 @@
 -- What is new by name or path is copied.
-use Rattle.std.proofs.Common.{rules as std_rules, ◌≡◌, refl, sym, ap, ◌∙◌, ℕ, zero, suc, Bool, true, false, not, ◌&&◌, List, [], ◌∷◌, map, Option, Some, None, is_none, is_some, option_map, slice_get, unwrap_or}
-use Rattle.std.proofs.lemmas.{Bool.or_left, Bool.or_right, Option.slice_get-map, Map.Keys.any_passes_from_place as any_at}
-use Rattle.std.specs.{Prelude.filter_map, Prelude.option_and_then, List.cons_option, List.list_any, Option.option_map_or}
+use Rattle.std.proofs.Common.{rules as std_rules, ◌≡◌, refl, sym, ap, ◌∙◌, ℕ, Bool, true, false, not, ◌&&◌, List, map, Option, Some, None, is_none, is_some, option_map, slice_get, unwrap_or}
+use Rattle.std.proofs.lemmas.{Option.slice_get-map, Map.Keys.any_passes_from_place as any_at}
+use Rattle.std.specs.{Prelude.filter_map, Prelude.option_and_then, List.list_any, Option.option_map_or}
 use Rattle.wit_model.specs.declared.model.{Interface.Interface, Package.Package, PackageId.PackageId, Resolve.Resolve, World.World, WorldId.WorldId}
 use Rattle.wit_model.specs.Lookup.{identity_of, interface_at, package_at, path_of_interface, path_of_world, world_at}
 use Rattle.wit_model.specs.{Meant.interface_meaning, Meant.world_meaning, Text.Text, Text.text_eq, Text.text_of, Valid.IsValid}
-use Rattle.wit_model.proofs.{OnePath.package-name, VersionLaws.same_name, VersionLaws.same_text}
+use Rattle.wit_model.proofs.{Elements.contains-filter_map, OnePath.package-name, VersionLaws.same_name, VersionLaws.same_text}
 use Rattle.bind_clash.specs.Faults.{IsMatched}
 use Rattle.bind_clash.proofs.PathsMatched.{root-has, world-in-has, world-path-of}
 use Rattle.bind_match.specs.declared.matches.Matches.{Matches}
 use Rattle.bind_match.specs.Matching.{is_root_world, own_package_of, own_world_of}
 use Rattle.bind_meaning.specs.{Binding.package_text, ByNumbers.interfaces_by_path, ByNumbers.package_texts, ByNumbers.worlds_by_path, Roots.root_path}
 use Rattle.bind_meaning.proofs.Listed.{given as unpacked}
+use Rattle.bind_union.proofs.InterfaceRules.{given_contains}
 use Rattle.bind_carry.specs.{First.flag_under, MatchedSame.AreMatchedAt, Renumbered.is_matched, TooLong.CarriedThings, Which.AreMatchedAll, Which.IsNumbered}
 use Rattle.bind_carry.specs.Marked.{AreChosen}
 use Rattle.bind_carry.proofs.{FirstNumbers.chosen_so, FirstOfUnion.found_own, Ranges.is_in_range, NamesGained.new_world_flag as world_flag}
 use Rattle.wit_bind.specs.Comes.{is_new_interface, is_new_package, is_new_world, is_one_of}
-use Rattle.base_lemmas.proofs.{Bools.left_of as first_true, Bools.right_of as second_true, Lists.mapped_get as mapped_at}
+use Rattle.base_lemmas.proofs.{Elements.any-at, Elements.contains-map, Elements.get-contains, Bools.left_of as first_true, Bools.right_of as second_true, Lists.mapped_get as mapped_at}
 
 -- ---- what stands under a path
 
@@ -25,29 +26,16 @@ module _ {X M : Type 0} (path : X → Option Text) (meaning : X → M) (t : Text
   paths xs = map (λ (e : Text × M). e.0) (filter_map (λ x. option_map (λ p. (p, meaning x)) (path x)) xs)
 
   pub path_there : (xs : List X) (n : ℕ) (x : X) → slice_get xs n ≡ Some x → path x ≡ Some t → list_any (text_eq t) (paths xs) ≡ true
-  path_there [] n x at e = let wrong : ⊥ = cc in absurd wrong
-  path_there (y ∷ ys) n x at e = go (path y) refl n at (λ k f. path_there ys k x f e)
-    where
-      rest : List (Text × M)
-      rest = filter_map (λ z. option_map (λ p. (p, meaning z)) (path z)) ys
-
-      go : (o : Option Text) → path y ≡ o → (n : ℕ) → slice_get (y ∷ ys) n ≡ Some x → ((k : ℕ) → slice_get ys k ≡ Some x → list_any (text_eq t) (paths ys) ≡ true)
-          → list_any (text_eq t) (map (λ (z : Text × M). z.0) (cons_option (option_map (λ p. (p, meaning y)) o) rest)) ≡ true
-      go None q zero f more = let same : y ≡ x = ap (λ o. unwrap_or o y) f in let wrong : None ≡ Some t = sym q ∙ (ap path same ∙ e) in let no : ⊥ = cc in absurd no
-      go None q (suc k) f more = more k f
-      go (Some u) q zero f more =
-          let same : y ≡ x = ap (λ o. unwrap_or o y) f in
-          let texts : u ≡ t = ap (λ o. unwrap_or o t) (sym q ∙ (ap path same ∙ e)) in
-          or_left (text_eq t u) (list_any (text_eq t) (paths ys)) (same_text t u (sym texts))
-      go (Some u) q (suc k) f more = or_right (text_eq t u) (list_any (text_eq t) (paths ys)) (more k f)
+  path_there xs n x at e =
+      any-at (text_eq t) (paths xs) t (contains-map (λ (z : Text × M). z.0) _ (t, meaning x) (contains-filter_map (λ y. option_map (λ p. (p, meaning y)) (path y)) xs x (t, meaning x)
+      (get-contains xs n x at) (given_contains _ (t, meaning x) (ap (option_map (λ p. (p, meaning x))) e)))) (same_text t t refl)
 
 -- what is so isn't not so
 contrary : {A : Type 0} (b : Bool) → not b ≡ true → b ≡ true → A
 contrary x h e = search std_rules
 
 module _ (own other : Resolve) (v : IsValid own) (u : IsValid other) (m : Matches) (matched : IsMatched own other m) (all : AreMatchedAll other m) (c : CarriedThings)
-    (numbered : IsNumbered own other m c)
-    (same : AreMatchedAt own other m.interfaces.items c.packages.items) where
+    (numbered : IsNumbered own other m c) (same : AreMatchedAt own other m.interfaces.items c.packages.items) where
   -- ---- packages
 
   pub new_package_copied : (n : ℕ) (p : Package) → package_at other n ≡ Some p → is_new_package own p ≡ true → flag_under c.new_packages.items n ≡ true
@@ -57,9 +45,7 @@ module _ (own other : Resolve) (v : IsValid own) (u : IsValid other) (m : Matche
       f = own_package_of own.packages.items
 
       flag : flag_under c.new_packages.items n ≡ is_none (f p)
-      flag =
-          ap (λ l. flag_under l n) numbered.new_packages
-          ∙ (ap (λ l. flag_under (map is_none l) n) matched.packages
+      flag = ap (λ l. flag_under l n) numbered.new_packages ∙ (ap (λ l. flag_under (map is_none l) n) matched.packages
           ∙ ap (λ o. unwrap_or o false) (mapped_at is_none (map f other.packages.items) n (f p) (mapped_at f other.packages.items n p at)))
 
       go : (o : Option PackageId) → f p ≡ o → is_none o ≡ true
@@ -103,8 +89,7 @@ module _ (own other : Resolve) (v : IsValid own) (u : IsValid other) (m : Matche
       g = own_world_of own m.packages.items
 
       flag : flag_under c.copied_worlds.items n ≡ (is_none (g w) && not (is_root_world other w))
-      flag =
-          ap (λ l. flag_under l n) numbered.copied_worlds
+      flag = ap (λ l. flag_under l n) numbered.copied_worlds
           ∙ world_flag other m.worlds.items other.worlds.items n (g w) w (ap (λ l. slice_get l n) matched.worlds ∙ mapped_at g other.worlds.items n w at) at
 
       here : Bool

@@ -61,8 +61,7 @@ module _ (r s : Resolve) (f : Renumbering) (interfaces numbers : List ℕ) (vali
     (types_noted : (n : ℕ) → f.copies_type n ≡ true → type_notes_at s (f.types n) ≡ type_notes_at r n)
     (unnamed_copied : (n : ℕ) (t : TypeDef) → type_at r n ≡ Some t → f.carries_type n ≡ true → f.copies_type n ≡ false → is_none t.name ≡ false)
     (under : (n : ℕ) (i : Interface) → interface_at r n ≡ Some i → f.copies_interface n ≡ true → (home : Option PackageId) × (j : Interface) × (interface_at s (f.interfaces n) ≡ Some j)
-    × IsInterfaceUnder numbers home i j)
-    (inline_copied : (m : ℕ) (i : Interface) → f.carries_interface m ≡ true → interface_at r m ≡ Some i → i.name ≡ None → f.copies_interface m ≡ true) where
+    × IsInterfaceUnder numbers home i j) (inline_copied : (m : ℕ) (i : Interface) → f.carries_interface m ≡ true → interface_at r m ≡ Some i → i.name ≡ None → f.copies_interface m ≡ true) where
   -- ---- types without a name
 
   abbrev if_unnamed : TypeDef → Option Notes
@@ -79,26 +78,21 @@ module _ (r s : Resolve) (f : Renumbering) (interfaces numbers : List ℕ) (vali
 
   -- and those of parameters and results
   function_types_noted : (old new : Function) → IsFunctionCopy f old new → function_type_notes s new ≡ function_type_notes r old
-  function_types_noted old new c =
-      ap (λ ts. map (unnamed_notes s) (filter_map number_of ts)) all
+  function_types_noted old new c = ap (λ ts. map (unnamed_notes s) (filter_map number_of ts)) all
       ∙ (ap (map (unnamed_notes s)) (numbers_under f.types (function_types old))
       ∙ parts_noted (filter_map number_of (function_types old))
       (first_true _ _ (sym (list_all-append f.carries_type (filter_map number_of (function_types old)) (option_to_list (resource_of old.kind))) ∙ c.parts)))
     where
       params : map (λ p. p.ty) new.params.items ≡ map (renamed_type f.types) (map (λ p. p.ty) old.params.items)
-      params =
-          sym (map-map (λ (x : Text × ValueType). x.1) (λ p. (text_of p.name, p.ty)) new.params.items)
-          ∙ (ap (map (λ (x : Text × ValueType). x.1)) c.params
-          ∙ (map-map (λ (x : Text × ValueType). x.1) (λ p. (text_of p.name, renamed_type f.types p.ty)) old.params.items
+      params = sym (map-map (λ (x : Text × ValueType). x.1) (λ p. (text_of p.name, p.ty)) new.params.items)
+          ∙ (ap (map (λ (x : Text × ValueType). x.1)) c.params ∙ (map-map (λ (x : Text × ValueType). x.1) (λ p. (text_of p.name, renamed_type f.types p.ty)) old.params.items
           ∙ sym (map-map (renamed_type f.types) (λ p. p.ty) old.params.items)))
 
       all : function_types new ≡ map (renamed_type f.types) (function_types old)
-      all =
-          (λ i. params i ++ (ap option_to_list c.result ∙ one_given (renamed_type f.types) old.result) i)
+      all = (λ i. params i ++ (ap option_to_list c.result ∙ one_given (renamed_type f.types) old.result) i)
           ∙ sym (map-append (renamed_type f.types) (map (λ p. p.ty) old.params.items) (option_to_list old.result))
 
-  each_function : (olds news : List (String Global × Function)) → AllZip (IsFunctionEntry f) olds news
-      → map (λ e. function_type_notes s e.1) news ≡ map (λ e. function_type_notes r e.1) olds
+  each_function : (olds news : List (String Global × Function)) → AllZip (IsFunctionEntry f) olds news → map (λ e. function_type_notes s e.1) news ≡ map (λ e. function_type_notes r e.1) olds
   each_function olds news zip = zip_map (IsFunctionEntry f) (λ e. function_type_notes r e.1) (λ e. function_type_notes s e.1) (λ a b z. function_types_noted a.1 b.1 z.1) olds news zip
 
   -- ---- interfaces
@@ -110,10 +104,8 @@ module _ (r s : Resolve) (f : Renumbering) (interfaces numbers : List ℕ) (vali
 
   types_of : (old image : Interface) → IsInterfaceCopy f old image
       → map {B = Text × Option Notes} (λ e. (text_of e.0, type_notes_at s e.1.0)) image.types.entries ≡ map (λ e. (text_of e.0, type_notes_at r e.1.0)) old.types.entries
-  types_of old image c =
-      sym (map-map (λ (x : Text × ℕ). (x.0, type_notes_at s x.1)) (λ e. (text_of e.0, e.1.0)) image.types.entries)
-      ∙ (ap (map (λ (x : Text × ℕ). (x.0, type_notes_at s x.1))) c.types
-      ∙ (map-map (λ (x : Text × ℕ). (x.0, type_notes_at s x.1)) (λ e. (text_of e.0, f.types e.1.0)) old.types.entries
+  types_of old image c = sym (map-map (λ (x : Text × ℕ). (x.0, type_notes_at s x.1)) (λ e. (text_of e.0, e.1.0)) image.types.entries)
+      ∙ (ap (map (λ (x : Text × ℕ). (x.0, type_notes_at s x.1))) c.types ∙ (map-map (λ (x : Text × ℕ). (x.0, type_notes_at s x.1)) (λ e. (text_of e.0, f.types e.1.0)) old.types.entries
       ∙ (sym (map-map (λ (x : Text × ℕ). (x.0, type_notes_at s (f.types x.1))) (λ e. (text_of e.0, e.1.0)) old.types.entries)
       ∙ (each_type (map (λ e. (text_of e.0, e.1.0)) old.types.entries) (copied old.types.entries c.copies)
       ∙ map-map (λ (x : Text × ℕ). (x.0, type_notes_at r x.1)) (λ e. (text_of e.0, e.1.0)) old.types.entries))))
@@ -182,8 +174,7 @@ module _ (r s : Resolve) (f : Renumbering) (interfaces numbers : List ℕ) (vali
     met_or_noted _ _ (met old there olds news c k i rest) zip e (zero, l, q) = inl (there, c, key_texts_same old.0 there.0 k ∙ ap (λ (y : WorldKey × WorldItem). key_text r y.0) q)
     met_or_noted _ _ (met old there olds news c k i rest) zip e (suc n, l, q) =
         let place = contains-get own there c in
-        let known : test old ≡ false =
-        new_same f interfaces numbers by_interface by_type own old.0 (ready old.0 there.0 k) ∙ ap not
+        let known : test old ≡ false = new_same f interfaces numbers by_interface by_type own old.0 (ready old.0 there.0 k) ∙ ap not
         (any_at (λ (x : WorldKey × WorldItem). same_key f old.0 x.0) own place.0 there place.1 (becomes_same old.0 there.0 k)) in
         met_or_noted olds news rest (subst (λ b. Copied (cond b (old ∷ filter test olds) (filter test olds)) news) known zip) e (n, omega (arith, l), q)
     met_or_noted _ _ (added old new olds news fresh z rest) zip e h =
@@ -228,9 +219,7 @@ module _ (own other merged : Resolve) (valid_own : IsValid own) (valid_other : I
       let home = copied_home fates n h in
       let place = copy_placed own.types.items first_numbers other.types.items fates [] p.new_types p.more_types p.types n home.0 t.def home.1 t.found in
       ap (λ l. option_map type_notes (slice_get l (number_under first_numbers n))) p.types_here
-      ∙ (ap (option_map type_notes) place.at_image
-      ∙ (ap Some (type_noted first_numbers home.0 t.def place.image place.under)
-      ∙ sym (ap (option_map type_notes) t.found)))
+      ∙ (ap (option_map type_notes) place.at_image ∙ (ap Some (type_noted first_numbers home.0 t.def place.image place.under) ∙ sym (ap (option_map type_notes) t.found)))
 
   second_type : (n : ℕ) → is_copied later_fates n ≡ true → type_notes_at merged (number_under types n) ≡ type_notes_at other n
   second_type n h =
@@ -238,17 +227,14 @@ module _ (own other merged : Resolve) (valid_own : IsValid own) (valid_other : I
       let home = copied_home later_fates n h in
       let place = copy_placed own.types.items types other.types.items later_fates p.new_types s.all_types [] s.types_copied n home.0 t.def home.1 t.found in
       ap (λ l. option_map type_notes (slice_get l (number_under types n))) (s.types_here ∙ ap (λ l. own.types.items ++ l) (sym (append-nil s.all_types)))
-      ∙ (ap (option_map type_notes) place.at_image
-      ∙ (ap Some (type_noted types home.0 t.def place.image place.under)
-      ∙ sym (ap (option_map type_notes) t.found)))
+      ∙ (ap (option_map type_notes) place.at_image ∙ (ap Some (type_noted types home.0 t.def place.image place.under) ∙ sym (ap (option_map type_notes) t.found)))
 
   below : Keeps references merged
   below = references_of merged valid.rules
 
   -- what is carried without a copy has a name
   first_named : (n : ℕ) (t : TypeDef) → type_at other n ≡ Some t → is_carried fates n ≡ true → is_copied fates n ≡ false → is_none t.name ≡ false
-  first_named n t at h bare =
-      named_none t.name (first_stood own other valid_other m.interfaces.items c first_numbers all_chosen
+  first_named n t at h bare = named_none t.name (first_stood own other valid_other m.interfaces.items c first_numbers all_chosen
       (names own other valid_own valid_other m.interfaces.items c first_numbers all_chosen p.same p.none long_flags p.numbered.interfaces (length own.types.items + length {A = TypeDef} [])
       p.types.numbers_are) n t at h bare).named
     where
@@ -259,11 +245,10 @@ module _ (own other merged : Resolve) (valid_own : IsValid own) (valid_other : I
       long_flags = long own other merged valid_own valid_other world other_world w v m c first_numbers p copied interfaces types s
 
   second_named : (n : ℕ) (t : TypeDef) → type_at other n ≡ Some t → is_carried later_fates n ≡ true → is_copied later_fates n ≡ false → is_none t.name ≡ false
-  second_named n t at h bare =
-      named_none t.name (elim (second_stood own other merged valid_own valid_other world other_world w v m c first_numbers p copied interfaces types s n t at h bare) [
-        | inl x ↦ x.named
-        | inr u ↦ ((second_known own other merged valid_own valid_other world other_world w v m c first_numbers p copied interfaces types s).imports n t at u).0
-      ])
+  second_named n t at h bare = named_none t.name (elim (second_stood own other merged valid_own valid_other world other_world w v m c first_numbers p copied interfaces types s n t at h bare) [
+    | inl x ↦ x.named
+    | inr u ↦ ((second_known own other merged valid_own valid_other world other_world w v m c first_numbers p copied interfaces types s).imports n t at u).0
+  ])
 
   -- ---- interfaces
 
@@ -296,12 +281,10 @@ module _ (own other merged : Resolve) (valid_own : IsValid own) (valid_other : I
   -- ---- types that come
 
   first_parts : (ns : List ℕ) → list_all first.carries_type ns ≡ true → map (unnamed_notes merged) (map first.types ns) ≡ map (unnamed_notes other) ns
-  first_parts =
-      parts_noted other merged first c.interfaces.items first_numbers valid_other first_copies.carried (λ k h. refl) refl first_type first_named first_interface first_copies.inline_copied
+  first_parts = parts_noted other merged first c.interfaces.items first_numbers valid_other first_copies.carried (λ k h. refl) refl first_type first_named first_interface first_copies.inline_copied
 
   second_parts : (ns : List ℕ) → list_all second.carries_type ns ≡ true → map (unnamed_notes merged) (map second.types ns) ≡ map (unnamed_notes other) ns
-  second_parts =
-      parts_noted other merged second interfaces types valid_other second_copies.carried handed_on refl second_type second_named second_interface second_copies.inline_copied
+  second_parts = parts_noted other merged second interfaces types valid_other second_copies.carried handed_on refl second_type second_named second_interface second_copies.inline_copied
 
   -- what is copied is a type of the other's
   copy_brought : (f : Renumbering) (is : AreCopies own other merged f) → ((n : ℕ) → f.copies_type n ≡ true → type_notes_at merged (f.types n) ≡ type_notes_at other n)
@@ -317,12 +300,9 @@ module _ (own other merged : Resolve) (valid_own : IsValid own) (valid_other : I
         def = t.def;
         found = t.found;
         tree = ap (number_tree merged) (sym number) ∙ tree_same other merged f valid_other.rules is.carried below k carried;
-        declares = ap (declaration_of merged) (sym image)
-            ∙ same_declarations other merged f.types f.carries_type (refers_below other (references_of other valid_other.rules)) (refers_below merged below) all t.def t.image
-            (t.copied copy).kind;
-        notes = ap type_notes (sym image)
-            ∙ same-some (type_notes t.image) (type_notes t.def)
-            (sym (ap (option_map type_notes) t.at_image) ∙ (noted k copy ∙ ap (option_map type_notes) t.found));
+        declares = ap (declaration_of merged) (sym image) ∙ same_declarations other merged f.types f.carries_type (refers_below other (references_of other valid_other.rules))
+            (refers_below merged below) all t.def t.image (t.copied copy).kind;
+        notes = ap type_notes (sym image) ∙ same-some (type_notes t.image) (type_notes t.def) (sym (ap (option_map type_notes) t.at_image) ∙ (noted k copy ∙ ap (option_map type_notes) t.found));
         parts = ap (λ (d : TypeDef). map (unnamed_notes merged) (kind_numbers d.kind)) (sym image)
             ∙ (ap (map (unnamed_notes merged)) (numbers_same f.types t.def.kind t.image.kind (t.copied copy).kind.kinds)
             ∙ made (kind_numbers t.def.kind) (kind_carried other merged f valid_other.rules is.carried below t.def t.image (t.copied copy).kind));
@@ -346,8 +326,7 @@ module _ (own other merged : Resolve) (valid_own : IsValid own) (valid_other : I
       first_copies.inline_copied n i at set in (
         x.0,
         get-contains merged.interfaces.items (number_under c.interfaces.items n) x.0 x.1,
-        sym (ap (option_and_then (path_of_interface merged)) x.1)
-            ∙ (carried_path other merged first valid_other first_copies.carried n (first_copies.carried.copied_interfaces n set)
+        sym (ap (option_and_then (path_of_interface merged)) x.1) ∙ (carried_path other merged first valid_other first_copies.carried n (first_copies.carried.copied_interfaces n set)
             ∙ (ap (option_and_then (path_of_interface other)) at ∙ is)),
         x.2,
       )
@@ -389,8 +368,7 @@ module _ (own other merged : Resolve) (valid_own : IsValid own) (valid_other : I
     here = p.worlds_here ∙ ap (λ l. p.own_worlds ++ l) (sym (append-nil p.new_worlds))
 
     at_place : world_at merged (number_under c.worlds.items n) ≡ Some place.image
-    at_place = ap (λ l. slice_get l (number_under c.worlds.items n)) here
-        ∙ (ap (λ (l : List ℕ). slice_get (p.own_worlds ++ (p.new_worlds ++ [])) (number_under l n)) p.numbered.worlds ∙ place.at_image)
+    at_place = search (std_rules, here, place)
 
     j : IsJoined other merged first n [] []
     j = (first_worlds_are_copied own other merged m c first_numbers valid_own valid_other p n set).0.joined
@@ -405,19 +383,15 @@ module _ (own other merged : Resolve) (valid_own : IsValid own) (valid_other : I
     Entries = List (WorldKey × WorldItem)
 
     joined_imports : Joined first [] x.imports.entries place.image.imports.entries
-    joined_imports = subst (λ (o : World). Joined first [] o.imports.entries place.image.imports.entries) old
-        (subst (λ (l : Entries). Joined first [] j.old.imports.entries l) (sym j.imports ∙ ap (λ (z : World). z.imports.entries) image) j.joined_imports)
+    joined_imports = search (std_rules, place, old, j, image)
 
     joined_exports : Joined first [] x.exports.entries place.image.exports.entries
-    joined_exports = subst (λ (o : World). Joined first [] o.exports.entries place.image.exports.entries) old
-        (subst (λ (l : Entries). Joined first [] j.old.exports.entries l) (sym j.exports ∙ ap (λ (z : World). z.exports.entries) image) j.joined_exports)
+    joined_exports = search (std_rules, place, old, j, image)
 
     noted : (olds news : Entries) → Joined first [] olds news
         → AllZip (IsEntryUnder c.interfaces.items first_numbers) (filter (λ (e : WorldKey × WorldItem). is_new_under c.interfaces.items [] e.0) olds) news
         → map (entry_notes merged) news ≡ map (entry_notes other) olds
-    noted =
-        entries_noted other merged first c.interfaces.items first_numbers valid_other first_copies.carried (λ k h. refl) refl first_type first_named first_interface
-        first_copies.inline_copied
+    noted = entries_noted other merged first c.interfaces.items first_numbers valid_other first_copies.carried (λ k h. refl) refl first_type first_named first_interface first_copies.inline_copied
 
     -- a world that is copied, with its notes
     pub world_brought : (y : World) × Contains merged.worlds.items y × (path_of_world merged y ≡ Some path) × (world_notes merged y ≡ world_notes other x)
@@ -444,15 +418,13 @@ module _ (own other merged : Resolve) (valid_own : IsValid own) (valid_other : I
   imports_behind : s.image.imports.entries ≡ w.imports.entries ++ s.new_imports
   imports_behind =
       let apart = second_joined.imports_apart own other merged valid_own valid_other world other_world w v m c first_numbers p copied interfaces types s in
-      s.gained.imports
-      ∙ all_behind interfaces types w.imports.entries (filter is_new_import v.imports.entries) s.new_imports (s.imports apart) (filter_passes is_new_import v.imports.entries)
+      s.gained.imports ∙ all_behind interfaces types w.imports.entries (filter is_new_import v.imports.entries) s.new_imports (s.imports apart) (filter_passes is_new_import v.imports.entries)
       (IsDistinct-keys_filter (become_one interfaces) is_new_import v.imports.entries apart)
 
   exports_behind : s.image.exports.entries ≡ w.exports.entries ++ s.new_exports
   exports_behind =
       let apart = second_joined.exports_apart own other merged valid_own valid_other world other_world w v m c first_numbers p copied interfaces types s in
-      s.gained.exports
-      ∙ all_behind interfaces types w.exports.entries (filter is_new_export v.exports.entries) s.new_exports (s.exports apart) (filter_passes is_new_export v.exports.entries)
+      s.gained.exports ∙ all_behind interfaces types w.exports.entries (filter is_new_export v.exports.entries) s.new_exports (s.exports apart) (filter_passes is_new_export v.exports.entries)
       (IsDistinct-keys_filter (become_one interfaces) is_new_export v.exports.entries apart)
 
   module _ (own_paths : (n : ℕ) (t : Text) → interface_path own n ≡ Some t → interface_path merged n ≡ Some t) where
@@ -475,9 +447,8 @@ module _ (own other merged : Resolve) (valid_own : IsValid own) (valid_other : I
         (keyed : (x : WorldKey × WorldItem) → Contains here x → (id : InterfaceId) → x.0 ≡ key.Interface id → is_some (interface_path own id.0) ≡ true)
         (join : Joined second here olds news) (zip : AllZip (IsEntryUnder interfaces types) (filter (λ (e : WorldKey × WorldItem). is_new_under interfaces here e.0) olds) news) where
       entries_brought : BringsEntries (key_texts own here) other olds merged whole
-      entries_brought e held fresh =
-          go (met_or_noted other merged second interfaces types valid_other second_copies.carried handed_on refl second_type second_named second_interface second_copies.inline_copied here
-          olds news join zip e held)
+      entries_brought e held fresh = go (met_or_noted other merged second interfaces types valid_other second_copies.carried handed_on refl second_type second_named second_interface
+          second_copies.inline_copied here olds news join zip e held)
         where
           go : IsMetOrNoted other merged second interfaces types valid_other second_copies.carried handed_on refl second_type second_named second_interface second_copies.inline_copied here
               news e → (x : WorldKey × WorldItem) × Contains whole x × (entry_notes merged x ≡ entry_notes other e)
@@ -485,8 +456,7 @@ module _ (own other merged : Resolve) (valid_own : IsValid own) (valid_other : I
           go (inr (x, h, same)) = (x, subst (λ (l : List (WorldKey × WorldItem)). Contains l x) (sym behind) (Contains-append_right here news x h), same)
 
     -- what the bound world gains, with its notes
-    pub bound_brought : (x : World) → world_at merged world ≡ Some x
-        → BringsEntries (key_texts own w.imports.entries) other v.imports.entries merged x.imports.entries
+    pub bound_brought : (x : World) → world_at merged world ≡ Some x → BringsEntries (key_texts own w.imports.entries) other v.imports.entries merged x.imports.entries
         × BringsEntries (key_texts own w.exports.entries) other v.exports.entries merged x.exports.entries
     bound_brought x at =
         let is : s.image ≡ x = same-some s.image x (sym s.at_image ∙ at) in (

@@ -4,7 +4,7 @@ use Rattle.std.proofs.lemmas.{List.length-map, Option.slice_get_within}
 use Rattle.std.specs.{Prelude.String, List.list_any, Option.option_map_or}
 use Rattle.std.specs.declared.alloc.Global.{Global}
 use Rattle.wit_model.specs.declared.model.{Interface.Interface, Resolve.Resolve, TypeOwner.TypeOwner, World.World, WorldItem.WorldItem, WorldKey.WorldKey}
-use Rattle.wit_model.specs.{Lookup.interface_at, Lookup.interface_path, Lookup.key_text, Lookup.world_at, Meaning.WorldMeaning, Text.Text, Text.text_eq, Meant.entries_meaning, Meant.no_world, Meant.world_meaning, Rules.is_id, Uses.item_interface}
+use Rattle.wit_model.specs.{Lookup.interface_at, Lookup.interface_path, Lookup.key_text, Lookup.world_at, Meaning.WorldMeaning, Text.Text, Text.text_eq, Meant.entries_meaning, Rules.is_id, Uses.item_interface}
 use Rattle.wit_model.proofs.{OnePath.named-path, RulesLemmas.is_id_some as some_id, TextLemmas.text_same as text-same}
 use Rattle.bind_meaning.specs.Clash.{entry_under, CanUnite}
 use Rattle.bind_meaning.proofs.WorldBindings.{export-key, import-key, keys-apart, IsKey}
@@ -19,11 +19,10 @@ use Rattle.bind_carry.proofs.WhatComes.{first_comes, marked_count, second_comes,
 use Rattle.bind_carry.proofs.CountedCopies.{interfaces_flagged, worlds_flagged}
 use Rattle.wit_bind.specs.declared.bindgen.Bindgen.{Bindgen}
 use Rattle.wit_bind.specs.Bindings.{binding_of, IsBindgen}
-use Rattle.wit_bind.specs.Comes.{ExportIsGained, ImportIsGained, InlineComes, InlineIsGained, InterfaceComes, OwnerComes, OwnerIsGained, OwnerIsShown, OwnerStands, SomethingComes, SomethingIsGained, TypeComes, TypeIsGained, WorldComes}
-use Rattle.wit_bind.proofs.{MatchedPaths.all-matched, MatchedPaths.matched-with, MatchedPaths.none-of-path, NumbersAgree.united_agree_by_numbers}
+use Rattle.wit_bind.specs.Comes.{ExportIsGained, ImportIsGained, InlineComes, InlineIsGained, InterfaceComes, IsGained, OwnerComes, OwnerIsGained, OwnerIsShown, OwnerStands, SomethingComes, SomethingIsGained, TypeComes, TypeIsGained, WorldComes}
+use Rattle.wit_bind.proofs.{MatchedPaths.all-matched, MatchedPaths.matched-with, MatchedPaths.none-of-path, NumbersAgree.meant, NumbersAgree.united_agree_by_numbers}
 use Rattle.wit_bind.proofs.TooMany.{new-interface, new-world, shown}
-use Rattle.base_lemmas.proofs.{Bools.left_of as first_true, Bools.right_of as second_true, Elements.get-contains, Lists.within_there, Options.there as some-of}
-use Rattle.wit_model.specs.declared.model.TypeOwner.TheVariants as owner
+use Rattle.base_lemmas.proofs.{Bools.left_of as first_true, Bools.right_of as second_true, Elements.get-contains, Lists.within_there, Options.none_some, Options.there as some-of}
 use Rattle.wit_model.specs.declared.model.WorldKey.TheVariants as key
 
 -- ---- lists
@@ -40,11 +39,10 @@ mark-flag marks n e = ap (λ o. unwrap_or o false) e
 
 -- what is kept had its flag
 kept-from : {A : Type 0} (flags : List Bool) (xs : List A) (p : ℕ) (x : A) → slice_get (kept flags xs) p ≡ Some x → (n : ℕ) × (slice_get xs n ≡ Some x) × (flag_under flags n ≡ true)
-kept-from [] xs p x e = let wrong : ⊥ = cc in absurd wrong
-kept-from (b ∷ bs) [] p x e = let wrong : ⊥ = cc in absurd wrong
 kept-from (true ∷ bs) (y ∷ ys) zero x e = (zero, e, refl)
 kept-from (true ∷ bs) (y ∷ ys) (suc p) x e = let r = kept-from bs ys p x e in (suc r.0, r.1, r.2)
 kept-from (false ∷ bs) (y ∷ ys) p x e = let r = kept-from bs ys p x e in (suc r.0, r.1, r.2)
+kept-from _ _ p x e = let wrong : ⊥ = cc in absurd wrong
 
 either-true : {P : Type 0} (a b : Bool) → (a ≡ true → P) → (b ≡ true → P) → (a || b) ≡ true → P
 either-true x b f g h = search std_rules
@@ -56,8 +54,7 @@ none-passes p (y ∷ ys) x h (zero, l, e) = search std_rules
 none-passes p (y ∷ ys) x h (suc i, l, e) = none-passes p ys x (later (p y) (list_any p ys) h) (i, omega (arith, l), e)
   where
     later : (a b : Bool) → not (a || b) ≡ true → not b ≡ true
-    later true b k = no_true k
-    later false b k = k
+    later x b k = search std_rules
 
 module _ (own other : Bindgen) (o : IsBindgen own) (t : IsBindgen other) (can : CanUnite (binding_of own) (binding_of other)) (m : Matches) (matched : IsMatched own.resolve other.resolve m) where
   abbrev r : Resolve
@@ -91,10 +88,6 @@ module _ (own other : Bindgen) (o : IsBindgen own) (t : IsBindgen other) (can : 
       i : (i : Interface) × (interface_at s n ≡ Some i)
       i = flag-there (carried_interfaces s m) s.interfaces.items n (interfaces_flagged s m.interfaces.items (carried_worlds s m) all.interfaces) h
 
-      inline-so : (o : Option (String Global)) → is_some o ≡ false → is_none o ≡ true
-      inline-so None e = refl
-      inline-so (Some x) e = no_true (sym e)
-
       shows : (es : List (WorldKey × WorldItem)) → is_shown_in es n ≡ true → (e : WorldKey × WorldItem) × Contains es e × (item_interface e.1 ≡ Some n)
       shows es k =
           let p = any_place (λ (e : WorldKey × WorldItem). is_id n (item_interface e.1)) es k in
@@ -106,7 +99,7 @@ module _ (own other : Bindgen) (o : IsBindgen own) (t : IsBindgen other) (can : 
           let p = any_place (λ (w : World). is_shown_in w.imports.entries n || is_shown_in w.exports.entries n) (kept (carried_worlds s m) s.worlds.items) (sym (chosen.inline n i.0 i.1 e) ∙ h) in
           let k = kept-from (carried_worlds s m) s.worlds.items p.place p.thing p.there in
           let comes : WorldComes r s k.0 = record { world = p.thing; found = k.1; is_new = new-world r s o.valid t.valid m matched k.0 p.thing k.1 k.2 } in
-          let inline : is_inline_at s n ≡ true = ap (λ x. option_map_or (λ (j : Interface). is_none j.name) x false) i.1 ∙ inline-so i.0.name e in
+          let inline : is_inline_at s n ≡ true = ap (λ x. option_map_or (λ (j : Interface). is_none j.name) x false) i.1 ∙ none_some i.0.name e in
           inr (either-true {P = InlineComes r s n} (is_shown_in p.thing.imports.entries n) (is_shown_in p.thing.exports.entries n)
           (λ q. let x = shows p.thing.imports.entries q in record { inline = inline; place = k.0; comes = comes; entry = x.0; held = inl x.1; shown = x.2 })
           (λ q. let x = shows p.thing.exports.entries q in record { inline = inline; place = k.0; comes = comes; entry = x.0; held = inr x.1; shown = x.2 })
@@ -149,8 +142,7 @@ module _ (own other : Bindgen) (o : IsBindgen own) (t : IsBindgen other) (can : 
     types-come = record {
       marks = map copies fates;
       marked = marked_count (map copies fates);
-      each = λ n e. by n
-          (first_comes r s t.valid m.interfaces.items c (OwnerComes r s) (OwnerStands r s) (λ id h. copied-interface id.0 h) (λ id h. copied-world id.0 h) stands
+      each = λ n e. by n (first_comes r s t.valid m.interfaces.items c (OwnerComes r s) (OwnerStands r s) (λ id h. copied-interface id.0 h) (λ id h. copied-world id.0 h) stands
           (λ id h. inl (same id.0 h).has_path) n e);
     }
       where
@@ -168,10 +160,8 @@ module _ (own other : Bindgen) (o : IsBindgen own) (t : IsBindgen other) (can : 
         let x = same n h in
         let name : is_some x.old.name ≡ true = named_of_path s n x.old x.found x.has_path in
         let flag : flag_under c.copied_interfaces.items n ≡ false = ap (λ (l : List Bool). flag_under l n) interfaces-are ∙ (chosen.named n x.old x.found name ∙ ap not h) in
-        ap (λ (l : List ℕ). number_under l n) numbered.interfaces
-        ∙ (uncopied_under (length r.interfaces.items) c.copied_interfaces.items (map interface_number m.interfaces.items) n
-        (numbered.interface_count ∙ (sym all.interfaces ∙ sym (length-map m.interfaces.items interface_number))) flag
-        ∙ matched_under m.interfaces.items n x.id x.given)
+        ap (λ (l : List ℕ). number_under l n) numbered.interfaces ∙ (uncopied_under (length r.interfaces.items) c.copied_interfaces.items (map interface_number m.interfaces.items) n
+        (numbered.interface_count ∙ (sym all.interfaces ∙ sym (length-map m.interfaces.items interface_number))) flag ∙ matched_under m.interfaces.items n x.id x.given)
 
     text-apart : (k x : WorldKey) → IsKey s t.valid k → IsKey r o.valid x → is_key_under numbers k x ≡ false → text_eq (key_text s k) (key_text r x) ≡ false
     text-apart (key.Name a) (key.Name b) g h e = keys-apart r o.valid (key.Name a) (key.Name b) g h e
@@ -204,52 +194,46 @@ module _ (own other : Bindgen) (o : IsBindgen own) (t : IsBindgen other) (can : 
     -- ---- what the bound world gains
 
     module _ (w v : World) (at_w : world_at r own.world.0 ≡ Some w) (at_v : world_at s other.world.0 ≡ Some v) where
-      ours : world_meaning r w ≡ (binding_of own).bound
-      ours = sym (ap (λ (z : Option World). option_map_or (world_meaning r) z no_world) at_w)
-
       import-gained : (e : WorldKey × WorldItem) → Contains v.imports.entries e → is_new_under numbers w.imports.entries e.0 ≡ true → ImportIsGained own other e
       import-gained e held new = record {
         held = subst (λ (l : List (WorldKey × WorldItem)). Contains l e) (sym (ap (λ (z : Option World). option_map_or (λ (x : World). x.imports.entries) z []) at_v)) held;
-        is_new = ap (λ (b : WorldMeaning). entry_under (key_text s e.0) b.imports) (sym ours) ∙ absent w.imports.entries (import-key r o.valid own.world.0 w at_w) e.0
+        is_new = ap (λ (b : WorldMeaning). entry_under (key_text s e.0) b.imports) (sym (meant own o w at_w)) ∙ absent w.imports.entries (import-key r o.valid own.world.0 w at_w) e.0
             (import-key s t.valid other.world.0 v at_v e held) new;
       }
 
       export-gained : (e : WorldKey × WorldItem) → Contains v.exports.entries e → is_new_under numbers w.exports.entries e.0 ≡ true → ExportIsGained own other e
       export-gained e held new = record {
         held = subst (λ (l : List (WorldKey × WorldItem)). Contains l e) (sym (ap (λ (z : Option World). option_map_or (λ (x : World). x.exports.entries) z []) at_v)) held;
-        is_new = ap (λ (b : WorldMeaning). entry_under (key_text s e.0) b.exports) (sym ours) ∙ absent w.exports.entries (export-key r o.valid own.world.0 w at_w) e.0
+        is_new = ap (λ (b : WorldMeaning). entry_under (key_text s e.0) b.exports) (sym (meant own o w at_w)) ∙ absent w.exports.entries (export-key r o.valid own.world.0 w at_w) e.0
             (export-key s t.valid other.world.0 v at_v e held) new;
       }
 
       abbrev gained : List Bool
       gained = gained_inline s numbers w v
 
+      below : AreShownBelow (length s.interfaces.items) v.imports.entries × AreShownBelow (length s.interfaces.items) v.exports.entries
+      below = shown r s o.valid t.valid m matched other.world.0 v at_v
+
+      shown-gained : (here es : List (WorldKey × WorldItem)) → ((e : WorldKey × WorldItem) → Contains es e → is_new_under numbers here e.0 ≡ true → IsGained own other e) → (n : ℕ)
+          → is_inline_at s n ≡ true → is_shown_new s numbers here es n ≡ true → InlineIsGained own other n
+      shown-gained here es gain n inline q =
+          let p = any_place (λ (e : WorldKey × WorldItem). is_new_under numbers here e.0 && is_id n (item_interface e.1)) es q in
+          let e = p.thing in
+          record {
+            inline = inline;
+            entry = e;
+            gained = gain e (get-contains es p.place e p.there) (first_true (is_new_under numbers here e.0) (is_id n (item_interface e.1)) p.passes_it);
+            shown = some_id n (item_interface e.1) (second_true (is_new_under numbers here e.0) (is_id n (item_interface e.1)) p.passes_it);
+          }
+
       inline-gained : (n : ℕ) → flag_under gained n ≡ true → InlineIsGained own other n
       inline-gained n h =
           let both = sym (gained_flag s numbers w v below.0 below.1 n) ∙ h in
+          let inline = first_true (is_inline_at s n) (is_gained s numbers w v below.0 below.1 n) both in
           either-true {P = InlineIsGained own other n} (is_shown_new s numbers w.imports.entries v.imports.entries n) (is_shown_new s numbers w.exports.entries v.exports.entries n)
-          (λ q.
-          let p = any_place (λ (e : WorldKey × WorldItem). is_new_under numbers w.imports.entries e.0 && is_id n (item_interface e.1)) v.imports.entries q in
-          let e = p.thing in
-          record {
-            inline = first_true (is_inline_at s n) (is_gained s numbers w v below.0 below.1 n) both;
-            entry = e;
-            gained = inl (import-gained e (get-contains v.imports.entries p.place e p.there) (first_true (is_new_under numbers w.imports.entries e.0) (is_id n (item_interface e.1)) p.passes_it));
-            shown = some_id n (item_interface e.1) (second_true (is_new_under numbers w.imports.entries e.0) (is_id n (item_interface e.1)) p.passes_it);
-          })
-          (λ q.
-          let p = any_place (λ (e : WorldKey × WorldItem). is_new_under numbers w.exports.entries e.0 && is_id n (item_interface e.1)) v.exports.entries q in
-          let e = p.thing in
-          record {
-            inline = first_true (is_inline_at s n) (is_gained s numbers w v below.0 below.1 n) both;
-            entry = e;
-            gained = inr (export-gained e (get-contains v.exports.entries p.place e p.there) (first_true (is_new_under numbers w.exports.entries e.0) (is_id n (item_interface e.1)) p.passes_it));
-            shown = some_id n (item_interface e.1) (second_true (is_new_under numbers w.exports.entries e.0) (is_id n (item_interface e.1)) p.passes_it);
-          })
+          (shown-gained w.imports.entries v.imports.entries (λ e held new. inl (import-gained e held new)) n inline)
+          (shown-gained w.exports.entries v.exports.entries (λ e held new. inr (export-gained e held new)) n inline)
           (second_true (is_inline_at s n) (is_gained s numbers w v below.0 below.1 n) both)
-        where
-          below : AreShownBelow (length s.interfaces.items) v.imports.entries × AreShownBelow (length s.interfaces.items) v.exports.entries
-          below = shown r s o.valid t.valid m matched other.world.0 v at_v
 
       pub inline-come : Come (InlineIsGained own other) (copied_count gained)
       inline-come = record { marks = gained; marked = marked_count gained; each = λ n e. inline-gained n (mark-flag gained n e) }
@@ -264,29 +248,22 @@ module _ (own other : Bindgen) (o : IsBindgen own) (t : IsBindgen other) (can : 
         named-same : (n : ℕ) (i : Interface) → interface_at s n ≡ Some i → is_some i.name ≡ true → number_under later n ≡ number_under numbers n
         named-same n i at name = uncopied_under (length r.interfaces.items + before) gained numbers n long (no-flag (flag_under gained n) refl)
           where
-            below : AreShownBelow (length s.interfaces.items) v.imports.entries × AreShownBelow (length s.interfaces.items) v.exports.entries
-            below = shown r s o.valid t.valid m matched other.world.0 v at_v
-
             long : length gained ≡ length numbers
             long = gained_long s numbers w v below.0 below.1 ∙ sym (interface_count r s m c (is_in_range s t.valid) all numbered)
 
             not-inline : (x : Option (String Global)) → is_some x ≡ true → is_none x ≡ true → ⊥
-            not-inline None e k = no_true e
-            not-inline (Some y) e k = no_true k
+            not-inline x e k = search std_rules
 
             no-flag : (b : Bool) → flag_under gained n ≡ b → flag_under gained n ≡ false
             no-flag false e = e
-            no-flag true e =
-                absurd (not-inline i.name name (sym (ap (λ x. option_map_or (λ (j : Interface). is_none j.name) x false) at) ∙ (inline-gained n e).inline))
+            no-flag true e = absurd (not-inline i.name name (sym (ap (λ x. option_map_or (λ (j : Interface). is_none j.name) x false) at) ∙ (inline-gained n e).inline))
 
         import-same : (e : WorldKey × WorldItem) → Contains v.imports.entries e → is_new_under later w.imports.entries e.0 ≡ true → ImportIsGained own other e
-        import-same e held new =
-            import-gained e held (sym (new_under_same later numbers w.imports.entries e.0
+        import-same e held new = import-gained e held (sym (new_under_same later numbers w.imports.entries e.0
             (λ id is. let k = import_keyed s t.valid other.world.0 v at_v e held id is in named-same id.0 k.def k.found k.named)) ∙ new)
 
         export-same : (e : WorldKey × WorldItem) → Contains v.exports.entries e → is_new_under later w.exports.entries e.0 ≡ true → ExportIsGained own other e
-        export-same e held new =
-            export-gained e held (sym (new_under_same later numbers w.exports.entries e.0
+        export-same e held new = export-gained e held (sym (new_under_same later numbers w.exports.entries e.0
             (λ id is. let k = export_keyed s t.valid other.world.0 v at_v e held id is in named-same id.0 k.def k.found k.named)) ∙ new)
 
         something-gained : gains_any later w v ≡ true → SomethingIsGained own other
@@ -299,9 +276,7 @@ module _ (own other : Bindgen) (o : IsBindgen own) (t : IsBindgen other) (can : 
             h
 
         shown-owner : (w : TypeOwner) → OwnerIsGained own other w → OwnerIsShown own other w
-        shown-owner (owner.Interface id) h = inr h
-        shown-owner (owner.World id) h = absurd h
-        shown-owner owner.None h = h
+        shown-owner x h = search std_rules
 
         agree : DoNotClash r s w v
         agree = (united_agree_by_numbers own other o t can w v at_w at_v).bound
@@ -313,9 +288,8 @@ module _ (own other : Bindgen) (o : IsBindgen own) (t : IsBindgen other) (can : 
         types-gained ns long = record {
           marks = map copies (later_fates ns);
           marked = marked_count (map copies (later_fates ns));
-          each = λ n e. by n
-              (second_comes r s o.valid t.valid own.world.0 other.world.0 w v at_v agree gained later fates ns (fates_long r s m c) long (OwnerIsGained own other) (OwnerIsShown own other)
-              (λ id h. inline-gained id.0 h) shown-owner (λ id h. inl (has-path id.0 h)) (λ id h. h) n e);
+          each = λ n e. by n (second_comes r s o.valid t.valid own.world.0 other.world.0 w v at_v agree gained later fates ns (fates_long r s m c) long (OwnerIsGained own other)
+              (OwnerIsShown own other) (λ id h. inline-gained id.0 h) shown-owner (λ id h. inl (has-path id.0 h)) (λ id h. h) n e);
         }
           where
             by : (n : ℕ) → (IsOwnedBy s.types.items (OwnerIsGained own other) n ⊎ IsNewImport later w.imports.entries v.imports.entries n)

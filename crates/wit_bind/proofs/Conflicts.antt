@@ -71,17 +71,14 @@ is_among : (m : Encodings) (es : Entries) (t : Text) → Differ itself (encoding
 is_among m [] t h = none_differs (encoding_at m t) h
 is_among m (e ∷ es) t h = by (text_eq t e.0) refl h (is_among m es t)
   where
-    by : (b : Bool) → text_eq t e.0 ≡ b → Differ itself (encoding_at m t) (cond b (Some e.1) (under t es)) → (Differ itself (encoding_at m t) (under t es) → Among m es t) → Here m e t
-        ⊎ Among m es t
+    by : (b : Bool) → text_eq t e.0 ≡ b → Differ itself (encoding_at m t) (cond b (Some e.1) (under t es)) → (Differ itself (encoding_at m t) (under t es) → Among m es t) → Here m e t ⊎ Among m es t
     by true s x rest = inl (text-same t e.0 s, differing (encoding_at m t) e.1 x)
     by false s x rest = inr (rest x)
 
 pub least_is : (m : Encodings) (es : Entries) → IsDistinct text_eq (keys_of es) → IsLeastFault (EncodingFault m (kept_encodings es)) (least_from m None es)
-least_is m es d =
-    same_faults (λ t. ⊥ ⊎ Among m es t) (EncodingFault m (kept_encodings es))
+least_is m es d = same_faults (λ t. ⊥ ⊎ Among m es t) (EncodingFault m (kept_encodings es))
     (λ t x. elim x [ inl z ↦ absurd z | inr y ↦ subst (Differ itself (encoding_at m t)) (sym (kept_at t es)) (is_fault m es d t y) ])
-    (λ t x. inr (is_among m es t (subst (Differ itself (encoding_at m t)) (kept_at t es) x)))
-    (least_from m None es) (of_all m (λ t. ⊥) None es (λ t z. z))
+    (λ t x. inr (is_among m es t (subst (Differ itself (encoding_at m t)) (kept_at t es) x))) (least_from m None es) (of_all m (λ t. ⊥) None es (λ t z. z))
 
 -- ---- added
 

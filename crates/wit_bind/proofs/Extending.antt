@@ -1,5 +1,5 @@
 -- What is added under new keys comes behind what was there.
-use Rattle.std.proofs.Common.{rules as std_rules, ◌≡◌, refl, sym, ap, ◌∙◌, ◌⊎◌, inl, inr, arith, ℕ, zero, suc, ◌<◌, List, [], ◌∷◌, Some, slice_get, slice_set}
+use Rattle.std.proofs.Common.{rules as std_rules, ◌≡◌, refl, sym, ap, ◌∙◌, ◌⊎◌, inl, inr, arith, ℕ, zero, suc, ◌<◌, List, [], ◌∷◌, Some, slice_get}
 use Rattle.std.proofs.lemmas.{Bool.cases_order, List.append-nil, Option.same_Some as same-some}
 use Rattle.std.specs.Prelude.{◌≢◌}
 use Rattle.wit_model.specs.declared.model.{Package.Package, Resolve.Resolve, World.World}
@@ -7,16 +7,10 @@ use Rattle.wit_model.specs.Lookup.{package_at, world_at}
 use Rattle.bind_add.specs.declared.added.{Added.Added, Names.Names}
 use Rattle.wit_bind.specs.declared.{bindgen.Bindgen.Bindgen, metadata.ModuleMetadata.ModuleMetadata}
 use Rattle.bind_carry.specs.Apart.{IsApart}
+use Rattle.bind_carry.proofs.FirstOfUnion.{set_at}
 use Rattle.wit_bind.specs.{Apart.GrownExtend, Extends.IsGrownPackage, Extends.IsGrownWorld, Merges.IsGrownBy}
 use Rattle.base_lemmas.proofs.Lists.{front_at as front, set_there as put-elsewhere, within_there as element_at}
 use Rattle.bind_add.specs.Growth as growth
-
--- ---- lists
-
-put-there : {X : Type 0} (xs : List X) (n : ℕ) (w x : X) → slice_get xs n ≡ Some w → slice_get (slice_set xs n x) n ≡ Some x
-put-there [] n w x e = let wrong : ⊥ = cc in absurd wrong
-put-there (z ∷ xs) zero w x e = refl
-put-there (z ∷ xs) (suc n) w x e = put-there xs n w x e
 
 -- ---- packages
 
@@ -78,7 +72,7 @@ module _ (added : Added) (metadata : ModuleMetadata) (old new : Bindgen) (apart 
   bound-world w at =
       let h = g.all_added.worlds w at in (
         h.0,
-        ap (λ (xs : List World). slice_get xs old.world.0) h.2 ∙ front (slice_set o.worlds.items old.world.0 h.0) added.worlds.items old.world.0 h.0 (put-there o.worlds.items old.world.0 w h.0 at),
+        ap (λ (xs : List World). slice_get xs old.world.0) h.2 ∙ set_at o.worlds.items added.worlds.items old.world.0 w h.0 at,
         record {
           name = h.1.name;
           docs = h.1.docs;

@@ -27,17 +27,14 @@ told_entry o w k e key value = λ i. option_and_then {U = Entry} (λ q. option_m
 
 module _ (r : Resolve) (w : Choice) (items : Items) where
   in_item : (x : Entry) (shown : WorldItem) (scope : WorldKey) (n : ℕ) (owner : Interface) → item_interface shown ≡ Some n → interface_at r n ≡ Some owner
-      → Contains (member_entries r w scope owner.functions.entries) x
-      → Contains (entries_of_item r w scope shown) x
+      → Contains (member_entries r w scope owner.functions.entries) x → Contains (entries_of_item r w scope shown) x
   in_item x y scope n owner of at c = search std_rules
 
   -- the entry of each function is listed
   pub listed : (scope : WorldKey) (name : Text) (x : Entry) → IsFunctionOf r items scope name → entry_of r w scope name ≡ Some x → Contains (entries_of_items r w items) x
-  listed scope name x (itself label f stands) is =
-      contains-flat (λ e. entries_of_item r w e.0 e.1) items (key.Name label, item.Function f) x stands
+  listed scope name x (itself label f stands) is = contains-flat (λ e. entries_of_item r w e.0 e.1) items (key.Name label, item.Function f) x stands
       (subst (λ o. Contains (option_to_list o) x) (sym is) (contains-one x))
-  listed scope name x (member above shown n owner label f stands of at has) is =
-      contains-flat (λ e. entries_of_item r w e.0 e.1) items (scope, shown) x stands
+  listed scope name x (member above shown n owner label f stands of at has) is = contains-flat (λ e. entries_of_item r w e.0 e.1) items (scope, shown) x stands
       (in_item x shown scope n owner of at
       (contains-filter_map (λ e. entry_of r w scope (text_of e.0)) owner.functions.entries (label, f) x has
       (subst (λ o. Contains (option_to_list o) x) (sym is) (contains-one x))))
@@ -144,6 +141,5 @@ pub all_functions : {E : Type 0} (r : Resolve) (items : Items) (encoding : Strin
 all_functions r items encoding x puts = search (std_rules, maps_functions)
 
 pub all_carried : {E : Type 0} (old : Text → Option StringEncoding) (r : Resolve) (items : Items) (a : Result Encodings E)
-    → IfOk a (λ m. Puts (entries_of_items r (λ scope name. option_and_then old (unversioned_key r scope name)) items) empty m)
-    → IfOk a (CarriesOver old r items)
+    → IfOk a (λ m. Puts (entries_of_items r (λ scope name. option_and_then old (unversioned_key r scope name)) items) empty m) → IfOk a (CarriesOver old r items)
 all_carried old r items x puts = search (std_rules, carries_over)

@@ -12,12 +12,11 @@ use Rattle.bind_carry.specs.{BoundGains.bound_fates, BoundGains.gained_inline, W
 use Rattle.bind_carry.specs.{TooLong.carried_interfaces, TooLong.copies_of, TooLong.gained_fates, TooLong.CarriedThings, TooLong.TypeFates, Shown.AreShownBelow}
 use Rattle.bind_carry.proofs.Counting.{length_both, carried_all, carried_few, copied_long, inline_all}
 use Rattle.bind_carry.proofs.{WhatComes.marked_count, Ready.bound_long, Ready.fates_long, Ready.numbers_count, SecondInitial.gained_long}
-use Rattle.bind_union.proofs.Lists.{no_true}
 use Rattle.wit_bind.specs.declared.bindgen.Bindgen.{Bindgen}
 use Rattle.wit_bind.specs.Bindings.{binding_of, IsBindgen}
 use Rattle.wit_bind.specs.Comes.{is_one_of, BringsNothing, ExportIsGained, ImportIsGained, InlineIsGained, InterfaceComes, IsGained, NamedComes, OwnerComes, OwnerIsGained, TypeComes, TypeIsGained, WorldComes}
 use Rattle.wit_bind.specs.Merges.{packages_to_come, worlds_to_come, AddsNothing, GrowsWithin, IsGrownBy, IsPlanOf}
-use Rattle.wit_bind.proofs.{NumbersAgree.other-export, NumbersAgree.other-import, TooMany.packages-few, TooMany.shown, TooMany.worlds-few}
+use Rattle.wit_bind.proofs.{NumbersAgree.export-found, NumbersAgree.import-found, TooMany.packages-few, TooMany.shown, TooMany.worlds-few}
 use Rattle.wit_bind.proofs.Coming.{copied-world, inline-come, interfaces-are, interfaces-come, types-come, types-gained}
 use Rattle.base_lemmas.proofs.{Bools.left_of as first_true, Bools.not-false, Bools.right_of as second_true, Lists.within_there as element_at}
 use Rattle.base_lemmas.proofs.Options.{there as some-of}
@@ -66,15 +65,12 @@ module _ (own other : Bindgen) (o : IsBindgen own) (t : IsBindgen other) (can : 
       new = sym (ap (λ p. option_map_or (λ path. not (text_eq path root_path) && not (is_one_of here path)) p true) has) ∙ c.is_new
 
       other-root : (b : Bool) → not b ≡ true → b ≡ false
-      other-root true h = no_true h
-      other-root false h = refl
+      other-root x h = search std_rules
 
       there : is_some (get (carried_worlds (binding_of other)) path.0) ≡ true
-      there =
-          ap is_some (get-without (binding_of other).worlds root_path path.0
-          ∙ (ap (λ b. cond b None (get (binding_of other).worlds path.0))
-          (sym (eq_by_text path.0 root_path) ∙ other-root (text_eq path.0 root_path) (first_true (not (text_eq path.0 root_path)) (not (is_one_of here path.0)) new))
-          ∙ world-found s t.valid n path.0 path.1))
+      there = ap is_some (get-without (binding_of other).worlds root_path path.0
+          ∙ (ap (λ b. cond b None (get (binding_of other).worlds path.0)) (sym (eq_by_text path.0 root_path)
+          ∙ other-root (text_eq path.0 root_path) (first_true (not (text_eq path.0 root_path)) (not (is_one_of here path.0)) new)) ∙ world-found s t.valid n path.0 path.1))
 
       known : is_one_of here path.0 ≡ true
       known = sym (found_keys path.0 (worlds_by_path r)) ∙ (sym (ap is_some (get-from_entries nat_list_cmp_total (worlds_by_path r) path.0)) ∙ nothing.worlds path.0 there)
@@ -95,8 +91,7 @@ module _ (own other : Bindgen) (o : IsBindgen own) (t : IsBindgen other) (can : 
       new = sym (ap (λ p. option_map_or (λ path. not (is_one_of here path)) p true) has) ∙ c.is_new
 
       known : is_one_of here path.0 ≡ true
-      known =
-          sym (found_keys path.0 (interfaces_by_path r))
+      known = sym (found_keys path.0 (interfaces_by_path r))
           ∙ (sym (ap is_some (get-from_entries nat_list_cmp_total (interfaces_by_path r) path.0)) ∙ nothing.interfaces path.0 (ap is_some (interface-found s t.valid n path.0 path.1)))
 
   pub no-interface : (n : ℕ) → InterfaceComes r s n → ⊥
@@ -119,12 +114,12 @@ module _ (own other : Bindgen) (o : IsBindgen own) (t : IsBindgen other) (can : 
   no-import : (e : WorldKey × WorldItem) → ImportIsGained own other e → ⊥
   no-import e c =
       let held = subst (λ (l : List (WorldKey × WorldItem)). Contains l e) (ap (λ (z : Option World). option_map_or (λ (x : World). x.imports.entries) z []) at_v) c.held in
-      none-some (entry_under (key_text s e.0) (binding_of own).bound.imports) c.is_new (nothing.imports (key_text s e.0) (ap is_some (other-import own other o t can w v at_w at_v e held)))
+      none-some (entry_under (key_text s e.0) (binding_of own).bound.imports) c.is_new (nothing.imports (key_text s e.0) (ap is_some (import-found other t v at_v e held)))
 
   no-export : (e : WorldKey × WorldItem) → ExportIsGained own other e → ⊥
   no-export e c =
       let held = subst (λ (l : List (WorldKey × WorldItem)). Contains l e) (ap (λ (z : Option World). option_map_or (λ (x : World). x.exports.entries) z []) at_v) c.held in
-      none-some (entry_under (key_text s e.0) (binding_of own).bound.exports) c.is_new (nothing.exports (key_text s e.0) (ap is_some (other-export own other o t can w v at_w at_v e held)))
+      none-some (entry_under (key_text s e.0) (binding_of own).bound.exports) c.is_new (nothing.exports (key_text s e.0) (ap is_some (export-found other t v at_v e held)))
 
   no-gain : (e : WorldKey × WorldItem) → IsGained own other e → ⊥
   no-gain e x = search (std_rules, no-import, no-export)
@@ -254,8 +249,7 @@ module _ (own other new : Bindgen) (o : IsBindgen own) (t : IsBindgen other) (ca
         let one : length planned.before.worlds.items ≤ copied_count c.copied_worlds.items =
         carried_few (IsWorldCarried c planned.types) c.copied_worlds.items other.resolve.worlds.items planned.before.worlds.items planned.first.worlds in
         let same = ap length planned.second.worlds in
-        let none : copied_count c.copied_worlds.items ≡ 0 =
-        unmarked c.copied_worlds.items (λ n e. no-world own other o t can nothing w v bound.1 other-bound.1 n
+        let none : copied_count c.copied_worlds.items ≡ 0 = unmarked c.copied_worlds.items (λ n e. no-world own other o t can nothing w v bound.1 other-bound.1 n
         (copied-world own other o t can p.matches p.matched c planned.numbered n (ap (λ x. unwrap_or x false) e))) in
         let set = set_length own.resolve.worlds.items own.world.0 bound_new.0 in
         let all = ap length bound_new.2 ∙ length_both (slice_set own.resolve.worlds.items own.world.0 bound_new.0) added.worlds.items in

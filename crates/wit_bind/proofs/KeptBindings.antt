@@ -18,22 +18,19 @@ use Rattle.wit_bind.specs.{Bindings.binding_of, Extends.AllPairs, Extends.IsSame
 both-at : {X Y : Type 0} (Related : X → X → Type 0) (f : X → Y) → ((x y : X) → Related x y → f y ≡ f x) → (xs ys : List X) → AllPairs Related xs ys → (n : ℕ)
     → option_map f (slice_get ys n) ≡ option_map f (slice_get xs n)
 both-at Related f same [] [] all n = refl
-both-at Related f same [] (y ∷ ys) all n = absurd all
-both-at Related f same (x ∷ xs) [] all n = absurd all
 both-at Related f same (x ∷ xs) (y ∷ ys) all zero = ap Some (same x y all.0)
 both-at Related f same (x ∷ xs) (y ∷ ys) all (suc n) = both-at Related f same xs ys all.1 n
+both-at Related f same _ _ all n = absurd all
 
 both-mapped : {X Y : Type 0} (Related : X → X → Type 0) (f g : X → Y) → ((x y : X) → Related x y → g y ≡ f x) → (xs ys : List X) → AllPairs Related xs ys → map g ys ≡ map f xs
 both-mapped Related f g same [] [] all = refl
-both-mapped Related f g same [] (y ∷ ys) all = absurd all
-both-mapped Related f g same (x ∷ xs) [] all = absurd all
 both-mapped Related f g same (x ∷ xs) (y ∷ ys) all = λ i. same x y all.0 i ∷ both-mapped Related f g same xs ys all.1 i
+both-mapped Related f g same _ _ all = absurd all
 
 both-given : {X Y : Type 0} (Related : X → X → Type 0) (f g : X → Option Y) → ((x y : X) → Related x y → g y ≡ f x) → (xs ys : List X) → AllPairs Related xs ys → filter_map g ys ≡ filter_map f xs
 both-given Related f g same [] [] all = refl
-both-given Related f g same [] (y ∷ ys) all = absurd all
-both-given Related f g same (x ∷ xs) [] all = absurd all
 both-given Related f g same (x ∷ xs) (y ∷ ys) all = λ i. cons_option (same x y all.0 i) (both-given Related f g same xs ys all.1 i)
+both-given Related f g same _ _ all = absurd all
 
 module _ (r s : Resolve) (packages : AllPairs IsSamePackage r.packages.items s.packages.items) (interfaces : s.interfaces.items ≡ r.interfaces.items) (types : s.types.items ≡ r.types.items) where
   -- ---- paths
@@ -111,17 +108,15 @@ module _ (r s : Resolve) (packages : AllPairs IsSamePackage r.packages.items s.p
       where
         along : (vs ws : List World) → AllPairs IsSameWorld vs ws → (n : ℕ) → option_map_or g (slice_get ws n) d ≡ option_map_or f (slice_get vs n) d
         along [] [] all n = refl
-        along [] (w ∷ ws) all n = absurd all
-        along (v ∷ vs) [] all n = absurd all
         along (v ∷ vs) (w ∷ ws) all zero = same v w all.0
         along (v ∷ vs) (w ∷ ws) all (suc n) = along vs ws all.1 n
+        along _ _ all n = absurd all
 
     same-bound : (n : ℕ) → world_meaning_at s n ≡ world_meaning_at r n
     same-bound n = world-by (world_meaning r) (world_meaning s) no_world same-world n
 
     as-given : {Y : Type 0} (f : World → Option Y) (o : Option World) → option_and_then f o ≡ option_map_or f o None
-    as-given f None = refl
-    as-given f (Some w) = refl
+    as-given f x = search std_rules
 
     same-bound_path : (n : ℕ) → world_path_at s n ≡ world_path_at r n
     same-bound_path n = ap (λ o. unwrap_or o []) (as-given (path_of_world s) (world_at s n)

@@ -26,8 +26,7 @@ pub then_some : (p q t first : Text) (rest : Option Text) → Some first ≡ aft
 then_some p q t first rest found h = h ∙ ap (option_and_then (after_prefix q)) found ∙ sym (after_both p q t)
 
 -- the parts of a path
-pub path_parts : (space name interface end : Text)
-    → ((space ++ (58 ∷ [])) ++ (name ++ (47 ∷ []))) ++ (interface ++ end) ≡ space ++ (58 ∷ (name ++ (47 ∷ (interface ++ end))))
+pub path_parts : (space name interface end : Text) → ((space ++ (58 ∷ [])) ++ (name ++ (47 ∷ []))) ++ (interface ++ end) ≡ space ++ (58 ∷ (name ++ (47 ∷ (interface ++ end))))
 path_parts space name interface end = search (std_rules, append_assoc)
 
 -- a key is its scope and a slash, and the function's name
@@ -45,8 +44,7 @@ no_slash_in : (front function name : Text) → has_slash name ≡ false → text
 no_slash_in front function name bare = by (text_eq (text_under front function) name) refl
   where
     by : (b : Bool) → text_eq (text_under front function) name ≡ b → b ≡ false
-    by true same =
-        absurd (true≢false (sym (slash_within front function) ∙ ap has_slash (text_same (text_under front function) name same) ∙ bare))
+    by true same = absurd (true≢false (sym (slash_within front function) ∙ ap has_slash (text_same (text_under front function) name same) ∙ bare))
     by false other = refl
 
 -- what is left of the front of a key, behind the scope, is compared with the function

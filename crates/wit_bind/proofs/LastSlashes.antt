@@ -6,14 +6,11 @@ use Rattle.wit_bind.specs.Cuts.{IsLastSlash}
 
 lacks : (xs : List ℕ) → ((i : ℕ) → i < length xs → get_or xs i 0 ≡ 47 → ⊥) → list_any (λ b. b == 47) xs ≡ false
 lacks [] h = refl
-lacks (x ∷ xs) h =
-    ap (λ b. b || list_any (λ y. y == 47) xs) (ne_eqb x 47 (h 0 (omega arith)))
-    ∙ lacks xs (λ i below e. h (suc i) (omega (arith, below)) e)
+lacks (x ∷ xs) h = ap (λ b. b || list_any (λ y. y == 47) xs) (ne_eqb x 47 (h 0 (omega arith))) ∙ lacks xs (λ i below e. h (suc i) (omega (arith, below)) e)
 
 pub last_slash_found : (text : List ℕ) (r : Option (Bor (List ℕ) × Bor (List ℕ)))
     → MatchOption r (RFindsChar 47 text None) (λ x. (i : ℕ) × (j : ℕ) × RFindsChar 47 text (Some (i, j)) × (x.0.now ≡ take i text) × (x.1.now ≡ drop j text) × (i ≤ j) × (length x.0.now ≡ i)
-    × (length x.1.now + j ≡ length text))
-    → IsLastSlash text r
+    × (length x.1.now + j ≡ length text)) → IsLastSlash text r
 last_slash_found text None h = lacks text (λ i below. NoCharPasses-char 47 text i h (lit< tt) below)
 last_slash_found text (Some x) h =
     let i = h.0 in

@@ -70,8 +70,7 @@ module _ (own other : Bindgen) (o : IsBindgen own) (t : IsBindgen other) (can : 
       record { id = id.0; at_id = at; old = i.0; found = i.1; name = name.0; named_ = name.1; own_of = i.2; path = path.0; path_is = path.1 }
 
   own-there : (n : ℕ) (x : IsMet n) → interface_path r x.id.0 ≡ Some x.path
-  own-there n x =
-      own-interface-has r s o.valid t.valid m.packages.items matched.packages n x.old x.found x.path (sym (ap (option_and_then (path_of_interface s)) x.found) ∙ x.path_is) x.id x.own_of
+  own-there n x = own-interface-has r s o.valid t.valid m.packages.items matched.packages n x.old x.found x.path (sym (ap (option_and_then (path_of_interface s)) x.found) ∙ x.path_is) x.id x.own_of
 
   pub matched-with : (c : CarriedThings) → IsNumbered r s m c → AreMatchedAt r s m.interfaces.items c.packages.items
   matched-with c u n h =
@@ -98,12 +97,10 @@ module _ (own other : Bindgen) (o : IsBindgen own) (t : IsBindgen other) (can : 
       let number : g.0.0 ≡ here.home.0
       = package-once r o.valid here.home.0 g.0.0 here.package_ found.there here.stands found.at_there
       ((same_name here.package_.name found.there.name ours.version again.version).1 (parts.0 ∙ identities)) in
-      let under : number_under c.packages.items there.home.0 ≡ g.0.0 =
-      ap (λ l. number_under l there.home.0) u.packages
+      let under : number_under c.packages.items there.home.0 ≡ g.0.0 = ap (λ l. number_under l there.home.0) u.packages
       ∙ (uncopied_under (length r.packages.items) c.new_packages.items (map package_number m.packages.items) there.home.0
       (ap length u.new_packages ∙ (length-map m.packages.items is_none ∙ sym (length-map m.packages.items package_number)))
-      (numbered-flag c.new_packages.items m.packages.items there.home.0 g.0 u.new_packages at)
-      ∙ found_number m.packages.items there.home.0 g.0 at)
+      (numbered-flag c.new_packages.items m.packages.items there.home.0 g.0 u.new_packages at) ∙ found_number m.packages.items there.home.0 g.0 at)
       in
       let meant : interface_meaning_at r x.id.0 ≡ interface_meaning r here.def = ap (λ (y : Option Interface). option_map_or (interface_meaning r) y no_interface) here.there in
       let other_meant : interface_meaning_at s n ≡ interface_meaning s x.old = ap (λ (y : Option Interface). option_map_or (interface_meaning s) y no_interface) x.found in
@@ -119,10 +116,8 @@ module _ (own other : Bindgen) (o : IsBindgen own) (t : IsBindgen other) (can : 
         name = ap optional_text here.named_ ∙ (ap Some parts.1 ∙ sym (ap optional_text (ap (λ (y : Interface). y.name) (sym old) ∙ there.named_)));
         in_package = ap rules.package_number here.in_package ∙ (ap Some (sym (under ∙ number)) ∙ sym
             (ap (λ (y : Option PackageId). option_map (number_under c.packages.items) (rules.package_number y)) home));
-        sense = ap interface_sense (sym meant)
-            ∙ (agreed interface_sense (get (binding_of own).interfaces x.path) (get (binding_of other).interfaces x.path) (interface_meaning_at r x.id.0) (interface_meaning_at s n)
-            (can.interfaces x.path)
-            (interface-found r o.valid x.id.0 x.path (own-there n x)) (interface-found s t.valid n x.path x.path_is)
+        sense = ap interface_sense (sym meant) ∙ (agreed interface_sense (get (binding_of own).interfaces x.path) (get (binding_of other).interfaces x.path) (interface_meaning_at r x.id.0)
+            (interface_meaning_at s n) (can.interfaces x.path) (interface-found r o.valid x.id.0 x.path (own-there n x)) (interface-found s t.valid n x.path x.path_is)
             ∙ ap interface_sense other_meant);
       }
 

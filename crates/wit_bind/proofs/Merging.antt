@@ -1,6 +1,6 @@
 -- What comes of two bindings that don't clash, once all that the one brings is added to the other.
 use Rattle.std.proofs.Common.{rules as std_rules, ◌≡◌, refl, sym, ap, ◌∙◌, inl, inr, arith, ℕ, zero, suc, ◌≤◌, Bool, true, false, ◌&&◌, List, [], ◌∷◌, ◌++◌, length, map, Option, Some, is_none, slice_get, slice_set, String, Contains, subst}
-use Rattle.std.proofs.lemmas.{Bool.and_from as both, Bool.cases_lt as either, List.map-append, Option.slice_get_within, Option.same_Some as same-some}
+use Rattle.std.proofs.lemmas.{Bool.and_from as both, Bool.cases_lt as either, List.map-append, List.Folds.list_all-map, Option.slice_get_within, Option.same_Some as same-some}
 use Rattle.std.specs.{List.filter, List.list_all, List.AllZip, List.IsDistinct, Map.keys_of, String.string_eq, Option.option_map_or}
 use Rattle.std.specs.declared.alloc.Global.{Global}
 use Rattle.indexmap.specs.IndexMap.{values, IsUnique}
@@ -51,9 +51,8 @@ bare_same d e s t docs view h = search std_rules
 
 zip_all : {X Y : Type 0} (R : X → Y → Type 0) (q : Y → Bool) (xs : List X) (ys : List Y) → ((x : X) (y : Y) → Contains xs x → R x y → q y ≡ true) → AllZip R xs ys → list_all q ys ≡ true
 zip_all R q [] [] f zip = refl
-zip_all R q [] (y ∷ ys) f zip = absurd zip
-zip_all R q (x ∷ xs) [] f zip = refl
 zip_all R q (x ∷ xs) (y ∷ ys) f zip = both (q y) (list_all q ys) (f x y (0, omega arith, refl) zip.0) (zip_all R q xs ys (λ a b c r. f a b (contains-later x xs a c) r) zip.1)
+zip_all R q _ _ f zip = absurd zip
 
 set_all : {X : Type 0} (p : X → Bool) (xs : List X) (n : ℕ) (x : X) → list_all p xs ≡ true → p x ≡ true → list_all p (slice_set xs n x) ≡ true
 set_all p [] n x h k = refl
@@ -61,11 +60,10 @@ set_all p (y ∷ ys) zero x h k = both (p x) (list_all p ys) k (second_true (p y
 set_all p (y ∷ ys) (suc n) x h k = both (p y) (list_all p (slice_set ys n x)) (first_true (p y) (list_all p ys) h) (set_all p ys n x (second_true (p y) (list_all p ys) h) k)
 
 kept_from : {X : Type 0} (flags : List Bool) (xs : List X) (x : X) → Contains (kept flags xs) x → Contains xs x
-kept_from [] xs x h = let k = contains-get [] x h in let wrong : ⊥ = cc in absurd wrong
-kept_from (b ∷ bs) [] x h = let k = contains-get [] x h in let wrong : ⊥ = cc in absurd wrong
 kept_from (false ∷ bs) (y ∷ ys) x h = contains-later y ys x (kept_from bs ys x h)
 kept_from (true ∷ bs) (y ∷ ys) x (zero, l, e) = (0, omega arith, e)
 kept_from (true ∷ bs) (y ∷ ys) x (suc n, l, e) = contains-later y ys x (kept_from bs ys x (n, omega (arith, l), e))
+kept_from _ _ x h = let k = contains-get [] x h in let wrong : ⊥ = cc in absurd wrong
 
 -- ---- types
 
@@ -97,13 +95,10 @@ function_bare numbers old new is h = bare_same old.docs new.docs old.stability n
 
 functions_bare : (numbers : List ℕ) (olds news : List (String Global × Function)) → AllZip (IsFunctionEntryUnder numbers) olds news
     → list_all is_bare_function (map (λ (e : String Global × Function). e.1) olds) ≡ true → list_all is_bare_function (map (λ (e : String Global × Function). e.1) news) ≡ true
-functions_bare numbers [] [] zip h = refl
-functions_bare numbers [] (y ∷ ys) zip h = absurd zip
-functions_bare numbers (x ∷ xs) [] zip h = refl
-functions_bare numbers (x ∷ xs) (y ∷ ys) zip h =
-    both (is_bare_function y.1) (list_all is_bare_function (map (λ (e : String Global × Function). e.1) ys))
-    (function_bare numbers x.1 y.1 zip.0.1 (first_true (is_bare_function x.1) (list_all is_bare_function (map (λ (e : String Global × Function). e.1) xs)) h))
-    (functions_bare numbers xs ys zip.1 (second_true (is_bare_function x.1) (list_all is_bare_function (map (λ (e : String Global × Function). e.1) xs)) h))
+functions_bare numbers olds news zip h = list_all-map is_bare_function (λ (e : String Global × Function). e.1) news
+    ∙ zip_all (IsFunctionEntryUnder numbers) (λ (e : String Global × Function). is_bare_function e.1) olds news
+    (λ x y held z. function_bare numbers x.1 y.1 z.1 (all-contained is_bare_function (map (λ (e : String Global × Function). e.1) olds) x.1 h
+    (contains-map (λ (e : String Global × Function). e.1) olds x held))) zip
 
 interface_bare : (numbers : List ℕ) (home : Option PackageId) (old new : Interface) → IsInterfaceUnder numbers home old new → IsUnique string_eq old.functions → is_bare_interface old ≡ true
     → is_bare_interface new ≡ true
@@ -117,21 +112,13 @@ item_bare interfaces types x y is h = search std_rules
 abbrev items : List (WorldKey × WorldItem) → List WorldItem
 items es = map (λ (e : WorldKey × WorldItem). e.1) es
 
-items_bare : (interfaces types : List ℕ) (olds news : List (WorldKey × WorldItem)) → AllZip (IsEntryUnder interfaces types) olds news
-    → ((e : WorldKey × WorldItem) → Contains olds e → is_bare_item e.1 ≡ true) → list_all is_bare_item (items news) ≡ true
-items_bare interfaces types [] [] zip h = refl
-items_bare interfaces types [] (y ∷ ys) zip h = absurd zip
-items_bare interfaces types (x ∷ xs) [] zip h = refl
-items_bare interfaces types (x ∷ xs) (y ∷ ys) zip h =
-    both (is_bare_item y.1) (list_all is_bare_item (items ys)) (item_bare interfaces types x.1 y.1 zip.0.1 (h x (0, omega arith, refl)))
-    (items_bare interfaces types xs ys zip.1 (λ e held. h e (contains-later x xs e held)))
-
 -- those of a list that pass a test, where all items of the list are bare
 chosen_bare : (interfaces types : List ℕ) (test : WorldKey × WorldItem → Bool) (olds news : List (WorldKey × WorldItem)) → AllZip (IsEntryUnder interfaces types) (filter test olds) news
     → list_all is_bare_item (items olds) ≡ true → list_all is_bare_item (items news) ≡ true
-chosen_bare interfaces types test olds news zip h =
-    items_bare interfaces types (filter test olds) news zip
-    (λ e held. all-contained is_bare_item (items olds) e.1 h (contains-map (λ (x : WorldKey × WorldItem). x.1) olds e (from-filter test olds e held).0))
+chosen_bare interfaces types test olds news zip h = list_all-map is_bare_item (λ (e : WorldKey × WorldItem). e.1) news
+    ∙ zip_all (IsEntryUnder interfaces types) (λ (e : WorldKey × WorldItem). is_bare_item e.1) (filter test olds) news
+    (λ x y held z. item_bare interfaces types x.1 y.1 z.1 (all-contained is_bare_item (items olds) x.1 h
+    (contains-map (λ (e : WorldKey × WorldItem). e.1) olds x (from-filter test olds x held).0))) zip
 
 -- ---- worlds
 
@@ -151,17 +138,15 @@ module _ (w : World) (h : is_bare_world w ≡ true) where
   exports_are : list_all is_bare_item (values w.exports) ≡ true
   exports_are = second_true (list_all is_bare_item (values w.imports)) (list_all is_bare_item (values w.exports)) (second_true (own_bare w) (both_bare w) h)
 
-world_bare : (c : CarriedThings) (types : List ℕ) (old new : World) → IsWorldCarried c types old new
-    → IsDistinct (become_one c.interfaces.items) (keys_of old.imports.entries) × IsDistinct (become_one c.interfaces.items) (keys_of old.exports.entries) → is_bare_world old ≡ true
-    → is_bare_world new ≡ true
+world_bare : (c : CarriedThings) (types : List ℕ) (old new : World) → IsWorldCarried c types old new → IsDistinct (become_one c.interfaces.items) (keys_of old.imports.entries)
+    × IsDistinct (become_one c.interfaces.items) (keys_of old.exports.entries) → is_bare_world old ≡ true → is_bare_world new ≡ true
 world_bare c types old new is apart h = search (std_rules, both, bare_same, own_is, chosen_bare, imports_are, exports_are)
 
 module _ (own other merged : Resolve) (valid_own : IsValid own) (valid_other : IsValid other) (world k : ℕ) (m : Matches) (w v : World) (added : Added) (keys : List WorldKey)
-    (u : IsUnionOf own other world k m w v added keys) (a : IsAdded key_eq world added own merged)
-    (at_own : world_at own world ≡ Some w) (at : world_at other k ≡ Some v) (all : AreMatchedAll other m) (same : AreMatchedAt own other m.interfaces.items u.carried.packages.items)
-    (none : NoneOfPath own other m.interfaces.items)
-    (grown : Extends own merged world) (sourced : (n : ℕ) (y : TypeDef) → length own.types.items ≤ n → type_at merged n ≡ Some y → (k : ℕ) × (def : TypeDef) × (type_at other k ≡ Some def)
-    × (type_notes y ≡ type_notes def)) (ours : IsBare own) (theirs : IsBare other) where
+    (u : IsUnionOf own other world k m w v added keys) (a : IsAdded key_eq world added own merged) (at_own : world_at own world ≡ Some w) (at : world_at other k ≡ Some v) (all : AreMatchedAll other m)
+    (same : AreMatchedAt own other m.interfaces.items u.carried.packages.items) (none : NoneOfPath own other m.interfaces.items) (grown : Extends own merged world)
+    (sourced : (n : ℕ) (y : TypeDef) → length own.types.items ≤ n → type_at merged n ≡ Some y → (k : ℕ) × (def : TypeDef) × (type_at other k ≡ Some def) × (type_notes y ≡ type_notes def))
+    (ours : IsBare own) (theirs : IsBare other) where
   abbrev c : CarriedThings
   c = u.carried
 
@@ -183,9 +168,7 @@ module _ (own other merged : Resolve) (valid_own : IsValid own) (valid_other : I
           ap test here ∙ (ap is_undocumented x.2.docs ∙ at_all test own.packages.items n p.0 ours.packages p.1)
 
   new_packages : list_all test added.packages.items ≡ true
-  new_packages =
-      ap (list_all test) u.second.packages
-      ∙ zip_all (IsPackageCarried c) test (kept c.new_packages.items other.packages.items) u.before.packages.items
+  new_packages = ap (list_all test) u.second.packages ∙ zip_all (IsPackageCarried c) test (kept c.new_packages.items other.packages.items) u.before.packages.items
       (λ x y held is. none_same x.docs.contents y.docs.contents is.docs (all-contained test other.packages.items x theirs.packages (kept_from c.new_packages.items other.packages.items x held)))
       u.first.packages
 
@@ -202,8 +185,7 @@ module _ (own other merged : Resolve) (valid_own : IsValid own) (valid_other : I
       interface_bare numbers home x y is (valid_other.distinct_keys.interfaces place.0 x place.1).1 (all-contained is_bare_interface other.interfaces.items x theirs.interfaces there)
 
   new_interfaces : Inline added.interfaces.items
-  new_interfaces =
-      ap (list_all is_bare_interface) u.second.inline_copied.behind
+  new_interfaces = ap (list_all is_bare_interface) u.second.inline_copied.behind
       ∙ joined_all is_bare_interface u.before.interfaces.items u.second.inline_copied.more
       (zip_all (IsInterfaceCarried c u.types) is_bare_interface (kept c.copied_interfaces.items other.interfaces.items) u.before.interfaces.items
       (λ x y held is. one_interface c.copied_interfaces.items u.types _ x y held is) u.first.interfaces)
@@ -242,22 +224,17 @@ module _ (own other merged : Resolve) (valid_own : IsValid own) (valid_other : I
   behind whole here more is h l = search (std_rules, map-append, joined_all)
 
   bound_world : is_bare_world x ≡ true
-  bound_world =
-      both (own_bare x) (both_bare x) ((λ i. is_bare (gained.docs i) (gained.stability i)) ∙ own_is w own_world)
+  bound_world = both (own_bare x) (both_bare x) ((λ i. is_bare (gained.docs i) (gained.stability i)) ∙ own_is w own_world)
       (both (list_all is_bare_item (values x.imports)) (list_all is_bare_item (values x.exports))
       (behind x.imports.entries w.imports.entries added.imports.entries (gained.imports ∙ imports_behind own other valid_own valid_other world k m w v added keys u at all same none)
-      (imports_are w own_world)
-      (chosen_bare u.second.interfaces u.second.types (λ (e : WorldKey × WorldItem). is_new_under u.second.interfaces w.imports.entries e.0) v.imports.entries added.imports.entries
-      (u.second.imports (imports_apart own other valid_own valid_other world k m w v added keys u at all same none)) (imports_are v other_world)))
+      (imports_are w own_world) (chosen_bare u.second.interfaces u.second.types (λ (e : WorldKey × WorldItem). is_new_under u.second.interfaces w.imports.entries e.0) v.imports.entries
+      added.imports.entries (u.second.imports (imports_apart own other valid_own valid_other world k m w v added keys u at all same none)) (imports_are v other_world)))
       (behind x.exports.entries w.exports.entries added.exports.entries (gained.exports ∙ exports_behind own other valid_own valid_other world k m w v added keys u at all same none)
-      (exports_are w own_world)
-      (chosen_bare u.second.interfaces u.second.types (λ (e : WorldKey × WorldItem). is_new_under u.second.interfaces w.exports.entries e.0) v.exports.entries added.exports.entries
-      (u.second.exports (exports_apart own other valid_own valid_other world k m w v added keys u at all same none)) (exports_are v other_world))))
+      (exports_are w own_world) (chosen_bare u.second.interfaces u.second.types (λ (e : WorldKey × WorldItem). is_new_under u.second.interfaces w.exports.entries e.0) v.exports.entries
+      added.exports.entries (u.second.exports (exports_apart own other valid_own valid_other world k m w v added keys u at all same none)) (exports_are v other_world))))
 
   new_worlds : list_all is_bare_world added.worlds.items ≡ true
-  new_worlds =
-      ap (list_all is_bare_world) u.second.worlds
-      ∙ zip_all (IsWorldCarried c u.types) is_bare_world (kept c.copied_worlds.items other.worlds.items) u.before.worlds.items one u.first.worlds
+  new_worlds = ap (list_all is_bare_world) u.second.worlds ∙ zip_all (IsWorldCarried c u.types) is_bare_world (kept c.copied_worlds.items other.worlds.items) u.before.worlds.items one u.first.worlds
     where
       one : (y z : World) → Contains (kept c.copied_worlds.items other.worlds.items) y → IsWorldCarried c u.types y z → is_bare_world z ≡ true
       one y z held is =
@@ -322,8 +299,7 @@ module _ (own other new : Bindgen) (o : IsBindgen own) (t : IsBindgen other) (ca
     second = second_pass_of r s p.matches planned.carried own.world.0 other.world.0 w v planned.second.copied planned.second.interfaces planned.types planned.second.types;
     left_out = is_left_out s;
     merged = unions_are_merged r s new.resolve own.world.0 other.world.0 p.matches w v added keys planned o.valid t.valid g.all_added p.few bound.1 other-bound.1 p.matched.packages
-        p.matched.interfaces p.matched.worlds
-        paths.1 paths.2 agree.bound agree.no_world agree.no_interface;
+        p.matched.interfaces p.matched.worlds paths.1 paths.2 agree.bound agree.no_world agree.no_interface;
     root = root-left-out;
     distinct = unions_have_distinct_keys r s new.resolve own.world.0 other.world.0 p.matches w v added keys planned o.valid t.valid g.all_added bound.1 other-bound.1 paths.0 paths.1 paths.2;
     world = g.world;
@@ -354,16 +330,13 @@ module _ (own other new : Bindgen) (o : IsBindgen own) (t : IsBindgen other) (ca
   pub merged_exports : map key_view (export_keys new.resolve new.world.0) ≡ map key_view (export_keys r own.world.0 ++ keys)
   merged_exports =
       let x = merged_extend.bound_world w bound.1 in
-      ap (λ k. map key_view (export_keys new.resolve k)) number
-      ∙ (ap (λ y. map key_view (option_map_or (λ (z : World). keys_of z.exports.entries) y [])) x.1
+      ap (λ k. map key_view (export_keys new.resolve k)) number ∙ (ap (λ y. map key_view (option_map_or (λ (z : World). keys_of z.exports.entries) y [])) x.1
       ∙ (exports_come_behind r s new.resolve own.world.0 other.world.0 p.matches w v added keys planned o.valid t.valid g.all_added bound.1 other-bound.1 paths.0 paths.1 paths.2
-      agree.bound.exports x.0 x.1
-      ∙ sym (ap (λ y. map key_view (option_map_or (λ (z : World). keys_of z.exports.entries) y [] ++ keys)) bound.1)))
+      agree.bound.exports x.0 x.1 ∙ sym (ap (λ y. map key_view (option_map_or (λ (z : World). keys_of z.exports.entries) y [] ++ keys)) bound.1)))
 
   pub merged_answer : map (key_text new.resolve) keys ≡ map (key_text s) (export_keys s other.world.0)
-  merged_answer =
-      keys_keep_texts r s new.resolve own.world.0 other.world.0 p.matches w v added keys planned o.valid t.valid g.all_added bound.1 other-bound.1 paths.0 p.matched.packages paths.1 paths.2
-      ∙ sym (ap (λ y. map (key_text s) (option_map_or (λ (x : World). keys_of x.exports.entries) y [])) other-bound.1)
+  merged_answer = keys_keep_texts r s new.resolve own.world.0 other.world.0 p.matches w v added keys planned o.valid t.valid g.all_added bound.1 other-bound.1 paths.0 p.matched.packages paths.1
+      paths.2 ∙ sym (ap (λ y. map (key_text s) (option_map_or (λ (x : World). keys_of x.exports.entries) y [])) other-bound.1)
 
   -- ---- what is said of what is new
 
@@ -381,8 +354,7 @@ module _ (own other new : Bindgen) (o : IsBindgen own) (t : IsBindgen other) (ca
 
   -- each type that comes is one of the other's
   type_comes : (n : ℕ) (y : TypeDef) → length r.types.items ≤ n → type_at new.resolve n ≡ Some y → IsTypeOf s new.resolve n y
-  type_comes =
-      type_brought r s new.resolve o.valid t.valid own.world.0 other.world.0 w v p.matches planned.carried planned.types passes.0 planned.second.copied planned.second.interfaces
+  type_comes = type_brought r s new.resolve o.valid t.valid own.world.0 other.world.0 w v p.matches planned.carried planned.types passes.0 planned.second.copied planned.second.interfaces
       planned.second.types passes.1 merged_are_the_union.0.valid
 
   pub merged_brings : BringsItsOwn own other new
@@ -408,13 +380,11 @@ module _ (own other new : Bindgen) (o : IsBindgen own) (t : IsBindgen other) (ca
         let theirs : v ≡ b = same-some v b (sym other-bound.1 ∙ at_b) in
         subst (λ (y : World). Gained y b x) ours (subst (λ (y : World). Gained w y x) theirs
         (bound_brought r s new.resolve o.valid t.valid own.world.0 other.world.0 w v p.matches planned.carried planned.types passes.0 planned.second.copied planned.second.interfaces
-        planned.second.types passes.1 merged_are_the_union.0.valid own-paths x
-        (sym (ap (world_at new.resolve) number) ∙ at_x)));
+        planned.second.types passes.1 merged_are_the_union.0.valid own-paths x (sym (ap (world_at new.resolve) number) ∙ at_x)));
     types = type_comes;
   }
 
   -- where neither side has documentation or a known stability, there is none
   pub merged_bare : IsBare r → IsBare s → IsBare new.resolve
-  merged_bare =
-      merged_is_bare r s new.resolve o.valid t.valid own.world.0 other.world.0 p.matches w v added keys planned g.all_added bound.1 other-bound.1 paths.0 paths.1 paths.2 merged_extend
+  merged_bare = merged_is_bare r s new.resolve o.valid t.valid own.world.0 other.world.0 p.matches w v added keys planned g.all_added bound.1 other-bound.1 paths.0 paths.1 paths.2 merged_extend
       (λ n y high at. let is = type_comes n y high at in (is.source, is.def, is.found, is.notes))

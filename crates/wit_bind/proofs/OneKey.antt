@@ -1,5 +1,5 @@
 -- In a valid `Resolve` functions of a world that share a key shared their key without version.
-use Rattle.std.proofs.Common.{◌≡◌, refl, sym, ap, subst, ◌∙◌, ℕ, true, [], ◌∷◌, ◌++◌, append_assoc, Option, Some, None, option_map, option_and_then, String, Result, Ok, Err, IfOk}
+use Rattle.std.proofs.Common.{rules as std_rules, ◌≡◌, refl, sym, ap, subst, ◌∙◌, ℕ, true, [], ◌∷◌, ◌++◌, append_assoc, append-nil, Option, Some, None, option_map, option_and_then, String, Result, Ok, Err, IfOk}
 use Rattle.std.proofs.lemmas.{List.Elements.Contains-append_left, List.Elements.Contains-append_right, List.append_cancel_right, Option.same_Some as same-some}
 use Rattle.std.specs.{List.Contains, Option.option_map_or}
 use Rattle.std.specs.declared.alloc.Global.{Global}
@@ -12,6 +12,7 @@ use Rattle.wit_bind.specs.{Keys.function_key, Keys.text_under, Keys.unversioned,
 use Rattle.wit_bind.specs.Functions.{Items}
 use Rattle.wit_bind.specs.OldKeys.{IsFunctionOf, itself, member, items_of, items_on, CarriesEach, CarriesOver, HadEncoding, OneOldKey}
 use Rattle.wit_bind.specs.declared.encodings.Side.{Side}
+use Rattle.bind_meaning.proofs.Listed.{given, mapped}
 use Rattle.bind_meaning.proofs.KeyNames.{Lacks, colon, goes-on, key_lacks, last_cut, lacks-both, listed_lacks, same_cut, slash}
 use Rattle.wit_bind.proofs.ValidKeys.{canonical-by-name}
 use Rattle.base_lemmas.proofs.Bools.{left_of as first_true, right_of as second_true}
@@ -33,33 +34,19 @@ module _ (r : Resolve) (v : IsValid r) where
   interface-label n i at = first_true (passes (λ name. is_label (text_of name)) i.name) _ (interface-passes labels r v.rules.labels n i at)
 
   are_named : (n : ℕ) (e : PackageName × String Global) → full_name r n ≡ Some e → AreNamed r n e
-  are_named n e h = of_interface (interface_at r n) refl h
-    where
-      of_package : (t : String Global) → is_label (text_of t) ≡ true → (m : ℕ) → (o : Option Package) → package_at r m ≡ o → option_map (λ p. (p.name, t)) o ≡ Some e → AreNamed r n e
-      of_package t label m None at h = absurd (let z : ⊥ = cc in z)
-      of_package t label m (Some p) at h =
-          let same : (p.name, t) ≡ e = same-some (p.name, t) e h in
-          let named = (package-name r v m p at).identity in
-          subst (AreNamed r n) same (record {
-            namespace = first_true (is_label (text_of p.name.namespace)) _ named;
-            name = first_true (is_label (text_of p.name.name)) _ (second_true (is_label (text_of p.name.namespace)) _ named);
-            own = label;
-          })
-
-      of_home : (t : String Global) → is_label (text_of t) ≡ true → (o : Option PackageId) → option_map (λ p. (p.name, t)) (option_and_then (λ q. package_at r q.0) o) ≡ Some e → AreNamed r n e
-      of_home t label None h = absurd (let z : ⊥ = cc in z)
-      of_home t label (Some q) h = of_package t label q.0 (package_at r q.0) refl h
-
-      of_name : (i : Interface) → (o : Option (String Global)) → passes (λ name. is_label (text_of name)) o ≡ true
-          → option_and_then (λ t. option_map (λ p. (p.name, t)) (option_and_then (λ q. package_at r q.0) i.package)) o ≡ Some e → AreNamed r n e
-      of_name i None label h = absurd (let z : ⊥ = cc in z)
-      of_name i (Some t) label h = of_home t label i.package h
-
-      of_interface : (o : Option Interface) → interface_at r n ≡ o
-          → option_and_then (λ i. option_and_then (λ t. option_map (λ p. (p.name, t)) (option_and_then (λ j. option_and_then (λ q. package_at r q.0) j.package) o)) i.name) o ≡ Some e
-          → AreNamed r n e
-      of_interface None at h = absurd (let z : ⊥ = cc in z)
-      of_interface (Some i) at h = of_name i i.name (interface-label n i at) h
+  are_named n e h =
+      let home : Option Package = option_and_then (λ (j : Interface). option_and_then (λ (q : PackageId). package_at r q.0) j.package) (interface_at r n) in
+      let i = given (λ (i : Interface). option_and_then (λ (t : String Global). option_map (λ (p : Package). (p.name, t)) home) i.name) (interface_at r n) e h in
+      let t = given (λ (t : String Global). option_map (λ (p : Package). (p.name, t)) home) i.0.name e i.2 in
+      let p = mapped (λ (p : Package). (p.name, t.0)) home e t.2 in
+      let j = given (λ (j : Interface). option_and_then (λ (q : PackageId). package_at r q.0) j.package) (interface_at r n) p.0 p.1 in
+      let q = given (λ (q : PackageId). package_at r q.0) j.0.package p.0 j.2 in
+      let named = (package-name r v q.0.0 p.0 q.2).identity in
+      subst (AreNamed r n) p.2 (record {
+        namespace = first_true (is_label (text_of p.0.name.namespace)) _ named;
+        name = first_true (is_label (text_of p.0.name.name)) _ (second_true (is_label (text_of p.0.name.namespace)) _ named);
+        own = ap (passes (λ name. is_label (text_of name))) (sym t.1) ∙ interface-label n i.0 i.1;
+      })
 
 -- the canonical path, cut into its parts
 abbrev end_of : PackageName → Text
@@ -67,24 +54,15 @@ end_of p = at_version (canonical_identity_of p).version
 
 -- what an interface's name and its version's canonical part tell
 same_front : (a b : Text) (x y : Option Text) → Lacks 64 a → Lacks 64 b → a ++ at_version x ≡ b ++ at_version y → a ≡ b
-same_front a b None None h k same = sym (no_end a) ∙ (same ∙ no_end b)
-  where
-    no_end : (t : Text) → t ++ [] ≡ t
-    no_end [] = refl
-    no_end (z ∷ t) = ap (λ u. z ∷ u) (no_end t)
+same_front a b None None h k same = sym (append-nil a) ∙ (same ∙ append-nil b)
 same_front a b None (Some y) h k same = absurd (goes-on 64 b y (subst (Lacks 64) same (lacks-both 64 a [] h refl)))
 same_front a b (Some x) None h k same = absurd (goes-on 64 a x (subst (Lacks 64) (sym same) (lacks-both 64 b [] k refl)))
 same_front a b (Some x) (Some y) h k same = (same_cut 64 a x b y h k same).0
 
 -- two canonical paths that are one are of one interface but for its version
 same_path : (p q : PackageName) (s t : String Global) → Lacks 58 (text_of p.namespace) → Lacks 58 (text_of q.namespace) → Lacks 47 (text_of p.name) → Lacks 47 (text_of q.name) → Lacks 64 (text_of s)
-    → Lacks 64 (text_of t)
-    → path_in (canonical_identity_of p) (text_of s) ≡ path_in (canonical_identity_of q) (text_of t) → path_in (unversioned p) (text_of s) ≡ path_in (unversioned q) (text_of t)
-same_path p q s t a b c d e f same =
-    let first = same_cut 58 (text_of p.namespace) _ (text_of q.namespace) _ a b same in
-    let second = same_cut 47 (text_of p.name) _ (text_of q.name) _ c d first.1 in
-    let third = same_front (text_of s) (text_of t) (canonical_identity_of p).version (canonical_identity_of q).version e f second.1 in
-    λ i. first.0 i ++ (58 ∷ (second.0 i ++ (47 ∷ (third i ++ []))))
+    → Lacks 64 (text_of t) → path_in (canonical_identity_of p) (text_of s) ≡ path_in (canonical_identity_of q) (text_of t) → path_in (unversioned p) (text_of s) ≡ path_in (unversioned q) (text_of t)
+same_path p q s t a b c d e f same = search (std_rules, same_cut, same_front)
 
 -- ---- keys
 
@@ -97,10 +75,8 @@ module _ (r : Resolve) (v : IsValid r) where
       let space = text_of e.0.namespace in
       let own = text_of e.0.name in
       let rest : Text = (text_of e.1 ++ end_of e.0) ++ (47 ∷ g) in
-      let parts : path_in (canonical_identity_of e.0) (text_of e.1) ++ (47 ∷ g) ≡ (space ++ (58 ∷ own)) ++ (47 ∷ rest) =
-      append_assoc space (58 ∷ (own ++ (47 ∷ (text_of e.1 ++ end_of e.0)))) (47 ∷ g)
-      ∙ ap (λ t. space ++ (58 ∷ t)) (append_assoc own (47 ∷ (text_of e.1 ++ end_of e.0)) (47 ∷ g))
-      ∙ sym (append_assoc space (58 ∷ own) (47 ∷ rest)) in
+      let parts : path_in (canonical_identity_of e.0) (text_of e.1) ++ (47 ∷ g) ≡ (space ++ (58 ∷ own)) ++ (47 ∷ rest) = append_assoc space (58 ∷ (own ++ (47 ∷ (text_of e.1 ++ end_of e.0)))) (47 ∷ g)
+      ∙ ap (λ t. space ++ (58 ∷ t)) (append_assoc own (47 ∷ (text_of e.1 ++ end_of e.0)) (47 ∷ g)) ∙ sym (append_assoc space (58 ∷ own) (47 ∷ rest)) in
       let front : Lacks 47 (space ++ (58 ∷ own)) = lacks-both 47 space (58 ∷ own) (label_lacks 47 refl space named.namespace) (label_lacks 47 refl own named.name) in
       let x_is = (same_cut 47 x f (space ++ (58 ∷ own)) rest slashless front (same ∙ parts)).0 in
       goes-on 58 space own (subst (Lacks 58) x_is colonless)

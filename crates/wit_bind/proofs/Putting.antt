@@ -88,6 +88,5 @@ no_members : (r : Resolve) (w : Choice) (scope : WorldKey) (fs : List (String Gl
 no_members r w scope [] none = refl
 no_members r w scope (f ∷ fs) none = search (std_rules, no_members r w scope fs none)
 
-pub puts_no_members : (r : Resolve) (w : Choice) (scope : WorldKey) (fs : List (String Global × Function)) (m : Encodings) → None ≡ scope_of r scope
-    → Puts (member_entries r w scope fs) m m
+pub puts_no_members : (r : Resolve) (w : Choice) (scope : WorldKey) (fs : List (String Global × Function)) (m : Encodings) → None ≡ scope_of r scope → Puts (member_entries r w scope fs) m m
 puts_no_members r w scope fs m none = subst (λ (es : List Entry). Puts es m m) (no_members r w scope fs none) (λ k. refl)

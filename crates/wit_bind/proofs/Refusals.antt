@@ -44,9 +44,7 @@ module _ (own other : Bindgen) (o : IsBindgen own) (t : IsBindgen other) (m : Ma
   -- what clashes in encodings is, where nothing else clashes
   pub encodings_are : ClashesNowhere → (e : Error) → IsEncodingRefusal own.metadata other.metadata e → IsMergeRefusal own other e
   encodings_are none errors.Memory h = tt
-  encodings_are none (errors.Clash kind key) h =
-      subst (λ (k : ClashKind). IsClash (binding_of own) (binding_of other) k (text_of key)) (sym h.0)
-      (encodings_clash_last own.resolve other.resolve m own.world.0 other.world.0 own_world.0 other_world.0 worlds
-      own.metadata.import_encodings own.metadata.export_encodings other.metadata.import_encodings other.metadata.export_encodings
-      (none own_world.0 other_world.0 own_world.1 other_world.1) (text_of key) h.1)
+  encodings_are none (errors.Clash kind key) h = subst (λ (k : ClashKind). IsClash (binding_of own) (binding_of other) k (text_of key)) (sym h.0)
+      (encodings_clash_last own.resolve other.resolve m own.world.0 other.world.0 own_world.0 other_world.0 worlds own.metadata.import_encodings own.metadata.export_encodings
+      other.metadata.import_encodings other.metadata.export_encodings (none own_world.0 other_world.0 own_world.1 other_world.1) (text_of key) h.1)
   encodings_are none e h = absurd h

@@ -4,7 +4,7 @@ use Rattle.std.proofs.lemmas.Option.{same_Some as some-same}
 use Rattle.std.specs.Prelude.{◌↔◌, option_and_then, option_map, slice_get}
 use Rattle.wit_model.specs.declared.model.{Package.Package, Resolve.Resolve, World.World}
 use Rattle.wit_model.specs.{Lookup.world_at, Meaning.WorldPackage, Meant.MeantWorld, Meant.package_of_world, Meant.world_package}
-use Rattle.wit_model.specs.Valid.{HasDistinctKeys, IsValid, Keeps, numbers_in_range, package_names, places, labels, order_of_types, owners, shapes, named_kinds, handles, depths, function_names, world_items, order_of_items, names_in_packages}
+use Rattle.wit_model.specs.Valid.{IsValid, numbers_in_range, package_names, places, labels, order_of_types, owners, shapes, named_kinds, handles, depths, function_names, world_items, order_of_items, names_in_packages}
 use Rattle.wit_bind.specs.Roots.{IsRootResolve, root_meaning}
 
 -- the one entry of a list
@@ -18,83 +18,25 @@ module _ (r : Resolve) (h : IsRootResolve r) where
   abbrev w : World
   w = h.world
 
-  distinct : HasDistinctKeys r
-  distinct = search std_rules
-
-  in-range : Keeps numbers_in_range r
-  unfolding numbers_in_range
-  in-range = simp (h.packages, h.worlds, h.no_interfaces, h.no_types, h.is_package.no_interfaces, h.is_package.lists, h.is_world.no_imports, h.is_world.no_exports, h.is_world.home)
-
-  named : Keeps package_names r
-  unfolding package_names
-  named = simp (h.packages, h.worlds, h.no_interfaces, h.no_types, h.is_package.namespace, h.is_package.name, h.is_package.unversioned)
-
-  placed : Keeps places r
-  unfolding places
-  placed = simp (h.packages, h.worlds, h.no_interfaces, h.no_types, h.is_package.no_interfaces, h.is_package.lists, h.is_package.labelled, h.is_world.named_, h.is_world.home)
-
-  labelled : Keeps labels r
-  unfolding labels
-  labelled = simp (h.packages, h.worlds, h.no_interfaces, h.no_types, h.is_world.named_, h.is_world.no_imports, h.is_world.no_exports, h.is_world.unknown)
-
-  ordered : Keeps order_of_types r
-  unfolding order_of_types
-  ordered = simp (h.packages, h.worlds, h.no_interfaces, h.no_types, h.is_world.no_imports)
-
-  owned : Keeps owners r
-  unfolding owners
-  owned = simp (h.packages, h.worlds, h.no_interfaces, h.no_types, h.is_world.no_imports, h.is_world.no_exports)
-
-  shaped : Keeps shapes r
-  unfolding shapes
-  shaped = simp (h.packages, h.worlds, h.no_interfaces, h.no_types)
-
-  named-kinds : Keeps named_kinds r
-  unfolding named_kinds
-  named-kinds = simp (h.packages, h.worlds, h.no_interfaces, h.no_types)
-
-  handled : Keeps handles r
-  unfolding handles
-  handled = simp (h.packages, h.worlds, h.no_interfaces, h.no_types, h.is_world.no_imports, h.is_world.no_exports)
-
-  shallow : Keeps depths r
-  unfolding depths
-  shallow = simp (h.packages, h.worlds, h.no_interfaces, h.no_types, h.is_world.no_imports, h.is_world.no_exports)
-
-  functions-named : Keeps function_names r
-  unfolding function_names
-  functions-named = simp (h.packages, h.worlds, h.no_interfaces, h.no_types, h.is_world.no_imports, h.is_world.no_exports)
-
-  items-stand : Keeps world_items r
-  unfolding world_items
-  items-stand = simp (h.packages, h.worlds, h.no_interfaces, h.no_types, h.is_world.no_imports, h.is_world.no_exports)
-
-  items-ordered : Keeps order_of_items r
-  unfolding order_of_items
-  items-ordered = simp (h.packages, h.worlds, h.no_interfaces, h.no_types, h.is_world.no_imports, h.is_world.no_exports)
-
-  names-stand : Keeps names_in_packages r
-  unfolding names_in_packages
-  names-stand = simp (h.packages, h.worlds, h.no_interfaces, h.no_types, h.is_package.no_interfaces, h.is_package.lists, h.is_package.labelled, h.is_world.named_)
-
   pub root-valid : IsValid r
+  unfolding numbers_in_range package_names places labels order_of_types owners shapes named_kinds handles depths function_names world_items order_of_items names_in_packages
   root-valid = record {
-    distinct_keys = distinct;
+    distinct_keys = search std_rules;
     rules = record {
-      numbers_in_range = in-range;
-      package_names = named;
-      places = placed;
-      labels = labelled;
-      order_of_types = ordered;
-      owners = owned;
-      shapes = shaped;
-      named_kinds = named-kinds;
-      handles = handled;
-      depths = shallow;
-      function_names = functions-named;
-      world_items = items-stand;
-      order_of_items = items-ordered;
-      names_in_packages = names-stand;
+      numbers_in_range = simp (h.packages, h.worlds, h.no_interfaces, h.no_types, h.is_package.no_interfaces, h.is_package.lists, h.is_world.no_imports, h.is_world.no_exports, h.is_world.home);
+      package_names = simp (h.packages, h.worlds, h.no_interfaces, h.no_types, h.is_package.namespace, h.is_package.name, h.is_package.unversioned);
+      places = simp (h.packages, h.worlds, h.no_interfaces, h.no_types, h.is_package.no_interfaces, h.is_package.lists, h.is_package.labelled, h.is_world.named_, h.is_world.home);
+      labels = simp (h.packages, h.worlds, h.no_interfaces, h.no_types, h.is_world.named_, h.is_world.no_imports, h.is_world.no_exports, h.is_world.unknown);
+      order_of_types = simp (h.packages, h.worlds, h.no_interfaces, h.no_types, h.is_world.no_imports);
+      owners = simp (h.packages, h.worlds, h.no_interfaces, h.no_types, h.is_world.no_imports, h.is_world.no_exports);
+      shapes = simp (h.packages, h.worlds, h.no_interfaces, h.no_types);
+      named_kinds = simp (h.packages, h.worlds, h.no_interfaces, h.no_types);
+      handles = simp (h.packages, h.worlds, h.no_interfaces, h.no_types, h.is_world.no_imports, h.is_world.no_exports);
+      depths = simp (h.packages, h.worlds, h.no_interfaces, h.no_types, h.is_world.no_imports, h.is_world.no_exports);
+      function_names = simp (h.packages, h.worlds, h.no_interfaces, h.no_types, h.is_world.no_imports, h.is_world.no_exports);
+      world_items = simp (h.packages, h.worlds, h.no_interfaces, h.no_types, h.is_world.no_imports, h.is_world.no_exports);
+      order_of_items = simp (h.packages, h.worlds, h.no_interfaces, h.no_types, h.is_world.no_imports, h.is_world.no_exports);
+      names_in_packages = simp (h.packages, h.worlds, h.no_interfaces, h.no_types, h.is_package.no_interfaces, h.is_package.lists, h.is_package.labelled, h.is_world.named_);
     };
   }
 

@@ -50,22 +50,19 @@ found fs place (e ∷ es) all bare p =
 pub nothing_under : (fs : Fronts) (text name : Text) (es : KeyEntries) → IsTable fs es → has_slash name ≡ false → number_at fs text ≡ None → text_eq text name ≡ false
     → under (text_under text name) (whole_entries fs es) ≡ None
 nothing_under fs text name [] all bare none apart = refl
-nothing_under fs text name (e ∷ es) all bare none apart =
-    ap (λ b. cond b (Some e.1) (under (text_under text name) (whole_entries fs es))) (parts_apart fs text (e.0.front) name (text_of e.0.name) bare all.0.0 none apart all.0.1)
-    ∙ nothing_under fs text name es all.1 bare none apart
+nothing_under fs text name (e ∷ es) all bare none apart = ap (λ b. cond b (Some e.1) (under (text_under text name) (whole_entries fs es)))
+    (parts_apart fs text (e.0.front) name (text_of e.0.name) bare all.0.0 none apart all.0.1) ∙ nothing_under fs text name es all.1 bare none apart
 
 -- ---- more texts
 
 module _ (old new : Fronts) (keeps : Keeps old new) where
   front_kept : (n : Option ℕ) (name : Text) → IsFront old n name → (front_text new n name ≡ front_text old n name) × IsFront new n name
   front_kept None name p = (refl, tt)
-  front_kept (Some n) name (text, at, apart) =
-      (front_there new text name n (keeps text n at) ∙ sym (front_there old text name n at), (text, keeps text n at, apart))
+  front_kept (Some n) name (text, at, apart) = (front_there new text name n (keeps text n at) ∙ sym (front_there old text name n at), (text, keeps text n at, apart))
 
   pub whole_kept : (es : KeyEntries) → IsTable old es → whole_entries new es ≡ whole_entries old es
   whole_kept [] all = refl
-  whole_kept (e ∷ es) all =
-      λ i. (text_under ((front_kept (e.0.front) (text_of e.0.name) all.0.1).0 i) (text_of e.0.name), e.1) ∷ whole_kept es all.1 i
+  whole_kept (e ∷ es) all = λ i. (text_under ((front_kept (e.0.front) (text_of e.0.name) all.0.1).0 i) (text_of e.0.name), e.1) ∷ whole_kept es all.1 i
 
   pub table_kept : (es : KeyEntries) → IsTable old es → IsTable new es
   table_kept [] all = tt

@@ -1,12 +1,11 @@
 -- Keys of a table are the same where their whole texts are.
 use Rattle.std.proofs.Common.{rules as std_rules, arith, ◌≡◌, refl, sym, ap, subst, ◌∙◌, ℕ, suc, ◌+◌, Bool, true, false, not, ◌&&◌, List, [], ◌∷◌, length, cond, Option, None, Some, option_map, String}
-use mathlib.Core.Bool.{true≢false}
 use Rattle.std.specs.Prelude.{map, nat_eq, nat_lt, position, slice_get}
 use Rattle.std.specs.{Option.option_eq, List.position_or_len}
 use Rattle.std.specs.declared.alloc.Global.{Global}
 use Rattle.std.proofs.lemmas.{Bool.eq-eqb, Bool.eqb-true, Bool.lt-ltb, Option.same_Some as same-some}
 use Rattle.std.proofs.lemmas.Grind.{common_steps}
-use Rattle.base_lemmas.proofs.Bools.{and-true, no-and}
+use Rattle.base_lemmas.proofs.Bools.{and-true, both_ways, no-and}
 use Rattle.wit_model.specs.Text.{Text, text_eq, text_of}
 use Rattle.wit_model.proofs.{VersionLaws.same_text, TextLemmas.text_same as text-same}
 use Rattle.wit_bind.specs.{Cuts.has_slash, Cuts.text_under, CutLaws.cut_same}
@@ -20,8 +19,7 @@ at_next n m true o e = ap (λ v. cond v (Some 0) None) (lt-ltb 0 (suc m) (omega 
 at_next n m false o e = by (nat_lt n m) refl ∙ ap (option_map suc) e
   where
     by : (c : Bool) → nat_lt n m ≡ c → cond (nat_lt (1 + n) (suc m)) (Some (1 + n)) None ≡ option_map suc (cond (nat_lt n m) (Some n) None)
-    by true h = grind (arith, common_steps, h)
-    by false h = grind (arith, common_steps, h)
+    by _ h = grind (arith, common_steps, h)
 
 pub position_is : (keys : List (String Global)) (text : Text) → position (λ s. text_eq text (text_of s)) keys ≡ number_at (map text_of keys) text
 position_is [] text = refl
@@ -44,27 +42,17 @@ front_there fs text name n h = search (std_rules, there fs text n h)
 -- ---- two keys
 
 other_way : (a b : Text) → text_eq a b ≡ false → text_eq b a ≡ false
-other_way a b h = by (text_eq b a) refl
-  where
-    by : (v : Bool) → text_eq b a ≡ v → v ≡ false
-    by true e = absurd (true≢false (sym (same_text a b (sym (text-same b a e))) ∙ h))
-    by false e = refl
+other_way a b h = both_ways (text_eq b a) (text_eq a b) (λ e. same_text a b (sym (text-same b a e))) (λ e. same_text b a (sym (text-same a b e))) ∙ h
 
 numbers_same : (fs : Fronts) (t u : Text) (i j : ℕ) → number_at fs t ≡ Some i → number_at fs u ≡ Some j → nat_eq i j ≡ text_eq t u
-numbers_same fs t u i j h k = by (nat_eq i j) refl (text_eq t u) refl
-  where
-    by : (v : Bool) → nat_eq i j ≡ v → (w : Bool) → text_eq t u ≡ w → v ≡ w
-    by true p true q = refl
-    by true p false q = absurd (true≢false (sym (same_text t u (same-some t u (sym (there fs t i h) ∙ (ap (slice_get fs) (eqb-true i j p) ∙ there fs u j k)))) ∙ q))
-    by false p true q = absurd (true≢false (sym (eq-eqb i j (same-some i j (sym h ∙ (ap (number_at fs) (text-same t u q) ∙ k)))) ∙ p))
-    by false p false q = refl
+numbers_same fs t u i j h k = both_ways (nat_eq i j) (text_eq t u) (λ e. same_text t u (same-some t u (sym (there fs t i h) ∙ (ap (slice_get fs) (eqb-true i j e) ∙ there fs u j k))))
+    (λ e. eq-eqb i j (same-some i j (sym h ∙ (ap (number_at fs) (text-same t u e) ∙ k))))
 
 fronts_same : (fs : Fronts) (a b : Option ℕ) (name : Text) → IsFront fs a name → IsFront fs b name → option_eq nat_eq a b ≡ text_eq (front_text fs a name) (front_text fs b name)
 fronts_same fs None None name p q = sym (same_text name name refl)
 fronts_same fs None (Some j) name p (u, at, apart) = sym (ap (text_eq name) (front_there fs u name j at) ∙ other_way u name apart)
 fronts_same fs (Some i) None name (t, at, apart) q = sym (ap (λ x. text_eq x name) (front_there fs t name i at) ∙ apart)
-fronts_same fs (Some i) (Some j) name (t, at, apart) (u, at-2, apart-2) =
-    numbers_same fs t u i j at at-2 ∙ sym (λ x. text_eq (front_there fs t name i at x) (front_there fs u name j at-2 x))
+fronts_same fs (Some i) (Some j) name (t, at, apart) (u, at-2, apart-2) = numbers_same fs t u i j at at-2 ∙ sym (λ x. text_eq (front_there fs t name i at x) (front_there fs u name j at-2 x))
 
 -- two names told apart, and what stands before them
 pub parts_same : (fs : Fronts) (a b : Option ℕ) (n m : Text) → has_slash n ≡ false → has_slash m ≡ false → IsFront fs a n → IsFront fs b m

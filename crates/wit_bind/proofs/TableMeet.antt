@@ -26,11 +26,7 @@ stays (x ∷ fs) more text n h = by (text_eq text x) (number_at fs text) refl (�
     by false None e rest k = absurd (search (std_rules, k))
 
 all_stay : (keys : List (String Global)) (k : String Global) → Keeps (map text_of keys) (map text_of (keys ++ k ∷ []))
-all_stay keys k text n h = subst (λ (fs : Fronts). number_at fs text ≡ Some n) (sym (texts keys)) (stays (map text_of keys) (text_of k ∷ []) text n h)
-  where
-    texts : (ks : List (String Global)) → map text_of (ks ++ k ∷ []) ≡ map text_of ks ++ (text_of k ∷ [])
-    texts [] = refl
-    texts (x ∷ ks) = ap (λ ts. text_of x ∷ ts) (texts ks)
+all_stay keys k text n h = subst (λ (fs : Fronts). number_at fs text ≡ Some n) (sym (map-append text_of keys (k ∷ []))) (stays (map text_of keys) (text_of k ∷ []) text n h)
 
 one_before : (n : ℕ) → suc n ≡ 1 + n
 one_before n = omega arith
@@ -95,8 +91,7 @@ one_more old new keeps ns more n done text is h at =
 module _ (fs gs : Fronts) (ns : List ℕ) (h : map Some ns ≡ numbers_among fs gs) where
   new_front : (n : Option ℕ) (name : Text) → IsFront gs n name → (front_text fs (option_and_then (slice_get ns) n) name ≡ front_text gs n name) × IsFront fs (option_and_then (slice_get ns) n) name
   new_front None name p = (refl, tt)
-  new_front (Some m) name (text, at, apart) =
-      by (slice_get ns m) (sym (slice_get-map Some ns m) ∙ (ap (λ xs. slice_get xs m) h ∙ number_there fs gs text m at))
+  new_front (Some m) name (text, at, apart) = by (slice_get ns m) (sym (slice_get-map Some ns m) ∙ (ap (λ xs. slice_get xs m) h ∙ number_there fs gs text m at))
     where
       by : (o : Option ℕ) → option_map Some o ≡ Some (number_at fs text) → (front_text fs o name ≡ front_text gs (Some m) name) × IsFront fs o name
       by None e = absurd (search (std_rules, e))
@@ -106,8 +101,7 @@ module _ (fs gs : Fronts) (ns : List ℕ) (h : map Some ns ≡ numbers_among fs 
 
   pub renumbered_whole : (es : KeyEntries) → IsTable gs es → whole_entries fs (all_renumbered ns es) ≡ whole_entries gs es
   renumbered_whole [] all = refl
-  renumbered_whole (e ∷ es) all =
-      λ i. (text_under ((new_front (e.0.front) (text_of e.0.name) all.0.1).0 i) (text_of e.0.name), e.1) ∷ renumbered_whole es all.1 i
+  renumbered_whole (e ∷ es) all = λ i. (text_under ((new_front (e.0.front) (text_of e.0.name) all.0.1).0 i) (text_of e.0.name), e.1) ∷ renumbered_whole es all.1 i
 
   pub renumbered_proper : (es : KeyEntries) → IsTable gs es → IsTable fs (all_renumbered ns es)
   renumbered_proper [] all = tt
@@ -119,16 +113,13 @@ pub all_proper : (fs : Fronts) (es xs : KeyEntries) → IsTable fs es → IsTabl
 all_proper fs es [] p q = p
 all_proper fs es (x ∷ xs) p q = all_proper fs (insert_entry equality.ghosts.eq es x.0 x.1) xs (put_proper fs x.0 x.1 q.0 es p) q.1
 
-all_whole : (fs : Fronts) (es xs : KeyEntries) → IsTable fs es → IsTable fs xs
-    → whole_entries fs (insert_all equality.ghosts.eq es xs) ≡ insert_all text_eq (whole_entries fs es) (whole_entries fs xs)
+all_whole : (fs : Fronts) (es xs : KeyEntries) → IsTable fs es → IsTable fs xs → whole_entries fs (insert_all equality.ghosts.eq es xs) ≡ insert_all text_eq (whole_entries fs es) (whole_entries fs xs)
 all_whole fs es [] p q = refl
-all_whole fs es (x ∷ xs) p q =
-    all_whole fs (insert_entry equality.ghosts.eq es x.0 x.1) xs (put_proper fs x.0 x.1 q.0 es p) q.1
+all_whole fs es (x ∷ xs) p q = all_whole fs (insert_entry equality.ghosts.eq es x.0 x.1) xs (put_proper fs x.0 x.1 q.0 es p) q.1
     ∙ ap (λ ys. insert_all text_eq ys (whole_entries fs xs)) (put_whole fs x.0 x.1 q.0 es p)
 
 -- entries of another table are gained
 pub all_gained : (fs gs : Fronts) (ns : List ℕ) → map Some ns ≡ numbers_among fs gs → (es xs new : KeyEntries) → IsTable fs es → IsTable gs xs → IsDistinct equality.ghosts.eq (keys_of xs)
     → new ≡ insert_all equality.ghosts.eq es (all_renumbered ns xs) → Gains (kept_encodings (whole_entries gs xs)) (kept_encodings (whole_entries fs es)) (kept_encodings (whole_entries fs new))
-all_gained fs gs ns h es xs new p q d is =
-    gains (whole_entries gs xs) (whole_entries fs es) (whole_entries fs new) (distinct_too gs xs q d)
+all_gained fs gs ns h es xs new p q d is = gains (whole_entries gs xs) (whole_entries fs es) (whole_entries fs new) (distinct_too gs xs q d)
     (ap (whole_entries fs) is ∙ (all_whole fs es (all_renumbered ns xs) p (renumbered_proper fs gs ns h xs q) ∙ ap (insert_all text_eq (whole_entries fs es)) (renumbered_whole fs gs ns h xs q)))

@@ -1,7 +1,7 @@
 -- It can be told whether meanings have the same sense.
 use Rattle.std.proofs.Common.{◌≡◌, ◌∙◌, refl, sym, ap, Bool, true, false, List, [], ◌∷◌, Option, Some, None}
 use mathlib.Core.Logic.{inl, inr}
-use Rattle.std.specs.{Prelude.◌⊎◌, Prelude.◌≢◌, Bool.Decides, FinMap.entries, FinMap.same_entries_map}
+use Rattle.std.specs.{Prelude.◌⊎◌, Prelude.◌≢◌, Prelude.unwrap_or, Bool.Decides, FinMap.entries, FinMap.same_entries_map}
 use Rattle.std.proofs.lemmas.{Bool.true≢false, Slice.Eq.bytes_eq-Decides}
 use Rattle.wit_model.specs.{Text.Text, Text.TextMap, Text.text_eq, Meaning.Entry, Meaning.InterfaceSense, Meaning.Item, Meaning.Signature, Meaning.WorldSense}
 use Rattle.wit_model.specs.Tree.{Declaration}
@@ -21,33 +21,28 @@ tell-by {A} test decides x y = by (test x y) refl
 tell-text : CanTell Text
 tell-text = tell-by text_eq (λ s t. bytes_eq-Decides s t)
 
+-- two views of things tell them apart, where they tell all of them
+by-views : {X A B : Type 0} (f : X → A) (g : X → B) (x y : X) → (f x ≡ f y → g x ≡ g y → x ≡ y) → (f x ≡ f y) ⊎ (f x ≢ f y) → (g x ≡ g y) ⊎ (g x ≢ g y) → (x ≡ y) ⊎ (x ≢ y)
+by-views f g x y whole (inl e) (inl h) = inl (whole e h)
+by-views f g x y whole (inl e) (inr d) = inr (λ same. d (ap g same))
+by-views f g x y whole (inr d) h = inr (λ same. d (ap f same))
+
+-- so does what they are made of
+of-parts : {A B : Type 0} (make : A → B) (part : A → B → A) → ((d x : A) → part d (make x) ≡ x) → (x y : A) → (x ≡ y) ⊎ (x ≢ y) → (make x ≡ make y) ⊎ (make x ≢ make y)
+of-parts make part is x y (inl e) = inl (ap make e)
+of-parts make part is x y (inr d) = inr (λ same. d (sym (is x x) ∙ (ap (part x) same ∙ is x y)))
+
 tell-pair : {A B : Type 0} → CanTell A → CanTell B → CanTell (A × B)
-tell-pair {A} {B} first second x y = by (first x.0 y.0) (second x.1 y.1)
-  where
-    by : (x.0 ≡ y.0) ⊎ (x.0 ≢ y.0) → (x.1 ≡ y.1) ⊎ (x.1 ≢ y.1) → (x ≡ y) ⊎ (x ≢ y)
-    by (inl e) (inl f) = inl (λ i. (e i, f i))
-    by (inl e) (inr d) = inr (λ same. d (ap (λ (p : A × B). p.1) same))
-    by (inr d) f = inr (λ same. d (ap (λ (p : A × B). p.0) same))
+tell-pair first second x y = by-views (λ p. p.0) (λ p. p.1) x y (λ e f. λ i. (e i, f i)) (first x.0 y.0) (second x.1 y.1)
 
 tell-option : {A : Type 0} → CanTell A → CanTell (Option A)
 tell-option tell None None = inl refl
-tell-option tell None (Some y) = inr (λ e. let no : ⊥ = cc in no)
-tell-option tell (Some x) None = inr (λ e. let no : ⊥ = cc in no)
-tell-option {A} tell (Some x) (Some y) = by (tell x y)
-  where
-    given : Option A → A
-    given None = x
-    given (Some z) = z
-
-    by : (x ≡ y) ⊎ (x ≢ y) → (Some x ≡ Some y) ⊎ (Some x ≢ Some y)
-    by (inl e) = inl (ap Some e)
-    by (inr d) = inr (λ same. d (ap given same))
+tell-option tell (Some x) (Some y) = of-parts Some (λ d o. unwrap_or o d) (λ d z. refl) x y (tell x y)
+tell-option tell _ _ = inr (λ e. let no : ⊥ = cc in no)
 
 tell-list : {A : Type 0} → CanTell A → CanTell (List A)
 tell-list tell [] [] = inl refl
-tell-list tell [] (y ∷ ys) = inr (λ e. let no : ⊥ = cc in no)
-tell-list tell (x ∷ xs) [] = inr (λ e. let no : ⊥ = cc in no)
-tell-list {A} tell (x ∷ xs) (y ∷ ys) = by (tell x y) (tell-list tell xs ys)
+tell-list {A} tell (x ∷ xs) (y ∷ ys) = by-views head rest (x ∷ xs) (y ∷ ys) (λ e f. λ i. e i ∷ f i) (tell x y) (tell-list tell xs ys)
   where
     head : List A → A
     head [] = x
@@ -56,28 +51,16 @@ tell-list {A} tell (x ∷ xs) (y ∷ ys) = by (tell x y) (tell-list tell xs ys)
     rest : List A → List A
     rest [] = []
     rest (z ∷ zs) = zs
-
-    by : (x ≡ y) ⊎ (x ≢ y) → (xs ≡ ys) ⊎ (xs ≢ ys) → ((x ∷ xs) ≡ (y ∷ ys)) ⊎ ((x ∷ xs) ≢ (y ∷ ys))
-    by (inl e) (inl f) = inl (λ i. e i ∷ f i)
-    by (inl e) (inr d) = inr (λ same. d (ap rest same))
-    by (inr d) f = inr (λ same. d (ap head same))
+tell-list tell _ _ = inr (λ e. let no : ⊥ = cc in no)
 
 tell-map : {A : Type 0} → CanTell A → CanTell (TextMap A)
-tell-map {A} tell m n = by (tell-list (tell-pair tell-text tell) (entries m) (entries n))
-  where
-    by : (entries m ≡ entries n) ⊎ (entries m ≢ entries n) → (m ≡ n) ⊎ (m ≢ n)
-    by (inl e) = inl (same_entries_map m n e)
-    by (inr d) = inr (λ same. d (ap entries same))
+tell-map tell m n = let told = tell-list (tell-pair tell-text tell) (entries m) (entries n) in by-views entries entries m n (λ e f. same_entries_map m n e) told told
 
 -- ---- senses
 
 pub tell-interface : CanTell InterfaceSense
-tell-interface x y = by (tell-map (tell-by same_type types_decide) x.types y.types) (tell-map (tell-by same_function functions_decide) x.functions y.functions)
-  where
-    by : (x.types ≡ y.types) ⊎ (x.types ≢ y.types) → (x.functions ≡ y.functions) ⊎ (x.functions ≢ y.functions) → (x ≡ y) ⊎ (x ≢ y)
-    by (inl e) (inl f) = inl (λ i. record { types = e i; functions = f i })
-    by (inl e) (inr d) = inr (λ same. d (ap (λ (s : InterfaceSense). s.functions) same))
-    by (inr d) f = inr (λ same. d (ap (λ (s : InterfaceSense). s.types) same))
+tell-interface x y = by-views (λ s. s.types) (λ s. s.functions) x y (λ e f. λ i. record { types = e i; functions = f i }) (tell-map (tell-by same_type types_decide) x.types y.types)
+    (tell-map (tell-by same_function functions_decide) x.functions y.functions)
 
 abbrev Shown : Type 0
 Shown = Item InterfaceSense
@@ -99,41 +82,17 @@ declaration-in : Declaration → Shown → Declaration
 declaration-in d (Item.declares t) = t
 declaration-in d _ = d
 
-of-parts : {A : Type 0} (make : A → Shown) (part : A → Shown → A) → ((d x : A) → part d (make x) ≡ x) → (x y : A) → (x ≡ y) ⊎ (x ≢ y) → (make x ≡ make y) ⊎ (make x ≢ make y)
-of-parts make part is x y (inl e) = inl (ap make e)
-of-parts make part is x y (inr d) = inr (λ same. d (sym (is x x) ∙ (ap (part x) same ∙ is x y)))
-
 tell-item : CanTell Shown
 unfolding path-in sense-in signature-in declaration-in
 tell-item (Item.interface p) (Item.interface q) = of-parts Item.interface path-in (λ d x. refl) p q (tell-text p q)
 tell-item (Item.inline i) (Item.inline j) = of-parts Item.inline sense-in (λ d x. refl) i j (tell-interface i j)
 tell-item (Item.function s) (Item.function t) = of-parts Item.function signature-in (λ d x. refl) s t (tell-by same_signature signatures_decide s t)
 tell-item (Item.declares s) (Item.declares t) = of-parts Item.declares declaration-in (λ d x. refl) s t (tell-by same_declaration declarations_decide s t)
-tell-item (Item.interface p) (Item.inline j) = inr (λ e. let no : ⊥ = cc in no)
-tell-item (Item.interface p) (Item.function t) = inr (λ e. let no : ⊥ = cc in no)
-tell-item (Item.interface p) (Item.declares t) = inr (λ e. let no : ⊥ = cc in no)
-tell-item (Item.inline i) (Item.interface q) = inr (λ e. let no : ⊥ = cc in no)
-tell-item (Item.inline i) (Item.function t) = inr (λ e. let no : ⊥ = cc in no)
-tell-item (Item.inline i) (Item.declares t) = inr (λ e. let no : ⊥ = cc in no)
-tell-item (Item.function s) (Item.interface q) = inr (λ e. let no : ⊥ = cc in no)
-tell-item (Item.function s) (Item.inline j) = inr (λ e. let no : ⊥ = cc in no)
-tell-item (Item.function s) (Item.declares t) = inr (λ e. let no : ⊥ = cc in no)
-tell-item (Item.declares s) (Item.interface q) = inr (λ e. let no : ⊥ = cc in no)
-tell-item (Item.declares s) (Item.inline j) = inr (λ e. let no : ⊥ = cc in no)
-tell-item (Item.declares s) (Item.function t) = inr (λ e. let no : ⊥ = cc in no)
+tell-item _ _ = inr (λ e. let no : ⊥ = cc in no)
 
 pub tell-entry : CanTell (Entry InterfaceSense)
-tell-entry x y = by (tell-item x.item y.item) (tell-option tell-text x.external_id y.external_id)
-  where
-    by : (x.item ≡ y.item) ⊎ (x.item ≢ y.item) → (x.external_id ≡ y.external_id) ⊎ (x.external_id ≢ y.external_id) → (x ≡ y) ⊎ (x ≢ y)
-    by (inl e) (inl f) = inl (λ i. record { item = e i; external_id = f i })
-    by (inl e) (inr d) = inr (λ same. d (ap (λ (s : Entry InterfaceSense). s.external_id) same))
-    by (inr d) f = inr (λ same. d (ap (λ (s : Entry InterfaceSense). s.item) same))
+tell-entry x y = by-views (λ s. s.item) (λ s. s.external_id) x y (λ e f. λ i. record { item = e i; external_id = f i }) (tell-item x.item y.item) (tell-option tell-text x.external_id y.external_id)
 
 pub tell-world : CanTell WorldSense
-tell-world x y = by (tell-map tell-entry x.imports y.imports) (tell-map tell-entry x.exports y.exports)
-  where
-    by : (x.imports ≡ y.imports) ⊎ (x.imports ≢ y.imports) → (x.exports ≡ y.exports) ⊎ (x.exports ≢ y.exports) → (x ≡ y) ⊎ (x ≢ y)
-    by (inl e) (inl f) = inl (λ i. record { imports = e i; exports = f i })
-    by (inl e) (inr d) = inr (λ same. d (ap (λ (s : WorldSense). s.exports) same))
-    by (inr d) f = inr (λ same. d (ap (λ (s : WorldSense). s.imports) same))
+tell-world x y = by-views (λ s. s.imports) (λ s. s.exports) x y (λ e f. λ i. record { imports = e i; exports = f i }) (tell-map tell-entry x.imports y.imports)
+    (tell-map tell-entry x.exports y.exports)

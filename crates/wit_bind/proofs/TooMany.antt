@@ -1,16 +1,16 @@
 -- What is carried by path is new.
 use Rattle.std.proofs.Common.{rules as std_rules, ◌≡◌, refl, sym, ap, ◌∙◌, ℕ, zero, suc, ◌+◌, ◌≤◌, length, Bool, true, false, not, ◌&&◌, ◌==◌, cond, List, [], ◌∷◌, ◌++◌, map, unwrap_or, Option, Some, None, is_none, option_and_then, option_map, slice_get, append-nil, String}
 use Rattle.std.proofs.lemmas.{List.length-map, Option.same_Some as same-some}
-use Rattle.std.specs.{Prelude.◌||◌, Prelude.count_by, Prelude.filter_map, Prelude.is_some, List.cons_option, List.list_all, List.list_any, Option.option_map_or}
+use Rattle.std.specs.{Prelude.count_by, Prelude.filter_map, Prelude.is_some, List.list_all, List.list_any, Option.option_map_or}
 use Rattle.std.specs.declared.alloc.Global.{Global}
 use Rattle.wit_model.specs.declared.model.{Interface.Interface, Package.Package, PackageName.PackageName, Resolve.Resolve, World.World, WorldId.WorldId}
 use Rattle.wit_model.specs.Lookup.{identity_of, interface_at, package_at, path_of_interface, path_of_world, world_at}
 use Rattle.wit_model.specs.{Meant.interface_meaning, Meant.world_meaning, Names.at_version, Names.is_identity, Text.Text, Text.text_eq, Text.text_of}
 use Rattle.wit_model.specs.{Rules.same_package_name, Valid.IsValid}
 use Rattle.wit_model.proofs.{NameLaws.identity_namespace, NameLaws.label_lacks, NameLaws.identity_name as label-of, TextLemmas.text_same as text-same}
-use Rattle.wit_model.proofs.{OnePath.package-name, VersionLaws.same_name}
+use Rattle.wit_model.proofs.{Elements.contains-get, OnePath.package-name, VersionLaws.same_name}
 use Rattle.bind_meaning.specs.{Binding.package_text, ByNumbers.interfaces_by_path, ByNumbers.package_texts, ByNumbers.worlds_by_path, Roots.root_path}
-use Rattle.bind_meaning.proofs.Listed.{given as unpacked}
+use Rattle.bind_meaning.proofs.Listed.{from-map, given as unpacked, mapped}
 use Rattle.bind_match.specs.declared.matches.Matches.{Matches}
 use Rattle.bind_match.specs.Matching.{interface_in, is_root_world, own_interface_of, own_package_of, own_world_of, package_from}
 use Rattle.bind_clash.specs.Faults.{IsMatched}
@@ -21,7 +21,7 @@ use Rattle.bind_carry.proofs.{CountedCopies.flags_few, CountedCopies.worlds_flag
 use Rattle.bind_carry.proofs.Ranges.{is_in_range, shown_below}
 use Rattle.wit_bind.specs.Comes.{is_new_interface, is_new_package, is_new_world, is_one_of}
 use Rattle.wit_bind.proofs.MatchedPaths.{all-matched}
-use Rattle.base_lemmas.proofs.{Bools.left_of as first_true, Bools.right_of as second_true, Lists.mapped_get as mapped_at, Numbers.same-number}
+use Rattle.base_lemmas.proofs.{Elements.any-contains, Elements.filter_map_from, Bools.left_of as first_true, Bools.right_of as second_true, Lists.mapped_get as mapped_at, Numbers.same-number}
 
 untrue : {A : Type 0} → false ≡ true → A
 untrue e = let no : ⊥ = cc in absurd no
@@ -83,38 +83,23 @@ record IsFound {X : Type 0} (xs : List X) (P : X → Type 0) : Type 0 where
   stands : slice_get xs place ≡ Some it
   fits : P it
 
-later : {X : Type 0} (x : X) (xs : List X) (P : X → Type 0) → IsFound xs P → IsFound (x ∷ xs) P
-later x xs P f = record { place = suc f.place; it = f.it; stands = f.stands; fits = f.fits }
-
 any-text : {X : Type 0} (text : X → Text) (t : Text) (xs : List X) → list_any (text_eq t) (map text xs) ≡ true → IsFound xs (λ x. t ≡ text x)
-any-text text t [] h = untrue h
-any-text text t (x ∷ xs) h = by (text_eq t (text x)) refl h (any-text text t xs)
-  where
-    by : (b : Bool) → text_eq t (text x) ≡ b → (b || list_any (text_eq t) (map text xs)) ≡ true → (list_any (text_eq t) (map text xs) ≡ true → IsFound xs (λ y. t ≡ text y))
-        → IsFound (x ∷ xs) (λ y. t ≡ text y)
-    by true s k more = record { place = 0; it = x; stands = refl; fits = text-same t (text x) s }
-    by false s k more = later x xs (λ y. t ≡ text y) (more k)
+any-text text t xs h =
+    let p = any-contains (text_eq t) (map text xs) h in
+    let x = from-map text xs p.0 p.1 in
+    let k = contains-get xs x.0 x.1.0 in record { place = k.0; it = x.0; stands = k.1; fits = text-same t p.0 p.2 ∙ sym x.1.1 }
 
 module _ {X M : Type 0} (path : X → Option Text) (meaning : X → M) (t : Text) where
   abbrev paths : List X → List Text
   paths xs = map (λ (e : Text × M). e.0) (filter_map (λ x. option_map (λ p. (p, meaning x)) (path x)) xs)
 
   any-path : (xs : List X) → list_any (text_eq t) (paths xs) ≡ true → IsFound xs (λ x. path x ≡ Some t)
-  any-path [] h = untrue h
-  any-path (x ∷ xs) h = by (path x) refl h (any-path xs)
-    where
-      rest : List (Text × M)
-      rest = filter_map (λ y. option_map (λ p. (p, meaning y)) (path y)) xs
-
-      by : (o : Option Text) → path x ≡ o → list_any (text_eq t) (map (λ (e : Text × M). e.0) (cons_option (option_map (λ p. (p, meaning x)) o) rest)) ≡ true
-          → (list_any (text_eq t) (paths xs) ≡ true → IsFound xs (λ y. path y ≡ Some t))
-          → IsFound (x ∷ xs) (λ y. path y ≡ Some t)
-      by None e k more = later x xs (λ y. path y ≡ Some t) (more k)
-      by (Some p) e k more = go (text_eq t p) refl k
-        where
-          go : (b : Bool) → text_eq t p ≡ b → (b || list_any (text_eq t) (paths xs)) ≡ true → IsFound (x ∷ xs) (λ y. path y ≡ Some t)
-          go true s l = record { place = 0; it = x; stands = refl; fits = e ∙ ap Some (sym (text-same t p s)) }
-          go false s l = later x xs (λ y. path y ≡ Some t) (more l)
+  any-path xs h =
+      let p = any-contains (text_eq t) (paths xs) h in
+      let e = from-map (λ (e : Text × M). e.0) (filter_map (λ x. option_map (λ p. (p, meaning x)) (path x)) xs) p.0 p.1 in
+      let x = filter_map_from (λ x. option_map (λ p. (p, meaning x)) (path x)) xs e.0 e.1.0 in
+      let q = mapped (λ p. (p, meaning x.1)) (path x.1) e.0 x.3 in
+      record { place = x.0; it = x.1; stands = x.2; fits = q.1 ∙ ap Some (ap (λ (z : Text × M). z.0) q.2 ∙ (e.1.1 ∙ sym (text-same t p.0 p.2))) }
 
 named-there : (name : PackageName) (n : ℕ) (ps : List Package) (k : ℕ) (q : Package) → slice_get ps k ≡ Some q → same_package_name name q.name ≡ true → is_none (package_from name n ps) ≡ false
 named-there name n [] k q at s = let no : ⊥ = cc in absurd no
@@ -166,8 +151,7 @@ module _ (own other : Resolve) (v : IsValid own) (u : IsValid other) (m : Matche
 
       no-root : (t : Text) → path_of_world other w ≡ Some t → (b : Bool) → text_eq t root_path ≡ b → not b ≡ true
       no-root t e false s = refl
-      no-root t e true s =
-          untrue (sym (ap not (has-root other u w t (world-path-of other u n w at t e) (text-same t root_path s))) ∙ second_true (is_none (g w)) (not (is_root_world other w)) both)
+      no-root t e true s = untrue (sym (ap not (has-root other u w t (world-path-of other u n w at t e) (text-same t root_path s))) ∙ second_true (is_none (g w)) (not (is_root_world other w)) both)
 
       no-own : (t : Text) → path_of_world other w ≡ Some t → (b : Bool) → is_one_of (map (λ e. e.0) (worlds_by_path own)) t ≡ b → not b ≡ true
       no-own t e false s = refl

@@ -13,9 +13,8 @@ use Rattle.bind_add.specs.Growth as growth
 all_pairs : {X : Type 0} (Related : X → X → Type 0) (xs ys : List X) → length ys ≡ length xs → ((n : ℕ) (x y : X) → slice_get xs n ≡ Some x → slice_get ys n ≡ Some y → Related x y)
     → AllPairs Related xs ys
 all_pairs Related [] [] l h = tt
-all_pairs Related [] (y ∷ ys) l h = absurd (omega (arith, l))
-all_pairs Related (x ∷ xs) [] l h = absurd (omega (arith, l))
 all_pairs Related (x ∷ xs) (y ∷ ys) l h = (h zero x y refl refl, all_pairs Related xs ys (omega (arith, l)) (λ n p q a b. h (suc n) p q a b))
+all_pairs Related _ _ l h = absurd (omega (arith, l))
 
 package_is : (p q : Package) → growth.IsSameWithRoom p q → IsSamePackage p q
 package_is p q h = record { name = h.0.name; docs = h.0.docs; interfaces = h.0.interfaces; worlds = h.0.worlds }

@@ -35,8 +35,7 @@ one-set : (a b : List Text) → set.union (set.from_list {R = text_cmp} a) (set.
 one-set a b = set.same_set nat_list_cmp_total (slice_cmp-IsAntisymmetric nat_cmp-IsAntisymmetric) _ _
     (λ q. set.contains-union nat_list_cmp_total (set.from_list {R = text_cmp} a) (set.from_list b) q
     ∙ ((λ i. set.contains-from_list nat_list_cmp_total a q i || set.contains-from_list nat_list_cmp_total b q i)
-    ∙ (sym (list_any-append (eq_by_cmp text_cmp q) a b)
-    ∙ sym (set.contains-from_list nat_list_cmp_total (a ++ b) q))))
+    ∙ (sym (list_any-append (eq_by_cmp text_cmp q) a b) ∙ sym (set.contains-from_list nat_list_cmp_total (a ++ b) q))))
 
 nothing : {X : Type 0} {P : Type 0} (o : Option X) (x : X) → o ≡ None → o ≡ Some x → P
 nothing o x e f = let no : None ≡ Some x = sym e ∙ f in let wrong : ⊥ = cc in absurd wrong
@@ -107,8 +106,7 @@ module _ (merged_is_valid : MergedIsValid) (bound_means : BoundMeans) (own other
 
   -- ---- interfaces
 
-  interfaces-of : (path : Text) (meaning : InterfaceMeaning) →
-      (Shows m path meaning → Shows r path meaning ⊎ (Shows s path meaning × ShowsNone r path)) × (Shows r path meaning → Shows m path meaning)
+  interfaces-of : (path : Text) (meaning : InterfaceMeaning) → (Shows m path meaning → Shows r path meaning ⊎ (Shows s path meaning × ShowsNone r path)) × (Shows r path meaning → Shows m path meaning)
       × (Shows s path meaning → ShowsNone r path → Shows m path meaning)
   interfaces-of = interfaces_are_united r s m own.world.0 other.world.0 u.first u.second u.left_out o.valid t.valid u.distinct u.merged
 
@@ -137,10 +135,7 @@ module _ (merged_is_valid : MergedIsValid) (bound_means : BoundMeans) (own other
       by None None None e f g = refl
       by None None (Some z) e f g =
           let h = interface-under m q z g in
-          elim ((interfaces-of q z).0 (h.number, h.under, h.means)) [
-            | inl x ↦ nothing (get A.interfaces q) z e (found-own q z x)
-            | inr x ↦ nothing (get B.interfaces q) z f (found-other q z x.0)
-          ]
+          elim ((interfaces-of q z).0 (h.number, h.under, h.means)) [ inl x ↦ nothing (get A.interfaces q) z e (found-own q z x) | inr x ↦ nothing (get B.interfaces q) z f (found-other q z x.0) ]
 
   interfaces : (binding_of new).interfaces ≡ united A.interfaces B.interfaces
   interfaces = one-map _ _ (λ q. interface-at q ∙ sym (get-united A.interfaces B.interfaces q))
@@ -199,16 +194,12 @@ module _ (merged_is_valid : MergedIsValid) (bound_means : BoundMeans) (own other
       true≢false (sym is ∙ (sym (u.root h.number h.world h.found) ∙ f))
 
   abbrev WorldsOf : Text → WorldMeaning → Type 0
-  WorldsOf path meaning =
-      (ShowsWorld m path meaning → ShowsWorld r path meaning ⊎ (((x : ShowsWorld s path meaning) × (u.left_out x.number ≡ false)) × ShowsNoWorld r path))
-      × (ShowsWorld r path meaning → ShowsWorld m path meaning)
-      × ((x : ShowsWorld s path meaning) → u.left_out x.number ≡ false → ShowsNoWorld r path → ShowsWorld m path meaning)
+  WorldsOf path meaning = (ShowsWorld m path meaning → ShowsWorld r path meaning ⊎ (((x : ShowsWorld s path meaning) × (u.left_out x.number ≡ false)) × ShowsNoWorld r path))
+      × (ShowsWorld r path meaning → ShowsWorld m path meaning) × ((x : ShowsWorld s path meaning) → u.left_out x.number ≡ false → ShowsNoWorld r path → ShowsWorld m path meaning)
 
   module _ (q : Text) (apart : eq_by_cmp text_cmp q own-path.0 ≡ false) where
     not-bound : path_of_world r u.merged.own_bound ≡ Some q → ⊥
-    not-bound e =
-        let same : q ≡ own-path.0 = same-some q own-path.0 (sym e ∙ (sym (ap (option_and_then (path_of_world r)) u.merged.bound_at) ∙ own-path.1)) in
-        true≢false (sym (ap (λ (p : Text). eq_by_cmp text_cmp p own-path.0) same ∙ itself_ties own-path.0) ∙ apart)
+    not-bound e = search (std_rules, own-path, same-some, itself_ties, apart)
 
     worlds-of : (x : WorldMeaning) → WorldsOf q x
     worlds-of x = (worlds_are_united r s m own.world.0 other.world.0 u.first u.second u.left_out o.valid t.valid u.distinct u.merged).1 q x not-bound
@@ -231,10 +222,7 @@ module _ (merged_is_valid : MergedIsValid) (bound_means : BoundMeans) (own other
         by None b None e f g true k = refl
         by None b (Some y) e f g true k =
             let h = world-under m q y g in
-            elim ((worlds-of y).0 (shown-world m h.number q y h.under h.means)) [
-              | inl x ↦ nothing (get A.worlds q) y e (world-own q y x)
-              | inr x ↦ absurd (root-left-out q y x.0.0 k x.0.1)
-            ]
+            elim ((worlds-of y).0 (shown-world m h.number q y h.under h.means)) [ inl x ↦ nothing (get A.worlds q) y e (world-own q y x) | inr x ↦ absurd (root-left-out q y x.0.0 k x.0.1) ]
         by None None None e f g false k = refl
         by None None (Some y) e f g false k =
             let h = world-under m q y g in
@@ -246,10 +234,8 @@ module _ (merged_is_valid : MergedIsValid) (bound_means : BoundMeans) (own other
   world-at-path : (q : Text)
       → get (binding_of new).worlds q ≡ cond (eq_by_cmp text_cmp q A.path) (Some (joined_world A.bound B.bound))
       (first_of_two (get A.worlds q) (cond (eq_by_cmp text_cmp q root_path) None (get B.worlds q)))
-  world-at-path q = subst
-      (λ (p : Text). get (binding_of new).worlds q ≡ cond (eq_by_cmp text_cmp q p) (Some (joined_world A.bound B.bound))
-      (first_of_two (get A.worlds q) (cond (eq_by_cmp text_cmp q root_path) None (get B.worlds q))))
-      (sym path-is) (by (eq_by_cmp text_cmp q own-path.0) refl)
+  world-at-path q = subst (λ (p : Text). get (binding_of new).worlds q ≡ cond (eq_by_cmp text_cmp q p) (Some (joined_world A.bound B.bound))
+      (first_of_two (get A.worlds q) (cond (eq_by_cmp text_cmp q root_path) None (get B.worlds q)))) (sym path-is) (by (eq_by_cmp text_cmp q own-path.0) refl)
     where
       by : (b : Bool) → eq_by_cmp text_cmp q own-path.0 ≡ b
           → get (binding_of new).worlds q ≡ cond b (Some (joined_world A.bound B.bound)) (first_of_two (get A.worlds q) (cond (eq_by_cmp text_cmp q root_path) None (get B.worlds q)))
@@ -282,8 +268,7 @@ module _ (merged_is_valid : MergedIsValid) (bound_means : BoundMeans) (own other
       let n = contains-get m.packages.items p.0 p.1.0 in
       subst (Contains (package_texts r ++ package_texts s)) p.1.1 (elim (u.merged.package_from n.0 (slice_get_within m.packages.items n.0 p.0 n.1)) [
         | inl k ↦ Contains-append_left (package_texts r) (package_texts s) (text-of p.0) (own-named n.0 k.old p.0 k.found n.1)
-        | inr k ↦ Contains-append_right (package_texts r) (package_texts s) (text-of p.0)
-            (let h = u.merged.first_copies.carried.packages k.number k.old k.found in
+        | inr k ↦ Contains-append_right (package_texts r) (package_texts s) (text-of p.0) (let h = u.merged.first_copies.carried.packages k.number k.old k.found in
             let one : h.image ≡ p.0 = same-some h.image p.0 (sym h.at_image ∙ (ap (package_at m) k.here ∙ n.1)) in
             subst (Contains (package_texts s)) (sym (same-text-of k.old h.image h.name) ∙ ap text-of one)
             (contains-map text-of s.packages.items k.old (get-contains s.packages.items k.number k.old k.found)))

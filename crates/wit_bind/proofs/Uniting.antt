@@ -15,5 +15,4 @@ unite own other o t m matched none imported exported =
     let w = own_world own other o t m matched in
     let v = other_world own other o t m matched in
     none_is_of_bindings tell-interface tell-world tell-entry own.resolve other.resolve m own.world.0 other.world.0 w.0 v.0 (worlds own other o t m matched)
-    own.metadata.import_encodings own.metadata.export_encodings other.metadata.import_encodings other.metadata.export_encodings
-    (none w.0 v.0 w.1 v.1) imported exported
+    own.metadata.import_encodings own.metadata.export_encodings other.metadata.import_encodings other.metadata.export_encodings (none w.0 v.0 w.1 v.1) imported exported

@@ -16,6 +16,5 @@ pub returns : goal.returns
 returns c =
     let own = c.args.own.now in
     let end : Text = at_version (canonical_identity_of own).version in
-    then_some ((text_of own.namespace ++ (58 ∷ [])) ++ (text_of own.name ++ (47 ∷ []))) (c.args.name.now ++ end) c.args.text.now c.in_ok-rest.rest.now
-    (option_copied c.after_interface.result) (search rules) (search rules)
-    ∙ ap (λ p. after_prefix p c.args.text.now) (path_parts (text_of own.namespace) (text_of own.name) c.args.name.now end)
+    then_some ((text_of own.namespace ++ (58 ∷ [])) ++ (text_of own.name ++ (47 ∷ []))) (c.args.name.now ++ end) c.args.text.now c.in_ok-rest.rest.now (option_copied c.after_interface.result)
+    (search rules) (search rules) ∙ ap (λ p. after_prefix p c.args.text.now) (path_parts (text_of own.namespace) (text_of own.name) c.args.name.now end)

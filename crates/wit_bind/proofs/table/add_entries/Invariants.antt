@@ -6,6 +6,5 @@ use Rattle.wit_bind.proofs.table.add_entries.Given as goal
 
 -- there is room for the entries that are left, which still have to be put
 abbrev pub invariant-loop-key : goal.invariant-loop-key
-invariant-loop-key l =
-    (length l.key-iterator ≤ spare l.entries) × (insert_all equality.ghosts.eq l.entries.entries (all_renumbered l.numbers l.key-iterator)
+invariant-loop-key l = (length l.key-iterator ≤ spare l.entries) × (insert_all equality.ghosts.eq l.entries.entries (all_renumbered l.numbers l.key-iterator)
     ≡ insert_all equality.ghosts.eq l.fn.entries.entries (all_renumbered l.numbers l.fn.more.entries))

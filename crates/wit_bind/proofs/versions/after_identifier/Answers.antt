@@ -11,6 +11,5 @@ returns-in_err-rest c =
     ∙ ap (λ t. after_prefix t c.args.text.now) (sym (marked_filled c.args.mark.now c.args.identifier.now c.if-is_empty.ensures))
 
 pub returns : goal.returns
-returns c =
-    then_some c.args.mark.now c.args.identifier.now c.args.text.now c.in_ok-rest.rest.now (option_copied c.after_prefix-2.result) (search rules) c.after_prefix-2.ensures
+returns c = then_some c.args.mark.now c.args.identifier.now c.args.text.now c.in_ok-rest.rest.now (option_copied c.after_prefix-2.result) (search rules) c.after_prefix-2.ensures
     ∙ ap (λ t. after_prefix t c.args.text.now) (sym (marked_filled c.args.mark.now c.args.identifier.now c.if-is_empty.ensures))

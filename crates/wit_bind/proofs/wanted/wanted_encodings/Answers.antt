@@ -10,8 +10,7 @@ returns-clause-ok c =
     let w = choice_of r c.args.wanted.now in
     let all = entries_of_items r w c.args.items.now.entries in
     let rest = rest_all deref_pair c.loop-key.key-iterator c.next.new.self c.next.result c.in-None.is c.next.ensures.steps in
-    left_none all empty c.loop-key.table.encodings
-    (subst (λ es. IsLeft all (entries_of_items r w es) empty c.loop-key.table.encodings) rest c.loop-key.invariant)
+    left_none all empty c.loop-key.table.encodings (subst (λ es. IsLeft all (entries_of_items r w es) empty c.loop-key.table.encodings) rest c.loop-key.invariant)
 
 pub loop-key-preserved : goal.loop-key-preserved
 loop-key-preserved c =

@@ -10,8 +10,7 @@ invariant_of-self c =
     let fs : Fronts = map text_of c.self.inside.fronts.keys in
     let gs : Fronts = map text_of c.more.inside.fronts.keys in
     let ns = c.args.numbers.now in
-    let numbers : map Some ns ≡ numbers_among fs gs =
-    c.requires.numbers ∙ (λ i. numbers_among ((sym c.self.view_is i).fronts) ((sym c.more.view_is i).fronts)) in
+    let numbers : map Some ns ≡ numbers_among fs gs = c.requires.numbers ∙ (λ i. numbers_among ((sym c.self.view_is i).fronts) ((sym c.more.view_is i).fronts)) in
     subst (λ (es : KeyEntries). IsTable fs es) (sym c.add_entries.ensures.added)
     (all_proper fs c.self.inside.encodings.entries (all_renumbered ns c.more.inside.encodings.entries) c.self.invariant
     (renumbered_proper fs gs ns numbers c.more.inside.encodings.entries c.more.invariant))
@@ -21,8 +20,7 @@ returns c =
     let fs : Fronts = map text_of c.self.inside.fronts.keys in
     let gs : Fronts = map text_of c.more.inside.fronts.keys in
     let ns = c.args.numbers.now in
-    let numbers : map Some ns ≡ numbers_among fs gs =
-    c.requires.numbers ∙ (λ i. numbers_among ((sym c.self.view_is i).fronts) ((sym c.more.view_is i).fronts)) in
+    let numbers : map Some ns ≡ numbers_among fs gs = c.requires.numbers ∙ (λ i. numbers_among ((sym c.self.view_is i).fronts) ((sym c.more.view_is i).fronts)) in
     let new = kept_encodings (whole_entries fs c.add_entries.new.entries.entries) in
     subst (λ (t : TableValue). Gains t.encodings c.args.self.now.encodings new) c.more.view_is
     (subst (λ (t : TableValue). Gains (kept_encodings (whole_entries gs c.more.inside.encodings.entries)) t.encodings new) c.self.view_is

@@ -12,8 +12,7 @@ returns-in-Some c = λ gs numbers proper.
     let fs = c.args.self.now.fronts in
     let front : IsFront gs (Some m) name = subst (λ (o : Option ℕ). IsFront gs o name) c.in-Some.is proper.1 in
     let text = front.0 in
-    let number : c.number_in.result ≡ number_at fs text =
-    c.number_in.ensures ∙ ap (λ o. option_and_then (λ n. n) o) (ap (λ ns. slice_get ns m) numbers ∙ number_there fs gs text m front.1) in
+    let number : c.number_in.result ≡ number_at fs text = c.number_in.ensures ∙ ap (λ o. option_and_then (λ n. n) o) (ap (λ ns. slice_get ns m) numbers ∙ number_there fs gs text m front.1) in
     let is : c.as_str-name.result.now ≡ name = c.as_str-name.ensures.value in
     c.at_number.ensures text number (ap (text_eq text) is ∙ front.2) (ap has_slash is ∙ proper.0)
     ∙ ((λ i. encoding_at c.args.self.now.encodings (text_under (sym (front_there gs text name m front.1) i) (is i)))

@@ -11,7 +11,5 @@ returns c = λ bare.
     let es = c.self.inside.encodings.entries in
     let place : Place = record { front = None; name = c.args.name } in
     let key : Text = text_under c.args.name.now c.args.name.now in
-    c.copied.ensures
-    ∙ (c.get.ensures.value
-    ∙ (found fs place es c.self.invariant bare tt
+    c.copied.ensures ∙ (c.get.ensures.value ∙ (found fs place es c.self.invariant bare tt
     ∙ (sym (kept_at key (whole_entries fs es)) ∙ ap (λ (t : TableValue). encoding_at t.encodings key) c.self.view_is)))

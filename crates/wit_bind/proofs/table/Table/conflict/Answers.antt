@@ -16,9 +16,8 @@ loop-key-init c =
     let m = c.args.self.now.encodings in
     let whole : c.into_iter-key-iterator.result ≡ es = search rules in
     let unique : IsDistinct equality.ghosts.eq (keys_of es) = search rules in
-    subst (λ (xs : KeyEntries). IsTable c.args.other.now.fronts xs
-    × IsLeastFault (EncodingFault m c.args.other.now.encodings) (least_from m None (whole_entries c.args.other.now.fronts xs))) (sym whole)
-    (subst (λ (t : TableValue). IsTable t.fronts es × IsLeastFault (EncodingFault m t.encodings) (least_from m None (whole_entries t.fronts es))) c.other.view_is
+    subst (λ (xs : KeyEntries). IsTable c.args.other.now.fronts xs × IsLeastFault (EncodingFault m c.args.other.now.encodings) (least_from m None (whole_entries c.args.other.now.fronts xs)))
+    (sym whole) (subst (λ (t : TableValue). IsTable t.fronts es × IsLeastFault (EncodingFault m t.encodings) (least_from m None (whole_entries t.fronts es))) c.other.view_is
     (c.other.invariant, least_is m (whole_entries fs es) (distinct_too fs es c.other.invariant unique)))
 
 pub loop-key-preserved : goal.loop-key-preserved

@@ -7,6 +7,5 @@ use Rattle.wit_bind.proofs.table.Table.conflict.Given as goal
 
 -- with the entries that are left comes the least of all
 abbrev pub invariant-loop-key : goal.invariant-loop-key
-invariant-loop-key l =
-    IsTable l.other.fronts l.key-iterator
+invariant-loop-key l = IsTable l.other.fronts l.key-iterator
     × IsLeastFault (EncodingFault l.self.encodings l.other.encodings) (least_from l.self.encodings (optional_text l.least) (whole_entries l.other.fronts l.key-iterator))

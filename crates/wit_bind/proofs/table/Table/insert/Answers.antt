@@ -9,8 +9,7 @@ pub invariant_of-self-2 : goal.invariant_of-self-2
 invariant_of-self-2 c =
     let fs : Fronts = map text_of c.self.inside.fronts.keys in
     let proper : IsProper fs c.args.key = subst (λ (t : TableValue). IsProper t.fronts c.args.key) (sym c.self.view_is) c.requires in
-    subst (λ (es : KeyEntries). IsTable fs es) (sym c.in_ok-insert.ensures.entries)
-    (put_proper fs c.args.key c.args.encoding proper c.self.inside.encodings.entries c.self.invariant)
+    subst (λ (es : KeyEntries). IsTable fs es) (sym c.in_ok-insert.ensures.entries) (put_proper fs c.args.key c.args.encoding proper c.self.inside.encodings.entries c.self.invariant)
 
 pub returns-clause-ok : goal.returns-clause-ok
 returns-clause-ok c =

@@ -30,6 +30,5 @@ loop-text-preserved c =
 pub returns-clause-numbers : goal.returns-clause-numbers
 returns-clause-numbers c =
     let done = c.loop-text.invariant.1.0 in
-    let all : map text_of c.args.texts.now.keys ≡ done =
-    c.loop-text.invariant.1.1 ∙ (ap (λ xs. done ++ map text_of xs) c.in-None.ensures.steps.0 ∙ append-nil done) in
+    let all : map text_of c.args.texts.now.keys ≡ done = c.loop-text.invariant.1.1 ∙ (ap (λ xs. done ++ map text_of xs) c.in-None.ensures.steps.0 ∙ append-nil done) in
     c.loop-text.invariant.1.2 ∙ ap (numbers_among c.loop-text.self.fronts) (sym all)

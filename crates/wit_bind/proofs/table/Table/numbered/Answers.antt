@@ -28,7 +28,6 @@ returns-clause-keeps c =
     subst (λ (t : TableValue). Keeps t.fronts (map text_of c.insert_full.new.self.keys)) c.self.view_is keeps
 
 pub returns-clause-stands : goal.returns-clause-stands
-returns-clause-stands c =
-    ap (λ (ks : List (String Global)). number_at (map text_of ks) c.args.text.now) c.in_ok-number.ensures.keys
+returns-clause-stands c = ap (λ (ks : List (String Global)). number_at (map text_of ks) c.args.text.now) c.in_ok-number.ensures.keys
     ∙ (ap (λ t. number_at (map text_of (insert_key string_eq c.self.inside.fronts.keys c.in_ok-from_str.field-0)) t) (sym c.in_ok-from_str.ensures.ok)
     ∙ (key_stands c.self.inside.fronts.keys c.in_ok-from_str.field-0 ∙ ap Some (sym c.in_ok-number.ensures.index)))

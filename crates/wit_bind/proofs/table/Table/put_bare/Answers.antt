@@ -19,7 +19,6 @@ returns-clause-ok c =
     let text : Text = c.args.front.text.now in
     let name = c.in_ok-from_str.ensures.ok in
     let number = number_proper fs text c.args.front.number c.args.name.now c.requires.stands in
-    let is =
-    ap (λ t. text_under (front_text fs c.number_before.result t) t) name
+    let is = ap (λ t. text_under (front_text fs c.number_before.result t) t) name
     ∙ ap (λ t. text_under t c.args.name.now) (ap (λ n. front_text fs n c.args.name.now) c.number_before.ensures ∙ number.1) in
     subst (λ (t : Text). OnOk c.insert.result (Puts ((t, c.args.encoding) ∷ []) c.args.self.now.encodings c.insert.new.self.encodings)) is c.insert.ensures.ok

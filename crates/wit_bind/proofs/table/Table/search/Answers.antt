@@ -13,9 +13,8 @@ loop-own-init c =
     let es = c.self.inside.encodings.entries in
     let key = function_key r c.args.key.now c.args.func.now in
     let all : c.into_iter-own-iterator.result ≡ es = search rules in
-    subst (λ (xs : KeyEntries). IsTable c.args.self.now.fronts xs
-    × (encoding_under c.args.self.now.encodings key ≡ among r c.args.key.now c.args.func.now (whole_entries c.args.self.now.fronts xs))) (sym all)
-    (subst (λ (t : TableValue). IsTable t.fronts es × (encoding_under t.encodings key ≡ among r c.args.key.now c.args.func.now (whole_entries t.fronts es))) c.self.view_is
+    subst (λ (xs : KeyEntries). IsTable c.args.self.now.fronts xs × (encoding_under c.args.self.now.encodings key ≡ among r c.args.key.now c.args.func.now (whole_entries c.args.self.now.fronts xs)))
+    (sym all) (subst (λ (t : TableValue). IsTable t.fronts es × (encoding_under t.encodings key ≡ among r c.args.key.now c.args.func.now (whole_entries t.fronts es))) c.self.view_is
     (c.self.invariant, kept_among r c.args.key.now c.args.func.now (whole_entries (map text_of c.self.inside.fronts.keys) es)))
 
 pub is_function_key-requires : goal.is_function_key-requires
