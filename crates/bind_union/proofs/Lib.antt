@@ -12,7 +12,7 @@ pub mod Carrying
 pub mod Homes
 -- What the rules ask of a type, of a function and of an entry of a world holds of its copy. Serves InterfaceRules, Kept, KeptPackages, Meanings and 2 more.
 pub mod CopyRules
--- What an interface uses, and what the rules ask of it, holds of its copy, with its numbers in order. Serves Kept, Listed, WorldOrder, WorldRules; crates above.
+-- What an interface uses, and what the rules ask of it, holds of its copy, with its numbers in order. Serves Kept, Listed, WorldOrder, WorldRules.
 pub mod InterfaceRules
 -- What an item of a world uses stands before it where its copy stands, too, and an interface or a type is an item there as often. Serves Kept, KeptPlaces, Listed, Namesakes and 1 more.
 mod WorldOrder
