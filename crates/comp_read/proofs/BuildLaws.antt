@@ -15,7 +15,7 @@ use Rattle.plan_package.specs.{PlanWhole.owners_in, PlanWhole.shown_first, PlanW
 use Rattle.comp_read.specs.{Decoded.HoldsFound, Order.OthersRise, Planned.IsBuiltOf, Planned.MeansFound, Planned.PlansMean}
 use Rattle.comp_read.proofs.WorldOrder.{others_rise, plan_others_rise}
 use Rattle.base_lemmas.proofs.{Elements.all_at, Lists.get_back, Options.there}
-use Rattle.plan_laws.proofs.Inside.{within as mark_within}
+use Rattle.plan_laws.proofs.MetNames.{within as mark_within}
 
 -- ---- what it holds
 

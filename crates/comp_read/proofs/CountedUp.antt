@@ -4,7 +4,7 @@ use Rattle.std.proofs.lemmas.{Bool.cases_lt, Option.same_Some as same-some, List
 use Rattle.std.specs.List.{Contains, flat_map}
 use Rattle.wit_model.specs.Uses.{has, once}
 use Rattle.wit_model.proofs.Elements.{contains-flat, contains-has, has-contains, none-in}
-use Rattle.plan_laws.proofs.Inside.{flat_cases}
+use Rattle.plan_laws.proofs.MetNames.{flat_cases}
 use Rattle.plan_types.specs.Orders.{joined, joined_all}
 use Rattle.comp_read.proofs.WorldOrder.{joined_behind}
 use Rattle.base_lemmas.proofs.{Elements.contains-later, Elements.contains-one, Elements.first-contained, Elements.get-contains, Elements.last_of, Lists.last_or}

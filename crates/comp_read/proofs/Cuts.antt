@@ -25,7 +25,7 @@ use Rattle.read_numbers.proofs.{PlacedViews.slot_number, ScopeNumbers.path_back}
 use Rattle.comp_read.specs.Cuts.{IsCut, StandsBefore, StandsBehind}
 use Rattle.base_lemmas.proofs.{Elements.map_from, Elements.get-contains}
 use Rattle.base_lemmas.proofs.Lists.{get_back, heads_equal, mapped_get, one_item, tails_equal, append_of_map, map_of_map, front_at, none_there, slice_front, slice_take}
-use Rattle.plan_laws.proofs.{FirstPlaces.joined_more, Inside.flat_cases, PlaceNumbers.IsOnce, PlaceNumbers.all_once, PlaceNumbers.none_twice}
+use Rattle.plan_laws.proofs.{ShownAlike.joined_more, MetNames.flat_cases, Sources.IsOnce, Sources.all_once, Sources.none_twice}
 use Rattle.comp_read.proofs.{WorldOrder.joined_behind}
 use Rattle.plan_meaning.specs.NumberedWorlds as worlds
 use Rattle.read_follow.specs.declared.scopes.Shown.TheVariants as shown

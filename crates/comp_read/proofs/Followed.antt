@@ -29,7 +29,7 @@ use Rattle.read_rules.specs.{Reached.numbered_import, Scopes.numbered_scope, Vie
 use Rattle.read_rules.specs.declared.scopes.Scope.{Scope}
 use Rattle.plan_package.specs.{PlanWhole.places_in, WholeWorlds.world_in_part}
 use Rattle.plan_type_laws.proofs.Walks.{all_flat}
-use Rattle.plan_laws.proofs.{Planned.view_met, Showings.all_given}
+use Rattle.plan_laws.proofs.{Owned.view_met, Sources.all_given}
 use Rattle.plan_laws.specs.WholeCondition.{PartIsBare}
 use Rattle.plan_laws.specs.WholeWorlds.{ImportsAreCounted, IsCounted, IsUnderKey, WorldIsFollowed}
 use Rattle.comp_read.proofs.{ByScopes.scopes_found, Inputs.keys_differ, Lists.all_beside, Places.world_at, ShownScopes.labelled_holds, ShownScopes.meant_scope}

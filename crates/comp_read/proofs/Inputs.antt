@@ -22,7 +22,7 @@ use Rattle.read_rules.specs.{Reached.numbered_import, Scopes.numbered_scope, Vie
 use Rattle.read_rules.specs.declared.{reached.ImportedView.ImportedView, scopes.Scope.Scope, scopes.Seen.Seen, scopes.Shown.Shown, views.View.View}
 use Rattle.plan_package.specs.Views.{types_alone, views_of_part}
 use Rattle.plan_laws.specs.ShownNames.{DeclaresName, IsInput, PartDeclaresNames}
-use Rattle.plan_laws.proofs.{Showings.all_given, ShownRules.all_of}
+use Rattle.plan_laws.proofs.{Sources.all_given, Sources.all_of}
 use Rattle.comp_read.specs.InputLaws.{ReadIsInput, ReadMembersAreIn, ReadMembersAreNamed, ReadMembersStand}
 use Rattle.comp_read.specs.ReadInput.{IsReadInput, ViewsObey}
 use Rattle.comp_read.proofs.Members.{IsBoth, IsWorldRead, both_at, instance_shown, interface_path, members_stand, instance_of_view, scope_at, scope_in, scope_placed, tables, world_read, world_scope}

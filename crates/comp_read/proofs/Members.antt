@@ -21,7 +21,7 @@ use Rattle.read_exports.specs.declared.members.{Member.Member, Part.Part}
 use Rattle.read_rules.specs.declared.scopes.Scope.{Scope}
 use Rattle.read_rules.specs.{Reached.numbered_import, Scopes.numbered_scope, Views.numbered_view}
 use Rattle.plan_package.specs.Views.{views_of_members, views_of_part, whole_view}
-use Rattle.plan_laws.proofs.ShownNames.{beside}
+use Rattle.plan_laws.proofs.Sources.{beside}
 use Rattle.comp_read.specs.ReadInput.{IsReadInput}
 use Rattle.base_lemmas.proofs.Elements.{all_at, contains-map, get-contains, map_from as from_map, zip_at as zip_there, zip_at_right as zip_at}
 use Rattle.base_lemmas.proofs.Lists.{get_back as at_mapped, mapped_get}

@@ -13,7 +13,7 @@ use Rattle.plan_meaning.specs.Plan.{Plan, PlannedKind, PlannedType, kind_numbers
 use Rattle.wit_model.proofs.{Owners.numbered_at, Tables.grow_at, Elements.contains-flat, Elements.none-in}
 use Rattle.plan_meaning.proofs.{KeptTypes.parts_before, KeptTypes.kept_types_pass, Words.behind, Words.met_are, Words.trees_are, Renumbering.trees_are_kept}
 use Rattle.plan_meaning.proofs.ShapeLaws.{name_tree, node_tree, one_number_apart, part_behind, split_part, tree_at_number}
-use Rattle.plan_laws.proofs.{Inside.flat_cases, PlaceNumbers.number_given}
+use Rattle.plan_laws.proofs.{MetNames.flat_cases, Sources.number_given}
 use Rattle.base_lemmas.proofs.Elements.{all_at, filter_map_from, get-contains, last_of, zip_at_right, contains-later, contains-map, contains-one, first-contained}
 use Rattle.base_lemmas.proofs.Lists.{slice_take, within_there, flat_mapped, get_back, length_of_map, map_of_map, mapped_get}
 use Rattle.base_lemmas.proofs.Bools.{left_of as first_true, right_of as second_true}

@@ -16,7 +16,7 @@ use Rattle.read_rules.specs.{Reached.numbered_import, Scopes.numbered_scope, Vie
 use Rattle.read_rules.specs.declared.{reached.ImportedView.ImportedView, tables.Fact.Fact as KeptFact, views.View.View}
 use Rattle.plan_package.specs.Views.{views_of_members, views_of_part}
 use Rattle.plan_laws.specs.{Apart.FirstsRise, FirstViews.IsRisingView, Whole.PartIsKnown}
-use Rattle.plan_laws.proofs.{FirstViews.first_is, Inside.flat_cases, ShownRules.all_of}
+use Rattle.plan_laws.proofs.{ViewsAgree.first_is, MetNames.flat_cases, Sources.all_of}
 use Rattle.comp_read.specs.{InputLaws.ReadFirstsRise, ReadInput.IsReadInput, ReadInput.ViewsObey}
 use Rattle.comp_read.proofs.Members.{IsBoth, IsInstance, IsNumberedAt, instance_of_view, instance_shown, interface_path, numbered_at}
 use Rattle.comp_read.proofs.{Places.world_at, Views.instance_placed, Views.instance_rises}

@@ -13,7 +13,7 @@ use Rattle.plan_meaning.proofs.Lists.{no_true}
 use Rattle.read_exports.specs.Members.{homes_alone, homes_in, numbered_member, numbered_members}
 use Rattle.read_exports.specs.declared.members.Member.{Member}
 use Rattle.plan_laws.specs.OneWorld.{AreOwnInterfaces, IsOwnInterface, place_of_part}
-use Rattle.plan_laws.proofs.{Inside.flat_cases, FirstViews.first_is}
+use Rattle.plan_laws.proofs.{MetNames.flat_cases, ViewsAgree.first_is}
 use Rattle.comp_read.specs.OwnMembers.{AddsInterface, AddsView, AreOwnAmong, IsOfView, IsOwnAmong, StandAsShown, another, known, new, own, own_places}
 use Rattle.comp_read.proofs.OwnOrder.{filter_known, filter_new, filter_other}
 use Rattle.base_lemmas.proofs.{Bools.left_of as first_true, Bools.right_of as second_true, Lists.append_of_map, Numbers.same-number}

@@ -13,7 +13,7 @@ use Rattle.plan_meaning.specs.{Built.IsBuilt, Built.planned_package, NumberedWor
 use Rattle.plan_meaning.specs.NumberedMembers.{Homes, IsMember, NumberedMember, home_at}
 use Rattle.plan_package.specs.{PlanWhole.PlansWhole, WholeInterfaces.Home}
 use Rattle.plan_laws.specs.WholePlan.{IsOfMember}
-use Rattle.plan_laws.proofs.Inside.{flat_cases}
+use Rattle.plan_laws.proofs.MetNames.{flat_cases}
 use Rattle.read_homes.specs.Homes.{ComeInOrder, HasPlace, HasPlaceBefore}
 use Rattle.read_exports.specs.Members.{numbered_member, numbered_members}
 use Rattle.read_exports.specs.declared.members.Member.{Member}

@@ -18,7 +18,7 @@ use Rattle.read_exports.specs.declared.members.{Member.Member, Part.Part}
 use Rattle.read_rules.specs.Scopes.{numbered_scope}
 use Rattle.read_rules.specs.declared.scopes.{Scope.Scope, Seen.Seen}
 use Rattle.plan_laws.specs.ShownNames.{DeclaresName, PartDeclaresNames}
-use Rattle.plan_laws.proofs.Inside.{flat_cases}
+use Rattle.plan_laws.proofs.MetNames.{flat_cases}
 use Rattle.plan_laws.proofs.OwnPlaces.{AreDifferent, both_ways, inline_places, inlines, kept_nones, no_path, nones, seen_nones}
 use Rattle.comp_read.specs.{InputLaws.ReadPlacesAreApart, ReadInput.IsReadInput, ReadInput.ViewsObey}
 use Rattle.comp_read.proofs.{Inputs.members_named, Inputs.world_in, Scopes.IsSeen, Lists.all_different, Lists.filter_flat, Lists.once_owned}

@@ -17,8 +17,8 @@ use Rattle.plan_type_laws.specs.ShownMarks.{has_no_path}
 use Rattle.plan_package.specs.{Views.types_alone, Views.views_of_members, Views.views_of_part, Views.whole_view, PlanWhole.PlansWhole, PlanWhole.places_in}
 use Rattle.plan_package.specs.{WholeInterfaces.PlansPlace, WholeWorlds.PlansWorld, WholeWorlds.world_in_part, WholeWorlds.worlds_in}
 use Rattle.plan_package.proofs.PlacedLaws.{part_placed}
-use Rattle.plan_laws.proofs.{Inside.flat_cases, Planned.first_there, Planned.interface_there, WholeTypes.packages_are_ruled, WholeTypes.path_planned}
-use Rattle.plan_laws.proofs.{ListedFunctions.seen_same, OneWorld.functions_shown as functions_in_world, OneWorld.one_world, OneWorld.place_shown}
+use Rattle.plan_laws.proofs.{MetNames.flat_cases, Owned.first_there, Owned.interface_there, WholeTypes.packages_are_ruled, WholeTypes.path_planned}
+use Rattle.plan_laws.proofs.{PlannedFunctions.seen_same, WorldMeaning.functions_shown as functions_in_world, WorldMeaning.one_world, WorldMeaning.place_shown}
 use Rattle.comp_read.specs.Order.{if_inline, inline_functions_shown, inline_shown, rise, FollowsParts, TypesRise, function_names, inline_function_names, once_by_path, packages_shown, shown_under, worlds_shown}
 use Rattle.comp_read.proofs.ShownOrder.{none_left, pathless, members_paths, names_alike, paths_once, scope_paths}
 use Rattle.comp_read.proofs.{PackageOrder.built_identities, TypeNumbers.zip_flat, WorldOrder.joined_behind}

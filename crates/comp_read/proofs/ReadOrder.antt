@@ -12,8 +12,8 @@ use Rattle.plan_meaning.specs.{NumberedWorlds.HasPath, NumberedWorlds.NumberedIn
 use Rattle.plan_meaning.specs.{PlanRules.are_rising, PlanRules.IsPlan, Shapes.shape_trees, Shapes.IsTable}
 use Rattle.plan_type_laws.specs.ShownMarks.{has_no_path}
 use Rattle.plan_types.specs.Orders.{places_of_part, joined_all}
-use Rattle.plan_laws.proofs.{OwnPlaces.AreDifferent, OwnPlaces.no_path, OneWorld.one_world}
-use Rattle.plan_laws.proofs.{Planned.first_there, WholeTypes.one_package, WholeTypes.packages_are_ruled, WholeTypes.planned_types_are_whole}
+use Rattle.plan_laws.proofs.{OwnPlaces.AreDifferent, OwnPlaces.no_path, WorldMeaning.one_world}
+use Rattle.plan_laws.proofs.{Owned.first_there, WholeTypes.one_package, WholeTypes.packages_are_ruled, WholeTypes.planned_types_are_whole}
 use Rattle.read_exports.specs.Members.{numbered_members, numbered_part}
 use Rattle.read_exports.specs.declared.members.{Member.Member, Part.Part}
 use Rattle.read_rules.specs.Scopes.{numbered_scope}

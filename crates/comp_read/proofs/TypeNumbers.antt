@@ -21,7 +21,7 @@ use Rattle.plan_meaning.specs.{NumberedWorlds.HasPath, NumberedWorlds.NumberedIn
 use Rattle.plan_parts.specs.{Interfaces.slot_part, Kept.AreMarked}
 use Rattle.plan_package.specs.{Views.views_of_members, Views.views_of_part, WholeInterfaces.Home, WholeInterfaces.ListsNumber, WholeInterfaces.PlansPlace}
 use Rattle.plan_laws.specs.OneWorld.{AreOwnInterfaces}
-use Rattle.plan_laws.proofs.{FirstViews.first_is, Inside.flat_cases}
+use Rattle.plan_laws.proofs.{ViewsAgree.first_is, MetNames.flat_cases}
 use Rattle.read_exports.specs.Members.{numbered_member, numbered_members, numbered_part}
 use Rattle.read_exports.specs.declared.members.{Member.Member, Part.Part}
 use Rattle.read_rules.specs.{Scopes.numbered_scope}

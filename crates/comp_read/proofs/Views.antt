@@ -19,7 +19,7 @@ use Rattle.read_exports.specs.declared.members.{Member.Member, Part.Part}
 use Rattle.read_rules.specs.{Reached.numbered_import, Views.numbered_view}
 use Rattle.plan_package.specs.Views.{views_of_part}
 use Rattle.plan_laws.specs.FirstViews.{told}
-use Rattle.plan_laws.proofs.{FirstViews.one_told, FirstViews.sight_there, ShownRules.instances_obey}
+use Rattle.plan_laws.proofs.{ViewsAgree.one_told, ViewsAgree.sight_there, ShownRules.instances_obey}
 use Rattle.comp_read.specs.ReadInput.{IsReadInput, ViewsObey}
 use Rattle.comp_read.proofs.{InterfaceViews.IsViewed, Lists.IsFirstPassing, Lists.first_passing}
 use Rattle.comp_read.proofs.Members.{IsBoth, both_there, interface_path, part_viewed, placed, scope_in, tables, view_among, world_read, world_scope}

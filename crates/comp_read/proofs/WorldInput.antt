@@ -20,7 +20,7 @@ use Rattle.read_rules.specs.{Scopes.numbered_scope, declared.scopes.Scope.Scope,
 use Rattle.read_members.specs.{DecidedWorlds.IsWorldDecided, ReadMembers.lent_member}
 use Rattle.read_members.proofs.DecidedWorldLaws.{by_members, worlds_are_decided}
 use Rattle.plan_laws.specs.{ShownNames.IsInput, ShownNames.PartDeclaresNames, Whole.IsPackageInput, Whole.PartIsKnown}
-use Rattle.plan_laws.proofs.ShownRules.{all_of}
+use Rattle.plan_laws.proofs.Sources.{all_of}
 use Rattle.comp_read.specs.{ReadInput.IsReadInput, ReadInput.ViewsObey, ReadWorlds.AreBeside, ReadWorlds.IsReadWorld}
 use Rattle.comp_read.proofs.Inputs.{is_input}
 use Rattle.comp_read.proofs.{Members.members_stand, OwnTrees.own_members, OwnTrees.own_tree, OwnTrees.world_members_stand, OwnTrees.world_names_have_kinds, Ordered.parts_known, Ordered.sights_known, WorldOrder.agree, WorldOrder.interfaces, WorldOrder.obeys_package, Places.are_placed, ReadPackages.read_members_are_input, Whole.alone, Whole.lengths_fit, OwnViews.own_at, OwnViews.sight_among}

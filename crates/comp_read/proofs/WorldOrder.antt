@@ -11,7 +11,7 @@ use Rattle.plan_meaning.specs.NumberedMembers.{Homes, NumberedMember, home_at, i
 use Rattle.plan_meaning.specs.NumberedWorlds.{NumberedInstance, sights_of_instance, NumberedScope, sights_of_scope, HasPath, are_once}
 use Rattle.plan_package.specs.{WholeInterfaces.Home, PlanWhole.places_in, PlanWhole.PlansWhole}
 use Rattle.plan_package.specs.WholePackages.{ListsPlace, PlansPackage, another, entries_from, entry_of, the_main, interfaces_in}
-use Rattle.plan_laws.proofs.{PlaceNumbers.IsOnce, PlaceNumbers.all_once, PlaceNumbers.none_twice, Planned.found_there}
+use Rattle.plan_laws.proofs.{Sources.IsOnce, Sources.all_once, Sources.none_twice, Owned.found_there}
 use Rattle.read_exports.specs.declared.members.{Member.Member, Part.Part}
 use Rattle.comp_read.specs.Order.{rise, ListByNumber, OthersListByNumber, OthersRise, PackagesRise, numbers_in}
 use Rattle.comp_read.specs.{OwnMembers.StandAsShown, OwnMembers.places_of, ReadInput.AreHomesOf}

@@ -22,8 +22,8 @@ use Rattle.plan_package.specs.Views.{views_of_members, whole_view}
 use Rattle.plan_laws.specs.{Apart.FirstsRise, ShownWhole.AreReached}
 use Rattle.plan_laws.specs.{FirstViews.IsRisingView, WholePlaces.LabelsStand, WholePlan.IsOfMember, WholePlan.IsWholeInput, WholeReasonsForeign.PartIsReached}
 use Rattle.plan_laws.specs.{WholeCondition.PartIsBare, WholeWorlds.WorldIsFollowed, WholeWorlds.WorldsAreFollowed}
-use Rattle.plan_laws.proofs.{FirstViews.first_is, ShownRules.all_of}
-use Rattle.plan_laws.proofs.{PlaceNumbers.all_joined, PlaceNumbers.from_joined, WholeCondition.whole_may_be_planned, WorldMeaning.world_plan_is_whole}
+use Rattle.plan_laws.proofs.{ViewsAgree.first_is, Sources.all_of}
+use Rattle.plan_laws.proofs.{Sources.all_joined, Sources.from_joined, WholeCondition.whole_may_be_planned, WorldMeaning.world_plan_is_whole}
 use Rattle.comp_read.proofs.{Followed.read_places_are_met, Followed.worlds_followed, WorldOrder.labels_differ, WorldOrder.own_label, Labels.read_labels_stand}
 use Rattle.comp_read.proofs.{Ordered.view_rises, OwnViews.own_at, OwnViews.view_among, ReadPackages.read_packages_have_sources}
 use Rattle.comp_read.proofs.WorldInput.{all_trees, input, one_world, packaged, read_members, tree, views_obey, world_found, world_means}

@@ -5,7 +5,8 @@ use Rattle.std.proofs.lemmas.List.Elements.{Contains-append_cases, Contains-appe
 use Rattle.std.specs.List.{Contains, flat_map}
 use Rattle.wit_model.specs.{Text.Text, Uses.has}
 use Rattle.wit_model.proofs.{Elements.contains-get, Elements.contains-has, Elements.has-contains, Elements.none-in, UsesLemmas.filter_has}
-use Rattle.plan_meaning.specs.{FollowedNumbers.IsPartIn, FollowedNumbers.IsViewIn, NumberedMembers.Homes, NumberedMembers.NumberedMember, NumberedRules.Fact, NumberedViews.NumberedSight, NumberedViews.NumberedView, NumberedViews.Tables, NumberedViews.path_at}
+use Rattle.plan_meaning.specs.{FollowedNumbers.IsPartIn, FollowedNumbers.IsViewIn, NumberedMembers.Homes, NumberedMembers.NumberedMember}
+use Rattle.plan_meaning.specs.{NumberedRules.Fact, NumberedViews.NumberedSight, NumberedViews.NumberedView, NumberedViews.Tables, NumberedViews.path_at}
 use Rattle.plan_meaning.specs.NumberedWorlds.{HasPath, NumberedInstance, are_once}
 use Rattle.read_exports.specs.Members.{numbered_member, numbered_members, numbered_part}
 use Rattle.read_exports.specs.declared.members.{Member.Member, Part.Part}
@@ -15,9 +16,10 @@ use Rattle.plan_types.specs.Orders.{home_of_part}
 use Rattle.plan_package.specs.{Views.views_of_members, Views.views_of_part, Views.whole_view, WholeWorlds.worlds_in}
 use Rattle.plan_type_laws.specs.ShownMarks.{has_no_path, own_places, places_of_part, places_of_seen}
 use Rattle.plan_laws.specs.{Apart.WholeStandsApart, Owners.homes_in, ShownRules.ViewObeys, Whole.IsPackageInput, WorldItems.WorldsAreApart}
-use Rattle.plan_laws.proofs.Sources.{view_among, among_mapped, mapped_cases, part_at, IsWorldIn, world_in}
-use Rattle.plan_laws.proofs.PlaceNumbers.{IsOnce, from_joined}
-use Rattle.plan_laws.proofs.{Planned.home_alone, WholeReasons.as_many, WholeReasons.one_of, WorldKeys.homes_of_worlds, WorldKeys.world_member, OwnPlaces.different, OwnPlaces.no_longer, OwnPlaces.removed, OwnPlaces.removed_many, OwnPlaces.removed_other, OwnPlaces.filtered_there, OwnPlaces.unfiltered_once, WholeTypes.packages_are_ruled}
+use Rattle.plan_laws.proofs.Sources.{view_among, among_mapped, mapped_cases, part_at, IsWorldIn, world_in, IsOnce, from_joined}
+use Rattle.plan_laws.proofs.{Owned.home_alone, WholeReasonsForeign.as_many, WholeReasonsForeign.one_of, WorldKeys.homes_of_worlds, WorldKeys.world_member}
+use Rattle.plan_laws.proofs.OwnPlaces.{different, no_longer, removed, removed_many, removed_other, filtered_there, unfiltered_once}
+use Rattle.plan_laws.proofs.WholeTypes.{packages_are_ruled}
 use Rattle.base_lemmas.proofs.Elements.{all_at, contains-later, contains-map, get-contains, last_of as one-contained, map_from as from_map}
 use Rattle.base_lemmas.proofs.Lists.{append_of_map, front_at as at_front, map_of_map, mapped_get, identity}
 use Rattle.plan_package.proofs.PlacedLaws.{part_placed as places_of_views}
@@ -84,8 +86,7 @@ module _ (t : Tables) (h : Homes) (known : ℕ → Fact) (n : ℕ) (ms : List Me
   -- as many views and worlds of a member have no path as it has places of its own
   part_many : (m : Member) → Contains ms m → (a : Part) → m.part ≡ a
       → length (own (map (λ (s : NumberedSight). s.place) (views_of_part (numbered_part a)))) + length (own (home_of_part (numbered_part a))) ≡ length (own (places_of_part (numbered_part a)))
-  part_many m c (parts.World w) is = by (places_of_seen (numbered_scope w).imports ++ places_of_seen (numbered_scope w).exports) refl
-      (as_many t (numbered_scope w) followed.scope followed.good followed.shows followed.stands.seen)
+  part_many m c (parts.World w) is = by _ refl (as_many t _ _ followed.good followed.shows followed.stands.seen)
     where
       followed : IsWorldIn t h ms members given.input w
       followed = world_is m c w is
@@ -97,16 +98,10 @@ module _ (t : Tables) (h : Homes) (known : ℕ → Fact) (n : ℕ) (ms : List Me
           → length (own (map (λ (i : NumberedInstance). i.place) (numbered_scope w).instances)) ≡ length (own shown)
           → length (own (map (λ (s : NumberedSight). s.place) (map whole_view (numbered_scope w).instances))) + length (own (w.home ∷ [])) ≡ length
           (own (w.home ∷ (places_of_seen (numbered_scope w).imports ++ places_of_seen (numbered_scope w).exports)))
-      by shown e many = omega (
-        arith,
-        (ap (λ ps. length (own ps)) (map_of_map (λ (s : NumberedSight). s.place) whole_view (numbered_scope w).instances) ∙ many),
-        (ap (λ b. length (cond b (w.home ∷ []) [])) home),
-        (ap (λ ps. length (own (w.home ∷ ps))) e ∙ ap (λ b. length (cond b (w.home ∷ own shown) (own shown))) home),
-      )
+      by shown e many = search (std_rules, map_of_map, home)
   part_many m c (parts.Interface q v imports) is = omega (
     arith,
-    ap length (none_pass (has_no_path t) (map (λ (s : NumberedSight). s.place) (views_of_part (numbered_part (parts.Interface q v imports))))
-        (λ p there. outside p (subst (λ ps. Contains ps p) (places_of_views (numbered_part (parts.Interface q v imports))) there))),
+    ap length (none_pass _ _ (λ p there. outside p (subst (λ ps. Contains ps p) (places_of_views (numbered_part (parts.Interface q v imports))) there))),
   )
     where
       good : IsPartIn t (numbered_part (parts.Interface q v imports))

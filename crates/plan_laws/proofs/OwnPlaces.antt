@@ -4,7 +4,7 @@ use Rattle.std.proofs.lemmas.{Option.same_Some as same-some, Bool.cases_eq, Bool
 use Rattle.std.proofs.Common.{rules as std_rules, ◌≡◌, refl, sym, ap, subst, ◌∙◌, ℕ, zero, suc, ◌+◌, inl, inr, arith, Bool, true, false, not, filter, if◌then◌else◌, List, [], ◌∷◌, ◌++◌, length, length-append, map, Option, None, is_none, ◌≤◌, Some, slice_get, cond}
 use Rattle.std.proofs.lemmas.List.Elements.{Contains-append_cases, Contains-append_left, filter-append}
 use Rattle.wit_model.proofs.{UsesLemmas.has_filter, Elements.contains-has, Elements.has-contains, Elements.none-in, Elements.contains-get}
-use Rattle.plan_laws.proofs.{PlaceNumbers.IsOnce, Inside.flat_cases}
+use Rattle.plan_laws.proofs.{Sources.IsOnce, MetNames.flat_cases}
 use Rattle.std.specs.List.{AllByRecursion, Contains, flat_map}
 use Rattle.wit_model.specs.{Uses.has, Text.Text}
 use Rattle.comp_meaning.specs.Follow.{Direction, Instance, export_, import_}
@@ -244,8 +244,7 @@ module _ (t : Tables) (w : NumberedScope) (good : IsScopeIn t w) where
           → map (λ (i : NumberedInstance). i.place) (inlines t ss) ≡ filter (has_no_path t) (places_of_seen ss)
           → map (λ (i : NumberedInstance). i.place) (inline_of t x ++ inlines t ss) ≡ filter (has_no_path t) (places_of_shown x ++ places_of_seen ss)
       by key id (instance (path p) v) seen rest = dropped p seen.0 (inlines t ss) rest
-      by key id (instance (label l p) v) seen rest = ap (λ ps. p ∷ ps) rest ∙ ap (λ o. if is_none o then p ∷ filter (has_no_path t) (places_of_seen ss) else filter (has_no_path t) (places_of_seen ss))
-          (sym seen.0)
+      by key id (instance (label l p) v) seen rest = search (std_rules, is_none)
       by key id (instance (implementing l p) v) seen rest = dropped p seen.0 (inlines t ss) rest
       by key id _ seen rest = rest
 
@@ -258,9 +257,7 @@ module _ (t : Tables) (w : NumberedScope) (good : IsScopeIn t w) where
     where
       by : (key : Text) (id : Option Text) (x : NumberedShown) → Keyed (record { key = key; shown = x; external_id = id }) → IsOneOf t w.instances x → Contains (inline_of t x) i
           → Contains (filter (no_path t) w.instances) i
-      by key id (instance (label l p) v) seen there among =
-          subst (Contains (filter (no_path t) w.instances)) (one-contained (record { place = p; view = v }) i among)
-          (in_filter (no_path t) w.instances (record { place = p; view = v }) there (ap is_none seen.0))
+      by key id (instance (label l p) v) seen there among = search (std_rules, one-contained, in_filter, is_none)
       by key id _ seen there among = none-in i among
 
   abbrev pub all_inline : List NumberedInstance

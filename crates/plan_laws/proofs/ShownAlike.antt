@@ -1,28 +1,144 @@
 -- A type is declared as one and the same wherever it is shown, and views of a place that show functions show the same ones.
-use Rattle.std.proofs.Common.{rules as std_rules, ◌≡◌, refl, sym, ap, subst, ◌∙◌, zero, suc, arith, true, ◌&&◌, ◌==◌, List, [], ◌∷◌, map, ℕ, Option, Some, None}
-use Rattle.std.proofs.lemmas.{Bool.eq-eqb, Bool.eqb-true, Bool.and_from as both, Slice.Eq.bytes_eq-Decides}
-use Rattle.std.specs.{Bool.Decides, List.Contains, List.list_all}
-use Rattle.wit_model.specs.Text.{Text, text_eq}
-use Rattle.wit_model.proofs.{Elements.none-in, TextLemmas.text_same}
-use Rattle.comp_meaning.specs.{Rules.distinct, Same.stand_in}
-use Rattle.comp_meaning.proofs.{FunctionLists.both_ways, AgreementLaws.distinct_behind}
-use Rattle.plan_meaning.specs.NumberedViews.{NumberedFunction, NumberedSight, agree, agree_in_numbers, same_function, same_functions, same_id, NumberedType, NumberedView, Tables, path_at}
-use Rattle.plan_meaning.specs.{FollowedNumbers.IsShownIn, FollowedNumbers.IsViewIn, NumberedMembers.Homes, NumberedMembers.sights_of_members}
-use Rattle.plan_meaning.specs.NumberedRules.{Fact}
-use Rattle.plan_meaning.proofs.Lists.{any_get}
-use Rattle.plan_laws.proofs.{FirstViews.option_same, FirstViews.same_of_option, FirstViews.sight_there, FirstViews.view_names, WorldKeys.by_imports}
-use Rattle.plan_laws.proofs.{FirstPlaces.shown_alike, ShownFrom.IsFrom, ShownFrom.of_import, ShownFrom.of_view, ShownFrom.shown_from, ShownFrom.view_frame}
-use Rattle.plan_laws.proofs.OwnPlaces.{Owned, a_view, a_world, frames, one_owned}
-use Rattle.plan_laws.proofs.WholeTypes.{packages_are_ruled, tests_hold}
-use Rattle.base_lemmas.proofs.{Bools.left_of as first_true, Bools.right_of as second_true, Elements.all-contained, Elements.get-contains, Elements.all_at}
 use Rattle.plan_type_laws.proofs.PartPlaces.{slot_number}
-use Rattle.plan_parts.specs.Interfaces.{slot_part}
+use Rattle.std.proofs.Common.{◌≡◌, sym, ap, subst, ◌∙◌, ℕ, ◌+◌, arith, true, List, map, Option, Some, slice_get, refl, zero, suc, ◌<◌, ◌⊎◌, inl, inr, Bool, false, ◌==◌, cond, [], ◌∷◌, ◌++◌, length, None, rules as std_rules, ◌&&◌}
+use Rattle.std.proofs.lemmas.{Bool.eq-eqb, Bool.eqb-true, Bool.false_from_ne_true, Bool.and_from as both, List.append-nil, List.append_assoc}
+use Rattle.std.proofs.lemmas.{Option.slice_get_within, Option.same_Some as same-some, Slice.Eq.bytes_eq-Decides}
+use Rattle.std.{specs.List.Contains, specs.List.find, specs.Bool.Decides, specs.List.list_all}
+use Rattle.wit_model.specs.{Text.Text, Text.text_eq, Uses.has}
+use Rattle.comp_meaning.specs.{Rules.distinct, Same.stand_in}
+use Rattle.plan_meaning.specs.{FollowedNumbers.IsShownIn, FollowedNumbers.IsViewIn, NumberedMembers.Homes, NumberedMembers.sights_of_members}
+use Rattle.plan_meaning.specs.{NumberedWorlds.are_once, Shapes.named_shape, NumberedRules.Fact}
+use Rattle.plan_meaning.specs.NumberedViews.{NumberedSight, NumberedType, Tables, agree_in_numbers, first_at, NumberedFunction, agree, same_function, same_functions, same_id, NumberedView, path_at}
 use Rattle.read_exports.specs.Members.{numbered_members}
 use Rattle.read_exports.specs.declared.members.Member.{Member}
-use Rattle.plan_types.specs.Showings.{NumberedShowing, showings_of_members}
+use Rattle.plan_types.specs.{Showings.NumberedShowing, Showings.showings_of_members, Orders.joined, Orders.joined_all, PlannedTypes.number_in}
 use Rattle.plan_package.specs.Views.{views_of_members}
-use Rattle.plan_laws.specs.{ShownAlike.WholeIsShownAlike, ShownRules.ViewObeys, Whole.IsPackageInput, WholeTypes.IsRuledInput}
+use Rattle.plan_type_laws.specs.ShownMarks.{own_places}
+use Rattle.plan_laws.proofs.{MetNames.name_same, OwnPlaces.Owned, OwnPlaces.a_view, OwnPlaces.a_world, OwnPlaces.frames, OwnPlaces.one_owned}
+use Rattle.plan_laws.proofs.{Sources.one_under, Sources.all_joined, Sources.all_once, Sources.from_joined, Sources.none_twice, ShownRules.import_named}
+use Rattle.plan_laws.proofs.{WorldKeys.view_apart, WorldKeys.by_imports, WholeTypes.packages_are_ruled, WholeTypes.tests_hold}
+use Rattle.plan_laws.proofs.ViewsAgree.{IsFrom, of_import, of_view, shown_from, views_tell, option_same, same_of_option, sight_there, view_names, view_frame}
+use Rattle.plan_laws.specs.FirstViews.{told}
+use Rattle.plan_laws.specs.{ShownNames.IsInput, ShownAlike.WholeIsShownAlike, ShownRules.ViewObeys, Whole.IsPackageInput, WholeTypes.IsRuledInput}
+use Rattle.base_lemmas.proofs.Elements.{all_at, contains-map, map_from as from_map, all-contained, get-contains}
+use Rattle.base_lemmas.proofs.{Lists.front_at as at_front, Lists.middle_get, Bools.left_of as first_true, Bools.right_of as second_true}
+use Rattle.wit_model.proofs.{Elements.contains-get, Elements.has-contains, Elements.none-in, TextLemmas.text_same}
+use Rattle.plan_types.proofs.OrderLaws.{joined_both}
+use Rattle.plan_package.proofs.ReadPackageLaws.{number_at as number_there}
+use Rattle.comp_meaning.proofs.{FunctionLists.both_ways, AgreementLaws.distinct_behind}
+use Rattle.plan_meaning.proofs.Lists.{any_get}
+use Rattle.plan_parts.specs.Interfaces.{slot_part}
 use Rattle.comp_meaning.specs.Reads as reads
+
+-- ---- What stands before the first view of a place has a smaller number.
+
+-- ---- A type that a view shows is first shown as the view declares it.
+
+module _ (t : Tables) (h : Homes) (ms : List Member) (members : List reads.Member) (input : IsInput t h ms members) (apart : are_once (own_places t (numbered_members ms)) ≡ true) (agrees : agree_in_numbers (sights_of_members t (numbered_members ms)) ≡ true) where
+  -- each showing of the number declares what the view does, whose names differ
+  pub shown_alike : (s : NumberedSight) → Contains (views_of_members (numbered_members ms)) s → distinct (map (λ (x : NumberedType). x.name) s.view.types) ≡ true → (x : NumberedType)
+      → Contains s.view.types x
+      → (n : ℕ) → slice_get t.shapes n ≡ Some (named_shape s.place x.name) → (y : NumberedShowing) → Contains (showings_of_members ms) y → y.part ≡ 14 + n → y.declared ≡ x.declared
+  shown_alike s in_views names x in_types n at y shown part = by (shown_from t h ms members input apart y shown)
+    where
+      same_name : (q : ℕ) (name : Text) (k : ℕ) → slice_get t.shapes k ≡ Some (named_shape q name) → k ≡ n → (q ≡ s.place) × (name ≡ x.name)
+      same_name q name k there one = name_same t.shapes q s.place name x.name k n there at one
+
+      by : IsFrom t h ms members input apart y → y.declared ≡ x.declared
+      by (of_view other in_it good z in_other shows) =
+          let stands = all_at (IsShownIn t other.place) other.view.types good.types z in_other in
+          let same = same_name other.place z.name stands.number stands.name.named (omega (arith, slot_number t z.slot stands.number stands.slot, ap (λ (v : NumberedShowing). v.part) shows, part)) in
+          let from = from_map told s.view.types (told z) (subst (λ es. Contains es (told z)) (views_tell t h ms members input apart agrees other s in_it in_views same.0)
+          (contains-map told other.view.types z in_other)) in
+          sym (ap (λ (v : NumberedShowing). v.declared) shows) ∙ (sym (ap (λ (e : Text × (Option ℕ × Option Text)). e.1.0) from.2)
+          ∙ ap (λ (v : NumberedType). v.declared) (one_under (λ (v : NumberedType). v.name) s.view.types names from.0 x from.1 in_types
+          (ap (λ (e : Text × (Option ℕ × Option Text)). e.0) from.2 ∙ same.1)))
+      by (of_import m c w is_world seen among e) =
+          let named = import_named t input.tables h ms members input m c w is_world seen among y.part y.declared e in
+          absurd (view_apart t h ms members input apart s in_views m c w is_world (sym (same_name w.home seen.key.now named.0 named.2.named (let a = named.1 in omega (arith, a, part))).0))
+
+-- ---- lists that are split
+
+pub record Split {A : Type 0} (xs : List A) (y : A) : Type 0 where
+  pub front : List A
+  pub back : List A
+  pub is : xs ≡ front ++ y ∷ back
+
+-- ---- the first view of a place
+
+pub record IsFirst (q : ℕ) (all : List NumberedSight) (s : NumberedSight) : Type 0 where
+  pub split : Split all s
+  pub place : s.place ≡ q
+  pub none : (u : NumberedSight) → Contains split.front u → u.place ≡ q → ⊥
+
+pub first_split : (q : ℕ) (all : List NumberedSight) (s : NumberedSight) → first_at q all ≡ Some s → IsFirst q all s
+first_split q [] s e = let wrong : None ≡ Some s = e in absurd cc
+first_split q (x ∷ xs) s e = by (q == x.place) refl e (first_split q xs s)
+  where
+    by : (b : Bool) → (q == x.place) ≡ b → cond b (Some x) (find (λ (y : NumberedSight). q == y.place) xs) ≡ Some s → (first_at q xs ≡ Some s → IsFirst q xs s) → IsFirst q (x ∷ xs) s
+    by true here e later =
+        let same : x ≡ s = same-some x s e in
+        record {
+          split = record { front = []; back = xs; is = ap (λ y. y ∷ xs) same };
+          place = sym (eqb-true q s.place (ap (λ (y : NumberedSight). q == y.place) (sym same) ∙ here));
+          none = λ u c p. none-in u c;
+        }
+    by false other e later =
+        let found = later e in
+        record {
+          split = record { front = x ∷ found.split.front; back = found.split.back; is = ap (λ ys. x ∷ ys) found.split.is };
+          place = found.place;
+          none = λ u c p. none_here found u c p;
+        }
+      where
+        none_here : (found : IsFirst q xs s) (u : NumberedSight) → Contains (x ∷ found.split.front) u → u.place ≡ q → ⊥
+        none_here found u (zero, low, same) p = let wrong : false ≡ true = sym other ∙ eq-eqb q x.place (sym p ∙ ap (λ (y : NumberedSight). y.place) (sym same)) in cc
+        none_here found u (suc i, low, same) p = found.none u (i, omega (arith, low), same) p
+
+-- ---- numbers
+
+pub joined_more : (met ps : List ℕ) → (more : List ℕ) × (joined_all met ps ≡ met ++ more)
+joined_more met [] = ([], sym (append-nil met))
+joined_more met (p ∷ ps) = by (has met p) refl (joined_more met ps) (joined_more (met ++ p ∷ []) ps)
+  where
+    by : (b : Bool) → has met p ≡ b → (more : List ℕ) × (joined_all met ps ≡ met ++ more) → (more : List ℕ) × (joined_all (met ++ p ∷ []) ps ≡ (met ++ p ∷ []) ++ more) → (more : List ℕ)
+        × (joined_all (joined met p) ps ≡ met ++ more)
+    by true there here later = (here.0, ap (λ b. joined_all (cond b met (met ++ p ∷ [])) ps) there ∙ here.1)
+    by false none here later = (p ∷ later.0, ap (λ b. joined_all (cond b met (met ++ p ∷ [])) ps) none ∙ (later.1 ∙ append_assoc met (p ∷ []) later.0))
+
+module _ (front back : List ℕ) (q : ℕ) (new : Contains front q → ⊥) where
+  abbrev all : List ℕ
+  all = joined_all [] (front ++ q ∷ back)
+
+  abbrev before : List ℕ
+  before = joined_all [] front
+
+  not_before : has before q ≡ false
+  not_before = false_from_ne_true (has before q) (λ e. absent (from_joined [] front q (has-contains before q e)))
+    where
+      absent : Contains [] q ⊎ Contains front q → ⊥
+      absent (inl none) = none-in q none
+      absent (inr among) = new among
+
+  all_is : (more : List ℕ) × (all ≡ before ++ q ∷ more)
+  all_is =
+      let rest = joined_more (before ++ q ∷ []) back in
+      (rest.0, joined_both [] front (q ∷ back) ∙ (ap (λ b. joined_all (cond b before (before ++ q ∷ [])) back) not_before ∙ (rest.1 ∙ append_assoc before (q ∷ []) rest.0)))
+
+  -- a place that stands before has a smaller number
+  pub number_before : (r u w : ℕ) → Contains front r → number_in all r ≡ Some u → number_in all q ≡ Some w → u < w
+  number_before r u w c r_at q_at =
+      let once = all_once [] (front ++ q ∷ back) none_twice in
+      let is = all_is in
+      let there = contains-get before r (all_joined [] front r (inr c)) in
+      omega (
+        arith,
+        once u there.0 r (number_there all r u r_at) (ap (λ xs. slice_get xs there.0) is.1 ∙ at_front before (q ∷ is.0) there.0 r there.1),
+        once w (length before) q (number_there all q w q_at) (ap (λ xs. slice_get xs (length before)) is.1 ∙ middle_get before q is.0),
+        slice_get_within before there.0 r there.1,
+      )
+
+-- ---- what the page is for
 
 -- ---- Views of one place that show functions show the same ones.
 
@@ -111,10 +227,9 @@ module _ (t : Tables) (h : Homes) (known : ℕ → Fact) (n : ℕ) (ms : List Me
   by_view : (s : NumberedSight) → Contains views s → IsViewIn t s.place s.view → (x : NumberedType) → Contains s.view.types x → (y z : NumberedShowing) → y.part ≡ z.part → x.declared ≡ y.declared
       → slot_part x.slot ≡ y.part → Contains (showings_of_members ms) z → z.declared ≡ y.declared
   by_view s in_views good x in_types y z same declared part z_shown =
-      let is = all_at (IsShownIn t s.place) s.view.types good.types x in_types in
-      let own = slot_number t x.slot is.number is.slot in
-      shown_alike t h ms members given.input given.placed.apart ruled.agree s in_views
-      (view_names t s (all_at (ViewObeys t) views ruled.rules.views s in_views)) x in_types is.number is.name.named z z_shown (omega (arith, own, part, same)) ∙ declared
+      let is = all_at (IsShownIn t s.place) _ good.types x in_types in
+      shown_alike t h _ _ given.input given.placed.apart ruled.agree s in_views
+      (view_names t s (all_at (ViewObeys t) _ ruled.rules.views s in_views)) x in_types _ is.name.named z z_shown (omega (arith, slot_number t _ _ is.slot, part, same)) ∙ declared
 
   pub types_alike : (y z : NumberedShowing) → Contains (showings_of_members ms) y → Contains (showings_of_members ms) z → y.part ≡ z.part → y.declared ≡ z.declared
   types_alike y z c d same = by (shown_from t h ms members given.input given.placed.apart y c) (shown_from t h ms members given.input given.placed.apart z d)

@@ -1,38 +1,72 @@
 -- What is shown obeys the rules of reading.
+use Rattle.plan_type_laws.proofs.{PartPlaces.slot_number, PartPlaces.parts_weaker, Walks.all_unmapped}
+use Rattle.std.proofs.Common.{◌≡◌, subst, ℕ, ◌+◌, inl, List, Option, rules as std_rules, refl, sym, ap, ◌∙◌, zero, suc, ◌⊎◌, inr, arith, Bool, true, false, ◌&&◌, ◌||◌, [], ◌∷◌, ◌++◌, map}
 use Rattle.std.proofs.lemmas.{Slice.Eq.bytes_eq-Decides, List.Elements.Contains-append_cases}
-use Rattle.std.proofs.Common.{rules as std_rules, ◌≡◌, refl, sym, ap, subst, ◌∙◌, ℕ, zero, suc, ◌+◌, ◌⊎◌, inl, inr, arith, Bool, true, false, ◌&&◌, ◌||◌, List, [], ◌∷◌, ◌++◌, map, Option}
-use Rattle.std.specs.List.{AllByRecursion, Contains, list_all, list_any}
-use Rattle.wit_model.specs.{Names.is_label, Meaning.FunctionMeaning, Meaning.Signature, Text.Text, Text.text_eq, Tree.Place, Tree.Declaration}
+use Rattle.std.specs.List.{Contains, AllByRecursion, list_all, list_any}
+use Rattle.wit_model.specs.{Text.Text, Text.text_eq, Names.is_label, Meaning.FunctionMeaning, Meaning.Signature, Tree.Place, Tree.Declaration}
+use Rattle.plan_meaning.specs.FollowedNumbers.{IsNameOf, IsPartIn, IsShownIn, IsMetFrom, IsViewIn}
+use Rattle.plan_meaning.specs.NumberedViews.{AreTables, Tables, IsPart, NumberedFunction, NumberedSight, NumberedType, declaration_of, function_at, place_at, shown_function, shown_type, signature_at, view_of}
+use Rattle.plan_meaning.specs.NumberedMembers.{Homes, IsKnownSight, NumberedMember, are_interfaces, sights_of_members, sights_of_part}
+use Rattle.plan_meaning.specs.{Shapes.named_shape, NumberedWorlds.NumberedSeen, NumberedWorlds.instance_of, NumberedWorlds.seen_of, NumberedWorlds.shown_of}
+use Rattle.plan_meaning.specs.NumberedRules.{Fact}
+use Rattle.read_rules.specs.declared.scopes.{Scope.Scope, Seen.Seen, Shown.Shown}
+use Rattle.read_exports.specs.Members.{numbered_part, numbered_member, numbered_members}
+use Rattle.read_exports.specs.declared.members.{Member.Member, Part.Part}
+use Rattle.plan_types.specs.Showings.{NumberedShowing, showings_of_members, showing_of, signatures_of_members}
+use Rattle.plan_laws.specs.ShownNames.{DeclaresName, IsInput, PartDeclaresNames}
+use Rattle.plan_laws.specs.ShownRules.{PartObeys, RulesAreObeyed, ShownObeysRules, TypeObeys, ViewObeys}
+use Rattle.plan_laws.proofs.Sources.{origin, part_at, side_good, view_in, IsWorldIn, Side, among_mapped, imported_showing, mapped_cases, signed, world_in, all_of}
+use Rattle.plan_laws.proofs.MetNames.{flat_cases}
+use Rattle.base_lemmas.proofs.Elements.{all_at, all-contained, contains-later, contains-map, last_of as one-contained, map_from as from_map}
+use Rattle.base_lemmas.proofs.Bools.{left_of as first_true, right_of as second_true}
 use Rattle.wit_model.proofs.Elements.{none-in}
 use Rattle.comp_meaning.specs.{Follow.Direction, Follow.Instance, Follow.export_, Follow.import_, Follow.interface_of, Follow.place_of, Rules.distinct}
 use Rattle.read_shown.specs.{Instances.going, Instances.instances_in, Parts.WorldStands}
-use Rattle.plan_meaning.specs.FollowedNumbers.{IsMetFrom, IsNameOf, IsShownIn, IsViewIn}
-use Rattle.plan_meaning.specs.NumberedMembers.{Homes, IsKnownSight, NumberedMember, are_interfaces, sights_of_members, sights_of_part}
-use Rattle.plan_meaning.specs.{NumberedRules.Fact, NumberedWorlds.NumberedSeen, NumberedWorlds.instance_of, NumberedWorlds.seen_of, NumberedWorlds.shown_of}
-use Rattle.plan_meaning.specs.NumberedViews.{AreTables, IsPart, NumberedFunction, NumberedSight, NumberedType, Tables, declaration_of, function_at, place_at, shown_function, shown_type, signature_at, view_of}
 use Rattle.plan_meaning.proofs.NumberedRules.{interface_same}
-use Rattle.read_rules.specs.declared.scopes.{Scope.Scope, Seen.Seen, Shown.Shown}
 use Rattle.read_rules.specs.{Scopes.numbered_instance, Scopes.numbered_seen, Scopes.numbered_shown, Tables.given_text}
-use Rattle.read_exports.specs.Members.{numbered_member, numbered_members, numbered_part}
-use Rattle.read_exports.specs.declared.members.{Member.Member, Part.Part}
-use Rattle.plan_types.specs.Showings.{NumberedShowing, showing_of, showings_of_members, signatures_of_members}
 use Rattle.plan_package.specs.Views.{views_of_members, views_of_part, whole_view}
-use Rattle.plan_type_laws.proofs.{Walks.all_unmapped, PartPlaces.parts_weaker, PartPlaces.slot_number}
 use Rattle.plan_type_laws.specs.UsedParts.{SignatureObeys}
-use Rattle.plan_laws.specs.ShownNames.{IsInput}
-use Rattle.plan_laws.specs.ShownRules.{PartObeys, RulesAreObeyed, ShownObeysRules, TypeObeys, ViewObeys}
-use Rattle.plan_laws.proofs.{Inside.flat_cases, Showings.import_named}
-use Rattle.plan_laws.proofs.Sources.{IsWorldIn, Side, among_mapped, imported_showing, mapped_cases, origin, part_at, side_good, signed, view_in, world_in}
-use Rattle.comp_meaning.specs.Follow as follow
 use Rattle.comp_meaning.specs.Reads as reads
-use Rattle.comp_meaning.specs.Rules as rules
-use Rattle.read_shown.specs.Instances as shown_instances
 use Rattle.read_rules.specs.declared.scopes.Shown.TheVariants as shown
 use Rattle.read_exports.specs.declared.members.Part.TheVariants as parts
 use Rattle.plan_laws.proofs.Sources as sources
-pub use Rattle.plan_laws.proofs.Sources.{all_of}
-use Rattle.base_lemmas.proofs.Bools.{left_of as first_true, right_of as second_true}
-use Rattle.base_lemmas.proofs.Elements.{all-contained, all_at, contains-later, contains-map, last_of as one-contained, map_from as from_map}
+use Rattle.comp_meaning.specs.Follow as follow
+use Rattle.comp_meaning.specs.Rules as rules
+use Rattle.read_shown.specs.Instances as shown_instances
+
+-- ---- Each type that is shown is a name of the table, behind what it is declared as.
+
+module _ (t : Tables) (tables : AreTables t) where
+  -- the name whose type is shown
+  pub record IsNamed (y : NumberedShowing) : Type 0 where
+    pub place : ℕ
+    pub name : Text
+    pub number : ℕ
+    pub part : y.part ≡ 14 + number
+    pub is : IsNameOf t place name y.declared number
+
+  module _ (h : Homes) (ms : List Member) (members : List reads.Member) (input : IsInput t h ms members) where
+    -- an import of a world declares its name
+    pub import_named : (m : Member) → Contains ms m → (w : Scope) → m.part ≡ parts.World w → (s : Seen) → Contains w.imports.now s → (part : ℕ) (d : Option ℕ) → s.shown ≡ shown.Declares part d
+        → (n : ℕ) × (part ≡ 14 + n) × IsNameOf t w.home s.key.now d n
+    import_named m c w is s there part d e =
+        let good = side_good w t (subst (λ a. IsPartIn t (numbered_part a)) is (part_at t ms input.numbers m c)) s (inl there) (shown.Declares part d) e in
+        let named = subst (λ (x : Shown). DeclaresName t w.home (record { key = s.key; shown = x; external_id = s.external_id })) e
+        (all_at (DeclaresName t w.home) w.imports.now (subst (PartDeclaresNames t) is (all_at (λ (x : Member). PartDeclaresNames t x.part) ms input.declared m c)) s there) in
+        (named.0, named.1, subst (IsNameOf t w.home s.key.now d) (tables.shapes.apart good.0 named.0 (named_shape w.home s.key.now) good.1.named named.2) good.1)
+
+    pub showings_named : (y : NumberedShowing) → Contains (showings_of_members ms) y → IsNamed y
+    showings_named y c = let from = origin t h ms members input y c in by from.0 from.1 from.2
+      where
+        by : (m : Member) → Contains ms m → sources.IsShownIn m.part y → IsNamed y
+        by m m_in (sources.in_view s there x among same) =
+            let is = all_at (IsShownIn t s.place) s.view.types (view_in t m.part (part_at t ms input.numbers m m_in) s there).types x among in
+            subst IsNamed same (record { place = s.place; name = x.name; number = is.number; part = slot_number t x.slot is.number is.slot; is = is.name })
+        by m m_in (sources.of_world w is s there part d e same) =
+            let named = import_named m m_in w is s there part d e in
+            subst IsNamed same (record { place = w.home; name = s.key.now; number = named.0; part = named.1; is = named.2 })
+
+-- ---- what the page is for
 
 -- ---- what a world imports and exports, as trees
 
@@ -175,10 +209,7 @@ module _ (t : Tables) (tables : AreTables t) where
 
   module _ (h : Homes) (ms : List Member) (members : List reads.Member) (input : IsInput t h ms members) (w : Scope) (of : IsWorldIn t h ms members input w) where
     world_part_obeys : PartObeys t (parts.World w)
-    world_part_obeys = (
-      subst (λ ss. rules.are_imports [] ss ≡ true) of.shows.imports (world_obeys of.scope of.stands.obeys).imports,
-      subst (λ ss. list_all (λ (s : follow.Seen). rules.is_item [] s.key s.shown) ss ≡ true) of.shows.exports (world_obeys of.scope of.stands.obeys).exports,
-    )
+    world_part_obeys = search (std_rules, world_obeys)
 
     abbrev pub all_imports : List follow.Seen
     all_imports = map (seen_of t) (map numbered_seen w.imports.now)

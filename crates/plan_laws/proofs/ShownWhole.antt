@@ -1,14 +1,17 @@
 -- The worlds of a plan show what worlds at the top do, and each view shows the types by which its place is read.
-use Rattle.plan_laws.proofs.{ShownFrom.own_once, Inside.flat_cases, InstanceSeen.instance_seen, Planned.found_there, Sources.Side, Sources.partner, Sources.world_in as world_of, PlaceNumbers.one_owner, FirstTypes.views_told, FirstViews.first_is, FirstViews.told_types, WholePlacesLabels.world_among, WholeTypes.packages_are_ruled}
+use Rattle.plan_laws.proofs.ViewsAgree.{own_once, instance_seen, views_told, first_is, told_types}
+use Rattle.plan_laws.proofs.{MetNames.flat_cases, Owned.found_there, Sources.Side, Sources.partner, Sources.world_in as world_of, Sources.one_owner}
+use Rattle.plan_laws.proofs.WholeTypes.{world_among, packages_are_ruled}
 use Rattle.std.proofs.Common.{rules as std_rules, ◌≡◌, refl, sym, ap, subst, ◌∙◌, ℕ, inl, inr, ◌==◌, true, List, [], ◌++◌, map, Option, Some, None}
 use Rattle.std.proofs.lemmas.{List.Elements.Contains-append_left, List.Elements.Contains-append_right, Option.same_Some as same-some}
 use Rattle.std.specs.{List.AllByRecursion, List.AllZip, List.Contains, Option.option_map_or, Cmp.Lexicographic.pointwise}
-use Rattle.wit_model.specs.{Text.Text, Valid.as_interface, Valid.as_world}
+use Rattle.wit_model.specs.{Text.Text, Valid.as_interface}
 use Rattle.wit_model.specs.declared.model.{TypeId.TypeId, TypeOwner.TypeOwner}
 use Rattle.wit_model.proofs.Elements.{contains-flat, contains-get}
 use Rattle.plan_meaning.specs.NumberedMembers.{Homes, NumberedMember, NumberedPart, home_at, interface, sights_of_members, sights_of_part, world}
-use Rattle.plan_meaning.specs.{NumberedRules.Fact, ReadWholes.IsShownByWorld, ReadWholes.place_shown, NumberedViews.NumberedSight, NumberedViews.Tables, NumberedViews.same_shown, ReadFunctions.Beside, NumberedWorlds.NumberedInstance, NumberedWorlds.sights_of_instance, ReadPlans.IsReadPlan}
-use Rattle.plan_meaning.specs.Plan.{Plan, PlannedItem, PlannedKey, PlannedWorld, item_interface, world_in}
+use Rattle.plan_meaning.specs.{NumberedRules.Fact, Plan.Plan, Plan.PlannedItem, Plan.PlannedKey, Plan.PlannedWorld, Plan.item_interface, Plan.world_in}
+use Rattle.plan_meaning.specs.{ReadWholes.IsShownByWorld, ReadWholes.place_shown, NumberedWorlds.NumberedInstance, NumberedWorlds.sights_of_instance}
+use Rattle.plan_meaning.specs.{NumberedViews.NumberedSight, NumberedViews.Tables, NumberedViews.same_shown, ReadFunctions.Beside, ReadPlans.IsReadPlan}
 use Rattle.plan_meaning.specs.ReadWorlds.{IsReadItem, IsReadWorld, ReadItem, a_function, a_type, by_label, by_path, implementing_path}
 use Rattle.read_exports.specs.Members.{numbered_members}
 use Rattle.read_exports.specs.declared.members.Member.{Member}
@@ -109,12 +112,8 @@ module _ (t : Tables) (h : Homes) (known : ℕ → Fact) (n : ℕ) (ms : List Me
           shown_by y listed shows = record { number = j; world = x; there = there; item = y; listed = subst (λ (z : Read j x). Contains (z.imports ++ z.exports) y) (sym same) listed; shows = shows }
 
           which : Side w s → IsShownByWorld t h planned.kept p b (views_read ms) read i.place
-          which (inl imported) =
-              let y = listed_shows plans.find (as_world j) r.scope.home w.imports.now x.imports plans.imports r.imports r.imports_listed r.imports_read i.place s imported place in
-              shown_by y.0 (Contains-append_left r.imports r.exports y.0 y.1) y.2
-          which (inr exported) =
-              let y = listed_shows plans.find (as_world j) r.scope.home w.exports.now x.exports plans.exports r.exports r.exports_listed r.exports_read i.place s exported place in
-              shown_by y.0 (Contains-append_right r.imports r.exports y.0 y.1) y.2
+          which (inl imported) = search (std_rules, listed_shows, shown_by, Contains-append_left)
+          which (inr exported) = search (std_rules, listed_shows, shown_by, Contains-append_right)
 
 pub whole_is_shown : WholeIsShown
 whole_is_shown t h known n ms members given ordered reached p planned b owned read = search (std_rules, worlds_show, views_agree)

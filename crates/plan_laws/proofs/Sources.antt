@@ -1,35 +1,156 @@
 -- Where what is shown stands: a type in a view or as an import of a world, and a function in a whole view or in a world.
-use Rattle.std.proofs.Common.{rules as std_rules, ◌≡◌, refl, sym, ap, subst, ◌∙◌, ℕ, suc, ◌⊎◌, inl, inr, true, false, List, [], ◌∷◌, ◌++◌, map, Option, Some, slice_get}
-use Rattle.std.proofs.lemmas.List.Elements.{Contains-append_cases, Contains-append_left, Contains-append_right}
-use Rattle.std.proofs.lemmas.Option.{same_Some as same-some}
-use Rattle.std.specs.{Borrow.Bor, List.AllByRecursion, List.AllZip, List.Contains, List.flat_map}
-use Rattle.wit_model.specs.Text.{Text}
-use Rattle.wit_model.proofs.Elements.{contains-flat, contains-get, none-in}
-use Rattle.comp_meaning.specs.Rules.{distinct}
-use Rattle.read_shown.proofs.Lists.{one_place}
-use Rattle.read_shown.specs.Parts.{PartStands, WorldStands}
+use Rattle.std.proofs.Common.{rules as std_rules, ◌≡◌, refl, sym, ap, subst, ◌∙◌, ℕ, zero, suc, ◌+◌, ◌<◌, ◌⊎◌, inl, inr, arith, Bool, true, false, ◌==◌, nat_lt, cond, List, [], ◌∷◌, ◌++◌, length, Option, Some, None, slice_get, map}
+use Rattle.std.proofs.lemmas.{Bool.eqb-true, Bool.ltb-false, Option.slice_get_within, Option.same_Some as same-some}
+use Rattle.std.proofs.lemmas.List.{Elements.Contains-append_cases, Elements.Contains-append_left, Elements.Contains-append_right, Sums.fails_before_first}
+use Rattle.std.specs.{List.Contains, List.flat_map, List.position_or_len, List.AllByRecursion, List.AllZip, Option.option_map_or, Borrow.Bor}
+use Rattle.wit_model.specs.declared.model.TypeOwner.{TypeOwner}
+use Rattle.wit_model.specs.{Parts.same_owner, Uses.has, Valid.as_interface, Valid.as_world, Text.Text}
+use Rattle.wit_model.proofs.Elements.{contains-has, has-contains, none-in, contains-flat, contains-get}
+use Rattle.wit_model.proofs.PartsLemmas.{owner_itself}
+use Rattle.read_shown.proofs.Lists.{at_end, one_place}
+use Rattle.plan_meaning.specs.{NumberedMembers.NumberedMember, NumberedMembers.Homes, NumberedMembers.IsMember, NumberedMembers.ShowsPart, ReadFunctions.Beside}
 use Rattle.plan_meaning.specs.FollowedNumbers.{AreMembersIn, IsOneOf, IsPartIn, IsScopeIn, IsSeenIn, IsViewIn}
-use Rattle.plan_meaning.specs.NumberedMembers.{Homes, IsMember, NumberedMember, ShowsPart}
-use Rattle.plan_meaning.specs.NumberedViews.{AllOf, NumberedFunction, NumberedSight, NumberedType, NumberedView, Tables}
-use Rattle.plan_meaning.specs.NumberedWorlds.{HasPath, NumberedInstance, NumberedSeen, Shows, place_of_key, seen_of, shown_of}
+use Rattle.plan_meaning.specs.NumberedViews.{AllOf, NumberedFunction, NumberedSight, NumberedType, Tables, NumberedView}
+use Rattle.plan_meaning.specs.NumberedWorlds.{NumberedInstance, NumberedSeen, Shows, place_of_key, seen_of, shown_of, HasPath}
 use Rattle.plan_meaning.specs.ReadWorlds.{is_type_seen}
+use Rattle.read_exports.specs.Members.{numbered_members, numbered_member, numbered_part}
+use Rattle.read_exports.specs.declared.members.{Member.Member, Part.Part}
+use Rattle.plan_types.specs.{Orders.joined, Orders.joined_all, Orders.places_of_part, PlannedTypes.number_in, PlannedTypes.owner_in}
+use Rattle.plan_types.specs.Showings.{NumberedShowing, showing_of, showings_of_import, showings_of_members, showings_of_part, showings_of_seen, showings_of_shown, showings_of_view, signatures_of_members, signatures_of_part, signatures_of_seen, signatures_of_shown}
+use Rattle.plan_package.specs.{PlanWhole.places_in, Views.types_alone, Views.views_of_members, Views.views_of_part, Views.whole_view}
+use Rattle.plan_laws.specs.{Owners.homes_in, Owners.owner_of, Owners.owners_of, ShownNames.DeclaresName, ShownNames.IsInput, ShownNames.PartDeclaresNames}
+use Rattle.base_lemmas.proofs.Elements.{contains-one, get-contains, last_of as one-contained, all_at, contains-map, map_from as from_map, zip_at, zip_at_right}
+use Rattle.base_lemmas.proofs.{Numbers.same-number, Lists.mapped_get}
+use Rattle.plan_package.proofs.ReadPackageLaws.{number_at as number_there}
+use Rattle.comp_meaning.specs.Rules.{distinct}
+use Rattle.read_shown.specs.Parts.{PartStands, WorldStands}
 use Rattle.read_rules.specs.declared.{reached.ImportedView.ImportedView, scopes.InstanceKey.InstanceKey, scopes.Scope.Scope, scopes.Shown.Shown}
 use Rattle.read_rules.specs.declared.{scopes.Seen.Seen, views.View.View}
 use Rattle.read_rules.specs.{Reached.numbered_import, Tables.given_text, Views.numbered_view}
 use Rattle.read_rules.specs.Scopes.{numbered_instance, numbered_key, numbered_scope, numbered_seen, numbered_shown}
-use Rattle.read_exports.specs.Members.{numbered_member, numbered_members, numbered_part}
-use Rattle.read_exports.specs.declared.members.{Member.Member, Part.Part}
-use Rattle.plan_types.specs.Showings.{NumberedShowing, showing_of, showings_of_import, showings_of_members, showings_of_part, showings_of_seen, showings_of_shown, showings_of_view, signatures_of_members, signatures_of_part, signatures_of_seen, signatures_of_shown}
-use Rattle.plan_package.specs.Views.{types_alone, views_of_members, views_of_part, whole_view}
-use Rattle.plan_laws.specs.ShownNames.{DeclaresName, IsInput, PartDeclaresNames}
-use Rattle.plan_laws.proofs.Inside.{flat_cases}
-use Rattle.base_lemmas.proofs.Elements.{all_at, contains-map, contains-one, get-contains, last_of as one-contained, map_from as from_map, zip_at, zip_at_right}
-use Rattle.base_lemmas.proofs.Lists.{mapped_get}
+use Rattle.plan_laws.proofs.MetNames.{flat_cases}
+use Rattle.wit_model.specs.declared.model.TypeOwner.TheVariants as owner
 use Rattle.comp_meaning.specs.Follow as follow
 use Rattle.comp_meaning.specs.Reads as reads
 use Rattle.read_shown.specs.Scopes as scopes
 use Rattle.read_rules.specs.declared.scopes.Shown.TheVariants as shown
 use Rattle.read_exports.specs.declared.members.Part.TheVariants as parts
+
+-- ---- Places by their numbers, and the owner of each.
+
+-- ---- numbers
+
+no_true : {A : Type 0} → false ≡ true → A
+no_true e = absurd cc
+
+module _ (ps : List ℕ) (q : ℕ) where
+  given_by : (b : Bool) → nat_lt (position_or_len (λ x. q == x) ps) (length ps) ≡ b → Contains ps q → (m : ℕ) × (cond b (Some (position_or_len (λ x. q == x) ps)) None ≡ Some m)
+  given_by true low c = (position_or_len (λ x. q == x) ps, refl)
+  given_by false high (k, low, e) = search (std_rules, ltb-false, fails_before_first, no_true, same-number)
+
+  -- each place has one
+  pub number_given : Contains ps q → (m : ℕ) × (number_in ps q ≡ Some m)
+  number_given c = given_by (nat_lt (position_or_len (λ x. q == x) ps) (length ps)) refl c
+
+-- ---- places that are met
+
+-- none stands twice
+abbrev pub IsOnce : List ℕ → Type 0
+IsOnce ps = (i j q : ℕ) → slice_get ps i ≡ Some q → slice_get ps j ≡ Some q → i ≡ j
+
+module _ (met : List ℕ) (p : ℕ) where
+  joined_by : (b : Bool) → has met p ≡ b → (x : ℕ) → Contains met x ⊎ (p ≡ x) → Contains (cond b met (met ++ p ∷ [])) x
+  joined_by true there x (inl among) = among
+  joined_by true there x (inr same) = subst (Contains met) same (has-contains met p there)
+  joined_by false none x (inl among) = Contains-append_left met (p ∷ []) x among
+  joined_by false none x (inr same) = Contains-append_right met (p ∷ []) x (subst (Contains (p ∷ [])) same (contains-one p))
+
+  joins : (x : ℕ) → Contains met x ⊎ (p ≡ x) → Contains (joined met p) x
+  joins x c = joined_by (has met p) refl x c
+
+  from_by : (b : Bool) → (x : ℕ) → Contains (cond b met (met ++ p ∷ [])) x → Contains met x ⊎ (p ≡ x)
+  from_by true x c = inl c
+  from_by false x c = elim (Contains-append_cases met (p ∷ []) x c) [ inl among ↦ inl among | inr last ↦ inr (one-contained p x last) ]
+
+  joined_from : (x : ℕ) → Contains (joined met p) x → Contains met x ⊎ (p ≡ x)
+  joined_from x c = from_by (has met p) x c
+
+  joined_once : IsOnce met → IsOnce (joined met p)
+  joined_once once = λ i j q at_i at_j. search (std_rules, at_end, no_true, contains-has, get-contains)
+
+-- each that is met is among them
+pub all_joined : (met ps : List ℕ) (x : ℕ) → Contains met x ⊎ Contains ps x → Contains (joined_all met ps) x
+all_joined met [] x (inl among) = among
+all_joined met [] x (inr c) = none-in x c
+all_joined met (p ∷ ps) x (inl among) = all_joined (joined met p) ps x (inl (joins met p x (inl among)))
+all_joined met (p ∷ ps) x (inr (zero, low, e)) = all_joined (joined met p) ps x (inl (joins met p x (inr e)))
+all_joined met (p ∷ ps) x (inr (suc i, low, e)) = all_joined (joined met p) ps x (inr (i, omega (arith, low), e))
+
+-- nothing else is
+pub from_joined : (met ps : List ℕ) (x : ℕ) → Contains (joined_all met ps) x → Contains met x ⊎ Contains ps x
+from_joined met [] x c = inl c
+from_joined met (p ∷ ps) x c = elim (from_joined (joined met p) ps x c) [ inl among ↦ here (joined_from met p x among) | inr after ↦ inr (later after) ]
+  where
+    here : Contains met x ⊎ (p ≡ x) → Contains met x ⊎ Contains (p ∷ ps) x
+    here (inl among) = inl among
+    here (inr same) = inr (0, omega arith, same)
+
+    later : Contains ps x → Contains (p ∷ ps) x
+    later (k, low, e) = (suc k, omega (arith, low), e)
+
+pub all_once : (met ps : List ℕ) → IsOnce met → IsOnce (joined_all met ps)
+all_once met [] once = once
+all_once met (p ∷ ps) once = all_once (joined met p) ps (joined_once met p once)
+
+pub none_twice : IsOnce []
+none_twice i j q at_i at_j = let wrong : None ≡ Some q = at_i in absurd cc
+
+-- a place that is met has its own number
+pub place_number : (ms : List Member) (m q : ℕ) → slice_get (places_in ms) m ≡ Some q → number_in (places_in ms) q ≡ Some m
+place_number ms m q e =
+    let given = number_given (places_in ms) q (get-contains (places_in ms) m q e) in
+    given.1 ∙ ap Some ((all_once [] (flat_map (λ (x : NumberedMember). places_of_part x.part) (numbered_members ms)) none_twice) given.0 m q (number_there (places_in ms) q given.0 given.1) e)
+
+-- ---- owners
+
+module _ (places homes : List ℕ) where
+  abbrev owner_by : Option ℕ → Option ℕ → ℕ → TypeOwner
+  owner_by place home q = option_map_or as_interface place (option_map_or as_world home (as_interface (length places + q)))
+
+  within : (q m : ℕ) → number_in places q ≡ Some m → m < length places
+  within q m e = slice_get_within places m q (number_there places q m e)
+
+  apart_by : (a c : ℕ) (pa : Option ℕ) → number_in places a ≡ pa → (ha : Option ℕ) → number_in homes a ≡ ha → (pc : Option ℕ) → number_in places c ≡ pc → (hc : Option ℕ) → number_in homes c ≡ hc
+      → same_owner (owner_by pa ha a) (owner_by pc hc c) ≡ true → a ≡ c
+  apart_by a c (Some m) ea ha fa (Some k) ec hc fc h = search (std_rules, eqb-true m k h, number_there places a m ea, number_there places c k ec)
+  apart_by a c (Some m) ea ha fa None ec None fc h = let one = eqb-true m (length places + c) h in let low = within a m ea in absurd (omega (arith, one, low))
+  apart_by a c None ea (Some m) fa None ec (Some k) fc h = search (std_rules, eqb-true m k h, number_there homes a m fa, number_there homes c k fc)
+  apart_by a c None ea None fa (Some k) ec hc fc h = let one = eqb-true (length places + a) k h in let low = within c k ec in absurd (omega (arith, one, low))
+  apart_by a c None ea None fa None ec None fc h = let one = eqb-true (length places + a) (length places + c) h in omega (arith, one)
+  apart_by a c _ ea _ fa _ ec _ fc h = no_true h
+
+  -- each place has an owner of its own
+  pub owners_apart : (a c : ℕ) → same_owner (owner_of places homes a) (owner_of places homes c) ≡ true → a ≡ c
+  owners_apart a c h = apart_by a c (number_in places a) refl (number_in homes a) refl (number_in places c) refl (number_in homes c) refl h
+
+  -- the owner of a place that is met
+  pub owner_met : (q : ℕ) → Contains places q ⊎ Contains homes q → owner_in places homes q ≡ owner_of places homes q
+  owner_met q (inl among) = search (std_rules, number_given places q among)
+  owner_met q (inr among) = search (std_rules, number_given homes q among)
+
+-- ---- owners of places that are met
+
+-- the owner of a place of this number
+pub owner_numbered : (ms : List Member) (q m : ℕ) → number_in (places_in ms) q ≡ Some m → owners_of ms q ≡ as_interface m
+owner_numbered ms q m e = ap (λ o. option_map_or as_interface o (option_map_or as_world (number_in (homes_in ms) q) (as_interface (length (places_in ms) + q)))) e
+
+-- one place has an owner
+pub one_owner : (ms : List Member) (b : Beside) → b.owners ≡ owners_of ms → (a c : ℕ) (o : TypeOwner) → b.owners a ≡ o → b.owners c ≡ o → a ≡ c
+one_owner ms b is a c o at_a at_c =
+    let owner : (q : ℕ) → b.owners q ≡ o → owners_of ms q ≡ o = λ q at. sym (ap (λ (f : ℕ → TypeOwner). f q) is) ∙ at in
+    owners_apart (places_in ms) (homes_in ms) a c ((λ i. same_owner (owner a at_a i) (owner c at_c i)) ∙ owner_itself o)
+
+-- ---- what the page is for
 
 -- ---- lists
 
@@ -182,9 +303,8 @@ module _ (t : Tables) (h : Homes) where
       same_type _ _ = refl
 
       one : (n : ℕ) (s : Seen) → slice_get w.exports.now n ≡ Some s → is_type_seen (numbered_shown s.shown) ≡ false
-      one n s there = same_type s.shown
-          (stands.stands.no_types n (seen_of t (numbered_seen s)) (subst (λ ss. slice_get ss n ≡ Some (seen_of t (numbered_seen s))) (sym shows.exports)
-          (mapped_get (seen_of t) (map numbered_seen w.exports.now) n (numbered_seen s) (mapped_get numbered_seen w.exports.now n s there))))
+      one n s there = same_type _ (stands.stands.no_types n (seen_of t (numbered_seen s))
+          (subst (λ ss. slice_get ss n ≡ Some (seen_of t (numbered_seen s))) (sym shows.exports) (mapped_get (seen_of t) _ n _ (mapped_get numbered_seen _ n s there))))
   exports_no_type (parts.Interface p v imports) b m shows stands = tt
   exports_no_type (parts.World w) (reads.Part.interface view views) m shows stands = absurd shows
 

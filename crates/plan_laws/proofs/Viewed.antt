@@ -10,10 +10,11 @@ use Rattle.wit_model.proofs.NameLaws.{read_path_is_spelled}
 use Rattle.comp_meaning.specs.Follow.{Instance}
 use Rattle.read_shown.specs.Scopes.{IsInstanceBefore}
 use Rattle.read_shown.proofs.Uses.{use_stands_before}
-use Rattle.plan_meaning.specs.{FollowedNumbers.IsMetFrom, FollowedNumbers.IsShownIn, Plan.Plan, Plan.PlannedInterface, Plan.interface_in, NumberedWorlds.DeclaresParts, NumberedWorlds.HasPath, NumberedWorlds.used_by_view, ReadFunctions.Beside, Shapes.named_shape}
-use Rattle.plan_meaning.specs.GatheredPlan.{DeclaresKind, TypeListed, functions_seen}
+use Rattle.plan_meaning.specs.{FollowedNumbers.IsShownIn, FollowedNumbers.IsMetFrom, Plan.Plan, Plan.PlannedInterface, Plan.interface_in}
+use Rattle.plan_meaning.specs.NumberedWorlds.{DeclaresParts, HasPath, used_by_view}
+use Rattle.plan_meaning.specs.{ReadFunctions.Beside, GatheredPlan.DeclaresKind, GatheredPlan.TypeListed, GatheredPlan.functions_seen, Shapes.named_shape}
 use Rattle.plan_meaning.specs.NumberedMembers.{Homes, NumberedMember, home_at, sights_of_members}
-use Rattle.plan_meaning.specs.NumberedViews.{AllOf, IsPart, NumberedSight, NumberedType, Tables, agree_in_numbers, first_at, path_at, path_text, place_at, view_of}
+use Rattle.plan_meaning.specs.NumberedViews.{NumberedSight, NumberedType, Tables, agree_in_numbers, first_at, path_at, path_text, place_at, view_of, IsPart, AllOf}
 use Rattle.plan_meaning.specs.ReadInterfaces.{HasName, IsKeptAs, IsNamed, IsNumberOf, IsReadInterface}
 use Rattle.plan_meaning.specs.ReadOrder.{InterfacesAreViewed, IsUsedPlace, IsViewedInterface, itself, smaller}
 use Rattle.plan_meaning.proofs.NumberedWorlds.{path_is, view_paths, view_uses}
@@ -21,16 +22,16 @@ use Rattle.plan_parts.specs.Interfaces.{IsPlannedFunction, slot_part}
 use Rattle.read_exports.specs.Members.{numbered_members}
 use Rattle.read_exports.specs.declared.members.Member.{Member}
 use Rattle.plan_types.specs.{Orders.joined_all, Orders.places_of_part, PlannedTypes.PlansType, PlannedTypes.number_in}
-use Rattle.plan_package.specs.PlanWhole.{PlansWhole, owners_in, places_in, shown_first}
-use Rattle.plan_package.specs.Views.{views_of_members, views_of_part}
-use Rattle.plan_package.specs.WholeInterfaces.{ListsNumber, PlansInterface, PlansPlace}
-use Rattle.plan_type_laws.specs.MembersStand.{all_instances}
-use Rattle.plan_laws.specs.{FirstViews.IsRisingView, FirstViews.ViewsAreOrdered, ViewedInterfaces.PlannedInterfacesAreViewed, ViewedInterfaces.views_read, Owners.owners_of, ShownNames.IsInput}
-use Rattle.plan_laws.proofs.{FirstPlaces.first_split, FirstPlaces.number_before, FirstTypes.first_told, FirstTypes.views_told, ViewRules.instance_tree, FirstViews.first_is, Planned.first_there, Planned.kept_number, Sources.if_given, Sources.member_view_in, ViewRules.seen_obeys, PartNames.trees_of_all, PlaceNumbers.all_joined, PlaceNumbers.number_given, PlaceNumbers.owner_numbered, PlaceNumbers.place_number}
-use Rattle.plan_laws.proofs.Owned.{planned_name}
+use Rattle.plan_package.specs.{PlanWhole.PlansWhole, PlanWhole.owners_in, PlanWhole.places_in, PlanWhole.shown_first, WholeInterfaces.PlansPlace}
+use Rattle.plan_package.specs.{Views.views_of_members, Views.views_of_part, WholeInterfaces.ListsNumber, WholeInterfaces.PlansInterface}
+use Rattle.plan_laws.specs.{FirstViews.IsRisingView, FirstViews.ViewsAreOrdered, ViewedInterfaces.views_read, Owners.owners_of, ShownNames.IsInput}
+use Rattle.plan_laws.proofs.{ShownAlike.first_split, ShownAlike.number_before, ShownNames.instance_tree, ShownNames.seen_obeys, ShownNames.trees_of_all}
+use Rattle.plan_laws.proofs.{ViewsAgree.first_told, ViewsAgree.views_told, ViewsAgree.first_is, Owned.first_there, Owned.kept_number, Owned.planned_name}
+use Rattle.plan_laws.proofs.Sources.{if_given, member_view_in, all_joined, number_given, owner_numbered, place_number}
 use Rattle.base_lemmas.proofs.Elements.{all_at, contains-map, get-contains, map_from as from_map, zip-kept as zip-weaker, zip_at_right as zip_get}
 use Rattle.base_lemmas.proofs.Lists.{append_of_map, get_back as unmapped_get, mapped_get, middle_get, slice_front as front_get, within_there as slice_there}
 use Rattle.plan_package.proofs.{PlacedLaws.part_placed as places_of_views, ReadPackageLaws.number_at as number_there}
+use Rattle.plan_type_laws.specs.MembersStand.{all_instances}
 use Rattle.comp_meaning.specs.Reads as reads
 use Rattle.comp_meaning.specs.Rules as rules
 
@@ -199,11 +200,8 @@ module _ (t : Tables) (h : Homes) (ms : List Member) (members : List reads.Membe
       uses = uses;
     }
 
-  pub interfaces_viewed : InterfacesAreViewed t planned.kept p b (views_read ms)
-  interfaces_viewed m i there =
+  pub planned_interfaces_are_viewed : InterfacesAreViewed t planned.kept p b (views_read ms)
+  planned_interfaces_are_viewed m i there =
       let found = zip_get (PlansPlace t planned.kept n (home_at h) views) (places_in ms) p.interfaces planned.interfaces m i there in
       let first = first_there t h ms members input n p planned m found.0 found.1 in
       viewed m found.0 found.1 i there first.0 first.1 (found.2 first.0 first.1)
-
-pub planned_interfaces_are_viewed : PlannedInterfacesAreViewed
-planned_interfaces_are_viewed t h ms members input alone agreed ordered n p planned b owners = interfaces_viewed t h ms members input alone agreed ordered n p planned b owners

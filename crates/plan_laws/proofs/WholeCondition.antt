@@ -1,60 +1,117 @@
 -- A plan that was made of what was followed means what that means.
-use Rattle.plan_type_laws.proofs.{PartPlaces.slot_number, InnerForms.name_there, UsedWalk.unnamed_node, FirstFound.firsts_found}
-use Rattle.plan_type_laws.proofs.{ShownMarks.names_marked, ShownRules.form_unnamed, ShownRules.mark_there, ShownRules.numbered_shape, ShownRules.used_form}
-use Rattle.std.proofs.Common.{rules as std_rules, ◌≡◌, refl, sym, ap, subst, ◌∙◌, ℕ, ◌+◌, ◌-◌, ◌<◌, ◌≤◌, inl, inr, arith, Bool, true, false, ◌==◌, nat_lt, cond, List, [], ◌∷◌, length, map, option_to_list, Option, Some, None, slice_get}
-use Rattle.std.proofs.{lemmas.Bool.eq-eqb, lemmas.Bool.ltb-false, lemmas.Bool.ltb-true, ByRecursion.All-weaker as recursion_weaker}
+use Rattle.std.proofs.Common.{rules as std_rules, ◌≡◌, refl, sym, ap, subst, ◌∙◌, ℕ, ◌+◌, ◌≤◌, arith, Bool, true, false, ◌==◌, List, [], ◌∷◌, length, map, Some, None, slice_get, ◌-◌, ◌<◌, inl, inr, nat_lt, cond, option_to_list, Option}
+use Rattle.std.proofs.{lemmas.Bool.ltb-false, lemmas.Bool.ltb-true, lemmas.Bool.eq-eqb, ByRecursion.All-weaker as recursion_weaker}
 use Rattle.std.proofs.lemmas.{List.Elements.Contains-append_left, List.Elements.Contains-append_right, Option.slice_get_within, Option.same_Some as same-some}
-use Rattle.std.specs.{Prelude.not, List.AllByRecursion, List.Contains, List.flat_map, List.AllZip, Option.option_map_or}
-use Rattle.wit_model.specs.{Text.Text, Names.PackageIdentity}
-use Rattle.wit_model.proofs.Elements.{contains-flat, contains-get, contains-has}
-use Rattle.plan_meaning.specs.{FollowedNumbers.IsMetFrom, FollowedNumbers.IsShownIn, Plan.Plan, Plan.PlannedPackage, Plan.package_in}
-use Rattle.plan_meaning.specs.{Renumbering.a_primitive, Renumbering.a_shape, GatheredPlan.IsGathered, GatheredPlan.WorldsListed, GatheredPlan.worlds_listed}
-use Rattle.plan_meaning.specs.{KeptResources.FormIsMarked, NumberedWorlds.place_of_key, PlanMeaning.plan_meaning, ReadFunctions.Beside}
-use Rattle.plan_meaning.specs.{NumberedMembers.Homes, NumberedMembers.NumberedMember, NumberedMembers.home_at, Shapes.IsShape, Shapes.Shape, Shapes.named_shape}
-use Rattle.plan_meaning.specs.NumberedRules.{Fact, is_form, name_at, name_in, shape_at}
-use Rattle.plan_meaning.specs.NumberedViews.{AllOf, FunctionShape, IsPart, NumberedSight, NumberedType, NumberedView, PartsOf, Tables, function_at}
-use Rattle.plan_meaning.proofs.{Lists.no_true, GatheredPlan.gathered_package_is_meant, KeptTypes.kept_types_pass, ReadWholes.read_package_plan_stands}
+use Rattle.std.specs.{List.AllByRecursion, List.list_all, List.Contains, List.flat_map, List.AllZip, Prelude.not, Option.option_map_or}
+use Rattle.wit_model.specs.{Text.Text, Tree.Form}
+use Rattle.read_shown.specs.Trees.{count_true, is_formed}
+use Rattle.plan_meaning.specs.{KeptResources.FormIsMarked, PlanRules.is_handle_form, FollowedNumbers.IsMetFrom, FollowedNumbers.IsShownIn, ReadFunctions.Beside}
+use Rattle.plan_meaning.specs.{Shapes.Shape, Shapes.form_code, Shapes.node_shape, Shapes.IsShape, Shapes.named_shape, NumberedWorlds.place_of_key}
+use Rattle.plan_meaning.specs.{NumberedMembers.Homes, NumberedMembers.NumberedMember, NumberedMembers.home_at, Renumbering.a_primitive, Renumbering.a_shape}
+use Rattle.plan_meaning.specs.{Plan.Plan, Plan.PlannedPackage, Plan.package_in, GatheredPlan.IsGathered, GatheredPlan.WorldsListed, GatheredPlan.worlds_listed}
+use Rattle.plan_meaning.specs.NumberedViews.{Tables, tree_at, AllOf, FunctionShape, IsPart, NumberedSight, NumberedType, PartsOf, function_at, NumberedView}
+use Rattle.plan_meaning.specs.NumberedRules.{name_in, Fact, is_form, name_at, shape_at}
+use Rattle.plan_meaning.specs.PlanMeaning.{plan_meaning}
+use Rattle.plan_meaning.proofs.Lists.{no_true}
+use Rattle.plan_meaning.proofs.{ShapeLaws.form_back, GatheredPlan.gathered_package_is_meant, KeptTypes.kept_types_pass, ReadWholes.read_package_plan_stands}
+use Rattle.plan_parts.specs.Kept.{IsKeptPart}
+use Rattle.plan_parts.specs.Kinds.{IsFormOver, given_count, has_count, shape_form, MayBeDeclared, nothing, over_parts, a_part}
 use Rattle.plan_parts.specs.{Interfaces.IsFunctionOver, Interfaces.IsKeptSlot, Interfaces.slot_part, Marks.IsUsed, Marks.is_marked, Marks.marked, Marks.part}
-use Rattle.plan_parts.specs.{Kept.IsKeptPart, Kinds.MayBeDeclared, Kinds.a_part, Kinds.nothing, Kinds.over_parts}
-use Rattle.read_exports.specs.Members.{numbered_member, numbered_members, numbered_part}
 use Rattle.read_exports.specs.declared.members.{Member.Member, Part.Part}
-use Rattle.read_rules.specs.declared.{scopes.Scope.Scope, scopes.Seen.Seen, scopes.Shown.Shown}
-use Rattle.read_rules.specs.{Reached.numbered_import, Scopes.numbered_instance, Scopes.numbered_key, Tables.given_text}
+use Rattle.plan_types.specs.Showings.{showings_of_members, signatures_of_members, NumberedShowing, showing_of, signatures_of_shown, showings_of_shown}
 use Rattle.plan_types.specs.PlannedTypes.{MayBePlanned, a_form, a_name}
-use Rattle.plan_types.specs.Showings.{NumberedShowing, showing_of, showings_of_members, showings_of_shown, signatures_of_members, signatures_of_shown}
 use Rattle.plan_types.specs.Used.{declared_parts, form_parts, function_parts, showing_parts, signature_parts, used_parts}
+use Rattle.plan_type_laws.specs.{ShownForms.EachForm, ShownForms.FormsHold, ShownForms.itself, ShownMarks.MarksStand}
+use Rattle.plan_type_laws.proofs.{FormsObeyed.forms_hold, UsedWalk.form_there, UsedWalk.unnamed_node, PartPlaces.slot_number, ShownMarks.names_marked}
+use Rattle.plan_type_laws.proofs.{FirstFound.firsts_found, ShownRules.form_unnamed, ShownRules.mark_there, ShownRules.numbered_shape, ShownRules.used_form}
+use Rattle.plan_type_laws.proofs.InnerForms.{name_there}
+use Rattle.plan_laws.specs.{ShownNames.IsInput, ShownNames.IsShownByPart, ShownNames.by_import, ShownNames.by_view, FirstViews.told, FirstViews.ViewsAreOrdered}
+use Rattle.plan_laws.specs.{WholeTypes.IsRuledInput, WholeTypes.TypesAreWhole, ShownRules.TypeObeys, WholeCondition.ImportsAreBare, WholeCondition.PartIsBare}
+use Rattle.plan_laws.specs.{ViewedInterfaces.views_read, WholePlan.IsWholeInput, WholePlan.PlanIsWhole, WorldItems.WorldsAreApart, WholeFunctions.beside_tables}
+use Rattle.plan_laws.specs.Whole.{IsPackageInput}
+use Rattle.base_lemmas.proofs.Bools.{left_of as first_true, right_of as second_true}
+use Rattle.base_lemmas.proofs.Lists.{length_of_map, get_back as unmapped_get, mapped_get, within_there as slice_there}
+use Rattle.base_lemmas.proofs.Elements.{all_at, contains-map, contains-one, map_from as from_map}
+use Rattle.wit_model.proofs.Elements.{contains-flat, contains-get, contains-has}
+use Rattle.read_exports.specs.Members.{numbered_member, numbered_members, numbered_part}
+use Rattle.read_rules.specs.declared.scopes.{Scope.Scope, Seen.Seen, Shown.Shown}
+use Rattle.read_rules.{specs.Scopes.numbered_instance, specs.Scopes.numbered_key, specs.Reached.numbered_import, specs.Tables.given_text}
 use Rattle.plan_package.specs.PlanWhole.{AreKeptFor, IsKeptWhole, MayBeWhole, places_in, shown_first, PlansWhole}
 use Rattle.plan_package.specs.{Views.views_of_members, Views.views_of_part, Views.whole_view, WholeInterfaces.ViewIsKept}
 use Rattle.plan_package.specs.WholeWorlds.{SeenIsKept, SeenIsPlaced, ShownIsKept, ShownIsPlaced, WorldIsKept, WorldIsPlaced, worlds_in}
 use Rattle.plan_package.specs.WholePackages.{IsMainPackage, PlansPackage, another, entries_from, the_main}
-use Rattle.plan_type_laws.specs.{ShownForms.EachForm, ShownMarks.MarksStand}
-use Rattle.plan_laws.specs.{ShownNames.IsShownByPart, ShownNames.by_import, ShownNames.by_view, WholeTypes.IsRuledInput, WholeTypes.TypesAreWhole}
-use Rattle.plan_laws.specs.{ShownRules.TypeObeys, Whole.IsPackageInput}
-use Rattle.plan_laws.specs.{WholeCondition.ImportsAreBare, WholeCondition.PartIsBare, WholeCondition.WholeMayBePlanned, WholeFunctions.beside_tables}
-use Rattle.plan_laws.specs.{FirstViews.ViewsAreOrdered, ViewedInterfaces.views_read, WholePlan.IsWholeInput, WholePlan.PlanIsWhole, WorldItems.WorldsAreApart}
-use Rattle.plan_laws.proofs.{FormCounts.HasCount, FormCounts.form_over, FormCounts.forms_count, ShownAlike.functions_alike, WholeReasons.there_marked}
-use Rattle.plan_laws.proofs.{Planned.found_there, Planned.view_met, WholeTypes.package_there, WholeTypes.packages_are_ruled, WholeTypes.planned_types_are_whole}
-use Rattle.plan_laws.proofs.{WorldKeys.world_member, ViewRules.part_of_function as part_of, GatheredInterfaces.foreign_gathered, GatheredInterfaces.top_listed}
-use Rattle.plan_laws.proofs.{Inside.flat_cases, Inside.within, ShownNames.names_are_shown, Apart.whole_stands_apart, GatheredWorlds.worlds_are_listed}
-use Rattle.plan_laws.proofs.{InstanceSeen.seen_showing, InstanceSeen.seen_signature, InstanceSeen.shown_so, ViewsAgree.told, ViewsAgree.views_tell}
-use Rattle.plan_laws.proofs.Sources.{Side, at_mapped, interface_views, mapped_cases, seen_sight, sight_of, view_among, world_in, member_view_in}
-use Rattle.plan_laws.proofs.{ShownRules.all_of, WholePlan.plan_read}
-use Rattle.base_lemmas.proofs.Elements.{all_at, contains-map, contains-one, map_from as from_map}
-use Rattle.base_lemmas.proofs.Lists.{get_back as unmapped_get, mapped_get, within_there as slice_there}
+use Rattle.plan_laws.proofs.{ShownAlike.functions_alike, ShownNames.part_of_function as part_of, ShownNames.names_are_shown, Apart.whole_stands_apart}
+use Rattle.plan_laws.proofs.{WholeReasonsForeign.there_marked, WholeTypes.package_there, WholeTypes.packages_are_ruled, WholeTypes.planned_types_are_whole}
+use Rattle.plan_laws.proofs.{Gathered.foreign_gathered, Gathered.top_listed, Gathered.worlds_are_listed, MetNames.flat_cases, MetNames.within}
+use Rattle.plan_laws.proofs.{Owned.found_there, Owned.view_met, ViewsAgree.seen_showing, ViewsAgree.seen_signature, ViewsAgree.shown_so, ViewsAgree.views_tell}
+use Rattle.plan_laws.proofs.{WholePlan.plan_read, WorldKeys.world_member}
+use Rattle.plan_laws.proofs.Sources.{Side, at_mapped, interface_views, mapped_cases, seen_sight, sight_of, view_among, world_in, member_view_in, all_of}
 use Rattle.comp_meaning.specs.Reads as reads
 use Rattle.plan_meaning.specs.Shapes as shapes
 use Rattle.read_exports.specs.declared.members.Part.TheVariants as parts
 use Rattle.read_rules.specs.declared.scopes.Shown.TheVariants as shown
+
+-- ---- A form of what was followed has as many parts as it asks for, and a handle is of a type that is no primitive.
+
+abbrev pub HasCount : Form → List ℕ → Type 0
+HasCount form parts = has_count form (length parts) ≡ true
+
+given_many : (cases : List (Text × Bool)) → count_true (map (λ (c : Text × Bool). c.1) cases) ≡ given_count cases
+given_many [] = refl
+given_many ((l, true) ∷ cases) = let rest = given_many cases in omega (arith, rest)
+given_many ((l, false) ∷ cases) = given_many cases
+
+module _ (t : Tables) where
+  abbrev many : List ℕ → ℕ
+  many parts = length (map (tree_at t) parts)
+
+  same : (parts : List ℕ) (k : ℕ) → (many parts == k) ≡ true → (length parts == k) ≡ true
+  same parts k h = ap (λ (l : ℕ). l == k) (sym (length_of_map (tree_at t) parts)) ∙ h
+
+  form_counts : (form : Form) (parts : List ℕ) (n : ℕ) → slice_get t.shapes n ≡ Some (node_shape form parts) → is_formed form (map (tree_at t) parts) ≡ true → HasCount form parts
+  form_counts x parts n at h = search (std_rules, same, second_true, given_many)
+
+pub forms_count : (t : Tables) (h : Homes) (ms : List Member) (members : List reads.Member) → IsInput t h ms members → FormsHold t HasCount (showings_of_members ms) (signatures_of_members ms)
+forms_count t h ms members input = forms_hold t input.tables HasCount (form_counts t) h ms members input.shown input.stand
+
+-- ---- forms by their numbers
+
+sorts : (form : Form) → (1 ≤ (form_code form).sort) × ((form_code form).sort ≤ 14)
+sorts x = search std_rules
+
+-- ---- a form over what is kept
+
+module _ (t : Tables) (h : Homes) (ms : List Member) (members : List reads.Member) (input : IsInput t h ms members) (marks : MarksStand t (showings_of_members ms) (signatures_of_members ms)) where
+  -- a resource is no primitive
+  high_parts : (parts : List ℕ) → list_all marks.marks parts ≡ true → AllByRecursion (λ k. 14 ≤ k) parts
+  high_parts [] h = tt
+  high_parts (k ∷ parts) h = search (std_rules, second_true, ltb-false, no_true, ltb-true, first_true, high_parts parts (second_true (marks.marks k) (list_all marks.marks parts) h))
+
+  pub form_over : (kept : List ℕ) (n : ℕ) (s : Shape) → slice_get t.shapes n ≡ Some s → name_in s ≡ None → EachForm t HasCount (14 + n) → EachForm t (FormIsMarked marks.marks) (14 + n)
+      → AllByRecursion (IsKeptPart kept) s.parts → IsFormOver kept s
+  form_over kept n s at none counts held parts = by (form_there n s none (input.tables.shapes.each n s at))
+    where
+      by : (form : Form) × (parts : List ℕ) × (s ≡ node_shape form parts) → IsFormOver kept s
+      by (form, ks, e) =
+          let there : slice_get t.shapes n ≡ Some (node_shape form ks) = at ∙ ap Some e in
+          let is : shape_form s ≡ form = ap shape_form e ∙ form_back form in
+          let own : s.parts ≡ ks = ap (λ (x : Shape). x.parts) e in
+          record {
+            low = subst (λ (x : Shape). 1 ≤ x.sort) (sym e) (sorts form).0;
+            high = subst (λ (x : Shape). x.sort ≤ 14) (sym e) (sorts form).1;
+            count = (λ i. has_count (is i) (length (own i))) ∙ counts.holds n form ks (itself (14 + n) n refl) there;
+            parts = parts;
+            handle = λ handles. subst (AllByRecursion (λ k. 14 ≤ k)) (sym own) (high_parts ks ((held.holds n form ks (itself (14 + n) n refl) there).handle (ap is_handle_form (sym is) ∙ handles)));
+          }
+
+-- ---- what the page is for
 
 -- ---- A plan can be made of what was followed: all that is shown is over types that are used.
 
 -- ---- parts of functions
 
 parts_each : (P : ℕ → Type 0) (f : FunctionShape) → ((k : ℕ) → Contains (signature_parts f) k → P k) → PartsOf P f
-parts_each P f each = (
-  all_of (λ (x : Text × ℕ). P x.1) f.params (λ x c. each x.1 (Contains-append_left _ _ x.1 (contains-map (λ (y : Text × ℕ). y.1) f.params x c))),
-  result f.result (λ k c. each k (Contains-append_right _ _ k c)),
-)
+parts_each P f each = (all_of _ _ (λ x c. each x.1 (Contains-append_left _ _ _ (contains-map (λ (y : Text × ℕ). y.1) _ x c))), result _ (λ k c. each k (Contains-append_right _ _ k c)))
   where
     result : (r : Option ℕ) → ((k : ℕ) → Contains (option_to_list r) k → P k) → AllOf P r
     result None one = tt
@@ -97,7 +154,7 @@ module _ (t : Tables) (h : Homes) (known : ℕ → Fact) (n : ℕ) (ms : List Me
   type_shown s c x there =
       let so = shown_so t h ms members given.input given.placed.apart s c in
       let u = so.other in
-      let from = from_map told u.view.types (told x) (subst (λ (es : List (Text × Option ℕ)). Contains es (told x))
+      let from = from_map told u.view.types (told x) (subst (λ es. Contains es (told x))
       (views_tell t h ms members given.input given.placed.apart ruled.agree s u c so.among (sym so.place)) (contains-map told s.view.types x there)) in
       let z = from.0 in
       let a = all_at (IsShownIn t s.place) s.view.types (member_view_in t ms given.input.numbers s c).types x there in
@@ -107,7 +164,7 @@ module _ (t : Tables) (h : Homes) (known : ℕ → Fact) (n : ℕ) (ms : List Me
         omega (
           arith,
           (given.input.tables.shapes.apart b.number a.number (named_shape s.place x.name)
-              (b.name.named ∙ (λ i. Some (named_shape (so.place i) ((ap (λ (e : Text × Option ℕ). e.0) from.2) i)))) a.name.named),
+              (b.name.named ∙ (λ i. Some (named_shape (so.place i) ((ap (λ (e : Text × (Option ℕ × Option Text)). e.0) from.2) i)))) a.name.named),
           slot_number t x.slot a.number a.slot,
           slot_number t z.slot b.number b.slot,
         ),
@@ -309,11 +366,8 @@ module _ (t : Tables) (h : Homes) (known : ℕ → Fact) (n : ℕ) (ms : List Me
   parts_fall : (m : ℕ) (ks : List ℕ) → slice_get (map (λ (s : Shape). s.parts) t.shapes) m ≡ Some ks → AllByRecursion (λ k. k < 14 + m) ks
   parts_fall m ks at = let shape = unmapped_get (λ (s : Shape). s.parts) t.shapes m ks at in subst (AllByRecursion (λ k. k < 14 + m)) shape.2 (shape_parts m shape.0 shape.1)
 
-  pub may_be_whole : MayBeWhole t ms
-  may_be_whole = record { fall = parts_fall; kept = kept_whole; placed = all_of (λ (w : Text × Scope). WorldIsPlaced (places_in ms) w.1) (worlds_in ms) world_placed }
-
-pub whole_may_be_planned : WholeMayBePlanned
-whole_may_be_planned t h known n ms members given bare = may_be_whole t h known n ms members given bare
+  pub whole_may_be_planned : MayBeWhole t ms
+  whole_may_be_planned = record { fall = parts_fall; kept = kept_whole; placed = all_of (λ (w : Text × Scope). WorldIsPlaced (places_in ms) w.1) (worlds_in ms) world_placed }
 
 -- ---- a plan that was made of what was followed means what that means
 
@@ -338,8 +392,7 @@ module _ (t : Tables) (h : Homes) (known : ℕ → Fact) (n : ℕ) (ms : List Me
       by found.0 found.1 (planned.packages.each n found.0 found.1)
     where
       by : (k : PlannedPackage) → package_in p n ≡ Some k → PlansPackage h.packages n (places_in ms) ms (entries_from (home_at h) n 0 (places_in ms)) n k → IsMain
-      by k at (the_main identity own there made) =
-          record { package_ = k; there = at; made = subst (λ (i : PackageIdentity). IsMainPackage i (places_in ms) ms k) (same-some identity input.identity (sym there ∙ input.stands)) made }
+      by k at (the_main identity own there made) = search (std_rules, same-some)
       by k at (another identity other there made) = absurd (other refl)
 
   gathered : IsGathered t h n (numbered_members ms) p

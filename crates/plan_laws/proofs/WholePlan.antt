@@ -6,36 +6,35 @@ use Rattle.std.specs.{List.Contains, List.AllByRecursion, List.list_any, List.Al
 use Rattle.wit_model.specs.declared.model.TypeOwner.{TypeOwner}
 use Rattle.wit_model.specs.{Text.Text, Text.text_eq, Valid.as_interface, Valid.as_world, Names.PackageIdentity, Names.is_label, Uses.has, Rules.is_id}
 use Rattle.wit_model.proofs.Elements.{contains-flat, contains-get}
-use Rattle.plan_meaning.specs.NumberedMembers.{Homes, NumberedMember, home_at, sights_of_members}
+use Rattle.plan_meaning.specs.NumberedMembers.{Homes, home_at, sights_of_members, NumberedMember}
 use Rattle.plan_meaning.specs.{NumberedRules.Fact, NumberedWorlds.NumberedScope, NumberedWorlds.NumberedSeen, NumberedWorlds.HasPath, NumberedWorlds.are_once}
-use Rattle.plan_meaning.specs.{Shapes.named_shape, ReadWorlds.IsReadItem, ReadWorlds.ReadItem, ReadWorlds.is_type_seen}
-use Rattle.plan_meaning.specs.NumberedViews.{NumberedSight, NumberedType, NumberedView, Tables, path_at}
-use Rattle.plan_meaning.specs.{ReadFunctions.Beside, ReadFunctions.FunctionsAreRead, ReadInterfaces.IsNumberOf, ReadPlans.FitsInput, ReadPlans.IsReadPlan}
-use Rattle.plan_meaning.specs.Plan.{Plan, PlannedInterface, PlannedType, PlannedWorld, interface_in, world_in, PlannedPackage, item_interface, items_of, package_in}
+use Rattle.plan_meaning.specs.{Shapes.named_shape, ReadInterfaces.IsNumberOf, ReadPlans.FitsInput, ReadPlans.IsReadPlan}
+use Rattle.plan_meaning.specs.{ReadWorlds.IsReadItem, ReadWorlds.ReadItem, ReadWorlds.is_type_seen, GatheredPlan.FunctionListed, GatheredPlan.functions_seen}
+use Rattle.plan_meaning.specs.{ReadFunctions.Beside, ReadFunctions.FunctionsAreRead, PlanRules.has_name, PlanRules.names_of, PlanRules.is_foreign}
 use Rattle.plan_meaning.specs.{ReadOrder.InterfacesAreViewed, ReadOrder.IsShownThere, ReadOrder.in_interface, ReadOrder.in_world, ReadWholes.IsReadPackagePlan}
-use Rattle.plan_meaning.specs.{PlanRules.has_name, PlanRules.names_of, PlanRules.is_foreign, GatheredPlan.FunctionListed, GatheredPlan.functions_seen}
+use Rattle.plan_meaning.specs.NumberedViews.{NumberedSight, NumberedType, NumberedView, Tables, path_at}
+use Rattle.plan_meaning.specs.Plan.{Plan, PlannedInterface, PlannedType, PlannedWorld, interface_in, world_in, PlannedPackage, item_interface, items_of, package_in}
 use Rattle.plan_meaning.specs.ReadPlaces.{IsPlacedInterface, IsPlacedWorld, IsReadPackage, PlacesAreRead, inline, under_path}
 use Rattle.read_exports.specs.Members.{numbered_member, numbered_members, numbered_part}
 use Rattle.read_exports.specs.declared.members.Member.{Member}
 use Rattle.read_rules.specs.Scopes.{numbered_scope, numbered_seen, numbered_shown}
 use Rattle.read_rules.specs.declared.scopes.Scope.{Scope}
-use Rattle.plan_package.specs.{PlanWhole.PlansWhole, PlanWhole.places_in, Views.views_of_members, Views.views_of_part}
-use Rattle.plan_package.specs.{WholeWorlds.PlansWorld, WholeWorlds.worlds_in, ReadPackages.AreExported, ReadPackages.world_labels, WholeInterfaces.PlansPlace}
-use Rattle.plan_package.specs.WholePackages.{IsMainPackage, ListsPlace, PlansPackage, another, entries_from, interfaces_in, numbered_labels, the_main}
-use Rattle.plan_laws.specs.{FirstViews.ViewsAreOrdered, FirstViews.told, WholeOrder.PlannedOrderIsRead, WholeReasonsForeign.HasForeignReasons}
-use Rattle.plan_laws.specs.{ViewedInterfaces.views_read, WholeWorlds.WorldsAreReadAs, WorldItems.WorldsAreApart, WholeFunctions.beside_tables}
-use Rattle.plan_laws.specs.{WholeTypes.IsRuledInput, WholeTypes.TypesAreWhole, Owners.owners_of, Owners.homes_in, WholePlan.IsOfMember, WholePlan.IsWholeInput}
+use Rattle.plan_package.specs.{PlanWhole.PlansWhole, PlanWhole.places_in, WholeWorlds.PlansWorld, WholeWorlds.worlds_in}
+use Rattle.plan_package.specs.{Views.views_of_members, Views.views_of_part, ReadPackages.AreExported, ReadPackages.world_labels, WholeInterfaces.PlansPlace}
+use Rattle.plan_package.specs.WholePackages.{IsMainPackage, ListsPlace, PlansPackage, another, entries_from, interfaces_in, the_main, numbered_labels}
+use Rattle.plan_laws.specs.{FirstViews.ViewsAreOrdered, FirstViews.told, WholeFunctions.beside_tables, WholePlan.IsOfMember, WholePlan.IsWholeInput}
+use Rattle.plan_laws.specs.{WholeOrder.PlannedOrderIsRead, WholeReasonsForeign.HasForeignReasons, WholeTypes.IsRuledInput, WholeTypes.TypesAreWhole}
+use Rattle.plan_laws.specs.{ViewedInterfaces.views_read, WholeWorlds.WorldsAreReadAs, WorldItems.WorldsAreApart, Owners.owners_of, Owners.homes_in}
 use Rattle.plan_laws.specs.{Whole.IsPackageInput, WholePlaces.LabelsStand, WholeReasons.HavePlaces}
 use Rattle.plan_laws.specs.ShownNames.{ImportsNumber, IsShownByPart, ShowsNumber, by_import, by_view}
-use Rattle.plan_laws.proofs.{FirstTypes.views_told, FirstViews.first_is, WorldKeys.world_member}
-use Rattle.plan_laws.proofs.WholePlacesLabels.{world_among, interface_among, interface_of, interfaces_differ, no_world, worlds_differ}
-use Rattle.plan_laws.proofs.WholeTypes.{package_there, packages_are_ruled, IsOwnInstance, at_top, interface_home, main_identity, own_instance, one_package}
-use Rattle.plan_laws.proofs.PlaceNumbers.{number_given, one_owner, owner_numbered, owners_apart, place_number}
-use Rattle.plan_laws.proofs.{WholeWorlds.planned_worlds_are_read, OwnPlaces.once_inside as once_within, WholeReasonsForeign.foreign_reasons}
-use Rattle.plan_laws.proofs.Planned.{first_there, interface_there, name_shown, view_met, named_there, path_given}
-use Rattle.plan_laws.proofs.{Viewed.planned_interfaces_are_viewed, Sources.world_in as world_of, Sources.all_of, PlannedFunctions.planned_functions_are_read}
-use Rattle.plan_laws.proofs.{WholeReasons.own_shown, WholeReasons.kept_for_reasons, ListedFunctions.functions_listed, ListedFunctions.seen_same}
-use Rattle.plan_laws.proofs.{Apart.whole_stands_apart, Owned.planned_types_are_owned, ShownAlike.whole_is_shown_alike, ShownWhole.whole_is_shown}
+use Rattle.plan_laws.proofs.{ViewsAgree.views_told, ViewsAgree.first_is, WholeWorlds.planned_worlds_are_read, ShownAlike.whole_is_shown_alike}
+use Rattle.plan_laws.proofs.{WorldKeys.world_member, PlannedFunctions.planned_functions_are_read, PlannedFunctions.functions_listed, PlannedFunctions.seen_same}
+use Rattle.plan_laws.proofs.{OwnPlaces.once_inside as once_within, Viewed.planned_interfaces_are_viewed, Sources.world_in as world_of, Sources.all_of}
+use Rattle.plan_laws.proofs.{WholeReasonsForeign.foreign_reasons, WholeReasonsForeign.own_shown, WholeReasonsForeign.kept_for_reasons, Apart.whole_stands_apart}
+use Rattle.plan_laws.proofs.{Owned.planned_types_are_owned, ShownWhole.whole_is_shown}
+use Rattle.plan_laws.proofs.WholeTypes.{world_among, interface_among, interface_of, interfaces_differ, no_world, worlds_differ, package_there, packages_are_ruled, IsOwnInstance, at_top, interface_home, main_identity, own_instance, one_package}
+use Rattle.plan_laws.proofs.Sources.{number_given, one_owner, owner_numbered, owners_apart, place_number}
+use Rattle.plan_laws.proofs.Owned.{first_there, interface_there, name_shown, view_met, named_there, path_given}
 use Rattle.base_lemmas.proofs.Elements.{all_at, contains-map, get-contains, map_from as from_map, zip_at, zip_at_right as zip_get, all_pass}
 use Rattle.base_lemmas.proofs.Lists.{get_back as unmapped_get}
 use Rattle.base_lemmas.proofs.Bools.{left_of as first_true, right_of as second_true, first_false, second_false}
@@ -153,8 +152,7 @@ once_named home n (x ∷ xs) homes differ = both _ _ (ap not (absent xs homes.1 
         by : (b : Bool) → (y.1 == x.1) ≡ b → has (map (λ (z : Text × ℕ). z.1) ys) x.1 ≡ false → (b || has (map (λ (z : Text × ℕ). z.1) ys) x.1) ≡ false
         by false same rest = rest
         by true same rest =
-            let name : x.0 ≡ y.0 = ap (λ (z : ℕ × Text). z.1) (same-some (n, x.0) (n, y.0) (sym homes.0 ∙ (ap home (sym (eqb-true y.1 x.1 same)) ∙ k.0))) in
-            never (text_eq x.0 y.0) ((bytes_eq-Decides x.0 y.0).1 name) (first_false (text_eq x.0 y.0) (list_any (text_eq x.0) (names_of ys)) none)
+            never _ ((bytes_eq-Decides x.0 y.0).1 (ap (λ (z : ℕ × Text). z.1) (same-some (n, x.0) (n, y.0) (sym homes.0 ∙ (ap home (sym (eqb-true y.1 x.1 same)) ∙ k.0))))) (first_false _ _ none)
 
 module _ (t : Tables) (h : Homes) (known : ℕ → Fact) (n : ℕ) (ms : List Member) (members : List reads.Member) (given : IsPackageInput t h known n ms members) (stand : ArePackages h.packages)
     (labels : LabelsStand ms) (p : Plan) (planned : PlansWhole t h.packages (home_at h) n ms p) where
@@ -319,9 +317,8 @@ module _ (t : Tables) (h : Homes) (known : ℕ → Fact) (n : ℕ) (ms : List Me
 
   inline_home : (c : ℕ) (w : PlannedWorld) (m : ℕ) (i : PlannedInterface) → world_in p c ≡ Some w → interface_in p m ≡ Some i → i.name ≡ None → i.package_ ≡ w.package_
   inline_home c w m i at e none =
-      let from = zip_get Place places p.interfaces planned.interfaces m i e in
-      let world = zip_get (PlansWorld t planned.kept places n) (worlds_in ms) p.worlds planned.worlds c w at in
-      package_as m from.0 i e from.1 from.2 ∙ (by (home_at h from.0) (sym none ∙ named_as m from.0 i e from.1 from.2) ∙ sym world.2.package_)
+      let from = zip_get Place _ _ planned.interfaces m i e in
+      package_as m _ i e from.1 from.2 ∙ (by _ (sym none ∙ named_as m _ i e from.1 from.2) ∙ sym (zip_get (PlansWorld t planned.kept places n) _ _ planned.worlds c w at).2.package_)
     where
       by : (o : Option (ℕ × Text)) → None ≡ option_map (λ (x : ℕ × Text). x.1) o → Some (option_map_or (λ (x : ℕ × Text). x.0) o n) ≡ Some n
       by None f = refl

@@ -1,50 +1,136 @@
 -- What is exported at the top of a package: its interfaces, by the homes of their places.
-use Rattle.plan_laws.specs.{Whole.IsPackageInput, Owners.homes_in, Owners.owners_of, ShownRules.TypeObeys, WholeReasons.AreShownAlike}
-use Rattle.plan_laws.specs.{ShownNames.IsInput, WholeTypes.IsRuledInput, WholeTypes.PackagesAreRuled, WholeTypes.PlannedTypesAreWhole, WholeTypes.TypesAreWhole}
-use Rattle.plan_meaning.specs.{NumberedRules.Fact, ReadFunctions.Beside, ReadFunctions.FunctionsAreRead, ReadFunctions.IsReadFunction}
-use Rattle.plan_meaning.specs.{FollowedNumbers.IsPartIn, FollowedNumbers.IsViewIn, PlanRules.functions_of, PlanRules.world_functions}
+use Rattle.base_lemmas.proofs.Bools.{first_false, left_of as first_true, right_of as second_true, second_false as later_false}
+use Rattle.base_lemmas.proofs.{Lists.get_back, Lists.within_there as slice_there, Numbers.same-number}
+use Rattle.base_lemmas.proofs.Elements.{contains-one, get-contains, last_of as one-contained, all_at, contains-later, contains-map, map_from as from_map, zip_at, zip_at_right as zip_get, all-contained}
+use Rattle.std.proofs.lemmas.{Bool.false_from_ne_true, Bool.and_from as both, Bool.not-true as not_true, Bool.eqb-true, Bool.eq-eqb, Slice.Eq.bytes_eq-Decides}
+use Rattle.std.proofs.Common.{rules as std_rules, ◌≡◌, refl, sym, ap, subst, ◌∙◌, ℕ, true, false, List, [], ◌∷◌, map, not, ◌+◌, ◌<◌, ◌⊎◌, inl, inr, arith, ◌&&◌, ◌==◌, length, Option, Some, None, option_map, slice_get, Bool, zero, suc, option_to_list, ◌||◌}
+use Rattle.std.proofs.lemmas.Option.{slice_get_within, same_Some as same-some}
+use Rattle.std.proofs.lemmas.List.Elements.{Contains-append_cases, Contains-append_left, Contains-append_right}
+use Rattle.std.specs.{Borrow.Bor, List.Contains, List.list_any, List.list_all, List.flat_map, Prelude.option_and_then, Option.option_map_or}
+use Rattle.wit_model.specs.{Text.Text, Text.text_eq, Names.PackageIdentity, Names.is_label, Names.path_in, Valid.as_interface, Valid.as_world}
+use Rattle.wit_model.specs.Lookup.{place_of_path}
+use Rattle.wit_model.proofs.{Elements.contains-flat, Elements.none-in, Elements.contains-filter_map, Elements.contains-get, NameLaws.read_path_is_spelled}
+use Rattle.comp_meaning.specs.{Rules.distinct, Follow.place_of}
+use Rattle.plan_meaning.specs.{PlanRules.names_of, PlanRules.functions_of, ReadFunctions.Beside, ReadFunctions.FunctionsAreRead, ReadFunctions.IsReadFunction}
+use Rattle.plan_meaning.specs.{NumberedWorlds.HasPath, NumberedWorlds.NumberedInstance, NumberedRules.Fact, FollowedNumbers.IsPartIn, FollowedNumbers.IsViewIn}
 use Rattle.plan_meaning.specs.NumberedMembers.{Homes, NumberedMember, are_interfaces, home_at, sights_of_members, stands_at_top, is_interface_of, is_of_package}
 use Rattle.plan_meaning.specs.NumberedViews.{AllOf, Tables, agree_in_numbers, declaration_of, path_at, place_at, FunctionShape, NumberedFunction, NumberedSight, function_at, NumberedView}
 use Rattle.plan_meaning.specs.Plan.{Plan, PlannedInterface, PlannedPackage, package_in, path_of_planned, place_in, PlannedFunction, PlannedItem, PlannedKey, PlannedWorld, interface_in, item_function, items_of, world_in}
 use Rattle.plan_meaning.specs.GatheredPlan.{BecomesIfGiven, FunctionBecomes, ParamBecomes, functions_seen}
 use Rattle.plan_meaning.specs.ReadWholes.{IsPartOfFunction, IsPartOfKept, a_parameter, a_result, of_interface, of_world}
-use Rattle.plan_meaning.specs.NumberedWorlds.{HasPath, NumberedInstance}
-use Rattle.std.proofs.Common.{rules as std_rules, ◌≡◌, refl, sym, ap, subst, ◌∙◌, ℕ, ◌+◌, ◌<◌, ◌⊎◌, inl, inr, arith, true, ◌&&◌, ◌==◌, List, length, Option, Some, None, option_map, slice_get, Bool, zero, suc, false, cond, [], ◌∷◌, map, option_to_list, not, ◌||◌}
-use Rattle.std.proofs.lemmas.{Option.slice_get_within, Option.same_Some as same-some, Bool.eqb-true, Bool.eq-eqb}
-use Rattle.std.proofs.lemmas.List.Elements.{Contains-append_cases, Contains-append_left, Contains-append_right}
-use Rattle.std.specs.{Prelude.option_and_then, List.Contains, List.list_all, List.flat_map, List.list_any, Option.option_map_or, Borrow.Bor}
-use Rattle.wit_model.specs.{Lookup.place_of_path, Names.PackageIdentity, Names.is_label, Names.path_in, Text.Text, Valid.as_interface, Valid.as_world}
-use Rattle.wit_model.proofs.{NameLaws.read_path_is_spelled, Elements.contains-filter_map, Elements.contains-get, Elements.none-in}
-use Rattle.comp_meaning.specs.Follow.{place_of}
-use Rattle.read_exports.specs.Members.{numbered_members, numbered_member, numbered_part}
+use Rattle.plan_meaning.proofs.Lists.{any_get, no_true}
+use Rattle.read_rules.specs.declared.{reached.ImportedView.ImportedView, scopes.Scope.Scope, views.View.View, scopes.Seen.Seen, scopes.Shown.Shown}
+use Rattle.read_rules.specs.{Reached.numbered_import, Scopes.numbered_scope}
 use Rattle.read_exports.specs.declared.members.{Member.Member, Part.Part}
+use Rattle.plan_package.specs.WholePackages.{interface_in_part, interfaces_in, PlansPackage, another, entries_from, the_main}
+use Rattle.plan_package.specs.WholeWorlds.{world_in_part, worlds_in, PlansItem, PlansWorld, a_function, a_type, an_instance}
+use Rattle.plan_package.specs.{PlanWhole.PlansWhole, PlanWhole.owners_in, PlanWhole.places_in, PlanWhole.shown_first, WholeInterfaces.Home}
+use Rattle.plan_package.specs.Views.{views_of_members, views_of_part}
+use Rattle.plan_laws.proofs.Sources.{one_under, number_given, owner_met, from_joined, all_of, partner, signed, view_among, mapped_cases, member_there, part_at}
+use Rattle.plan_laws.proofs.{WorldKeys.world_member, MetNames.flat_cases, MetNames.name_same, ShownRules.rules_obeyed, ShownNames.names_are_shown}
+use Rattle.plan_laws.proofs.ViewsAgree.{sight_there}
+use Rattle.plan_laws.proofs.Owned.{first_there, home_alone, interface_there, shown_met, view_met, place_seen}
+use Rattle.plan_laws.specs.{Whole.IsPackageInput, WholeReasons.AreShownAlike, WholeTypes.IsRuledInput, WholeTypes.PackagesAreRuled, WholeTypes.TypesAreWhole}
+use Rattle.plan_laws.specs.{ShownRules.TypeObeys, ShownNames.IsInput, Owners.homes_in, Owners.owners_of}
+use Rattle.read_exports.specs.Members.{numbered_members, numbered_member, numbered_part}
 use Rattle.plan_types.specs.PlannedTypes.{number_in}
 use Rattle.plan_types.specs.{Showings.NumberedShowing, Showings.showings_of_members, Showings.signatures_of_members, Used.function_parts, Used.signature_parts}
-use Rattle.plan_package.specs.PlanWhole.{PlansWhole, owners_in, places_in, shown_first}
-use Rattle.plan_package.specs.{WholeInterfaces.Home, Views.views_of_members, Views.views_of_part}
-use Rattle.plan_package.specs.WholePackages.{PlansPackage, another, entries_from, the_main}
-use Rattle.plan_package.specs.WholeWorlds.{PlansItem, PlansWorld, a_function, a_type, an_instance, worlds_in}
 use Rattle.plan_type_laws.specs.{PlanTypes.NamesObey, ShownForms.FindsShown, ShownMarks.MarksStand, UsedParts.ShowingObeys}
 use Rattle.plan_type_laws.proofs.{FirstFound.firsts_found, FormsObeyed.forms_obeyed, InnerForms.name_there, PlanTypes.types_are_kept, ShownMarks.names_marked}
 use Rattle.plan_type_laws.proofs.{KeptMarks.marks_kept, KeptKinds.one_old}
-use Rattle.plan_laws.proofs.{PlaceNumbers.number_given, PlaceNumbers.owner_met, PlaceNumbers.from_joined, ShownRules.all_of, ShownRules.rules_obeyed}
-use Rattle.plan_laws.proofs.{ShownNames.names_are_shown, Inside.name_same, Inside.flat_cases, WholePlacesLabels.world_among, FirstViews.sight_there}
-use Rattle.plan_laws.proofs.Sources.{partner, signed, view_among, mapped_cases, member_there, part_at}
-use Rattle.plan_laws.proofs.Planned.{first_there, home_alone, interface_there, shown_met, view_met, place_seen}
-use Rattle.base_lemmas.proofs.Elements.{all_at, contains-later, contains-map, contains-one, get-contains, last_of as one-contained, map_from as from_map, zip_at, zip_at_right as zip_get, all-contained}
-use Rattle.base_lemmas.proofs.{Lists.within_there as slice_there, Lists.get_back, Numbers.same-number}
 use Rattle.plan_package.proofs.ReadPackageLaws.{number_at as number_there}
 use Rattle.wit_model.specs.declared.model.TypeId.{TypeId}
 use Rattle.plan_parts.specs.{Functions.KeptIfGiven, Functions.KeptParam, Functions.TakesAndGives, Interfaces.IsPlannedFunction}
-use Rattle.read_rules.specs.declared.{scopes.Scope.Scope, scopes.Seen.Seen, scopes.Shown.Shown, reached.ImportedView.ImportedView, views.View.View}
-use Rattle.plan_meaning.proofs.Lists.{any_get, no_true}
-use Rattle.read_rules.specs.{Reached.numbered_import, Scopes.numbered_scope}
+use Rattle.read_exports.specs.declared.members.Part.TheVariants as parts
 use Rattle.comp_meaning.specs.Reads as reads
 use Rattle.comp_meaning.specs.Rules as rules
-use Rattle.read_exports.specs.declared.members.Part.TheVariants as parts
 use Rattle.read_rules.specs.declared.scopes.Shown.TheVariants as shown
 use Rattle.plan_laws.proofs.Sources as sources
 use Rattle.plan_types.specs.Orders as orders
+
+-- ---- What is exported at the top, by labels of which none stands twice.
+
+-- ---- texts of which none stands twice
+
+-- the first texts are some of the others, in order
+pub data AreSome : List Text → List Text → Type 0 where
+  none : AreSome [] []
+  left_out : (x : Text) (xs ys : List Text) → AreSome xs ys → AreSome xs (x ∷ ys)
+  taken : (x : Text) (xs ys : List Text) → AreSome xs ys → AreSome (x ∷ xs) (x ∷ ys)
+
+pub not_some : (x : Text) (xs ys : List Text) → AreSome xs ys → list_any (text_eq x) ys ≡ false → list_any (text_eq x) xs ≡ false
+not_some x xs ys none e = e
+not_some x xs ys (left_out y a b more) e = not_some x a b more (later_false (text_eq x y) (list_any (text_eq x) b) e)
+not_some x xs ys (taken y a b more) e = search (std_rules, first_false, later_false, not_some x a b more (later_false (text_eq x y) (list_any (text_eq x) b) e))
+
+pub some_differ : (xs ys : List Text) → AreSome xs ys → distinct ys ≡ true → distinct xs ≡ true
+some_differ xs ys none e = e
+some_differ xs ys (left_out y a b more) e = some_differ a b more (second_true (not (list_any (text_eq y) b)) (distinct b) e)
+some_differ xs ys (taken y a b more) e = search (std_rules, both, not_some, not_true, first_true, second_true, some_differ a b more (second_true (not (list_any (text_eq y) b)) (distinct b) e))
+
+-- ---- labels
+
+abbrev pub labels_of : List Member → List Text
+labels_of ms = map (λ (m : Member). m.label.now) ms
+
+-- ---- some of the labels
+
+pub interface_labels : (ms : List Member) → AreSome (names_of (interfaces_in ms)) (labels_of ms)
+interface_labels [] = none
+interface_labels (m ∷ ms) = search (std_rules, left_out, taken, interface_labels ms)
+
+pub world_labels : (ms : List Member) → AreSome (names_of (worlds_in ms)) (labels_of ms)
+world_labels [] = none
+world_labels (m ∷ ms) = search (std_rules, taken, left_out, world_labels ms)
+
+-- ---- what is exported under a label
+
+-- an interface of the place
+pub record IsInterfaceOf (ms : List Member) (x : Text × ℕ) : Type 0 where
+  pub member : Member
+  pub among : Contains ms member
+  pub label : member.label.now ≡ x.0
+  pub view : View
+  pub imports : Bor (List ImportedView)
+  pub is : member.part ≡ parts.Interface x.1 view imports
+
+pub interface_of : (ms : List Member) (x : Text × ℕ) → Contains (interfaces_in ms) x → IsInterfaceOf ms x
+interface_of ms x c =
+    let from = flat_cases (λ (m : Member). interface_in_part m.label.now m.part) ms x c in
+    by from.0 from.1 from.0.part refl from.2
+  where
+    by : (m : Member) → Contains ms m → (a : Part) → m.part ≡ a → Contains (interface_in_part m.label.now a) x → IsInterfaceOf ms x
+    by m among (parts.World w) is there = none-in x there
+    by m among (parts.Interface q v imports) is there = search (std_rules, one-contained)
+
+pub interface_among : (ms : List Member) (m : Member) → Contains ms m → (q : ℕ) (v : View) (imports : Bor (List ImportedView)) → m.part ≡ parts.Interface q v imports
+    → Contains (interfaces_in ms) (m.label.now, q)
+interface_among ms m c q v imports is = contains-flat (λ (x : Member). interface_in_part x.label.now x.part) ms m (m.label.now, q) c
+    (subst (λ a. Contains (interface_in_part m.label.now a) (m.label.now, q)) (sym is) (contains-one (m.label.now, q)))
+
+pub world_among : (ms : List Member) (m : Member) → Contains ms m → (w : Scope) → m.part ≡ parts.World w → Contains (worlds_in ms) (m.label.now, w)
+world_among ms m c w is = contains-flat (λ (x : Member). world_in_part x.label.now x.part) ms m (m.label.now, w) c
+    (subst (λ a. Contains (world_in_part m.label.now a) (m.label.now, w)) (sym is) (contains-one (m.label.now, w)))
+
+module _ (ms : List Member) (differ : distinct (labels_of ms) ≡ true) where
+  pub interfaces_differ : distinct (names_of (interfaces_in ms)) ≡ true
+  interfaces_differ = some_differ (names_of (interfaces_in ms)) (labels_of ms) (interface_labels ms) differ
+
+  pub worlds_differ : distinct (names_of (worlds_in ms)) ≡ true
+  worlds_differ = some_differ (names_of (worlds_in ms)) (labels_of ms) (world_labels ms) differ
+
+  -- no world has the label of an interface
+  pub no_world : (x : Text × ℕ) → Contains (interfaces_in ms) x → list_any (text_eq x.0) (names_of (worlds_in ms)) ≡ false
+  no_world x c = false_from_ne_true (list_any (text_eq x.0) (names_of (worlds_in ms))) (λ e.
+      let found = any_get (text_eq x.0) (names_of (worlds_in ms)) e in
+      let back = get_back (λ (w : Text × Scope). w.0) (worlds_in ms) found.0 found.1 found.2 in
+      let there = interface_of ms x c in
+      let world = world_member ms back.0 (get-contains (worlds_in ms) found.0 back.0 back.1) in
+      let label : x.0 ≡ back.0.0 = (bytes_eq-Decides x.0 found.1).0 found.3 ∙ sym back.2 in
+      let one : there.member ≡ world.0 = one_under (λ (m : Member). m.label.now) ms differ there.member world.0 there.among world.1 (there.label ∙ (label ∙ sym world.3)) in
+      let wrong : parts.Interface x.1 there.view there.imports ≡ parts.World back.0.1 = sym there.is ∙ (ap (λ (m : Member). m.part) one ∙ world.2) in cc)
+
+-- ---- what the page is for
 
 -- ---- The types of a whole plan are those that were read.
 
@@ -138,8 +224,8 @@ module _ (t : Tables) (h : Homes) (ms : List Member) (members : List reads.Membe
   marks : MarksStand t showings signatures
   marks = names_marked t input.tables h input.homes ms members input.shown input.stand ruled.kinds input.numbers ruled.placed
 
-  pub types_whole : TypesAreWhole t planned.kept ms p
-  types_whole = record {
+  pub planned_types_are_whole : TypesAreWhole t planned.kept ms p
+  planned_types_are_whole = record {
     types = types_are_kept t input.tables showings (all_of (ShowingObeys t) showings (λ y c. showing_obeys t y (all_at (TypeObeys t) showings ruled.rules.types y c))) signatures ruled.rules.signatures
         (forms_obeyed t input.tables ruled.lengths h ms members input.shown input.stand) planned.kept_for.marks planned.kept_for.used planned.kept planned.kept_for.marked p (owners_in ms)
         (shown_first ms) finds planned.types name_obeys;
@@ -148,9 +234,6 @@ module _ (t : Tables) (h : Homes) (ms : List Member) (members : List reads.Membe
         planned.types;
     places = places_stand;
   }
-
-pub planned_types_are_whole : PlannedTypesAreWhole
-planned_types_are_whole t h ms members ruled main p planned = types_whole t h ms members ruled main p planned
 
 -- ---- packages
 
@@ -208,13 +291,7 @@ first_whole q [] s c place whole = none-in s c
 first_whole q (r ∷ seen) s c place whole = by (r.place == q) refl r.whole refl c (λ later. first_whole q seen s later place whole)
   where
     further : (r.place == q && r.whole) ≡ false → IsFirstWhole q seen → IsFirstWhole q (r ∷ seen)
-    further e found = record {
-      sight = found.sight;
-      among = contains-later r seen found.sight found.among;
-      place = found.place;
-      whole = found.whole;
-      functions = ap (λ b. cond b r.view.functions (functions_seen q seen)) e ∙ found.functions;
-    }
+    further e found = search (std_rules, contains-later)
 
     past : (r.place == q && r.whole) ≡ false → Contains (r ∷ seen) s → Contains seen s
     past e (zero, low, same) =
@@ -225,11 +302,9 @@ first_whole q (r ∷ seen) s c place whole = by (r.place == q) refl r.whole refl
     past e (suc i, low, same) = (i, omega (arith, low), same)
 
     by : (a : Bool) → (r.place == q) ≡ a → (b : Bool) → r.whole ≡ b → Contains (r ∷ seen) s → (Contains seen s → IsFirstWhole q seen) → IsFirstWhole q (r ∷ seen)
-    by true e true f c later =
-        let here : (r.place == q && r.whole) ≡ true = λ i. e i && f i in
-        record { sight = r; among = get-contains (r ∷ seen) 0 r refl; place = eqb-true r.place q e; whole = f; functions = ap (λ b. cond b r.view.functions (functions_seen q seen)) here }
-    by true e false f c later = let none : (r.place == q && r.whole) ≡ false = λ i. e i && f i in further none (later (past none c))
-    by false e b f c later = let none : (r.place == q && r.whole) ≡ false = ap (λ a. a && r.whole) e in further none (later (past none c))
+    by true e true f c later = search (std_rules, get-contains, eqb-true)
+    by true e false f c later = let fails : (r.place == q && r.whole) ≡ false = λ i. e i && f i in further fails (later (past fails c))
+    by false e b f c later = let fails : (r.place == q && r.whole) ≡ false = ap (λ a. a && r.whole) e in further fails (later (past fails c))
 
 module _ (t : Tables) (h : Homes) (known : ℕ → Fact) (n : ℕ) (ms : List Member) (members : List reads.Member) (given : IsPackageInput t h known n ms members) (alike : AreShownAlike ms) (p : Plan)
     (planned : PlansWhole t h.packages (home_at h) n ms p) (b : Beside) (read : FunctionsAreRead t planned.kept p b) where
@@ -289,11 +364,10 @@ module _ (t : Tables) (h : Homes) (known : ℕ → Fact) (n : ℕ) (ms : List Me
         of_item j x at find e there (a_type d q l other entry is_part) = let wrong : shown.Function k ≡ shown.Declares d q = sym shows ∙ other in absurd cc
         of_item j x at find e there (a_function a other key f) =
             let g = f.function in
-            let among = contains-filter_map item_function (items_of x) e.1 g there (subst (λ i. Contains (option_to_list (item_function i)) g) (sym f.is) (contains-one g)) in
-            let r = all_at (IsReadFunction t kept p b (as_world j)) (world_functions x) (read.of_worlds j x at) g among in
+            let among = contains-filter_map _ _ _ g there (subst (λ i. Contains (option_to_list (item_function i)) g) (sym f.is) (contains-one g)) in
+            let r = all_at _ _ (read.of_worlds j x at) g among in
             of_world j x r.shape r.external_id g at among r.kept_function.becomes
-            (same_part t kept p (function_at t a) r.shape r.external_id g f.planned.parts r.kept_function.becomes old
-            (subst (λ z. Contains (function_parts t z) old) (same_function a (sym shows ∙ other)) part))
+            (same_part t _ p _ _ _ g f.planned.parts r.kept_function.becomes _ (subst (λ z. Contains (function_parts t z) old) (same_function a (sym shows ∙ other)) part))
 
         in_world : (j : ℕ) (x : PlannedWorld) → world_in p j ≡ Some x → PlansWorld t kept (places_in ms) n (m.label.now, w) x → Contains w.imports.now s ⊎ Contains w.exports.now s → Kept old
         in_world j x at is (inl among) =
@@ -372,14 +446,14 @@ module _ (t : Tables) (h : Homes) (known : ℕ → Fact) (n : ℕ) (ms : List Me
     pub instance : Contains (map (λ (i : NumberedInstance). i.place) (numbered_scope world).instances) q
 
   pub own_instance : (q : ℕ) → Contains (places_in ms) q → path_at t q ≡ None → IsOwnInstance q
-  own_instance q c none = elim (from_joined [] (flat_map (λ (x : NumberedMember). orders.places_of_part x.part) (numbered_members ms)) q c) [
+  own_instance q c without = elim (from_joined [] (flat_map (λ (x : NumberedMember). orders.places_of_part x.part) (numbered_members ms)) q c) [
     | inl no_place ↦ none-in q no_place
     | inr among ↦ (let m = mapped_cases (λ (x : NumberedMember). orders.places_of_part x.part) numbered_member ms q among in
         of_part m.0 m.1 m.0.part refl (part_at t ms given.input.numbers m.0 m.1) m.2)
   ]
     where
       wrong : {A : Type 0} (p : ℕ) → p ≡ q → HasPath t p → A
-      wrong p same path = let no : None ≡ Some path.0 = sym none ∙ (ap (path_at t) (sym same) ∙ path.1) in absurd cc
+      wrong p same path = let no : None ≡ Some path.0 = sym without ∙ (ap (path_at t) (sym same) ∙ path.1) in absurd cc
 
       of_part : (m : Member) → Contains ms m → (a : Part) → m.part ≡ a → IsPartIn t (numbered_part a) → Contains (orders.places_of_part (numbered_part a)) q → IsOwnInstance q
       of_part m among (parts.World w) is good there = record { member = m; among = among; world = w; is = is; instance = there }

@@ -1,26 +1,29 @@
 -- The interfaces that worlds import and export, by the numbers of their places: no inline one is an item twice.
-use Rattle.plan_laws.proofs.{WorldKeys.keys_differ, WorldKeys.planned_worlds_stand, WorldKeys.world_member, WholeTypes.packages_are_ruled, Showings.all_given}
-use Rattle.plan_laws.proofs.{PlaceNumbers.one_owner, Sources.Side, Sources.side_good, Sources.side_is, Sources.IsWorldIn, Sources.world_in as world_of}
-use Rattle.plan_laws.proofs.FollowedItems.{items, items_at, items_behind, items_listed, items_seen, parts_back, seen_resource, types_behind}
-use Rattle.std.proofs.Common.{rules as std_rules, ◌≡◌, refl, sym, ap, subst, ◌∙◌, ℕ, ◌+◌, ◌<◌, inl, inr, arith, Bool, true, false, not, ◌&&◌, List, [], ◌++◌, length, map, option_to_list, Option, Some, None, slice_get, ◌||◌, ◌==◌, cond, ◌∷◌, filter, filter_map}
-use Rattle.std.proofs.{Math.ListN.length-map, lemmas.Option.slice_get_within, lemmas.Option.same_Some as same-some}
-use Rattle.std.proofs.lemmas.{Slice.Zip.AllZip-long as zip_length, Bool.eq-eqb, Bool.eqb-true, Bool.and_from as both, Bool.not-true as not_true}
+use Rattle.std.proofs.Common.{rules as std_rules, ◌≡◌, refl, sym, ap, subst, ◌∙◌, ℕ, zero, suc, ◌+◌, ◌<◌, arith, Bool, true, false, not, ◌||◌, nat_lt, if◌then◌else◌, List, [], ◌∷◌, ◌++◌, length, length-append, map, Option, Some, None, append_assoc, slice_get, inl, inr, ◌&&◌, ◌==◌, cond, filter, filter_map, option_to_list}
+use Rattle.std.proofs.lemmas.{Bool.lt-ltb, Bool.and_from as both, Bool.eq-eqb, Bool.eqb-true, Bool.not-true as not_true, Slice.Zip.AllZip-long as zip_length}
+use Rattle.std.proofs.{lemmas.Option.slice_get_within, lemmas.Option.same_Some as same-some, lemmas.Slice.Eq.bytes_eq-Decides, Math.ListN.length-map}
 use Rattle.std.proofs.lemmas.List.Elements.{Contains-append_left, Contains-append_right, filter-append, filter_map-append}
-use Rattle.std.specs.List.{AllByRecursion, Contains, list_all, AllZip, cons_option, flat_map}
-use Rattle.wit_model.specs.declared.model.TypeId.{TypeId}
-use Rattle.wit_model.specs.{Lookup.resource_of, Names.is_label, Text.Text, Valid.as_world, Uses.has}
-use Rattle.wit_model.proofs.Elements.{contains-filter_map}
-use Rattle.comp_meaning.specs.Rules.{distinct}
-use Rattle.plan_meaning.specs.{FollowedNumbers.IsMetFrom, NumberedViews.PartsOf, NumberedViews.Tables, NumberedViews.function_at}
+use Rattle.std.specs.List.{AllByRecursion, AllZip, list_any, Contains, list_all, cons_option, flat_map}
+use Rattle.wit_model.{specs.Text.Text, specs.Text.text_eq, specs.Lookup.resource_of, specs.Valid.as_world, specs.Uses.has, specs.Names.is_label}
+use Rattle.plan_meaning.specs.{GatheredPlan.BecomesIfGiven, GatheredPlan.FunctionBecomes, GatheredPlan.ParamBecomes, ReadPlaces.inline_shown}
+use Rattle.plan_meaning.specs.{NumberedRules.Fact, ReadFunctions.Beside, ReadFunctions.FunctionsAreRead, ReadFunctions.IsReadFunction}
+use Rattle.plan_meaning.specs.{NumberedMembers.Homes, NumberedMembers.NumberedMember, NumberedMembers.home_at, PlanRules.world_functions, PlanRules.has_name}
+use Rattle.plan_meaning.specs.NumberedViews.{AllOf, FunctionShape, PartsOf, Tables, function_at}
+use Rattle.plan_meaning.specs.NumberedWorlds.{NumberedSeen, NumberedShown, are_imports, is_item, is_resource_seen, resources_seen, KeyStands, NumberedScope, ScopeStands, is_world, place_of_key, are_once}
+use Rattle.plan_meaning.specs.Plan.{Plan, PlannedFunction, PlannedItem, PlannedKey, PlannedWorld, items_of, world_in, item_interface, item_function}
+use Rattle.plan_meaning.specs.ReadWorlds.{ReadItem, is_type_seen, types_follow, IsInterfaceOf, IsReadItem, IsReadUnder, IsReadWorld, by_path, implementing_path, by_label}
 use Rattle.plan_meaning.specs.KeptFunctions.{IsKindOf, IsResource, a_constructor, a_method, a_static, an_async_method, an_async_static, of_none}
-use Rattle.plan_meaning.specs.{NumberedMembers.Homes, NumberedMembers.NumberedMember, NumberedMembers.home_at, NumberedRules.Fact}
-use Rattle.plan_meaning.specs.NumberedWorlds.{KeyStands, NumberedScope, NumberedSeen, NumberedShown, ScopeStands, are_imports, is_item, is_world, place_of_key, resources_seen, stand_earlier, are_once}
-use Rattle.plan_meaning.specs.Plan.{Plan, PlannedFunction, PlannedItem, PlannedKey, PlannedWorld, item_function, items_of, world_in, item_interface}
-use Rattle.plan_meaning.specs.PlanRules.{world_functions, has_name}
-use Rattle.plan_meaning.specs.{ReadFunctions.Beside, ReadFunctions.FunctionsAreRead, ReadFunctions.IsReadFunction, Shapes.named_shape, ReadPlaces.inline_shown}
-use Rattle.plan_meaning.specs.ReadWorlds.{IsInterfaceOf, IsReadItem, IsReadUnder, IsReadWorld, ReadItem, by_label, by_path, implementing_path, is_type_seen, types_follow}
+use Rattle.plan_meaning.specs.{Shapes.named_shape, FollowedNumbers.IsMetFrom}
 use Rattle.plan_meaning.proofs.{Lists.no_true, NumberedWorlds.worlds_in_numbers, ReadLists.never}
-use Rattle.plan_parts.specs.Functions.{TakesAndGives}
+use Rattle.plan_parts.specs.Functions.{KeptIfGiven, KeptParam, TakesAndGives}
+use Rattle.plan_type_laws.proofs.{KeptKinds.one_old, PartPlaces.parts_weaker}
+use Rattle.base_lemmas.proofs.Bools.{left_of as first_true, right_of as second_true, or_true}
+use Rattle.base_lemmas.proofs.Elements.{all_by_number, all_at, contains-map, contains-one, get-contains, zip_at_right as zip_get, zip-append as zip_both}
+use Rattle.base_lemmas.proofs.Lists.{front_at as at_front, get_back as unmapped_get, mapped_get, within_there as slice_there}
+use Rattle.plan_laws.proofs.{WorldKeys.keys_differ, WorldKeys.planned_worlds_stand, WorldKeys.world_member, WholeTypes.packages_are_ruled}
+use Rattle.plan_laws.proofs.Sources.{all_given, one_owner, Side, side_good, side_is, IsWorldIn, world_in as world_of}
+use Rattle.wit_model.specs.declared.model.TypeId.{TypeId}
+use Rattle.wit_model.proofs.Elements.{contains-filter_map}
 use Rattle.plan_parts.proofs.FunctionLaws.{IsNamedAfter, constructor_after, method_after, resource_among, static_after}
 use Rattle.read_exports.specs.Members.{numbered_member, numbered_members, numbered_part}
 use Rattle.read_exports.specs.declared.members.{Member.Member, Part.Part}
@@ -28,23 +31,128 @@ use Rattle.read_rules.specs.{Scopes.numbered_key, Scopes.numbered_scope, Scopes.
 use Rattle.read_rules.specs.declared.{scopes.InstanceKey.InstanceKey, scopes.Scope.Scope, scopes.Seen.Seen, views.View.View, scopes.Shown.Shown}
 use Rattle.plan_package.specs.PlanWhole.{PlansWhole, places_in}
 use Rattle.plan_package.specs.WholeWorlds.{PlansFunction, PlansInstance, PlansItem, PlansWorld, a_function, a_type, an_instance, worlds_in, world_in_part}
-use Rattle.plan_laws.specs.{FirstViews.ViewsAreOrdered, Owners.owners_of, ViewedInterfaces.views_read}
-use Rattle.plan_laws.specs.{Whole.IsPackageInput, Whole.PartIsKnown, WorldItems.WorldIsPlanned, WorldItems.WorldsAreApart}
+use Rattle.plan_laws.specs.{FirstViews.ViewsAreOrdered, Owners.owners_of}
+use Rattle.plan_laws.specs.{ViewedInterfaces.views_read, Whole.IsPackageInput, Whole.PartIsKnown, WorldItems.WorldIsPlanned, WorldItems.WorldsAreApart}
 use Rattle.plan_laws.specs.WholeWorlds.{IsCounted, IsLastType, IsReadAs, IsUnderKey, PlannedWorldsAreRead, WorldIsFollowed, WorldsAreFollowed, WorldsAreReadAs}
-use Rattle.base_lemmas.proofs.Elements.{all_at, all_by_number, contains-map, contains-one, get-contains, zip_at_right as zip_get, zip-append as zip_both}
-use Rattle.base_lemmas.proofs.Lists.{get_back as unmapped_get, mapped_get, within_there as slice_there}
-use Rattle.base_lemmas.proofs.Bools.{left_of as first_true, right_of as second_true, or_true}
-use Rattle.plan_type_laws.proofs.PartPlaces.{parts_weaker}
 use Rattle.plan_type_laws.specs.ShownMarks.{has_no_path, places_of_part, places_of_seen, places_of_shown}
 use Rattle.plan_types.specs.PlannedTypes.{number_in}
 use Rattle.plan_package.proofs.ReadPackageLaws.{number_at as number_there}
-use Rattle.comp_meaning.specs.Reads as reads
 use Rattle.plan_meaning.specs.NumberedWorlds as worlds
+use Rattle.comp_meaning.specs.Reads as reads
 use Rattle.plan_meaning.specs.Plan as plan
 use Rattle.plan_meaning.specs.ReadWorlds as read
 use Rattle.read_exports.specs.declared.members.Part.TheVariants as parts
 use Rattle.read_rules.specs.declared.scopes.InstanceKey.TheVariants as keys
 use Rattle.read_rules.specs.declared.scopes.Shown.TheVariants as shown
+
+-- ---- What a world imports, behind the resources that it imports before, and items as they are read.
+
+-- ---- resources that are imported before
+
+-- a resource among what is seen
+pub record IsSeenResource (ss : List NumberedSeen) (r : Text) : Type 0 where
+  pub number : ℕ
+  pub seen : NumberedSeen
+  pub at : slice_get ss number ≡ Some seen
+  pub key : seen.key ≡ r
+  pub declared : Option ℕ
+  pub shown : seen.shown ≡ worlds.declares declared
+
+declares_it : (x : NumberedShown) → is_resource_seen x ≡ true → (d : Option ℕ) × (x ≡ worlds.declares d)
+declares_it x h = search std_rules
+
+pub seen_resource : (ss : List NumberedSeen) (r : Text) → list_any (text_eq r) (resources_seen ss) ≡ true → IsSeenResource ss r
+seen_resource [] r any = no_true any
+seen_resource (s ∷ ss) r any = by (is_resource_seen s.shown) refl any (λ more. let is = seen_resource ss r more in
+    record { number = suc is.number; seen = is.seen; at = is.at; key = is.key; declared = is.declared; shown = is.shown })
+  where
+    which : (b : Bool) → text_eq r s.key ≡ b → is_resource_seen s.shown ≡ true → (b || list_any (text_eq r) (resources_seen ss)) ≡ true
+        → (list_any (text_eq r) (resources_seen ss) ≡ true → IsSeenResource (s ∷ ss) r) → IsSeenResource (s ∷ ss) r
+    which true e is h more = let its = declares_it s.shown is in record { number = zero; seen = s; at = refl; key = sym ((bytes_eq-Decides r s.key).0 e); declared = its.0; shown = its.1 }
+    which false e is h more = more h
+
+    by : (b : Bool) → is_resource_seen s.shown ≡ b → list_any (text_eq r) (if b then s.key ∷ resources_seen ss else resources_seen ss) ≡ true
+        → (list_any (text_eq r) (resources_seen ss) ≡ true → IsSeenResource (s ∷ ss) r) → IsSeenResource (s ∷ ss) r
+    by true e h more = which (text_eq r s.key) refl e h more
+    by false e h more = more h
+
+module _ (t : Tables) (known : ℕ → Fact) (home : ℕ) where
+  -- an import that may stand behind the resources of some that are before it
+  pub record IsItemBehind (all : List NumberedSeen) (n : ℕ) (s : NumberedSeen) : Type 0 where
+    pub before : List NumberedSeen
+    pub is : is_item t known home (resources_seen before) s.key s.shown ≡ true
+    pub there : (i : ℕ) (x : NumberedSeen) → slice_get before i ≡ Some x → (i < n) × (slice_get all i ≡ Some x)
+
+  pub items_behind : (all earlier ss : List NumberedSeen) → all ≡ earlier ++ ss → are_imports t known home earlier ss ≡ true → (j : ℕ) (s : NumberedSeen) → slice_get ss j ≡ Some s
+      → IsItemBehind all (length earlier + j) s
+  items_behind all earlier [] same ok j s e = let wrong : None ≡ Some s = e in absurd cc
+  items_behind all earlier (y ∷ ss) same ok zero s e = record {
+    before = earlier;
+    is = subst (λ (x : NumberedSeen). is_item t known home (resources_seen earlier) x.key x.shown ≡ true) (same-some y s e) (first_true _ _ ok);
+    there = λ i x at. ((let low = slice_get_within _ i x at in omega (arith, low)), ap (λ zs. slice_get zs i) same ∙ at_front earlier (y ∷ ss) i x at);
+  }
+  items_behind all earlier (y ∷ ss) same ok (suc j) s e =
+      subst (λ n. IsItemBehind all n s) (let l = length-append earlier (y ∷ []) in omega (arith, l)) (items_behind all (earlier ++ y ∷ []) ss (same ∙ sym (append_assoc earlier (y ∷ []) ss))
+      (second_true (is_item t known home (resources_seen earlier) y.key y.shown) (are_imports t known home (earlier ++ y ∷ []) ss) ok) j s e)
+
+-- ---- items
+
+-- what is seen, the items that it becomes and the counts, place by place
+pub items : List NumberedSeen → List (PlannedKey × PlannedItem) → List ℕ → List ReadItem
+items (s ∷ ss) (e ∷ es) (c ∷ cs) = record { seen = s; entry = e; count = c } ∷ items ss es cs
+items _ _ _ = []
+
+pub items_seen : (ss : List NumberedSeen) (es : List (PlannedKey × PlannedItem)) (cs : List ℕ) → length es ≡ length ss → length cs ≡ length ss → map (λ (x : ReadItem). x.seen) (items ss es cs) ≡ ss
+unfolding items
+items_seen [] es cs a b = refl
+items_seen (s ∷ ss) [] cs a b = absurd (omega (arith, a))
+items_seen (s ∷ ss) (e ∷ es) [] a b = absurd (omega (arith, b))
+items_seen (s ∷ ss) (e ∷ es) (c ∷ cs) a b = ap (λ xs. s ∷ xs) (items_seen ss es cs (omega (arith, a)) (omega (arith, b)))
+
+pub items_listed : (ss : List NumberedSeen) (es : List (PlannedKey × PlannedItem)) (cs : List ℕ) → length es ≡ length ss → length cs ≡ length ss → map (λ (x : ReadItem). x.entry) (items ss es cs) ≡ es
+unfolding items
+items_listed [] [] cs a b = refl
+items_listed (s ∷ ss) (e ∷ es) [] a b = absurd (omega (arith, b))
+items_listed (s ∷ ss) (e ∷ es) (c ∷ cs) a b = ap (λ xs. e ∷ xs) (items_listed ss es cs (omega (arith, a)) (omega (arith, b)))
+items_listed _ _ cs a b = absurd (omega (arith, a))
+
+pub items_at : (ss : List NumberedSeen) (es : List (PlannedKey × PlannedItem)) (cs : List ℕ) (j : ℕ) (x : ReadItem) → slice_get (items ss es cs) j ≡ Some x → (slice_get ss j ≡ Some x.seen)
+    × (slice_get es j ≡ Some x.entry) × (slice_get cs j ≡ Some x.count)
+unfolding items
+items_at (s ∷ ss) (e ∷ es) (c ∷ cs) zero x at = search std_rules
+items_at (s ∷ ss) (e ∷ es) (c ∷ cs) (suc j) x at = items_at ss es cs j x at
+items_at _ _ _ j x at = let wrong : None ≡ Some x = at in absurd cc
+
+-- each type is behind all that is followed before, where its count is greater
+pub types_behind : (xs : List ReadItem) → ((i j : ℕ) (x y : ReadItem) → slice_get xs i ≡ Some x → slice_get xs j ≡ Some y → i < j → is_type_seen y.seen.shown ≡ true → x.count < y.count)
+    → types_follow xs ≡ true
+types_behind [] more = refl
+types_behind (x ∷ xs) more = both _ _ (all_by_number _ _ (λ j y at. by j y at (is_type_seen y.seen.shown) refl))
+    (types_behind xs (λ i j a y at_a at_y low. more (suc i) (suc j) a y at_a at_y (omega (arith, low))))
+  where
+    by : (j : ℕ) (y : ReadItem) → slice_get xs j ≡ Some y → (b : Bool) → is_type_seen y.seen.shown ≡ b → (not b || nat_lt x.count y.count) ≡ true
+    by j y at true e = lt-ltb x.count y.count (more zero (suc j) x y refl at (omega arith) e)
+    by j y at false e = refl
+
+-- ---- parts of functions
+
+-- what holds of the parts of a function's type holds of those of the type by which it is read
+module _ (t : Tables) (kept : List ℕ) (p : Plan) (P : ℕ → Type 0) where
+  params_back : (fs ss gs : List (Text × ℕ)) → AllZip (KeptParam kept) fs gs → AllZip (ParamBecomes t kept p) ss gs → AllByRecursion (λ (x : Text × ℕ). P x.1) fs
+      → AllByRecursion (λ (x : Text × ℕ). P x.1) ss
+  params_back [] (s ∷ ss) [] a b all = absurd b
+  params_back [] (s ∷ ss) (g ∷ gs) a b all = absurd a
+  params_back (f ∷ fs) (s ∷ ss) [] a b all = absurd a
+  params_back (f ∷ fs) (s ∷ ss) (g ∷ gs) a b all = (subst P (one_old kept f.1 s.1 g.1 a.0.1 b.0.1.part) all.0, params_back fs ss gs a.1 b.1 all.1)
+  params_back _ _ gs a b all = tt
+
+  result_back : (f s g : Option ℕ) → KeptIfGiven kept f g → BecomesIfGiven t kept p s g → AllOf P f → AllOf P s
+  result_back f x g a b all = search std_rules
+
+  pub parts_back : (f shape : FunctionShape) (id : Option Text) (g : PlannedFunction) → TakesAndGives kept f g → FunctionBecomes t kept p shape id g → PartsOf P f → PartsOf P shape
+  parts_back f shape id g takes becomes all = search (std_rules, params_back, result_back)
+
+-- ---- what the page is for
 
 -- ---- The worlds of a whole plan are those that were read.
 
@@ -83,8 +191,7 @@ module _ (t : Tables) (h : Homes) (known : ℕ → Fact) (n : ℕ) (ms : List Me
     obeys = sym (worlds_in_numbers t given.input.tables known scope world.scope is_known world.shows) ∙ world.stands.obeys
 
     imports_stand : are_imports t known scope.home [] scope.imports ≡ true
-    imports_stand = first_of (are_imports t known scope.home [] scope.imports) (list_all (λ (s : NumberedSeen). is_item t known scope.home [] s.key s.shown) scope.exports)
-        (distinct (map (λ (s : NumberedSeen). s.key) scope.imports)) (distinct (map (λ (s : NumberedSeen). s.key) scope.exports)) (stand_earlier t [] (scope.imports ++ scope.exports)) obeys
+    imports_stand = search (std_rules, first_of, obeys)
 
     -- ---- functions
 
@@ -100,12 +207,7 @@ module _ (t : Tables) (h : Homes) (known : ℕ → Fact) (n : ℕ) (ms : List Me
 
     function_under : (key : Text) (f c : ℕ) (g : PlannedFunction) → Contains (world_functions x) g → g.name ≡ key → TakesAndGives kept (function_at t f) g → PartsOf (λ k. k < 14 + c) (function_at t f)
         → ResourceBelow key c → Under key c g
-    function_under key f c g among named takes parts below = record {
-      read = is_read;
-      named = named;
-      parts = parts_back t kept p (λ k. k < 14 + c) (function_at t f) is_read.shape is_read.external_id g takes is_read.kept_function.becomes parts;
-      resource = resource;
-    }
+    function_under key f c g among named takes parts below = record { read = is_read; named = named; parts = parts_back t _ p _ _ _ _ g takes is_read.kept_function.becomes parts; resource = resource }
       where
         is_read : IsReadFunction t kept p b (as_world m) g
         is_read = all_at (IsReadFunction t kept p b (as_world m)) (world_functions x) (functions.of_worlds m x there) g among
@@ -310,8 +412,7 @@ module _ (places : List ℕ) where
       where
         is_numbered : (a : Shown) (i : PlannedItem) → s.shown ≡ a → e.1 ≡ i → AreNumbered (places_of_seen (map numbered_seen ss)) (filter_map item_interface (map item_of es)) a i
             → AreNumbered (places_of_seen (map numbered_seen ss)) (filter_map item_interface (map item_of es)) s.shown e.1
-        is_numbered a i is same all = subst (λ x. AreNumbered (places_of_seen (map numbered_seen ss)) (filter_map item_interface (map item_of es)) x e.1) (sym is)
-            (subst (AreNumbered (places_of_seen (map numbered_seen ss)) (filter_map item_interface (map item_of es)) a) (sym same) all)
+        is_numbered a i is same all = search std_rules
 
         by : PlansItem t kept places find s e → AllZip IsNumbered (places_of_seen (map numbered_seen ss)) (filter_map item_interface (map item_of es))
             → AreNumbered (places_of_seen (map numbered_seen ss)) (filter_map item_interface (map item_of es)) s.shown e.1
@@ -322,12 +423,7 @@ module _ (places : List ℕ) where
 
     pub items_numbered : (main : ℕ) (w : Text × Scope) (x : PlannedWorld) → PlansWorld t kept places main w x
         → AllZip IsNumbered (places_of_seen (map numbered_seen w.1.imports.now) ++ places_of_seen (map numbered_seen w.1.exports.now)) (filter_map item_interface (items_of x))
-    items_numbered main w x is =
-        let imports = map item_of x.imports in
-        let exports = map item_of x.exports in
-        subst (AllZip IsNumbered (places_of_seen (map numbered_seen w.1.imports.now) ++ places_of_seen (map numbered_seen w.1.exports.now))) (sym (filter_map-append item_interface imports exports))
-        (zip_both IsNumbered (places_of_seen (map numbered_seen w.1.imports.now)) (filter_map item_interface imports) (places_of_seen (map numbered_seen w.1.exports.now))
-        (filter_map item_interface exports) (side is.find w.1.imports.now x.imports is.imports) (side is.find w.1.exports.now x.exports is.exports))
+    items_numbered main w x is = search (std_rules, filter_map-append, zip_both, side)
 
   -- ---- numbers of some of the places
 
@@ -360,8 +456,7 @@ module _ (places : List ℕ) where
       absent false f = refl
       absent true f =
           let found = listed_has a b rest m f in
-          let same : found.0 ≡ q = same-some found.0 q (sym (number_there places found.0 m found.2) ∙ number_there places q m is) in
-          never (has a q) (ap (has a) (sym same) ∙ found.1) (not_true (has a q) (first_true (not (has a q)) (are_once a) e))
+          never _ (ap (has a) (sym (same-some found.0 q (sym (number_there _ _ m found.2) ∙ number_there _ q m is))) ∙ found.1) (not_true (has a q) (first_true _ _ e))
 
   -- those that pass a test
   module _ (f g : ℕ → Bool) (tell : (q m : ℕ) → IsNumbered q m → f q ≡ g m) where

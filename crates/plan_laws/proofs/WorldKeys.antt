@@ -1,15 +1,15 @@
 -- The imports of a world stand under keys that differ, and a world has a place of its own.
 use Rattle.std.proofs.lemmas.Bool.{false_from_ne_true}
-use Rattle.std.proofs.Common.{◌≡◌, refl, sym, ap, subst, ◌∙◌, ℕ, ◌+◌, arith, true, false, cond, List, [], ◌∷◌, ◌++◌, length, map, Option, Some, None, slice_get, Bool}
+use Rattle.std.proofs.Common.{rules as std_rules, ◌≡◌, refl, sym, ap, subst, ◌∙◌, ℕ, ◌+◌, arith, true, false, cond, List, [], ◌∷◌, ◌++◌, length, map, Option, Some, None, slice_get, Bool}
 use Rattle.std.proofs.lemmas.{List.append-nil, List.append_assoc, Option.slice_get_within, Option.same_Some as same-some, Slice.Zip.AllZip-long as zip_length}
 use Rattle.plan_type_laws.proofs.{PartPlaces.slot_number, FirstFound.firsts_found}
-use Rattle.std.specs.{Cmp.Lexicographic.pointwise, List.Contains, List.flat_map, List.list_all, Option.option_map_or}
+use Rattle.std.specs.{Cmp.Lexicographic.pointwise, List.Contains, List.flat_map, Option.option_map_or}
 use Rattle.wit_model.specs.declared.model.TypeOwner.{TypeOwner}
 use Rattle.wit_model.specs.{Text.Text, Uses.has, Valid.as_interface, Valid.as_world}
 use Rattle.wit_model.proofs.Elements.{contains-flat, contains-get, has-contains, none-in}
 use Rattle.plan_meaning.specs.{FollowedNumbers.IsShownIn, GatheredPlan.DeclaresKind, Shapes.named_shape, ReadFunctions.Beside}
-use Rattle.plan_meaning.specs.NumberedWorlds.{place_of_key, NumberedScope, NumberedSeen, NumberedShown, are_once, seen_of}
 use Rattle.plan_meaning.specs.{NumberedMembers.Homes, NumberedMembers.NumberedMember, NumberedMembers.home_at, NumberedMembers.sights_of_members, Plan.Plan}
+use Rattle.plan_meaning.specs.NumberedWorlds.{place_of_key, NumberedScope, NumberedSeen, NumberedShown, are_once}
 use Rattle.plan_meaning.specs.NumberedViews.{NumberedSight, Tables, agree_in_numbers, same_shown, path_at}
 use Rattle.read_exports.specs.Members.{numbered_members, numbered_part}
 use Rattle.read_exports.specs.declared.members.{Member.Member, Part.Part}
@@ -21,11 +21,11 @@ use Rattle.plan_package.specs.{PlanWhole.PlansWhole, PlanWhole.owners_in, PlanWh
 use Rattle.plan_package.specs.WholeWorlds.{world_in_part, worlds_in}
 use Rattle.plan_laws.specs.{FirstViews.ViewsAreOrdered, Owners.homes_in, Owners.owners_of, ShownNames.IsInput}
 use Rattle.plan_laws.specs.WorldItems.{InstancesAreRead, KeysAreApart, PlannedWorldsStand, TypesAreRead, WorldsAreApart}
-use Rattle.plan_laws.proofs.{FirstTypes.views_told, PlaceNumbers.IsOnce, PlaceNumbers.number_given, ShownFrom.home_frame, ShownFrom.view_frame}
-use Rattle.plan_laws.proofs.{Inside.flat_cases, Inside.name_same, OwnPlaces.Owned, OwnPlaces.a_view, OwnPlaces.a_world, OwnPlaces.frames, OwnPlaces.one_owned}
-use Rattle.plan_laws.proofs.{Showings.import_named, Owned.planned_name}
-use Rattle.plan_laws.proofs.{FirstViews.first_is, FirstViews.told_types, Planned.first_there, Planned.interface_there, Planned.kept_number, Planned.place_seen}
-use Rattle.plan_laws.proofs.Sources.{origin, seen_sight, sight_of, view_among, world_in, member_view_in, one_under, IsWorldIn}
+use Rattle.plan_laws.proofs.ViewsAgree.{views_told, home_frame, view_frame, first_is, told_types}
+use Rattle.plan_laws.proofs.{Sources.IsOnce, Sources.number_given, OwnPlaces.Owned, OwnPlaces.a_view, OwnPlaces.a_world, OwnPlaces.frames, OwnPlaces.one_owned}
+use Rattle.plan_laws.proofs.{ShownRules.import_named, Owned.planned_name, Owned.first_there, Owned.interface_there, Owned.kept_number, Owned.place_seen}
+use Rattle.plan_laws.proofs.MetNames.{flat_cases, name_same}
+use Rattle.plan_laws.proofs.Sources.{origin, seen_sight, view_among, world_in, member_view_in, one_under, IsWorldIn, sight_of}
 use Rattle.base_lemmas.proofs.Elements.{all_at, contains-one, get-contains, last_of as one-contained, contains-map}
 use Rattle.base_lemmas.proofs.Lists.{front_at as at_front, get_back as unmapped_get, mapped_get, middle_get, within_there as slice_there, map_of_map}
 use Rattle.base_lemmas.proofs.Bools.{third_of}
@@ -37,8 +37,6 @@ use Rattle.comp_meaning.specs.Reads as reads
 use Rattle.read_exports.specs.declared.members.Part.TheVariants as parts
 use Rattle.read_rules.specs.declared.scopes.Shown.TheVariants as shown
 use Rattle.plan_laws.proofs.Sources as origins
-use Rattle.comp_meaning.specs.Follow as follow
-use Rattle.comp_meaning.specs.Rules as rules
 use Rattle.plan_meaning.specs.NumberedWorlds as worlds
 
 -- ---- What the worlds of a plan import and export, beside functions, is as it was followed.
@@ -93,10 +91,7 @@ module _ (t : Tables) (h : Homes) (ms : List Member) (members : List reads.Membe
   -- ---- owners
 
   worlds_once : IsOnce (map home_of_world (worlds_in ms))
-  worlds_once i j q at_i at_j =
-      let w = unmapped_get home_of_world (worlds_in ms) i q at_i in
-      let v = unmapped_get home_of_world (worlds_in ms) j q at_j in
-      worlds_apart i j w.0 v.0 w.1 v.1 (w.2 ∙ sym v.2)
+  worlds_once i j q at_i at_j = search (std_rules, unmapped_get)
 
   homes_are : homes_in ms ≡ map home_of_world (worlds_in ms)
   homes_are = ap (joined_all []) (homes_of_worlds ms) ∙ all_new [] (map home_of_world (worlds_in ms)) worlds_once
@@ -206,11 +201,7 @@ module _ (t : Tables) (h : Homes) (ms : List Member) (members : List reads.Membe
           )
 
 pub planned_worlds_stand : PlannedWorldsStand
-planned_worlds_stand t h ms members input agreed ordered apart n p planned b owners m w at = record {
-  owned = owned t h ms members input agreed ordered apart n p planned b owners m w at;
-  instances = instances_read t h ms members input agreed ordered apart n p planned b owners m w at;
-  types = types_read t h ms members input agreed ordered apart n p planned b owners m w at;
-}
+planned_worlds_stand t h ms members input agreed ordered apart n p planned b owners m w at = search (std_rules, owned, instances_read, types_read)
 
 -- ---- the imports of a world stand under keys that differ, and a world has a place of its own
 
@@ -232,11 +223,7 @@ world_owned default (a_view v) = default
 
 module _ (t : Tables) (h : Homes) (ms : List Member) (members : List reads.Member) (input : IsInput t h ms members) (apart : are_once (own_places t (numbered_members ms)) ≡ true) where
   pub keys_apart : (w : Scope) → IsWorldIn t h ms members input w → distinct (map (λ (s : NumberedSeen). s.key) (map numbered_seen w.imports.now)) ≡ true
-  keys_apart w is =
-      let scope = is.scope in
-      ap distinct (sym (ap (map (λ (s : follow.Seen). s.key)) is.shows.imports ∙ map_of_map (λ (s : follow.Seen). s.key) (seen_of t) (map numbered_seen w.imports.now)))
-      ∙ (third_of (rules.are_imports [] scope.imports) (list_all (λ (s : follow.Seen). rules.is_item [] s.key s.shown) scope.exports) (distinct (map (λ (s : follow.Seen). s.key) scope.imports))
-      (distinct (map (λ (s : follow.Seen). s.key) scope.exports)) (rules.stand_earlier [] (scope.imports ++ scope.exports)) is.stands.obeys)
+  keys_apart w is = search (std_rules, map_of_map, third_of)
 
   -- the keys of its imports differ
   pub keys_differ : (w : Scope) → IsWorldIn t h ms members input w → KeysAreApart w
@@ -267,11 +254,10 @@ module _ (t : Tables) (h : Homes) (ms : List Member) (members : List reads.Membe
       → (k : Member) → Contains ms k → (v : Scope) → k.part ≡ parts.World v → (b : Seen) → Contains v.imports.now b → (other : ℕ) (e : Option ℕ) → b.shown ≡ shown.Declares other e
       → part ≡ other → d ≡ e
   by_imports m c w is_w a a_in part d a_shows k g v is_v b b_in other e b_shows same =
-      let a_name = import_named t input.tables h ms members input m c w is_w a a_in part d a_shows in
-      let b_name = import_named t input.tables h ms members input k g v is_v b b_in other e b_shows in
+      let a_name = import_named t input.tables h _ _ input m c w is_w a a_in _ d a_shows in
+      let b_name = import_named t input.tables h _ _ input k g v is_v b b_in _ e b_shows in
       let one : a_name.0 ≡ b_name.0 = (let p = a_name.1 in let q = b_name.1 in omega (arith, p, q, same)) in
-      let name = name_same t.shapes w.home v.home a.key.now b.key.now a_name.0 b_name.0 a_name.2.named b_name.2.named one in
+      let name = name_same _ _ _ _ _ _ _ a_name.2.named b_name.2.named one in
       ap (declared_in e) (sym (ap numbered_shown a_shows) ∙ (ap (λ (x : NumberedSeen). x.shown)
-      (one_key (map numbered_seen v.imports.now) (keys_apart v (world_in t h ms members input k g v is_v)) (numbered_seen a) (numbered_seen b)
-      (subst (λ (x : NumberedScope). Contains x.imports (numbered_seen a)) (one_world m k c g w v is_w is_v name.0) (contains-map numbered_seen w.imports.now a a_in))
-      (contains-map numbered_seen v.imports.now b b_in) name.1) ∙ ap numbered_shown b_shows))
+      (one_key _ (keys_apart v (world_in t h _ _ input k g v is_v)) _ _ (subst (λ (x : NumberedScope). Contains x.imports (numbered_seen a)) (one_world m k c g w v is_w is_v name.0)
+      (contains-map numbered_seen _ a a_in)) (contains-map numbered_seen _ b b_in) name.1) ∙ ap numbered_shown b_shows))

@@ -1,4 +1,4 @@
-use Rattle.plan_laws.proofs.WholeReasons.{kept_for_reasons}
+use Rattle.plan_laws.proofs.WholeReasonsForeign.{kept_for_reasons}
 use Rattle.plan_laws.proofs.laws.whole_is_kept_for_reasons.Goals as goal
 
 pub returns : goal.returns

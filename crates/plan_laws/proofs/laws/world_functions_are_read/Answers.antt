@@ -1,4 +1,4 @@
-use Rattle.plan_laws.proofs.WholeFunctions as lemmas
+use Rattle.plan_laws.proofs.InterfaceFunctions as lemmas
 use Rattle.plan_laws.proofs.laws.world_functions_are_read.Goals as goal
 
 pub returns : goal.returns

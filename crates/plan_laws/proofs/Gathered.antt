@@ -1,32 +1,45 @@
--- The interfaces of a plan become what each view of their places tells, with the functions of the first that shows some.
-use Rattle.std.proofs.Common.{◌≡◌, sym, ap, subst, ◌∙◌, refl, ℕ, zero, suc, arith, Bool, true, List, [], ◌∷◌, filter_map, Option, Some, None, false, not, ◌==◌, cond, ◌++◌, map, option_map, slice_get}
+-- The worlds of a plan become what worlds at the top show.
+use Rattle.std.proofs.Common.{◌≡◌, sym, ap, subst, ◌∙◌, refl, ℕ, zero, suc, arith, Bool, true, List, [], ◌∷◌, filter_map, Option, Some, None, false, not, ◌==◌, cond, ◌++◌, map, option_map, slice_get, rules as std_rules, ◌+◌, inl, inr, unwrap_or}
 use Rattle.std.proofs.lemmas.Option.{same_Some as same-some}
-use Rattle.std.specs.{List.AllZip, List.Contains, List.cons_option, Prelude.option_and_then, Option.option_map_or}
+use Rattle.std.specs.{List.AllZip, List.Contains, List.cons_option, List.flat_map, Prelude.option_and_then, Option.option_map_or}
 use Rattle.wit_model.specs.{Text.Text, Rules.is_id, Valid.as_interface}
 use Rattle.wit_model.proofs.Elements.{none-in}
-use Rattle.plan_meaning.specs.GatheredPlan.{AreChosen, SightBecomes, InterfaceAt, InterfaceBecomes, InterfacesListed, TypeBecomes, TypeListed, foreign_interface, functions_seen, interfaces_listed, under_path}
+use Rattle.plan_meaning.specs.GatheredPlan.{AreChosen, SightBecomes, InterfaceAt, InterfaceBecomes, InterfacesListed, TypeListed, foreign_interface, functions_seen, interfaces_listed, under_path, SeenBecomes, WorldAt, WorldBecomes, WorldsListed, worlds_listed}
 use Rattle.plan_meaning.specs.NumberedViews.{NumberedSight, Tables, IsSight, NumberedType, NumberedView, first_at, path_at, path_text}
-use Rattle.plan_meaning.specs.{NumberedWorlds.HasPath, Plan.Plan, Plan.PlannedInterface, Plan.interface_in, Plan.path_of_planned, FollowedNumbers.IsPartIn}
+use Rattle.plan_meaning.specs.NumberedWorlds.{HasPath, KeyStands, NumberedScope, place_of_key, NumberedSeen}
+use Rattle.plan_meaning.specs.Plan.{Plan, PlannedInterface, interface_in, path_of_planned, PlannedItem, PlannedKey, PlannedWorld}
+use Rattle.plan_meaning.specs.{FollowedNumbers.IsPartIn, NumberedRules.Fact, ReadFunctions.Beside, ReadWorlds.is_type_seen}
 use Rattle.plan_meaning.specs.NumberedMembers.{Homes, NumberedMember, home_at, is_of_package, sights_of_members}
-use Rattle.plan_meaning.specs.{NumberedRules.Fact, ReadFunctions.Beside}
-use Rattle.base_lemmas.proofs.Elements.{contains-later, all_at, get-contains, zip_each}
+use Rattle.base_lemmas.proofs.Elements.{contains-later, all_at, get-contains, zip_each, zip_at}
 use Rattle.plan_meaning.proofs.{Lists.no_true, NumberedMembers.only_sights, NumberedWorlds.path_is}
 use Rattle.read_exports.specs.Members.{numbered_members, numbered_part}
 use Rattle.read_exports.specs.declared.members.{Member.Member, Part.Part}
-use Rattle.read_rules.specs.Views.{numbered_view}
+use Rattle.read_rules.specs.{Views.numbered_view, Scopes.numbered_key, Scopes.numbered_scope, Scopes.numbered_seen, Scopes.numbered_shown, Tables.given_text}
+use Rattle.read_rules.specs.declared.{scopes.InstanceKey.InstanceKey, scopes.Scope.Scope, scopes.Seen.Seen, scopes.Shown.Shown, views.View.View}
 use Rattle.plan_types.specs.PlannedTypes.{number_in}
-use Rattle.plan_package.specs.{PlanWhole.PlansWhole, PlanWhole.places_in, Views.views_of_members, Views.views_of_part}
-use Rattle.plan_package.specs.{WholeInterfaces.PlansPlace, WholePackages.ListsPlace, WholePackages.interface_in_part, WholePackages.interfaces_in}
-use Rattle.plan_laws.specs.{FirstViews.ViewsAreOrdered, FirstViews.told, ViewedInterfaces.views_read, Whole.IsPackageInput, WholeTypes.IsRuledInput}
-use Rattle.plan_laws.specs.Owners.{owners_of}
-use Rattle.plan_laws.proofs.{FirstTypes.views_told, FirstViews.first_is, Sources.view_among, Sources.own_sight, Sources.own_there, Sources.part_at}
-use Rattle.plan_laws.proofs.{Inside.flat_cases, ShownWhole.sight_viewed, WholeTypes.sight_of_place, WholeTypes.packages_are_ruled, WholeTypes.path_planned}
-use Rattle.plan_laws.proofs.{ListedFunctions.functions_listed, ListedFunctions.seen_same, Planned.first_there, Planned.interface_there, Planned.view_met}
-use Rattle.plan_laws.proofs.{PlaceNumbers.one_owner, PlaceNumbers.owner_numbered, PlaceNumbers.place_number, Viewed.planned_interfaces_are_viewed}
+use Rattle.plan_package.specs.{PlanWhole.PlansWhole, PlanWhole.places_in, Views.views_of_members, Views.views_of_part, WholeInterfaces.PlansPlace}
+use Rattle.plan_package.specs.WholePackages.{ListsPlace, interface_in_part, interfaces_in, numbered_labels}
+use Rattle.plan_package.specs.WholeWorlds.{PlansItem, PlansWorld, a_function, a_type, an_instance, planned_key, types_seen, worlds_in}
+use Rattle.plan_laws.specs.{FirstViews.ViewsAreOrdered, FirstViews.told, WholeWorlds.IsUnderKey, WholeWorlds.WorldIsFollowed, WholeWorlds.WorldsAreFollowed}
+use Rattle.plan_laws.specs.{ViewedInterfaces.views_read, Whole.IsPackageInput, Owners.owners_of}
+use Rattle.plan_laws.specs.{WholeTypes.IsRuledInput, WholeTypes.TypesAreWhole, WorldItems.TypesAreRead, WorldItems.WorldsAreApart, WholeFunctions.beside_tables}
+use Rattle.plan_laws.proofs.{ViewsAgree.views_told, ViewsAgree.first_is, ViewsAgree.view_frame, OwnPlaces.a_view, OwnPlaces.frames, OwnPlaces.one_owned}
+use Rattle.plan_laws.proofs.{PlannedFunctions.functions_listed, PlannedFunctions.seen_same, Owned.first_there, Owned.interface_there, Owned.view_met}
+use Rattle.plan_laws.proofs.{MetNames.flat_cases, ShownWhole.sight_viewed, ShownAlike.view_owned, InterfaceFunctions.seen_becomes}
+use Rattle.plan_laws.proofs.{Viewed.planned_interfaces_are_viewed, WorldKeys.planned_worlds_stand, WorldKeys.world_member, WorldKeys.keys_differ}
+use Rattle.plan_laws.proofs.Sources.{view_among, own_sight, own_there, part_at, one_owner, place_number, Side, seen_sight, side_good, side_is, sight_of, IsWorldIn, world_in, owner_numbered}
+use Rattle.plan_laws.proofs.WholeTypes.{sight_of_place, packages_are_ruled, path_planned, world_among, first_whole}
 use Rattle.plan_package.proofs.ReadPackageLaws.{number_at as number_there}
+use Rattle.wit_model.specs.declared.model.TypeId.{TypeId}
+use Rattle.plan_parts.specs.Interfaces.{AreResources}
 use Rattle.comp_meaning.specs.Reads as reads
 use Rattle.plan_meaning.specs.Plan as plan
 use Rattle.read_exports.specs.declared.members.Part.TheVariants as parts
+use Rattle.plan_meaning.specs.NumberedWorlds as worlds
+use Rattle.read_rules.specs.declared.scopes.InstanceKey.TheVariants as keys
+use Rattle.read_rules.specs.declared.scopes.Shown.TheVariants as shown
+
+-- ---- The interfaces of a plan become what each view of their places tells, with the functions of the first that shows some.
 
 -- ---- Interfaces of a plan that are gathered from views, each from one of its place.
 
@@ -91,9 +104,7 @@ told_listed : (t : Tables) (kept : List ℕ) (p : Plan) (xs ys : List NumberedTy
     → AllZip (TypeListed t kept p) ys es
 told_listed t kept p [] [] es e zip = zip
 told_listed t kept p (x ∷ xs) (y ∷ ys) [] e zip = absurd zip
-told_listed t kept p (x ∷ xs) (y ∷ ys) (z ∷ zs) e zip =
-    let one : told x ≡ told y = cc in
-    (subst (λ (a : Text × (Option ℕ × Option Text)). (z.0 ≡ a.0) × TypeBecomes t kept p a.1.0 a.1.1 z.1) one zip.0, told_listed t kept p xs ys zs (cc) zip.1)
+told_listed t kept p (x ∷ xs) (y ∷ ys) (z ∷ zs) e zip = search (std_rules, told_listed t kept p xs ys zs (cc) zip.1)
 told_listed t kept p _ _ es e zip = let wrong : ⊥ = cc in absurd wrong
 
 module _ (t : Tables) (h : Homes) (known : ℕ → Fact) (n : ℕ) (ms : List Member) (members : List reads.Member) (given : IsPackageInput t h known n ms members) (ordered : ViewsAreOrdered t ms)
@@ -249,3 +260,118 @@ module _ (t : Tables) (h : Homes) (known : ℕ → Fact) (n : ℕ) (ms : List Me
   pub foreign_gathered : IsGatheredFrom t planned.kept p sights is_other (foreign_interface p) p.interfaces
   foreign_gathered = all_gathered is_other (λ (i : PlannedInterface). is_id p.main i.package_) other_told sights
       (record { among = λ s c. c; met = λ q c passes path. sight_of_place t ms q c path; functions = λ s c. refl })
+
+-- ---- what the page is for
+
+zip_mapped : {A B C : Type 0} (P : A → B → Type 0) (Q : C → B → Type 0) (f : A → C) (xs : List A) → ((x : A) → Contains xs x → (y : B) → P x y → Q (f x) y) → (ys : List B) → AllZip P xs ys
+    → AllZip Q (map f xs) ys
+zip_mapped P Q f [] each [] zip = tt
+zip_mapped P Q f (x ∷ xs) each (y ∷ ys) zip = (each x (0, omega arith, refl) y zip.0, zip_mapped P Q f xs (λ z c. each z (contains-later x xs z c)) ys zip.1)
+zip_mapped _ _ f _ each _ zip = absurd zip
+
+module _ (t : Tables) (h : Homes) (known : ℕ → Fact) (n : ℕ) (ms : List Member) (members : List reads.Member) (given : IsPackageInput t h known n ms members) (ordered : ViewsAreOrdered t ms)
+    (apart : WorldsAreApart ms) (under : WorldsAreFollowed t ms) (p : Plan) (planned : PlansWhole t h.packages (home_at h) n ms p) (whole : TypesAreWhole t planned.kept ms p) where
+  abbrev b : Beside
+  b = beside_tables known whole.marks.marks ms
+
+  -- ---- a world
+
+  module _ (m : Member) (c : Contains ms m) (w : Scope) (is : m.part ≡ parts.World w) (find : Text → Option TypeId) where
+    of : IsWorldIn t h ms members given.input w
+    of = world_in t h ms members given.input m c w is
+
+    keys_there : WorldIsFollowed t (numbered_scope w)
+    keys_there = all_at (λ (x : Text × Scope). WorldIsFollowed t (numbered_scope x.1)) (worlds_in ms) under (m.label.now, w) (world_among ms m c w is)
+
+    -- ---- instances
+
+    abbrev view_at : ℕ → View → NumberedSight
+    view_at q v = record { place = q; view = numbered_view v; whole = true }
+
+    -- an inline interface has the functions of its one view
+    inline_functions : (q : ℕ) (v : View) → Contains (views_of_members (numbered_members ms)) (view_at q v) → path_at t q ≡ None
+        → functions_seen q (views_of_members (numbered_members ms)) ≡ (numbered_view v).functions
+    inline_functions q v viewed none =
+        let first = first_whole q (views_of_members (numbered_members ms)) (view_at q v) viewed refl refl in
+        let first_frame = subst (λ r. Contains (frames (numbered_members ms)) (r, a_view first.sight.view)) first.place
+        (view_frame t h ms members given.input given.placed.apart first.sight first.among (ap (path_at t) first.place ∙ none)) in
+        let own_frame = view_frame t h ms members given.input given.placed.apart (view_at q v) viewed none in
+        let one = one_owned t (numbered_members ms) given.placed.apart q none (a_view first.sight.view) (a_view (numbered_view v)) first_frame own_frame in
+        first.functions ∙ ap (λ x. (view_owned (numbered_view v) x).functions) one
+
+    instance_becomes : (s : Seen) → Side w s → (key : InstanceKey) (v : View) → s.shown ≡ shown.Instance key v → (number : ℕ) → number_in (places_in ms) (place_of_key (numbered_key key)) ≡ Some number
+        → SeenBecomes t planned.kept p (numbered_seen s) (planned_key (numbered_key key) number, plan.interface number (given_text s.external_id))
+    instance_becomes s side key v shows number found =
+        subst (λ (x : Shown). SeenBecomes t planned.kept p (record { key = s.key.now; shown = numbered_shown x; external_id = given_text s.external_id })
+        (planned_key (numbered_key key) number, plan.interface number (given_text s.external_id))) (sym shows)
+        (by key found (side_good w t of.good s side (shown.Instance key v) shows).0
+        (subst (λ (x : Shown). IsUnderKey t s.key.now (numbered_shown x)) shows (side_is w (λ (x : NumberedSeen). IsUnderKey t x.key x.shown) keys_there.imports keys_there.exports s side))
+        (seen_sight t ms m c w is of.good s side key v shows))
+      where
+        path_there : (q : ℕ) → number_in (places_in ms) q ≡ Some number → HasPath t q → plan.path_at p number ≡ Some (path_text t q)
+        path_there q at path = path_same t h known n ms members given ordered p planned b refl q number at ∙ (path.1 ∙ ap Some (sym (path_is t q path)))
+
+        by : (k : InstanceKey) → number_in (places_in ms) (place_of_key (numbered_key k)) ≡ Some number → KeyStands t (numbered_key k)
+            → IsUnderKey t s.key.now (worlds.instance (numbered_key k) (numbered_view v)) → Contains (views_of_members (numbered_members ms)) (sight_of k v)
+            → SeenBecomes t planned.kept p (record { key = s.key.now; shown = worlds.instance (numbered_key k) (numbered_view v); external_id = given_text s.external_id })
+            (planned_key (numbered_key k) number, plan.interface number (given_text s.external_id))
+        by (keys.Path q) at stands text viewed = (ap (λ o. unwrap_or o []) (path_there q at stands) ∙ sym text, (refl, path_there q at stands))
+        by (keys.Implementing l q) at stands text viewed = (sym text.0, (refl, path_there q at stands))
+        by (keys.Label l q) at stands text viewed =
+            let path = path_same t h known n ms members given ordered p planned b refl q number at ∙ stands in
+            let there = interface_at t h known n ms members given ordered p planned b refl (view_at q v) viewed number at in
+            (sym text.0, (refl, (path, subst (λ fs. InterfaceAt t planned.kept p (numbered_view v) fs number) (inline_functions q v viewed stands) there)))
+
+    -- ---- items
+
+    module _ (have : AreResources planned.kept (flat_map types_seen w.imports.now) find) (types : TypesAreRead t ms planned.kept p b w) where
+      item_becomes : (s : Seen) → Side w s → (e : PlannedKey × PlannedItem) → PlansItem t planned.kept (places_in ms) find s e → SeenBecomes t planned.kept p (numbered_seen s) e
+      item_becomes s side e (an_instance key v shows made) = subst (SeenBecomes t planned.kept p (numbered_seen s)) (sym made.is) (instance_becomes s side key v shows made.number made.found)
+      item_becomes s side e (a_function f shows key made) = subst (SeenBecomes t planned.kept p (numbered_seen s)) (sym (λ i. (key i, made.is i)))
+          (subst (λ (x : Shown). SeenBecomes t planned.kept p (record { key = s.key.now; shown = numbered_shown x; external_id = given_text s.external_id })
+          (plan.label s.key.now, plan.function made.function)) (sym shows) (
+            refl,
+            seen_becomes t h ms members (packages_are_ruled t h known n ms members given) n p planned whole known m c w is b refl find have s side f shows made.function made.planned,
+          ))
+      item_becomes s (inl among) e (a_type part d k shows entry is_part) = subst (SeenBecomes t planned.kept p (numbered_seen s)) (sym entry)
+          (subst (λ (x : Shown). SeenBecomes t planned.kept p (record { key = s.key.now; shown = numbered_shown x; external_id = given_text s.external_id }) (plan.label s.key.now, plan.declares k))
+          (sym shows) (refl, (types s among part d shows k is_part).3))
+      item_becomes s (inr among) e (a_type part d k shows entry is_part) = no_true (sym (all_at _ _ of.none s among) ∙ ap (λ z. is_type_seen (numbered_shown z)) shows)
+
+      pub world_becomes : (x : PlannedWorld) → AllZip (PlansItem t planned.kept (places_in ms) find) w.imports.now x.imports
+          → AllZip (PlansItem t planned.kept (places_in ms) find) w.exports.now x.exports → WorldBecomes t planned.kept p (numbered_scope w) x
+      world_becomes x imports exports = record {
+        imports = zip_mapped (PlansItem t planned.kept (places_in ms) find) (SeenBecomes t planned.kept p) numbered_seen w.imports.now (λ s among e item. item_becomes s (inl among) e item)
+            x.imports imports;
+        exports = zip_mapped (PlansItem t planned.kept (places_in ms) find) (SeenBecomes t planned.kept p) numbered_seen w.exports.now (λ s among e item. item_becomes s (inr among) e item)
+            x.exports exports;
+      }
+
+  -- ---- all worlds
+
+  pub world_at : (j : ℕ) (w : Text × Scope) → slice_get (worlds_in ms) j ≡ Some w → WorldAt t planned.kept p (numbered_scope w.1) j
+  world_at j w at =
+      let x = zip_at (PlansWorld t planned.kept (places_in ms) n) (worlds_in ms) p.worlds planned.worlds j w at in
+      let m = world_member ms w (get-contains (worlds_in ms) j w at) in
+      let stands = planned_worlds_stand t h ms members given.input (packages_are_ruled t h known n ms members given).agree ordered apart n p planned b refl j w at in
+      let types = stands.types (keys_differ t h ms members given.input given.placed.apart w.1 (world_in t h ms members given.input m.0 m.1 w.1 m.2)) in
+      record { world = x.0; stands = x.1; becomes = world_becomes m.0 m.1 w.1 m.2 x.2.find x.2.resources types x.0 x.2.imports x.2.exports }
+
+  abbrev entry : Text × Scope → Text × NumberedScope
+  entry w = (w.0, numbered_scope w.1)
+
+  labels_listed : (j : ℕ) (ws : List (Text × Scope)) → ((i : ℕ) (w : Text × Scope) → slice_get ws i ≡ Some w → WorldAt t planned.kept p (numbered_scope w.1) (j + i))
+      → AllZip (WorldsListed t planned.kept p) (map entry ws) (numbered_labels j ws)
+  labels_listed j [] each = tt
+  labels_listed j (w ∷ ws) each =
+      let here : j + 0 ≡ j = omega arith in (
+        record { name = refl; there = subst (WorldAt t planned.kept p (numbered_scope w.1)) here (each 0 w refl) },
+        labels_listed (j + 1) ws (λ i v at. (let next : j + suc i ≡ j + 1 + i = omega arith in subst (WorldAt t planned.kept p (numbered_scope v.1)) next (each (suc i) v at))),
+      )
+
+  listed_are : (xs : List Member) → worlds_listed (numbered_members xs) ≡ map entry (worlds_in xs)
+  listed_are [] = refl
+  listed_are (m ∷ xs) = search (std_rules, listed_are xs)
+
+  pub worlds_are_listed : AllZip (WorldsListed t planned.kept p) (worlds_listed (numbered_members ms)) (numbered_labels 0 (worlds_in ms))
+  worlds_are_listed = search (std_rules, listed_are, labels_listed, world_at)
