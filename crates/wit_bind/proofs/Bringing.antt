@@ -1,5 +1,5 @@
 -- What is new by name or path is copied.
-use Rattle.std.proofs.Common.{rules as std_rules, ◌≡◌, refl, sym, ap, ◌∙◌, ℕ, Bool, true, false, not, ◌&&◌, List, map, Option, Some, None, is_none, is_some, option_map, slice_get, unwrap_or}
+use Rattle.std.proofs.Common.{rules as std_rules, ◌≡◌, refl, sym, ap, subst, Contains, option_to_list, ◌∙◌, ℕ, Bool, true, false, not, ◌&&◌, List, map, Option, Some, None, is_none, is_some, option_map, slice_get, unwrap_or}
 use Rattle.std.proofs.lemmas.{Option.slice_get-map, Map.Keys.any_passes_from_place as any_at}
 use Rattle.std.specs.{Prelude.filter_map, Prelude.option_and_then, List.list_any, Option.option_map_or}
 use Rattle.wit_model.specs.declared.model.{Interface.Interface, Package.Package, PackageId.PackageId, Resolve.Resolve, World.World, WorldId.WorldId}
@@ -12,12 +12,11 @@ use Rattle.bind_match.specs.declared.matches.Matches.{Matches}
 use Rattle.bind_match.specs.Matching.{is_root_world, own_package_of, own_world_of}
 use Rattle.bind_meaning.specs.{Binding.package_text, ByNumbers.interfaces_by_path, ByNumbers.package_texts, ByNumbers.worlds_by_path, Roots.root_path}
 use Rattle.bind_meaning.proofs.Listed.{given as unpacked}
-use Rattle.bind_union.proofs.InterfaceRules.{given_contains}
 use Rattle.bind_carry.specs.{First.flag_under, MatchedSame.AreMatchedAt, Renumbered.is_matched, TooLong.CarriedThings, Which.AreMatchedAll, Which.IsNumbered}
 use Rattle.bind_carry.specs.Marked.{AreChosen}
 use Rattle.bind_carry.proofs.{FirstNumbers.chosen_so, FirstOfUnion.found_own, Ranges.is_in_range, NamesGained.new_world_flag as world_flag}
 use Rattle.wit_bind.specs.Comes.{is_new_interface, is_new_package, is_new_world, is_one_of}
-use Rattle.base_lemmas.proofs.{Elements.any-at, Elements.contains-map, Elements.get-contains, Bools.left_of as first_true, Bools.right_of as second_true, Lists.mapped_get as mapped_at}
+use Rattle.base_lemmas.proofs.{Elements.any-at, Elements.contains-map, Elements.contains-one, Elements.get-contains, Bools.left_of as first_true, Bools.right_of as second_true, Lists.mapped_get as mapped_at}
 
 -- ---- what stands under a path
 
@@ -26,9 +25,9 @@ module _ {X M : Type 0} (path : X → Option Text) (meaning : X → M) (t : Text
   paths xs = map (λ (e : Text × M). e.0) (filter_map (λ x. option_map (λ p. (p, meaning x)) (path x)) xs)
 
   pub path_there : (xs : List X) (n : ℕ) (x : X) → slice_get xs n ≡ Some x → path x ≡ Some t → list_any (text_eq t) (paths xs) ≡ true
-  path_there xs n x at e =
-      any-at (text_eq t) (paths xs) t (contains-map (λ (z : Text × M). z.0) _ (t, meaning x) (contains-filter_map (λ y. option_map (λ p. (p, meaning y)) (path y)) xs x (t, meaning x)
-      (get-contains xs n x at) (given_contains _ (t, meaning x) (ap (option_map (λ p. (p, meaning x))) e)))) (same_text t t refl)
+  path_there xs n x at e = any-at (text_eq t) (paths xs) t (contains-map (λ (z : Text × M). z.0) _ (t, meaning x)
+      (contains-filter_map (λ y. option_map (λ p. (p, meaning y)) (path y)) xs x (t, meaning x) (get-contains xs n x at)
+      (subst (λ (o : Option Text). Contains {X = Text × M} (option_to_list (option_map (λ p. (p, meaning x)) o)) (t, meaning x)) (sym e) (contains-one (t, meaning x))))) (same_text t t refl)
 
 -- what is so isn't not so
 contrary : {A : Type 0} (b : Bool) → not b ≡ true → b ≡ true → A
