@@ -1,4 +1,4 @@
-use Rattle.std.proofs.Common.{◌||◌, ◌∙◌, [], append-nil, ap, filter_map, refl, subst, sym, tt}
+use Rattle.std.proofs.Common.{◌||◌, ◌∙◌, [], append-nil, ap, filter_map, refl, subst, sym}
 use Rattle.std.proofs.lemmas.List.{drop_all}
 use Rattle.std.specs.Prelude.{is_some, option_map}
 use Rattle.wit_model.specs.Rules.{has_items}
