@@ -1,4 +1,4 @@
-use Rattle.std.proofs.Common.{◌∙◌, ap, map, refl, subst, sym, tt}
+use Rattle.std.proofs.Common.{◌∙◌, ap, map, refl, subst, sym}
 use Rattle.wit_model.specs.Rules.{in_list}
 use Rattle.print_output.specs.{OutputCall.Moves, OutputCall.Begins, OutputCall.Moves.nothing_moved}
 use Rattle.print_grammar.specs.Calls.{members_calls, printed_after}
