@@ -20,10 +20,7 @@ pub adds_as : {a b : Written} {ts all : List Token} → Adds a b ts → ts ≡ a
 adds_as {a = a} {b = b} h e = subst (λ ts. Adds a b ts) e h
 
 join : {a b c : Written} {ts us : List Token} → Adds a b ts → Adds b c us → Adds a c (ts ++ us)
-join {a = a} {b = b} {c = c} {ts = ts} {us = us} h k = record {
-  tokens = k.tokens ∙ ap (λ xs. xs ++ us) h.tokens ∙ append_assoc a.tokens ts us;
-  before = k.before ∙ h.before;
-}
+join {a = a} {b = b} {c = c} {ts = ts} {us = us} h k = record { tokens = k.tokens ∙ ap (λ xs. xs ++ us) h.tokens ∙ append_assoc a.tokens ts us; before = k.before ∙ h.before }
 
 pub adds2 : {a b c : Written} {A B all : List Token} → Adds a b A → Adds b c B → A ++ B ≡ all → Adds a c all
 adds2 p q e = adds_as (join p q) e

@@ -86,7 +86,4 @@ module _ {X V : Type 0} {D : X → Type 0} {f g : X → List Token} {v w : X →
 
   -- a list up to its end
   pub tells_all : Tells (AllByRecursion D) (λ xs. flat_map f xs ++ end_array ∷ []) (λ xs. flat_map g xs ++ end_array ∷ []) (map v) (map w)
-  tells_all = record {
-    told = λ xs ys s t p q e.
-        all_told xs ys s t p q (sym (append_assoc (flat_map f xs) (end_array ∷ []) s) ∙ e ∙ append_assoc (flat_map g ys) (end_array ∷ []) t);
-  }
+  tells_all = record { told = λ xs ys s t p q e. all_told xs ys s t p q (sym (append_assoc (flat_map f xs) (end_array ∷ []) s) ∙ e ∙ append_assoc (flat_map g ys) (end_array ∷ []) t) }

@@ -149,8 +149,7 @@ module _ (r : Resolve) (v : IsValid r) where
 
   types_keep : Keeps (λ def. range_test r def && has_shape def.kind) r.types.items
   unfolding numbers_in_range shapes range_test
-  types_keep n def at =
-      search (std_rules, type_passes numbers_in_range r v.rules.numbers_in_range n def, range_test r def, type_passes shapes r v.rules.shapes n def)
+  types_keep n def at = search (std_rules, type_passes numbers_in_range r v.rules.numbers_in_range n def, range_test r def, type_passes shapes r v.rules.shapes n def)
 
   few_entries : FewEntries r
   few_entries = record {

@@ -63,8 +63,7 @@ module _ (r : Resolve) (v : IsValid r) where
       world_says e.1.0 (text_of e.0)
       (all_get (λ (id : WorldId). in_list r.worlds.items id.0) (values p.worlds) q e.1 worlds_inside (mapped_get (λ (x : String Global × WorldId). x.1) p.worlds.entries q e place))
       (all_get (λ (x : String Global × WorldId). passes (λ w. text_eq (text_of w.name) (text_of x.0)) (world_at r x.1.0)) p.worlds.entries q e (second_true _ _ names) place) in
-      pair_same
-      (keys_by_values text_of (λ id. interface_name (bare r) id.0) p.interfaces.entries one ∙ sym (map_of_map (interface_name (bare r)) (λ (id : InterfaceId). id.0) (values p.interfaces)))
+      pair_same (keys_by_values text_of (λ id. interface_name (bare r) id.0) p.interfaces.entries one ∙ sym (map_of_map (interface_name (bare r)) (λ (id : InterfaceId). id.0) (values p.interfaces)))
       (keys_by_values text_of (λ id. world_name (bare r) id.0) p.worlds.entries other ∙ sym (map_of_map (world_name (bare r)) (λ (id : WorldId). id.0) (values p.worlds)))
 
   -- ---- types and functions
@@ -84,8 +83,7 @@ module _ (r : Resolve) (v : IsValid r) where
       let belongs : is_named_of r (as_interface n) e.1.0 ≡ true =
       all_get (is_named_of r (as_interface n)) (interface_type_numbers i) q e.1.0 (first_true (list_all (is_named_of r (as_interface n)) (interface_type_numbers i)) _
       (interface-passes order_of_types r v.rules.order_of_types n i at)) (mapped_get (λ (id : TypeId). id.0) (values i.types) q e.1 value) in
-      let own : (is_some found.0.name && same_owner found.0.owner (as_interface n)) ≡ true =
-      ap (passes (λ def. is_some def.name && same_owner def.owner (as_interface n))) (sym found.1) ∙ belongs in
+      let own : (is_some found.0.name && same_owner found.0.owner (as_interface n)) ≡ true = ap (passes (λ def. is_some def.name && same_owner def.owner (as_interface n))) (sym found.1) ∙ belongs in
       let name = some-of found.0.name (first_true (is_some found.0.name) _ own) in
       let stands : is_listed r e.1.0 (text_of name.0) found.0.owner ≡ true =
       ap (λ o. option_map_or (λ s. is_listed r e.1.0 (text_of s) found.0.owner) o (same_owner found.0.owner owner.None)) (sym name.1)
@@ -95,8 +93,7 @@ module _ (r : Resolve) (v : IsValid r) where
       ∙ sym (ap (λ o. unwrap_or (option_and_then (λ def. def.name) o) []) (mapped_get bare_type r.types.items e.1.0 found.0 found.1) ∙ ap (λ o. unwrap_or (option_map text_of o) []) name.1)
     where
       fails : (t : Text) → text_eq t (text_of e.0) ≡ false → is_listed_in_interface e.1.0 t i ≡ false
-      fails t differs =
-          (λ j. is_id e.1.0 (sym (given_found (get_by_text i.types t)) j) && (count_by (λ m. m == e.1.0) (sym (given_all (values_of i.types.entries)) j) == 1))
+      fails t differs = (λ j. is_id e.1.0 (sym (given_found (get_by_text i.types t)) j) && (count_by (λ m. m == e.1.0) (sym (given_all (values_of i.types.entries)) j) == 1))
           ∙ misfit (λ k. bytes_eq t (string_bytes k)) (λ id. Some id.0) e.1.0 i.types.entries q e place (eq-eqb e.1.0 e.1.0 refl) differs
 
       go : (t : Text) → is_listed_in_interface e.1.0 t i ≡ true → (b : Bool) → text_eq t (text_of e.0) ≡ b → text_eq t (text_of e.0) ≡ true
@@ -112,8 +109,7 @@ module _ (r : Resolve) (v : IsValid r) where
       text_same (text_of e.0) (text_of e.1.name) (first_true (text_eq (text_of e.0) (text_of e.1.name)) _
       (all_get (λ (x : String Global × Function). text_eq (text_of x.0) (text_of x.1.name) && is_member r (as_interface n) x.1) i.functions.entries q e
       (interface-passes function_names r v.rules.function_names n i at) place)) in
-      pair_same
-      (keys_by_values text_of (λ id. type_name (bare r) id.0) i.types.entries (type_says n i at) ∙ sym (map_of_map (type_name (bare r)) (λ (id : TypeId). id.0) (values i.types)))
+      pair_same (keys_by_values text_of (λ id. type_name (bare r) id.0) i.types.entries (type_says n i at) ∙ sym (map_of_map (type_name (bare r)) (λ (id : TypeId). id.0) (values i.types)))
       (keys_by_values text_of (λ f. text_of f.name) i.functions.entries named ∙ sym (map_of_map (λ f. f.name) bare_function (values i.functions)))
 
   -- ---- worlds
@@ -155,12 +151,10 @@ module _ (r : Resolve) (v : IsValid r) where
 
   side_told : (es : List (WorldKey × WorldItem)) → entries_in_range r es ≡ true → entries_labels es ≡ true
       → ((q : ℕ) (e : WorldKey × WorldItem) → slice_get es q ≡ Some e → KeyStands e.0 e.1) → map bare_key (keys_of es) ≡ map told_key (map (bare_entry r) es)
-  side_told es range labelled stands =
-      map_of_map bare_key (λ (e : WorldKey × WorldItem). e.0) es
-      ∙ mapped_alike (λ e. bare_key e.0) (λ e. told_key (bare_entry r e)) es (λ q e place.
-      entry_told e.0 e.1 (first_true _ _ (all_get (λ (x : WorldKey × WorldItem). key_in_range r x.0 && item_in_range r x.1) es q e range place))
-      (first_true _ _ (all_get (λ (x : WorldKey × WorldItem). key_label x.0 x.1 && item_labels x.1) es q e labelled place)) (stands q e place))
-      ∙ sym (map_of_map told_key (bare_entry r) es)
+  side_told es range labelled stands = map_of_map bare_key (λ (e : WorldKey × WorldItem). e.0) es
+      ∙ mapped_alike (λ e. bare_key e.0) (λ e. told_key (bare_entry r e)) es
+      (λ q e place. entry_told e.0 e.1 (first_true _ _ (all_get (λ (x : WorldKey × WorldItem). key_in_range r x.0 && item_in_range r x.1) es q e range place))
+      (first_true _ _ (all_get (λ (x : WorldKey × WorldItem). key_label x.0 x.1 && item_labels x.1) es q e labelled place)) (stands q e place)) ∙ sym (map_of_map told_key (bare_entry r) es)
 
   world_keys : (n : ℕ) (w : World) → slice_get r.worlds.items n ≡ Some w
       → ◌≡◌ {A = List BareKey × List BareKey} (map bare_key (keys_of w.imports.entries), map bare_key (keys_of w.exports.entries))
@@ -171,8 +165,7 @@ module _ (r : Resolve) (v : IsValid r) where
       let labelled = second_true (is_stability w.stability) _ (second_true (is_label (text_of w.name)) _ (world_passes labels r v.rules.labels n w at)) in
       let stand = world_passes world_items r v.rules.world_items n w at in
       let imports = list_all (λ (e : WorldKey × WorldItem). import_stands r n e.0 e.1) w.imports.entries in
-      pair_same
-      (side_told w.imports.entries (first_true (entries_in_range r w.imports.entries) _ range) (first_true (entries_labels w.imports.entries) _ labelled) (λ q e place.
+      pair_same (side_told w.imports.entries (first_true (entries_in_range r w.imports.entries) _ range) (first_true (entries_labels w.imports.entries) _ labelled) (λ q e place.
       import_key n e.0 e.1 (all_get (λ (x : WorldKey × WorldItem). import_stands r n x.0 x.1) w.imports.entries q e (first_true imports _ stand) place)))
       (side_told w.exports.entries (second_true (entries_in_range r w.imports.entries) _ range) (second_true (entries_labels w.imports.entries) _ labelled) (λ q e place.
       export_key e.0 e.1 (all_get (λ (x : WorldKey × WorldItem). export_stands r x.0 x.1) w.exports.entries q e (second_true imports _ stand) place)))

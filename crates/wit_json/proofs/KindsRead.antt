@@ -87,11 +87,8 @@ type_cases P w n _ = w _
 
 type_first : (t : ValueType) (ts : List Token) (us : List (Option ValueType)) (vs : List Token) → IsSmallType (Some t) → read_types ts ≡ (us, vs) → read_types (type_token t ∷ ts) ≡ (Some t ∷ us, vs)
 unfolding read_types
-type_first t ts us vs h e =
-    type_cases (λ u. read_type u ≡ Some t → read_types (u ∷ ts) ≡ (Some t ∷ us, vs))
-    (λ w k. pushed (read_type (string w)) (Some t) (read_types ts) us vs k e)
-    (λ n k. pushed (read_type (number n)) (Some t) (read_types ts) us vs k e)
-    t (type_told (Some t) h)
+type_first t ts us vs h e = type_cases (λ u. read_type u ≡ Some t → read_types (u ∷ ts) ≡ (Some t ∷ us, vs)) (λ w k. pushed (read_type (string w)) (Some t) (read_types ts) us vs k e)
+    (λ n k. pushed (read_type (number n)) (Some t) (read_types ts) us vs k e) t (type_told (Some t) h)
 
 types_told : (xs : List ValueType) (s : List Token) → AllByRecursion (λ t. IsSmallType (Some t)) xs
     → read_types (flat_map (λ t. type_token t ∷ []) xs ++ end_array ∷ s) ≡ (map (λ t. Some t) xs, end_array ∷ s)

@@ -130,54 +130,38 @@ call_tells = tells_read call_read call_told
 type_def_tells : Tells HasSmallType type_tokens type_tokens bare_type bare_type
 unfolding type_tokens
 type_def_tells =
-    tells_as (λ (z : Option Text × (BareKind × (TypeOwner × Option Text))). record { name = z.0; kind = z.1.0; owner = z.1.1.0; external_id = z.1.1.1 })
-    (λ def h. (tt, (h.0, (h.1, tt))))
+    tells_as (λ (z : Option Text × (BareKind × (TypeOwner × Option Text))). record { name = z.0; kind = z.1.0; owner = z.1.1.0; external_id = z.1.1.1 }) (λ def h. (tt, (h.0, (h.1, tt))))
     (tells_behind begin_object (tells_two (member_tells (codes "name") (optional_tells (λ (def : TypeDef). optional_text def.name)))
     (tells_two (tells_behind (key (codes "kind")) (tells_of (λ (def : TypeDef). def.kind) kind_tells))
     (tells_two (tells_behind (key (codes "owner")) (tells_of (λ (def : TypeDef). def.owner) owner_tells))
     (tells_before end_object (member_tells (codes "external-id") (optional_tells (λ (def : TypeDef). optional_text def.external_id))))))))
 
-type_def_begins : Begins type_tokens
-unfolding type_tokens
-type_def_begins = begins_object _ (λ def. refl)
-
 -- ---- functions and interfaces
 
 param_tells : Tells {V = Text × Option ValueType} (λ (p : Param). IsSmallType (Some p.ty)) param_tokens param_tokens (λ p. (text_of p.name, Some p.ty)) (λ p. (text_of p.name, Some p.ty))
-param_tells =
-    tells_as (λ (z : Text × Option ValueType). z) (λ p h. (tt, h))
+param_tells = tells_as (λ (z : Text × Option ValueType). z) (λ p h. (tt, h))
     (tells_behind begin_object (tells_two (member_tells (codes "name") (text_tells (λ (p : Param). text_of p.name) (λ (p : Param). text_of p.name)))
     (tells_before end_object (member_tells (codes "type") (type_tells (λ (p : Param). Some p.ty))))))
 
 function_tells : Tells HasSmallFunction function_tokens function_tokens bare_function bare_function
 unfolding function_tokens
-function_tells =
-    tells_as (λ (z : Text × (FunctionKind × (List (Text × Option ValueType) × (Option ValueType × Option Text)))). record
-    { name = z.0; kind = z.1.0; params = z.1.1.0; result = z.1.1.1.0; external_id = z.1.1.1.1 })
-    (λ f h. (tt, (h.kind, (h.params, (h.result, tt)))))
+function_tells = tells_as (λ (z : Text × (FunctionKind × (List (Text × Option ValueType) × (Option ValueType × Option Text)))). record
+    { name = z.0; kind = z.1.0; params = z.1.1.0; result = z.1.1.1.0; external_id = z.1.1.1.1 }) (λ f h. (tt, (h.kind, (h.params, (h.result, tt)))))
     (tells_behind begin_object (tells_two (member_tells (codes "name") (text_tells (λ (f : Function). text_of f.name) (λ (f : Function). text_of f.name)))
     (tells_two (tells_behind (key (codes "kind")) (tells_of (λ (f : Function). f.kind) call_tells))
     (tells_two (listed_tells (codes "params") (λ (f : Function). f.params.items) param_tells (begins_object _ (λ p. refl)) (begins_object _ (λ p. refl)))
     (tells_two (member_tells (codes "result") (type_tells (λ (f : Function). f.result)))
     (tells_before end_object (member_tells (codes "external-id") (optional_tells (λ (f : Function). optional_text f.external_id)))))))))
 
-function_begins : Begins function_tokens
-unfolding function_tokens
-function_begins = begins_object _ (λ f. refl)
-
 interface_tells : Tells HasSmallInterface interface_tokens interface_tokens bare_interface bare_interface
-unfolding interface_tokens
+unfolding interface_tokens function_tokens
 interface_tells =
     tells_as (λ (z : Option Text × (Option PackageId × (List ℕ × List BareFunction))). record { name = z.0; home = z.1.0; types = z.1.1.0; functions = z.1.1.1 })
     (λ i h. (tt, (h.home, (h.types, h.functions))))
     (tells_behind begin_object (tells_two (member_tells (codes "name") (optional_tells (λ (i : Interface). optional_text i.name)))
     (tells_two (member_tells (codes "package") (home_tells (λ (i : Interface). i.«package»)))
     (tells_two (numbers_tell (codes "types") (λ (id : TypeId). id.0) (λ (i : Interface). values i.types))
-    (tells_before end_object (listed_tells (codes "functions") (λ (i : Interface). values i.functions) function_tells function_begins function_begins))))))
-
-interface_begins : Begins interface_tokens
-unfolding interface_tokens
-interface_begins = begins_object _ (λ i. refl)
+    (tells_before end_object (listed_tells (codes "functions") (λ (i : Interface). values i.functions) function_tells (begins_object _ (λ x. refl)) (begins_object _ (λ x. refl))))))))
 
 -- ---- worlds
 
@@ -209,40 +193,29 @@ item_told (item.Type_ n) (item.Type_ m) s t h k e = let r = named_tells.told n.0
 item_tells : Tells HasSmallItem item_tokens item_tokens bare_item bare_item
 item_tells = record { told = item_told }
 
-module _ (r : Resolve) where
-  entry_begins : Begins (entry_tokens r)
-  unfolding entry_tokens
-  entry_begins = begins_object _ (λ e. refl)
-
-  world_begins : Begins (world_tokens r)
-  unfolding world_tokens
-  world_begins = begins_object _ (λ w. refl)
-
 module _ (r q : Resolve) where
   entry_tells : Tells (λ (e : WorldKey × WorldItem). HasSmallItem e.1) (entry_tokens r) (entry_tokens q) (bare_entry r) (bare_entry q)
   unfolding entry_tokens
-  entry_tells =
-      tells_as (λ (z : Text × BareItem). z) (λ e h. (tt, h))
+  entry_tells = tells_as (λ (z : Text × BareItem). z) (λ e h. (tt, h))
       (tells_behind begin_object (tells_two (member_tells (codes "key") (text_tells (λ (e : WorldKey × WorldItem). key_text r e.0) (λ (e : WorldKey × WorldItem). key_text q e.0)))
       (tells_before end_object (tells_of (λ (e : WorldKey × WorldItem). e.1) item_tells))))
 
   world_tells : Tells HasSmallWorld (world_tokens r) (world_tokens q) (bare_world r) (bare_world q)
-  unfolding world_tokens
+  unfolding world_tokens entry_tokens
   world_tells =
       tells_as (λ (z : Text × (Option PackageId × (List (Text × BareItem) × List (Text × BareItem)))). record { name = z.0; home = z.1.0; imports = z.1.1.0; exports = z.1.1.1 })
       (λ w h. (tt, (h.home, (h.imports, h.exports))))
       (tells_behind begin_object (tells_two (member_tells (codes "name") (text_tells (λ (w : World). text_of w.name) (λ (w : World). text_of w.name)))
       (tells_two (member_tells (codes "package") (home_tells (λ (w : World). w.«package»)))
-      (tells_two (listed_tells (codes "imports") (λ (w : World). w.imports.entries) entry_tells (entry_begins r) (entry_begins q))
-      (tells_before end_object (listed_tells (codes "exports") (λ (w : World). w.exports.entries) entry_tells (entry_begins r) (entry_begins q)))))))
+      (tells_two (listed_tells (codes "imports") (λ (w : World). w.imports.entries) entry_tells (begins_object _ (λ x. refl)) (begins_object _ (λ x. refl)))
+      (tells_before end_object (listed_tells (codes "exports") (λ (w : World). w.exports.entries) entry_tells (begins_object _ (λ x. refl)) (begins_object _ (λ x. refl))))))))
 
 -- ---- packages
 
 name_tells : Tells {V = Text × (Text × Option Text)} (λ (n : PackageName). ⊤ × (⊤ × ⊤)) package_name_tokens package_name_tokens
     (λ n. (text_of n.namespace, (text_of n.name, optional_version_text n.version))) (λ n. (text_of n.namespace, (text_of n.name, optional_version_text n.version)))
 unfolding package_name_tokens
-name_tells =
-    tells_two (member_tells (codes "namespace") (text_tells (λ (n : PackageName). text_of n.namespace) (λ (n : PackageName). text_of n.namespace)))
+name_tells = tells_two (member_tells (codes "namespace") (text_tells (λ (n : PackageName). text_of n.namespace) (λ (n : PackageName). text_of n.namespace)))
     (tells_two (member_tells (codes "name") (text_tells (λ (n : PackageName). text_of n.name) (λ (n : PackageName). text_of n.name)))
     (member_tells (codes "version") (optional_tells (λ (n : PackageName). optional_version_text n.version))))
 
@@ -250,47 +223,31 @@ package_tells : Tells HasSmallPackage package_tokens package_tokens bare_package
 unfolding package_tokens
 package_tells =
     tells_as (λ (z : (Text × (Text × Option Text)) × (List ℕ × List ℕ)). record { identity = record { namespace = z.0.0; name = z.0.1.0; version = z.0.1.1 }; interfaces = z.1.0; worlds = z.1.1 })
-    (λ p h. ((tt, (tt, tt)), (h.interfaces, h.worlds)))
-    (tells_behind begin_object (tells_two (tells_of (λ (p : Package). p.name) name_tells)
-    (tells_two (numbers_tell (codes "interfaces") (λ (id : InterfaceId). id.0) (λ (p : Package). values p.interfaces))
+    (λ p h. ((tt, (tt, tt)), (h.interfaces, h.worlds))) (tells_behind begin_object
+    (tells_two (tells_of (λ (p : Package). p.name) name_tells) (tells_two (numbers_tell (codes "interfaces") (λ (id : InterfaceId). id.0) (λ (p : Package). values p.interfaces))
     (tells_before end_object (numbers_tell (codes "worlds") (λ (id : WorldId). id.0) (λ (p : Package). values p.worlds))))))
-
-package_begins : Begins package_tokens
-unfolding package_tokens
-package_begins = begins_object _ (λ p. refl)
 
 -- ---- the whole
 
+-- the four lists, where names are looked up in r
+abbrev lists_of : Resolve → Resolve → List Token
+lists_of r x = key (codes "packages") ∷ (listed package_tokens x.packages.items ++ (key (codes "worlds") ∷ (listed (world_tokens r) x.worlds.items
+    ++ (key (codes "interfaces") ∷ (listed interface_tokens x.interfaces.items ++ (key (codes "types") ∷ listed type_tokens x.types.items))))))
+
+abbrev bare_of : Resolve → Resolve → BareResolve
+bare_of r x =
+    record { packages = map bare_package x.packages.items; worlds = map (bare_world r) x.worlds.items; interfaces = map bare_interface x.interfaces.items; types = map bare_type x.types.items }
+
 module _ (r q : Resolve) where
-  -- the four lists, where the worlds of one are of r and those of the other of q
-  lists_tell : Tells {V = BareResolve} HasSmallNumbers
-      (λ x. key (codes "packages") ∷ (listed package_tokens x.packages.items
-      ++ (key (codes "worlds") ∷ (listed (world_tokens r) x.worlds.items ++ (key (codes "interfaces")
-      ∷ (listed interface_tokens x.interfaces.items ++ (key (codes "types") ∷ listed type_tokens x.types.items)))))))
-      (λ x. key (codes "packages") ∷ (listed package_tokens x.packages.items
-      ++ (key (codes "worlds") ∷ (listed (world_tokens q) x.worlds.items ++ (key (codes "interfaces")
-      ∷ (listed interface_tokens x.interfaces.items ++ (key (codes "types") ∷ listed type_tokens x.types.items)))))))
-      (λ x. record {
-        packages = map bare_package x.packages.items;
-        worlds = map (bare_world r) x.worlds.items;
-        interfaces = map bare_interface x.interfaces.items;
-        types =
-            map bare_type x.types.items;
-      })
-      (λ x. record {
-        packages = map bare_package x.packages.items;
-        worlds = map (bare_world q) x.worlds.items;
-        interfaces = map bare_interface x.interfaces.items;
-        types =
-            map bare_type x.types.items;
-      })
+  lists_tell : Tells HasSmallNumbers (lists_of r) (lists_of q) (bare_of r) (bare_of q)
+  unfolding package_tokens world_tokens interface_tokens type_tokens
   lists_tell =
       tells_as (λ (z : List BarePackage × (List BareWorld × (List BareInterface × List BareType))). record { packages = z.0; worlds = z.1.0; interfaces = z.1.1.0; types = z.1.1.1 })
-      (λ x h. (h.packages, (h.worlds, (h.interfaces, h.types))))
-      (tells_two (listed_tells (codes "packages") (λ (x : Resolve). x.packages.items) package_tells package_begins package_begins)
-      (tells_two (listed_tells (codes "worlds") (λ (x : Resolve). x.worlds.items) (world_tells r q) (world_begins r) (world_begins q))
-      (tells_two (listed_tells (codes "interfaces") (λ (x : Resolve). x.interfaces.items) interface_tells interface_begins interface_begins)
-      (listed_tells (codes "types") (λ (x : Resolve). x.types.items) type_def_tells type_def_begins type_def_begins))))
+      (λ x h. (h.packages, (h.worlds, (h.interfaces, h.types)))) (tells_two
+      (listed_tells (codes "packages") (λ (x : Resolve). x.packages.items) package_tells (begins_object _ (λ x. refl)) (begins_object _ (λ x. refl)))
+      (tells_two (listed_tells (codes "worlds") (λ (x : Resolve). x.worlds.items) (world_tells r q) (begins_object _ (λ x. refl)) (begins_object _ (λ x. refl)))
+      (tells_two (listed_tells (codes "interfaces") (λ (x : Resolve). x.interfaces.items) interface_tells (begins_object _ (λ x. refl)) (begins_object _ (λ x. refl)))
+      (listed_tells (codes "types") (λ (x : Resolve). x.types.items) type_def_tells (begins_object _ (λ x. refl)) (begins_object _ (λ x. refl))))))
 
 -- equal tokens say the same
 pub nothing_else : NothingElseIsLost

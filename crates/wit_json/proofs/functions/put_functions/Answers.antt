@@ -6,10 +6,8 @@ use Rattle.wit_json.proofs.Adding.{adds2, lists_all, lists_more, then_token}
 use Rattle.wit_json.proofs.functions.put_functions.Goals as goal
 
 pub loop-function-preserved : goal.loop-function-preserved
-loop-function-preserved c =
-    lists_more function_tokens _ c.loop-function.function-iterator c.next.new.self c.in-Some.function.now c.loop-function.invariant
-    (rest_more deref c.loop-function.function-iterator c.next.new.self c.next.result c.in-Some.function c.in-Some.is c.next.ensures.steps)
-    c.in_ok-put_function.ensures
+loop-function-preserved c = lists_more function_tokens _ c.loop-function.function-iterator c.next.new.self c.in-Some.function.now c.loop-function.invariant
+    (rest_more deref c.loop-function.function-iterator c.next.new.self c.next.result c.in-Some.function c.in-Some.is c.next.ensures.steps) c.in_ok-put_function.ensures
 
 pub returns : goal.returns
 returns c =
