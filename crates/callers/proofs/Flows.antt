@@ -25,11 +25,7 @@ root-left own new k root extends =
 pub same-world : (r : Resolve) (n : ℕ) (bytes sent : List ℕ) → bytes ≡ sent → MeansWorld r n sent → (x : Resolve × WorldId) → IsDecodedWorld bytes x.0 x.1.0 → MeansTheSame r n x.0 x.1.0
 same-world r n bytes sent is means x decoded =
     let here = subst (λ (b : List ℕ). IsDecodedWorld b x.0 x.1.0) is decoded in
-    record {
-      world = here.world;
-      stands = here.stands;
-      same = λ m. (λ h. (here.meant m).1 ((means m).0 h), λ h. (means m).1 ((here.meant m).0 h));
-    }
+    record { world = here.world; stands = here.stands; same = λ m. (λ h. (here.meant m).1 ((means m).0 h), λ h. (means m).1 ((here.meant m).0 h)) }
 
 pub valid-world : (bytes : List ℕ) (x : Resolve × WorldId) → IsDecodedWorld bytes x.0 x.1.0 → IsValid x.0
 valid-world bytes x decoded = decoded.valid

@@ -23,9 +23,4 @@ home-known b valid w at home is =
     let r = b.resolve in
     let inside = left_of (passes (in_list r.packages.items) (package_number w.package)) _
     (right_of (is_place b.world.0) _ (world_passes numbers_in_range r valid.rules.numbers_in_range b.world.0 w at)) in
-    record {
-      world = w;
-      stands = at;
-      is = is;
-      in_range = ltb-true home.0 (length r.packages.items) (ap (λ p. passes (in_list r.packages.items) (package_number p)) (sym is) ∙ inside);
-    }
+    record { world = w; stands = at; is = is; in_range = ltb-true home.0 (length r.packages.items) (ap (λ p. passes (in_list r.packages.items) (package_number p)) (sym is) ∙ inside) }

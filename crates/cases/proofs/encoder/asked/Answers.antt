@@ -8,7 +8,4 @@ encode_valtype-requires c = λ _. ((refl, tt), (c.requires.encodable, c.requires
 pub returns : goal.returns
 returns c =
     let leaves = c.encode_valtype.ensures.leaves in
-    record {
-      encodable = subst (λ (s : Scope). CanEncode c.args.resolve.now s (c.args.ty.now ∷ [])) (sym leaves.scope_stays) c.requires.encodable;
-      agree = leaves.agree;
-    }
+    record { encodable = subst (λ (s : Scope). CanEncode c.args.resolve.now s (c.args.ty.now ∷ [])) (sym leaves.scope_stays) c.requires.encodable; agree = leaves.agree }
