@@ -73,16 +73,13 @@ zip-kept R Q k (a ∷ xs) (b ∷ ys) h = (k a b h.0, zip-kept R Q k xs ys h.1)
 
 pub all_two : {A : Type 0} (p q s : A → Bool) → ((x : A) → p x ≡ true → q x ≡ true → s x ≡ true) → (xs : List A) → list_all p xs ≡ true → list_all q xs ≡ true → list_all s xs ≡ true
 all_two p q s make [] h k = refl
-all_two p q s make (x ∷ xs) h k =
-    both (s x) (list_all s xs) (make x (first_true (p x) (list_all p xs) h) (first_true (q x) (list_all q xs) k))
+all_two p q s make (x ∷ xs) h k = both (s x) (list_all s xs) (make x (first_true (p x) (list_all p xs) h) (first_true (q x) (list_all q xs) k))
     (all_two p q s make xs (second_true (p x) (list_all p xs) h) (second_true (q x) (list_all q xs) k))
 
 pub all_three : {A : Type 0} (p q s t : A → Bool) → ((x : A) → p x ≡ true → q x ≡ true → s x ≡ true → t x ≡ true) → (xs : List A) → list_all p xs ≡ true → list_all q xs ≡ true → list_all s xs ≡ true
     → list_all t xs ≡ true
 all_three p q s t make [] f g h = refl
-all_three p q s t make (x ∷ xs) f g h =
-    both (t x) (list_all t xs)
-    (make x (first_true (p x) (list_all p xs) f) (first_true (q x) (list_all q xs) g) (first_true (s x) (list_all s xs) h))
+all_three p q s t make (x ∷ xs) f g h = both (t x) (list_all t xs) (make x (first_true (p x) (list_all p xs) f) (first_true (q x) (list_all q xs) g) (first_true (s x) (list_all s xs) h))
     (all_three p q s t make xs (second_true (p x) (list_all p xs) f) (second_true (q x) (list_all q xs) g) (second_true (s x) (list_all s xs) h))
 
 pub flat-same : {X : Type 0} (f g : ℕ → List X) (n : ℕ) (ns : List ℕ) → ((m : ℕ) → m < n → f m ≡ g m) → list_all (λ m. nat_lt m n) ns ≡ true → flat_map f ns ≡ flat_map g ns
@@ -146,11 +143,10 @@ there-member xs q c = any-at (nat_eq q) xs q c (eq-eqb q q refl)
 
 pub member-there : (xs : List ℕ) (q : ℕ) → is_member nat_eq xs q ≡ true → Contains xs q
 member-there [] q h = absurd (let z : ⊥ = cc in z)
-member-there (x ∷ xs) q h =
-    elim (cases_Bool (nat_eq q x)) [
-      | inl e ↦ (0, omega arith, sym (eqb-true q x e))
-      | inr e ↦ let c = member-there xs q (sym (ap (λ b. b || list_any (nat_eq q) xs) e) ∙ h) in (suc c.0, (let n = c.1 in omega arith), c.2)
-    ]
+member-there (x ∷ xs) q h = elim (cases_Bool (nat_eq q x)) [
+  | inl e ↦ (0, omega arith, sym (eqb-true q x e))
+  | inr e ↦ let c = member-there xs q (sym (ap (λ b. b || list_any (nat_eq q) xs) e) ∙ h) in (suc c.0, (let n = c.1 in omega arith), c.2)
+]
 
 pub flat_all_mapped : {X Y : Type 0} (p : ℕ → Bool) (g : Y → List ℕ) (h : X → Y) (xs : List X) → list_all p (flat_map g (map h xs)) ≡ list_all (λ x. list_all p (g (h x))) xs
 flat_all_mapped p g h [] = refl

@@ -109,10 +109,7 @@ given-some test (Some a) h = refl
 pub split_at : {A : Type 0} (xs ys : List A) (n : ℕ) (x : A) → slice_get (xs ++ ys) n ≡ Some x → (slice_get xs n ≡ Some x) ⊎ ((k : ℕ) × (n ≡ length xs + k) × (slice_get ys k ≡ Some x))
 split_at [] ys n x e = inr (n, omega arith, e)
 split_at (z ∷ xs) ys zero x e = inl e
-split_at (z ∷ xs) ys (suc n) x e = elim (split_at xs ys n x e) [
-  | inl here ↦ inl here
-  | inr later ↦ inr (later.0, (let is = later.1 in omega (arith, is)), later.2)
-]
+split_at (z ∷ xs) ys (suc n) x e = elim (split_at xs ys n x e) [ inl here ↦ inl here | inr later ↦ inr (later.0, (let is = later.1 in omega (arith, is)), later.2) ]
 
 pub last_or : {X : Type 0} (xs : List X) (y : X) (n : ℕ) (x : X) → slice_get (xs ++ y ∷ []) n ≡ Some x → ((n < length xs) × (slice_get xs n ≡ Some x)) ⊎ ((n ≡ length xs) × (y ≡ x))
 last_or [] y zero x e = inr (refl, (let same : y ≡ x = cc in same))

@@ -12,10 +12,7 @@ there xs ys same n q at =
     (get_or xs n q, slice_get-get_or xs n q within)
 
 pub same_then : (xs ys zs : List Package) → ArePackages IsSameWithRoom xs ys → ArePackages IsSameWithRoom ys zs → ArePackages IsSameWithRoom xs zs
-same_then xs ys zs a b = record {
-  count = b.count ∙ a.count;
-  each = λ n p r at_p at_r. both n p r at_p at_r (there ys zs b.count n r at_r);
-}
+same_then xs ys zs a b = record { count = b.count ∙ a.count; each = λ n p r at_p at_r. both n p r at_p at_r (there ys zs b.count n r at_r) }
   where
     both : (n : ℕ) (p r : Package) → slice_get xs n ≡ Some p → slice_get zs n ≡ Some r → (q : Package) × (slice_get ys n ≡ Some q) → IsSameWithRoom p r
     both n p r at_p at_r q =

@@ -46,8 +46,7 @@ module _ (numbers : List ℕ) where
     pub names_more : new ≡ insert_entry string_eq done k v → text_of k ≡ text_of e.0 → v.0 ≡ number_under numbers e.1.0 → are_distinct (names_in whole) ≡ true
         → type_names done ++ type_names_under numbers (e ∷ rest) ≡ type_names_under numbers whole → type_names new ++ type_names_under numbers rest ≡ type_names_under numbers whole
     names_more added name number apart before =
-        let all : names_in done ++ text_of e.0 ∷ names_in rest ≡ names_in whole =
-        ap (λ ts. names_in done ++ ts) (sym (firsts_under numbers (e ∷ rest)))
+        let all : names_in done ++ text_of e.0 ∷ names_in rest ≡ names_in whole = ap (λ ts. names_in done ++ ts) (sym (firsts_under numbers (e ∷ rest)))
         ∙ (sym (firsts_done done (type_names_under numbers (e ∷ rest))) ∙ (ap (map (λ (x : Text × ℕ). x.0)) before ∙ firsts_under numbers whole)) in
         let differ : are_distinct (names_in done ++ text_of k ∷ names_in rest) ≡ true = ap (λ t. are_distinct (names_in done ++ t ∷ names_in rest)) name ∙ (ap are_distinct all ∙ apart) in
         ap (λ es. type_names es ++ type_names_under numbers rest) (goes_last k (names_in rest) done new v differ added)

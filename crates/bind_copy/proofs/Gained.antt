@@ -56,14 +56,12 @@ module _ (interfaces types : List ℕ) (here : List (WorldKey × WorldItem)) whe
   -- one more is copied
   pub item_more : (whole left rest done new : List (WorldKey × WorldItem)) (e n : WorldKey × WorldItem) → left ≡ e ∷ rest → test e ≡ true
       → IsEntryUnder interfaces types e n → new ≡ insert_entry key_eq done n.0 n.1 → SoFar whole left done → SoFar whole rest new
-  item_more whole left rest done new e n step passes copied added before apart =
-      one_copied key_eq (become_one interfaces) (IsEntryUnder interfaces types) test same whole rest done e
+  item_more whole left rest done new e n step passes copied added before apart = one_copied key_eq (become_one interfaces) (IsEntryUnder interfaces types) test same whole rest done e
       (subst (λ l. CopiedSoFar (IsEntryUnder interfaces types) test whole l done) step (before apart)) n new apart passes copied added
 
   -- one is left, since its key is here
   pub item_left : (whole left rest done : List (WorldKey × WorldItem)) (e : WorldKey × WorldItem) → left ≡ e ∷ rest → test e ≡ false → SoFar whole left done → SoFar whole rest done
-  item_left whole left rest done e step fails before apart =
-      one_left key_eq (become_one interfaces) (IsEntryUnder interfaces types) test same whole rest done e
+  item_left whole left rest done e step fails before apart = one_left key_eq (become_one interfaces) (IsEntryUnder interfaces types) test same whole rest done e
       (subst (λ l. CopiedSoFar (IsEntryUnder interfaces types) test whole l done) step (before apart)) fails
 
   -- all are copied

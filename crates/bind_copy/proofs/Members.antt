@@ -16,17 +16,14 @@ module _ (types : List ℕ) where
   same_keys x y u v r s = ap (λ t. text_eq t (text_of u.0)) s.0 ∙ (ap (text_eq (text_of y.0)) r.0 ∙ text_eq_flip (text_of y.0) (text_of x.0))
 
   -- one more is copied
-  pub function_more : (whole left rest done new : List (String Global × Function)) (e : String Global × Function) (name : String Global) (f : Function) → left ≡ e ∷ rest
-      → text_of name ≡ text_of e.0 → IsFunctionUnder types e.1 f → new ≡ insert_entry string_eq done name f
-      → (IsDistinct string_eq (keys_of whole) → CopiedSoFar (IsFunctionEntry types) (λ e. true) whole left done)
+  pub function_more : (whole left rest done new : List (String Global × Function)) (e : String Global × Function) (name : String Global) (f : Function) → left ≡ e ∷ rest → text_of name ≡ text_of e.0
+      → IsFunctionUnder types e.1 f → new ≡ insert_entry string_eq done name f → (IsDistinct string_eq (keys_of whole) → CopiedSoFar (IsFunctionEntry types) (λ e. true) whole left done)
       → IsDistinct string_eq (keys_of whole) → CopiedSoFar (IsFunctionEntry types) (λ e. true) whole rest new
-  function_more whole left rest done new e name f step named copied added before apart =
-      one_copied string_eq string_eq (IsFunctionEntry types) (λ e. true) same_keys whole rest done e
+  function_more whole left rest done new e name f step named copied added before apart = one_copied string_eq string_eq (IsFunctionEntry types) (λ e. true) same_keys whole rest done e
       (subst (λ l. CopiedSoFar (IsFunctionEntry types) (λ e. true) whole l done) step (before apart)) (name, f) new apart refl (named, copied) added
 
   -- all are copied
-  pub functions_all : (whole left done : List (String Global × Function)) → left ≡ []
-      → (IsDistinct string_eq (keys_of whole) → CopiedSoFar (IsFunctionEntry types) (λ e. true) whole left done)
+  pub functions_all : (whole left done : List (String Global × Function)) → left ≡ [] → (IsDistinct string_eq (keys_of whole) → CopiedSoFar (IsFunctionEntry types) (λ e. true) whole left done)
       → IsDistinct string_eq (keys_of whole) → AllZip (IsFunctionEntry types) whole done
   functions_all whole left done ended before apart = search (std_rules, all_pass, all_copied, same_keys)
 

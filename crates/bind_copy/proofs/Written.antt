@@ -54,8 +54,7 @@ module _ {X : Type 0} (R : X → X → Type 0) (Left : List X → Type 0) (tail 
           let same : z ≡ x = some_is z x (ap (λ l. slice_get l 0) (sym some) ∙ here) in
           let rest : s.rest ≡ x ∷ zs = some ∙ ap (λ w. w ∷ zs) same in
           let left : Left (x ∷ zs) = subst Left rest s.left in
-          written R Left old now new place s x y zs rest (r zs left) (tail x zs left)
-          (is ∙ ((λ i. set ((s.are ∙ ap (λ l. s.done ++ l) rest) i) (sym s.count i) y) ∙ set-append_seam s.done x zs y))
+          written R Left old now new place s x y zs rest (r zs left) (tail x zs left) (is ∙ ((λ i. set ((s.are ∙ ap (λ l. s.done ++ l) rest) i) (sym s.count i) y) ∙ set-append_seam s.done x zs y))
 
 -- ---- in a map
 
@@ -72,9 +71,8 @@ module _ {K V : Type 0} (R : K × V → K × V → Type 0) (Left : List (K × V)
       go [] none = absurd (none_there 0 v (ap (λ l. slice_get (values_of l) 0) (sym none) ∙ here))
       go (e ∷ es) some = search (std_rules, some_is, here)
 
-  pub value_written : (old now new : List (K × V)) (place : ℕ) (v w : V) → slice_get (values_of now) place ≡ Some v
-      → ((k : K) (rest : List (K × V)) → Left ((k, v) ∷ rest) → R (k, v) (k, w)) → new ≡ set_value_at now place w
-      → AreWrittenSoFar R Left old now place → AreWrittenSoFar R Left old new (place + 1)
+  pub value_written : (old now new : List (K × V)) (place : ℕ) (v w : V) → slice_get (values_of now) place ≡ Some v → ((k : K) (rest : List (K × V)) → Left ((k, v) ∷ rest) → R (k, v) (k, w))
+      → new ≡ set_value_at now place w → AreWrittenSoFar R Left old now place → AreWrittenSoFar R Left old new (place + 1)
   value_written old now new place v w at r is s = go s.rest refl
     where
       here : slice_get (values_of s.rest) 0 ≡ Some v

@@ -136,8 +136,7 @@ module _ (c : ℕ) (apart : IsApart c) where
         let all = list_all-append (λ e. key_label e.0 e.1 && item_labels e.1) w.imports.entries w.exports.entries ∙ both in
         let here = all-contained (λ e. key_label e.0 e.1 && item_labels e.1) (w.imports.entries ++ w.exports.entries) (key.Name name, shown) all stands in
         let tested = all-contained (λ e. passes (λ f. is_name_key (text_of f.name) e.0 && is_member r (as_world n) f) (item_function e.1)) (w.imports.entries ++ w.exports.entries)
-        (key.Name name, shown)
-        (world-passes function_names r v.rules.function_names n w at) stands in
+        (key.Name name, shown) (world-passes function_names r v.rules.function_names n w at) stands in
         go shown (first_true (key_label (key.Name name) shown) _ here) tested
       where
         go : (shown : WorldItem) → key_label (key.Name name) shown ≡ true → passes (λ f. is_name_key (text_of f.name) (key.Name name) && is_member r (as_world n) f) (item_function shown) ≡ true

@@ -85,8 +85,7 @@ module _ (r : Resolve) where
         let inside = first_true (passes (in_list r.packages.items) (package_number w.package)) _ (second_true (is_place n) _ (world-passes numbers_in_range r v.rules.numbers_in_range n w at)) in
         let p = found-in r.packages.items home.0.0 (ap (λ p. passes (in_list r.packages.items) (package_number p)) (sym home.1) ∙ inside) in (
           path_in (identity_of p.0.name) (text_of w.name),
-          ap (option_and_then (path_of_world r)) at
-              ∙ (ap (λ (o : Option PackageId). option_and_then (λ q. path_in_package r q.0 (text_of w.name)) o) home.1
+          ap (option_and_then (path_of_world r)) at ∙ (ap (λ (o : Option PackageId). option_and_then (λ q. path_in_package r q.0 (text_of w.name)) o) home.1
               ∙ ap (λ (o : Option Package). option_map (λ x. path_in (identity_of x.name) (text_of w.name)) o) p.1),
         )
 
@@ -121,17 +120,15 @@ module _ (r : Resolve) (v : IsValid r) where
   none-alike : (k : WorldKey) (es : List (WorldKey × WorldItem)) → IsKey k → ((e : WorldKey × WorldItem) → Contains es e → IsKey e.0) → AllByRecursion (λ l. key_eq k l ≡ false) (keys_of es)
       → list_any (text_eq (key_text r k)) (map (λ e. e.0) (entries_meaning r es)) ≡ false
   none-alike k [] h all d = refl
-  none-alike k (e ∷ es) h all d =
-      ap (λ b. b || list_any (text_eq (key_text r k)) (map (λ e. e.0) (entries_meaning r es))) (keys-apart k e.0 h (all e (first-contained e es)) d.0)
+  none-alike k (e ∷ es) h all d = ap (λ b. b || list_any (text_eq (key_text r k)) (map (λ e. e.0) (entries_meaning r es))) (keys-apart k e.0 h (all e (first-contained e es)) d.0)
       ∙ none-alike k es h (λ f c. all f (contains-later e es f c)) d.1
 
   pub distinct-entries : (es : List (WorldKey × WorldItem)) → ((e : WorldKey × WorldItem) → Contains es e → IsKey e.0) → IsDistinct key_eq (keys_of es)
       → are_distinct (map (λ e. e.0) (entries_meaning r es)) ≡ true
   unfolding IsDistinct
   distinct-entries [] all d = refl
-  distinct-entries (e ∷ es) all d =
-      ap (λ b. not b && are_distinct (map (λ e. e.0) (entries_meaning r es))) (none-alike e.0 es (all e (first-contained e es)) (λ f c. all f (contains-later e es f c)) d.0)
-      ∙ distinct-entries es (λ f c. all f (contains-later e es f c)) d.1
+  distinct-entries (e ∷ es) all d = ap (λ b. not b && are_distinct (map (λ e. e.0) (entries_meaning r es)))
+      (none-alike e.0 es (all e (first-contained e es)) (λ f c. all f (contains-later e es f c)) d.0) ∙ distinct-entries es (λ f c. all f (contains-later e es f c)) d.1
 
   module _ (n : ℕ) (w : World) (at : world_at r n ≡ Some w) where
     ranges : (entries_in_range r w.imports.entries && entries_in_range r w.exports.entries) ≡ true

@@ -70,14 +70,12 @@ module _ (r : Resolve) (v : IsValid r) where
       let b = has-world-path r n path f in
       let one = one_home a.home.0 b.home.0 a.package_ b.package_ a.stands b.stands (text_of a.def.name) (text_of b.def.name)
       (world-label m path a) (world-label n path b) (sym a.spelled ∙ b.spelled) in
-      one-number m n (option_map (λ id. id.0) (get_by_text a.package_.worlds (text_of a.def.name))) (world-listed m path a)
-      ((λ i. world_is_listed n (one.1 i) (sym one.0 i)) ∙ world-listed n path b)
+      one-number m n (option_map (λ id. id.0) (get_by_text a.package_.worlds (text_of a.def.name))) (world-listed m path a) ((λ i. world_is_listed n (one.1 i) (sym one.0 i)) ∙ world-listed n path b)
 
   -- an interface's name is no world's
   unworldly : (n : ℕ) (path : Text) (h : HasPath r n path) → not (is_world_name h.package_ (text_of h.name)) ≡ true
   unfolding places
-  unworldly n path h =
-      search (std_rules, second_true (is_some h.def.package) _ (interface-passes places r v.rules.places n h.def h.there), interface-passes places r v.rules.places n h.def h.there)
+  unworldly n path h = search (std_rules, second_true (is_some h.def.package) _ (interface-passes places r v.rules.places n h.def h.there), interface-passes places r v.rules.places n h.def h.there)
 
   -- no interface has the path of a world
   pub path-apart : (m n : ℕ) (path : Text) → interface_path r m ≡ Some path → path_at r n ≡ Some path → ⊥

@@ -42,8 +42,7 @@ module _ (r s : Resolve) (f : Renumbering) (valid : KeepsRules r) (is : IsCarrie
   news_mean _ _ (met old there olds news c k i rest) h =
       let y = there_some meant (key_text s there.0) (entry_meaning s there.1) (subst (λ (es : List (Text × Entry InterfaceMeaning)). Contains es (key_text s there.0, entry_meaning s there.1)) same
       (contains-map (λ (e : WorldKey × WorldItem). (key_text s e.0, entry_meaning s e.1)) own there c)) in
-      news_mean olds news rest h
-      ∙ sym (ap (λ b. cond b ((key_text r old.0, entry_meaning r old.1) ∷ filter is_added (entries_meaning r olds)) (filter is_added (entries_meaning r olds)))
+      news_mean olds news rest h ∙ sym (ap (λ b. cond b ((key_text r old.0, entry_meaning r old.1) ∷ filter is_added (entries_meaning r olds)) (filter is_added (entries_meaning r olds)))
       (ap (λ t. is_none (find text_cmp t meant)) (sym (key_means r s f valid is below_s inline_copied pathless old.0 there.0 k)) ∙ ap is_none y.1))
   news_mean _ _ (added old new olds news n z rest) h =
       (λ i. (key i, item_means r s f valid is below_s inline_copied pathless old.1 new.1 z.1 i) ∷ news_mean olds news rest (λ q c. h q (contains-later (key_text s new.0) (texts s news) q c)) i)
@@ -55,8 +54,7 @@ module _ (r s : Resolve) (f : Renumbering) (valid : KeepsRules r) (is : IsCarrie
       not_there : is_added (key_text r old.0, entry_meaning r old.1) ≡ true
       not_there = subst (λ (t : Text). is_none (find text_cmp t meant) ≡ true) key
           (ap is_none (find_is (key_text s new.0) meant) ∙ not_looked_up (key_text s new.0) meant
-          (subst (λ (ts : List Text). AllByRecursion (λ k. text_eq k (key_text s new.0) ≡ false) ts) (sym meant_texts)
-          (h (key_text s new.0) (0, omega arith, refl))))
+          (subst (λ (ts : List Text). AllByRecursion (λ k. text_eq k (key_text s new.0) ≡ false) ts) (sym meant_texts) (h (key_text s new.0) (0, omega arith, refl))))
 
   pub joined_mean : (olds news whole : List (WorldKey × WorldItem)) → whole ≡ own ++ news → Joined f own olds news → HaveDistinctTexts s whole
       → entries_meaning s whole ≡ followed_by meant (entries_meaning r olds)

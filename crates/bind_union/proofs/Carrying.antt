@@ -49,24 +49,18 @@ module _ (r s : Resolve) (f : Renumbering) (valid : KeepsRules r) (is : IsCarrie
       let q = h n refl in
       let image = is.packages n q.0 q.1 in
       ap (option_map (λ package_. path_in (identity_of package_.name) t)) image.at_image
-      ∙ (ap (λ d. Some (path_in d t)) (same_identity q.0.name image.image.name image.name)
-      ∙ sym (ap (option_map (λ package_. path_in (identity_of package_.name) t)) q.1))
+      ∙ (ap (λ d. Some (path_in d t)) (same_identity q.0.name image.image.name image.name) ∙ sym (ap (option_map (λ package_. path_in (identity_of package_.name) t)) q.1))
 
   pub path_same : (n : ℕ) → f.carries_interface n ≡ true → interface_path s (f.interfaces n) ≡ interface_path r n
   path_same n c =
       let i = is.interfaces n c in
-      ap (option_and_then (path_of_interface s)) i.at_image
-      ∙ (path_parts s i.image
-      ∙ (ap (λ t. path_by s t (package_number i.image.«package»)) i.name
-      ∙ (go i i.old.name refl
-      ∙ (sym (path_parts r i.old)
-      ∙ sym (ap (option_and_then (path_of_interface r)) i.found)))))
+      ap (option_and_then (path_of_interface s)) i.at_image ∙ (path_parts s i.image
+      ∙ (ap (λ t. path_by s t (package_number i.image.«package»)) i.name ∙ (go i i.old.name refl ∙ (sym (path_parts r i.old) ∙ sym (ap (option_and_then (path_of_interface r)) i.found)))))
     where
       go : (i : IsInterface r s f n) (o : Option (String Global)) → i.old.name ≡ o
           → path_by s (optional_text i.old.name) (package_number i.image.«package») ≡ path_by r (optional_text i.old.name) (package_number i.old.«package»)
       go i None e = ap (λ x. path_by s (optional_text x) (package_number i.image.«package»)) e ∙ sym (ap (λ x. path_by r (optional_text x) (package_number i.old.«package»)) e)
-      go i (Some x) e =
-          ap (path_by s (optional_text i.old.name)) (i.in_package (ap is_some e))
+      go i (Some x) e = ap (path_by s (optional_text i.old.name)) (i.in_package (ap is_some e))
           ∙ same_path_by (optional_text i.old.name) (package_number i.old.«package»)
           (λ p e. found-in r.packages.items p (ap (passes (in_list r.packages.items)) (sym e) ∙ interface_package r valid n i.old i.found))
 

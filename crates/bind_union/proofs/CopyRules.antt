@@ -128,8 +128,7 @@ module _ (r s : Resolve) (f : Renumbering) (valid : KeepsRules r) (is : IsCarrie
     named_passes =
         let old : ((not (is_named_kind t.def.kind) || is_some t.def.name) && passes (is_named_number r) (alias_target t.def.kind)) ≡ true =
         type_passes named_kinds r valid.named_kinds n t.def t.found in
-        both _ _
-        ((λ i. not (named_same f.types t.def.kind t.image.kind k.kind.kinds i) || named_alike t.image.name t.def.name t.name i) ∙ first_true _ _ old)
+        both _ _ ((λ i. not (named_same f.types t.def.kind t.image.kind k.kind.kinds i) || named_alike t.image.name t.def.name t.name i) ∙ first_true _ _ old)
         (ap (passes (is_named_number s)) (alias_same f.types t.def.kind t.image.kind k.kind.kinds)
         ∙ passes_under f.types f.carries_type (is_named_number r) (is_named_number s) named_number (alias_target t.def.kind) (alias_of_all f.carries_type t.def.kind parts)
         (second_true (not (is_named_kind t.def.kind) || is_some t.def.name) _ old))
@@ -139,8 +138,7 @@ module _ (r s : Resolve) (f : Renumbering) (valid : KeepsRules r) (is : IsCarrie
     unfolding handles
     handle_passes =
         let old : (list_all (λ x. not (is_resource_type r x)) (member_types t.def.kind) && passes (is_resource r) (handled t.def.kind)) ≡ true = type_passes handles r valid.handles n t.def t.found in
-        both _ _
-        (ap (list_all (λ x. not (is_resource_type s x))) (types_same f.types t.def.kind t.image.kind k.kind.kinds)
+        both _ _ (ap (list_all (λ x. not (is_resource_type s x))) (types_same f.types t.def.kind t.image.kind k.kind.kinds)
         ∙ values_pass (λ x. not (is_resource_type r x)) (λ x. not (is_resource_type s x)) no_resource_passes (member_types t.def.kind) values (first_true _ _ old))
         (ap (passes (is_resource s)) (handled_same f.types t.def.kind t.image.kind k.kind.kinds)
         ∙ passes_under f.types f.carries_type (is_resource r) (is_resource s) (λ m c h. resource_same_at r s f valid is below_s m c ∙ h) (handled t.def.kind)
@@ -149,17 +147,14 @@ module _ (r s : Resolve) (f : Renumbering) (valid : KeepsRules r) (is : IsCarrie
     -- depths
     pub depth_passes : depths.type_ s (f.types n) t.image ≡ true
     unfolding depths
-    depth_passes =
-        ap (list_all (is_shallow s)) (types_same f.types t.def.kind t.image.kind k.kind.kinds)
+    depth_passes = ap (list_all (is_shallow s)) (types_same f.types t.def.kind t.image.kind k.kind.kinds)
         ∙ values_pass (is_shallow r) (is_shallow s) shallow_passes (member_types t.def.kind) values (type_passes depths r valid.depths n t.def t.found)
 
     -- labels
     pub label_passes : labels.type_ s (f.types n) t.image ≡ true
     unfolding labels
-    label_passes =
-        (λ i. label_alike t.image.name t.def.name t.name i && (stability_alike t.image.stability t.def.stability k.stability i && are_member_labels
-        (labels_same f.types t.def.kind t.image.kind k.kind.kinds i)))
-        ∙ type_passes labels r valid.labels n t.def t.found
+    label_passes = (λ i. label_alike t.image.name t.def.name t.name i && (stability_alike t.image.stability t.def.stability k.stability i
+        && are_member_labels (labels_same f.types t.def.kind t.image.kind k.kind.kinds i))) ∙ type_passes labels r valid.labels n t.def t.found
 
     -- owners
     pub used : list_all f.carries_type (used_by_type r t.def) ≡ true
@@ -182,10 +177,8 @@ module _ (r s : Resolve) (f : Renumbering) (valid : KeepsRules r) (is : IsCarrie
     negated x b h e = search std_rules
 
     use_passes : same_owner t.def.owner owner.None ≡ false → is_use r t.def ≡ true → is_use s t.image ≡ true
-    use_passes owned h =
-        ap (λ o. option_map_or (λ m. option_map_or (λ target. not (same_owner target.owner t.image.owner) && is_named_interface s (owner_interface target.owner)) (type_at s m) false) o false)
-        (alias_same f.types t.def.kind t.image.kind k.kind.kinds)
-        ∙ target (alias_target t.def.kind) (alias_of_all f.carries_type t.def.kind parts) h
+    use_passes owned h = ap (λ o. option_map_or (λ m. option_map_or (λ target. not (same_owner target.owner t.image.owner) && is_named_interface s (owner_interface target.owner)) (type_at s m) false)
+        o false) (alias_same f.types t.def.kind t.image.kind k.kind.kinds) ∙ target (alias_target t.def.kind) (alias_of_all f.carries_type t.def.kind parts) h
       where
         target : (o : Option ℕ) → passes f.carries_type o ≡ true
             → option_map_or (λ m. option_map_or (λ target. not (same_owner target.owner t.def.owner) && is_named_interface r (owner_interface target.owner)) (type_at r m) false) o false ≡ true
@@ -197,20 +190,16 @@ module _ (r s : Resolve) (f : Renumbering) (valid : KeepsRules r) (is : IsCarrie
             let old : (not (same_owner u.def.owner t.def.owner) && is_named_interface r (owner_interface u.def.owner)) ≡ true =
             sym (ap (λ x. option_map_or (λ target. not (same_owner target.owner t.def.owner) && is_named_interface r (owner_interface target.owner)) x false) u.found) ∙ h in
             ap (λ x. option_map_or (λ target. not (same_owner target.owner t.image.owner) && is_named_interface s (owner_interface target.owner)) x false) u.at_image
-            ∙ both _ _
-            ((λ i. not (same_owner (u.home i) (t.home i)))
-            ∙ negated (same_owner (owner_under f u.def.owner) (owner_under f t.def.owner)) (same_owner u.def.owner t.def.owner)
-            (owner_apart r s f valid is below_s t.def.owner u.def.owner u.carries_home (copied_alone t.def.owner k.home owned))
-            (first_true _ _ old))
+            ∙ both _ _ ((λ i. not (same_owner (u.home i) (t.home i))) ∙ negated (same_owner (owner_under f u.def.owner) (owner_under f t.def.owner)) (same_owner u.def.owner t.def.owner)
+            (owner_apart r s f valid is below_s t.def.owner u.def.owner u.carries_home (copied_alone t.def.owner k.home owned)) (first_true _ _ old))
             (ap (λ x. is_named_interface s (owner_interface x)) u.home ∙ named_interface u.def.owner u.carries_home (second_true (not (same_owner u.def.owner t.def.owner)) _ old))
 
     pub stay_passes : owners.type_ s (f.types n) t.image ≡ true
     unfolding owners
-    stay_passes = weaker (same_owner t.def.owner owner.None) (list_all (has_owner r t.def.owner) (used_by_type r t.def)) (is_some t.def.name) (is_use r t.def)
-        (same_owner t.image.owner owner.None) (list_all (has_owner s t.image.owner) (used_by_type s t.image)) (is_some t.image.name) (is_use s t.image)
-        (λ h. ap (λ o. same_owner o owner.None) t.home ∙ (unowned f t.def.owner ∙ h))
-        (λ h. (λ i. list_all (has_owner s (t.home i)) (used_there i)) ∙ all_owned t.def.owner (used_by_type r t.def) used h)
-        (λ h. named_alike t.image.name t.def.name t.name ∙ h) use_passes (type_passes owners r valid.owners n t.def t.found)
+    stay_passes = weaker (same_owner t.def.owner owner.None) (list_all (has_owner r t.def.owner) (used_by_type r t.def)) (is_some t.def.name) (is_use r t.def) (same_owner t.image.owner owner.None)
+        (list_all (has_owner s t.image.owner) (used_by_type s t.image)) (is_some t.image.name) (is_use s t.image) (λ h. ap (λ o. same_owner o owner.None) t.home ∙ (unowned f t.def.owner ∙ h))
+        (λ h. (λ i. list_all (has_owner s (t.home i)) (used_there i)) ∙ all_owned t.def.owner (used_by_type r t.def) used h) (λ h. named_alike t.image.name t.def.name t.name ∙ h) use_passes
+        (type_passes owners r valid.owners n t.def t.found)
 
   -- an unnamed type is copied
   unnamed_kind : (n : ℕ) (t : IsType r s f n) → is_none t.def.name ≡ true → (is_none t.image.name ≡ true) × HasImageKind f.types f.carries_type t.def t.image
@@ -236,9 +225,7 @@ module _ (r s : Resolve) (f : Renumbering) (valid : KeepsRules r) (is : IsCarrie
   result_there : (m n : ℕ) (t : IsType r s f n) → is_result_of_own r m t.def ≡ true → is_result_of_own s (f.types m) t.image ≡ true
   result_there m n t h =
       let u = unnamed_kind n t (first_true _ _ h) in
-      both _ _ u.0
-      (ok_by_view s (f.types m) t.image.kind
-      ∙ (ap (λ v. option_map_or (type_is s (is_own_of (f.types m))) (view_ok v) false) u.1.kinds
+      both _ _ u.0 (ok_by_view s (f.types m) t.image.kind ∙ (ap (λ v. option_map_or (type_is s (is_own_of (f.types m))) (view_ok v) false) u.1.kinds
       ∙ (ap (λ o. option_map_or (type_is s (is_own_of (f.types m))) o false) (ok_under f.types (kind_view t.def.kind))
       ∙ go (view_ok (kind_view t.def.kind)) (ok_of_all f.carries_type t.def.kind (members_of_all f.carries_type t.def.kind (kind_carried r s f valid is below_s t.def t.image u.1)))
       (sym (ok_by_view r m t.def.kind) ∙ second_true (is_none t.def.name) _ h))))
@@ -254,8 +241,7 @@ module _ (r s : Resolve) (f : Renumbering) (valid : KeepsRules r) (is : IsCarrie
 
   module _ (g h : Function) (c : IsFunctionCopy f g h) where
     types_there : function_types h ≡ map (renamed_type f.types) (function_types g)
-    types_there =
-        (λ i. params i ++ (ap option_to_list c.result ∙ one_given (renamed_type f.types) g.result) i)
+    types_there = (λ i. params i ++ (ap option_to_list c.result ∙ one_given (renamed_type f.types) g.result) i)
         ∙ sym (map-append (renamed_type f.types) (map (λ p. p.ty) g.params.items) (option_to_list g.result))
       where
         params : map (λ p. p.ty) h.params.items ≡ map (renamed_type f.types) (map (λ p. p.ty) g.params.items)
@@ -275,8 +261,7 @@ module _ (r s : Resolve) (f : Renumbering) (valid : KeepsRules r) (is : IsCarrie
 
     -- numbers in range
     pub function_range_passes : function_in_range s h ≡ true
-    function_range_passes =
-        ap (list_all (in_list s.types.items)) function_numbers_there
+    function_range_passes = ap (list_all (in_list s.types.items)) function_numbers_there
         ∙ (list_all-map (in_list s.types.items) f.types (function_numbers g)
         ∙ all_two f.carries_type f.carries_type (λ n. in_list s.types.items (f.types n)) (λ n d e. let t = is.types n d in lt-ltb _ _ (slice_get_within s.types.items (f.types n) t.image t.at_image))
         (function_numbers g) c.parts c.parts)
@@ -315,8 +300,7 @@ module _ (r s : Resolve) (f : Renumbering) (valid : KeepsRules r) (is : IsCarrie
         (first_true _ _ all, second_true (list_all given (map (λ p. p.ty) g.params.items)) _ all)
 
     constructs_there : (n : ℕ) → constructs r n g ≡ true → constructs s (f.types n) h ≡ true
-    constructs_there n old =
-        ap (λ o. option_map_or (λ t. type_is s (is_own_of (f.types n)) t || type_is s (is_result_of_own s (f.types n)) t) o false) c.result ∙ go g.result given_values.1 old
+    constructs_there n old = ap (λ o. option_map_or (λ t. type_is s (is_own_of (f.types n)) t || type_is s (is_result_of_own s (f.types n)) t) o false) c.result ∙ go g.result given_values.1 old
       where
         go : (o : Option ValueType) → list_all given (option_to_list o) ≡ true → option_map_or (λ t. type_is r (is_own_of n) t || type_is r (is_result_of_own r n) t) o false ≡ true
             → option_map_or (λ t. type_is s (is_own_of (f.types n)) t || type_is s (is_result_of_own s (f.types n)) t) (option_map (renamed_type f.types) o) false ≡ true
@@ -339,8 +323,7 @@ module _ (r s : Resolve) (f : Renumbering) (valid : KeepsRules r) (is : IsCarrie
             (second_true (text_eq (text_of p.name) (codes "self")) _ e))
 
     pub member_passes : (o : TypeOwner) → is_member r o g ≡ true → is_member s (owner_under f o) h ≡ true
-    member_passes o old =
-        ap (passes (λ n. option_map_or (λ name. is_member_of s n name h h.kind) (resource_name s (owner_under f o) n) false)) (ap resource_of c.kind ∙ resource_under f g.kind)
+    member_passes o old = ap (passes (λ n. option_map_or (λ name. is_member_of s n name h h.kind) (resource_name s (owner_under f o) n) false)) (ap resource_of c.kind ∙ resource_under f g.kind)
         ∙ passes_under f.types f.carries_type (λ n. option_map_or (λ name. is_member_of r n name g g.kind) (resource_name r o n) false)
         (λ n. option_map_or (λ name. is_member_of s n name h h.kind) (resource_name s (owner_under f o) n) false)
         (λ n d. named n d (resource_name r o n) refl) (resource_of g.kind) resource_carried old
@@ -393,8 +376,7 @@ module _ (r s : Resolve) (f : Renumbering) (valid : KeepsRules r) (is : IsCarrie
 
   pub entry_member : (n : ℕ) → (a b : WorldKey × WorldItem) → EntryBecomes f a b → passes (λ g. is_name_key (text_of g.name) a.0 && is_member r (as_world n) g) (item_function a.1) ≡ true
       → passes (λ g. is_name_key (text_of g.name) b.0 && is_member s (as_world (f.worlds n)) g) (item_function b.1) ≡ true
-  entry_member n (k, item.Function g) (l, item.Function h) z e =
-      both _ _ (name_key_passes (text_of g.name) (text_of h.name) z.1.name k l z.0 (first_true _ _ e))
+  entry_member n (k, item.Function g) (l, item.Function h) z e = both _ _ (name_key_passes (text_of g.name) (text_of h.name) z.1.name k l z.0 (first_true _ _ e))
       (member_passes g h z.1 (as_world n) (second_true (is_name_key (text_of g.name) k) _ e))
   entry_member n (k, item.Interface a st docs ext) (l, item.Interface b st2 docs2 ext2) z e = refl
   entry_member n (k, item.Type_ a) (l, item.Type_ b) z e = refl

@@ -21,8 +21,7 @@ pub all_given : {X : Type 0} (p : X → Bool) (o : Option X) → list_all p (opt
 all_given p y = search std_rules
 
 -- what is asked of all numbers in a kind is asked of those in its members, of what it handles, and of an alias's target
-parts_of_all : (p : ℕ → Bool) (k : TypeDefKind) → list_all p (kind_numbers k)
-    ≡ (list_all p (filter_map number_of (member_types k)) && (passes p (handled k) && passes p (alias_target k)))
+parts_of_all : (p : ℕ → Bool) (k : TypeDefKind) → list_all p (kind_numbers k) ≡ (list_all p (filter_map number_of (member_types k)) && (passes p (handled k) && passes p (alias_target k)))
 parts_of_all p k = search std_rules
 
 pub members_of_all : (p : ℕ → Bool) (k : TypeDefKind) → list_all p (kind_numbers k) ≡ true → list_all p (filter_map number_of (member_types k)) ≡ true
@@ -53,13 +52,10 @@ module _ (r s : Resolve) (f : Renumbering) (valid : KeepsRules r) (is : IsCarrie
   -- ---- resources
 
   resource_step_same : (n : ℕ) → f.carries_type n ≡ true → ((m : ℕ) → m < n → f.carries_type m ≡ true → is_resource s (f.types m) ≡ is_resource r m) → is_resource s (f.types n) ≡ is_resource r n
-  resource_step_same n c smaller =
-      resource_step s below_s (f.types n) t.image t.at_image
-      ∙ (resource_kind (is_resource s) t.image.kind
-      ∙ ((λ i. a.2 i || option_map_or (is_resource s) (a.0 i) false)
+  resource_step_same n c smaller = resource_step s below_s (f.types n) t.image t.at_image
+      ∙ (resource_kind (is_resource s) t.image.kind ∙ ((λ i. a.2 i || option_map_or (is_resource s) (a.0 i) false)
       ∙ (ap (λ b. is_resource_itself t.def.kind || b) (target (alias_target t.def.kind) a.1 (alias_of_all (λ m. nat_lt m n) t.def.kind (below_at r below_r n t.def t.found)))
-      ∙ (sym (resource_kind (is_resource r) t.def.kind)
-      ∙ sym (resource_step r below_r n t.def t.found)))))
+      ∙ (sym (resource_kind (is_resource r) t.def.kind) ∙ sym (resource_step r below_r n t.def t.found)))))
     where
       t : IsType r s f n
       t = is.types n c

@@ -162,10 +162,8 @@ module _ (r s : Resolve) (f : ℕ → ℕ) (carried : ℕ → Bool) (below_r : R
   one_same : (n : ℕ) → ((m : ℕ) → m < n → same_at m) → same_at n
   one_same n same is =
       let c = are n is in
-      found_in s below_s (f n) c.image c.at_image
-      ∙ ((λ i. by_name (c.is_image.place i) (c.is_image.name i) (tree_of_declaration (declared_by (trees_of s) c.image.kind)))
-      ∙ (unnamed_same c (c.def.name) refl
-      ∙ sym (found_in r below_r n c.def c.found)))
+      found_in s below_s (f n) c.image c.at_image ∙ ((λ i. by_name (c.is_image.place i) (c.is_image.name i) (tree_of_declaration (declared_by (trees_of s) c.image.kind)))
+      ∙ (unnamed_same c (c.def.name) refl ∙ sym (found_in r below_r n c.def c.found)))
     where
       unnamed_same : (c : IsCarriedType r s f carried n) (o : Option (String Global)) → c.def.name ≡ o →
           by_name (place_of r c.def.owner) (optional_text c.def.name) (tree_of_declaration (declared_by (trees_of s) c.image.kind))

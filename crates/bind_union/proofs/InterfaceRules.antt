@@ -30,8 +30,7 @@ zip_all R p q one _ _ z h = absurd z
 -- what a number that is asked for passes there, where it was asked for and passed here
 pub implied_all : (f : ℕ → ℕ) (carries a b c d : ℕ → Bool) → ((m : ℕ) → carries m ≡ true → c (f m) ≡ true → a m ≡ true) → ((m : ℕ) → b m ≡ true → d (f m) ≡ true) → (ns : List ℕ)
     → list_all carries ns ≡ true → list_all (λ m. not (a m) || b m) ns ≡ true → list_all (λ m. not (c m) || d m) (map f ns) ≡ true
-implied_all f carries a b c d back there ns k h =
-    list_all-map (λ m. not (c m) || d m) f ns
+implied_all f carries a b c d back there ns k h = list_all-map (λ m. not (c m) || d m) f ns
     ∙ all_two carries (λ m. not (a m) || b m) (λ m. not (c (f m)) || d (f m)) (λ m i. implied (a m) (b m) (c (f m)) (d (f m)) (back m i) (there m)) ns k h
   where
     implied : (a b c d : Bool) → (c ≡ true → a ≡ true) → (b ≡ true → d ≡ true) → (not a || b) ≡ true → (not c || d) ≡ true
@@ -52,10 +51,8 @@ module _ (f : ℕ → ℕ) (carries copies : ℕ → Bool) (rise : Rises f carri
   -- and as often
   pub count_same : (ns : List ℕ) → list_all carries ns ≡ true → (n : ℕ) → copies n ≡ true → count_by (λ m. m == f n) (map f ns) ≡ count_by (λ m. m == n) ns
   count_same [] all n c = refl
-  count_same (m ∷ ns) all n c =
-      sum_by-cons (λ k. cond (k == f n) 1 0) (f m) (map f ns)
-      ∙ ((λ i. cond (test (m == n) refl (f m == f n) refl i) 1 0 + count_same ns (second_true _ _ all) n c i)
-      ∙ sym (sum_by-cons (λ k. cond (k == n) 1 0) m ns))
+  count_same (m ∷ ns) all n c = sum_by-cons (λ k. cond (k == f n) 1 0) (f m) (map f ns)
+      ∙ ((λ i. cond (test (m == n) refl (f m == f n) refl i) 1 0 + count_same ns (second_true _ _ all) n c i) ∙ sym (sum_by-cons (λ k. cond (k == n) 1 0) m ns))
     where
       test : (a : Bool) → (m == n) ≡ a → (b : Bool) → (f m == f n) ≡ b → (f m == f n) ≡ (m == n)
       test x p b q = search std_rules
@@ -72,11 +69,9 @@ module _ (f : ℕ → ℕ) (carries copies : ℕ → Bool) (rise : Rises f carri
   abbrev pub after_uses : (ℕ → List ℕ) → List ℕ → List ℕ → ℕ → Bool
   after_uses uses ns before n = list_all (λ m. not (has ns m) || has before m) (uses n)
 
-  pub order_there : (uses uses_there : ℕ → List ℕ) (ns : List ℕ) → list_all copies ns ≡ true
-      → ((n : ℕ) → copies n ≡ true → (uses_there (f n) ≡ map f (uses n)) × (list_all carries (uses n) ≡ true))
+  pub order_there : (uses uses_there : ℕ → List ℕ) (ns : List ℕ) → list_all copies ns ≡ true → ((n : ℕ) → copies n ≡ true → (uses_there (f n) ≡ map f (uses n)) × (list_all carries (uses n) ≡ true))
       → each_after (after_uses uses ns) [] ns ≡ true → each_after (after_uses uses_there (map f ns)) [] (map f ns) ≡ true
-  order_there uses uses_there ns all each h =
-      after_of_map (after_uses uses_there (map f ns)) f [] ns
+  order_there uses uses_there ns all each h = after_of_map (after_uses uses_there (map f ns)) f [] ns
       ∙ after_weaker copies (after_uses uses ns) (λ before n. after_uses uses_there (map f ns) (map f before) (f n))
       (λ before n c g. ap (list_all (λ m. not (has (map f ns) m) || has (map f before) m)) (each n c).0
       ∙ implied_all f carries (has ns) (has before) (has (map f ns)) (has (map f before)) (has_back ns all) (has_map f before) (uses n) (each n c).1 g) [] ns all h
@@ -100,8 +95,7 @@ module _ (r s : Resolve) (f : Renumbering) (valid : KeepsRules r) (is : IsCarrie
       let id = from-map (λ (id : TypeId). id.0) (values i.types) k (has-contains (interface_type_numbers i) k listed) in
       let here : Contains (interfaces_used_by r i) m = contains-filter_map (λ (id : TypeId). interface_used_by r id.0) (values i.types) id.0 m id.1.0
       (given_contains (interface_used_by r id.0.0) m (ap (interface_used_by r) id.1.1 ∙ used)) in
-      let all : has (once (option_map_or (interfaces_used_by r) (interface_at r n) [])) m ≡ true =
-      has_once m (option_map_or (interfaces_used_by r) (interface_at r n) [])
+      let all : has (once (option_map_or (interfaces_used_by r) (interface_at r n) [])) m ≡ true = has_once m (option_map_or (interfaces_used_by r) (interface_at r n) [])
       ∙ (ap (λ o. has (option_map_or (interfaces_used_by r) o []) m) found ∙ contains-has (interfaces_used_by r i) m here) in
       has_filter (λ x. not (x == n)) (once (option_map_or (interfaces_used_by r) (interface_at r n) [])) m all (ap not other)
 
@@ -188,8 +182,7 @@ module _ (r s : Resolve) (f : Renumbering) (valid : KeepsRules r) (is : IsCarrie
 
     pub interface_labels_pass : labels.interface_ s (f.interfaces n) i.image ≡ true
     unfolding labels
-    interface_labels_pass =
-        (λ j. label_alike i.image.name i.old.name i.name j && (stability_alike i.image.stability i.old.stability c.stability j && (functions_labelled j && apart_there j)))
+    interface_labels_pass = (λ j. label_alike i.image.name i.old.name i.name j && (stability_alike i.image.stability i.old.stability c.stability j && (functions_labelled j && apart_there j)))
         ∙ interface-passes labels r valid.labels n i.old i.found
       where
         apart_there : apart_names i.image ≡ apart_names i.old
@@ -201,12 +194,10 @@ module _ (r s : Resolve) (f : Renumbering) (valid : KeepsRules r) (is : IsCarrie
     interface_order_passes =
         let old : (list_all (is_named_of r (as_interface n)) (interface_type_numbers i.old) && are_in_order r (interface_type_numbers i.old)) ≡ true =
         interface-passes order_of_types r valid.order_of_types n i.old i.found in
-        both _ _
-        (ap (list_all (is_named_of s (as_interface (f.interfaces n)))) type_numbers ∙ all_named_of (as_interface n) (interface_type_numbers i.old)
-        (copies_carried (interface_type_numbers i.old) all_copies) (first_true _ _ old))
-        (ap (are_in_order s) type_numbers
-        ∙ order_there f.types f.carries_type f.copies_type is.types_rise is.copied_types (used_by_number r) (used_by_number s) (interface_type_numbers i.old) all_copies number_uses
-        (second_true (list_all (is_named_of r (as_interface n)) (interface_type_numbers i.old)) _ old))
+        both _ _ (ap (list_all (is_named_of s (as_interface (f.interfaces n)))) type_numbers
+        ∙ all_named_of (as_interface n) (interface_type_numbers i.old) (copies_carried (interface_type_numbers i.old) all_copies) (first_true _ _ old))
+        (ap (are_in_order s) type_numbers ∙ order_there f.types f.carries_type f.copies_type is.types_rise is.copied_types (used_by_number r) (used_by_number s) (interface_type_numbers i.old)
+        all_copies number_uses (second_true (list_all (is_named_of r (as_interface n)) (interface_type_numbers i.old)) _ old))
 
     -- owners
     pub interface_owners_pass : owners.interface_ s (f.interfaces n) i.image ≡ true
@@ -214,9 +205,8 @@ module _ (r s : Resolve) (f : Renumbering) (valid : KeepsRules r) (is : IsCarrie
     interface_owners_pass =
         let old : (list_all (function_stays r (as_interface n)) (functions_of_interface i.old) && list_all (λ m. nat_lt m n) (direct_deps r n)) ≡ true =
         interface-passes owners r valid.owners n i.old i.found in
-        both _ _
-        (each_function (function_stays r (as_interface n)) (function_stays s (as_interface (f.interfaces n))) (λ a b z. function_stays_passes r s f valid is below_s a.1 b.1 z.1 (as_interface n))
-        (first_true _ _ old))
+        both _ _ (each_function (function_stays r (as_interface n)) (function_stays s (as_interface (f.interfaces n)))
+        (λ a b z. function_stays_passes r s f valid is below_s a.1 b.1 z.1 (as_interface n)) (first_true _ _ old))
         (deps_there n (is.copied_interfaces n copy) (λ m. nat_lt m (f.interfaces n)) (λ m. nat_lt m n)
         (λ m d h. lt-ltb (f.interfaces m) (f.interfaces n) (is.interfaces_rise m n d copy (inl (ltb-true m n h))))
         (second_true (list_all (function_stays r (as_interface n)) (functions_of_interface i.old)) _ old))
@@ -224,23 +214,19 @@ module _ (r s : Resolve) (f : Renumbering) (valid : KeepsRules r) (is : IsCarrie
     -- handles
     pub interface_handles_pass : handles.interface_ s (f.interfaces n) i.image ≡ true
     unfolding handles
-    interface_handles_pass =
-        each_function (λ g. list_all (λ t. not (is_resource_type r t)) (function_types g)) (λ g. list_all (λ t. not (is_resource_type s t)) (function_types g))
-        (λ a b z. function_handles_pass r s f valid is below_s a.1 b.1 z.1)
-        (interface-passes handles r valid.handles n i.old i.found)
+    interface_handles_pass = each_function (λ g. list_all (λ t. not (is_resource_type r t)) (function_types g)) (λ g. list_all (λ t. not (is_resource_type s t)) (function_types g))
+        (λ a b z. function_handles_pass r s f valid is below_s a.1 b.1 z.1) (interface-passes handles r valid.handles n i.old i.found)
 
     -- depths
     pub interface_depths_pass : depths.interface_ s (f.interfaces n) i.image ≡ true
     unfolding depths
-    interface_depths_pass =
-        each_function (λ g. list_all (is_shallow r) (function_types g)) (λ g. list_all (is_shallow s) (function_types g)) (λ a b z. function_depths_pass r s f valid is below_s a.1 b.1 z.1)
-        (interface-passes depths r valid.depths n i.old i.found)
+    interface_depths_pass = each_function (λ g. list_all (is_shallow r) (function_types g)) (λ g. list_all (is_shallow s) (function_types g))
+        (λ a b z. function_depths_pass r s f valid is below_s a.1 b.1 z.1) (interface-passes depths r valid.depths n i.old i.found)
 
     -- function names
     pub interface_members_pass : function_names.interface_ s (f.interfaces n) i.image ≡ true
     unfolding function_names
-    interface_members_pass =
-        zip_all (IsFunctionEntry f) (λ e. text_eq (text_of e.0) (text_of e.1.name) && is_member r (as_interface n) e.1)
+    interface_members_pass = zip_all (IsFunctionEntry f) (λ e. text_eq (text_of e.0) (text_of e.1.name) && is_member r (as_interface n) e.1)
         (λ e. text_eq (text_of e.0) (text_of e.1.name) && is_member s (as_interface (f.interfaces n)) e.1)
         (λ a b z h. both _ _ ((λ j. text_eq (z.0 j) (z.1.name j)) ∙ first_true _ _ h)
         (member_passes r s f valid is below_s a.1 b.1 z.1 (as_interface n) (second_true (text_eq (text_of a.0) (text_of a.1.name)) _ h)))

@@ -99,8 +99,7 @@ module _ (r : Resolve) (valid : KeepsRules r) where
   world_package n w e = first_true _ _ (world_numbers n w e)
 
   pub world_range : (n : ℕ) (w : World) → world_at r n ≡ Some w → (entries_in_range r w.imports.entries ≡ true) × (entries_in_range r w.exports.entries ≡ true)
-  world_range n w e =
-      search (std_rules, second_true (passes (in_list r.packages.items) (package_number w.«package»)) _ (world_numbers n w e), world_numbers n w e)
+  world_range n w e = search (std_rules, second_true (passes (in_list r.packages.items) (package_number w.«package»)) _ (world_numbers n w e), world_numbers n w e)
 
   -- what an interface and a type refer to is in range
   pub interface_range : (n : ℕ) (i : Interface) → interface_at r n ≡ Some i
@@ -131,8 +130,7 @@ module _ (r : Resolve) (valid : KeepsRules r) where
         let home = carried_owner d.0.owner range.1 in
         let kind : HasImageKind f.types f.carries_type d.0 d.0 = record {
           kinds = sym (same_view (kind_view d.0.kind));
-          parts =
-              ap (list_all (in_list r.types.items)) (numbers_of_view d.0.kind) ∙ range.0;
+          parts = ap (list_all (in_list r.types.items)) (numbers_of_view d.0.kind) ∙ range.0;
         } in
         record {
           def = d.0;

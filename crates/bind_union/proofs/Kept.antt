@@ -39,8 +39,7 @@ copy_refers s c n copy =
     ∙ (list_all-map (λ m. nat_lt m (c.under.types n)) c.under.types (kind_numbers t.def.kind)
     ∙ all_two c.under.carries_type (λ m. nat_lt m n) (λ m. nat_lt (c.under.types m) (c.under.types n))
     (λ m d h. lt-ltb (c.under.types m) (c.under.types n) (c.carried.types_rise m n d copy (inl (ltb-true m n h)))) (kind_numbers t.def.kind)
-    (ap (list_all c.under.carries_type) (sym (numbers_of_view t.def.kind)) ∙ k.parts)
-    (below_at c.from (references_of c.from c.valid) n t.def t.found))
+    (ap (list_all c.under.carries_type) (sym (numbers_of_view t.def.kind)) ∙ k.parts) (below_at c.from (references_of c.from c.valid) n t.def t.found))
 
 -- numbers that are copied aren't those that were there
 fresh_added : (f : Renumbering) (own : List (WorldKey × WorldItem)) (k : ℕ) → ((m : ℕ) → f.copies_type m ≡ true → k ≤ f.types m) → (n : ℕ) → n < k → (olds news : List (WorldKey × WorldItem))
@@ -87,8 +86,7 @@ module _ (own other merged : Resolve) (bound other_bound : ℕ) (first second : 
   pub each_type_of_three : (test : ℕ → TypeDef → Bool) → ((k : ℕ) (copy : own_source.under.copies_type k ≡ true) → test k (type_of own_source k copy).image ≡ true)
       → ((k : ℕ) (copy : first.copies_type k ≡ true) → test (first.types k) (type_of first_source k copy).image ≡ true)
       → ((k : ℕ) (copy : second.copies_type k ≡ true) → test (second.types k) (type_of second_source k copy).image ≡ true) → each_from test 0 merged.types.items ≡ true
-  each_type_of_three test a b c =
-      each_from_three test merged.types.items (length own.types.items) first.types second.types first.copies_type second.copies_type is.type_from
+  each_type_of_three test a b c = each_from_three test merged.types.items (length own.types.items) first.types second.types first.copies_type second.copies_type is.type_from
       (λ n def l e. let d = lt-ltb n _ l in let t = type_of own_source n d in moved (type_at merged) test n n t.image def t.at_image refl e (a n d))
       (λ k copy. let t = type_of first_source k copy in (t.image, t.at_image, b k copy)) (λ k copy. let t = type_of second_source k copy in (t.image, t.at_image, c k copy))
 
@@ -149,10 +147,8 @@ module _ (own other merged : Resolve) (bound other_bound : ℕ) (first second : 
   bound_found = ap (world_at merged) (sym is.bound_there) ∙ is.joined.at_image
 
   -- Each world is an own one, a copy, or the bound one.
-  pub each_world : (test : ℕ → World → Bool)
-      → ((n : ℕ) (w : World) (e : world_at own n ≡ Some w) (apart : (n == bound) ≡ false) → test n w ≡ true)
-      → ((n : ℕ) (c : first.carries_world n ≡ true) → test (first.worlds n) (is.first_worlds n c).joined.image ≡ true)
-      → test bound is.joined.image ≡ true → each_from test 0 merged.worlds.items ≡ true
+  pub each_world : (test : ℕ → World → Bool) → ((n : ℕ) (w : World) (e : world_at own n ≡ Some w) (apart : (n == bound) ≡ false) → test n w ≡ true)
+      → ((n : ℕ) (c : first.carries_world n ≡ true) → test (first.worlds n) (is.first_worlds n c).joined.image ≡ true) → test bound is.joined.image ≡ true → each_from test 0 merged.worlds.items ≡ true
   each_world test ours copies at_bound = each_by_number test merged.worlds.items (λ n w e. elim (low_or_high n (length own.worlds.items)) [
     | inl low ↦
         let x = found-in own.worlds.items n (lt-ltb n (length own.worlds.items) low) in
@@ -244,13 +240,11 @@ module _ (own other merged : Resolve) (bound other_bound : ℕ) (first second : 
   labels_kept =
       let sides = λ (r : Resolve) (v : KeepsRules r) (n : ℕ) (w : World) (e : world_at r n ≡ Some w). (old_labels r v n w e).2 in
       kept labels merged (free_passes merged 0 merged.packages.items) (each_interface (labels.interface_ merged) (λ c. interface_labels_pass c.from merged c.under c.valid c.carried below))
-      (each_world (labels.world_ merged) (λ n w e apart. world-passes labels own valid_own.labels n w e)
-      (λ n c.
+      (each_world (labels.world_ merged) (λ n w e apart. world-passes labels own valid_own.labels n w e) (λ n c.
       let copy = is.first_worlds n c in
       let old = old_labels other valid_other n copy.joined.old copy.joined.found in
       both _ _ (ap is_label copy.name ∙ old.0) (both _ _ (stability_alike copy.joined.image.stability copy.joined.old.stability copy.stability ∙ old.1)
-      (joined_sides labelled labelled label_steps label_steps sides first_source n [] [] copy.joined refl refl)))
-      (let old = old_labels own valid_own bound is.own_bound is.bound_at in
+      (joined_sides labelled labelled label_steps label_steps sides first_source n [] [] copy.joined refl refl))) (let old = old_labels own valid_own bound is.own_bound is.bound_at in
       both _ _ (ap (λ name. is_label (text_of name)) is.bound_name ∙ old.0) (both _ _ (ap is_stability is.bound_stability ∙ old.1) (bound_sides labelled labelled label_steps label_steps sides))))
       (each_type (labels.type_ merged) (λ c. label_passes c.from merged c.under c.valid c.carried below))
 
@@ -270,8 +264,7 @@ module _ (own other merged : Resolve) (bound other_bound : ℕ) (first second : 
   handles_kept = kept handles merged (free_passes merged 0 merged.packages.items)
       (each_interface (handles.interface_ merged) (λ c. interface_handles_pass c.from merged c.under c.valid c.carried below))
       (functions_pass handles (λ r n g. list_all (λ t. not (is_resource_type r t)) (function_types g)) (λ r v. v.handles) (λ r n w. refl)
-      (λ c n. function_handles_pass c.from merged c.under c.valid c.carried below))
-      (each_type (handles.type_ merged) (λ c. handle_passes c.from merged c.under c.valid c.carried below))
+      (λ c n. function_handles_pass c.from merged c.under c.valid c.carried below)) (each_type (handles.type_ merged) (λ c. handle_passes c.from merged c.under c.valid c.carried below))
 
   pub depths_kept : Keeps depths merged
   unfolding depths
@@ -289,9 +282,7 @@ module _ (own other merged : Resolve) (bound other_bound : ℕ) (first second : 
       kept function_names merged (free_passes merged 0 merged.packages.items)
       (each_interface (function_names.interface_ merged) (λ c. interface_members_pass c.from merged c.under c.valid c.carried below))
       (worlds_pass p p steps steps (λ r v n w e. sym (list_all-append (p r n) w.imports.entries w.exports.entries) ∙ world-passes function_names r v.function_names n w e)
-      (function_names.world_ merged)
-      (λ n w h. list_all-append (p merged n) w.imports.entries w.exports.entries ∙ h))
-      (free_passes merged 0 merged.types.items)
+      (function_names.world_ merged) (λ n w h. list_all-append (p merged n) w.imports.entries w.exports.entries ∙ h)) (free_passes merged 0 merged.types.items)
 
   -- ---- items
 
@@ -315,8 +306,7 @@ module _ (own other merged : Resolve) (bound other_bound : ℕ) (first second : 
 
   pub order_of_items_kept : Keeps order_of_items merged
   unfolding order_of_items
-  order_of_items_kept = worlds_keep order_of_items.world_ merged (each_joined (order_of_items.world_ merged)
-      (λ c n j. world_order_passes c.from merged c.under c.valid c.carried below n [] [] j refl)
+  order_of_items_kept = worlds_keep order_of_items.world_ merged (each_joined (order_of_items.world_ merged) (λ c n j. world_order_passes c.from merged c.under c.valid c.carried below n [] [] j refl)
       (subst (λ (k : ℕ). each_after (uses_stand_before merged k) [] (items own_imports ++ items own_exports) ≡ true → order_of_items.world_ merged k is.joined.image ≡ true) is.bound_there
       (world_order_passes other merged second valid_other is.second_copies.carried below other_bound own_imports own_exports is.joined) own_order))
 
@@ -325,8 +315,7 @@ module _ (own other merged : Resolve) (bound other_bound : ℕ) (first second : 
   -- a copy is listed as it was, where worlds list it
   copy_listed : (c : Source merged) (n : ℕ) (copy : c.under.copies_type n ≡ true)
       → ((w : ℕ) → c.under.carries_world w ≡ true → (name : Text) → passes (is_listed_in_world n name) (world_at c.from w) ≡ true
-      → passes (is_listed_in_world (c.under.types n) name) (world_at merged (c.under.worlds w)) ≡ true)
-      → order_of_types.type_ merged (c.under.types n) (type_of c n copy).image ≡ true
+      → passes (is_listed_in_world (c.under.types n) name) (world_at merged (c.under.worlds w)) ≡ true) → order_of_types.type_ merged (c.under.types n) (type_of c n copy).image ≡ true
   unfolding order_of_types
   copy_listed c n copy worlds = both _ _ (copy_refers merged c n copy) (go t.def.name t.image.name t.name (second_true (list_all (λ m. nat_lt m n) (kind_numbers t.def.kind)) _ old))
     where
@@ -367,11 +356,10 @@ module _ (own other merged : Resolve) (bound other_bound : ℕ) (first second : 
       (λ apart. ap (passes (is_listed_in_world n name)) (is.worlds w x.0 x.1 apart) ∙ (sym (ap (passes (is_listed_in_world n name)) x.1) ∙ h))
     where
       entries : is_listed_in_world n name is.own_bound ≡ true → is_listed_in_world n name is.joined.image ≡ true
-      entries k = subst (λ (es : List (WorldKey × WorldItem)). (is_id n (option_and_then item_type (lookup (is_name_key name) es))
-          && (count_by (λ m. m == n) (filter_map item_type (items es)) == 1)) ≡ true) (sym is.joined.imports)
-          (stays_listed name n own_imports is.joined.new_imports
-          (fresh_added second own_imports (length own.types.items) is.second_copies.new_types n (ltb-true n (length own.types.items) low) is.joined.old.imports.entries
-          is.joined.new_imports is.joined.joined_imports) k)
+      entries k = subst (λ (es : List (WorldKey × WorldItem)). (is_id n (option_and_then item_type (lookup (is_name_key name) es)) && (count_by (λ m. m == n) (filter_map item_type (items es)) == 1))
+          ≡ true) (sym is.joined.imports) (stays_listed name n own_imports is.joined.new_imports
+          (fresh_added second own_imports (length own.types.items) is.second_copies.new_types n (ltb-true n (length own.types.items) low) is.joined.old.imports.entries is.joined.new_imports
+          is.joined.joined_imports) k)
 
   joined_listed : (c : Source merged) (n : ℕ) → c.under.copies_type n ≡ true → (name : Text) (w : ℕ) (oi oe : List (WorldKey × WorldItem)) (j : IsJoined c.from merged c.under w oi oe)
       → has (filter_map item_type (items oi)) (c.under.types n) ≡ false → passes (is_listed_in_world n name) (world_at c.from w) ≡ true
@@ -389,8 +377,7 @@ module _ (own other merged : Resolve) (bound other_bound : ℕ) (first second : 
   own_types = world-passes order_of_types own valid_own.order_of_types bound is.own_bound is.bound_at
 
   own_named : list_all (is_named_of merged (as_world bound)) own_numbers ≡ true
-  own_named =
-      sym (ap (list_all (is_named_of merged (as_world bound))) (map_same (λ n. n) (λ n. refl) own_numbers))
+  own_named = sym (ap (list_all (is_named_of merged (as_world bound))) (map_same (λ n. n) (λ n. refl) own_numbers))
       ∙ all_named_of own merged (itself own) valid_own own_source.carried below (as_world bound) own_numbers (range_types own own_imports own_imports_range) (first_true _ _ own_types)
 
   all_there : world_type_numbers is.joined.image ≡ filter_map item_type (items own_imports ++ items is.joined.new_imports)
@@ -401,32 +388,24 @@ module _ (own other merged : Resolve) (bound other_bound : ℕ) (first second : 
       (joined_itself own valid_own own_imports own_imports_range) (second_true (list_all (is_named_of own (as_world bound)) own_numbers) _ own_types)
     where
       back : (m : ℕ) → in_list own.types.items m ≡ true → has (world_type_numbers is.joined.image) m ≡ true → has own_numbers m ≡ true
-      back m c h =
-          sym (ap (λ ns. has ns m) all_there
-          ∙ (numbers_append item_type (items own_imports) (items is.joined.new_imports) m
+      back m c h = sym (ap (λ ns. has ns m) all_there ∙ (numbers_append item_type (items own_imports) (items is.joined.new_imports) m
           ∙ (ap (λ b. has own_numbers m || b) (fresh_added second own_imports (length own.types.items) is.second_copies.new_types m (ltb-true m (length own.types.items) c)
-          is.joined.old.imports.entries is.joined.new_imports is.joined.joined_imports)
-          ∙ or_false (has own_numbers m))))
-          ∙ h
+          is.joined.old.imports.entries is.joined.new_imports is.joined.joined_imports) ∙ or_false (has own_numbers m)))) ∙ h
 
   -- order of types
   pub order_of_types_kept : Keeps order_of_types merged
   unfolding order_of_types
-  order_of_types_kept =
-      kept order_of_types merged (free_passes merged 0 merged.packages.items)
-      (each_interface (order_of_types.interface_ merged)
-      (λ c n copy. interface_order_passes c.from merged c.under c.valid c.carried below n copy))
-      (each_joined (order_of_types.world_ merged)
-      (λ c n j. world_types_pass c.from merged c.under c.valid c.carried below n [] [] j refl refl)
+  order_of_types_kept = kept order_of_types merged (free_passes merged 0 merged.packages.items)
+      (each_interface (order_of_types.interface_ merged) (λ c n copy. interface_order_passes c.from merged c.under c.valid c.carried below n copy))
+      (each_joined (order_of_types.world_ merged) (λ c n j. world_types_pass c.from merged c.under c.valid c.carried below n [] [] j refl refl)
       (subst (λ (k : ℕ). order_of_types.world_ merged k is.joined.image ≡ true) is.bound_there
       (world_types_pass other merged second valid_other is.second_copies.carried below other_bound own_imports own_exports is.joined
       (subst (λ (k : ℕ). list_all (is_named_of merged (as_world k)) own_numbers ≡ true) (sym is.bound_there) own_named) own_type_order)))
-      (each_type_of_three (order_of_types.type_ merged)
-      (λ n copy. copy_listed own_source n copy (own_listed n copy))
+      (each_type_of_three (order_of_types.type_ merged) (λ n copy. copy_listed own_source n copy (own_listed n copy))
       (λ n copy. copy_listed first_source n copy (λ w c name. joined_listed first_source n copy name w [] [] (is.first_worlds w c).joined refl))
-      (λ n copy. copy_listed second_source n copy (λ w c name.
-      subst (λ (k : ℕ). passes (is_listed_in_world n name) (world_at other k) ≡ true → passes (is_listed_in_world (second.types n) name) (world_at merged (second.worlds k)) ≡ true)
-      (sym (is.second_worlds w c)) (joined_listed second_source n copy name other_bound own_imports own_exports is.joined
+      (λ n copy. copy_listed second_source n copy (λ w c name. subst (λ (k : ℕ). passes (is_listed_in_world n name) (world_at other k) ≡ true
+      → passes (is_listed_in_world (second.types n) name) (world_at merged (second.worlds k)) ≡ true) (sym (is.second_worlds w c))
+      (joined_listed second_source n copy name other_bound own_imports own_exports is.joined
       (past_range own.types.items _ (second.types n) (range_types own own_imports own_imports_range) (is.second_copies.new_types n copy))))))
 
   -- ---- numbers in range
@@ -437,8 +416,7 @@ module _ (own other merged : Resolve) (bound other_bound : ℕ) (first second : 
       (λ n p e. let q = c.carried.packages n p e in lt-ltb _ _ (slice_get_within merged.packages.items (c.under.packages n) q.image q.at_image))
 
   types_in_range : (c : Source merged) (ns : List ℕ) → list_all c.under.carries_type ns ≡ true → list_all (in_list merged.types.items) (map c.under.types ns) ≡ true
-  types_in_range c ns h =
-      list_all-map (in_list merged.types.items) c.under.types ns
+  types_in_range c ns h = list_all-map (in_list merged.types.items) c.under.types ns
       ∙ all_weaker c.under.carries_type (λ n. in_list merged.types.items (c.under.types n))
       (λ n d. let t = c.carried.types n d in lt-ltb _ _ (slice_get_within merged.types.items (c.under.types n) t.image t.at_image)) ns h
 
@@ -448,11 +426,8 @@ module _ (own other merged : Resolve) (bound other_bound : ℕ) (first second : 
   unfolding numbers_in_range
   interface_in_range c n copy package_ =
       let i = c.carried.interfaces n (c.carried.copied_interfaces n copy) in
-      both _ _ (place_below (c.under.interfaces n) (length merged.interfaces.items) (slice_get_within merged.interfaces.items (c.under.interfaces n) i.image i.at_image) is.few_interfaces)
-      (both _ _
-      package_
-      (both _ _
-      (sym (list_all-map (in_list merged.types.items) (λ (id : TypeId). id.0) (values i.image.types))
+      both _ _ (place_below (c.under.interfaces n) (length merged.interfaces.items) (slice_get_within merged.interfaces.items (c.under.interfaces n) i.image i.at_image) is.few_interfaces) (both _ _
+      package_ (both _ _ (sym (list_all-map (in_list merged.types.items) (λ (id : TypeId). id.0) (values i.image.types))
       ∙ (ap (list_all (in_list merged.types.items)) (type_numbers c.from merged c.under c.valid c.carried below n copy)
       ∙ types_in_range c (interface_type_numbers i.old) (copies_carried c.from merged c.under c.valid c.carried below (interface_type_numbers i.old)
       (all_copies c.from merged c.under c.valid c.carried below n copy))))
@@ -514,43 +489,32 @@ module _ (own other merged : Resolve) (bound other_bound : ℕ) (first second : 
   -- numbers in range
   pub numbers_in_range_kept : Keeps numbers_in_range merged
   unfolding numbers_in_range
-  numbers_in_range_kept =
-      kept numbers_in_range merged
-      (each_by_number (numbers_in_range.package_ merged) merged.packages.items (λ n q e.
+  numbers_in_range_kept = kept numbers_in_range merged (each_by_number (numbers_in_range.package_ merged) merged.packages.items (λ n q e.
       let h = all_stand own other merged bound other_bound first second left_out valid_own valid_other is n q e in
       both _ _ (place_below n (length merged.packages.items) (slice_get_within merged.packages.items n q e) is.few_packages) (ranges_hold merged n q h.0 h.1)))
-      (each_interface_of_three (numbers_in_range.interface_ merged)
-      (λ n i e.
+      (each_interface_of_three (numbers_in_range.interface_ merged) (λ n i e.
       let low = lt-ltb n (length own.interfaces.items) (slice_get_within own.interfaces.items n i e) in
       let v = own_source.carried.interfaces n (own_source.carried.copied_interfaces n low) in
       let same : v.image ≡ i = same-some v.image i (sym v.at_image ∙ get_begin own.interfaces.items merged.interfaces.items is.interfaces n i e) in
       subst (λ (x : Interface). numbers_in_range.interface_ merged n x ≡ true) same
-      (interface_in_range own_source n low (ap (λ x. passes (in_list merged.packages.items) (package_number x.«package»)) same ∙ own_package (package_number i.«package»)
-      (interface_package own valid_own n i e))))
-      (λ n copy.
+      (interface_in_range own_source n low (ap (λ x. passes (in_list merged.packages.items) (package_number x.«package»)) same
+      ∙ own_package (package_number i.«package») (interface_package own valid_own n i e)))) (λ n copy.
       let c = is.first_copies.carried.copied_interfaces n copy in
       let v = is.first_copies.carried.interfaces n c in
-      interface_in_range first_source n copy (ap (passes (in_list merged.packages.items)) (is.first_packages n c) ∙ package_in_range first_source (package_number v.old.«package»)
-      (interface_package other valid_other n v.old v.found)))
-      (λ n copy.
+      interface_in_range first_source n copy (ap (passes (in_list merged.packages.items)) (is.first_packages n c)
+      ∙ package_in_range first_source (package_number v.old.«package») (interface_package other valid_other n v.old v.found))) (λ n copy.
       let c = is.second_copies.carried.copied_interfaces n copy in
-      interface_in_range second_source n copy (ap (passes (in_list merged.packages.items)) (is.second_package n c copy) ∙ own_package (package_number is.own_bound.«package»)
-      (world_package own valid_own bound is.own_bound is.bound_at))))
-      (each_world (numbers_in_range.world_ merged)
-      (λ n w e apart.
-      both _ _ (world_number n w (is.worlds n w e apart))
-      (both _ _ (own_package (package_number w.«package») (world_package own valid_own n w e))
-      (joined_sides in_range in_range range_steps range_steps in_ranges own_source n [] [] (own_joined n w e apart) refl refl)))
-      (λ n c.
+      interface_in_range second_source n copy (ap (passes (in_list merged.packages.items)) (is.second_package n c copy)
+      ∙ own_package (package_number is.own_bound.«package») (world_package own valid_own bound is.own_bound is.bound_at)))) (each_world (numbers_in_range.world_ merged) (λ n w e apart.
+      both _ _ (world_number n w (is.worlds n w e apart)) (both _ _ (own_package (package_number w.«package») (world_package own valid_own n w e))
+      (joined_sides in_range in_range range_steps range_steps in_ranges own_source n [] [] (own_joined n w e apart) refl refl))) (λ n c.
       let w = is.first_worlds n c in
       let j = w.joined in
-      both _ _ (world_number (first.worlds n) j.image j.at_image)
-      (both _ _ (ap (passes (in_list merged.packages.items)) w.in_package ∙ package_in_range first_source (package_number j.old.«package») (world_package other valid_other n j.old j.found))
+      both _ _ (world_number (first.worlds n) j.image j.at_image) (both _ _
+      (ap (passes (in_list merged.packages.items)) w.in_package ∙ package_in_range first_source (package_number j.old.«package») (world_package other valid_other n j.old j.found))
       (joined_sides in_range in_range range_steps range_steps in_ranges first_source n [] [] j refl refl)))
-      (both _ _ (world_number bound is.joined.image bound_found)
-      (both _ _ (ap (λ p. passes (in_list merged.packages.items) (package_number p)) is.bound_package ∙ own_package (package_number is.own_bound.«package»)
-      (world_package own valid_own bound is.own_bound is.bound_at)) (bound_sides in_range in_range range_steps range_steps in_ranges))))
-      (each_type_of_three (numbers_in_range.type_ merged)
-      (λ n copy. type_in_range own_source n copy own_worlds_there)
-      (λ n copy. type_in_range first_source n copy first_worlds_there)
+      (both _ _ (world_number bound is.joined.image bound_found) (both _ _
+      (ap (λ p. passes (in_list merged.packages.items) (package_number p)) is.bound_package
+      ∙ own_package (package_number is.own_bound.«package») (world_package own valid_own bound is.own_bound is.bound_at)) (bound_sides in_range in_range range_steps range_steps in_ranges))))
+      (each_type_of_three (numbers_in_range.type_ merged) (λ n copy. type_in_range own_source n copy own_worlds_there) (λ n copy. type_in_range first_source n copy first_worlds_there)
       (λ n copy. type_in_range second_source n copy second_worlds_there))

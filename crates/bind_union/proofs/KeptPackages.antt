@@ -56,11 +56,9 @@ module _ (r : Resolve) (valid : KeepsRules r) (n : ℕ) (p : Package) (found : p
   interface_of x t b h k = search std_rules
 
   pub interfaces_stand : list_all (is_interface_of r n) (interface_names p) ≡ true
-  interfaces_stand =
-      list_all-map (is_interface_of r n) (λ e. (text_of e.0, e.1.0)) p.interfaces.entries
+  interfaces_stand = list_all-map (is_interface_of r n) (λ e. (text_of e.0, e.1.0)) p.interfaces.entries
       ∙ all_three (λ e. in_list r.interfaces.items e.1.0) (interface_belongs r n) (λ e. passes (λ i. text_is i.name (text_of e.0)) (interface_at r e.1.0))
-      (λ e. is_interface_of r n (text_of e.0, e.1.0))
-      (λ e a b c.
+      (λ e. is_interface_of r n (text_of e.0, e.1.0)) (λ e a b c.
       let i = found-in r.interfaces.items e.1.0 a in
       ap (λ o. option_map_or (λ i. text_is i.name (text_of e.0) && is_id n (package_number i.«package»)) o false) i.1
       ∙ interface_of i.0.name (text_of e.0) (is_id n (package_number i.0.«package»)) (sym (ap (passes (λ i. text_is i.name (text_of e.0))) i.1) ∙ c)
@@ -154,8 +152,7 @@ module _ (own other merged : Resolve) (bound other_bound : ℕ) (first second : 
         ∙ (list_all-append (is_interface_of merged (first.packages n)) own_interfaces j.new_interfaces
         ∙ both _ _ oi (names_pass first.interfaces first.copies_interface (λ m. false) own_interfaces (is_interface_of other n) (is_interface_of merged (first.packages n)) (copied_interface n)
         (interface_names p) j.new_interfaces j.joined_interfaces (interfaces_stand other valid_other n p e))),
-    ap (list_all (is_world_of merged (first.packages n))) j.worlds
-        ∙ (list_all-append (is_world_of merged (first.packages n)) own_worlds j.new_worlds
+    ap (list_all (is_world_of merged (first.packages n))) j.worlds ∙ (list_all-append (is_world_of merged (first.packages n)) own_worlds j.new_worlds
         ∙ both _ _ ow (names_pass first.worlds first.carries_world left_out own_worlds (is_world_of other n) (is_world_of merged (first.packages n)) (copied_world n) (world_names p) j.new_worlds
         j.joined_worlds (worlds_stand other valid_other n p e))),
   )

@@ -74,8 +74,7 @@ no_text x e = search std_rules
 -- where it is shown once, and nowhere else, in a world of its package, the rule is kept
 inline_holds : (s : Resolve) (t : ℕ) (p : Option ℕ) (k : ℕ) (w : World) → world_at s k ≡ Some w → times_shown t w ≡ 1 → package_number w.«package» ≡ p
     → ((m : ℕ) (y : World) → world_at s m ≡ Some y → (m == k) ≡ false → times_shown t y ≡ 0) → inline_by s t p ≡ true
-inline_holds s t p k w at one same others =
-    both _ _ (ap (λ n. n == 1) (one_sums (times_shown t) s.worlds.items k w at one others))
+inline_holds s t p k w at one same others = both _ _ (ap (λ n. n == 1) (one_sums (times_shown t) s.worlds.items k w at one others))
     (all_by_get (λ y. (times_shown t y == 0) || option_eq ◌==◌ (package_number y.«package») p) s.worlds.items (λ m y e. each m y e (m == k) refl))
   where
     each : (m : ℕ) (y : World) → world_at s m ≡ Some y → (b : Bool) → (m == k) ≡ b → ((times_shown t y == 0) || option_eq ◌==◌ (package_number y.«package») p) ≡ true
@@ -130,13 +129,7 @@ module _ (own other merged : Resolve) (bound other_bound : ℕ) (first second : 
 
       go : IsKeptPackage own merged k ⊎ IsPackageOf other first k → IsGrown p q
       go (inr x) = stands x (is.packages_stand x.number x.old x.found)
-      go (inl x) = record {
-        more_interfaces = [];
-        interfaces = cc (append-nil (interface_names p));
-        more_worlds = [];
-        worlds = cc (append-nil (world_names p));
-        apart = λ name h. refl;
-      }
+      go (inl x) = record { more_interfaces = []; interfaces = cc (append-nil (interface_names p)); more_worlds = []; worlds = cc (append-nil (world_names p)); apart = λ name h. refl }
 
   -- ---- own interfaces and worlds
 
@@ -148,16 +141,14 @@ module _ (own other merged : Resolve) (bound other_bound : ℕ) (first second : 
       let found = first_true _ _ old in
       let names : is_name t (world_names q.0) ≡ is_name t (world_names p) =
       cc (g.worlds, name_append t (world_names p) g.more_worlds, g.apart t (found_name t n (interface_names p) found), or_false (is_name t (world_names p))) in
-      listed_in merged n t k q.0 q.1
-      ∙ both _ _ (ap (λ es. is_id n (under_text t es)) g.interfaces ∙ still_found t n (interface_names p) g.more_interfaces found)
+      listed_in merged n t k q.0 q.1 ∙ both _ _ (ap (λ es. is_id n (under_text t es)) g.interfaces ∙ still_found t n (interface_names p) g.more_interfaces found)
       (ap not names ∙ second_true (is_id n (under_text t (interface_names p))) _ old)
 
   own_world_listed : (n : ℕ) (t : Text) (k : ℕ) (p : Package) → package_at own k ≡ Some p → world_by own n t (Some k) ≡ true → world_by merged n t (Some k) ≡ true
   own_world_listed n t k p e h =
       let q = is.packages k p e in
       let g = grown_package k p q.0 e q.1 in
-      world_in merged n t k q.0 q.1
-      ∙ (ap (λ es. is_id n (under_text t es)) g.worlds ∙ still_found t n (world_names p) g.more_worlds (sym (world_in own n t k p e) ∙ h))
+      world_in merged n t k q.0 q.1 ∙ (ap (λ es. is_id n (under_text t es)) g.worlds ∙ still_found t n (world_names p) g.more_worlds (sym (world_in own n t k p e) ∙ h))
 
   -- ---- copied ones
 
@@ -223,16 +214,14 @@ module _ (own other merged : Resolve) (bound other_bound : ℕ) (first second : 
   -- ---- worlds
 
   own_world_place : (n : ℕ) (w : World) → world_at own n ≡ Some w → world_by merged n (text_of w.name) (package_number w.«package») ≡ true
-  own_world_place n w e = by_package own (λ p. world_by own n (text_of w.name) p ≡ true → world_by merged n (text_of w.name) p ≡ true) (λ h. h)
-      (own_world_listed n (text_of w.name)) (package_number w.«package») (world_package own valid_own n w e)
-      (sym (world_place own n w) ∙ world-passes places own valid_own.places n w e)
+  own_world_place n w e = by_package own (λ p. world_by own n (text_of w.name) p ≡ true → world_by merged n (text_of w.name) p ≡ true) (λ h. h) (own_world_listed n (text_of w.name))
+      (package_number w.«package») (world_package own valid_own n w e) (sym (world_place own n w) ∙ world-passes places own valid_own.places n w e)
 
   copy_world_place : (m : ℕ) (c : first.carries_world m ≡ true) → places.world_ merged (first.worlds m) (is.first_worlds m c).joined.image ≡ true
   copy_world_place m c =
       let w = is.first_worlds m c in
       let j = w.joined in
-      world_place merged (first.worlds m) j.image
-      ∙ ((λ i. world_by merged (first.worlds m) (w.name i) (w.in_package i))
+      world_place merged (first.worlds m) j.image ∙ ((λ i. world_by merged (first.worlds m) (w.name i) (w.in_package i))
       ∙ by_package other (λ p. world_by other m (text_of j.old.name) p ≡ true → world_by merged (first.worlds m) (text_of j.old.name) (option_map first.packages p) ≡ true) (λ h. h)
       (copy_world_listed m c (text_of j.old.name)) (package_number j.old.«package») (world_package other valid_other m j.old j.found)
       (sym (world_place other m j.old) ∙ world-passes places other valid_other.places m j.old j.found))
@@ -268,8 +257,7 @@ module _ (own other merged : Resolve) (bound other_bound : ℕ) (first second : 
       copies.inline_copied a i.old c i.found (no_text i.old.name (sym i.name ∙ (ap (λ x. optional_text x.name) same ∙ some_text v.name inline)))
 
   not_among : (f : Renumbering) → AreCopies own other merged f → (own_part olds news : List (WorldKey × WorldItem)) → Joined f own_part olds news → (t : ℕ) (v : Interface)
-      → interface_at merged t ≡ Some v → v.name ≡ None
-      → ((a : ℕ) → f.copies_interface a ≡ true → f.interfaces a ≡ t → ⊥) → shown t news ≡ 0
+      → interface_at merged t ≡ Some v → v.name ≡ None → ((a : ℕ) → f.copies_interface a ≡ true → f.interfaces a ≡ t → ⊥) → shown t news ≡ 0
   not_among f copies own_part olds news j t v e inline none_such = none_counted item_interface t (items news)
       (none_added f (interfaces_in f) own_part olds news j t (λ a c to. none_such a (shown_copy f copies a c v (ap (interface_at merged) to ∙ e) inline) to))
 
@@ -388,20 +376,16 @@ module _ (own other merged : Resolve) (bound other_bound : ℕ) (first second : 
       (past_range own.interfaces.items _ (second.interfaces m) (range_interfaces own oe range.1) high)
       ∙ (ap (times_shown m) (same-some is.joined.old x.1 (sym is.joined.found ∙ (ap (world_at other) (sym here) ∙ x.2))) ∙ x.3) in
       inline_holds merged (second.interfaces m) (package_number is.own_bound.«package») bound is.joined.image (ap (world_at merged) (sym is.bound_there) ∙ is.joined.at_image) one
-      (ap package_number is.bound_package)
-      (no_others (second.interfaces m) bound (λ k y d apart. past_times k y d (second.interfaces m) high) (λ apart. no_true (sym apart ∙ same-number bound))
+      (ap package_number is.bound_package) (no_others (second.interfaces m) bound (λ k y d apart. past_times k y d (second.interfaces m) high) (λ apart. no_true (sym apart ∙ same-number bound))
       (λ k d apart. copy_times k d (second.interfaces m) i.image i.at_image (image_inline second is.second_copies m i inline)
       (λ a d e. let less = is.second_behind a m d copy in omega (arith, less, e))))
 
   -- ---- interfaces
 
   own_place : (n : ℕ) (i : Interface) → interface_at own n ≡ Some i → places.interface_ merged n i ≡ true
-  own_place n i e =
-      interface_place merged n i
-      ∙ place_kept own merged n n (optional_text i.name) (package_number i.«package») (package_number i.«package») (λ h. h)
-      (λ t x. by_package own (λ p. listed_by own n t p ≡ true → listed_by merged n t p ≡ true) (λ h. refl) (own_listed n t)
-      (package_number i.«package») (interface_package own valid_own n i e)) (λ none. own_inline n i e (no_text i.name none))
-      (sym (interface_place own n i) ∙ interface-passes places own valid_own.places n i e)
+  own_place n i e = interface_place merged n i ∙ place_kept own merged n n (optional_text i.name) (package_number i.«package») (package_number i.«package») (λ h. h)
+      (λ t x. by_package own (λ p. listed_by own n t p ≡ true → listed_by merged n t p ≡ true) (λ h. refl) (own_listed n t) (package_number i.«package») (interface_package own valid_own n i e))
+      (λ none. own_inline n i e (no_text i.name none)) (sym (interface_place own n i) ∙ interface-passes places own valid_own.places n i e)
 
   some_mapped : (g : ℕ → ℕ) (p : Option ℕ) → is_some p ≡ true → is_some (option_map g p) ≡ true
   some_mapped g x h = search std_rules
@@ -412,8 +396,7 @@ module _ (own other merged : Resolve) (bound other_bound : ℕ) (first second : 
       let c = is.first_copies.carried.copied_interfaces m copy in
       let i = is.first_copies.carried.interfaces m c in
       let p = package_number i.old.«package» in
-      interface_place merged (first.interfaces m) i.image
-      ∙ ((λ j. place_by merged (first.interfaces m) (i.name j) (is.first_packages m c j))
+      interface_place merged (first.interfaces m) i.image ∙ ((λ j. place_by merged (first.interfaces m) (i.name j) (is.first_packages m c j))
       ∙ place_kept other merged m (first.interfaces m) (optional_text i.old.name) p (option_map first.packages p) (some_mapped first.packages p)
       (λ t x. by_package other (λ p. listed_by other m t p ≡ true → listed_by merged (first.interfaces m) t (option_map first.packages p) ≡ true) (λ h. refl) (copy_listed m copy t) p
       (interface_package other valid_other m i.old i.found)) (λ none. first_inline m copy i (no_text i.old.name none))
@@ -426,19 +409,15 @@ module _ (own other merged : Resolve) (bound other_bound : ℕ) (first second : 
       let i = is.second_copies.carried.interfaces m c in
       let inline = is.second_inline m i.old copy i.found in
       let none : optional_text i.old.name ≡ None = some_text i.old.name inline in
-      interface_place merged (second.interfaces m) i.image
-      ∙ ((λ j. place_by merged (second.interfaces m) (i.name j) (is.second_package m c copy j))
+      interface_place merged (second.interfaces m) i.image ∙ ((λ j. place_by merged (second.interfaces m) (i.name j) (is.second_package m c copy j))
       ∙ place_kept other merged m (second.interfaces m) (optional_text i.old.name) (package_number i.old.«package») (package_number is.own_bound.«package»)
       (λ h. first_true _ _ (own_world_place bound is.own_bound is.bound_at)) (λ t named h. absurd cc) (λ x. second_inline_holds m copy i inline)
       (sym (interface_place other m i.old) ∙ interface-passes places other valid_other.places m i.old i.found))
 
   -- places
   pub places_kept : Keeps places merged
-  places_kept =
-      kept places merged
+  places_kept = kept places merged
       (each_by_number (places.package_ merged) merged.packages.items (λ n q e. let h = all_stand own other merged bound other_bound first second left_out valid_own valid_other is n q e in
-      places_hold merged n q h.0 h.1))
-      (each_interface_of_three own other merged bound other_bound first second left_out valid_own valid_other is (places.interface_ merged) own_place first_place second_place)
-      (each_world own other merged bound other_bound first second left_out valid_own valid_other is (places.world_ merged)
-      (λ n w e apart. world_place merged n w ∙ own_world_place n w e) copy_world_place bound_place)
-      (types_free merged)
+      places_hold merged n q h.0 h.1)) (each_interface_of_three own other merged bound other_bound first second left_out valid_own valid_other is (places.interface_ merged) own_place first_place
+      second_place) (each_world own other merged bound other_bound first second left_out valid_own valid_other is (places.world_ merged) (λ n w e apart. world_place merged n w ∙ own_world_place n w e)
+      copy_world_place bound_place) (types_free merged)

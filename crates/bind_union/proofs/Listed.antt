@@ -26,10 +26,8 @@ module _ (r s : Resolve) (f : Renumbering) (valid : KeepsRules r) (is : IsCarrie
   pub listed_in_interface : (n : ℕ) (copy : f.copies_interface n ≡ true) (m : ℕ) → f.copies_type m ≡ true → (name : Text)
       → is_listed_in_interface m name (interface_rules.i r s f valid is below_s n copy).old ≡ true
       → is_listed_in_interface (f.types m) name (interface_rules.i r s f valid is below_s n copy).image ≡ true
-  listed_in_interface n copy m c name h =
-      both _ _
-      (ap (is_id (f.types m)) (found_by_text i.image name ∙ (ap (under_text name) c_types ∙ new_found)) ∙ id_under f.types m (under_text name (map (λ e. (text_of e.0, e.1.0)) i.old.types.entries))
-      (sym (ap (is_id m) (found_by_text i.old name)) ∙ first_true _ _ h))
+  listed_in_interface n copy m c name h = both _ _ (ap (is_id (f.types m)) (found_by_text i.image name ∙ (ap (under_text name) c_types ∙ new_found))
+      ∙ id_under f.types m (under_text name (map (λ e. (text_of e.0, e.1.0)) i.old.types.entries)) (sym (ap (is_id m) (found_by_text i.old name)) ∙ first_true _ _ h))
       (ap (λ ns. count_by (λ k. k == f.types m) ns == 1) (type_numbers r s f valid is below_s n copy)
       ∙ (ap (λ k. k == 1) (count_same f.types f.carries_type f.copies_type is.types_rise is.copied_types (interface_type_numbers i.old)
       (copies_carried r s f valid is below_s (interface_type_numbers i.old) (interface_rules.all_copies r s f valid is below_s n copy)) m c)
@@ -105,8 +103,7 @@ module _ (r s : Resolve) (f : Renumbering) (valid : KeepsRules r) (is : IsCarrie
       let here = counted_numbers item_type m (items j.old.imports.entries) in
       let count : count_by (λ k. k == f.types m) (filter_map item_type (items (own_imports ++ j.new_imports))) ≡ count_by (λ k. k == m) (filter_map item_type (items j.old.imports.entries)) =
       omega (arith, there, parts, own_part, new_part, here) in
-      both _ _
-      (ap (λ es. is_id (f.types m) (option_and_then item_type (lookup (is_name_key name) es))) j.imports
+      both _ _ (ap (λ es. is_id (f.types m) (option_and_then item_type (lookup (is_name_key name) es))) j.imports
       ∙ (ap (λ o. is_id (f.types m) (option_and_then item_type o)) (lookup_append (is_name_key name) own_imports j.new_imports found.1) ∙ found.0))
       (ap (λ es. count_by (λ k. k == f.types m) (filter_map item_type (items es)) == 1) j.imports
       ∙ (ap (λ k. k == 1) count ∙ second_true (is_id m (option_and_then item_type (get_by (is_name_key name) j.old.imports))) _ h))
@@ -121,8 +118,7 @@ stays_listed name n own more fresh h =
     let new_part = none_counted item_type n (items more) fresh in
     let here = counted_numbers item_type n (items own) in
     let count : count_by (λ k. k == n) (filter_map item_type (items (own ++ more))) ≡ count_by (λ k. k == n) (filter_map item_type (items own)) = omega (arith, all, parts, new_part, here) in
-    both _ _ (go (lookup (is_name_key name) own) refl (first_true _ _ h))
-    (ap (λ k. k == 1) count ∙ second_true (is_id n (option_and_then item_type (lookup (is_name_key name) own))) _ h)
+    both _ _ (go (lookup (is_name_key name) own) refl (first_true _ _ h)) (ap (λ k. k == 1) count ∙ second_true (is_id n (option_and_then item_type (lookup (is_name_key name) own))) _ h)
   where
     go : (o : Option WorldItem) → lookup (is_name_key name) own ≡ o → is_id n (option_and_then item_type o) ≡ true
         → is_id n (option_and_then item_type (lookup (is_name_key name) (own ++ more))) ≡ true

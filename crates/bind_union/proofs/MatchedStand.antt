@@ -118,6 +118,5 @@ steps_keep = record {
       subst (JoinedNames number copies left_out own (olds ++ (name, old) ∷ [])) (append-nil news) (append_names number copies left_out own olds news _ _ j (names.met name old [] [] c names.none));
   left_name = λ number copies left_out own olds news j name old c.
       subst (JoinedNames number copies left_out own (olds ++ (name, old) ∷ [])) (append-nil news) (append_names number copies left_out own olds news _ _ j (names.left name old [] [] c names.none));
-  added_name = λ number copies left_out own olds news j name old c l e.
-      append_names number copies left_out own olds news _ _ j (names.added name old [] [] c l e names.none);
+  added_name = λ number copies left_out own olds news j name old c l e. append_names number copies left_out own olds news _ _ j (names.added name old [] [] c l e names.none);
 }

@@ -24,8 +24,7 @@ module _ (r s : Resolve) (f : Renumbering) (valid : KeepsRules r) (is : IsCarrie
       let t = is.types n (is.copied_types n copy) in
       let k = t.copied copy in
       let same = same_declarations r s f.types f.carries_type (refers_below r (references_of r valid)) (refers_below s below_s) (carried_types r s f valid is below_s) t.def t.image k.kind in
-      ap (λ o. option_map_or (type_meaning s) o no_type) t.at_image
-      ∙ ((λ i. record { declaration = same i; external_id = k.external_id i })
+      ap (λ o. option_map_or (type_meaning s) o no_type) t.at_image ∙ ((λ i. record { declaration = same i; external_id = k.external_id i })
       ∙ sym (ap (λ o. option_map_or (type_meaning r) o no_type) t.found))
 
   -- ---- functions

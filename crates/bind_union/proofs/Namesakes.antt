@@ -123,8 +123,7 @@ module _ (r : Resolve) (v : IsValid r) where
       let d = found-in r.types.items t (passes_at (in_list r.types.items) (interface_type_numbers i) t (interface_range r v.rules n i at).0 listed) in
       let order : (list_all (is_named_of r (as_interface n)) (interface_type_numbers i) && are_in_order r (interface_type_numbers i)) ≡ true =
       interface-passes order_of_types r v.rules.order_of_types n i at in
-      let ours : (is_some d.0.name && same_owner d.0.owner (as_interface n)) ≡ true =
-      sym (ap (passes (λ def. is_some def.name && same_owner def.owner (as_interface n))) d.1)
+      let ours : (is_some d.0.name && same_owner d.0.owner (as_interface n)) ≡ true = sym (ap (passes (λ def. is_some def.name && same_owner def.owner (as_interface n))) d.1)
       ∙ passes_at (is_named_of r (as_interface n)) (interface_type_numbers i) t (first_true _ _ order) listed in
       let home = owner_equal d.0.owner (as_interface n) (second_true (is_some d.0.name) _ ours) in
       let s = some_of d.0.name (first_true _ _ ours) in
@@ -134,8 +133,7 @@ module _ (r : Resolve) (v : IsValid r) where
 
   -- the tree of a named type is its name
   pub named_tree : (t : ℕ) (def : TypeDef) → type_at r t ≡ Some def → (s : String Global) → def.name ≡ Some s → tree_at (trees_of r) t ≡ named (place_of r def.owner) (text_of s)
-  named_tree t def e s named_ =
-      ap (λ o. unwrap_or o no_tree) (kept_trees_at r v.rules t def e)
+  named_tree t def e s named_ = ap (λ o. unwrap_or o no_tree) (kept_trees_at r v.rules t def e)
       ∙ ap (λ o. option_map_or (λ name. named (place_of r def.owner) (text_of name)) o (tree_of_declaration (declared_by (trees_of r) def.kind))) named_
 
   pub record IsTarget (t : ℕ) : Type 0 where
@@ -211,10 +209,8 @@ meaning_under r i name = simp map-map at (lookup_of_map (text_eq name) (λ (t : 
 module _ (own other : Resolve) (interfaces types : ℕ → ℕ) (valid_own : IsValid own) (valid_other : IsValid other) where
   same_under : (n : ℕ) (is : IsMatch own other interfaces types n) (name : Text)
       → option_map (type_meaning_at own) (under_text name (type_names is.image)) ≡ option_map (type_meaning_at other) (under_text name (type_names is.old))
-  same_under n is name =
-      sym (meaning_under own is.image name)
-      ∙ (found_same (interface_meaning own is.image).types (interface_meaning other is.old).types (ap (λ (s : InterfaceSense). s.types) is.sense) name
-      ∙ meaning_under other is.old name)
+  same_under n is name = sym (meaning_under own is.image name) ∙ (found_same (interface_meaning own is.image).types (interface_meaning other is.old).types
+      (ap (λ (s : InterfaceSense). s.types) is.sense) name ∙ meaning_under other is.old name)
 
   name_of_number : (i : Interface) (t : ℕ) → has (interface_type_numbers i) t ≡ true → (name : Text) × Contains (type_names i) (name, t)
   name_of_number i t h =
@@ -295,11 +291,9 @@ module _ (own other : Resolve) (interfaces types : ℕ → ℕ) (valid_own : IsV
         let name = name_of_number is.old t h in
         let old = listed_type other valid_other n is.old is.found name.0 t name.1 in
         let new = listed_type own valid_own (interfaces n) is.image is.at_image name.0 (types t) (is.by_name name.0 t name.1) in
-        let meanings : type_meaning_at own (types t) ≡ type_meaning_at other t =
-        same-some (type_meaning_at own (types t)) (type_meaning_at other t)
+        let meanings : type_meaning_at own (types t) ≡ type_meaning_at other t = same-some (type_meaning_at own (types t)) (type_meaning_at other t)
         (sym (ap (option_map (type_meaning_at own)) new.under) ∙ (same_under n is name.0 ∙ ap (option_map (type_meaning_at other)) old.under)) in
-        let declarations : declaration_of own new.def ≡ declaration_of other old.def =
-        sym (ap (λ o. (option_map_or (type_meaning own) o no_type).declaration) new.found)
+        let declarations : declaration_of own new.def ≡ declaration_of other old.def = sym (ap (λ o. (option_map_or (type_meaning own) o no_type).declaration) new.found)
         ∙ (ap (λ (m : TypeMeaning). m.declaration) meanings ∙ ap (λ o. (option_map_or (type_meaning other) o no_type).declaration) old.found) in
         record {
           def = old.def;

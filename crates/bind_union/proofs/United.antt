@@ -87,8 +87,7 @@ module _ (own other merged : Resolve) (bound other_bound : ℕ) (first second : 
             | inl c ↦
                 let i = found_option _ (interface_at own (first.interfaces n)) (all-contained (is_interface_of own (first.packages h.home.0)) (interface_names o) (name, first.interfaces n)
                 (interfaces_stand own valid_own.rules (first.packages h.home.0) o at) c) in
-                let its_path : interface_path own (first.interfaces n) ≡ Some (path_in (identity_of o.name) name) =
-                ap (option_and_then (path_of_interface own)) i.1
+                let its_path : interface_path own (first.interfaces n) ≡ Some (path_in (identity_of o.name) name) = ap (option_and_then (path_of_interface own)) i.1
                 ∙ (path_parts own i.0
                 ∙ ((λ z. path_by own (some_name i.0.name name (first_true _ _ i.2) z) (some_id (first.packages h.home.0) (package_number i.0.«package») (second_true (text_is i.0.name name) _ i.2) z))
                 ∙ ap (option_map (λ package_. path_in (identity_of package_.name) name)) at)) in

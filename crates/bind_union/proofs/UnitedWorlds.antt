@@ -34,9 +34,7 @@ module _ (own other merged : Resolve) (bound other_bound : ℕ) (first second : 
   own_path n w e = search (std_rules, world_path, own_path_by, world_package)
 
   bound_path : path_of_world merged is.joined.image ≡ path_of_world own is.own_bound
-  bound_path =
-      world_path merged is.joined.image
-      ∙ ((λ i. path_by merged (Some (text_of (is.bound_name i))) (package_number (is.bound_package i)))
+  bound_path = world_path merged is.joined.image ∙ ((λ i. path_by merged (Some (text_of (is.bound_name i))) (package_number (is.bound_package i)))
       ∙ (sym (world_path merged is.own_bound) ∙ own_path bound is.own_bound is.bound_at))
 
   copy_path : (m : ℕ) (c : first.carries_world m ≡ true) → path_of_world merged (is.first_worlds m c).joined.image ≡ path_of_world other (is.first_worlds m c).joined.old
@@ -44,27 +42,22 @@ module _ (own other merged : Resolve) (bound other_bound : ℕ) (first second : 
       let w = is.first_worlds m c in
       let j = w.joined in
       let range = world_package other valid_other.rules m j.old j.found in
-      world_path merged j.image
-      ∙ ((λ i. path_by merged (Some (w.name i)) (w.in_package i))
+      world_path merged j.image ∙ ((λ i. path_by merged (Some (w.name i)) (w.in_package i))
       ∙ (same_path_by other merged first valid_other.rules is.first_copies.carried below_s (Some (text_of j.old.name)) (package_number j.old.«package»)
-      (λ k e. found-in other.packages.items k (sym (ap (passes (in_list other.packages.items)) e) ∙ range))
-      ∙ sym (world_path other j.old)))
+      (λ k e. found-in other.packages.items k (sym (ap (passes (in_list other.packages.items)) e) ∙ range)) ∙ sym (world_path other j.old)))
 
   -- ---- meanings
 
   own_means : (n : ℕ) (w : World) → world_at own n ≡ Some w → (n == bound) ≡ false → world_meaning merged w ≡ world_meaning own w
-  own_means n w e apart =
-      sym (ap (λ o. option_map_or (world_meaning merged) o no_world) (is.worlds n w e apart))
+  own_means n w e apart = sym (ap (λ o. option_map_or (world_meaning merged) o no_world) (is.worlds n w e apart))
       ∙ ((merged_means own other merged bound other_bound first second left_out valid_own valid_other is).0.worlds n w e
-      (λ same. no_true (sym apart ∙ subst (λ (k : ℕ). (k == bound) ≡ true) (sym same) (same-number bound)))
-      ∙ ap (λ o. option_map_or (world_meaning own) o no_world) e)
+      (λ same. no_true (sym apart ∙ subst (λ (k : ℕ). (k == bound) ≡ true) (sym same) (same-number bound))) ∙ ap (λ o. option_map_or (world_meaning own) o no_world) e)
 
   copy_means : (m : ℕ) (c : first.carries_world m ≡ true) → world_meaning merged (is.first_worlds m c).joined.image ≡ world_meaning other (is.first_worlds m c).joined.old
   copy_means m c =
       let j = (is.first_worlds m c).joined in
       sym (ap (λ o. option_map_or (world_meaning merged) o no_world) j.at_image)
-      ∙ ((merged_means own other merged bound other_bound first second left_out valid_own valid_other is).2 m c
-      ∙ ap (λ o. option_map_or (world_meaning other) o no_world) j.found)
+      ∙ ((merged_means own other merged bound other_bound first second left_out valid_own valid_other is).2 m c ∙ ap (λ o. option_map_or (world_meaning other) o no_world) j.found)
 
   -- ---- one path
 
@@ -100,17 +93,13 @@ module _ (own other merged : Resolve) (bound other_bound : ℕ) (first second : 
       world = (is.first_worlds m c).joined.image;
       found = (is.first_worlds m c).joined.at_image;
       path_is = copy_path m c ∙ e;
-      means =
-          copy_means m c ∙ d;
+      means = copy_means m c ∙ d;
     }
 
     back : ShowsWorld merged path meaning → ShowsWorld own path meaning ⊎ (((x : ShowsWorld other path meaning) × (left_out x.number ≡ false)) × ShowsNoWorld own path)
     back x = elim (world_case own other merged bound other_bound first second left_out valid_own.rules valid_other.rules is x.number x.world x.found) [
       | inl w ↦ inl (record { number = x.number; world = x.world; found = w.0; path_is = sym (own_path x.number x.world w.0) ∙ x.path_is; means = sym (own_means x.number x.world w.0 w.1) ∙ x.means })
-      | inr v ↦ elim v [
-        | inl b ↦ absurd (not_bound (sym bound_path ∙ (ap (path_of_world merged) b.1 ∙ x.path_is)))
-        | inr c ↦ inr (copy c.0 c.1 c.3)
-      ]
+      | inr v ↦ elim v [ inl b ↦ absurd (not_bound (sym bound_path ∙ (ap (path_of_world merged) b.1 ∙ x.path_is))) | inr c ↦ inr (copy c.0 c.1 c.3) ]
     ]
       where
         copy : (m : ℕ) (c : first.carries_world m ≡ true) → (is.first_worlds m c).joined.image ≡ x.world → (((y : ShowsWorld other path meaning) × (left_out y.number ≡ false)) × ShowsNoWorld own path)
@@ -122,8 +111,7 @@ module _ (own other merged : Resolve) (bound other_bound : ℕ) (first second : 
                   world = (is.first_worlds m c).joined.old;
                   found = (is.first_worlds m c).joined.found;
                   path_is = its_path;
-                  means =
-                      sym (copy_means m c) ∙ (ap (world_meaning merged) same ∙ x.means);
+                  means = sym (copy_means m c) ∙ (ap (world_meaning merged) same ∙ x.means);
                 },
                 is.not_left_out m c,
               ),
@@ -131,9 +119,8 @@ module _ (own other merged : Resolve) (bound other_bound : ℕ) (first second : 
             )
 
     from_own : ShowsWorld own path meaning → ShowsWorld merged path meaning
-    from_own x = by_number x.number bound (λ same. absurd (not_bound (ap (path_of_world own) (same-some is.own_bound x.world
-        (sym is.bound_at ∙ (ap (world_at own) (sym same) ∙ x.found))) ∙ x.path_is)))
-        (λ apart. record {
+    from_own x = by_number x.number bound (λ same. absurd (not_bound (ap (path_of_world own) (same-some is.own_bound x.world (sym is.bound_at ∙ (ap (world_at own) (sym same) ∙ x.found)))
+        ∙ x.path_is))) (λ apart. record {
           number = x.number;
           world = x.world;
           found = is.worlds x.number x.world x.found apart;
@@ -160,8 +147,7 @@ module _ (own other merged : Resolve) (bound other_bound : ℕ) (first second : 
                 let w = found_option _ (world_at own (first.worlds x.number)) (all-contained (is_world_of own (first.packages h.home.0)) (world_names o) (name, first.worlds x.number)
                 (worlds_stand own valid_own.rules (first.packages h.home.0) o at) c) in
                 let same : text_of w.0.name ≡ name = text-same (text_of w.0.name) name (first_true _ _ w.2) in
-                let its_path : path_of_world own w.0 ≡ Some (path_in (identity_of o.name) name) =
-                world_path own w.0
+                let its_path : path_of_world own w.0 ≡ Some (path_in (identity_of o.name) name) = world_path own w.0
                 ∙ ((λ z. path_by own (Some (same z)) (some_id (first.packages h.home.0) (package_number w.0.«package») (second_true (text_eq (text_of w.0.name) name) _ w.2) z))
                 ∙ ap (option_map (λ package_. path_in (identity_of package_.name) name)) at) in
                 absurd (none_such (first.worlds x.number) w.0 w.1 (its_path ∙ ap Some (ap (λ d. path_in d name)

@@ -187,8 +187,7 @@ module _ (own other : Resolve) (f : Renumbering) (bound other_bound : ℕ) (vali
     new = world_type own valid_own bound is.own_world is.own_at x.0 x.1 held_x (f.types t) its_own
 
     same_declarations : declaration_of own new.def ≡ declaration_of other old.def
-    same_declarations =
-        sym (ap (λ o. (option_map_or (type_meaning own) o no_type).declaration) new.found)
+    same_declarations = sym (ap (λ o. (option_map_or (type_meaning own) o no_type).declaration) new.found)
         ∙ (same-some _ _ (sym (declared_is own x.1 (f.types t) its_own) ∙ (ap declared_so senses ∙ declared_is other e.1 t is_type))
         ∙ ap (λ o. (option_map_or (type_meaning other) o no_type).declaration) old.found)
 

@@ -100,8 +100,7 @@ module _ (f : Renumbering) where
       (λ d. holds s.number there c (s.under m) (id_stands f s old.1 there.1 stands m d))
 
   covers_added : (olds news : List WorldItem) (old new : WorldItem) → ItemBecomes f old new → Covers f olds news → Covers f (olds ++ old ∷ []) (news ++ new ∷ [])
-  covers_added olds news old new z covers s m e =
-      numbers_end s.number news new (s.under m)
+  covers_added olds news old new z covers s m e = numbers_end s.number news new (s.under m)
       ∙ either _ _ (sym (numbers_end s.number olds old m) ∙ e) (λ d. or_left _ _ (covers s m d)) (λ d. or_right _ _ (id_stands f s old new (becomes f old new z) m d))
 
   -- A test that is carried along item by item is carried along the list.
@@ -110,19 +109,16 @@ module _ (f : Renumbering) where
       → (olds news : List WorldItem) (xs ys : List (WorldKey × WorldItem)) → Joined f own xs ys → Holds own news → Covers f olds news → each_after t olds (items xs) ≡ true
       → (each_after u news (items ys) ≡ true) × Covers f (olds ++ items xs) (news ++ items ys)
   walk own t u one olds news _ _ none holds covers h = search std_rules
-  walk own t u one olds news _ _ (met old there xs ys c k i rest) holds covers h =
-      search (
-        std_rules,
-        covers_met,
-        second_true,
-        append_assoc,
-        walk own t u one (olds ++ old.1 ∷ []) news xs ys rest holds (covers_met olds news own old there c i holds covers)
-            (second_true (t olds old.1) _ h),
-      )
+  walk own t u one olds news _ _ (met old there xs ys c k i rest) holds covers h = search (
+    std_rules,
+    covers_met,
+    second_true,
+    append_assoc,
+    walk own t u one (olds ++ old.1 ∷ []) news xs ys rest holds (covers_met olds news own old there c i holds covers) (second_true (t olds old.1) _ h),
+  )
   walk own t u one olds news _ _ (added old new xs ys n z rest) holds covers h =
       let more = walk own t u one (olds ++ old.1 ∷ []) (news ++ new.1 ∷ []) xs ys rest
-      (λ h x c m e. numbers_left h news (new.1 ∷ []) m (holds h x c m e)) (covers_added olds news old.1 new.1 z.1 covers)
-      (second_true (t olds old.1) _ h) in (
+      (λ h x c m e. numbers_left h news (new.1 ∷ []) m (holds h x c m e)) (covers_added olds news old.1 new.1 z.1 covers) (second_true (t olds old.1) _ h) in (
         both _ _ (one olds news old new z covers (first_true _ _ h)) more.0,
         subst (λ (zs : List WorldItem). Covers f zs (news ++ (new.1 ∷ items ys))) (append_assoc olds (old.1 ∷ []) (items xs))
             (subst (λ (zs : List WorldItem). Covers f ((olds ++ old.1 ∷ []) ++ items xs) zs) (append_assoc news (new.1 ∷ []) (items ys)) more.1),
@@ -133,29 +129,24 @@ module _ (f : Renumbering) where
 module _ (r s : Resolve) (f : Renumbering) (valid : KeepsRules r) (is : IsCarried r s f) (below_s : Keeps references s) (w : ℕ) (carries : f.carries_world w ≡ true) where
   world_types : (p q : ℕ → Bool) → ((m : ℕ) → p m ≡ true → q (f.types m) ≡ true) → (used : List ℕ) → list_all f.carries_type used ≡ true → list_all p (filter (has_owner r (as_world w)) used) ≡ true
       → list_all q (filter (has_owner s (as_world (f.worlds w))) (map f.types used)) ≡ true
-  world_types p q one used c h =
-      all_filter q (has_owner s (as_world (f.worlds w))) (map f.types used)
+  world_types p q one used c h = all_filter q (has_owner s (as_world (f.worlds w))) (map f.types used)
       ∙ implied_all f.types f.carries_type (has_owner r (as_world w)) p (has_owner s (as_world (f.worlds w))) q
       (λ n d k. owner_back r s f valid is below_s (as_world w) n carries d k) one used c (sym (all_filter p (has_owner r (as_world w)) used) ∙ h)
 
   pub item_stands : (olds news : List WorldItem) (old new : WorldKey × WorldItem) → EntryBecomes f old new → Covers f olds news → uses_stand_before r w olds old.1 ≡ true
       → uses_stand_before s (f.worlds w) news new.1 ≡ true
-  item_stands olds news (k, item.Interface a st docs ext) (l, item.Interface b st2 docs2 ext2) z covers h =
-      both _ _
+  item_stands olds news (k, item.Interface a st docs ext) (l, item.Interface b st2 docs2 ext2) z covers h = both _ _
       (ap (λ x. list_all (has (filter_map item_interface news)) (direct_deps s x)) z.1.0
       ∙ deps_there r s f valid is below_s a.0 z.1.1 (has (filter_map item_interface news)) (has (filter_map item_interface olds)) (λ m c e. covers (interfaces_in f) m e) (first_true _ _ h)) refl
   item_stands olds news (k, item.Function g) (l, item.Function e) z covers h =
       let uses = function_uses r s f valid is below_s g e z.1 in
-      both _ _ refl
-      (ap (λ x. list_all (has (filter_map item_type news)) (filter (has_owner s (as_world (f.worlds w))) x)) uses.0
+      both _ _ refl (ap (λ x. list_all (has (filter_map item_type news)) (filter (has_owner s (as_world (f.worlds w))) x)) uses.0
       ∙ world_types (has (filter_map item_type olds)) (has (filter_map item_type news)) (covers (types_in f)) (used_by_function r g) uses.1 h)
   item_stands olds news (k, item.Type_ a) (l, item.Type_ b) z covers h =
       let uses = number_uses r s f valid is below_s a.0 z.1.1 in
       let from = interface_used_there r s f valid is below_s a.0 (is.copied_types a.0 z.1.1) in
-      both _ _
-      (ap (λ x. list_all (has (filter_map item_interface news)) (option_to_list (interface_used_by s x))) z.1.0
-      ∙ (ap (λ o. list_all (has (filter_map item_interface news)) (option_to_list o)) from.0
-      ∙ target (interface_used_by r a.0) (first_true _ _ h)))
+      both _ _ (ap (λ x. list_all (has (filter_map item_interface news)) (option_to_list (interface_used_by s x))) z.1.0
+      ∙ (ap (λ o. list_all (has (filter_map item_interface news)) (option_to_list o)) from.0 ∙ target (interface_used_by r a.0) (first_true _ _ h)))
       (ap (λ x. list_all (has (filter_map item_type news)) (filter (has_owner s (as_world (f.worlds w))) (used_by_number s x))) z.1.0
       ∙ (ap (λ x. list_all (has (filter_map item_type news)) (filter (has_owner s (as_world (f.worlds w))) x)) uses.0
       ∙ world_types (has (filter_map item_type olds)) (has (filter_map item_type news)) (covers (types_in f)) (used_by_number r a.0) uses.1
@@ -172,9 +163,7 @@ module _ (r s : Resolve) (f : Renumbering) (valid : KeepsRules r) (is : IsCarrie
 pub stands_still : (s : Resolve) (w : ℕ) (before more : List WorldItem) → ((h : WorldItem → Option ℕ) (m : ℕ) → has (filter_map h before) m ≡ true → has (filter_map h more) m ≡ true)
     → (xs : List WorldItem) → each_after (uses_stand_before s w) before xs ≡ true → each_after (uses_stand_before s w) more xs ≡ true
 stands_still s w before more all [] h = refl
-stands_still s w before more all (x ∷ xs) h =
-    both _ _
-    (both _ _ (all_weaker _ _ (all item_interface) (used_interfaces s x) (first_true _ _ now))
+stands_still s w before more all (x ∷ xs) h = both _ _ (both _ _ (all_weaker _ _ (all item_interface) (used_interfaces s x) (first_true _ _ now))
     (all_weaker _ _ (all item_type) (used_types s w x) (second_true (list_all (has (filter_map item_interface before)) (used_interfaces s x)) _ now)))
     (stands_still s w (before ++ x ∷ []) (more ++ x ∷ []) grown xs (second_true (uses_stand_before s w before x) _ h))
   where
@@ -193,10 +182,8 @@ module _ {X : Type 0} (g : X → ℕ) where
 
   pub one_sums : (xs : List X) (k : ℕ) (x : X) → slice_get xs k ≡ Some x → g x ≡ 1 → ((m : ℕ) (y : X) → slice_get xs m ≡ Some y → (m == k) ≡ false → g y ≡ 0) → sum_by g xs ≡ 1
   one_sums [] k x e one h = absurd cc
-  one_sums (z ∷ xs) zero x e one h =
-      sum_by-cons g z xs ∙ (λ i. (ap g (same-some z x e) ∙ one) i + none_sums xs (λ k y d. h (suc k) y d (unequal (suc k) 0 (λ s. omega (arith, s)))) i)
-  one_sums (z ∷ xs) (suc k) x e one h =
-      sum_by-cons g z xs
+  one_sums (z ∷ xs) zero x e one h = sum_by-cons g z xs ∙ (λ i. (ap g (same-some z x e) ∙ one) i + none_sums xs (λ k y d. h (suc k) y d (unequal (suc k) 0 (λ s. omega (arith, s)))) i)
+  one_sums (z ∷ xs) (suc k) x e one h = sum_by-cons g z xs
       ∙ (λ i. h 0 z refl (unequal 0 (suc k) (λ s. omega (arith, s))) i + one_sums xs k x e one (λ m y d n. h (suc m) y d (unequal (suc m) (suc k) (λ s. differ m k n (omega (arith, s))))) i)
 
   -- where the sum is one, one element is
@@ -299,8 +286,7 @@ module _ (f : Renumbering) (s : Numbered f) where
     same_times apart _ _ none = refl
     same_times apart _ _ (met old there olds news held k stands rest) =
         search (std_rules, met_is_other old.1 there held stands, counted_cons s.number m old.1 (items olds), same_times apart olds news rest)
-    same_times apart _ _ (added old new olds news key z rest) =
-        counted_cons s.number (s.under m) new.1 (items news)
+    same_times apart _ _ (added old new olds news key z rest) = counted_cons s.number (s.under m) new.1 (items news)
         ∙ ((λ i. cond ((ap (is_id (s.under m)) (s.stands old.1 new.1 (becomes f old.1 new.1 z.1)) ∙ same (s.number old.1) (s.marked old.1 new.1 z.1)) i) 1 0 + same_times apart olds news rest i)
         ∙ sym (counted_cons s.number m old.1 (items olds)))
       where

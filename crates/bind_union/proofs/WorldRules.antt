@@ -84,8 +84,7 @@ module _ (r s : Resolve) (f : Renumbering) (valid : KeepsRules r) (is : IsCarrie
         → passes (in_order r here (filter_map item_type olds)) (item_type old.1) ≡ true → passes (in_order s there (filter_map item_type news)) (item_type new.1) ≡ true
     item_in_order olds news (k, item.Type_ a) (l, item.Type_ b) z covers h =
         let uses = number_uses r s f valid is below_s a.0 z.1.1 in
-        ap (in_order s there (filter_map item_type news)) z.1.0
-        ∙ (ap (list_all (λ m. not (has there m) || has (filter_map item_type news) m)) uses.0
+        ap (in_order s there (filter_map item_type news)) z.1.0 ∙ (ap (list_all (λ m. not (has there m) || has (filter_map item_type news) m)) uses.0
         ∙ implied_all f.types f.carries_type (has here) (has (filter_map item_type olds)) (has there) (has (filter_map item_type news)) back (covers (types_in f)) (used_by_number r a.0) uses.1 h)
     item_in_order olds news (k, item.Interface a st docs ext) (l, item.Interface b st2 docs2 ext2) z covers h = refl
     item_in_order olds news (k, item.Function g) (l, item.Function e) z covers h = refl
@@ -93,11 +92,9 @@ module _ (r s : Resolve) (f : Renumbering) (valid : KeepsRules r) (is : IsCarrie
 
     pub types_in_order : (own olds news : List (WorldKey × WorldItem)) → Joined f own olds news → each_after (in_order r here) [] (filter_map item_type (items olds)) ≡ true
         → each_after (in_order s there) (filter_map item_type (items own)) (filter_map item_type (items news)) ≡ true
-    types_in_order own olds news j h =
-        sym (after_given (in_order s there) item_type (items own) (items news))
-        ∙ (walk f own (λ ys x. passes (in_order r here (filter_map item_type ys)) (item_type x)) (λ ys x. passes (in_order s there (filter_map item_type ys)) (item_type x))
-        item_in_order [] (items own)
-        olds news j (λ h. number_in h own) (λ h m e. no_true e) (after_given (in_order r here) item_type [] (items olds) ∙ h)).0
+    types_in_order own olds news j h = sym (after_given (in_order s there) item_type (items own) (items news))
+        ∙ (walk f own (λ ys x. passes (in_order r here (filter_map item_type ys)) (item_type x)) (λ ys x. passes (in_order s there (filter_map item_type ys)) (item_type x)) item_in_order []
+        (items own) olds news j (λ h. number_in h own) (λ h m e. no_true e) (after_given (in_order r here) item_type [] (items olds) ∙ h)).0
 
 module _ (r s : Resolve) (f : Renumbering) (valid : KeepsRules r) (is : IsCarried r s f) (below_s : Keeps references s) (n : ℕ) (own_imports own_exports : List (WorldKey × WorldItem)) (j : IsJoined r s f n own_imports own_exports) where
   abbrev number : ℕ
@@ -112,8 +109,7 @@ module _ (r s : Resolve) (f : Renumbering) (valid : KeepsRules r) (is : IsCarrie
   -- order of items
   pub world_order_passes : each_after (uses_stand_before s number) [] (items own_imports ++ items own_exports) ≡ true → order_of_items.world_ s number j.image ≡ true
   unfolding order_of_items
-  world_order_passes own =
-      (λ i. each_after (uses_stand_before s number) [] (items (j.imports i) ++ items (j.exports i)))
+  world_order_passes own = (λ i. each_after (uses_stand_before s number) [] (items (j.imports i) ++ items (j.exports i)))
       ∙ order_passes r s f valid is below_s n j.carries own_imports own_exports j.old.imports.entries j.old.exports.entries j.new_imports j.new_exports j.joined_imports j.joined_exports own
       (world-passes order_of_items r valid.order_of_items n j.old j.found)
 
@@ -133,14 +129,11 @@ module _ (r s : Resolve) (f : Renumbering) (valid : KeepsRules r) (is : IsCarrie
   entry_named x y z h = search (std_rules, both, named_of_there, first_true)
 
   all_named : list_all (is_named_of s (as_world number)) (filter_map item_type (items own_imports)) ≡ true → list_all (is_named_of s (as_world number)) numbers ≡ true
-  all_named own =
-      ap (list_all (is_named_of s (as_world number))) numbers_are
+  all_named own = ap (list_all (is_named_of s (as_world number))) numbers_are
       ∙ (list_all-append (is_named_of s (as_world number)) (filter_map item_type (items own_imports)) (filter_map item_type (items j.new_imports))
-      ∙ both _ _ own
-      (by_items item_type (is_named_of s (as_world number)) j.new_imports
+      ∙ both _ _ own (by_items item_type (is_named_of s (as_world number)) j.new_imports
       ∙ added_pass f own_imports (λ e. list_all (is_named_of r (as_world n)) (option_to_list (item_type e.1))) (λ e. list_all (is_named_of s (as_world number)) (option_to_list (item_type e.1)))
-      entry_named j.old.imports.entries j.new_imports j.joined_imports
-      (sym (by_items item_type (is_named_of r (as_world n)) j.old.imports.entries) ∙ first_true _ _ old_types)))
+      entry_named j.old.imports.entries j.new_imports j.joined_imports (sym (by_items item_type (is_named_of r (as_world n)) j.old.imports.entries) ∙ first_true _ _ old_types)))
 
   named_owned : (m : ℕ) → f.carries_type m ≡ true → is_named_of s (as_world number) (f.types m) ≡ true → has_owner s (as_world number) (f.types m) ≡ true
   named_owned m c h = search std_rules
@@ -152,9 +145,7 @@ module _ (r s : Resolve) (f : Renumbering) (valid : KeepsRules r) (is : IsCarrie
   pub world_types_pass : list_all (is_named_of s (as_world number)) (filter_map item_type (items own_imports)) ≡ true
       → each_after (in_order s numbers) [] (filter_map item_type (items own_imports)) ≡ true → order_of_types.world_ s number j.image ≡ true
   unfolding order_of_types
-  world_types_pass own order =
-      both _ _ (all_named own)
-      (ap (each_after (in_order s numbers) []) numbers_are
+  world_types_pass own order = both _ _ (all_named own) (ap (each_after (in_order s numbers) []) numbers_are
       ∙ (after_append (in_order s numbers) [] (filter_map item_type (items own_imports)) (filter_map item_type (items j.new_imports))
       ∙ both _ _ order (types_in_order r s f valid is below_s (world_type_numbers j.old) numbers (listed_back (all_named own)) own_imports j.old.imports.entries j.new_imports j.joined_imports
       (second_true (list_all (is_named_of r (as_world n)) (world_type_numbers j.old)) _ old_types))))

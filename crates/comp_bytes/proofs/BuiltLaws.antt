@@ -14,8 +14,7 @@ use Rattle.comp_bytes.proofs.PartsLaws.{alone, join, put_behind, put_behind-last
 
 pub sequence_append : {A : Type 0} (form : A → Spellings) (xs ys : List A) (bytes text : List ℕ) → Sequence form xs bytes → Sequence form ys text → Sequence form (xs ++ ys) (bytes ++ text)
 sequence_append form [] ys bytes text s t = rw s t
-sequence_append form (x ∷ xs) ys bytes text s t =
-    (s.0, s.1 ++ text, ap (λ (l : List ℕ). l ++ text) s.2 ∙ append_assoc s.0 s.1 text, s.3, sequence_append form xs ys s.1 text s.4 t)
+sequence_append form (x ∷ xs) ys bytes text s t = (s.0, s.1 ++ text, ap (λ (l : List ℕ). l ++ text) s.2 ∙ append_assoc s.0 s.1 text, s.3, sequence_append form xs ys s.1 text s.4 t)
 
 -- ---- the open section
 
@@ -107,9 +106,8 @@ next_of before sections g p done items count exports types grouped put ended beg
     record { sections = sections; group = g; built = record { grouped = b.grouped; ended = ended; begins = begins; spelled = spelled; held = held; slots = all }; shows = b.shows }
 
 -- a type that joins the open section
-join_type_of : (sections : List Section) (g : Group) (done items : List ℕ) (count : ℕ) (exports : Bool) (types : ℕ) (t : TopType) → exports ≡ false
-    → IsBuilt sections g done items count exports types → 0 < count → IsTopType t (top_type_bytes t)
-    → Next (sections ++ group_sections g) (Part.top_type t) done (items ++ top_type_bytes t) (count + 1) exports (types + 1)
+join_type_of : (sections : List Section) (g : Group) (done items : List ℕ) (count : ℕ) (exports : Bool) (types : ℕ) (t : TopType) → exports ≡ false → IsBuilt sections g done items count exports types
+    → 0 < count → IsTopType t (top_type_bytes t) → Next (sections ++ group_sections g) (Part.top_type t) done (items ++ top_type_bytes t) (count + 1) exports (types + 1)
 join_type_of sections (Group.of_types []) done items count exports types t e h some s = absurd (omega (arith, h.held.1.counted))
 join_type_of sections (Group.of_exports es) done items count exports types t e h some s = absurd (cc (e, h.held.0))
 join_type_of sections (Group.of_types (u ∷ us)) done items count exports types t e h some s =
@@ -133,8 +131,7 @@ join_export_of sections (Group.of_exports (u ∷ us)) done items count exports t
     (e, items_push IsTopExport top_export_bytes (u ∷ us) x count items h.held.1 s) (omega (arith, h.slots))
 
 pub join_export_at : (done items : List ℕ) (count : ℕ) (exports : Bool) (types : ℕ) (x : TopExport) → exports ≡ true → Builds done items count exports types → 0 < count
-    → IsTopExport x (top_export_bytes x)
-    → Grown done items count exports (Part.top_export x) done (items ++ top_export_bytes x) (count + 1) exports (types + 1)
+    → IsTopExport x (top_export_bytes x) → Grown done items count exports (Part.top_export x) done (items ++ top_export_bytes x) (count + 1) exports (types + 1)
 join_export_at done items count exports types x e h some s = search (std_rules, grown, join_export_of)
 
 -- a part that stands behind all sections, where no section is open
@@ -198,18 +195,14 @@ module _ (done items : List ℕ) (count : ℕ) (exports : Bool) (types : ℕ) (h
     -- a type that begins a section
     pub start_type : (t : TopType) (text : List ℕ) → StandsApart (Part.top_type t) → text ≡ top_type_bytes t → IsTopType t (top_type_bytes t)
         → Grown done items count exports (Part.top_type t) closed text 1 false (types + 1)
-    start_type t text apart is s =
-        grown _ _ _ _ _ _ _ _ _ _
-        (next_of all_sections all_sections (Group.of_types (t ∷ [])) (Part.top_type t) _ _ _ _ _ h.grouped apart (λ none. absurd cc) (ap begun closed_begins) (closed_spelled few small)
-        (refl, items_one IsTopType top_type_bytes t text is s) (omega (arith, h.slots)))
+    start_type t text apart is s = grown _ _ _ _ _ _ _ _ _ _ (next_of all_sections all_sections (Group.of_types (t ∷ [])) (Part.top_type t) _ _ _ _ _ h.grouped apart (λ none. absurd cc)
+        (ap begun closed_begins) (closed_spelled few small) (refl, items_one IsTopType top_type_bytes t text is s) (omega (arith, h.slots)))
 
     -- an export that begins a section
     pub start_export : (x : TopExport) (text : List ℕ) → StandsApart (Part.top_export x) → text ≡ top_export_bytes x → IsTopExport x (top_export_bytes x)
         → Grown done items count exports (Part.top_export x) closed text 1 true (types + 1)
-    start_export x text apart is s =
-        grown _ _ _ _ _ _ _ _ _ _
-        (next_of all_sections all_sections (Group.of_exports (x ∷ [])) (Part.top_export x) _ _ _ _ _ h.grouped apart (λ none. absurd cc) (ap begun closed_begins) (closed_spelled few small)
-        (refl, items_one IsTopExport top_export_bytes x text is s) (omega (arith, h.slots)))
+    start_export x text apart is s = grown _ _ _ _ _ _ _ _ _ _ (next_of all_sections all_sections (Group.of_exports (x ∷ [])) (Part.top_export x) _ _ _ _ _ h.grouped apart (λ none. absurd cc)
+        (ap begun closed_begins) (closed_spelled few small) (refl, items_one IsTopExport top_export_bytes x text is s) (omega (arith, h.slots)))
 
     -- a custom section
     pub add_custom : (name contents : List ℕ) → Name name (name_bytes name) → length (name_bytes name ++ contents) < 2 ^ 32
@@ -222,10 +215,9 @@ module _ (done items : List ℕ) (count : ℕ) (exports : Bool) (types : ℕ) (h
         (inner, (u32_bytes (length inner) ++ inner, refl, (u32_bytes (length inner), inner, refl, spells_u32 (length inner) short, refl)), (name_bytes name, contents, refl, named, refl)) in
         let joined : flat_map section_bytes (all_sections ++ last ∷ []) ≡ flat_map section_bytes all_sections ++ text =
         flat_map-append section_bytes all_sections (last ∷ []) ∙ ap (λ (l : List ℕ). flat_map section_bytes all_sections ++ l) (append-nil text) in
-        grown _ _ _ _ _ _ _ _ _ _
-        (next_of all_sections (all_sections ++ last ∷ []) (Group.of_types []) (Part.custom name contents) _ _ _ _ _ h.grouped
-        (custom_apart name contents ∙ sym (append-nil (all_sections ++ last ∷ [])))
-        (λ empty. Ended-custom all_sections name contents) (ap (λ (l : List ℕ). begun (l ++ text)) closed_begins ∙ ap (λ (l : List ℕ). preamble ++ l) (sym joined))
+        grown _ _ _ _ _ _ _ _ _ _ (next_of all_sections (all_sections ++ last ∷ []) (Group.of_types []) (Part.custom name contents) _ _ _ _ _ h.grouped
+        (custom_apart name contents ∙ sym (append-nil (all_sections ++ last ∷ []))) (λ empty. Ended-custom all_sections name contents)
+        (ap (λ (l : List ℕ). begun (l ++ text)) closed_begins ∙ ap (λ (l : List ℕ). preamble ++ l) (sym joined))
         (rw joined (sequence_push IsSection all_sections last (flat_map section_bytes all_sections) text (closed_spelled few small) spelled))
         (refl, record { counted = refl; spelled = refl; written = refl }) (omega (arith, h.slots)))
 

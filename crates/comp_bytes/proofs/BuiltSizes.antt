@@ -63,8 +63,7 @@ all_slots (s ∷ rest) = omega (arith, section_slots s, all_slots rest, top_slot
 
 -- too many type indexes
 slots_refused : (ps : List Part) → 2 ^ 32 ≤ top_slots ps → fits_component ps ≡ false
-slots_refused ps le =
-    long_sections ps (sections_of_parts ps) refl (omega (arith, all_slots (sections_of_parts ps), ap top_slots (parts_of-sections_of_parts ps)))
+slots_refused ps le = long_sections ps (sections_of_parts ps) refl (omega (arith, all_slots (sections_of_parts ps), ap top_slots (parts_of-sections_of_parts ps)))
 
 -- the items of the open section take type indexes
 group_slots : (sections : List Section) (g : Group) (done items : List ℕ) (count : ℕ) (exports : Bool) (types : ℕ) → IsBuilt sections g done items count exports types → count ≤ types
@@ -128,12 +127,10 @@ module _ (done items : List ℕ) (count : ℕ) (exports : Bool) (types : ℕ) (h
 
   pub custom_refused : (name contents : List ℕ) → 2 ^ 32 ≤ length (closed_bytes (section_id exports) count items ++ framed 0 (name_bytes name ++ contents))
       → fits_component (ps ++ Part.custom name contents ∷ []) ≡ false
-  custom_refused name contents le =
-      long_sections (ps ++ Part.custom name contents ∷ []) (all_sections done items count exports types h ++ Section.custom name contents ∷ [])
+  custom_refused name contents le = long_sections (ps ++ Part.custom name contents ∷ []) (all_sections done items count exports types h ++ Section.custom name contents ∷ [])
       (apart_longer (Part.custom name contents) (custom_apart done items count exports types h name contents))
       (omega (arith, both_longer (Part.custom name contents), length-append (closed_bytes (section_id exports) count items) (framed 0 (name_bytes name ++ contents))))
 
   -- the whole component is too long
   pub length_refused : (bytes : List ℕ) → bytes ≡ begun done ++ closed_bytes (section_id exports) count items → 2 ^ 32 ≤ length bytes → fits_component ps ≡ false
-  length_refused bytes is le =
-      too_long ps (rw h.grouped (rw (is ∙ closed_begins done items count exports types h) at le))
+  length_refused bytes is le = too_long ps (rw h.grouped (rw (is ∙ closed_begins done items count exports types h) at le))

@@ -40,8 +40,7 @@ primitive_so f make bytes x = search std_rules
 
 definition_so : {A : Type 0} (f : DefinedType → A) (tag : ℕ) (bytes : List ℕ) → choose (defined_type_forms f) tag bytes ≡ named_so f (defined_type_at tag bytes)
 unfolding choose defined_type_at primitive_beside
-definition_so f tag bytes =
-    one_form (eqb tag 0x72) f DefinedType.record_of (vector_at field_at) bytes _ _
+definition_so f tag bytes = one_form (eqb tag 0x72) f DefinedType.record_of (vector_at field_at) bytes _ _
     (one_form (eqb tag 0x71) f DefinedType.variant_of (vector_at case_at) bytes _ _
     (one_form (eqb tag 0x70) f DefinedType.list_of value_type_at bytes _ _
     (one_form (eqb tag 0x67) f (λ p. DefinedType.fixed_length_list_of p.0 p.1) (pair_at value_type_at u32_at) bytes _ _
@@ -50,8 +49,7 @@ definition_so f tag bytes =
     (one_form (eqb tag 0x6d) f DefinedType.enum_of (vector_at name_at) bytes _ _
     (one_form (eqb tag 0x6b) f DefinedType.option_of value_type_at bytes _ _
     (one_form (eqb tag 0x6a) f (λ p. DefinedType.result_of p.0 p.1) (pair_at (optional_at value_type_at) (optional_at value_type_at)) bytes _ _
-    (one_form (eqb tag 0x69) f DefinedType.own_of u32_at bytes _ _
-    (one_form (eqb tag 0x68) f DefinedType.borrow_of u32_at bytes _ _
+    (one_form (eqb tag 0x69) f DefinedType.own_of u32_at bytes _ _ (one_form (eqb tag 0x68) f DefinedType.borrow_of u32_at bytes _ _
     (one_form (eqb tag 0x66) f DefinedType.stream_of (optional_at value_type_at) bytes _ _
     (one_form (eqb tag 0x65) f DefinedType.future_of (optional_at value_type_at) bytes _ _
     (one_form (eqb tag 0x63) f (λ p. DefinedType.map_of p.0 p.1) (pair_at value_type_at value_type_at) bytes _ _

@@ -13,8 +13,7 @@ ends_there xs before front contents after end parts is =
     let from : end - length contents ≡ length (before ++ front) = omega (arith, is) in
     let long : end - (end - length contents) ≡ length contents = omega (arith, is) in
     let behind : drop (length (before ++ front)) xs ≡ contents ++ after = ap (drop (length (before ++ front))) parts ∙ drop-append_seam (before ++ front) (contents ++ after) in
-    ap (λ n. take n (drop (end - length contents) xs)) long
-    ∙ (ap (λ n. take (length contents) (drop n xs)) from ∙ (ap (take (length contents)) behind ∙ take_at contents after (length contents) refl))
+    ap (λ n. take n (drop (end - length contents) xs)) long ∙ (ap (λ n. take (length contents) (drop n xs)) from ∙ (ap (take (length contents)) behind ∙ take_at contents after (length contents) refl))
 
 -- the frame that stands at the offset: its contents are the end of it
 pub record Found (bytes : List ℕ) (at id : ℕ) (contents rest : List ℕ) : Type 0 where
@@ -35,8 +34,7 @@ found bytes at id contents rest le e = go (read_ok frame_law bytes at (id, conte
         let front = id ∷ counted.0 in
         let slice : slice_range bytes at end ≡ front ++ contents = spelled.1 ∙ ap (λ (t : List ℕ). id ∷ t) (counted.2 ∙ ap (λ (t : List ℕ). counted.0 ++ t) counted.4) in
         let split : bytes ≡ take at bytes ++ (slice_range bytes at end ++ drop end bytes) = sym (take-append-drop at bytes) ∙ ap (λ (t : List ℕ). take at bytes ++ t) (drop_split bytes at end from) in
-        let parts : bytes ≡ (take at bytes ++ front) ++ (contents ++ drop end bytes) =
-        split ∙ simp (slice, append_assoc) in
+        let parts : bytes ≡ (take at bytes ++ front) ++ (contents ++ drop end bytes) = split ∙ simp (slice, append_assoc) in
         let sliced : length (slice_range bytes at end) ≡ end - at = length-take-le (end - at) (drop at bytes)
         (let d = ap length (take-append-drop at bytes) in omega (arith, from, to, length-append (take at bytes) (drop at bytes), length-take-le at bytes le, d)) in
         let whole : end - at ≡ length front + length contents = sym sliced ∙ (ap length slice ∙ length-append front contents) in
@@ -58,8 +56,7 @@ custom_none contents none c (front, rest, parts, spelled, is) =
     no_some (c.0, rest) (sym none ∙ again)
 
 -- the frame in front, as the definition finds it
-pub front_found : (bytes : List ℕ) (id : ℕ) (contents rest : List ℕ) → frame_at bytes ≡ Some ((id, contents), rest)
-    → (front : List ℕ) × (bytes ≡ front ++ rest) × IsFrame (id, contents) front
+pub front_found : (bytes : List ℕ) (id : ℕ) (contents rest : List ℕ) → frame_at bytes ≡ Some ((id, contents), rest) → (front : List ℕ) × (bytes ≡ front ++ rest) × IsFrame (id, contents) front
 front_found bytes id contents rest e = let t = frame_law.takes bytes (id, contents) rest e in (t.front, t.parts, t.spelled)
 
 pub front_none : (bytes : List ℕ) → frame_at bytes ≡ None → (f : ℕ × List ℕ) (front rest : List ℕ) → bytes ≡ front ++ rest → IsFrame f front → ⊥

@@ -21,8 +21,7 @@ pub bytes_4 : (n : ℕ) → 1048576 ≤ n → n < 134217728 → type_index_bytes
 unfolding type_index_bytes
 bytes_4 n le lt = search std_rules
 
-pub bytes_5 : (n : ℕ) → 134217728 ≤ n → n < 2 ^ 32
-    → type_index_bytes n ≡ (n % 128 + 128) ∷ (n / 128 % 128 + 128) ∷ (n / 16384 % 128 + 128) ∷ (n / 2097152 % 128 + 128) ∷ (n / 268435456) ∷ []
+pub bytes_5 : (n : ℕ) → 134217728 ≤ n → n < 2 ^ 32 → type_index_bytes n ≡ (n % 128 + 128) ∷ (n / 128 % 128 + 128) ∷ (n / 16384 % 128 + 128) ∷ (n / 2097152 % 128 + 128) ∷ (n / 268435456) ∷ []
 unfolding type_index_bytes
 bytes_5 n le lt = search std_rules
 
@@ -42,11 +41,10 @@ record Positive (n : ℕ) (bytes : List ℕ) : Type 0 where
 spells : (room n : ℕ) → Below room n → Positive n (positive_bytes room n)
 spells zero n h = absurd h
 spells (suc zero) n h = rw (lt-ltb n 64 h) (record { number = (omega arith, refl); positive = h })
-spells (suc (suc room)) n h =
-    elim (cases_lt n 64) [
-      | inl lt ↦ rw (lt-ltb n 64 lt) (record { number = (omega arith, refl); positive = lt })
-      | inr le ↦ rw (le-ltb n 64 le) (behind (positive_bytes (suc room) (n / 128)) (spells (suc room) (n / 128) (h le)))
-    ]
+spells (suc (suc room)) n h = elim (cases_lt n 64) [
+  | inl lt ↦ rw (lt-ltb n 64 lt) (record { number = (omega arith, refl); positive = lt })
+  | inr le ↦ rw (le-ltb n 64 le) (behind (positive_bytes (suc room) (n / 128)) (spells (suc room) (n / 128) (h le)))
+]
   where
     behind : (bytes : List ℕ) → Positive (n / 128) bytes → Positive n ((n % 128 + 128) ∷ bytes)
     behind [] s = absurd s.number
@@ -72,10 +70,7 @@ no_shorter (suc room) n (b ∷ c ∷ bs) f s p =
     let high : s.1.0 ≡ n / 128 = omega arith in
     let rest : IsUnsigned (n / 128) (c ∷ bs) = subst (λ (m : ℕ). IsUnsigned m (c ∷ bs)) high s.1.2 in
     let fewer : length (positive_bytes room (n / 128)) ≤ length (c ∷ bs) = no_shorter room (n / 128) (c ∷ bs) f.1 rest p in
-    elim (cases_lt n 64) [
-      | inl lt ↦ rw (lt-ltb n 64 lt) (omega arith)
-      | inr le ↦ rw (le-ltb n 64 le) (omega (arith, fewer))
-    ]
+    elim (cases_lt n 64) [ inl lt ↦ rw (lt-ltb n 64 lt) (omega arith) | inr le ↦ rw (le-ltb n 64 le) (omega (arith, fewer)) ]
 
 pub shortest_index : ShortestIndex
 unfolding type_index_bytes

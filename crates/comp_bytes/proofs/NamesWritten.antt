@@ -20,9 +20,8 @@ module _ {X : Type 0} where
   three name old one two new r a b c = search (std_rules, both, behind, second_fails)
 
   -- 02, the text, the count of the attributes and the attributes
-  pub attributed : (given : List (ℕ × List ℕ)) (text : List ℕ) (n : ℕ) (part : Bool) (old tag named counted new : List ℕ) (r : Result X Error)
-      → 0 < n → n < 128 → n ≡ length given → tag ≡ old ++ 2 ∷ [] → Appended (Name text) (name_bytes text) tag named → counted ≡ named ++ n ∷ []
-      → Appends (Sequence Attribute given) (flat_map attribute_bytes given) part counted new r
+  pub attributed : (given : List (ℕ × List ℕ)) (text : List ℕ) (n : ℕ) (part : Bool) (old tag named counted new : List ℕ) (r : Result X Error) → 0 < n → n < 128 → n ≡ length given
+      → tag ≡ old ++ 2 ∷ [] → Appended (Name text) (name_bytes text) tag named → counted ≡ named ++ n ∷ [] → Appends (Sequence Attribute given) (flat_map attribute_bytes given) part counted new r
       → Appends (NameWith given text) (attributed_bytes given text) (fits_length text && part) old new r
   attributed [] text n part old tag named counted new r some small e t a c b = absurd (omega arith)
   attributed (first ∷ others) text n part old tag named counted new r some small e t a c b =

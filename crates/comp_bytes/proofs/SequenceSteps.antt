@@ -29,8 +29,7 @@ module _ {A : Type 0} (reader : Reader A) where
       (kept : with_front (map raw items) (sequence_at reader (n - i) rest) ≡ sequence_at reader n bytes) (more : i < n) where
     pub one_more : (x : X) (after : List ℕ) (new : List X) → reader rest ≡ Some (raw x, after) → new ≡ items ++ x ∷ []
         → with_front (map raw new) (sequence_at reader (n - (i + 1)) after) ≡ sequence_at reader n bytes
-    one_more x after new e grown =
-        ap (λ xs. with_front xs (sequence_at reader (n - (i + 1)) after)) (ap (map raw) grown ∙ map-append raw items (x ∷ []))
+    one_more x after new e grown = ap (λ xs. with_front xs (sequence_at reader (n - (i + 1)) after)) (ap (map raw) grown ∙ map-append raw items (x ∷ []))
         ∙ (sym (further (map raw items) (raw x) (sequence_at reader (n - (i + 1)) after))
         ∙ (ap (with_front (map raw items)) (sym (ap (λ k. sequence_at reader k rest) (less n i more) ∙ step (n - (i + 1)) rest (raw x) after e)) ∙ kept))
 

@@ -21,8 +21,7 @@ module _ {A : Type 0} (form : A → Spellings) (bytes : A → List ℕ) where
 
   -- the same, where the items are seen as forms
   pub next_of : {S : Type 0} (view : S → A) (xs : List S) (i : ℕ) (d : S) (old now new : List ℕ) → i < length xs
-      → Appended (Sequence form (take i (map view xs))) (flat_map bytes (take i (map view xs))) old now
-      → Appended (form (view (get_or xs i d))) (bytes (view (get_or xs i d))) now new
+      → Appended (Sequence form (take i (map view xs))) (flat_map bytes (take i (map view xs))) old now → Appended (form (view (get_or xs i d))) (bytes (view (get_or xs i d))) now new
       → Appended (Sequence form (take (i + 1) (map view xs))) (flat_map bytes (take (i + 1) (map view xs))) old new
   next_of view xs i d old now new lt a b =
       let within : i < length (map view xs) = omega (arith, length-map xs view) in

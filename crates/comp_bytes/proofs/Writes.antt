@@ -20,8 +20,7 @@ pub bytes_4 : (n : ℕ) → 2097152 ≤ n → n < 268435456 → u32_bytes n ≡ 
 unfolding u32_bytes
 bytes_4 n le lt = search std_rules
 
-pub bytes_5 : (n : ℕ) → 268435456 ≤ n → n < 2 ^ 32
-    → u32_bytes n ≡ (n % 128 + 128) ∷ (n / 128 % 128 + 128) ∷ (n / 16384 % 128 + 128) ∷ (n / 2097152 % 128 + 128) ∷ (n / 268435456) ∷ []
+pub bytes_5 : (n : ℕ) → 268435456 ≤ n → n < 2 ^ 32 → u32_bytes n ≡ (n % 128 + 128) ∷ (n / 128 % 128 + 128) ∷ (n / 16384 % 128 + 128) ∷ (n / 2097152 % 128 + 128) ∷ (n / 268435456) ∷ []
 unfolding u32_bytes
 bytes_5 n le lt = search std_rules
 
@@ -37,10 +36,7 @@ spells : (room n : ℕ) → Below room n → IsUnsigned n (unsigned_bytes room n
 spells zero n h = absurd h
 spells (suc zero) n h = rw (lt-ltb n 128 h) (h, refl)
 spells (suc (suc room)) n h =
-    elim (cases_lt n 128) [
-      | inl lt ↦ rw (lt-ltb n 128 lt) (lt, refl)
-      | inr le ↦ rw (le-ltb n 128 le) (behind (unsigned_bytes (suc room) (n / 128)) (spells (suc room) (n / 128) (h le)))
-    ]
+    elim (cases_lt n 128) [ inl lt ↦ rw (lt-ltb n 128 lt) (lt, refl) | inr le ↦ rw (le-ltb n 128 le) (behind (unsigned_bytes (suc room) (n / 128)) (spells (suc room) (n / 128) (h le))) ]
   where
     behind : (bytes : List ℕ) → IsUnsigned (n / 128) bytes → IsUnsigned n ((n % 128 + 128) ∷ bytes)
     behind [] s = absurd s
@@ -64,10 +60,7 @@ no_shorter (suc room) n (b ∷ c ∷ bs) f s =
     let high : s.1.0 ≡ n / 128 = omega arith in
     let rest : IsUnsigned (n / 128) (c ∷ bs) = subst (λ (m : ℕ). IsUnsigned m (c ∷ bs)) high s.1.2 in
     let fewer : length (unsigned_bytes room (n / 128)) ≤ length (c ∷ bs) = no_shorter room (n / 128) (c ∷ bs) f.1 rest in
-    elim (cases_lt n 128) [
-      | inl lt ↦ rw (lt-ltb n 128 lt) (omega arith)
-      | inr le ↦ rw (le-ltb n 128 le) (omega (arith, fewer))
-    ]
+    elim (cases_lt n 128) [ inl lt ↦ rw (lt-ltb n 128 lt) (omega arith) | inr le ↦ rw (le-ltb n 128 le) (omega (arith, fewer)) ]
 
 pub shortest_number : ShortestNumber
 unfolding u32_bytes

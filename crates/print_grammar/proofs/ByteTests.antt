@@ -16,13 +16,12 @@ first_part p x y h = search std_rules
 -- what the bytes of all parts pass, each byte passes or is the one at which they were cut
 pub parts_pass : (p : ℕ → Bool) (c : ℕ) (text : List ℕ) → list_all (list_all p) (slice_split (λ b. b == c) text) ≡ true → list_all (λ b. p b || (b == c)) text ≡ true
 parts_pass p c [] h = refl
-parts_pass p c (x ∷ xs) h =
-    elim (cases_Bool (x == c)) [
-      | inl cut ↦
-          let e = ap (list_all (list_all p)) (slice_split-cons_yes (λ b. b == c) x xs cut) in
-          both _ _ (or_right (p x) _ cut) (parts_pass p c xs (sym e ∙ h))
-      | inr other ↦
-          let e = ap (list_all (list_all p)) (slice_split-cons_no (λ b. b == c) x xs other) in
-          let f = first_part p x (slice_split (λ b. b == c) xs) (sym e ∙ h) in
-          both _ _ (or_left (p x) _ f.0) (parts_pass p c xs f.1)
-    ]
+parts_pass p c (x ∷ xs) h = elim (cases_Bool (x == c)) [
+  | inl cut ↦
+      let e = ap (list_all (list_all p)) (slice_split-cons_yes (λ b. b == c) x xs cut) in
+      both _ _ (or_right (p x) _ cut) (parts_pass p c xs (sym e ∙ h))
+  | inr other ↦
+      let e = ap (list_all (list_all p)) (slice_split-cons_no (λ b. b == c) x xs other) in
+      let f = first_part p x (slice_split (λ b. b == c) xs) (sym e ∙ h) in
+      both _ _ (or_left (p x) _ f.0) (parts_pass p c xs f.1)
+]

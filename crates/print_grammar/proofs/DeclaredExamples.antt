@@ -22,13 +22,11 @@ declared_text = codes "package a:b;" ++ (10 ∷ 10 ∷ (codes "interface i {"
     ++ (10 ∷ (codes "  resource r {" ++ (10 ∷ (codes "    constructor(x: u8);"
     ++ (10 ∷ (codes "    m: func();" ++ (10 ∷ (codes "    s: static async func() -> r;"
     ++ (10 ∷ (codes "  }" ++ (10 ∷ 10 ∷ (codes "  variant v {" ++ (10 ∷ (codes "    a,"
-    ++ (10 ∷ (codes "    b(r)," ++ (10 ∷ (codes "  }" ++ (10 ∷ 10 ∷ (codes "  flags f {"
-    ++ (10 ∷ (codes "    c," ++ (10 ∷ (codes "  }" ++ (10 ∷ 10 ∷ (codes "  enum e {"
+    ++ (10 ∷ (codes "    b(r)," ++ (10 ∷ (codes "  }" ++ (10 ∷ 10 ∷ (codes "  flags f {" ++ (10 ∷ (codes "    c," ++ (10 ∷ (codes "  }" ++ (10 ∷ 10 ∷ (codes "  enum e {"
     ++ (10 ∷ (codes "    d," ++ (10 ∷ (codes "  }" ++ (10 ∷ 10 ∷ (codes "  type t = own<r>;" ++ (10 ∷ (codes "}" ++ (10 ∷ 10 ∷ [])))))))))))))))))))))))))))))))))))))
 
 abbrev declared_tokens : List Token
-declared_tokens =
-    Key Package ∷ Word (codes "a") ∷ Punctuation Colon ∷ Word (codes "b") ∷ Punctuation Semi ∷ Key Interface ∷ Word (codes "i") ∷ Punctuation OpenBrace ∷ Key Resource ∷ Word (codes "r")
+declared_tokens = Key Package ∷ Word (codes "a") ∷ Punctuation Colon ∷ Word (codes "b") ∷ Punctuation Semi ∷ Key Interface ∷ Word (codes "i") ∷ Punctuation OpenBrace ∷ Key Resource ∷ Word (codes "r")
     ∷ Punctuation OpenBrace ∷ Key Keyword.Constructor ∷ Punctuation OpenParen ∷ Word (codes "x") ∷ Punctuation Colon ∷ Key (PrimitiveWord U8) ∷ Punctuation CloseParen ∷ Punctuation Semi
     ∷ Word (codes "m") ∷ Punctuation Colon ∷ Key Func ∷ Punctuation OpenParen ∷ Punctuation CloseParen ∷ Punctuation Semi ∷ Word (codes "s") ∷ Punctuation Colon ∷ Key Keyword.Static ∷ Key Async
     ∷ Key Func ∷ Punctuation OpenParen ∷ Punctuation CloseParen ∷ Punctuation Arrow ∷ Word (codes "r") ∷ Punctuation Semi ∷ Punctuation CloseBrace ∷ Key Variant ∷ Word (codes "v")
@@ -44,14 +42,11 @@ abbrev declared : FileTree
 declared = record {
   main = record {
     head = record { docs = []; namespace = codes "a"; name = codes "b"; version = None };
-    items = InterfaceItem [] Ungated (codes "i")
-        (TypeMember bare (ResourceOf (codes "r")
-        (ResourceMember.Constructor bare (record { name = codes "x"; ty = PrimitiveType U8 } ∷ []) None
-        ∷ ResourceMember.Method bare (codes "m") no_parameters
+    items = InterfaceItem [] Ungated (codes "i") (TypeMember bare (ResourceOf (codes "r")
+        (ResourceMember.Constructor bare (record { name = codes "x"; ty = PrimitiveType U8 } ∷ []) None ∷ ResourceMember.Method bare (codes "m") no_parameters
         ∷ ResourceMember.Static bare (codes "s") (record { is_async = true; params = []; result = Some (Name (codes "r")) }) ∷ []))
         ∷ TypeMember bare (VariantOf (codes "v") (record { docs = []; name = codes "a"; payload = None } ∷ record { docs = []; name = codes "b"; payload = Some (Name (codes "r")) } ∷ []))
-        ∷ TypeMember bare (FlagsOf (codes "f") (record { docs = []; name = codes "c" } ∷ []))
-        ∷ TypeMember bare (EnumOf (codes "e") (record { docs = []; name = codes "d" } ∷ []))
+        ∷ TypeMember bare (FlagsOf (codes "f") (record { docs = []; name = codes "c" } ∷ [])) ∷ TypeMember bare (EnumOf (codes "e") (record { docs = []; name = codes "d" } ∷ []))
         ∷ TypeMember bare (AliasOf (codes "t") (Own (codes "r"))) ∷ []) ∷ [];
   };
   nested = [];
@@ -61,19 +56,14 @@ pub declared-reading : IsReading declared_text declared
 declared-reading = record {
   tokens = declared_tokens;
   spelled = declared-tokens;
-  parsed = file (head plain plain no_version)
-      (next_item (interface_item no_gates plain
-      (again (member_type (prefix no_gates no_external_id)
-      (resource_with plain
-      (again (constructor_ (prefix no_gates no_external_id) (params (last (param plain primitive))) no_result)
-      (again (method (prefix no_gates no_external_id) plain (func no_params no_result))
-      (again (static (prefix no_gates no_external_id) plain (async_func no_params (with_result named))) closed)))))
+  parsed = file (head plain plain no_version) (next_item (interface_item no_gates
+      plain (again (member_type (prefix no_gates no_external_id) (resource_with
+      plain (again (constructor_ (prefix no_gates no_external_id) (params (last (param plain primitive))) no_result)
+      (again (method (prefix no_gates no_external_id) plain (func no_params no_result)) (again (static (prefix no_gates no_external_id) plain (async_func no_params (with_result named))) closed)))))
       (again (member_type (prefix no_gates no_external_id) (variant plain (next (case_alone plain) (last_with_comma (case_of plain named)))))
       (again (member_type (prefix no_gates no_external_id) (flags plain (last_with_comma (label plain))))
-      (again (member_type (prefix no_gates no_external_id) (enum plain (last_with_comma (label plain))))
-      (again (member_type (prefix no_gates no_external_id) (alias plain (own plain))) closed))))))
-      no_items)
-      nested_end;
+      (again (member_type (prefix no_gates no_external_id) (enum plain (last_with_comma (label plain)))) (again (member_type (prefix no_gates no_external_id) (alias plain (own plain))) closed))))))
+      no_items) nested_end;
 }
 
 pub declared-text : render (file_calls true declared) ≡ declared_text

@@ -55,8 +55,7 @@ comma_line f = record { follows = record { at = λ level. mark Comma refl (line_
 
 -- a word, a name and a block
 pub block_reads : {word : List ℕ} (k : WordKey) (name : List ℕ) (of_kind : TypeKind) (body more : List OutputCall) {P Q : List Token → Type 0} → begins_with_letter word ≡ true
-    → spelled word ≡ Some (Key k) → is_label name ≡ true
-    → Printed true (body ++ (IndentEnd ∷ more)) P → ((tokens : List Token) → P tokens → Q (Key k ∷ id_token name ∷ Punctuation OpenBrace ∷ tokens))
+    → spelled word ≡ Some (Key k) → is_label name ≡ true → Printed true (body ++ (IndentEnd ∷ more)) P → ((tokens : List Token) → P tokens → Q (Key k ∷ id_token name ∷ Punctuation OpenBrace ∷ tokens))
     → Printed true (block_calls word name of_kind body ++ more) Q
 block_reads {word} k name of_kind body more letter s h inside make = relist (
   _,
@@ -167,8 +166,7 @@ module _ (emits_docs : Bool) where
   DeclaredIs declared after before = ReadsDeclared before (bare_declared type_as_read declared) after
 
   resource_reads : (name : List ℕ) (members : List ResourceMember) → is_label name ≡ true → list_all is_well_resource_member members ≡ true → (more : List OutputCall) (ts : List Token)
-      → Follows true more ts
-      → Printed true (declared_calls emits_docs (ResourceOf name members) ++ more) (DeclaredIs (ResourceOf name members) ts)
+      → Follows true more ts → Printed true (declared_calls emits_docs (ResourceOf name members) ++ more) (DeclaredIs (ResourceOf name members) ts)
   resource_reads name [] h g more ts f = (
     Key WordKey.Resource ∷ id_token name ∷ Punctuation Semi ∷ ts,
     line_begins (Ty (codes "resource") kind.BuiltIn) refl (word_call (Key WordKey.Resource) by_type refl refl (λ level. refl)
@@ -187,22 +185,14 @@ module _ (emits_docs : Bool) where
   -- What is printed of a declared type is read as it.
   pub declared_reads : (d : Declared) → is_well_declared d ≡ true → (more : List OutputCall) (ts : List Token) → Follows true more ts
       → Printed true (declared_calls emits_docs d ++ more) (DeclaredIs d ts)
-  declared_reads (RecordOf name fields) h more ts f =
-      block_reads WordKey.Record name kind.Record (flat_map (field_calls emits_docs) fields) more refl refl (left_of _ _ h)
-      (lines_read (field_calls emits_docs) is_well_field (bare_field type_as_read) ReadsField field_reads fields (right_of (is_label name) _ h) f)
-      (λ b r. ReadsDeclared.record_ (id_is name) r)
-  declared_reads (VariantOf name cases) h more ts f =
-      block_reads WordKey.Variant name kind.Variant (flat_map (case_calls emits_docs) cases) more refl refl (left_of _ _ h)
-      (lines_read (case_calls emits_docs) is_well_case (bare_case type_as_read) ReadsCase case_reads cases (right_of (is_label name) _ h) f)
-      (λ b r. ReadsDeclared.variant (id_is name) r)
-  declared_reads (FlagsOf name flags) h more ts f =
-      block_reads WordKey.Flags name kind.Flags (flat_map (label_calls emits_docs) flags) more refl refl (left_of _ _ h)
-      (lines_read (label_calls emits_docs) is_well_label (bare_label type_as_read) ReadsLabel label_reads flags (right_of (is_label name) _ h) f)
-      (λ b r. ReadsDeclared.flags (id_is name) r)
-  declared_reads (EnumOf name cases) h more ts f =
-      block_reads WordKey.Enum name kind.Enum (flat_map (label_calls emits_docs) cases) more refl refl (left_of _ _ h)
-      (lines_read (label_calls emits_docs) is_well_label (bare_label type_as_read) ReadsLabel label_reads cases (right_of (is_label name) _ h) f)
-      (λ b r. ReadsDeclared.enum (id_is name) r)
+  declared_reads (RecordOf name fields) h more ts f = block_reads WordKey.Record name kind.Record (flat_map (field_calls emits_docs) fields) more refl refl (left_of _ _ h)
+      (lines_read (field_calls emits_docs) is_well_field (bare_field type_as_read) ReadsField field_reads fields (right_of (is_label name) _ h) f) (λ b r. ReadsDeclared.record_ (id_is name) r)
+  declared_reads (VariantOf name cases) h more ts f = block_reads WordKey.Variant name kind.Variant (flat_map (case_calls emits_docs) cases) more refl refl (left_of _ _ h)
+      (lines_read (case_calls emits_docs) is_well_case (bare_case type_as_read) ReadsCase case_reads cases (right_of (is_label name) _ h) f) (λ b r. ReadsDeclared.variant (id_is name) r)
+  declared_reads (FlagsOf name flags) h more ts f = block_reads WordKey.Flags name kind.Flags (flat_map (label_calls emits_docs) flags) more refl refl (left_of _ _ h)
+      (lines_read (label_calls emits_docs) is_well_label (bare_label type_as_read) ReadsLabel label_reads flags (right_of (is_label name) _ h) f) (λ b r. ReadsDeclared.flags (id_is name) r)
+  declared_reads (EnumOf name cases) h more ts f = block_reads WordKey.Enum name kind.Enum (flat_map (label_calls emits_docs) cases) more refl refl (left_of _ _ h)
+      (lines_read (label_calls emits_docs) is_well_label (bare_label type_as_read) ReadsLabel label_reads cases (right_of (is_label name) _ h) f) (λ b r. ReadsDeclared.enum (id_is name) r)
   declared_reads (AliasOf name ty) h more ts f =
       let i = alias_body_reads ty (right_of (is_label name) _ h) (semicolon_call f) in
       relist (

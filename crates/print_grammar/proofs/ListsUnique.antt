@@ -30,8 +30,7 @@ never_listed : {X : Type 0} {Reads : List Token → X → List Token → Type 0}
 never_listed never x = search std_rules
 
 pub listed-unique : {X : Type 0} {Reads : List Token → X → List Token → Type 0} {close : Token} → UniqueBefore Reads → ((ts : List Token) → stops (close ∷ ts) ≡ true) → (close ≡ Punctuation Comma → ⊥)
-    → Never Reads close
-    → {before after rest : List Token} {xs ys : List X} → Listed Reads close before xs after → Listed Reads close before ys rest → Same xs ys after rest
+    → Never Reads close → {before after rest : List Token} {xs ys : List X} → Listed Reads close before xs after → Listed Reads close before ys rest → Same xs ys after rest
 listed-unique one stop other never (last a) (last b) = let h = one _ _ _ _ _ (stop _) (stop _) a b in (ap (λ x. x ∷ []) h.0, tail_same h.1)
 listed-unique one stop other never (last a) (last_with_comma b) = let h = one _ _ _ _ _ (stop _) refl a b in absurd (other (head_same h.1))
 listed-unique one stop other never (last a) (next b m) = let h = one _ _ _ _ _ (stop _) refl a b in absurd (other (head_same h.1))

@@ -42,8 +42,7 @@ module _ (emits_docs : Bool) where
 
   -- a use, with what stands in front of it
   pub whole_use_reads : (prefix : Prefix) (path : PathTree) (names : List UsedName) → (is_well_prefix prefix && is_well_use path names) ≡ true → (more : List OutputCall) (ts : List Token)
-      → Follows true more ts
-      → Printed true (use_calls emits_docs prefix path names ++ more) (Prefixed prefix (λ between. ReadsUse between path names ts))
+      → Follows true more ts → Printed true (use_calls emits_docs prefix path names ++ more) (Prefixed prefix (λ between. ReadsUse between path names ts))
   whole_use_reads prefix path names h more ts f =
       let i = use_reads path names (right_of (is_well_prefix prefix) _ h) f in
       with_prefix prefix (Keyword (codes "use") ∷ _) more (left_of _ _ h) (i.0, line_begins (Keyword (codes "use")) refl i.1, i.2)

@@ -21,8 +21,7 @@ use Rattle.print_output.specs.declared.type_kind.TypeKind.TheVariants as kind
 abbrev pub EndsVersion : List OutputCall → Type 0
 EndsVersion calls = (level : ℕ) → ends_version (text_of false level calls) ≡ true
 
-pub version_reads : (version : Option (List ℕ)) (of_kind : TypeKind) → passes is_version_text version ≡ true → {more : List OutputCall} {ts : List Token} → Follows false more ts
-    → EndsVersion more
+pub version_reads : (version : Option (List ℕ)) (of_kind : TypeKind) → passes is_version_text version ≡ true → {more : List OutputCall} {ts : List Token} → Follows false more ts → EndsVersion more
     → Printed false (version_calls version of_kind ++ more) (λ before. ReadsVersion before version ts)
 version_reads None of_kind h {ts = ts} f ends = (ts, f, ReadsVersion.no_version)
 version_reads (Some version) of_kind h {more} {ts} f ends =
@@ -49,8 +48,7 @@ path_reads (Full namespace name interface version) h {more} f word ends =
     let inside = right_of (is_label name) _ named in
     let v = version_reads version kind.VersionPath (right_of (is_label interface) _ inside) f ends in (
       id_token namespace ∷ Punctuation Colon ∷ id_token name ∷ Punctuation Slash ∷ id_token interface ∷ v.0,
-      colon_id_call namespace kind.NamespacePath (left_of _ _ h)
-          (id_call name by_type (left_of _ _ named) (λ level. refl)
+      colon_id_call namespace kind.NamespacePath (left_of _ _ h) (id_call name by_type (left_of _ _ named) (λ level. refl)
           (slash_call interface kind.InterfacePath (left_of _ _ inside) (version_ends_word version kind.VersionPath more word) v.1)),
       ReadsPath.full (id_is namespace) (id_is name) (id_is interface) v.2,
     )
@@ -61,13 +59,11 @@ used_reads : (used : UsedName) → is_well_used used ≡ true → (more : List O
     → Printed false (used_name_calls used ++ more) (λ before. ReadsUsedName before used ts)
 used_reads used h more ts e = go used.own (right_of (is_label used.other) _ h)
   where
-    go : (own : Option (List ℕ)) → passes is_label own ≡ true
-        → Printed false (own_name_calls used.other own ++ more) (λ before. ReadsUsedName before (record { other = used.other; own = own }) ts)
+    go : (own : Option (List ℕ)) → passes is_label own ≡ true → Printed false (own_name_calls used.other own ++ more) (λ before. ReadsUsedName before (record { other = used.other; own = own }) ts)
     go None g = (id_token used.other ∷ ts, id_call used.other by_type (left_of _ _ h) e.word e.follows, ReadsUsedName.same_name (id_is used.other))
     go (Some own) g = (
       id_token used.other ∷ Key As ∷ id_token own ∷ ts,
-      id_call used.other by_type (left_of _ _ h) (λ level. refl)
-          (space_before (word_call (Key As) by_keyword refl refl (λ level. refl) (space_before (id_call own by_type g e.word e.follows)))),
+      id_call used.other by_type (left_of _ _ h) (λ level. refl) (space_before (word_call (Key As) by_keyword refl refl (λ level. refl) (space_before (id_call own by_type g e.word e.follows)))),
       ReadsUsedName.other_name (id_is used.other) (id_is own),
     )
 

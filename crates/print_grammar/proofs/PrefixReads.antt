@@ -60,16 +60,12 @@ code_reads (suc k) n rest h = elim (cases_Bool (n / 16 == 0)) [
       let small : n % 16 < 16 = omega arith in
       let same : 16 * (n / 16) + n % 16 ≡ n = omega arith in
       rw high (code_reads k (n / 16) (digit_glyph false (n % 16) ∷ rest) below
-      ∙ (goes_step (InCode (n / 16)) (digit_glyph false (n % 16)) rest (InCode (16 * (n / 16) + n % 16)) (next_digit (n / 16) (n % 16) small)
-      ∙ ap (λ m. string_characters (InCode m) rest) same))
+      ∙ (goes_step (InCode (n / 16)) (digit_glyph false (n % 16)) rest (InCode (16 * (n / 16) + n % 16)) (next_digit (n / 16) (n % 16) small) ∙ ap (λ m. string_characters (InCode m) rest) same))
 ]
 
 onto_more : (k n : ℕ) (front rest : List ℕ) → digits_onto k 16 false n front ++ rest ≡ digits_onto k 16 false n (front ++ rest)
 onto_more zero n front rest = refl
-onto_more (suc k) n front rest = elim (cases_Bool (n / 16 == 0)) [
-  | inl low ↦ rw low refl
-  | inr high ↦ rw high (onto_more k (n / 16) (digit_glyph false (n % 16) ∷ front) rest)
-]
+onto_more (suc k) n front rest = elim (cases_Bool (n / 16 == 0)) [ inl low ↦ rw low refl | inr high ↦ rw high (onto_more k (n / 16) (digit_glyph false (n % 16) ∷ front) rest) ]
 
 code_ends : (c : ℕ) (rest : List ℕ) → scalar c ≡ true → string_characters (InCode c) (125 ∷ rest) ≡ option_map (λ xs. c ∷ xs) (string_characters Between rest)
 code_ends c rest h = reads_step (InCode c) 125 rest c (rw h refl)
@@ -79,8 +75,7 @@ fits_digits c h = let e : c < 2 ^ 32 = scalar_fits c h in omega arith
 
 character_code : (c : ℕ) (rest : List ℕ) → scalar c ≡ true → string_characters AfterBrace (digits 16 false c ++ (125 ∷ rest)) ≡ option_map (λ xs. c ∷ xs) (string_characters Between rest)
 unfolding digits
-character_code c rest h =
-    ap (string_characters AfterBrace) (onto_more 64 c [] (125 ∷ rest)) ∙ (code_reads 63 c (125 ∷ rest) (fits_digits c h) ∙ code_ends c rest h)
+character_code c rest h = ap (string_characters AfterBrace) (onto_more 64 c [] (125 ∷ rest)) ∙ (code_reads 63 c (125 ∷ rest) (fits_digits c h) ∙ code_ends c rest h)
 
 -- ---- characters
 
@@ -102,11 +97,9 @@ no_map x = search std_rules
 
 pub characters_read : (cs rest : List ℕ) → list_all scalar cs ≡ true → string_characters Between (flat_map escaped_character cs ++ rest) ≡ option_map (λ xs. cs ++ xs) (string_characters Between rest)
 characters_read [] rest h = no_map (string_characters Between rest)
-characters_read (c ∷ cs) rest h =
-    ap (string_characters Between) (append_assoc (escaped_character c) (flat_map escaped_character cs) rest)
+characters_read (c ∷ cs) rest h = ap (string_characters Between) (append_assoc (escaped_character c) (flat_map escaped_character cs) rest)
     ∙ (character_reads c (flat_map escaped_character cs ++ rest) (left_of _ _ h)
-    ∙ (ap (λ o. option_map (λ xs. c ∷ xs) o) (characters_read cs rest (right_of (scalar c) _ h))
-    ∙ both_maps c cs (string_characters Between rest)))
+    ∙ (ap (λ o. option_map (λ xs. c ∷ xs) o) (characters_read cs rest (right_of (scalar c) _ h)) ∙ both_maps c cs (string_characters Between rest)))
 
 -- ---- the token
 
@@ -125,8 +118,7 @@ quoted_ends cs x h = search (std_rules, ends_by, three_parts, characters_read)
 
 -- The escaped characters of a string between quotation marks are one token.
 pub quoted_at : (cs rest : List ℕ) {ts : List Token} → list_all scalar cs ≡ true → Tokens rest ts → Tokens (34 ∷ (body cs ++ (34 ∷ rest))) (Quoted cs ∷ ts)
-quoted_at cs rest {ts} h more =
-    subst (λ x. Tokens (34 ∷ x) (Quoted cs ∷ ts)) (append_assoc (body cs) (34 ∷ []) rest)
+quoted_at cs rest {ts} h more = subst (λ x. Tokens (34 ∷ x) (Quoted cs ∷ ts)) (append_assoc (body cs) (34 ∷ []) rest)
     (token_at 34 (body cs ++ (34 ∷ [])) rest (Quoted cs) refl refl (quoted_whole cs h) (quoted_ends cs rest h) more)
 
 -- ---- documentation
@@ -137,8 +129,7 @@ comment_ends (c ∷ cs) rest h = rw (not_true (c == 10) (left_of _ _ h)) (commen
 
 doc_skipped : (line rest : List ℕ) {ts : List Token} → is_one_line line ≡ true → Tokens rest ts → Tokens (doc_text line ++ rest) ts
 doc_skipped [] rest h more = skip refl (line_feed more)
-doc_skipped (c ∷ cs) rest h more =
-    skip (ap Skipped (ap after_comment (append_assoc (47 ∷ 32 ∷ c ∷ cs) (10 ∷ []) rest) ∙ comment_ends (c ∷ cs) rest h)) (line_feed more)
+doc_skipped (c ∷ cs) rest h more = skip (ap Skipped (ap after_comment (append_assoc (47 ∷ 32 ∷ c ∷ cs) (10 ∷ []) rest) ∙ comment_ends (c ∷ cs) rest h)) (line_feed more)
 
 -- Documentation is no token.
 pub docs_read : (emits_docs : Bool) (docs : List (List ℕ)) → list_all is_one_line docs ≡ true → {more : List OutputCall} {ts : List Token} → Follows true more ts
@@ -162,8 +153,7 @@ argument_call : (version : List ℕ) {more : List OutputCall} {ts : List Token} 
     → Follows false (Str (codes "(") ∷ Keyword (codes "version") ∷ Str (codes " = ") ∷ Ty version kind.VersionAnnotation ∷ Str (codes ")") ∷ Newline ∷ more)
     (Punctuation OpenParen ∷ Word (codes "version") ∷ Punctuation Equals ∷ VersionText version ∷ Punctuation CloseParen ∷ ts)
 argument_call version {more} h f = record {
-  at = λ level.
-      mark OpenParen refl (word_at (codes "version") (32 ∷ 61 ∷ 32 ∷ (version ++ (41 ∷ 10 ∷ text_of true level more))) (Word (codes "version")) refl refl refl
+  at = λ level. mark OpenParen refl (word_at (codes "version") (32 ∷ 61 ∷ 32 ∷ (version ++ (41 ∷ 10 ∷ text_of true level more))) (Word (codes "version")) refl refl refl
       (space (mark Equals refl (space (version_at version (41 ∷ 10 ∷ text_of true level more) h refl (mark CloseParen refl (line_feed (f.at level))))))));
 }
 
@@ -197,8 +187,7 @@ pushed_text level (c ∷ cs) more = ap (λ t. escaped_character c ++ t) (pushed_
 string_call : (cs : List ℕ) {more : List OutputCall} {ts : List Token} → list_all scalar cs ≡ true → Follows true more ts
     → Follows false (Str (codes "(\"") ∷ ((map character_call cs ++ (Str (codes "\")") ∷ Newline ∷ [])) ++ more)) (Punctuation OpenParen ∷ Quoted cs ∷ Punctuation CloseParen ∷ ts)
 string_call cs {more} {ts} h f = record {
-  at = λ level.
-      mark OpenParen refl (subst (λ x. Tokens (34 ∷ x) (Quoted cs ∷ Punctuation CloseParen ∷ ts)) (sym (text level))
+  at = λ level. mark OpenParen refl (subst (λ x. Tokens (34 ∷ x) (Quoted cs ∷ Punctuation CloseParen ∷ ts)) (sym (text level))
       (quoted_at cs (41 ∷ 10 ∷ text_of true level more) h (mark CloseParen refl (line_feed (f.at level)))));
 }
   where
@@ -208,8 +197,7 @@ string_call cs {more} {ts} h f = record {
 external_id_reads : (external_id : Option (List ℕ)) → passes (list_all scalar) external_id ≡ true → {more : List OutputCall} {ts : List Token} → Follows true more ts
     → Printed true (external_id_calls external_id ++ more) (λ before. ReadsExternalId before external_id ts)
 external_id_reads None h {ts = ts} f = (ts, f, ReadsExternalId.no_external_id)
-external_id_reads (Some cs) h f =
-    (_, attribute_call (codes "external-id") refl refl (λ level. refl) (string_call cs h f), ReadsExternalId.external_id refl)
+external_id_reads (Some cs) h f = (_, attribute_call (codes "external-id") refl refl (λ level. refl) (string_call cs h f), ReadsExternalId.external_id refl)
 
 -- What is printed in front of an item is read as it, without its documentation.
 pub prefix_reads : (emits_docs : Bool) (prefix : Prefix) → is_well_prefix prefix ≡ true → {more : List OutputCall} {ts : List Token} → Follows true more ts

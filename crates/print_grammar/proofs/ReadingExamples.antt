@@ -18,21 +18,18 @@ use Rattle.print_output.specs.{OutputCall.body_calls, Render.render}
 
 -- a world that imports a function and exports one
 abbrev two_functions_text : List ℕ
-two_functions_text =
-    codes "package a:b;" ++ (10 ∷ 10 ∷ codes "world foo {") ++ (10 ∷ codes "  import host: func();") ++ (10 ∷ 10 ∷ codes "  export guest: func();") ++ (10 ∷ codes "}") ++ (10 ∷ [])
+two_functions_text = codes "package a:b;" ++ (10 ∷ 10 ∷ codes "world foo {") ++ (10 ∷ codes "  import host: func();") ++ (10 ∷ 10 ∷ codes "  export guest: func();") ++ (10 ∷ codes "}") ++ (10 ∷ [])
 
 abbrev two_functions_tokens : List Token
-two_functions_tokens =
-    Key Package ∷ Word (codes "a") ∷ Punctuation Colon ∷ Word (codes "b") ∷ Punctuation Semi ∷ Key World ∷ Word (codes "foo") ∷ Punctuation OpenBrace ∷ Key Import ∷ Word (codes "host")
-    ∷ Punctuation Colon ∷ Key Func ∷ Punctuation OpenParen ∷ Punctuation CloseParen ∷ Punctuation Semi ∷ Key Export ∷ Word (codes "guest") ∷ Punctuation Colon ∷ Key Func ∷ Punctuation OpenParen
-    ∷ Punctuation CloseParen ∷ Punctuation Semi ∷ Punctuation CloseBrace ∷ []
+two_functions_tokens = Key Package ∷ Word (codes "a") ∷ Punctuation Colon ∷ Word (codes "b") ∷ Punctuation Semi ∷ Key World ∷ Word (codes "foo") ∷ Punctuation OpenBrace ∷ Key Import
+    ∷ Word (codes "host") ∷ Punctuation Colon ∷ Key Func ∷ Punctuation OpenParen ∷ Punctuation CloseParen ∷ Punctuation Semi ∷ Key Export ∷ Word (codes "guest") ∷ Punctuation Colon ∷ Key Func
+    ∷ Punctuation OpenParen ∷ Punctuation CloseParen ∷ Punctuation Semi ∷ Punctuation CloseBrace ∷ []
 
 abbrev two_functions : FileTree
 two_functions = record {
   main = record {
     head = record { docs = []; namespace = codes "a"; name = codes "b"; version = None };
-    items = WorldItem [] Ungated (codes "foo") (WorldImport bare (NamedFunction (codes "host") no_parameters) ∷ WorldExport bare
-        (NamedFunction (codes "guest") no_parameters) ∷ []) ∷ [];
+    items = WorldItem [] Ungated (codes "foo") (WorldImport bare (NamedFunction (codes "host") no_parameters) ∷ WorldExport bare (NamedFunction (codes "guest") no_parameters) ∷ []) ∷ [];
   };
   nested = [];
 }
@@ -44,14 +41,9 @@ pub no-parameters : (after : List Token) → ReadsSignature (Key Func ∷ Punctu
 no-parameters after = func no_params no_result
 
 pub two-functions-tree : ReadsFile two_functions_tokens two_functions
-two-functions-tree =
-    file (head plain plain no_version)
-    (next_item (world_item no_gates plain
-    (again (world_import (prefix no_gates no_external_id) (extern_function plain (no-parameters _)))
-    (again (world_export (prefix no_gates no_external_id) (extern_function plain (no-parameters _)))
-    closed)))
-    no_items)
-    nested_end
+two-functions-tree = file (head plain plain no_version) (next_item (world_item no_gates
+    plain (again (world_import (prefix no_gates no_external_id) (extern_function plain (no-parameters _)))
+    (again (world_export (prefix no_gates no_external_id) (extern_function plain (no-parameters _))) closed))) no_items) nested_end
 
 pub two-functions-reading : IsReading two_functions_text two_functions
 two-functions-reading = record { tokens = two_functions_tokens; spelled = two-functions-tokens; parsed = two-functions-tree }

@@ -56,9 +56,8 @@ result_reads (Some ty) h {more} e =
 abbrev pub ReadsArguments : List ParamTree → Option TypeTree → List Token → List Token → Type 0
 ReadsArguments params result after before = (between : List Token) × ReadsParams before (map (bare_param type_as_read) params) between × ReadsResult between (option_map type_as_read result) after
 
-pub arguments_reads : (params : List ParamTree) (result : Option TypeTree) → list_all is_well_param params ≡ true → passes is_well_type result ≡ true
-    → {more : List OutputCall} {ts : List Token} → Ended more ts
-    → Printed false (params_calls params result ++ more) (ReadsArguments params result ts)
+pub arguments_reads : (params : List ParamTree) (result : Option TypeTree) → list_all is_well_param params ≡ true → passes is_well_type result ≡ true → {more : List OutputCall} {ts : List Token}
+    → Ended more ts → Printed false (params_calls params result ++ more) (ReadsArguments params result ts)
 arguments_reads params result h g e =
     let r = result_reads result g e in let i = args_reads params h r.1 in relist (i.0, i.1, (r.0, i.2, r.2)) (simp append_assoc)
 

@@ -28,11 +28,10 @@ abbrev primitives_text : List ℕ
 primitives_text = codes "tuple<bool, u8, u16, u32, u64, s8, s16, s32, s64, f32, f64, char, string, error-context>"
 
 abbrev primitives_tokens : List Token
-primitives_tokens =
-    Key Tuple ∷ Punctuation Less ∷ Key (PrimitiveWord Bool_) ∷ Punctuation Comma ∷ Key (PrimitiveWord U8) ∷ Punctuation Comma ∷ Key (PrimitiveWord U16) ∷ Punctuation Comma ∷ Key (PrimitiveWord U32)
-    ∷ Punctuation Comma ∷ Key (PrimitiveWord U64) ∷ Punctuation Comma ∷ Key (PrimitiveWord S8) ∷ Punctuation Comma ∷ Key (PrimitiveWord S16) ∷ Punctuation Comma ∷ Key (PrimitiveWord S32)
-    ∷ Punctuation Comma ∷ Key (PrimitiveWord S64) ∷ Punctuation Comma ∷ Key (PrimitiveWord F32) ∷ Punctuation Comma ∷ Key (PrimitiveWord F64) ∷ Punctuation Comma ∷ Key (PrimitiveWord Char)
-    ∷ Punctuation Comma ∷ Key (PrimitiveWord String) ∷ Punctuation Comma ∷ Key (PrimitiveWord ErrorContext) ∷ Punctuation Greater ∷ []
+primitives_tokens = Key Tuple ∷ Punctuation Less ∷ Key (PrimitiveWord Bool_) ∷ Punctuation Comma ∷ Key (PrimitiveWord U8) ∷ Punctuation Comma ∷ Key (PrimitiveWord U16) ∷ Punctuation Comma
+    ∷ Key (PrimitiveWord U32) ∷ Punctuation Comma ∷ Key (PrimitiveWord U64) ∷ Punctuation Comma ∷ Key (PrimitiveWord S8) ∷ Punctuation Comma ∷ Key (PrimitiveWord S16) ∷ Punctuation Comma
+    ∷ Key (PrimitiveWord S32) ∷ Punctuation Comma ∷ Key (PrimitiveWord S64) ∷ Punctuation Comma ∷ Key (PrimitiveWord F32) ∷ Punctuation Comma ∷ Key (PrimitiveWord F64) ∷ Punctuation Comma
+    ∷ Key (PrimitiveWord Char) ∷ Punctuation Comma ∷ Key (PrimitiveWord String) ∷ Punctuation Comma ∷ Key (PrimitiveWord ErrorContext) ∷ Punctuation Greater ∷ []
 
 pub primitives-tokens : Tokens primitives_text primitives_tokens
 primitives-tokens = scanned 200 _ _ refl
@@ -56,8 +55,7 @@ abbrev forms_text : List ℕ
 forms_text = codes "tuple<option<t>, list<u8>, list<u8, 4>, map<string, u32>, result, result<u8>, result<_, u8>, result<u8, string>, future, future<u8>, stream, stream<u8>, own<r>, borrow<r>>"
 
 abbrev forms_tokens : List Token
-forms_tokens =
-    Key Tuple ∷ Punctuation Less ∷ Key Option_ ∷ Punctuation Less ∷ Word (codes "t") ∷ Punctuation Greater ∷ Punctuation Comma ∷ Key List_ ∷ Punctuation Less ∷ Key (PrimitiveWord U8)
+forms_tokens = Key Tuple ∷ Punctuation Less ∷ Key Option_ ∷ Punctuation Less ∷ Word (codes "t") ∷ Punctuation Greater ∷ Punctuation Comma ∷ Key List_ ∷ Punctuation Less ∷ Key (PrimitiveWord U8)
     ∷ Punctuation Greater ∷ Punctuation Comma ∷ Key List_ ∷ Punctuation Less ∷ Key (PrimitiveWord U8) ∷ Punctuation Comma ∷ Digits 4 ∷ Punctuation Greater ∷ Punctuation Comma ∷ Key Map
     ∷ Punctuation Less ∷ Key (PrimitiveWord String) ∷ Punctuation Comma ∷ Key (PrimitiveWord U32) ∷ Punctuation Greater ∷ Punctuation Comma ∷ Key Keyword.Result ∷ Punctuation Comma
     ∷ Key Keyword.Result ∷ Punctuation Less ∷ Key (PrimitiveWord U8) ∷ Punctuation Greater ∷ Punctuation Comma ∷ Key Keyword.Result ∷ Punctuation Less ∷ Key Underscore ∷ Punctuation Comma
@@ -115,11 +113,10 @@ escapes_text = codes "package a:b;" ++ (10 ∷ 10 ∷ (codes "interface i {"
     ++ (10 ∷ (codes "  record p {" ++ (10 ∷ (codes "    %type: u32," ++ (10 ∷ (codes "    %map: string," ++ (10 ∷ (codes "  }" ++ (10 ∷ (codes "}" ++ (10 ∷ 10 ∷ [])))))))))))))))))
 
 abbrev escapes_tokens : List Token
-escapes_tokens =
-    Key Package ∷ Word (codes "a") ∷ Punctuation Colon ∷ Word (codes "b") ∷ Punctuation Semi ∷ Key Interface ∷ Word (codes "i") ∷ Punctuation OpenBrace ∷ Punctuation At ∷ Word (codes "unstable")
-    ∷ Punctuation OpenParen ∷ Word (codes "feature") ∷ Punctuation Equals ∷ Escaped (codes "async") ∷ Punctuation CloseParen ∷ Punctuation At ∷ Word (codes "external-id") ∷ Punctuation OpenParen
-    ∷ Quoted (97 ∷ 34 ∷ 233 ∷ []) ∷ Punctuation CloseParen ∷ Key Record ∷ Word (codes "p") ∷ Punctuation OpenBrace ∷ Escaped (codes "type") ∷ Punctuation Colon ∷ Key (PrimitiveWord U32)
-    ∷ Punctuation Comma ∷ Escaped (codes "map") ∷ Punctuation Colon ∷ Key (PrimitiveWord String) ∷ Punctuation Comma ∷ Punctuation CloseBrace ∷ Punctuation CloseBrace ∷ []
+escapes_tokens = Key Package ∷ Word (codes "a") ∷ Punctuation Colon ∷ Word (codes "b") ∷ Punctuation Semi ∷ Key Interface ∷ Word (codes "i") ∷ Punctuation OpenBrace ∷ Punctuation At
+    ∷ Word (codes "unstable") ∷ Punctuation OpenParen ∷ Word (codes "feature") ∷ Punctuation Equals ∷ Escaped (codes "async") ∷ Punctuation CloseParen ∷ Punctuation At ∷ Word (codes "external-id")
+    ∷ Punctuation OpenParen ∷ Quoted (97 ∷ 34 ∷ 233 ∷ []) ∷ Punctuation CloseParen ∷ Key Record ∷ Word (codes "p") ∷ Punctuation OpenBrace ∷ Escaped (codes "type") ∷ Punctuation Colon
+    ∷ Key (PrimitiveWord U32) ∷ Punctuation Comma ∷ Escaped (codes "map") ∷ Punctuation Colon ∷ Key (PrimitiveWord String) ∷ Punctuation Comma ∷ Punctuation CloseBrace ∷ Punctuation CloseBrace ∷ []
 
 pub escapes-tokens : Tokens escapes_text escapes_tokens
 escapes-tokens = scanned 200 _ _ refl
@@ -128,8 +125,7 @@ abbrev escapes : FileTree
 escapes = record {
   main = record {
     head = record { docs = []; namespace = codes "a"; name = codes "b"; version = None };
-    items = InterfaceItem [] Ungated (codes "i")
-        (TypeMember (record { docs = []; gates = Unstable (codes "async") None; external_id = Some (97 ∷ 34 ∷ 233 ∷ []) })
+    items = InterfaceItem [] Ungated (codes "i") (TypeMember (record { docs = []; gates = Unstable (codes "async") None; external_id = Some (97 ∷ 34 ∷ 233 ∷ []) })
         (RecordOf (codes "p") (record { docs = []; name = codes "type"; ty = PrimitiveType U32 } ∷ record { docs = []; name = codes "map"; ty = PrimitiveType String } ∷ [])) ∷ []) ∷ [];
   };
   nested = [];
@@ -139,13 +135,9 @@ pub escapes-reading : IsReading escapes_text escapes
 escapes-reading = record {
   tokens = escapes_tokens;
   spelled = escapes-tokens;
-  parsed = file (head plain plain no_version)
-      (next_item (interface_item no_gates plain
-      (again (member_type (prefix (unstable refl refl with_percent not_deprecated) (external_id refl))
-      (record_ plain (next (field with_percent primitive) (last_with_comma (field with_percent primitive)))))
-      closed))
-      no_items)
-      nested_end;
+  parsed = file (head plain plain no_version) (next_item (interface_item no_gates
+      plain (again (member_type (prefix (unstable refl refl with_percent not_deprecated) (external_id refl))
+      (record_ plain (next (field with_percent primitive) (last_with_comma (field with_percent primitive))))) closed)) no_items) nested_end;
 }
 
 pub escapes-text : render (file_calls true escapes) ≡ escapes_text
@@ -159,8 +151,7 @@ inner_text = codes "package a:b;" ++ (10 ∷ 10 ∷ (codes "package c:d@1.0.0 {"
     ++ (10 ∷ (codes "  interface i {" ++ (10 ∷ (codes "    f: func();" ++ (10 ∷ (codes "  }" ++ (10 ∷ (codes "}" ++ (10 ∷ [])))))))))))
 
 abbrev inner_tokens : List Token
-inner_tokens =
-    Key Package ∷ Word (codes "a") ∷ Punctuation Colon ∷ Word (codes "b") ∷ Punctuation Semi ∷ Key Package ∷ Word (codes "c") ∷ Punctuation Colon ∷ Word (codes "d") ∷ Punctuation At
+inner_tokens = Key Package ∷ Word (codes "a") ∷ Punctuation Colon ∷ Word (codes "b") ∷ Punctuation Semi ∷ Key Package ∷ Word (codes "c") ∷ Punctuation Colon ∷ Word (codes "d") ∷ Punctuation At
     ∷ VersionText (codes "1.0.0") ∷ Punctuation OpenBrace ∷ Key Interface ∷ Word (codes "i") ∷ Punctuation OpenBrace ∷ Word (codes "f") ∷ Punctuation Colon ∷ Key Func ∷ Punctuation OpenParen
     ∷ Punctuation CloseParen ∷ Punctuation Semi ∷ Punctuation CloseBrace ∷ Punctuation CloseBrace ∷ []
 
@@ -181,10 +172,8 @@ pub inner-reading : IsReading inner_text inner
 inner-reading = record {
   tokens = inner_tokens;
   spelled = inner-tokens;
-  parsed = file (head plain plain no_version) no_items
-      (next_nested (nested_package (head plain plain with_version)
-      (again (interface_item no_gates plain (again (member_function (prefix no_gates no_external_id) plain (func no_params no_result)) closed)) closed))
-      nested_end);
+  parsed = file (head plain plain no_version) no_items (next_nested (nested_package (head plain plain with_version)
+      (again (interface_item no_gates plain (again (member_function (prefix no_gates no_external_id) plain (func no_params no_result)) closed)) closed)) nested_end);
 }
 
 pub inner-text : render (file_calls true inner) ≡ inner_text

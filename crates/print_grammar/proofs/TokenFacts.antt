@@ -18,8 +18,7 @@ spelled-none front h = ap spelled (sym (append-nil front)) ∙ h []
 
 longest-none : (front rest : List ℕ) → NoToken front → longest front rest ≡ None
 longest-none front [] h = rw (spelled-none front h) refl
-longest-none front (c ∷ cs) h =
-    search (std_rules, append_assoc, spelled-none, longest-none (front ++ c ∷ []) cs (λ more. ap spelled (append_assoc front (c ∷ []) more) ∙ h (c ∷ more)))
+longest-none front (c ∷ cs) h = search (std_rules, append_assoc, spelled-none, longest-none (front ++ c ∷ []) cs (λ more. ap spelled (append_assoc front (c ∷ []) more) ∙ h (c ∷ more)))
 
 -- No longer token begins with the first text and goes on into the second.
 abbrev pub EndsToken : List ℕ → List ℕ → Type 0
@@ -77,8 +76,7 @@ fragment_bytes : (text : List ℕ) → is_fragment text ≡ true → list_all (�
 fragment_bytes text h = search (std_rules, either, right_of, weaker_all, lower_alphanumeric, upper_alphanumeric)
 
 pub label_bytes : (text : List ℕ) → is_label text ≡ true → list_all is_label_byte text ≡ true
-label_bytes text h =
-    parts_pass (λ b. is_ascii_alphabetic b || is_ascii_digit b) 45 text
+label_bytes text h = parts_pass (λ b. is_ascii_alphabetic b || is_ascii_digit b) 45 text
     (weaker_all is_fragment _ fragment_bytes (slice_split (λ b. b == 45) text) (right_of (begins_with_letter text) _ h))
 
 -- a text with another byte in it is no label

@@ -71,17 +71,14 @@ numerals_bytes : (texts : List (List ℕ)) → are_three_numerals texts ≡ true
 numerals_bytes x h = grind (arith, both, numeral_bytes, left_of, right_of)
 
 core_bytes : (text : List ℕ) → is_version_core text ≡ true → list_all is_version_byte text ≡ true
-core_bytes text h =
-    weaker_all _ is_version_byte identifier_version text
-    (parts_pass is_identifier_byte 46 text (numerals_bytes (parts text) h))
+core_bytes text h = weaker_all _ is_version_byte identifier_version text (parts_pass is_identifier_byte 46 text (numerals_bytes (parts text) h))
 
 -- the bytes of a text that may be cut, by those of its parts
 cut_bytes : (c : ℕ) (front back : List ℕ → Bool) → is_version_byte c ≡ true → ((t : List ℕ) → front t ≡ true → list_all is_version_byte t ≡ true)
     → ((t : List ℕ) → back t ≡ true → list_all is_version_byte t ≡ true) → (text : List ℕ) (o : Option (List ℕ × List ℕ)) → cut c text ≡ o
     → option_map_or (λ (p : List ℕ × List ℕ). front p.0 && is_given back p.1) o (front text) ≡ true → list_all is_version_byte text ≡ true
 cut_bytes c front back here on_front on_back text None e h = on_front text h
-cut_bytes c front back here on_front on_back text (Some p) e h =
-    ap (list_all is_version_byte) (cut-sound c text p e) ∙ (list_all-append is_version_byte p.0 (c ∷ p.1)
+cut_bytes c front back here on_front on_back text (Some p) e h = ap (list_all is_version_byte) (cut-sound c text p e) ∙ (list_all-append is_version_byte p.0 (c ∷ p.1)
     ∙ both _ _ (on_front p.0 (left_of _ _ h)) (both _ _ here (on_back p.1 (right_of (nat_lt 0 (length p.1)) _ (right_of (front p.0) _ h)))))
 
 number_bytes : (text : List ℕ) → is_version_number text ≡ true → list_all is_version_byte text ≡ true
@@ -152,8 +149,7 @@ abbrev number_text : Parts → List ℕ
 number_text p = core_text p ++ marked 45 p.3
 
 number_no_plus : (p : Parts) → IsValid p → list_all (λ b. not (b == 43)) (number_text p) ≡ true
-number_no_plus p v =
-    list_all-append (λ b. not (b == 43)) (core_text p) (marked 45 p.3)
+number_no_plus p v = list_all-append (λ b. not (b == 43)) (core_text p) (marked 45 p.3)
     ∙ both _ _ (weaker_all is_unmarked _ (λ b h. right_of (not (b == 45)) _ h) (core_text p) (core_unmarked p v)) (mark p.3 v.3)
   where
     mark : (text : List ℕ) → is_pre_release text ≡ true → list_all (λ b. not (b == 43)) (marked 45 text) ≡ true
@@ -167,16 +163,14 @@ marked_passes c front back same text [] unmarked f b = rw (append-nil text, cut-
 marked_passes c front back same text (x ∷ xs) unmarked f b = rw (cut-at c text (x ∷ xs) same unmarked) (both _ _ f (both _ _ (lt-ltb 0 (suc (length xs)) (omega arith)) b))
 
 number_is_number : (p : Parts) → IsValid p → is_version_number (number_text p) ≡ true
-number_is_number p v =
-    marked_passes 45 is_version_core is_pre_release refl (core_text p) p.3 (weaker_all is_unmarked _ (λ b h. left_of _ _ h) (core_text p) (core_unmarked p v)) (core_is_core p v) v.3
+number_is_number p v = marked_passes 45 is_version_core is_pre_release refl (core_text p) p.3 (weaker_all is_unmarked _ (λ b h. left_of _ _ h) (core_text p) (core_unmarked p v)) (core_is_core p v) v.3
 
 parts_joined : (p : Parts) → parts_text p ≡ number_text p ++ marked 43 p.4
 parts_joined p = simp append_assoc
 
 -- The text of the parts of a version is a version.
 pub parts_are_version : (p : Parts) → IsValid p → is_semantic_version (parts_text p) ≡ true
-parts_are_version p v =
-    ap is_semantic_version (parts_joined p) ∙ marked_passes 43 is_version_number is_build refl (number_text p) p.4 (number_no_plus p v) (number_is_number p v) v.4
+parts_are_version p v = ap is_semantic_version (parts_joined p) ∙ marked_passes 43 is_version_number is_build refl (number_text p) p.4 (number_no_plus p v) (number_is_number p v) v.4
 
 -- ---- the token
 
@@ -290,8 +284,7 @@ dot_no_digit : (front more : List ℕ) → is_numeric (front ++ 46 ∷ more) ≡
 dot_no_digit front more = search (std_rules, refuted, right_of, list_all-append)
 
 other_ends : (c : ℕ) (cs : List ℕ) (d : ℕ) → is_ascii_digit c ≡ true → is_version_byte d ≡ false → NoToken ((c ∷ cs) ++ d ∷ [])
-other_ends c cs d digit e more =
-    number_spelled c ((cs ++ d ∷ []) ++ more) digit ∙ no_number_token ((c ∷ cs ++ d ∷ []) ++ more) (no_number (c ∷ cs) d more e) (no_version (c ∷ cs) d more e)
+other_ends c cs d digit e more = number_spelled c ((cs ++ d ∷ []) ++ more) digit ∙ no_number_token ((c ∷ cs ++ d ∷ []) ++ more) (no_number (c ∷ cs) d more e) (no_version (c ∷ cs) d more e)
 
 dot_ends : (c : ℕ) (cs : List ℕ) → is_ascii_digit c ≡ true → spelled ((c ∷ cs) ++ 46 ∷ []) ≡ None
 dot_ends c cs digit = number_spelled c (cs ++ 46 ∷ []) digit ∙ no_number_token (c ∷ cs ++ 46 ∷ []) (dot_no_digit (c ∷ cs) []) (version_no_dot (c ∷ cs))
@@ -308,8 +301,7 @@ number_ends c cs (d ∷ e ∷ es) digit ends = elim (cases_Bool (is_version_byte
   | inl in_version ↦
       let right : ((d == 46) && not (is_version_byte e)) ≡ true = rw in_version at ends in
       let same : d ≡ 46 = eqb-true d 46 (left_of _ _ right) in
-      subst (λ x. EndsToken (c ∷ cs) (x ∷ e ∷ es)) (sym same)
-      (ends_by_two (c ∷ cs) 46 e es (dot_ends c cs digit) (other_ends c (cs ++ 46 ∷ []) e digit (not_true _ (right_of (d == 46) _ right))))
+      subst (λ x. EndsToken (c ∷ cs) (x ∷ e ∷ es)) (sym same) (ends_by_two (c ∷ cs) 46 e es (dot_ends c cs digit) (other_ends c (cs ++ 46 ∷ []) e digit (not_true _ (right_of (d == 46) _ right))))
   | inr other ↦ ends_by (c ∷ cs) d (e ∷ es) (other_ends c cs d digit other)
 ]
 

@@ -23,8 +23,7 @@ module _ {X : Type 0} where
   found-there [] q x h = let wrong : ⊥ = cc in absurd wrong
   found-there (e ∷ es) q x h = go (found-there es q x) (eq_by_cmp text_cmp q e.0) refl h
     where
-      go : (find text_cmp q es ≡ Some x → Contains es (q, x)) → (b : Bool) → eq_by_cmp text_cmp q e.0 ≡ b
-          → cond b (Some e.1) (find text_cmp q es) ≡ Some x → Contains (e ∷ es) (q, x)
+      go : (find text_cmp q es ≡ Some x → Contains es (q, x)) → (b : Bool) → eq_by_cmp text_cmp q e.0 ≡ b → cond b (Some e.1) (find text_cmp q es) ≡ Some x → Contains (e ∷ es) (q, x)
       go more true t h =
           let key : e.0 ≡ q = sym (text-same q e.0 (sym (same-text q e.0) ∙ t)) in
           let value : e.1 ≡ x = ap (λ o. unwrap_or o x) h in

@@ -31,8 +31,7 @@ cut_found c (x ∷ xs) h = by (x == c) refl (cut_found c xs)
     by true e rest = cut_more c x xs true e ∙ (λ i. Some (sym (before_more c x xs true e) i, sym (after_more c x xs true e) i))
     by false e rest =
         let place = place_more c x xs false e in
-        cut_more c x xs false e ∙ (ap (option_map (λ p. (x ∷ p.0, p.1))) (rest (omega (arith, h, place)))
-        ∙ (λ i. Some (sym (before_more c x xs false e) i, sym (after_more c x xs false e) i)))
+        cut_more c x xs false e ∙ (ap (option_map (λ p. (x ∷ p.0, p.1))) (rest (omega (arith, h, place))) ∙ (λ i. Some (sym (before_more c x xs false e) i, sym (after_more c x xs false e) i)))
 
 cut_nowhere : (c : ℕ) (xs : Text) → position_or_len (λ y. eqb y c) xs ≡ length xs → cut c xs ≡ None
 unfolding cut
@@ -48,6 +47,5 @@ cut_nowhere c (x ∷ xs) h = by (x == c) refl (cut_nowhere c xs)
 -- what splits a text at the first place of a character cuts it
 pub split_cuts : (c : ℕ) (text : Text) (r : Option (Bor (List ℕ) × Bor (List ℕ)))
     → MatchOption r (position_or_len (λ b. eqb b c) text ≡ length text) (λ x. (position_or_len (λ b. eqb b c) text < length text) × (x.0.now ≡ before_first (λ b. eqb b c) text)
-    × (x.1.now ≡ after_first (λ b. eqb b c) text))
-    → option_map (λ x. (x.0.now, x.1.now)) r ≡ cut c text
+    × (x.1.now ≡ after_first (λ b. eqb b c) text)) → option_map (λ x. (x.0.now, x.1.now)) r ≡ cut c text
 split_cuts c text x h = search (std_rules, cut_nowhere, cut_found)

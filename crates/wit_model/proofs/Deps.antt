@@ -26,8 +26,7 @@ module _ (own : ℕ) (held : ℕ → Bool) (n : ℕ) where
   own_skipped h rest = sym (unlisted-skip (λ m. not (m == own) && not (held m)) n (ap (λ b. not b && not (held n)) h) rest)
 
   pub listed_skipped : (after : ℕ → Bool) → held n ≡ true → ((q : ℕ) → after q ≡ ((n == q) || held q)) → (rest : List ℕ) → yet_unlisted own after rest ≡ yet_unlisted own held (n ∷ rest)
-  listed_skipped after h marked rest =
-      ap (λ test. yet_unlisted own test rest) (λ i q. (marked q ∙ same q (n == q) refl) i)
+  listed_skipped after h marked rest = ap (λ test. yet_unlisted own test rest) (λ i q. (marked q ∙ same q (n == q) refl) i)
       ∙ sym (unlisted-skip (λ m. not (m == own) && not (held m)) n (ap (λ b. not (n == own) && not b) h ∙ and_false (not (n == own))) rest)
     where
       and_false : (b : Bool) → (b && false) ≡ false

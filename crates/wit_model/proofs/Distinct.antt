@@ -41,11 +41,9 @@ module _ {K : Type 0} (same : K → K → Bool) where
 
     turn : i < length xs → x ≡ get_or xs i x → now k ≡ f x → adds_new (map now ks) (drop i (map f xs)) ≡ (not is_among && adds_new (map now ks ++ now k ∷ []) (drop (i + 1) (map f xs)))
     turn h is e =
-        let here : drop i (map f xs) ≡ now k ∷ drop (i + 1) (map f xs) =
-        drop-map f i xs ∙ (ap (map f) (drop_more xs i x h) ∙ (ap (λ z. f z ∷ map f (drop (i + 1) xs)) (sym is)
+        let here : drop i (map f xs) ≡ now k ∷ drop (i + 1) (map f xs) = drop-map f i xs ∙ (ap (map f) (drop_more xs i x h) ∙ (ap (λ z. f z ∷ map f (drop (i + 1) xs)) (sym is)
         ∙ (ap (λ t. t ∷ map f (drop (i + 1) xs)) (sym e) ∙ ap (λ ts. now k ∷ ts) (sym (drop-map f (i + 1) xs))))) in
-        ap (adds_new (map now ks)) here
-        ∙ ap (λ b. not b && adds_new (map now ks ++ now k ∷ []) (drop (i + 1) (map f xs))) (list_any_mapped (same (now k)) now ks)
+        ap (adds_new (map now ks)) here ∙ ap (λ b. not b && adds_new (map now ks ++ now k ∷ []) (drop (i + 1) (map f xs))) (list_any_mapped (same (now k)) now ks)
 
     one_key : (new : List B) → is_among ≡ false → new ≡ cond is_among ks (ks ++ k ∷ []) → map now new ≡ map now ks ++ now k ∷ []
     one_key new fresh added = ap (map now) (added ∙ ap (λ b. cond b ks (ks ++ k ∷ [])) fresh) ∙ map-append now ks (k ∷ [])
@@ -54,8 +52,7 @@ module _ {K : Type 0} (same : K → K → Bool) where
     pub seen_turn : (new : List B) (r : Bool) → i < length xs → x ≡ get_or xs i x → now k ≡ f x → r ≡ not is_among → r ≡ true → new ≡ cond is_among ks (ks ++ k ∷ []) → map now ks ≡ take i (map f xs)
         → map now new ≡ take (i + 1) (map f xs)
     seen_turn new r h is e tells new_one added before =
-        let more : take (i + 1) (map f xs) ≡ take i (map f xs) ++ now k ∷ [] =
-        take-map f (i + 1) xs ∙ (ap (map f) (take_more xs i x h) ∙ (map-append f (take i xs) (get_or xs i x ∷ [])
+        let more : take (i + 1) (map f xs) ≡ take i (map f xs) ++ now k ∷ [] = take-map f (i + 1) xs ∙ (ap (map f) (take_more xs i x h) ∙ (map-append f (take i xs) (get_or xs i x ∷ [])
         ∙ (ap (λ z. map f (take i xs) ++ f z ∷ []) (sym is) ∙ (ap (λ t. map f (take i xs) ++ t ∷ []) (sym e) ∙ ap (λ ts. ts ++ now k ∷ []) (sym (take-map f i xs)))))) in
         one_key new (not_is is_among true (sym tells ∙ new_one)) added ∙ (ap (λ ts. ts ++ now k ∷ []) before ∙ sym more)
 
@@ -69,8 +66,7 @@ module _ {K : Type 0} (same : K → K → Bool) where
 
     -- a key that was seen
     pub old_turn : (r : Bool) → i < length xs → x ≡ get_or xs i x → now k ≡ f x → r ≡ not is_among → r ≡ false → adds_new (map now ks) (drop i (map f xs)) ≡ false
-    old_turn r h is e tells seen =
-        turn h is e ∙ ap (λ b. not b && adds_new (map now ks ++ now k ∷ []) (drop (i + 1) (map f xs))) (not_is is_among false (sym tells ∙ seen))
+    old_turn r h is e tells seen = turn h is e ∙ ap (λ b. not b && adds_new (map now ks ++ now k ∷ []) (drop (i + 1) (map f xs))) (not_is is_among false (sym tells ∙ seen))
 
   -- past the end nothing is left to add
   pub last_turn : {A : Type 0} (f : A → K) (xs : List A) (i : ℕ) (before : List K) → length xs ≤ i → adds_new before (drop i (map f xs)) ≡ true
@@ -79,18 +75,15 @@ module _ {K : Type 0} (same : K → K → Bool) where
   module _ (flip : (a b : K) → same a b ≡ same b a) where
     miss_more : (before : List K) (x : K) (ts : List K) → miss (before ++ x ∷ []) ts ≡ (miss before ts && not (list_any (same x) ts))
     miss_more before x [] = refl
-    miss_more before x (t ∷ ts) =
-        ap (λ b. not b && miss (before ++ x ∷ []) ts) (list_any-append (same t) before (x ∷ []))
+    miss_more before x (t ∷ ts) = ap (λ b. not b && miss (before ++ x ∷ []) ts) (list_any-append (same t) before (x ∷ []))
         ∙ (ap (λ b. not (list_any (same t) before || (same t x || false)) && b) (miss_more before x ts)
         ∙ (one_more (list_any (same t) before) (same t x) (miss before ts) (list_any (same x) ts)
         ∙ ap (λ b. (not (list_any (same t) before) && miss before ts) && not (b || list_any (same x) ts)) (flip t x)))
 
     adds_miss : (before ts : List K) → adds_new before ts ≡ (miss before ts && are_apart ts)
     adds_miss before [] = refl
-    adds_miss before (t ∷ ts) =
-        ap (λ b. not (list_any (same t) before) && b) (adds_miss (before ++ t ∷ []) ts)
-        ∙ (ap (λ b. not (list_any (same t) before) && (b && are_apart ts)) (miss_more before t ts)
-        ∙ regroup (list_any (same t) before) (list_any (same t) ts) (miss before ts) (are_apart ts))
+    adds_miss before (t ∷ ts) = ap (λ b. not (list_any (same t) before) && b) (adds_miss (before ++ t ∷ []) ts)
+        ∙ (ap (λ b. not (list_any (same t) before) && (b && are_apart ts)) (miss_more before t ts) ∙ regroup (list_any (same t) before) (list_any (same t) ts) (miss before ts) (are_apart ts))
 
     miss_none : (ts : List K) → miss [] ts ≡ true
     miss_none [] = refl

@@ -11,8 +11,7 @@ filter_map_one h x = elim (h x) as (λ o. filter_map (λ y. o) (x ∷ []) ≡ op
 
 pub filter_map_more : {X Y : Type 0} (h : X → Option Y) (xs : List X) (i : ℕ) (x : X) → i < length xs → x ≡ get_or xs i x
     → filter_map h (take (i + 1) xs) ≡ filter_map h (take i xs) ++ option_to_list (h x)
-filter_map_more h xs i x l e =
-    ap (filter_map h) (take_more xs i x l) ∙ filter_map-append h (take i xs) (get_or xs i x ∷ [])
+filter_map_more h xs i x l e = ap (filter_map h) (take_more xs i x l) ∙ filter_map-append h (take i xs) (get_or xs i x ∷ [])
     ∙ ap (λ ys. filter_map h (take i xs) ++ ys) (filter_map_one h (get_or xs i x) ∙ ap (λ y. option_to_list (h y)) (sym e))
 
 -- ---- elements

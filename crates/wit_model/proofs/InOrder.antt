@@ -56,13 +56,9 @@ module _ {K V : Type 0} (test : K → Bool) (num : V → Option ℕ) (m : ℕ) w
       go : (found xs ≡ true → fitting xs ≡ true → has (filter_map num (values_of (take p xs))) m ≡ nat_lt (place xs) p) →
           (b : Bool) → test x.0 ≡ b → is_id m (option_and_then num (cond b (Some x.1) (lookup test xs))) ≡ true → (not (is_id m (num x.1)) || b) ≡ true →
           has (cons_option (num x.1) (filter_map num (values_of (take p xs)))) m ≡ nat_lt (place (x ∷ xs)) (suc p)
-      go rest true t g h =
-          has_given m (num x.1) (filter_map num (values_of (take p xs))) g
-          ∙ sym (ap (λ b. nat_lt (cond (not b) (1 + place xs) 0) (suc p)) t ∙ first_below p)
-      go rest false t g h =
-          has_other m (num x.1) (filter_map num (values_of (take p xs))) (unfit (is_id m (num x.1)) h)
-          ∙ (rest g (second_true _ _ fit)
-          ∙ sym (ap (λ b. nat_lt (cond (not b) (1 + place xs) 0) (suc p)) t ∙ next_below (place xs) p))
+      go rest true t g h = has_given m (num x.1) (filter_map num (values_of (take p xs))) g ∙ sym (ap (λ b. nat_lt (cond (not b) (1 + place xs) 0) (suc p)) t ∙ first_below p)
+      go rest false t g h = has_other m (num x.1) (filter_map num (values_of (take p xs))) (unfit (is_id m (num x.1)) h)
+          ∙ (rest g (second_true _ _ fit) ∙ sym (ap (λ b. nat_lt (cond (not b) (1 + place xs) 0) (suc p)) t ∙ next_below (place xs) p))
 
   -- and it stands in the list
   pub found_stands : (es : List (K × V)) → found es ≡ true → has (filter_map num (values_of es)) m ≡ true

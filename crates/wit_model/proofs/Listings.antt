@@ -48,18 +48,15 @@ module _ (r : Resolve) (n : ℕ) (def : TypeDef) (name : String Global) (is : ty
 
   listed_in_interface : (i : Interface) → IsUnique string_eq i.types → list_all (λ e. has_name r (λ x. text_eq x (text_of e.0)) e.1.0) i.types.entries ≡ true
       → is_id n (option_map (λ id. id.0) (get_by_text i.types (text_of name))) ≡ is_listed_in_interface n (text_of name) i
-  listed_in_interface i unique fits =
-      once_more (is_id n (option_map (λ id. id.0) (get_by_text i.types (text_of name)))) (count_by (λ m. m == n) (interface_type_numbers i)) (λ found.
-      ap (count_by (λ m. m == n)) (sym (given_all (values_of i.types.entries)))
+  listed_in_interface i unique fits = once_more (is_id n (option_map (λ id. id.0) (get_by_text i.types (text_of name)))) (count_by (λ m. m == n) (interface_type_numbers i))
+      (λ found. ap (count_by (λ m. m == n)) (sym (given_all (values_of i.types.entries)))
       ∙ fit_once (λ k. bytes_eq (text_of name) (string_bytes k)) (λ id. Some id.0) n string_eq text_joins i.types.entries unique
       (all_imply (λ e. has_name r (λ x. text_eq x (text_of e.0)) e.1.0) (λ e. not (is_id n (Some e.1.0)) || bytes_eq (text_of name) (string_bytes e.0))
-      (λ e. entry_fits (λ x. text_eq x (text_of e.0)) e.1.0) i.types.entries fits)
-      (ap (is_id n) (given_found (get_by_text i.types (text_of name))) ∙ found))
+      (λ e. entry_fits (λ x. text_eq x (text_of e.0)) e.1.0) i.types.entries fits) (ap (is_id n) (given_found (get_by_text i.types (text_of name))) ∙ found))
 
   listed_in_world : (w : World) → IsUnique key_eq w.imports → list_all (λ e. passes (has_name r (key_fits e.0)) (item_type e.1)) w.imports.entries ≡ true
       → is_id n (option_and_then item_type (get_by (is_name_key (text_of name)) w.imports)) ≡ is_listed_in_world n (text_of name) w
-  listed_in_world w unique fits =
-      once_more (is_id n (option_and_then item_type (get_by (is_name_key (text_of name)) w.imports))) (count_by (λ m. m == n) (world_type_numbers w))
+  listed_in_world w unique fits = once_more (is_id n (option_and_then item_type (get_by (is_name_key (text_of name)) w.imports))) (count_by (λ m. m == n) (world_type_numbers w))
       (fit_once (is_name_key (text_of name)) item_type n key_eq key_joins w.imports.entries unique
       (all_imply (λ e. passes (has_name r (key_fits e.0)) (item_type e.1)) (λ e. not (is_id n (item_type e.1)) || is_name_key (text_of name) e.0) (λ e. item_entry_fits (key_fits e.0) (item_type e.1))
       w.imports.entries fits))
@@ -98,8 +95,7 @@ module _ (r : Resolve) (n : ℕ) (i : Interface) (at : interface_at r n ≡ Some
   not_in_interface m t x e h = search std_rules
 
   interface_entry : (q : ℕ) (x : String Global × TypeId) → slice_get i.types.entries q ≡ Some x → (t : Text) → text_eq t (text_of x.0) ≡ false → is_listed_in_interface x.1.0 t i ≡ false
-  interface_entry q x place t fails =
-      (λ j. is_id x.1.0 (sym (given_found (get_by_text i.types t)) j) && (count_by (λ m. m == x.1.0) (sym (given_all (values_of i.types.entries)) j) == 1))
+  interface_entry q x place t fails = (λ j. is_id x.1.0 (sym (given_found (get_by_text i.types t)) j) && (count_by (λ m. m == x.1.0) (sym (given_all (values_of i.types.entries)) j) == 1))
       ∙ misfit (λ k. bytes_eq t (string_bytes k)) (λ id. Some id.0) x.1.0 i.types.entries q x place (eq-eqb x.1.0 x.1.0 refl) fails
 
   entry_belongs : KeepsIn listings r lists.Interfaces → (q : ℕ) (x : String Global × TypeId) → slice_get i.types.entries q ≡ Some x → is_named_of r (as_interface n) x.1.0 ≡ true

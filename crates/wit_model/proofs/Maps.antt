@@ -19,8 +19,7 @@ module _ {X : Type 0} where
       go false t r = (r.0, ap (λ b. cond b (Some e.1) (find text_cmp q es)) t ∙ r.1)
 
 pub one_map : {X : Type 0} (es fs : List (Text × X)) → HaveSameEntries es fs → ◌≡◌ {A = TextMap X} (from_entries es) (from_entries fs)
-one_map {X} es fs same =
-    same_map nat_list_cmp_total (slice_cmp-IsAntisymmetric nat_cmp-IsAntisymmetric) (from_entries es) (from_entries fs)
+one_map {X} es fs same = same_map nat_list_cmp_total (slice_cmp-IsAntisymmetric nat_cmp-IsAntisymmetric) (from_entries es) (from_entries fs)
     (λ q. get-from_entries nat_list_cmp_total es q ∙ (same_found q (find text_cmp q es) refl (find text_cmp q fs) refl ∙ sym (get-from_entries nat_list_cmp_total fs q)))
   where
     same_found : (q : Text) (a : Option X) → find text_cmp q es ≡ a → (b : Option X) → find text_cmp q fs ≡ b → find text_cmp q es ≡ find text_cmp q fs

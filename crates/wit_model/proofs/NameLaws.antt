@@ -27,8 +27,7 @@ fragment_bytes text h = search (std_rules, second_true, all_weaker, or_left, or_
 joined_bytes : (fs : List Text) → list_all is_fragment fs ≡ true → list_all is_label_byte (join_with_byte 45 fs) ≡ true
 joined_bytes [] h = refl
 joined_bytes (f ∷ []) h = fragment_bytes f (first_true _ _ h)
-joined_bytes (f ∷ g ∷ fs) h =
-    search (std_rules, list_all-append, and_from, fragment_bytes, first_true, second_true, joined_bytes (g ∷ fs) (second_true (is_fragment f) _ h))
+joined_bytes (f ∷ g ∷ fs) h = search (std_rules, list_all-append, and_from, fragment_bytes, first_true, second_true, joined_bytes (g ∷ fs) (second_true (is_fragment f) _ h))
 
 label_bytes : (text : Text) → is_label text ≡ true → list_all is_label_byte text ≡ true
 label_bytes text h =
@@ -151,8 +150,7 @@ path_grammar text = (reads, spelled (read_path text) refl)
         record { package_ = p.0; name = p.1; spelled = path.spelled; identity = path.identity; label = path.label }
 
 pub one_path : OnePath
-one_path p q a b p_known a_label q_known b_label same =
-    some_pair_parts p q a b (sym (spelled_path_reads p a p_known a_label) ∙ (ap read_path same ∙ spelled_path_reads q b q_known b_label))
+one_path p q a b p_known a_label q_known b_label same = some_pair_parts p q a b (sym (spelled_path_reads p a p_known a_label) ∙ (ap read_path same ∙ spelled_path_reads q b q_known b_label))
 
 -- the text before the version holds no `@`
 plain_path_lacks : (p : PackageIdentity) (name : Text) → is_identity p ≡ true → is_label name ≡ true → list_all (is_other 64) (p.namespace ++ (58 ∷ (p.name ++ (47 ∷ name)))) ≡ true

@@ -73,17 +73,7 @@ module _ (r : Resolve) (n : ℕ) (path : Text) (def : Interface) (there : interf
   at-package : (name : String Global) → def.name ≡ Some name → (home : PackageId) → def.package ≡ Some home → (o : Option Package) → package_at r home.0 ≡ o
       → option_map (λ p. path_in (identity_of p.name) (text_of name)) o ≡ Some path → HasPath r n path
   at-package name named home h None q e = let wrong : ⊥ = cc in absurd wrong
-  at-package name named home h (Some p) q e = record {
-    def = def;
-    there = there;
-    name = name;
-    named_ = named;
-    home = home;
-    in_package = h;
-    package_ = p;
-    stands = q;
-    spelled = sym (some-same _ _ e);
-  }
+  at-package name named home h (Some p) q e = record { def = def; there = there; name = name; named_ = named; home = home; in_package = h; package_ = p; stands = q; spelled = sym (some-same _ _ e) }
 
   at-home : (name : String Global) → def.name ≡ Some name → (o : Option PackageId) → def.package ≡ o → option_and_then (λ p. path_in_package r p.0 (text_of name)) o ≡ Some path → HasPath r n path
   at-home name named None q e = let wrong : ⊥ = cc in absurd wrong
@@ -159,9 +149,8 @@ named-path r v n h = go (interface_at r n) refl h
         let inside = first_true (passes (in_list r.packages.items) (package_number def.package)) _
         (second_true (is_place n) _ (interface-passes numbers_in_range r v.rules.numbers_in_range n def there)) in
         let package_ = found-in r.packages.items home.0.0 (ap (λ p. passes (in_list r.packages.items) (package_number p)) (sym home.1) ∙ inside) in
-        ap (λ o. is_some (option_and_then (path_of_interface r) o)) there
-        ∙ ap (λ o. is_some (option_and_then (λ name. option_and_then (λ p. path_in_package r p.0 (text_of name)) def.package) o)) name.1
-        ∙ ap (λ o. is_some (option_and_then (λ p. path_in_package r p.0 (text_of name.0)) o)) home.1
+        ap (λ o. is_some (option_and_then (path_of_interface r) o)) there ∙ ap (λ o. is_some (option_and_then (λ name. option_and_then (λ p. path_in_package r p.0 (text_of name)) def.package) o))
+        name.1 ∙ ap (λ o. is_some (option_and_then (λ p. path_in_package r p.0 (text_of name.0)) o)) home.1
         ∙ ap (λ (o : Option Package). is_some (option_map (λ p. path_in (identity_of p.name) (text_of name.0)) o)) package_.1
 
     go : (o : Option Interface) → interface_at r n ≡ o → option_map_or (λ other. is_some other.name) o false ≡ true → is_some (interface_path r n) ≡ true

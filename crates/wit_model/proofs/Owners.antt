@@ -26,8 +26,7 @@ numbered_long k (x ∷ xs) = ap suc (numbered_long (k + 1) xs)
 -- what is met at a number: itself where it has a name, and else what its type uses
 pub met_step : (r : Resolve) → Keeps references r → (n : ℕ) (def : TypeDef) → type_at r n ≡ Some def → met_by (met_of r) n ≡ option_map_or (λ name. n ∷ []) def.name (used_by_type r def)
 unfolding met_of
-met_step r below n def is =
-    ap (λ o. unwrap_or o []) (grow_at met_at (numbered_from 0 r.types.items) n (n, def) here)
+met_step r below n def is = ap (λ o. unwrap_or o []) (grow_at met_at (numbered_from 0 r.types.items) n (n, def) here)
     ∙ ap (λ xs. option_map_or (λ name. n ∷ []) def.name xs) (flat_same (met_by (take n (met_of r))) (met_by (met_of r)) n (kind_numbers def.kind)
     (λ m low. ap (λ o. unwrap_or o []) (get_take (met_of r) n m low)) (below_at r below n def is))
   where

@@ -46,8 +46,7 @@ after-itself (b ∷ bs) rest = ap (λ v. cond v (after_prefix bs (bs ++ rest)) N
 pub suffix_follows : (p : Parts) → suffix_after (canonical_version p) (parts_text p) ≡ version_suffix p
 suffix_follows p =
     let front = canonical_front p in
-    ap (λ t. suffix_after (canonical_version p) t) front.1
-    ∙ (ap (option_and_then some_text) (after-itself (canonical_version p) front.0)
+    ap (λ t. suffix_after (canonical_version p) t) front.1 ∙ (ap (option_and_then some_text) (after-itself (canonical_version p) front.0)
     ∙ ap some_text (sym (ap (drop (length (canonical_version p))) front.1 ∙ drop-append_seam (canonical_version p) front.0)))
 
 -- ---- the law
@@ -65,8 +64,7 @@ joined p s = go p.version
         ≡ path_in (record { namespace = text_of p.namespace; name = text_of p.name; version = option_map (λ x. canonical_version (parts_of x)) v }) (text_of s) ++ unwrap_or
         (option_and_then (λ x. version_suffix (parts_of x)) v) []
     go None = sym (append-nil (before []))
-    go (Some v) =
-        sym (path_longer (text_of p.namespace) (text_of p.name) (text_of s) (canonical_version (parts_of v)) (unwrap_or (version_suffix (parts_of v)) [])
+    go (Some v) = sym (path_longer (text_of p.namespace) (text_of p.name) (text_of s) (canonical_version (parts_of v)) (unwrap_or (version_suffix (parts_of v)) [])
         ∙ ap (λ t. before (64 ∷ t)) (canonical_joined (parts_of v)))
 
 pub canonical_paths_join : CanonicalPathsJoin

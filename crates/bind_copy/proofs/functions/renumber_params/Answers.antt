@@ -19,10 +19,7 @@ loop-param-preserved c =
     let within : n < length now = search rules in
     let here : slice_get now n ≡ Some x = slice_get_read now _ n x refl within c.param-item.is in
     item_written (IsParamUnder types) (λ ps. are_params_below (length types) ps ≡ true) (params_later (length types)) c.args.params.now now _ n x _ here
-    (λ xs left. (
-      ap (λ (p : Param). text_of p.name) (sym c.param-item.is),
-      c.image_of-param.ensures ∙ ap (λ (p : Param). renamed_type (number_under types) p.ty) (sym c.param-item.is),
-    ))
+    (λ xs left. (ap (λ (p : Param). text_of p.name) (sym c.param-item.is), c.image_of-param.ensures ∙ ap (λ (p : Param). renamed_type (number_under types) p.ty) (sym c.param-item.is)))
     refl c.loop-param.invariant
 
 pub returns : goal.returns

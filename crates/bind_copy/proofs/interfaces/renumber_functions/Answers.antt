@@ -16,16 +16,14 @@ index_mut-requires c =
     omega (arith, long, below, end)
 
 pub renumber_function-requires : goal.renumber_function-requires
-renumber_function-requires c =
-    (value_left (IsFunctionEntry c.args.types.now) (AreFunctionsBelow (length c.args.types.now)) (functions_later (length c.args.types.now)) c.args.functions.now.entries
+renumber_function-requires c = (value_left (IsFunctionEntry c.args.types.now) (AreFunctionsBelow (length c.args.types.now)) (functions_later (length c.args.types.now)) c.args.functions.now.entries
     c.loop-place.functions.entries c.loop-place.place c.index_mut.result.now c.index_mut.ensures.value c.loop-place.invariant).1.1.0
 
 pub loop-place-preserved : goal.loop-place-preserved
 loop-place-preserved c =
     let f = c.renumber_function.ensures in
     value_written (IsFunctionEntry c.args.types.now) (AreFunctionsBelow (length c.args.types.now)) (functions_later (length c.args.types.now)) c.args.functions.now.entries
-    c.loop-place.functions.entries _ c.loop-place.place c.index_mut.result.now c.renumber_function.new.function c.index_mut.ensures.value
-    (λ k rest left. (refl, f)) refl c.loop-place.invariant
+    c.loop-place.functions.entries _ c.loop-place.place c.index_mut.result.now c.renumber_function.new.function c.index_mut.ensures.value (λ k rest left. (refl, f)) refl c.loop-place.invariant
 
 pub returns : goal.returns
 returns c =

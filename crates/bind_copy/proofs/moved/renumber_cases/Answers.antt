@@ -18,8 +18,7 @@ loop-case-preserved c =
     let x = c.case-item.result in
     let within : n < length now = search rules in
     let here : slice_get now n ≡ Some x = slice_get_read now _ n x refl within c.case-item.is in
-    item_written (IsCaseUnder numbers) (λ xs. are_cases_below (length numbers) xs ≡ true) (cases_later (length numbers)) c.args.cases.now now _ n x _ here
-    (λ xs left. (
+    item_written (IsCaseUnder numbers) (λ xs. are_cases_below (length numbers) xs ≡ true) (cases_later (length numbers)) c.args.cases.now now _ n x _ here (λ xs left. (
       ap (λ (p : Case). text_of p.name) (sym c.case-item.is),
       (
         c.optional_image-case.ensures ∙ ap (λ (p : Case). option_map (renamed_type (number_under numbers)) p.ty) (sym c.case-item.is),

@@ -18,13 +18,9 @@ loop-field-preserved c =
     let x = c.field-item.result in
     let within : n < length now = search rules in
     let here : slice_get now n ≡ Some x = slice_get_read now _ n x refl within c.field-item.is in
-    item_written (IsFieldUnder numbers) (λ xs. are_fields_below (length numbers) xs ≡ true) (fields_later (length numbers)) c.args.fields.now now _ n x _ here
-    (λ xs left. (
+    item_written (IsFieldUnder numbers) (λ xs. are_fields_below (length numbers) xs ≡ true) (fields_later (length numbers)) c.args.fields.now now _ n x _ here (λ xs left. (
       ap (λ (p : Field). text_of p.name) (sym c.field-item.is),
-      (
-        c.image_of-field.ensures ∙ ap (λ (p : Field). renamed_type (number_under numbers) p.ty) (sym c.field-item.is),
-        ap (λ (p : Field). optional_text p.docs.contents) (sym c.field-item.is),
-      ),
+      (c.image_of-field.ensures ∙ ap (λ (p : Field). renamed_type (number_under numbers) p.ty) (sym c.field-item.is), ap (λ (p : Field). optional_text p.docs.contents) (sym c.field-item.is)),
     ))
     refl c.loop-field.invariant
 

@@ -19,8 +19,7 @@ returns-then-not-branch c =
     let held = holds c.args.listed.now in
     let there : held c.in-Some.used.0 ≡ true = search rules in
     λ rest.
-    ap (λ ns. map number_of_interface c.args.deps.now.items ++ ns)
-    (listed_skipped own held c.in-Some.used.0 (holds c.mark.new.listed) there c.in_ok-mark.ensures.marked rest
+    ap (λ ns. map number_of_interface c.args.deps.now.items ++ ns) (listed_skipped own held c.in-Some.used.0 (holds c.mark.new.listed) there c.in_ok-mark.ensures.marked rest
     ∙ ap (λ o. yet_unlisted own held (cons_option (option_map number_of_interface o) rest)) (sym c.in-Some.is))
 
 pub returns : goal.returns
@@ -35,6 +34,5 @@ returns c =
     λ rest.
     ap (λ ds. map number_of_interface ds ++ yet_unlisted own (holds c.mark.new.listed) rest) pushed
     ∙ (pushed_first deps used (yet_unlisted own (holds c.mark.new.listed) rest)
-    ∙ ap (λ ns. map number_of_interface deps ++ ns)
-    (new_listed own held used.0 (holds c.mark.new.listed) other fresh c.in_ok-mark.ensures.marked rest
+    ∙ ap (λ ns. map number_of_interface deps ++ ns) (new_listed own held used.0 (holds c.mark.new.listed) other fresh c.in_ok-mark.ensures.marked rest
     ∙ ap (λ o. yet_unlisted own held (cons_option (option_map number_of_interface o) rest)) (sym c.in-Some.is)))

@@ -22,13 +22,11 @@ returns-in_err-put_export-2-clause-size c is =
     rw (← c.self.view_is) (name_refused _ _ _ _ _ c.self.invariant c.args.name.now c.args.index long)
 
 pub invariant_of-self-then-self : goal.invariant_of-self-then-self
-invariant_of-self-then-self c =
-    rw (c.in_ok-put_export.ensures.ok, c.in_ok-count.ensures.ok, c.in_ok-types.ensures.ok)
+invariant_of-self-then-self c = rw (c.in_ok-put_export.ensures.ok, c.in_ok-count.ensures.ok, c.in_ok-types.ensures.ok)
     (join_export_at _ _ _ _ _ (plain_export c.args.name.now c.args.index) c.if-self.true c.self.invariant c.if-self-gt0.true c.in_ok-put_export.ensures.spelled).builds
 
 pub returns-in_ok-put_export-clause-ok : goal.returns-in_ok-put_export-clause-ok
-returns-in_ok-put_export-clause-ok c =
-    rw (c.in_ok-put_export.ensures.ok, c.in_ok-count.ensures.ok, ← c.self.view_is)
+returns-in_ok-put_export-clause-ok c = rw (c.in_ok-put_export.ensures.ok, c.in_ok-count.ensures.ok, ← c.self.view_is)
     (join_export_at _ _ _ _ _ (plain_export c.args.name.now c.args.index) c.if-self.true c.self.invariant c.if-self-gt0.true c.in_ok-put_export.ensures.spelled).shows
 
 pub returns-in_err-close-clause-size : goal.returns-in_err-close-clause-size

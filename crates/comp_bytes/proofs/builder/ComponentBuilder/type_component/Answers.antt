@@ -12,13 +12,11 @@ pub returns-in_err-count-clause-size : goal.returns-in_err-count-clause-size
 returns-in_err-count-clause-size c _ = rw (← c.self.view_is) (count_refused _ _ _ _ _ c.self.invariant (Part.top_type (TopType.component c.args.component.now)) refl c.in_err-count.ensures.size)
 
 pub invariant_of-self-then-not-self : goal.invariant_of-self-then-not-self
-invariant_of-self-then-not-self c =
-    rw (c.in_ok-put_component.ensures.ok, c.in_ok-count.ensures.ok, c.in_ok-types.ensures.ok)
+invariant_of-self-then-not-self c = rw (c.in_ok-put_component.ensures.ok, c.in_ok-count.ensures.ok, c.in_ok-types.ensures.ok)
     (join_type_at _ _ _ _ _ (TopType.component c.args.component.now) c.if-not-self.true c.self.invariant c.if-self-gt0.true c.in_ok-put_component.ensures.spelled).builds
 
 pub returns-in_ok-put_component-clause-ok : goal.returns-in_ok-put_component-clause-ok
-returns-in_ok-put_component-clause-ok c =
-    rw (c.in_ok-put_component.ensures.ok, c.in_ok-count.ensures.ok, ← c.self.view_is)
+returns-in_ok-put_component-clause-ok c = rw (c.in_ok-put_component.ensures.ok, c.in_ok-count.ensures.ok, ← c.self.view_is)
     (join_type_at _ _ _ _ _ (TopType.component c.args.component.now) c.if-not-self.true c.self.invariant c.if-self-gt0.true c.in_ok-put_component.ensures.spelled).shows
 
 pub returns-in_err-close-clause-size : goal.returns-in_err-close-clause-size

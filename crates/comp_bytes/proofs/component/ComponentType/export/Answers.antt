@@ -7,11 +7,9 @@ returns-in_err-count-clause-size c _ =
     rw (← c.self.view_is) (declaration_refused _ _ _ (Declaration.exported (raw_name c.args.name.now) c.args.ty) c.self.invariant (rw c.described_slots.ensures at c.in_err-count.ensures.size))
 
 pub invariant_of-self-2 : goal.invariant_of-self-2
-invariant_of-self-2 c =
-    rw (c.in_ok-count.ensures.ok.0, c.in_ok-count.ensures.ok.1, c.described_slots.ensures, c.in_ok-declare_export.ensures.ok)
+invariant_of-self-2 c = rw (c.in_ok-count.ensures.ok.0, c.in_ok-count.ensures.ok.1, c.described_slots.ensures, c.in_ok-declare_export.ensures.ok)
     (add_declaration _ _ _ (Declaration.exported (raw_name c.args.name.now) c.args.ty) c.self.invariant c.in_ok-declare_export.ensures.spelled).holds
 
 pub returns-clause-ok : goal.returns-clause-ok
-returns-clause-ok c =
-    rw (c.in_ok-count.ensures.ok.0, c.in_ok-declare_export.ensures.ok, ← c.self.view_is)
+returns-clause-ok c = rw (c.in_ok-count.ensures.ok.0, c.in_ok-declare_export.ensures.ok, ← c.self.view_is)
     (add_declaration _ _ _ (Declaration.exported (raw_name c.args.name.now) c.args.ty) c.self.invariant c.in_ok-declare_export.ensures.spelled).shows

@@ -6,11 +6,9 @@ pub returns-in_err-count-clause-size : goal.returns-in_err-count-clause-size
 returns-in_err-count-clause-size c _ = rw (← c.self.view_is) (declaration_refused _ _ _ (Declaration.function (raw_function c.args.function.now)) c.self.invariant c.in_err-count.ensures.size)
 
 pub invariant_of-self-2 : goal.invariant_of-self-2
-invariant_of-self-2 c =
-    rw (c.in_ok-count.ensures.ok.0, c.in_ok-count.ensures.ok.1, c.in_ok-declare_function.ensures.ok)
+invariant_of-self-2 c = rw (c.in_ok-count.ensures.ok.0, c.in_ok-count.ensures.ok.1, c.in_ok-declare_function.ensures.ok)
     (add_declaration _ _ _ (Declaration.function (raw_function c.args.function.now)) c.self.invariant c.in_ok-declare_function.ensures.spelled).holds
 
 pub returns-clause-ok : goal.returns-clause-ok
-returns-clause-ok c =
-    rw (c.in_ok-count.ensures.ok.0, c.in_ok-declare_function.ensures.ok, ← c.self.view_is)
+returns-clause-ok c = rw (c.in_ok-count.ensures.ok.0, c.in_ok-declare_function.ensures.ok, ← c.self.view_is)
     (add_declaration _ _ _ (Declaration.function (raw_function c.args.function.now)) c.self.invariant c.in_ok-declare_function.ensures.spelled).shows

@@ -7,11 +7,9 @@ pub returns-in_err-count-clause-size : goal.returns-in_err-count-clause-size
 returns-in_err-count-clause-size c _ = rw (← c.self.view_is) (counts_refused _ _ _ (Declaration.alias_of (raw_alias c.args.alias.now)) c.self.invariant c.in_err-count.ensures.size)
 
 pub invariant_of-self-2 : goal.invariant_of-self-2
-invariant_of-self-2 c =
-    rw (c.in_ok-count.ensures.ok.0, c.in_ok-count.ensures.ok.1, c.in_ok-declare_alias.ensures.ok)
+invariant_of-self-2 c = rw (c.in_ok-count.ensures.ok.0, c.in_ok-count.ensures.ok.1, c.in_ok-declare_alias.ensures.ok)
     (push _ _ _ (Declaration.alias_of (raw_alias c.args.alias.now)) c.self.invariant c.in_ok-declare_alias.ensures.spelled refl).holds
 
 pub returns-clause-ok : goal.returns-clause-ok
-returns-clause-ok c =
-    rw (c.in_ok-count.ensures.ok.0, c.in_ok-declare_alias.ensures.ok, ← c.self.view_is)
+returns-clause-ok c = rw (c.in_ok-count.ensures.ok.0, c.in_ok-declare_alias.ensures.ok, ← c.self.view_is)
     (push _ _ _ (Declaration.alias_of (raw_alias c.args.alias.now)) c.self.invariant c.in_ok-declare_alias.ensures.spelled refl).shows
