@@ -20,9 +20,9 @@ use Rattle.comp_meaning.specs.Reads.{worlds_of}
 use Rattle.plan_type_laws.specs.ShownMarks.{has_no_path}
 use Rattle.plan_laws.proofs.OwnPlaces.{once_first}
 use Rattle.read_exports.specs.Members.{numbered_member, numbered_members}
-use Rattle.comp_read.proofs.{PlanOrder.worlds_meant, ShownOrder.paths_once, Members.instance_shown, ShownScopes.scope_places, Views.first_of_place}
+use Rattle.comp_read.proofs.{NumberedOrder.worlds_meant, TypeNumbers.same_part, TypeNumbers.shown_at, TypeNumbers.shown_number, TypeNumbers.told_parts}
+use Rattle.comp_read.proofs.{ShownOrder.paths_once, ShownOrder.joined_behind, Members.instance_shown, Members.first_of_place, ShownScopes.scope_places}
 use Rattle.comp_read.proofs.Cuts.{behind_front, early, late, of_front, split_flat}
-use Rattle.comp_read.proofs.{WorldOrder.joined_behind, TypeNumbers.same_part, TypeNumbers.shown_at, TypeNumbers.shown_number, TypeNumbers.told_parts}
 use Rattle.comp_bytes.specs.Levels.{Piece}
 use Rattle.plan_parts.specs.Kept.{AreMarked}
 use Rattle.plan_types.specs.Orders.{joined_all}
@@ -162,10 +162,9 @@ module _ (t : Tables) (kept : List ℕ) (places : List ℕ) (n : ℕ) (v : Text 
 pub zip_take : {A B : Type 0} (R : A → B → Type 0) (m : ℕ) (xs : List A) (ys : List B) → AllZip R xs ys → AllZip R (take m xs) (take m ys)
 zip_take R zero [] [] all = tt
 zip_take R (suc m) [] [] all = tt
-zip_take R m [] (y ∷ ys) all = absurd all
-zip_take R m (x ∷ xs) [] all = absurd all
 zip_take R zero (x ∷ xs) (y ∷ ys) all = tt
 zip_take R (suc m) (x ∷ xs) (y ∷ ys) all = (all.0, zip_take R m xs ys all.1)
+zip_take R m _ _ all = absurd all
 
 -- ---- places
 

@@ -26,7 +26,7 @@ use Rattle.comp_read.specs.Cuts.{IsCut, StandsBefore, StandsBehind}
 use Rattle.base_lemmas.proofs.{Elements.map_from, Elements.get-contains}
 use Rattle.base_lemmas.proofs.Lists.{get_back, heads_equal, mapped_get, one_item, tails_equal, append_of_map, map_of_map, front_at, none_there, slice_front, slice_take}
 use Rattle.plan_laws.proofs.{ShownAlike.joined_more, MetNames.flat_cases, Sources.IsOnce, Sources.all_once, Sources.none_twice}
-use Rattle.comp_read.proofs.{WorldOrder.joined_behind}
+use Rattle.comp_read.proofs.{ShownOrder.joined_behind}
 use Rattle.plan_meaning.specs.NumberedWorlds as worlds
 use Rattle.read_follow.specs.declared.scopes.Shown.TheVariants as shown
 use Rattle.comp_meaning.specs.Follow as follow

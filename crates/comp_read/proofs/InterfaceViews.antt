@@ -1,20 +1,88 @@
 -- The views that the component type of an interface gives are those of its instances.
-use Rattle.std.proofs.Common.{rules as std_rules, ◌≡◌, refl, subst, ◌⊎◌, inl, inr, Bool, true, false, List, [], ◌∷◌, ◌++◌, map, Option, Some, None}
-use Rattle.std.proofs.lemmas.List.Elements.{Contains-append_cases, Contains-append_left, Contains-append_right}
-use Rattle.std.proofs.lemmas.Option.{same_Some as same-some}
-use Rattle.std.specs.List.{AllByRecursion, AllZip, Contains}
-use Rattle.wit_model.proofs.Elements.{contains-get}
-use Rattle.comp_bytes.specs.Reading.{◌>>=◌}
-use Rattle.comp_meaning.specs.Follow.{each}
-use Rattle.plan_meaning.specs.{FollowedNumbers.IsOneOf, NumberedViews.NumberedSight, NumberedViews.Tables}
-use Rattle.plan_meaning.specs.NumberedMembers.{exported_view, imported_view}
-use Rattle.plan_meaning.specs.NumberedWorlds.{HasPath, NumberedInstance, NumberedScope, NumberedSeen, NumberedShown, are_once, are_reached, instance, path}
+use Rattle.std.proofs.Common.{rules as std_rules, ◌≡◌, ap, ◌∙◌, true, List, Some, ◌⊎◌, inl, inr, refl, sym, ℕ, Bool, false, cond, [], ◌∷◌, ◌++◌, map, append-nil, subst, Option, None}
+use Rattle.std.proofs.lemmas.{Bool.eq-eqb, Bool.eqb-true, List.map-append, Option.same_Some as same-some}
+use Rattle.std.proofs.lemmas.List.Elements.{filter-append, Contains-append_cases, Contains-append_left, Contains-append_right}
+use Rattle.wit_model.specs.{Text.Text, Uses.has, Uses.once}
+use Rattle.comp_bytes.specs.{Levels.PartType, Levels.Piece, Reading.◌>>=◌}
+use Rattle.comp_bytes.proofs.Readers.{bind_some}
+use Rattle.comp_meaning.specs.{ByLevels.exported_parts, ByLevels.member_by_levels, Follow.each, Follow.is_filled, Reads.Member}
+use Rattle.read_parts.specs.Followed.{PartScope, labelled_scope, member_of_scope, scopes_of}
+use Rattle.read_parts.proofs.ScopeMeaning.{each_both, member_law}
+use Rattle.std.specs.List.{Contains, filter, AllByRecursion, AllZip}
+use Rattle.plan_meaning.specs.NumberedWorlds.{NumberedInstance, NumberedKey, NumberedScope, NumberedSeen, instance, place_of_key, HasPath, NumberedShown, are_once, are_reached, path}
+use Rattle.plan_meaning.specs.FollowedNumbers.{IsOneOf}
+use Rattle.plan_meaning.specs.{NumberedViews.NumberedSight, NumberedViews.Tables, NumberedMembers.exported_view, NumberedMembers.imported_view}
+use Rattle.base_lemmas.proofs.Elements.{get-contains, all_at, contains-map, contains-one, last_of as one-contained, map_from as from_map, zip_at as zip_there, zip_at_right as zip_at, zip-kept}
+use Rattle.wit_model.proofs.{Chains.has_once, Elements.contains-get}
 use Rattle.read_exports.specs.Interfaces.{Placed, shown_interface}
 use Rattle.plan_package.specs.Views.{types_alone}
 use Rattle.read_numbers.specs.PlacedNumbers.{IsPlacedItem}
-use Rattle.comp_read.proofs.Scopes.{IsSeen, IsSeenAs}
-use Rattle.base_lemmas.proofs.Elements.{all_at, contains-map, contains-one, get-contains, last_of as one-contained, map_from as from_map, zip_at as zip_there, zip_at_right as zip_at}
-use Rattle.base_lemmas.proofs.Elements.{zip-kept}
+use Rattle.read_numbers.specs.PlacedNumbers as placed
+
+-- ---- Numbers, each once, where it stands first.
+
+-- ---- What the rules of reading make of the parts at the top is what they make of the scopes that were followed.
+
+-- the scopes of these parts are the items of the sections' parts
+pub scopes_found : (pieces : List Piece) (parts : List (Text × PartType)) → exported_parts pieces ≡ Some parts → (scopes : List (Text × PartScope)) → scopes_of pieces ≡ Some scopes
+    → each labelled_scope parts ≡ Some scopes
+unfolding scopes_of
+scopes_found pieces parts found scopes e = search std_rules
+
+-- there is a part
+pub parts_filled : (pieces : List Piece) (parts : List (Text × PartType)) → exported_parts pieces ≡ Some parts → (scopes : List (Text × PartScope)) → scopes_of pieces ≡ Some scopes
+    → is_filled parts ≡ true
+unfolding scopes_of
+parts_filled pieces parts found scopes e = search std_rules
+
+pub members_by_scopes : (pieces : List Piece) (parts : List (Text × PartType)) → exported_parts pieces ≡ Some parts → (members : List Member)
+    → (scopes_of pieces >>= each member_of_scope) ≡ Some members → each member_by_levels parts ≡ Some members
+members_by_scopes pieces parts found members reads =
+    let scopes = bind_some (scopes_of pieces) (each member_of_scope) members reads in
+    each_both labelled_scope member_of_scope member_by_levels member_law parts ∙ (ap (λ o. o >>= each member_of_scope) (scopes_found pieces parts found scopes.0 scopes.1) ∙ scopes.2)
+
+-- ---- The instances of a scope are its imports and its exports that are instances.
+
+-- an import or an export is the instance
+pub record IsSeenAs (i : NumberedInstance) (s : NumberedSeen) : Type 0 where
+  pub key : NumberedKey
+  pub shown : s.shown ≡ instance key i.view
+  pub place : place_of_key key ≡ i.place
+
+pub record IsSeen (w : NumberedScope) (i : NumberedInstance) : Type 0 where
+  pub seen : NumberedSeen
+  pub among : Contains w.imports seen ⊎ Contains w.exports seen
+  pub is : IsSeenAs i seen
+
+pub either_seen : (w : NumberedScope) (i : NumberedInstance) → placed.IsSeenAs w i → IsSeen w i
+either_seen w i (placed.as_import n s key there is place) = record { seen = s; among = inl (get-contains w.imports n s there); is = record { key = key; shown = is; place = place } }
+either_seen w i (placed.as_export n s key there is place) = record { seen = s; among = inr (get-contains w.exports n s there); is = record { key = key; shown = is; place = place } }
+
+-- ---- what the page is for
+
+-- one more stands behind the others, unless it is there
+pub once_more : (xs : List ℕ) (x : ℕ) → once (xs ++ x ∷ []) ≡ cond (has xs x) (once xs) (once xs ++ x ∷ [])
+once_more [] x = refl
+once_more (y ∷ xs) x = search (std_rules, eq-eqb, eqb-true, filter-append, append-nil, once_more xs x)
+
+-- those that pass a test, behind which one more stands
+module _ {A : Type 0} (P : ℕ → Bool) (f : A → ℕ) (xs : List A) (x : A) where
+  filter_more : filter P (map f (xs ++ x ∷ [])) ≡ filter P (map f xs) ++ cond (P (f x)) (f x ∷ []) []
+  filter_more = ap (filter P) (map-append f xs (x ∷ [])) ∙ filter-append P (map f xs) (f x ∷ [])
+
+  pub filter_other : P (f x) ≡ false → once (filter P (map f (xs ++ x ∷ []))) ≡ once (filter P (map f xs))
+  filter_other fails = ap once (filter_more ∙ (ap (λ b. filter P (map f xs) ++ cond b (f x ∷ []) []) fails ∙ append-nil (filter P (map f xs))))
+
+  passes_too : P (f x) ≡ true → once (filter P (map f (xs ++ x ∷ []))) ≡ cond (has (filter P (map f xs)) (f x)) (once (filter P (map f xs))) (once (filter P (map f xs)) ++ f x ∷ [])
+  passes_too passes = ap once (filter_more ∙ ap (λ b. filter P (map f xs) ++ cond b (f x ∷ []) []) passes) ∙ once_more (filter P (map f xs)) (f x)
+
+  pub filter_known : P (f x) ≡ true → has (once (filter P (map f xs))) (f x) ≡ true → once (filter P (map f (xs ++ x ∷ []))) ≡ once (filter P (map f xs))
+  filter_known passes there = passes_too passes ∙ ap (λ b. cond b (once (filter P (map f xs))) (once (filter P (map f xs)) ++ f x ∷ [])) (sym (has_once (f x) (filter P (map f xs))) ∙ there)
+
+  pub filter_new : P (f x) ≡ true → has (once (filter P (map f xs))) (f x) ≡ false → once (filter P (map f (xs ++ x ∷ []))) ≡ once (filter P (map f xs)) ++ f x ∷ []
+  filter_new passes none = passes_too passes ∙ ap (λ b. cond b (once (filter P (map f xs))) (once (filter P (map f xs)) ++ f x ∷ [])) (sym (has_once (f x) (filter P (map f xs))) ∙ none)
+
+-- ---- what the page is for
 
 no_some : {A B : Type 0} (x : A) → None ≡ Some x → B
 no_some x e = let wrong : ⊥ = cc in absurd wrong

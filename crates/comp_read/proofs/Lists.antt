@@ -161,6 +161,5 @@ filter_flat test f (x ∷ xs) = filter-append test (f x) (flat_map f xs) ∙ ap 
 -- what holds of each item by what stands beside it
 pub all_beside : {A B C : Type 0} (R : A → B → Type 0) (Q : C → Type 0) (f : B → C) → ((a : A) (b : B) → R a b → Q (f b)) → (xs : List A) (ys : List B) → AllZip R xs ys → AllByRecursion Q (map f ys)
 all_beside R Q f one [] [] all = tt
-all_beside R Q f one [] (y ∷ ys) all = absurd all
-all_beside R Q f one (x ∷ xs) [] all = absurd all
 all_beside R Q f one (x ∷ xs) (y ∷ ys) all = (one x y all.0, all_beside R Q f one xs ys all.1)
+all_beside R Q f one _ _ all = absurd all

@@ -6,9 +6,10 @@ use Rattle.wit_model.specs.declared.model.{Resolve.Resolve, TypeId.TypeId, World
 use Rattle.wit_model.specs.{Lookup.world_at as model_world, Text.Text, Uses.once}
 use Rattle.comp_bytes.specs.Levels.{Entry, PartType, Piece}
 use Rattle.comp_meaning.specs.{ByLevels.entry_step, Follow.new_scope, Reads.steps, Rules.distinct}
-use Rattle.plan_meaning.specs.{Built.IsBuilt, Built.planned_item, Built.planned_key, Built.planned_world, NumberedRules.Fact, NumberedViews.NumberedSight, NumberedViews.Tables, NumberedViews.first_at, NumberedViews.path_at, Plan.Plan}
+use Rattle.plan_meaning.specs.{Built.IsBuilt, Built.planned_item, Built.planned_key, Built.planned_world, Built.planned_interface, NumberedRules.Fact}
+use Rattle.plan_meaning.specs.{NumberedViews.NumberedSight, NumberedViews.Tables, NumberedViews.first_at, NumberedViews.path_at, Plan.Plan}
+use Rattle.plan_meaning.specs.NumberedWorlds.{NumberedScope, NumberedSeen, are_once}
 use Rattle.plan_meaning.specs.NumberedMembers.{Homes, IsMember, NumberedMember}
-use Rattle.plan_meaning.specs.{NumberedWorlds.NumberedScope, NumberedWorlds.NumberedSeen, NumberedWorlds.are_once, Built.planned_interface}
 use Rattle.plan_meaning.proofs.TypeOrder.{type_numbers_are}
 use Rattle.plan_parts.specs.Kept.{AreMarked}
 use Rattle.plan_types.specs.Orders.{joined_all}
@@ -19,13 +20,14 @@ use Rattle.read_exports.specs.Members.{numbered_member, numbered_members}
 use Rattle.read_exports.specs.declared.members.{Member.Member, Part.Part}
 use Rattle.read_members.specs.PartMembers.{IsMemberOf}
 use Rattle.read_numbers.specs.{NumberedInput.tables_of, NumberedParts.numbered_scope as followed_scope, PlacedNumbers.scopes_in}
-use Rattle.read_parts.specs.declared.{following.Followed.Followed, members.Member.Member as FollowedMember}
-use Rattle.read_parts.specs.{Members.entries_of, Members.scope_of}
+use Rattle.read_parts.specs.{declared.following.Followed.Followed, declared.members.Member.Member as FollowedMember, Members.entries_of, Members.scope_of}
 use Rattle.read_rules.specs.Scopes.{numbered_scope}
 use Rattle.read_rules.specs.declared.scopes.Scope.{Scope}
 use Rattle.comp_read.specs.Order.{HowMuch, IsNamedBefore, IsNamedBehind, once_by_path, shown_under, shown_until}
 use Rattle.comp_read.specs.ReadInput.{IsReadInput, ViewsObey}
-use Rattle.comp_read.proofs.{Cuts.IsCutOf, Cuts.cut_of, Members.both_at, Members.placed, Members.tables, Members.world_read, CutOrder.IsSo, CutOrder.interface_high, CutOrder.interface_low, PlanOrder.built_at, PlanOrder.world_built_at, Cuts.split_flat, Inputs.keys_differ, Places.world_at, TypeNumbers.kept_less}
+use Rattle.comp_read.proofs.{Cuts.IsCutOf, Cuts.cut_of, Cuts.split_flat, Members.both_at, Members.placed, Members.tables, Members.world_read}
+use Rattle.comp_read.proofs.{CutOrder.IsSo, CutOrder.interface_high, CutOrder.interface_low, NumberedOrder.built_at, NumberedOrder.world_built_at}
+use Rattle.comp_read.proofs.{Inputs.keys_differ, Inputs.world_at, TypeNumbers.kept_less}
 use Rattle.comp_read.proofs.CutOrder.{counts_of, many_places, many_worlds, zip_take, Counts, IsImported, IsWorldOf, before_there, behind_there, imported, world_of, worlds_before}
 use Rattle.comp_read.proofs.ShownScopes.{mapped_zip, scopes_under, scope_places}
 use Rattle.base_lemmas.proofs.{Elements.all_at_too, Elements.get-contains, Elements.zip_at_right, Lists.append_of_map, Lists.get_back, Lists.mapped_get}

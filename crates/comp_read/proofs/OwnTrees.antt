@@ -14,7 +14,7 @@ use Rattle.plan_meaning.specs.NumberedWorlds.{NumberedScope, Shows, instance_of}
 use Rattle.plan_type_laws.specs.MembersStand.{MembersStand, all_instances}
 use Rattle.plan_laws.specs.OneWorld.{AreOwnInterfaces}
 use Rattle.plan_laws.proofs.{MetNames.flat_cases, Sources.all_of}
-use Rattle.comp_read.proofs.{OwnViews.own_at, WorldOrder.spelled_as}
+use Rattle.comp_read.proofs.{OwnViews.own_at, ShownOrder.spelled_as}
 use Rattle.base_lemmas.proofs.{Elements.contains-map, Elements.get-contains, Elements.last_of as one-contained, Elements.map_from as from_map, Lists.split_at}
 use Rattle.comp_meaning.specs.Follow as follow
 use Rattle.comp_meaning.specs.Reads as reads

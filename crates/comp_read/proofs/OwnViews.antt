@@ -1,8 +1,8 @@
 -- The interfaces of a world's package that it shows: each is seen by a view of the world.
 use Rattle.std.proofs.Common.{rules as std_rules, ◌≡◌, refl, sym, ap, subst, ◌∙◌, ℕ, zero, suc, ◌+◌, ◌<◌, ◌≤◌, ◌⊎◌, inl, inr, arith, Bool, true, false, not, ◌||◌, ◌==◌, cond, List, [], ◌∷◌, ◌++◌, map, take, drop, length, get_or, if◌then◌else◌, Option, Some, Result, Ok, Err, OnOk, None}
 use Rattle.std.proofs.{lemmas.Bool.eq-eqb, lemmas.Bool.eqb-true, lemmas.Bool.and_from as both, lemmas.Map.Keys.any_passes_from_place as get_any}
-use Rattle.std.proofs.lemmas.List.Elements.{Contains-append_cases, Contains-append_left, Contains-append_right}
 use Rattle.std.proofs.{ByRecursion.All-weaker as recursion_weaker, lemmas.List.take_all, Math.Seq.take-suc}
+use Rattle.std.proofs.lemmas.List.Elements.{Contains-append_cases, Contains-append_left, Contains-append_right}
 use Rattle.std.specs.{Borrow.Bor, List.AllByRecursion, List.Contains, List.find, List.flat_map, List.list_any, Option.option_map_or}
 use Rattle.wit_model.specs.{Names.PackageIdentity, Text.Text, Uses.has}
 use Rattle.wit_model.proofs.Elements.{contains-get, contains-has, has-contains, none-in}
@@ -15,7 +15,7 @@ use Rattle.read_exports.specs.declared.members.Member.{Member}
 use Rattle.plan_laws.specs.OneWorld.{AreOwnInterfaces, IsOwnInterface, place_of_part}
 use Rattle.plan_laws.proofs.{MetNames.flat_cases, ViewsAgree.first_is}
 use Rattle.comp_read.specs.OwnMembers.{AddsInterface, AddsView, AreOwnAmong, IsOfView, IsOwnAmong, StandAsShown, another, known, new, own, own_places}
-use Rattle.comp_read.proofs.OwnOrder.{filter_known, filter_new, filter_other}
+use Rattle.comp_read.proofs.InterfaceViews.{filter_known, filter_new, filter_other}
 use Rattle.base_lemmas.proofs.{Bools.left_of as first_true, Bools.right_of as second_true, Lists.append_of_map, Numbers.same-number}
 use Rattle.base_lemmas.proofs.Elements.{all_both, contains-one, last_of as one-contained, all_at, contains-map}
 use Rattle.read_rules.proofs.PlaceLaws.{any_flip}

@@ -9,7 +9,8 @@ use Rattle.wit_model.proofs.{Chains.has_once, Elements.contains-flat, Elements.c
 use Rattle.comp_bytes.specs.Levels.{Piece}
 use Rattle.comp_meaning.specs.Same.{same_identity}
 use Rattle.comp_meaning.proofs.SameLaws.{identities_decide}
-use Rattle.plan_meaning.specs.{Built.IsBuilt, Built.planned_package, NumberedWorlds.HasPath, NumberedWorlds.NumberedInstance, NumberedWorlds.NumberedScope, NumberedViews.Tables, NumberedViews.path_at, Plan.Plan, Plan.PlannedPackage}
+use Rattle.plan_meaning.specs.{Built.IsBuilt, Built.planned_package, NumberedWorlds.HasPath, NumberedWorlds.NumberedInstance, NumberedWorlds.NumberedScope}
+use Rattle.plan_meaning.specs.{NumberedViews.Tables, NumberedViews.path_at, Plan.Plan, Plan.PlannedPackage}
 use Rattle.plan_meaning.specs.NumberedMembers.{Homes, IsMember, NumberedMember, home_at}
 use Rattle.plan_package.specs.{PlanWhole.PlansWhole, WholeInterfaces.Home}
 use Rattle.plan_laws.specs.WholePlan.{IsOfMember}
@@ -21,14 +22,14 @@ use Rattle.read_parts.specs.declared.following.Followed.{Followed}
 use Rattle.read_numbers.specs.{NumberedInput.tables_of, PlacedNumbers.ArePlacedScopes, PlacedNumbers.IsMetBefore, PlacedNumbers.scopes_in}
 use Rattle.comp_read.specs.{Order.once_by_identity, Order.package_of_path, Order.packages_shown, Order.shown_under, ReadInput.AreHomesOf, ReadInput.IsReadInput}
 use Rattle.comp_read.specs.ReadPackages.{HaveSources}
-use Rattle.comp_read.proofs.CountedUp.{Any, IsBeforeIn, IsOfSmaller, StandBehind, behind_both, behind_flat, behind_low, behind_mapped, below, below_at, below_long, counted_up}
-use Rattle.comp_read.proofs.{Members.placed, ShownScopes.places_shown_under, ShownScopes.scope_places, WorldOrder.homeless}
+use Rattle.comp_read.proofs.TypeNumbers.{Any, IsBeforeIn, IsOfSmaller, StandBehind, behind_both, behind_flat, behind_low, behind_mapped, below, below_at, below_long, counted_up}
+use Rattle.comp_read.proofs.{Members.placed, ShownScopes.places_shown_under, ShownScopes.scope_places, ShownOrder.homeless}
 use Rattle.base_lemmas.proofs.Elements.{contains-later, contains-map, first-contained, get-contains, map_from, zip_at, zip_map}
 use Rattle.base_lemmas.proofs.Lists.{append_of_map, get_back, length_of_map, map_of_map, mapped_get, within_there}
 use Rattle.base_lemmas.proofs.{Numbers.unequal, Options.some_is}
 use Rattle.comp_meaning.specs.Reads as reads
 use Rattle.read_numbers.specs.PlacedNumbers as placed_numbers
-use Rattle.comp_read.proofs.CountedUp as counted
+use Rattle.comp_read.proofs.TypeNumbers as counted
 
 -- ---- lists
 

@@ -6,29 +6,30 @@ use Rattle.wit_model.specs.{Text.Text, Meaning.PackageMeaning, Meaning.WorldPack
 use Rattle.wit_model.proofs.Elements.{contains-get, none-in}
 use Rattle.comp_bytes.specs.{Levels.Piece, Levels.PartType, Levels.levels_of, Reading.◌>>=◌, Reading.component_of}
 use Rattle.plan_meaning.specs.{FollowedNumbers.IsPartIn, FollowedNumbers.IsViewIn, KeptTypes.TypesAreKept, Plan.Plan, Plan.PlannedInterface, Plan.numbers_of}
-use Rattle.plan_meaning.specs.NumberedViews.{NumberedView, Tables, path_at, NumberedSight, first_at, place_at}
-use Rattle.plan_meaning.specs.NumberedMembers.{Homes, NumberedMember, NumberedPart, interface, world, HomesStand, IsMember, are_package, home_at}
 use Rattle.plan_meaning.specs.{NumberedWorlds.HasPath, NumberedWorlds.NumberedInstance, NumberedWorlds.NumberedScope, NumberedWorlds.are_once, Built.IsBuilt}
 use Rattle.plan_meaning.specs.{PlanRules.are_rising, PlanRules.IsPlan, Shapes.shape_trees, Shapes.IsTable}
+use Rattle.plan_meaning.specs.NumberedViews.{NumberedView, Tables, path_at, NumberedSight, first_at, place_at}
+use Rattle.plan_meaning.specs.NumberedMembers.{Homes, NumberedMember, NumberedPart, interface, world, HomesStand, IsMember, are_package, home_at}
 use Rattle.plan_type_laws.specs.ShownMarks.{has_no_path}
 use Rattle.plan_types.specs.Orders.{places_of_part, joined_all}
-use Rattle.plan_laws.proofs.{OwnPlaces.AreDifferent, OwnPlaces.no_path, WorldMeaning.one_world}
-use Rattle.plan_laws.proofs.{Owned.first_there, WholeTypes.one_package, WholeTypes.packages_are_ruled, WholeTypes.planned_types_are_whole}
+use Rattle.plan_laws.proofs.{OwnPlaces.AreDifferent, OwnPlaces.no_path, Owned.first_there}
+use Rattle.plan_laws.proofs.{WorldMeaning.one_world, WholeTypes.one_package, WholeTypes.packages_are_ruled, WholeTypes.planned_types_are_whole}
 use Rattle.read_exports.specs.Members.{numbered_members, numbered_part}
 use Rattle.read_exports.specs.declared.members.{Member.Member, Part.Part}
-use Rattle.read_rules.specs.Scopes.{numbered_scope}
+use Rattle.read_rules.specs.{Scopes.numbered_scope, declared.scopes.Scope.Scope, declared.tables.Fact.Fact as KeptFact}
 use Rattle.read_parts.specs.declared.{following.Followed.Followed, members.Member.Member as FollowedMember}
+use Rattle.read_parts.specs.{Input.IsFollowed, Members.declared_trees, Members.DeclaringScope, Members.IsScopedBy}
 use Rattle.read_numbers.specs.{NumberedInput.tables_of, FactLaws.known_by}
 use Rattle.read_numbers.specs.PlacedNumbers.{scopes_in as numbered_scopes, scopes_in, IsMetFrom}
-use Rattle.comp_read.specs.{ReadInput.IsReadInput, ReadInput.AreHomesOf, ReadInput.ViewsObey, Planned.IsBuiltOf, Planned.PlansMean, Planned.WorldPlansMean}
-use Rattle.comp_read.specs.{MembersRead.AreReadOf, OwnMembers.StandAsShown, TypeOrder.NumbersFollow}
-use Rattle.comp_read.specs.{Order.FollowsBytes, Order.FollowsLevels, Order.NamesFollow, ReadWorlds.AreBeside, ReadWorlds.IsReadWorld, WorldsRead.IsWorldReadOf}
-use Rattle.comp_read.proofs.{Lists.filter_flat, Lists.once_owned, NamedOrder.named_less, Whole.package_views_obey, Whole.read_is_package_input}
+use Rattle.comp_read.specs.{ReadInput.IsReadInput, ReadInput.AreHomesOf, ReadInput.ViewsObey, Order.FollowsBytes, Order.FollowsLevels, Order.NamesFollow}
+use Rattle.comp_read.specs.{Planned.IsBuiltOf, Planned.PlansMean, Planned.WorldPlansMean, OwnMembers.StandAsShown, ReadWorlds.AreBeside, ReadWorlds.IsReadWorld}
+use Rattle.comp_read.specs.{MembersRead.AreReadOf, TypeOrder.NumbersFollow, WorldsRead.IsWorldReadOf}
+use Rattle.comp_read.proofs.{Lists.filter_flat, Lists.once_owned, NamedOrder.named_less, ShownOrder.places_are, ShownScopes.scope_places}
+use Rattle.comp_read.proofs.{Whole.package_views_obey, Whole.read_is_package_input, Inputs.no_place, Inputs.places_differ, Inputs.world_at, Inputs.HasInstance}
 use Rattle.comp_read.proofs.{Members.IsBoth, Members.numbered_at, Members.placed, Members.tables, WorldReadLaws.is_world, WorldReadLaws.read_world_is_whole}
-use Rattle.comp_read.proofs.{Places.no_place, Places.places_differ, Places.world_at, NumberedOrder.met_apart, NumberedOrder.numbers_follow, Places.HasInstance}
-use Rattle.comp_read.proofs.{PlanOrder.StandAlone, PlanOrder.package_follows, PlanOrder.types_built, PlanOrder.world_follows, PackageOrder.packages_are}
-use Rattle.comp_read.proofs.{ByScopes.members_by_scopes, TypeNumbers.all_rise, TypeNumbers.places_alike, TypeNumbers.world_places, TypeNumbers.world_views}
-use Rattle.comp_read.proofs.{WorldOrder.places_are, ShownScopes.scope_places, ReadPackages.read_members_are_input, ReadPackages.read_packages_have_sources}
+use Rattle.comp_read.proofs.NumberedOrder.{met_apart, numbers_follow, StandAlone, package_follows, types_built, world_follows}
+use Rattle.comp_read.proofs.{PackageOrder.packages_are, TypeNumbers.all_rise, TypeNumbers.places_alike, TypeNumbers.world_places, TypeNumbers.world_views}
+use Rattle.comp_read.proofs.{InterfaceViews.members_by_scopes, ReadPackages.read_members_are_input, ReadPackages.read_packages_have_sources}
 use Rattle.base_lemmas.proofs.Elements.{all_at, filter_kept as filter_from, get-contains, map_from as from_map, contains-map, last_of, zip_long}
 use Rattle.base_lemmas.proofs.Lists.{one_item}
 use Rattle.wit_model.specs.declared.model.Resolve.{Resolve}
@@ -44,8 +45,6 @@ use Rattle.read_follow.specs.{Numbering.bare_parts, Numbering.scoped_trees, Scop
 use Rattle.read_follow.proofs.{ComponentLaws.places_are as places_stand, NumberingLaws.count_below}
 use Rattle.read_members.specs.ReadMembers.{AreRead, lent_member}
 use Rattle.read_numbers.proofs.MetNumbers.{met_from}
-use Rattle.read_parts.specs.{Input.IsFollowed, Members.declared_trees, Members.DeclaringScope, Members.IsScopedBy}
-use Rattle.read_rules.specs.declared.{scopes.Scope.Scope, tables.Fact.Fact as KeptFact}
 use Rattle.comp_meaning.specs.Reads as reads
 use Rattle.read_exports.specs.declared.members.Part.TheVariants as parts
 

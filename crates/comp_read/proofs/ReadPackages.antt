@@ -19,7 +19,9 @@ use Rattle.plan_laws.specs.{Whole.IsPackageInput, WholePlan.IsOfMember, WholePla
 use Rattle.plan_laws.proofs.{WholeCondition.whole_may_be_planned, WholeCondition.plan_is_whole, WholeTypes.one_package}
 use Rattle.comp_read.specs.ReadInput.{IsReadInput}
 use Rattle.comp_read.specs.ReadPackages.{IsPlanOf, IsReadPackage, ReadMayBePlanned, ReadMembersAreInput, ReadPackageIsWhole, ReadPackagesHaveSources, ReadPlansAreMeant}
-use Rattle.comp_read.proofs.{ByScopes.parts_filled, ByScopes.scopes_found, Whole.package_input, Whole.package_views_obey, Whole.read_parts_are_reached, Followed.read_imports_are_bare, Followed.read_places_are_met, Followed.worlds_followed, Labels.read_labels_stand, InterfaceViews.each_beside, Ordered.firsts_rise}
+use Rattle.comp_read.proofs.InterfaceViews.{parts_filled, scopes_found, each_beside}
+use Rattle.comp_read.proofs.{Whole.package_input, Whole.package_views_obey, Whole.read_parts_are_reached, Inputs.read_firsts_rise}
+use Rattle.comp_read.proofs.Followed.{read_imports_are_bare, read_places_are_met, read_worlds_are_followed, read_labels_stand}
 use Rattle.base_lemmas.proofs.Elements.{get-contains, zip_at as zip_there, zip_at_right as zip_at}
 use Rattle.base_lemmas.proofs.Lists.{get_back as at_mapped, map_of_map}
 use Rattle.comp_meaning.specs.Reads as reads
@@ -111,8 +113,8 @@ module _ (pieces : List Piece) (x : Followed) (facts : List KeptFact) (h : Homes
     stands = ap (slice_get h.packages) (sym (one_package t h known n ms members packaged first.member first.among)) ∙ first.stands;
     sources = given.sources;
     labels = read_labels_stand pieces x h ms members input;
-    rise = firsts_rise pieces x h ms members input known (package_views_obey t h known n ms given.obeys);
-    followed = worlds_followed pieces x h ms members input;
+    rise = read_firsts_rise pieces x h ms members input known (package_views_obey t h known n ms given.obeys);
+    followed = read_worlds_are_followed pieces x h ms members input;
     met = read_places_are_met pieces x h ms members input;
     reached = read_parts_are_reached pieces x h ms members input;
   }

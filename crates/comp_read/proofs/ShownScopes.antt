@@ -2,10 +2,9 @@
 use Rattle.std.proofs.Common.{rules as std_rules, slice_get, ◌≡◌, refl, sym, ap, subst, ◌∙◌, ℕ, List, [], ◌∷◌, ◌++◌, map, Option, Some}
 use Rattle.std.specs.List.{AllZip, flat_map}
 use Rattle.wit_model.specs.{Text.Text, Names.PackageIdentity, Names.path_in}
-use Rattle.comp_bytes.specs.{Levels.Entry, Levels.PartType, Levels.Piece, Levels.shows, Levels.wraps}
+use Rattle.comp_bytes.specs.Levels.{Entry, PartType, Piece, shows, wraps}
 use Rattle.comp_bytes.proofs.Readers.{bind_some, when_some}
-use Rattle.comp_meaning.specs.{ByLevels.entry_scope, Follow.Instance, Follow.Scope, Follow.View, Follow.each}
-use Rattle.comp_meaning.specs.Reads.{Member, Part}
+use Rattle.comp_meaning.specs.{ByLevels.entry_scope, Follow.Instance, Follow.Scope, Follow.View, Follow.each, Reads.Member, Reads.Part}
 use Rattle.read_shown.specs.{Instances.InstancesAreSeen, Parts.named_instance, Scopes.ScopeStands}
 use Rattle.read_shown.proofs.{ByLevels.entry_scope_stands, Parts.interface_shows}
 use Rattle.plan_meaning.specs.{NumberedMembers.Homes, NumberedViews.Tables, NumberedViews.path_at}
@@ -18,9 +17,9 @@ use Rattle.read_numbers.specs.{NumberedInput.MemberShown, NumberedInput.PartShow
 use Rattle.read_numbers.specs.PlacedNumbers.{scopes_in}
 use Rattle.read_numbers.proofs.InputNumbers.{input_in_numbers}
 use Rattle.comp_read.specs.{Order.shown_under, ReadInput.IsReadInput}
-use Rattle.comp_read.proofs.{ByScopes.scopes_found, InterfaceViews.each_beside}
-use Rattle.base_lemmas.proofs.{Bools.left_of as first_true, Bools.right_of as second_true, Lists.append_of_map, Lists.map_of_map}
-use Rattle.base_lemmas.proofs.{Elements.zip_at, Elements.zip_at_right, Elements.zip_each, Lists.one_item, Options.some_is}
+use Rattle.comp_read.proofs.{InterfaceViews.scopes_found, InterfaceViews.each_beside}
+use Rattle.base_lemmas.proofs.{Bools.left_of as first_true, Bools.right_of as second_true, Lists.append_of_map, Lists.map_of_map, Lists.one_item}
+use Rattle.base_lemmas.proofs.{Elements.zip_at, Elements.zip_at_right, Elements.zip_each, Options.some_is}
 use Rattle.read_parts.specs.declared.members.FollowedPart.TheVariants as followed
 
 -- ---- one part
@@ -83,31 +82,27 @@ module _ (t : Tables) where
   pub part_named : (a : FollowedPart) (p : PartScope) → PartShown t a p → map (path_at t) (scope_places (numbered_scope t.paths (scope_of a))) ≡ paths_in (meant_scope p)
   part_named (followed.World path s) (world text meant) is = places_named (numbered_scope t.paths s) meant is.1
   part_named (followed.Interface s) (interface meant) is = places_named (numbered_scope t.paths s) meant is
-  part_named (followed.World path s) (interface meant) is = absurd is
-  part_named (followed.Interface s) (world text meant) is = absurd is
+  part_named _ _ is = absurd is
 
 -- ---- all parts
 
 pub mapped_zip : {A B C : Type 0} (g : ℕ → C) (f : A → List ℕ) (h : B → List C) (xs : List A) (ys : List B) → AllZip (λ x y. map g (f x) ≡ h y) xs ys → map g (flat_map f xs) ≡ flat_map h ys
 mapped_zip g f h [] [] all = refl
-mapped_zip g f h [] (y ∷ ys) all = absurd all
-mapped_zip g f h (x ∷ xs) [] all = absurd all
 mapped_zip g f h (x ∷ xs) (y ∷ ys) all = append_of_map g (f x) (flat_map f xs) ∙ (λ i. all.0 i ++ mapped_zip g f h xs ys all.1 i)
+mapped_zip g f h _ _ all = absurd all
 
 -- two lists that lie beside a third lie beside each other
 chained : {A B C D : Type 0} (R : A → B → Type 0) (Q : D → C → Type 0) (g : B → D) (xs : List A) (ys : List B) (zs : List C) → AllZip R xs ys → AllZip Q (map g ys) zs → AllZip (λ x z. Unit {0}) xs zs
 chained R Q g [] [] [] a b = tt
 chained R Q g [] [] (z ∷ zs) a b = absurd b
-chained R Q g [] (y ∷ ys) zs a b = absurd a
-chained R Q g (x ∷ xs) [] zs a b = absurd a
 chained R Q g (x ∷ xs) (y ∷ ys) [] a b = absurd b
 chained R Q g (x ∷ xs) (y ∷ ys) (z ∷ zs) a b = (tt, chained R Q g xs ys zs a.1 b.1)
+chained R Q g _ _ zs a b = absurd a
 
 zip_of_map : {A B C : Type 0} (P : C → B → Type 0) (g : A → C) (xs : List A) (ys : List B) → AllZip (λ x y. P (g x) y) xs ys → AllZip P (map g xs) ys
 zip_of_map P g [] [] all = tt
-zip_of_map P g [] (y ∷ ys) all = absurd all
-zip_of_map P g (x ∷ xs) [] all = absurd all
 zip_of_map P g (x ∷ xs) (y ∷ ys) all = (all.0, zip_of_map P g xs ys all.1)
+zip_of_map P g _ _ all = absurd all
 
 module _ (pieces : List Piece) (x : Followed) (h : Homes) (ms : List KeptMember) (members : List Member) (input : IsReadInput pieces x h ms members) where
   -- each scope stands under the paths of its part

@@ -18,10 +18,10 @@ use Rattle.read_exports.specs.Members.{numbered_member, numbered_members, number
 use Rattle.read_exports.specs.declared.members.{Member.Member, Part.Part}
 use Rattle.read_rules.specs.declared.tables.Fact.{Fact as KeptFact}
 use Rattle.plan_laws.specs.{Whole.IsPackageInput, WholeReasonsForeign.PartIsReached}
-use Rattle.comp_read.specs.InputLaws.{PackageViewsObey, ReadIsPackageInput, ReadLengthsFit, ReadNamesHaveKinds, ReadPartsAreReached}
+use Rattle.comp_read.specs.InputLaws.{ReadIsPackageInput, ReadLengthsFit, ReadPartsAreReached}
 use Rattle.comp_read.specs.ReadInput.{AreHomesOf, IsReadInput, ViewsObey}
-use Rattle.comp_read.proofs.{Inputs.is_input, Lists.all_beside}
-use Rattle.comp_read.proofs.{Members.members_stand, Members.tables, Ordered.parts_known, Ordered.sights_known, Places.are_placed}
+use Rattle.comp_read.proofs.{Inputs.read_is_input, Inputs.parts_known, Inputs.sights_known, Inputs.read_places_are_apart, Members.members_stand, Members.tables}
+use Rattle.comp_read.proofs.Lists.{all_beside}
 use Rattle.base_lemmas.proofs.Bools.{left_of as first_true, right_of as second_true}
 use Rattle.comp_meaning.specs.Reads as reads
 use Rattle.read_parts.specs.declared.members.FollowedPart.TheVariants as followed
@@ -38,11 +38,10 @@ lengths_fit pieces x h ms members input n l parts at = ltb-true l 4294967296 (se
 pub alone : (packages : List PackageIdentity) (paths : List (Option Text)) (homes : List (Option (ℕ × Text))) → AllZip (IsHomeOf packages) paths homes → (q : ℕ)
     → unwrap_or (slice_get paths q) None ≡ None → unwrap_or (slice_get homes q) None ≡ None
 alone packages [] [] all q e = refl
-alone packages [] (home ∷ homes) all q e = absurd all
-alone packages (o ∷ paths) [] all q e = absurd all
 alone packages (None ∷ paths) (home ∷ homes) all zero e = all.0
 alone packages (Some path ∷ paths) (home ∷ homes) all zero e = let wrong : Some path ≡ None = e in absurd cc
 alone packages (o ∷ paths) (home ∷ homes) all (suc q) e = alone packages paths homes all.1 q e
+alone packages _ _ all q e = absurd all
 
 -- ---- the rules of a package
 
@@ -56,8 +55,11 @@ module _ (t : Tables) (h : Homes) (known : ℕ → Fact) (n : ℕ) (ms : List Me
   both_hold : (agree_in_numbers seen && are_interfaces t known seen) ≡ true
   both_hold = search std_rules
 
-  pub views_obey : ViewsObey t known ms
-  views_obey = record { agree = first_true (agree_in_numbers seen) (are_interfaces t known seen) both_hold; interfaces = second_true (agree_in_numbers seen) (are_interfaces t known seen) both_hold }
+  pub package_views_obey : ViewsObey t known ms
+  package_views_obey = record {
+    agree = first_true (agree_in_numbers seen) (are_interfaces t known seen) both_hold;
+    interfaces = second_true (agree_in_numbers seen) (are_interfaces t known seen) both_hold;
+  }
 
   one_package : list_all (λ (m : NumberedMember). n == m.package_) nms ≡ true
   one_package = first_true (list_all (λ (m : NumberedMember). n == m.package_) nms) (list_all (stands_at_top h n nms) seen && (agree_in_numbers seen && are_interfaces t known seen)) obeys
@@ -74,44 +76,36 @@ module _ (pieces : List Piece) (x : Followed) (h : Homes) (ms : List Member) (me
   sights = sights_known pieces x h ms members input facts are_known
 
   -- each name is a resource wherever it is met, or nowhere
-  kinds : NamesHaveKinds members
-  kinds = by (numbered_members ms) members input.shown (members_stand pieces x h ms members input) (one_package t h known n ms obeys) sights obeys
+  pub read_names_have_kinds : NamesHaveKinds members
+  read_names_have_kinds = by (numbered_members ms) members input.shown (members_stand pieces x h ms members input) (one_package t h known n ms obeys) sights obeys
     where
       by : (ns : List NumberedMember) (ys : List reads.Member) → AllZip (IsMember t h) ns ys → AllByRecursion MemberStands ys → list_all (λ (m : NumberedMember). n == m.package_) ns ≡ true
           → AllByRecursion (IsKnownSight t known) (sights_of_members t ns) → are_package t h known n ns ≡ true → NamesHaveKinds ys
       by [] [] all stand one all_known is = record { kinds = λ path name. false; each = tt }
-      by [] (y ∷ ys) all stand one all_known is = absurd all
-      by (m ∷ ns) [] all stand one all_known is = absurd all
       by (m ∷ ns) (y ∷ ys) all stand one all_known is = packages_have_kinds (y ∷ ys) (package_shown y.package_ (y ∷ ys)) stand
           (packages_in_numbers t (tables pieces x h ms members input) h input.homes known n y.package_ (ap (slice_get h.packages) (eqb-true n _ (first_true _ _ one)) ∙ all.0.package_) (m ∷ ns)
           (y ∷ ys) all all_known ∙ ap (λ b. provided b (package_shown y.package_ (y ∷ ys))) is)
+      by _ _ all stand one all_known is = absurd all
 
   pub package_input : AreHomesOf t h → IsPackageInput t h known n ms members
   package_input homes = record {
-    input = is_input pieces x h ms members input known (views_obey t h known n ms obeys);
+    input = read_is_input pieces x h ms members input known (package_views_obey t h known n ms obeys);
     alone = alone homes.0 t.paths h.homes homes.1;
-    kinds = kinds;
-    placed = are_placed pieces x h ms members input known (views_obey t h known n ms obeys);
+    kinds = read_names_have_kinds;
+    placed = read_places_are_apart pieces x h ms members input known (package_views_obey t h known n ms obeys);
     lengths = lengths_fit pieces x h ms members input;
     sights = sights;
     scopes = parts_known pieces x h ms members input facts are_known;
     obeys = obeys;
   }
 
-pub package_views_obey : PackageViewsObey
-package_views_obey t h known n ms obeys = views_obey t h known n ms obeys
-
-pub read_names_have_kinds : ReadNamesHaveKinds
-read_names_have_kinds pieces x h ms members input facts are_known n obeys = kinds pieces x h ms members input facts are_known n obeys
-
 -- ---- imports that are reached
 
 module _ (t : Tables) where
   part_reached : (a : FollowedPart) (b : Part) → IsPartOf t a b → PartIsReached t (numbered_part b)
   part_reached (followed.World path s) (parts.World w) is = tt
-  part_reached (followed.World path s) (parts.Interface p v imports) is = absurd is
-  part_reached (followed.Interface s) (parts.World w) is = absurd is
   part_reached (followed.Interface s) (parts.Interface p v imports) is = search std_rules
+  part_reached _ _ is = absurd is
 
 pub read_parts_are_reached : ReadPartsAreReached
 read_parts_are_reached pieces x h ms members input = all_beside (IsMemberOf (tables_of x)) (λ (m : NumberedMember). PartIsReached (tables_of x) m.part) numbered_member

@@ -1,6 +1,6 @@
 use Rattle.std.proofs.Common.{subst, sym}
 use Rattle.comp_read.specs.Decoded.{RefusesBytes}
-use Rattle.comp_read.proofs.{DecodedLaws.decoded, DecodedLaws.refuses, ReadOrder.follows_bytes}
+use Rattle.comp_read.proofs.{ReadLaws.decoded, ReadLaws.refuses, ReadOrder.follows_bytes}
 use Rattle.comp_read.proofs.decoding.decode.Goals as goal
 
 pub returns-in-Ok-clause-decoded : goal.returns-in-Ok-clause-decoded

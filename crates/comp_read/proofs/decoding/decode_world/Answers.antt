@@ -1,6 +1,6 @@
 use Rattle.std.proofs.Common.{subst, sym}
 use Rattle.comp_read.specs.DecodedWorlds.{RefusesWorldBytes}
-use Rattle.comp_read.proofs.{DecodedLaws.decoded_world, DecodedLaws.refuses_world, ReadOrder.follows_bytes}
+use Rattle.comp_read.proofs.{ReadLaws.decoded_world, ReadLaws.refuses_world, ReadOrder.follows_bytes}
 use Rattle.comp_read.proofs.decoding.decode_world.Goals as goal
 
 pub returns-in-Ok-clause-decoded : goal.returns-in-Ok-clause-decoded

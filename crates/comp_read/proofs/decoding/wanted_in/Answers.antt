@@ -1,5 +1,5 @@
 use Rattle.comp_bytes.specs.Levels.{levels_of}
-use Rattle.comp_read.proofs.DecodedLaws.{no_levels}
+use Rattle.comp_read.proofs.ReadLaws.{no_levels}
 use Rattle.comp_read.proofs.decoding.wanted_in.Goals as goal
 
 pub returns-in-Err-clause-absent : goal.returns-in-Err-clause-absent

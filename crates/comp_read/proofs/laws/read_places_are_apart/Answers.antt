@@ -1,4 +1,4 @@
-use Rattle.comp_read.proofs.Places.{read_places_are_apart}
+use Rattle.comp_read.proofs.Inputs.{read_places_are_apart}
 use Rattle.comp_read.proofs.laws.read_places_are_apart.Goals as goal
 
 pub returns : goal.returns

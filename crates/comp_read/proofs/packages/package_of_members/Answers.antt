@@ -4,7 +4,7 @@ use Rattle.read_exports.specs.Members.{homes_in}
 use Rattle.read_rules.specs.Tables.{known_in, numbered_tables}
 use Rattle.plan_meaning.specs.NumberedMembers.{home_at}
 use Rattle.comp_read.specs.{Decoded.HoldsFound, Order.FollowsLevels, Planned.IsBuiltOf}
-use Rattle.comp_read.proofs.{BuildLaws.few_in_package, BuildLaws.package_built, ReadOrder.package_in_order}
+use Rattle.comp_read.proofs.{WorldLaws.few_in_package, WorldLaws.package_built, ReadOrder.package_in_order}
 use Rattle.comp_read.proofs.ReadLaws.{can_be_built, main_is, may_be_whole, no_package, none_is, plans_mean}
 use Rattle.comp_read.proofs.packages.package_of_members.Goals as goal
 

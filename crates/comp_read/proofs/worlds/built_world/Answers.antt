@@ -7,7 +7,7 @@ use Rattle.read_rules.specs.Tables.{numbered_tables}
 use Rattle.plan_package.specs.PlanWhole.{MayBeWhole}
 use Rattle.plan_meaning.specs.NumberedMembers.{home_at}
 use Rattle.comp_read.specs.{DecodedWorlds.HoldsWorldFound, Order.FollowsLevels, Planned.CanBeBuilt, Planned.IsBuiltOf}
-use Rattle.comp_read.proofs.{WorldLaws.few_in_world, WorldLaws.world_built, ReadOrder.world_in_order, WorldOrder.world_packages_rise, WorldReadLaws.world_can_be_built, WorldReadLaws.world_may_be_whole, WorldReadLaws.world_plans_mean}
+use Rattle.comp_read.proofs.{WorldLaws.few_in_world, WorldLaws.world_built, ReadOrder.world_in_order, ShownOrder.world_packages_rise, WorldReadLaws.world_can_be_built, WorldReadLaws.world_may_be_whole, WorldReadLaws.world_plans_mean}
 use Rattle.comp_read.proofs.worlds.built_world.Goals as goal
 
 pub built-requires-clause-whole : goal.built-requires-clause-whole
