@@ -72,11 +72,7 @@ module _ (numbers : List ℕ) where
   }
   placed (u ∷ ts) (fate.Copied h ∷ fs) (x ∷ more) zip first before rest e (suc n) home t at_f at_t =
       let far = placed ts fs more zip.1 (first + 1) (before ++ x ∷ []) rest (let r = length_behind before x in omega (arith, r, e)) n home t at_f at_t in
-      record {
-        image = far.image;
-        at_image = ap (λ l. slice_get l (number_under (numbers_by (first + 1) fs) n)) (sym (append_assoc before (x ∷ []) (more ++ rest))) ∙ far.at_image;
-        under = far.under;
-      }
+      record { image = far.image; at_image = ap (λ l. slice_get l (number_under (numbers_by (first + 1) fs) n)) (sym (append_assoc before (x ∷ []) (more ++ rest))) ∙ far.at_image; under = far.under }
   placed (u ∷ ts) _ more zip first before rest e zero home t at_f at_t = let wrong : ⊥ = cc in absurd wrong
 
 -- where all types have met their fates, so it is of what the lists hold in the end

@@ -28,11 +28,7 @@ module _ {X Y : Type 0} (P : X → Y → Type 0) where
   }
   kept_placed (true ∷ bs) (o ∷ os) (z ∷ zs) (y ∷ ys) zip long first before rest e (suc n) x set at =
       let far = kept_placed bs os zs ys zip.1 (omega (arith, long)) (first + 1) (before ++ y ∷ []) rest (let r = length_behind before y in omega (arith, r, e)) n x set at in
-      record {
-        image = far.image;
-        at_image = ap (λ l. slice_get l (number_under (numbers_of (first + 1) bs os) n)) (sym (append_assoc before (y ∷ []) (ys ++ rest))) ∙ far.at_image;
-        is = far.is;
-      }
+      record { image = far.image; at_image = ap (λ l. slice_get l (number_under (numbers_of (first + 1) bs os) n)) (sym (append_assoc before (y ∷ []) (ys ++ rest))) ∙ far.at_image; is = far.is }
   kept_placed _ _ _ ys zip long first before rest e _ x set at = no_true set
 
   -- so in a list that begins so, under numbers that are so

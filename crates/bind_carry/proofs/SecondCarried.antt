@@ -381,12 +381,7 @@ module _ (own other merged : Resolve) (valid_own : IsValid own) (valid_other : I
     );
     met = λ n e at old. let held = get-contains v.imports.entries n e at in
         let x = key_met w.imports.entries keys_there e.0 (import_named e held) old in
-        record {
-          there = x.entry;
-          in_own = x.in_own;
-          becomes = x.becomes;
-          stands = (pass.import_stands_for _ _ _ valid_own valid_other _ _ _ _ _ _ _ _ _ _ _ s) x.entry e x.in_own held x.same_text;
-        };
+        record { there = x.entry; in_own = x.in_own; becomes = x.becomes; stands = (pass.import_stands_for _ _ _ valid_own valid_other _ _ _ _ _ _ _ _ _ _ _ s) x.entry e x.in_own held x.same_text };
   }
 
   -- ---- exports

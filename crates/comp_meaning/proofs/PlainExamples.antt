@@ -38,10 +38,7 @@ reads_asynchronous : meaning asynchronous ≡ Some (record {
   interfaces = [];
   worlds = (
     codes "foo",
-    record {
-      imports = [];
-      exports = entry (codes "go") (Item.function (taking true (codes "n", Tree.primitive Primitive.u64) (Some (Tree.primitive Primitive.string)))) ∷ [];
-    },
+    record { imports = []; exports = entry (codes "go") (Item.function (taking true (codes "n", Tree.primitive Primitive.u64) (Some (Tree.primitive Primitive.string)))) ∷ [] },
   ) ∷ [];
   foreign = from_entries [];
 })

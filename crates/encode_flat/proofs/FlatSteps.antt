@@ -53,11 +53,7 @@ name-added r place ks ks' old new i name m h e f =
     let l = flat-in_range r place ks (reverse old) i m h in
     rw e (rw (reversed old new (form.Export i name) f) (
       no-slot (slot_count ks),
-      record {
-        kept = λ j m q. inl q;
-        new = λ m p. inr (refl, l, p);
-        only = λ j m q. elim q [ inl a ↦ inl a | inr b ↦ inr (b.0, b.2) ];
-      },
+      record { kept = λ j m q. inl q; new = λ m p. inr (refl, l, p); only = λ j m q. elim q [ inl a ↦ inl a | inr b ↦ inr (b.0, b.2) ] },
     ))
 
 -- what is exported is one declaration more

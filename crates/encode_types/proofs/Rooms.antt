@@ -262,13 +262,7 @@ pub room-more : {r : Resolve} {own own' : Option InterfaceId} {ts ts' : List Val
     → FindsNoRoom r own ts qs k m h y N
 room-more {r} {own} {own'} {ts} {ts'} {qs} {qs'} {k} {k'} {m} {h} {x} {y} {N} e reach among count p' =
     let p : FindsNoRoom r own ts' qs' k' m h x N = subst (λ (o : Option InterfaceId). FindsNoRoom r o ts' qs' k' m h x N) e p' in
-    record {
-      numbers = p.numbers;
-      new = p.new;
-      met = λ n c. reach n (p.met n c);
-      held = (let l = p.held in omega (arith, l, count));
-      lacks = lacks-more (λ n c. c) among p.lacks;
-    }
+    record { numbers = p.numbers; new = p.new; met = λ n c. reach n (p.met n c); held = (let l = p.held in omega (arith, l, count)); lacks = lacks-more (λ n c. c) among p.lacks }
 
 -- after calls that have learnt what is met from the same types
 pub room-after : {r : Resolve} {own own' : Option InterfaceId} {ts ts' : List ValueType} {qs qs' : List Request} {a b : TypeEncodingMaps} {h h' x y j k k' : ℕ} {N : Refusals} → own' ≡ own

@@ -174,10 +174,7 @@ module _ (t : Tables) (h : Homes) (known : ℕ → Fact) (n : ℕ) (ms : List Me
           let s = own_sight q v imports in
           let viewed : Contains views s = view_among ms m here s (subst (λ a. Contains (views_of_part (numbered_part a)) s) (sym is) (own_there q v imports)) in
           let path : HasPath t q = (subst (λ a. IsPartIn t (numbered_part a)) is (part_at t ms given.input.numbers m here)).0.0 in (
-            record {
-              name = zip.0.0;
-              there = subst (λ fs. InterfaceAt t planned.kept p (numbered_view v) fs e.1) (seen_same t q path (numbered_members ms)) (interface_at s viewed e.1 zip.0.1);
-            },
+            record { name = zip.0.0; there = subst (λ fs. InterfaceAt t planned.kept p (numbered_view v) fs e.1) (seen_same t q path (numbered_members ms)) (interface_at s viewed e.1 zip.0.1) },
             more es zip.1,
           )
 

@@ -85,11 +85,7 @@ first_split q (x ∷ xs) s e = by (q == x.place) refl e (first_split q xs s)
         }
     by false other e later =
         let found = later e in
-        record {
-          split = record { front = x ∷ found.split.front; back = found.split.back; is = ap (λ ys. x ∷ ys) found.split.is };
-          place = found.place;
-          none = λ u c p. none_here found u c p;
-        }
+        record { split = record { front = x ∷ found.split.front; back = found.split.back; is = ap (λ ys. x ∷ ys) found.split.is }; place = found.place; none = λ u c p. none_here found u c p }
       where
         none_here : (found : IsFirst q xs s) (u : NumberedSight) → Contains (x ∷ found.split.front) u → u.place ≡ q → ⊥
         none_here found u (zero, low, same) p = let wrong : false ≡ true = sym other ∙ eq-eqb q x.place (sym p ∙ ap (λ (y : NumberedSight). y.place) (sym same)) in cc

@@ -100,12 +100,7 @@ module _ (t : Tables) (h : Homes) (ms : List Member) (members : List reads.Membe
         let name = planned_name t h ms members input n p planned e.1 is.number type_.0 first.place x.name type_.1 listed.0 is.name.named in
         let told = first_told t h ms members input agreed ordered q first is_first x c is name.showing name.first in (
           lists.0,
-          record {
-            type_ = type_.0;
-            stands = type_.1;
-            kind = subst (λ d. DeclaresKind t planned.kept p d type_.0.kind) told.0 name.kind;
-            same_id = name.same_id ∙ told.1;
-          },
+          record { type_ = type_.0; stands = type_.1; kind = subst (λ d. DeclaresKind t planned.kept p d type_.0.kind) told.0 name.kind; same_id = name.same_id ∙ told.1 },
         )
 
     rising : IsRisingView t q first.view

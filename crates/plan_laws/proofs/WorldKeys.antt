@@ -192,12 +192,7 @@ module _ (t : Tables) (h : Homes) (ms : List Member) (members : List reads.Membe
             name.0,
             kept_there,
             name.2.named,
-            record {
-              type_ = type_.0;
-              stands = type_.1;
-              kind = subst (λ o. DeclaresKind t planned.kept p o type_.0.kind) tells.0 is_named.kind;
-              same_id = is_named.same_id ∙ tells.1;
-            },
+            record { type_ = type_.0; stands = type_.1; kind = subst (λ o. DeclaresKind t planned.kept p o type_.0.kind) tells.0 is_named.kind; same_id = is_named.same_id ∙ tells.1 },
           )
 
 pub planned_worlds_stand : PlannedWorldsStand

@@ -99,13 +99,7 @@ module _ (marks : List Bool) (before : List Shape) (here : ℕ) (old new : State
               let named : t.name.now ≡ name = ap (λ (s : Shape). first_label s.labels) h.1 in
               inr (
                 ap (λ (s : Shape). s.number) (sym h.1),
-                record {
-                  number = length old.types;
-                  type = t;
-                  at = at_last old.types t;
-                  named = named;
-                  is = is ∙ ap (λ m. 14 + m) (table.apart number n (named_shape q name) (at ∙ ap Some h.1) e);
-                },
+                record { number = length old.types; type = t; at = at_last old.types t; named = named; is = is ∙ ap (λ m. 14 + m) (table.apart number n (named_shape q name) (at ∙ ap Some h.1) e) },
               )
         ]
       ]

@@ -359,13 +359,7 @@ module _ (shapes : List Shape) (fs : List FunctionShape) (paths : List (Option T
           };
       met = λ q h.
           let m = met q h.0 (path_there paths q h.0 h.1) in
-          record {
-            scope = m.number;
-            number = m.met.number;
-            one = numbered_instance m.met.one;
-            at = instance_there m.number m.met.number m.member m.met.one m.at m.met.at;
-            place = m.met.place;
-          };
+          record { scope = m.number; number = m.met.number; one = numbered_instance m.met.one; at = instance_there m.number m.met.number m.member m.met.one m.at m.met.at; place = m.met.place };
       order = λ m j i h q path less.
           let k = instance_of m j i h in
           let same : k.one.place ≡ i.place = ap (λ (z : NumberedInstance). z.place) k.same in
