@@ -63,17 +63,15 @@ module _ (homes : ℕ → Option Home) (q : ℕ) where
   rising n [] = tt
   rising n (p ∷ ps) =
       let rest = entries_from homes q (n + 1) ps in
-      let above : AllByRecursion (λ (f : Text × ℕ). n < f.1) rest = all_through (IsFrom homes q (n + 1) ps) (λ (f : Text × ℕ). n < f.1) (λ f from. omega (arith, from.number)) rest
-      (among (n + 1) ps) in
-      entry_too Rising n p rest (rising (n + 1) ps) (λ name home. (above, rising (n + 1) ps))
+      entry_too Rising n p rest (rising (n + 1) ps) (λ name home. ((all_through (IsFrom homes q (n + 1) ps) (λ (f : Text × ℕ). n < f.1) (λ f from. omega (arith, from.number)) rest (among (n + 1) ps)),
+      rising (n + 1) ps))
 
   stand : (n : ℕ) (ps : List ℕ) (i place : ℕ) (name : Text) → slice_get ps i ≡ Some place → homes place ≡ Some (q, name) → (j : ℕ) × (slice_get (entries_from homes q n ps) j ≡ Some (name, n + i))
   stand n [] i place name at home = absurd (none_there i place at)
   stand n (p ∷ ps) zero place name at home = search std_rules
   stand n (p ∷ ps) (suc i) place name at home =
       let found = stand (n + 1) ps i place name at home in
-      let number : n + 1 + i ≡ n + suc i = omega arith in
-      behind (entry_of q n (homes p)) (entries_from homes q (n + 1) ps) found.0 (name, n + suc i) (found.1 ∙ ap (λ (m : ℕ). Some (name, m)) number)
+      behind (entry_of q n (homes p)) (entries_from homes q (n + 1) ps) found.0 (name, n + suc i) (found.1 ∙ ap (λ (m : ℕ). Some (name, m)) (omega arith))
 
 pub homes_are_listed : HomesAreListed
 homes_are_listed homes q places = record {

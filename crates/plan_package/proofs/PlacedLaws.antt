@@ -33,22 +33,16 @@ has_number places p h = search (std_rules, lt-ltb, low)
 has_own : (ps : List ℕ) (p : ℕ) → has (p ∷ ps) p ≡ true
 has_own ps p = ap (λ b. b || has ps p) (eq-eqb p p refl)
 
-joined_keeps : (met : List ℕ) (p q : ℕ) → has met q ≡ true → has (joined met p) q ≡ true
-joined_keeps met p q h = search (std_rules, has_left)
-
-joined_has : (met : List ℕ) (p : ℕ) → has (joined met p) p ≡ true
-joined_has met p = search (std_rules, has_right, has_own)
-
 all_keep : (ps met : List ℕ) (q : ℕ) → has met q ≡ true → has (joined_all met ps) q ≡ true
 all_keep [] met q h = h
-all_keep (p ∷ ps) met q h = all_keep ps (joined met p) q (joined_keeps met p q h)
+all_keep (p ∷ ps) met q h = all_keep ps (joined met p) q ((search (std_rules, has_left)))
 
 all_have : (ps met : List ℕ) (q : ℕ) → has ps q ≡ true → has (joined_all met ps) q ≡ true
 all_have [] met q h = let wrong : false ≡ true = h in absurd cc
 all_have (p ∷ ps) met q h = by (p == q) refl h (all_have ps (joined met p) q)
   where
     by : (b : Bool) → (p == q) ≡ b → (b || has ps q) ≡ true → (has ps q ≡ true → has (joined_all (joined met p) ps) q ≡ true) → has (joined_all (joined met p) ps) q ≡ true
-    by true e h later = all_keep ps (joined met p) q (subst (λ (r : ℕ). has (joined met p) r ≡ true) (eqb-true p q e) (joined_has met p))
+    by true e h later = all_keep ps (joined met p) q (subst (λ (r : ℕ). has (joined met p) r ≡ true) (eqb-true p q e) ((search (std_rules, has_right, has_own))))
     by false e h later = later h
 
 -- ---- the interfaces that are exported are met

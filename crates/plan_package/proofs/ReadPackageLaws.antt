@@ -36,8 +36,7 @@ pub number_at : (places : List ℕ) (p n : ℕ) → number_in places p ≡ Some 
 number_at places p n is = by (nat_lt (prefix_len (λ q. not (p == q)) places) (length places)) refl is
   where
     by : (b : Bool) → nat_lt (prefix_len (λ q. not (p == q)) places) (length places) ≡ b → cond b (Some (prefix_len (λ q. not (p == q)) places)) None ≡ Some n → slice_get places n ≡ Some p
-    by true e is = subst (λ (m : ℕ). slice_get places m ≡ Some p) (same-some (prefix_len (λ q. not (p == q)) places) n is)
-        (number_there p places (ltb-true (prefix_len (λ q. not (p == q)) places) (length places) e))
+    by true e is = subst (λ (m : ℕ). slice_get places m ≡ Some p) (same-some _ n is) (number_there p places (ltb-true (prefix_len (λ q. not (p == q)) places) (length places) e))
     by false e is = let wrong : None ≡ Some n = is in absurd cc
 
 -- ---- lists that go together
@@ -51,9 +50,8 @@ module _ (places : List ℕ) where
     where
       by : (b : Bool) → (e.1 == k) ≡ b → has (numbers_of es) k ≡ false → (b || has (numbers_of es) k) ≡ false
       by true same later =
-          let own : slice_get places k ≡ Some y.1 = subst (λ (m : ℕ). slice_get places m ≡ Some y.1) (eqb-true e.1 k same) (number_at places y.1 e.1 all.0.1) in
-          let equal : y.1 ≡ x = same-some y.1 x (sym own ∙ number_at places x k is) in
-          let wrong : true ≡ false = sym (ap (λ b. b || has (map (λ (y : Text × ℕ). y.1) xs) x) (eq-eqb y.1 x equal)) ∙ none in
+          let wrong : true ≡ false = sym (ap (λ b. b || has (map (λ (y : Text × ℕ). y.1) xs) x)
+              (eq-eqb y.1 x (same-some y.1 x (sym (subst (λ (m : ℕ). slice_get places m ≡ Some y.1) (eqb-true e.1 k same) (number_at places y.1 e.1 all.0.1)) ∙ number_at places x k is)))) ∙ none in
           absurd cc
       by false same later = later
 
@@ -62,18 +60,13 @@ module _ (places : List ℕ) where
   listed_once [] (e ∷ es) all once = absurd all
   listed_once (x ∷ xs) [] all once = absurd all
   listed_once (x ∷ xs) (e ∷ es) all once =
-      let absent = not_listed x.1 e.1 all.0.1 xs es all.1 (is_absent (has (map (λ (x : Text × ℕ). x.1) xs) x.1) (first_true _ _ once)) in
-      let later = listed_once xs es all.1 (second_true _ _ once) in
-      λ i. not (absent i) && later i
+      λ i. not ((not_listed x.1 e.1 all.0.1 xs es all.1 (is_absent (has (map (λ (x : Text × ℕ). x.1) xs) x.1) (first_true _ _ once))) i) && (listed_once xs es all.1 (second_true _ _ once)) i
 
   names_pass : (test : Text → Bool) (xs es : List (Text × ℕ)) → AllZip (ListsPlace places) xs es → list_all (λ (x : Text × ℕ). test x.0) xs ≡ true → list_all (λ (e : Text × ℕ). test e.0) es ≡ true
   names_pass test [] [] all h = refl
   names_pass test [] (e ∷ es) all h = absurd all
   names_pass test (x ∷ xs) [] all h = absurd all
-  names_pass test (x ∷ xs) (e ∷ es) all h =
-      let own : test e.0 ≡ true = ap test all.0.0 ∙ first_true _ _ h in
-      let later = names_pass test xs es all.1 (second_true _ _ h) in
-      λ i. own i && later i
+  names_pass test (x ∷ xs) (e ∷ es) all h = λ i. (ap test all.0.0 ∙ first_true _ _ h) i && (names_pass test xs es all.1 (second_true _ _ h)) i
 
 -- ---- packages
 
