@@ -3,8 +3,7 @@ use Rattle.base_lemmas.proofs.{Bools.left_of as first_true, Bools.right_of as se
 use Rattle.std.proofs.Common.{Bool, Contains, List, None, Option, Some, [], ap, arith, cond, false, filter_map, flat_map, get_or, inl, inr, length, map, nat_lt, not, refl, slice_get, subst, suc, sym, true, unwrap_or, zero, ℕ, ◌&&◌, ◌++◌, ◌+◌, ◌-◌, ◌<◌, ◌||◌, ◌∙◌, ◌∷◌, ◌≡◌}
 use Rattle.std.proofs.{Math.ListN.get_or-map, Math.ListN.length-map, lemmas.List.Folds.list_all-append, lemmas.Option.same_Some as same-some}
 use Rattle.std.proofs.lemmas.Bool.{and_from as both, cases_Bool, eq-eqb, eqb-true, ltb-true, or_right as or-second}
-use Rattle.std.specs.List.{AllByRecursion, AllZip, cons_option, filter, list_all, list_any}
-use Rattle.std.specs.{Map.lookup, Prelude.nat_eq, Set.is_member}
+use Rattle.std.specs.{List.AllByRecursion, List.AllZip, List.cons_option, List.filter, List.list_all, List.list_any, Map.lookup, Prelude.nat_eq, Set.is_member}
 
 pub map_from : {A B : Type 0} (g : A → B) (xs : List A) (y : B) → Contains (map g xs) y → (x : A) × Contains xs x × (g x ≡ y)
 map_from g [] y (i, l, e) = absurd (omega (arith, l))

@@ -1,5 +1,5 @@
 -- What a union adds, once what is moved is in its places.
-use Rattle.std.proofs.lemmas.List.{drop_at}
+use Rattle.std.proofs.{lemmas.List.drop_at, lemmas.Bool.lt-ltb, lemmas.Bool.ltb-true, lemmas.List.with_items_is, lemmas.Option.slice_get_within}
 use Rattle.base_lemmas.proofs.Elements.{all_weaker, zip_long}
 use Rattle.bind_add.specs.declared.added.Added.{Added}
 use Rattle.bind_carry.proofs.{CopiesPlaced.numbers_by_long, Counting.carried_all, Counting.length_both, Counting.types_counted, Ready.carried_ready}
@@ -12,7 +12,6 @@ use Rattle.bind_copy.specs.Copies.{all_below}
 use Rattle.bind_match.specs.declared.matches.Matches.{Matches}
 use Rattle.bind_union.specs.Views.{kind_view, view_numbers}
 use Rattle.std.proofs.Common.{List, Some, [], ap, arith, length, nat_lt, rules as std_rules, slice_get, subst, sym, true, ℕ, ◌++◌, ◌∙◌, ◌≡◌, ◌≤◌}
-use Rattle.std.proofs.lemmas.{Bool.lt-ltb, Bool.ltb-true, List.with_items_is, Option.slice_get_within}
 use Rattle.std.specs.{List.AllZip, Vec.with_items}
 use Rattle.wit_model.specs.declared.model.{Interface.Interface, Resolve.Resolve, TypeDef.TypeDef, World.World}
 

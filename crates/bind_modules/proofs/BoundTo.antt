@@ -1,8 +1,7 @@
 -- What is known of bindings behind each section of a module.
 use Rattle.std.proofs.Common.{rules as std_rules, ◌≡◌, ◌∙◌, refl, sym, ap, subst, ℕ, ◌+◌, ◌-◌, ◌≤◌, ◌<◌, List, [], ◌++◌, append-nil, length, Option, Some, None, arith}
 use Rattle.std.proofs.lemmas.List.{length-append}
-use Rattle.std.specs.Prelude.{◌≢◌, slice_get, IfErr, Result}
-use Rattle.std.specs.Borrow.{Bor}
+use Rattle.std.specs.{Prelude.◌≢◌, Prelude.slice_get, Prelude.IfErr, Prelude.Result, Borrow.Bor}
 use Rattle.wit_model.specs.declared.{error.Error.Error, model.Resolve.Resolve, model.WorldKey.WorldKey}
 use Rattle.wit_model.specs.Lookup.{identity_of, optional_version_text}
 use Rattle.bind_meaning.specs.Binding.{Binding}

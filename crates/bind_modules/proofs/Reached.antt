@@ -4,8 +4,7 @@ use Rattle.std.specs.Prelude.{Result}
 use Rattle.wit_model.specs.declared.{error.Error.Error, model.StringEncoding.StringEncoding}
 use Rattle.wit_bind.specs.declared.bindgen.Bindgen.{Bindgen}
 use Rattle.wit_bind.specs.Merges.{IsMergeRefusal}
-use Rattle.wit_metadata.specs.{Carried.contents_under, Carried.last_of, Encodings.section_name, Said.said_by}
-use Rattle.wit_metadata.specs.Modules.{RefusesModule}
+use Rattle.wit_metadata.specs.{Carried.contents_under, Carried.last_of, Encodings.section_name, Said.said_by, Modules.RefusesModule}
 use Rattle.bind_sections.specs.{SectionBindings.IsBoundBy, SectionBindings.RefusesSection, Steps.IsDataInFront}
 use Rattle.bind_modules.specs.{BoundTo.IsBoundTo, Reached.OutgrowsLists}
 use Rattle.wit_model.specs.declared.error.Error.TheVariants as errors

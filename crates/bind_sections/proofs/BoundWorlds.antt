@@ -12,9 +12,8 @@ use Rattle.wit_model.specs.Meant.{by_path, interface_meaning, interface_meaning_
 use Rattle.wit_model.specs.Lookup.{interface_at, interface_path, path_of_interface, identity_of, package_at, path_of_world, path_in_package, canonical_identity_of, optional_version_text, key_text, world_at}
 use Rattle.wit_model.specs.Meaning.{InterfaceMeaning, Entry, FunctionMeaning, inline, interface, WorldPackage}
 use Rattle.wit_model.specs.Valid.{IsValid, is_place, names_in_packages, numbers_in_range, places, labels, world_items}
-use Rattle.wit_model.specs.Names.{path_in, PackageIdentity, canonical_version, cut, is_label, is_version}
+use Rattle.wit_model.specs.{Names.path_in, Names.PackageIdentity, Names.canonical_version, Names.cut, Names.is_label, Names.is_version, Paths.full_name}
 use Rattle.wit_model.specs.Rules.{has_items, in_list, interface_belongs, is_id, package_number, passes, text_is, is_interface_key, entries_labels, export_stands, import_stands, is_stability, item_labels, key_label}
-use Rattle.wit_model.specs.Paths.{full_name}
 use Rattle.wit_model.proofs.Elements.{contains-filter_map, contains-get, has-contains, contains-flat, none-in}
 use Rattle.wit_model.proofs.{AnyOrder.found-there as find-contains, NameLaws.spelled_path_reads, NameLaws.label_lacks, ValidLemmas.world_passes as world-passes}
 use Rattle.wit_model.proofs.OnePath.{path-once, HasPath, found-in, has-path, package-name, package-passes, path-label, named-path}

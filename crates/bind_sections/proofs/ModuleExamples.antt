@@ -8,8 +8,7 @@ use Rattle.comp_bytes.specs.{Frames.IsCustom, Frames.IsFrame, Laws.Taken, Raw.Se
 use Rattle.comp_bytes.specs.Reading.{byte_at, counted_at, frame_at, name_at, pair_at, u32_at, unsigned_at}
 use Rattle.comp_bytes.proofs.{ComponentLaws.frame_law, PartLaws.name_law}
 use Rattle.bind_meaning.specs.Roots.{root_binding}
-use Rattle.wit_metadata.specs.{Carried.contents_under, Carried.last_of, Encodings.section_name, Modules.IsFrontless, Modules.module_preamble}
-use Rattle.wit_metadata.specs.Said.{said_by}
+use Rattle.wit_metadata.specs.{Carried.contents_under, Carried.last_of, Encodings.section_name, Modules.IsFrontless, Modules.module_preamble, Said.said_by}
 use Rattle.bind_sections.specs.{SectionBindings.RefusesSection, Bound.CarryData, Bound.IsBound, Bound.IsRefused}
 use Rattle.wit_model.specs.declared.error.Error.TheVariants as errors
 use Rattle.wit_model.specs.declared.model.StringEncoding.TheVariants as encodings

@@ -4,8 +4,7 @@ use Rattle.std.specs.Prelude.{Result}
 use Rattle.wit_model.specs.declared.{error.Error.Error, model.StringEncoding.StringEncoding}
 use Rattle.bind_meaning.specs.{ByMeaning.binding_of_world, Roots.root_binding, Union.union}
 use Rattle.bind_meaning.proofs.RootLaws.{root_gains, root_unites}
-use Rattle.wit_metadata.specs.{Carried.contents_under, Carried.last_of, Encodings.contents_of, Encodings.section_name}
-use Rattle.wit_metadata.specs.Said.{said_by}
+use Rattle.wit_metadata.specs.{Carried.contents_under, Carried.last_of, Encodings.contents_of, Encodings.section_name, Said.said_by}
 use Rattle.bind_sections.specs.BoundLaws.{BoundSectionsMean, OneSectionBinds}
 
 -- ---- what is said

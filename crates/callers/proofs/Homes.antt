@@ -1,6 +1,5 @@
 -- The package of a world that is bound.
-use Rattle.std.proofs.Common.{◌≡◌, ◌∙◌, sym, ap, true, length, Some, None}
-use Rattle.std.proofs.lemmas.Bool.{ltb-true}
+use Rattle.std.proofs.{Common.◌≡◌, Common.◌∙◌, Common.sym, Common.ap, Common.true, Common.length, Common.Some, Common.None, lemmas.Bool.ltb-true}
 use Rattle.std.specs.Prelude.{is_some}
 use Rattle.wit_model.specs.declared.model.{PackageId.PackageId, World.World}
 use Rattle.wit_model.specs.Lookup.{world_at}

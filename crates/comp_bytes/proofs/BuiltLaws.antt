@@ -3,9 +3,8 @@ use Rattle.std.proofs.Common.{rules as std_rules, ◌≡◌, ℕ, ◌+◌, ◌^�
 use Rattle.std.proofs.lemmas.{Bool.false≢true, List.append-nil, List.Concat.flat_map-append}
 use Rattle.std.specs.List.{flat_map}
 use Rattle.comp_bytes.specs.{Form.Spellings, Form.Sequence, Form.Vector, Form.Name, Parts.Part, Parts.sections_of_parts, Parts.top_slots, Parts.parts_of}
-use Rattle.comp_bytes.specs.Raw.{TopType, TopExport, Section}
+use Rattle.comp_bytes.specs.{Raw.TopType, Raw.TopExport, Raw.Section, Reading.Reader, Reading.sequence_at, Laws.IsReadBy, Held.found_in}
 use Rattle.comp_bytes.specs.Spelling.{IsTopType, IsTopExport, IsSectionOf, IsSection, IsComponent, preamble}
-use Rattle.comp_bytes.specs.{Reading.Reader, Reading.sequence_at, Laws.IsReadBy, Held.found_in}
 use Rattle.comp_bytes.specs.Writing.{u32_bytes, name_bytes, vector_bytes, top_type_bytes, top_export_bytes, framed, section_bytes, component_bytes}
 use Rattle.comp_bytes.specs.Built.{Group, group_sections, group_in, sections_in, begun, section_id, closed_bytes, kept_parts, IsItems, IsGroup, Ended, IsBuilt, Builds}
 use Rattle.comp_bytes.proofs.Writes.{spells_u32}

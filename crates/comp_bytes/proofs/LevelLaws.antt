@@ -7,9 +7,8 @@ use Rattle.comp_bytes.specs.{Spelling.IsDeclaration, Spelling.ComponentTypeOf, S
 use Rattle.comp_bytes.specs.Reading.{Reader, ◌>>=◌, u32_at, as_at, pair_at, tag_at, tagged_at, choose, vector_at, declaration_at}
 use Rattle.comp_bytes.specs.Levels.{Entry, plain, holds, PartType, wraps, shows, import_free, Held, IsEntry, IsWrapper, IsPartType, declarations_of, raw_part, held_at, entry_at, world_export, world_export_at, wrapper_at, part_behind_at, part_type_at}
 use Rattle.comp_bytes.proofs.{Readers.bind_some, Readers.when_some, HeldLaws.Sequence-from_list as flat_out, HeldLaws.declaration_count-from_list as count_is}
-use Rattle.comp_bytes.proofs.{NumberLaws.u32_law, FormLaws.or_takes, DeclarationLaws.declaration_law}
+use Rattle.comp_bytes.proofs.{NumberLaws.u32_law, FormLaws.or_takes, DeclarationLaws.declaration_law, NestedLaws.not_nested}
 use Rattle.comp_bytes.proofs.PartLaws.{taken_at, Takes, reshaped, join_taken, as_takes, when_takes, tagged_takes, tag_law, pair_law, vector_law}
-use Rattle.comp_bytes.proofs.NestedLaws.{not_nested}
 use Rattle.comp_bytes.specs.declared.forms.ComponentTypeRef.TheVariants as refs
 
 -- ---- entries are declarations

@@ -1,8 +1,7 @@
 -- Parts and the sections that they make.
 use Rattle.std.proofs.Common.{rules as std_rules, ◌≡◌, ℕ, ◌+◌, List, [], ◌∷◌, ◌++◌, refl, sym, ap, ◌∙◌, arith, append_assoc}
 use Rattle.std.proofs.lemmas.List.{append-nil, map-append}
-use Rattle.comp_bytes.specs.{Raw.Section, Built.Ended}
-use Rattle.comp_bytes.specs.Parts.{Part, with_part, sections_of_parts, top_slots, parts_in, parts_of}
+use Rattle.comp_bytes.specs.{Raw.Section, Built.Ended, Parts.Part, Parts.with_part, Parts.sections_of_parts, Parts.top_slots, Parts.parts_in, Parts.parts_of}
 
 -- ---- a part behind sections
 

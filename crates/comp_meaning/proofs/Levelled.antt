@@ -4,8 +4,7 @@ use Rattle.std.proofs.lemmas.{Bool.eqb-true, Bool.and_parts, Bool.not-true, List
 use Rattle.std.specs.{Prelude.slice_get, List.list_any}
 use Rattle.wit_model.specs.{Text.Text, Names.PackageIdentity, Names.is_label}
 use Rattle.wit_model.proofs.Checks.{get_before}
-use Rattle.comp_bytes.specs.Raw.{ExternName, Declaration, Declarations, TopType, TopExport, Section}
-use Rattle.comp_bytes.specs.Reading.{◌>>=◌, component_of}
+use Rattle.comp_bytes.specs.{Raw.ExternName, Raw.Declaration, Raw.Declarations, Raw.TopType, Raw.TopExport, Raw.Section, Reading.◌>>=◌, Reading.component_of}
 use Rattle.comp_bytes.specs.Levels.{plain, holds, PartType, wraps, shows, Piece, raw_part, raw_piece, levels_of}
 use Rattle.comp_bytes.proofs.{Readers.bind_some, Readers.when_some, PieceLaws.levels_are_sections}
 use Rattle.comp_meaning.specs.{Follow.each, Follow.Scope, Follow.component_scope, Rules.distinct}

@@ -1,8 +1,7 @@
 -- Worked examples: what is read, and what is refused.
 use Rattle.std.proofs.Common.{◌≡◌, ℕ, List, [], ◌∷◌, ◌++◌, ◌+◌, take, drop, Some, None, false, true, refl}
 use Rattle.std.specs.{List.list_all, List.list_any, Prelude.codes, Prelude.is_some, FinMap.from_entries}
-use Rattle.wit_model.specs.{Names.cut as cut_at, Tree.Tree, Tree.Primitive}
-use Rattle.wit_model.specs.Meaning.{Item, Entry, InterfaceMeaning}
+use Rattle.wit_model.specs.{Names.cut as cut_at, Tree.Tree, Tree.Primitive, Meaning.Item, Meaning.Entry, Meaning.InterfaceMeaning}
 use Rattle.comp_meaning.proofs.Computing.{computes, lists_of, one_world, meaning, unit_function, a_b, in_interface, t_is, plain, interface_under, entry, text, preamble, exported_as, type_t, interface_j, world_of}
 
 abbrev world_with_interface : List ℕ

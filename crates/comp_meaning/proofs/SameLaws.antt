@@ -2,8 +2,7 @@
 use Rattle.std.proofs.Common.{rules as std_rules, ◌≡◌, refl, sym, ap, subst, ◌∙◌, ℕ, Bool, true, ◌&&◌, eqb, List, [], ◌∷◌, map, Option, Some}
 use Rattle.std.proofs.lemmas.{Bool.and_from, Bool.Decides.Decides-and, Bool.Decides.Decides-eqb, Slice.Eq.bytes_eq-Decides, Slice.Eq.slice_eq-Decides}
 use Rattle.std.specs.{Prelude.slice_get, Prelude.unwrap_or, Bool.Decides, Cmp.Lexicographic.pointwise, Cmp.Derive.Mapped.pointwise-map}
-use Rattle.wit_model.specs.Text.{Text, text_eq}
-use Rattle.wit_model.specs.Tree.{Primitive, Form, Tree, Trees, Declaration}
+use Rattle.wit_model.specs.{Text.Text, Text.text_eq, Tree.Primitive, Tree.Form, Tree.Tree, Tree.Trees, Tree.Declaration}
 use Rattle.comp_meaning.specs.Same.{same_option, same_bool, primitive_number, same_place, same_form, same_tree, same_trees, same_declaration, same_type, same_signature, same_function, same_identity}
 use Rattle.comp_meaning.specs.{Reads.same_shown, SameLaws.DecidesEquality, SameLaws.SameTypesAreEqual, SameLaws.named_meaning}
 use Rattle.base_lemmas.proofs.Bools.{left_of as first_true, right_of as second_true}

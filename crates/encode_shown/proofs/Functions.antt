@@ -3,13 +3,11 @@ use Rattle.std.proofs.Common.{rules as std_rules, ◌≡◌, refl, sym, ap, ◌�
 use Rattle.std.proofs.lemmas.{List.Folds.list_all-append, List.Folds.list_all-map, Bool.and_from as both, Bool.or_left as or-first, Bool.or_right as or-second}
 use Rattle.std.proofs.lemmas.{Simd.map-map, Option.same_Some as same-some}
 use Rattle.std.specs.declared.alloc.Global.{Global}
-use Rattle.std.specs.{Prelude.is_some, Prelude.is_none, Prelude.filter_map, Prelude.codes, List.Contains, List.list_all, List.list_any}
-use Rattle.std.specs.Option.{option_map_or}
+use Rattle.std.specs.{Prelude.is_some, Prelude.is_none, Prelude.filter_map, Prelude.codes, List.Contains, List.list_all, List.list_any, Option.option_map_or}
 use Rattle.wit_model.specs.{Text.Text, Text.text_of, Text.text_eq, Text.optional_text, Lookup.type_at, Lookup.place_of, Lookup.resource_of, Lookup.is_async}
 use Rattle.wit_model.specs.{Names.is_label, Names.constructor_name, Names.method_name, Names.static_name, Parts.same_owner, Parts.function_types, Valid.IsValid}
-use Rattle.wit_model.specs.Tree.{Tree, Place, named, own_tree, borrow_tree, result_tree}
+use Rattle.wit_model.specs.{Tree.Tree, Tree.Place, Tree.named, Tree.own_tree, Tree.borrow_tree, Tree.result_tree, Meant.signature_of}
 use Rattle.wit_model.specs.Types.{type_tree, number_tree, number_of, declared_by, trees_of, tree_of_declaration}
-use Rattle.wit_model.specs.Meant.{signature_of}
 use Rattle.wit_model.specs.Rules.{passes, in_list, after_prefix, function_in_range, function_labels, function_stays, is_freestanding, are_member_labels, is_shallow, is_member, is_member_of, is_member_name, resource_name, is_resource_itself, takes_self, type_is, is_own_of, is_borrow_of, is_own_kind, is_borrow_kind, has_own_ok, is_result_of_own}
 use Rattle.wit_model.specs.declared.model.{Resolve.Resolve, FunctionKind.FunctionKind, TypeDefKind.TypeDefKind, TypeOwner.TypeOwner, «Type».«Type» as ValueType}
 use Rattle.wit_model.specs.declared.model.{Function.Function, Param.Param, TypeDef.TypeDef}

@@ -3,8 +3,7 @@ use Rattle.std.proofs.Common.{rules as std_rules, ◌≡◌, refl, sym, subst, a
 use Rattle.std.proofs.lemmas.{List.Elements.Contains-append_right, Option.same_Some as same-some}
 use Rattle.std.specs.{Prelude.is_some, Prelude.option_to_list, Prelude.filter_map, List.AllZip, List.Contains, List.list_all, Option.option_map_or}
 use Rattle.wit_model.specs.{Text.Text, Text.text_of, Uses.has, Uses.item_interface, Meant.type_meaning_at, Meant.signature_of, Valid.IsValid, Valid.as_world}
-use Rattle.wit_model.specs.{Tree.Place, Types.number_of}
-use Rattle.wit_model.specs.Lookup.{type_at, interface_path, key_text, place_of_path, resource_of}
+use Rattle.wit_model.specs.{Tree.Place, Types.number_of, Lookup.type_at, Lookup.interface_path, Lookup.key_text, Lookup.place_of_path, Lookup.resource_of}
 use Rattle.wit_model.specs.Parts.{same_owner, has_owner, met_by, met_of, used_by_function, used_by_type, function_types, function_numbers}
 use Rattle.wit_model.specs.Rules.{passes, text_is, is_name_key, item_type, used_types, used_interfaces, uses_stand_before}
 use Rattle.wit_model.specs.declared.model.{Resolve.Resolve, TypeDef.TypeDef, TypeId.TypeId, WorldKey.WorldKey, WorldItem.WorldItem, Function.Function}

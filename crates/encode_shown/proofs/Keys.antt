@@ -3,10 +3,8 @@ use Rattle.std.proofs.Common.{rules as std_rules, ◌≡◌, ◌⊎◌, inl, inr
 use Rattle.std.proofs.lemmas.{Cmp.nat_list_eq_equiv, Bool.both_ways, Bool.false_from_ne_true}
 use Rattle.std.specs.declared.alloc.Global.{Global}
 use Rattle.std.specs.{Prelude.is_some, List.Contains, List.AllByRecursion, List.IsDistinct, List.list_all}
-use Rattle.wit_model.specs.Text.{Text, text_of, text_eq}
-use Rattle.wit_model.specs.Names.{is_label, begins_with_letter}
-use Rattle.wit_model.specs.{Lookup.interface_path, Lookup.key_text, Valid.IsValid, Valid.key_eq, Valid.as_world}
-use Rattle.wit_model.specs.Rules.{is_name_key, is_freestanding, is_member}
+use Rattle.wit_model.specs.{Text.Text, Text.text_of, Text.text_eq, Rules.is_name_key, Rules.is_freestanding, Rules.is_member}
+use Rattle.wit_model.specs.{Names.is_label, Names.begins_with_letter, Lookup.interface_path, Lookup.key_text, Valid.IsValid, Valid.key_eq, Valid.as_world}
 use Rattle.wit_model.specs.declared.model.{Resolve.Resolve, WorldKey.WorldKey, WorldItem.WorldItem, Function.Function}
 use Rattle.wit_model.proofs.{NameLaws.label_lacks, NameLaws.identity_namespace, OnePath.has-path, OnePath.package-name, OnePath.path-once}
 use Rattle.wit_model.proofs.TextLemmas.{text_same as text-same}

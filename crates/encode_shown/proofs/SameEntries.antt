@@ -1,6 +1,5 @@
 -- Lists of the same entries make the same finite map, where a name has one meaning.
-use Rattle.std.proofs.Common.{◌≡◌, sym, ap, ◌∙◌, List, Some}
-use Rattle.std.proofs.lemmas.Cmp.{nat_list_cmp_total}
+use Rattle.std.proofs.{Common.◌≡◌, Common.sym, Common.ap, Common.◌∙◌, Common.List, Common.Some, lemmas.Cmp.nat_list_cmp_total}
 use Rattle.std.specs.List.{Contains}
 use Rattle.std.specs.FinMap.{find, from_entries, get-from_entries, same_map, slice_cmp-IsAntisymmetric, nat_cmp-IsAntisymmetric}
 use Rattle.wit_model.specs.Text.{Text, TextMap, text_cmp}

@@ -3,13 +3,12 @@ use Rattle.std.proofs.Common.{◌≡◌, refl, sym, ap, true, false, ◌&&◌, r
 use Rattle.std.proofs.lemmas.Bool.{eqb-true}
 use Rattle.wit_model.specs.declared.model.{TypeDefKind.TypeDefKind, «Type».«Type» as ValueType}
 use Rattle.wit_model.specs.{Rules.is_named_kind, Types.declared_by, Types.tree_of}
-use Rattle.wit_model.specs.Tree.{Tree, type_, tuple_tree}
+use Rattle.wit_model.specs.{Tree.Tree, Tree.type_, Tree.tuple_tree, Text.Text, Text.text_of, Types.trees_of}
 use Rattle.std.specs.{Prelude.not, Option.option_eq, Cmp.Lexicographic.pointwise}
 use Rattle.encode_types.specs.{Maps.same_kind, Key.same_type, Key.same_param, Key.same_params, Key.same_key, Key.key_signature}
 use Rattle.encode_types.specs.declared.key.FunctionKey.{FunctionKey}
 use Rattle.wit_model.specs.declared.model.TypeDefKind.TheVariants as kind
 use mathlib.Core.Bool.{beq, true≢false}
-use Rattle.wit_model.specs.{Text.Text, Text.text_of, Types.trees_of}
 use Rattle.wit_model.specs.declared.model.{Param.Param, Resolve.Resolve, Tuple.Tuple}
 use Rattle.base_lemmas.proofs.Bools.{beq_same as beq-same, left_of as first_true, right_of as second_true}
 

@@ -1,6 +1,5 @@
 -- A plan that was read can be built.
-use Rattle.std.proofs.Common.{rules as std_rules, ◌≡◌, true, ◌&&◌, List, ◌++◌}
-use Rattle.std.proofs.lemmas.Bool.{and_from as both}
+use Rattle.std.proofs.{Common.rules as std_rules, Common.◌≡◌, Common.true, Common.◌&&◌, Common.List, Common.◌++◌, lemmas.Bool.and_from as both}
 use Rattle.wit_model.specs.{Text.Text, Names.is_label, Names.is_identity, Rules.passes, Rules.are_distinct}
 use Rattle.plan_meaning.specs.{Plan.PlannedPackage, Plan.PlannedInterface, PlanRules.names_of, PlanRules.members_differ, PlanRules.interface_labels}
 use Rattle.plan_build.specs.Buildable.{PlansAreBuildable, has_version, package_differs, interface_differs}

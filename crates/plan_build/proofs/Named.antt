@@ -4,8 +4,7 @@ use Rattle.std.specs.{Borrow.Bor, List.list_any}
 use Rattle.std.specs.declared.alloc.Global.{Global}
 use Rattle.wit_model.specs.declared.model.WorldKey.{WorldKey}
 use Rattle.wit_model.specs.{Text.Text, Text.text_of, Text.text_eq, Rules.are_distinct}
-use Rattle.plan_meaning.specs.{Plan.PlannedKey, Plan.PlannedItem, PlanRules.names_of, PlanRules.same_key, PlanRules.keys_differ}
-use Rattle.plan_meaning.specs.Built.{planned_key}
+use Rattle.plan_meaning.specs.{Plan.PlannedKey, Plan.PlannedItem, PlanRules.names_of, PlanRules.same_key, PlanRules.keys_differ, Built.planned_key}
 use Rattle.plan_build.specs.PlanOf.{stated_entry, stated_number, built_number}
 use Rattle.plan_build.specs.declared.plan.{PlannedKey.PlannedKey as GivenKey, PlannedItem.PlannedItem as GivenItem}
 use Rattle.plan_build.proofs.Mapping.{differ}

@@ -1,8 +1,7 @@
 -- A text that was read as a version is the text of that version.
 use Rattle.std.proofs.Common.{rules as std_rules, ◌≡◌, true, Ok}
 use Rattle.semver.specs.declared.Version.{Version}
-use Rattle.semver.specs.{Identifiers.parts_of, Identifiers.version_text, Parse.version_parts}
-use Rattle.semver.specs.Grammar.{IsValid}
+use Rattle.semver.specs.{Identifiers.parts_of, Identifiers.version_text, Parse.version_parts, Grammar.IsValid}
 use Rattle.semver.proofs.Grammar.{version_parts-sound}
 use Rattle.wit_model.specs.{Text.Text, Names.is_version}
 

@@ -4,9 +4,8 @@ use Rattle.std.proofs.lemmas.{Bool.eqb-true, Bool.eq-eqb, Bool.lt-ltb, Bool.or_r
 use Rattle.std.proofs.lemmas.Option.{slice_get_within}
 use Rattle.std.specs.{Prelude.nat_le, Prelude.nat_eq, Prelude.option_and_then, List.AllZip, List.list_all, List.starts_with, Option.option_map_or}
 use Rattle.wit_model.specs.declared.model.{TypeOwner.TypeOwner, FunctionKind.FunctionKind}
-use Rattle.wit_model.specs.{Text.Text, Text.text_eq, Lookup.resource_of}
+use Rattle.wit_model.specs.{Text.Text, Text.text_eq, Lookup.resource_of, Rules.after_prefix, Rules.in_list, Rules.is_freestanding, Rules.is_id, Rules.passes}
 use Rattle.wit_model.specs.{Names.is_label, Names.method_name, Names.static_name, Tree.Place, Tree.Form, Tree.levels}
-use Rattle.wit_model.specs.Rules.{after_prefix, in_list, is_freestanding, is_id, passes}
 use Rattle.wit_model.proofs.{VersionLaws.same_text, TextLemmas.text_same}
 use Rattle.comp_meaning.specs.Rules.{is_label_behind, most_levels}
 use Rattle.plan_meaning.specs.Shapes.{Shape, first_label, form_code, named_shape, node_shape, IsShape, a_name, a_node, part_tree}

@@ -4,8 +4,7 @@ use Rattle.std.proofs.lemmas.{Bool.eqb-true, Bool.eq-eqb, Bool.and_from as both,
 use Rattle.std.specs.{List.AllByRecursion, List.AllZip, List.flat_map, List.list_all, List.list_any, Option.option_map_or}
 use Rattle.wit_model.specs.{Text.Text, Text.text_eq, Names.PackageIdentity, Names.path_in, Names.read_path}
 use Rattle.wit_model.proofs.{NameLaws.read_path_is_spelled, VersionLaws.same_text, TextLemmas.text_same}
-use Rattle.comp_meaning.specs.{Follow.View, Follow.each, Same.same_identity}
-use Rattle.comp_meaning.specs.Reads.{Part, Member, is_of, all_agree, is_interface_part}
+use Rattle.comp_meaning.specs.{Follow.View, Follow.each, Same.same_identity, Reads.Part, Reads.Member, Reads.is_of, Reads.all_agree, Reads.is_interface_part}
 use Rattle.comp_meaning.proofs.SameLaws.{identities_decide}
 use Rattle.plan_meaning.specs.NumberedViews.{Tables, path_text, AreTables, NumberedView, NumberedSight, sight_of, IsSight, agree_in_numbers}
 use Rattle.plan_meaning.specs.{NumberedRules.Fact, NumberedWorlds.NumberedSeen, NumberedWorlds.seen_of, NumberedWorlds.HasPath}

@@ -3,8 +3,7 @@ use Rattle.std.proofs.Common.{rules as std_rules, ◌≡◌, refl, sym, ap, ◌�
 use Rattle.std.proofs.lemmas.Bool.{and_from as both}
 use Rattle.std.specs.{List.list_all, Option.option_map_or}
 use Rattle.wit_model.specs.declared.model.{Resolve.Resolve, TypeDef.TypeDef, TypeOwner.TypeOwner, Function.Function}
-use Rattle.wit_model.specs.{Lookup.interface_at, Lookup.type_at, Uses.owner_interface, Valid.Keeps, Valid.owners}
-use Rattle.wit_model.specs.{Parts.same_owner, Types.number_of}
+use Rattle.wit_model.specs.{Lookup.interface_at, Lookup.type_at, Uses.owner_interface, Valid.Keeps, Valid.owners, Parts.same_owner, Types.number_of}
 use Rattle.wit_model.proofs.{Lists.list_all_filter_map, Owners.used_within, Checks.keeps_three, RulesLemmas.each_by_number}
 use Rattle.plan_meaning.specs.{Plan.type_in, PlanRules.IsPlan, Built.planned_type, Built.planned_function}
 use Rattle.plan_meaning.proofs.{Lists.same_or, Lists.each_from_built, Lists.or_there, Lists.each_there, KindRules.has_text}

@@ -6,9 +6,8 @@ use Rattle.wit_model.specs.{Text.Text, Parts.same_owner, Valid.as_interface}
 use Rattle.wit_model.proofs.{VersionLaws.same_text, PartsLemmas.owner_itself, RulesLemmas.each_by_number}
 use Rattle.comp_meaning.specs.{Rules.distinct}
 use Rattle.plan_meaning.specs.{Shapes.named_shape, ReadFunctions.Beside, NumberedViews.Tables, NumberedViews.NumberedType, NumberedViews.NumberedFunction}
-use Rattle.plan_meaning.specs.Plan.{Plan, PlannedType, PlannedInterface, numbers_of}
+use Rattle.plan_meaning.specs.{Plan.Plan, Plan.PlannedType, Plan.PlannedInterface, Plan.numbers_of, KeptTypes.IsKeptType, KeptTypes.TypesAreKept}
 use Rattle.plan_meaning.specs.{PlanRules.are_rising, PlanRules.bears, PlanRules.interface_labels, PlanRules.is_type_of, KeptOwners.AreOwned}
-use Rattle.plan_meaning.specs.KeptTypes.{IsKeptType, TypesAreKept}
 use Rattle.plan_meaning.specs.ReadInterfaces.{IsNumberOf, IsKeptAs, HasName, IsNamed, IsReadInterface, ReadInterfacesPass}
 use Rattle.plan_meaning.proofs.{KeptParts.kept_at}
 use Rattle.base_lemmas.proofs.Bools.{left_of as first_true, right_of as second_true}

@@ -4,8 +4,7 @@ use Rattle.std.proofs.lemmas.Bool.{eqb-true, eq-eqb, leb-true, or_right, and_fro
 use Rattle.std.proofs.lemmas.{List.Elements.Contains-append_cases, List.Elements.Contains-append_left, List.Elements.filter_map-append}
 use Rattle.std.proofs.lemmas.Option.{slice_get_within, same_Some as same-some}
 use Rattle.std.proofs.lemmas.List.Folds.{list_all-append, list_all-map, list_any-append}
-use Rattle.std.specs.{Prelude.nat_lt, List.AllByRecursion, List.Contains, List.list_all, Cmp.Lexicographic.pointwise, Option.option_map_or}
-use Rattle.std.specs.Map.{lookup}
+use Rattle.std.specs.{Prelude.nat_lt, List.AllByRecursion, List.Contains, List.list_all, Cmp.Lexicographic.pointwise, Option.option_map_or, Map.lookup}
 use Rattle.wit_model.specs.{Text.Text, Parts.same_owner, Valid.as_interface, Valid.as_world}
 use Rattle.wit_model.specs.{Lookup.resource_of, Uses.has, Uses.once, Uses.owner_interface, Rules.each_after, Rules.each_from, Rules.in_list, Rules.is_id}
 use Rattle.wit_model.proofs.{Chains.has_once, Elements.contains-has, Elements.has-contains, Elements.none-in, RulesLemmas.each_at, RulesLemmas.each_by_number}

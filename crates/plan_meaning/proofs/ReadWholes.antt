@@ -4,8 +4,7 @@ use Rattle.std.proofs.lemmas.{Bool.eqb-true, Bool.eq-eqb, Bool.or_right, Bool.no
 use Rattle.std.proofs.lemmas.List.Elements.{Contains-append_cases, Contains-append_left, Contains-append_right}
 use Rattle.std.specs.{List.AllZip, List.Contains, List.list_any, Option.option_map_or}
 use Rattle.wit_model.specs.declared.model.TypeOwner.{TypeOwner}
-use Rattle.wit_model.specs.Text.{Text}
-use Rattle.wit_model.specs.{Parts.same_owner, Uses.has, Uses.once, Rules.has_items, Rules.is_id, Valid.as_interface, Valid.as_world}
+use Rattle.wit_model.specs.{Text.Text, Parts.same_owner, Uses.has, Uses.once, Rules.has_items, Rules.is_id, Valid.as_interface, Valid.as_world}
 use Rattle.wit_model.proofs.{Chains.has_once, UsesLemmas.has_filter, PartsLemmas.owner_itself, RulesLemmas.each_by_number}
 use Rattle.wit_model.proofs.Elements.{contains-filter_map, contains-get, contains-has, has-contains, none-in}
 use Rattle.plan_meaning.specs.Plan.{Plan, PlannedKey, PlannedItem, PlannedType, PlannedFunction, PlannedInterface, PlannedPackage, package_in, interface_in, kind_numbers, part_number, function_numbers, function_parts, interfaces_used_by, item_interface, items_of}

@@ -63,8 +63,10 @@ module _ (homes : ℕ → Option Home) (q : ℕ) where
   rising n [] = tt
   rising n (p ∷ ps) =
       let rest = entries_from homes q (n + 1) ps in
-      entry_too Rising n p rest (rising (n + 1) ps) (λ name home. ((all_through (IsFrom homes q (n + 1) ps) (λ (f : Text × ℕ). n < f.1) (λ f from. omega (arith, from.number)) rest (among (n + 1) ps)),
-      rising (n + 1) ps))
+      entry_too Rising n p rest (rising (n + 1) ps) (λ name home. (
+        (all_through (IsFrom homes q (n + 1) ps) (λ (f : Text × ℕ). n < f.1) (λ f from. omega (arith, from.number)) rest (among (n + 1) ps)),
+        rising (n + 1) ps,
+      ))
 
   stand : (n : ℕ) (ps : List ℕ) (i place : ℕ) (name : Text) → slice_get ps i ≡ Some place → homes place ≡ Some (q, name) → (j : ℕ) × (slice_get (entries_from homes q n ps) j ≡ Some (name, n + i))
   stand n [] i place name at home = absurd (none_there i place at)

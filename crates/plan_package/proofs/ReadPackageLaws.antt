@@ -51,7 +51,7 @@ module _ (places : List ℕ) where
       by : (b : Bool) → (e.1 == k) ≡ b → has (numbers_of es) k ≡ false → (b || has (numbers_of es) k) ≡ false
       by true same later =
           let wrong : true ≡ false = sym (ap (λ b. b || has (map (λ (y : Text × ℕ). y.1) xs) x)
-              (eq-eqb y.1 x (same-some y.1 x (sym (subst (λ (m : ℕ). slice_get places m ≡ Some y.1) (eqb-true e.1 k same) (number_at places y.1 e.1 all.0.1)) ∙ number_at places x k is)))) ∙ none in
+          (eq-eqb y.1 x (same-some y.1 x (sym (subst (λ (m : ℕ). slice_get places m ≡ Some y.1) (eqb-true e.1 k same) (number_at places y.1 e.1 all.0.1)) ∙ number_at places x k is)))) ∙ none in
           absurd cc
       by false same later = later
 

@@ -4,8 +4,7 @@ use Rattle.std.specs.List.{list_all, flat_map}
 use Rattle.wit_model.specs.Names.{is_label}
 use Rattle.print_grammar.specs.{Keyword.Keyword as WordKey, AsRead.type_as_read, AsRead.bare_item, AsRead.bare_package, AsRead.file_as_read}
 use Rattle.print_grammar.specs.Calls.{line_after_calls, package_item_calls, package_outer_calls, package_calls, more_nested_calls, nested_calls, file_calls}
-use Rattle.print_grammar.specs.{Token.Token, Token.Tokens, Token.Token.Key, Reading.IsReading, Reading.IsOnlyReading}
-use Rattle.print_grammar.specs.Token.Tokens.{no_tokens}
+use Rattle.print_grammar.specs.{Token.Token, Token.Tokens, Token.Token.Key, Reading.IsReading, Reading.IsOnlyReading, Token.Tokens.no_tokens}
 use Rattle.print_grammar.specs.{Tree.ItemTree, Tree.PackageHead, Tree.PackageTree, Tree.FileTree, Tree.ItemTree.InterfaceItem, Tree.ItemTree.WorldItem}
 use Rattle.print_grammar.specs.Grammar.{ReadsItem, ReadsItems, ReadsHead, ReadsNested, ReadsAllNested, ReadsFile}
 use Rattle.print_grammar.specs.WellNamed.{is_well_gates, is_well_item, is_well_head, is_well_package, is_well_file}

@@ -2,13 +2,12 @@
 use Rattle.std.proofs.Common.{rules as std_rules, ◌≡◌, List, ℕ, refl, subst, [], ◌∷◌, ap, sym, ◌∙◌, Bool, true, false}
 use Rattle.print_grammar.specs.{Token.Token, Token.Tokens, Token.Front, Token.Mark, Grammar.ReadsUse.use_names, Grammar.ReadsPath.full}
 use Rattle.print_grammar.specs.{Token.Front.Ended, Token.Front.Skipped, Token.Front.Found, Token.Front.Unknown, Token.front_of_text, Grammar.ReadsSignature.func, Grammar.ReadsSignature.async_func}
-use Rattle.print_grammar.specs.Token.{Tokens.no_tokens, Tokens.skip, Tokens.token, Mark.CloseBrace}
-use Rattle.print_grammar.specs.{Keyword.Keyword, Grammar.ReadsFile.file}
+use Rattle.print_grammar.specs.{Token.Tokens.no_tokens, Token.Tokens.skip, Token.Tokens.token, Token.Mark.CloseBrace, Keyword.Keyword, Grammar.ReadsFile.file}
 use Rattle.print_grammar.specs.{Token.Token.Punctuation, Token.Token.Key, Grammar.ReadsNested.nested_package, Reading.IsReading, Reading.OneReading}
-use Rattle.print_grammar.specs.Grammar.{ReadsItem.interface_item, ReadsItem.world_item, ReadsHead.head, ReadsAllNested.nested_end, ReadsAllNested.next_nested}
+use Rattle.print_grammar.specs.{Grammar.ReadsItem.interface_item, Grammar.ReadsItem.world_item, Grammar.ReadsHead.head, Grammar.ReadsAllNested.nested_end, Grammar.ReadsAllNested.next_nested}
 use Rattle.print_grammar.specs.Tree.{SignatureTree, PathTree, UsedName, Declared, ExternTree, ItemTree, PackageHead, PackageTree, FileTree}
 use Rattle.print_grammar.specs.Grammar.{IsId, ReadsPath, ReadsUse, ReadsDeclared, ReadsSignature, ReadsMember, ReadsExtern, ReadsWorldMember, ReadsItem, ReadsItems, ReadsHead, ReadsNested, ReadsAllNested, ReadsFile}
-use Rattle.print_grammar.specs.Grammar.{ReadsMember.member_use, ReadsMember.member_type, ReadsMember.member_function, ReadsItems.no_items, ReadsItems.next_item}
+use Rattle.print_grammar.specs.{Grammar.ReadsMember.member_use, Grammar.ReadsMember.member_type, Grammar.ReadsMember.member_function, Grammar.ReadsItems.no_items, Grammar.ReadsItems.next_item}
 use Rattle.print_grammar.specs.Grammar.ReadsExtern.{extern_path, extern_function, extern_named_path, extern_interface}
 use Rattle.print_grammar.specs.Grammar.ReadsWorldMember.{world_use, world_type, world_import, world_export}
 use Rattle.print_grammar.proofs.TypeTokens.{id-unique, tail_same, begins_with_at}

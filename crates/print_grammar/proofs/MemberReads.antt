@@ -2,18 +2,16 @@
 use Rattle.std.proofs.Common.{rules as std_rules, ◌≡◌, refl, ℕ, Bool, true, false, ◌&&◌, not, List, [], ◌∷◌, ◌++◌, append_assoc, codes, Some, map}
 use Rattle.std.specs.List.{list_all}
 use Rattle.wit_model.specs.Names.{is_label, begins_with_letter}
-use Rattle.print_grammar.specs.{Keyword.Keyword as WordKey, Token.Token, Token.spelled}
+use Rattle.print_grammar.specs.{Keyword.Keyword as WordKey, Token.Token, Token.spelled, Token.Mark.CloseBrace, Grammar.Repeated.closed, Grammar.Repeated.again}
 use Rattle.print_grammar.specs.Calls.{prefix_calls, declared_calls, use_calls, function_calls, item_calls, members_calls, extern_calls, world_extern_calls, world_members_calls, space as space_call}
 use Rattle.print_grammar.specs.{Token.Token.Punctuation, Token.Token.Key, Tree.MemberTree.UseMember, Tree.MemberTree.TypeMember, Tree.MemberTree.FunctionMember}
-use Rattle.print_grammar.specs.{Token.Mark.CloseBrace, Grammar.Repeated.closed, Grammar.Repeated.again}
 use Rattle.print_grammar.specs.Tree.{Prefix, Declared, PathTree, UsedName, MemberTree, ExternTree, WorldMember}
 use Rattle.print_grammar.specs.Tree.ExternTree.{Path, NamedFunction, NamedPath, NamedInterface}
 use Rattle.print_grammar.specs.Tree.WorldMember.{WorldUse, WorldType, WorldImport, WorldExport}
 use Rattle.print_grammar.specs.AsRead.{type_as_read, bare_prefix, bare_declared, bare_member, bare_extern, bare_world_member}
 use Rattle.print_grammar.specs.Grammar.{ReadsPrefix, ReadsUse, ReadsDeclared, ReadsMember, ReadsExtern, ReadsWorldMember, Repeated}
 use Rattle.print_grammar.specs.WellNamed.{is_well_prefix, is_well_use, is_well_declared, is_well_member, is_well_extern, is_well_world_member}
-use Rattle.print_output.specs.OutputCall.{OutputCall}
-use Rattle.print_output.specs.OutputCall.OutputCall.{Keyword, IndentEnd, Newline}
+use Rattle.print_output.specs.{OutputCall.OutputCall, OutputCall.OutputCall.Keyword, OutputCall.OutputCall.IndentEnd, OutputCall.OutputCall.Newline}
 use Rattle.print_grammar.proofs.{TokenFacts.id_is, SignatureReads.colon_call, SignatureReads.space_before, SignatureReads.signature_reads}
 use Rattle.print_grammar.proofs.Printing.{Follows, Printed, relist, word_call, id_call, line_begins, semicolon_call, line_feed}
 use Rattle.print_grammar.proofs.{Printing.Prints.by_keyword, Printing.Prints.by_type, PrefixReads.prefix_reads, PathReads.path_reads, PathReads.use_reads}

@@ -2,15 +2,14 @@
 use Rattle.std.proofs.Common.{rules as std_rules, ◌≡◌, List, ◌∷◌, ℕ, refl, ap, sym, ◌∙◌, Bool, true, false, Option, Some, codes}
 use Rattle.std.proofs.lemmas.{Bool.Decides.Decides-eqb, Slice.Eq.slice_eq-Decides}
 use Rattle.wit_model.specs.Text.{text_eq}
-use Rattle.print_grammar.specs.{Token.Token, Token.Mark}
-use Rattle.print_grammar.specs.Token.{Token.Punctuation, Token.Word, Mark.At, Mark.Colon, Mark.Semi, Mark.Dot, Mark.CloseBrace}
-use Rattle.print_grammar.specs.Tree.{Gates, Prefix, PathTree, UsedName, Declared}
+use Rattle.print_grammar.specs.{Token.Token, Token.Mark, Tree.Gates, Tree.Prefix, Tree.PathTree, Tree.UsedName, Tree.Declared}
+use Rattle.print_grammar.specs.{Token.Token.Punctuation, Token.Token.Word, Token.Mark.At, Token.Mark.Colon, Token.Mark.Semi, Token.Mark.Dot, Token.Mark.CloseBrace}
 use Rattle.print_grammar.specs.Grammar.{IsId, ReadsVersion, ReadsVersionArgument, ReadsDeprecated, ReadsGates, ReadsExternalId, ReadsPrefix, ReadsPath, ReadsUsedName, ReadsUse, ReadsField, ReadsCase, ReadsLabel, ReadsResourceMember, ReadsDeclared}
-use Rattle.print_grammar.specs.Grammar.{ReadsVersion.no_version, ReadsVersion.with_version, ReadsDeprecated.not_deprecated, ReadsDeprecated.deprecated}
-use Rattle.print_grammar.specs.Grammar.{ReadsVersionArgument.version_argument, ReadsPath.local, ReadsPath.full, ReadsField.field, ReadsLabel.label}
-use Rattle.print_grammar.specs.Grammar.{ReadsGates.no_gates, ReadsGates.since, ReadsGates.unstable, ReadsExternalId.no_external_id, ReadsExternalId.external_id}
-use Rattle.print_grammar.specs.Grammar.{ReadsPrefix.prefix, ReadsResourceMember.constructor_, ReadsResourceMember.method, ReadsResourceMember.static}
-use Rattle.print_grammar.specs.Grammar.{ReadsUsedName.same_name, ReadsUsedName.other_name, ReadsUse.use_names, ReadsCase.case_alone, ReadsCase.case_of}
+use Rattle.print_grammar.specs.{Grammar.ReadsVersion.no_version, Grammar.ReadsVersion.with_version, Grammar.ReadsDeprecated.not_deprecated, Grammar.ReadsDeprecated.deprecated}
+use Rattle.print_grammar.specs.{Grammar.ReadsVersionArgument.version_argument, Grammar.ReadsPath.local, Grammar.ReadsPath.full, Grammar.ReadsField.field, Grammar.ReadsLabel.label}
+use Rattle.print_grammar.specs.{Grammar.ReadsGates.no_gates, Grammar.ReadsGates.since, Grammar.ReadsGates.unstable, Grammar.ReadsExternalId.no_external_id, Grammar.ReadsExternalId.external_id}
+use Rattle.print_grammar.specs.{Grammar.ReadsPrefix.prefix, Grammar.ReadsResourceMember.constructor_, Grammar.ReadsResourceMember.method, Grammar.ReadsResourceMember.static}
+use Rattle.print_grammar.specs.{Grammar.ReadsUsedName.same_name, Grammar.ReadsUsedName.other_name, Grammar.ReadsUse.use_names, Grammar.ReadsCase.case_alone, Grammar.ReadsCase.case_of}
 use Rattle.print_grammar.specs.Grammar.ReadsDeclared.{record_, variant, flags, enum, alias, resource, resource_with}
 use Rattle.print_grammar.proofs.TypeTokens.{id-unique, tail_same, type-unique, begins_with_at, no_less}
 use Rattle.print_grammar.proofs.ListsUnique.{Same, Unique, UniqueBefore, Never, head_same, listed-unique, repeated-same, no_id_mark, arguments-unique, signature-unique}

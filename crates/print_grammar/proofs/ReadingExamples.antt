@@ -2,16 +2,15 @@
 use Rattle.std.proofs.Common.{◌≡◌, length, [], ◌∷◌, ◌++◌, List, ℕ, refl, codes, None, Some, false, true}
 use Rattle.print_grammar.specs.Keyword.Keyword.{Package, World, Import, Export, Func, Map}
 use Rattle.print_grammar.specs.{Keyword.Primitive.U32, Keyword.Primitive.Bool_, Tree.ExternTree.NamedFunction, Grammar.Repeated.closed, Grammar.Repeated.again}
-use Rattle.print_grammar.specs.Calls.{file_calls}
+use Rattle.print_grammar.specs.{Calls.file_calls, Token.Token, Token.Tokens, Token.front_of_text, Tree.FileTree, Grammar.ReadsVersion.no_version}
 use Rattle.print_grammar.specs.{Tree.TypeTree.PrimitiveType, Grammar.ReadsItem.world_item, Grammar.ReadsGates.no_gates, Grammar.ReadsSignature.func}
-use Rattle.print_grammar.specs.{Token.Token, Token.Tokens, Token.front_of_text, Tree.FileTree, Grammar.ReadsVersion.no_version}
 use Rattle.print_grammar.specs.Token.Token.{Word, Escaped, Key, VersionText, Digits, Quoted, Punctuation}
 use Rattle.print_grammar.specs.Token.Mark.{Arrow, Colon, Semi, OpenBrace, CloseBrace, OpenParen, CloseParen}
 use Rattle.print_grammar.specs.{Token.Front.Found, Token.Front.Unknown, Grammar.ReadsFile, Grammar.ReadsSignature, Grammar.ReadsExternalId.no_external_id}
 use Rattle.print_grammar.specs.{Token.Tokens.no_tokens, Token.Tokens.skip, Token.Tokens.token, Tree.WorldMember.WorldImport, Tree.WorldMember.WorldExport}
 use Rattle.print_grammar.specs.{Tree.Gates.Ungated, Tree.ItemTree.WorldItem, Grammar.ReadsPrefix.prefix, Grammar.IsId.plain, Reading.IsReading}
-use Rattle.print_grammar.specs.Grammar.{ReadsFile.file, ReadsItems.no_items, ReadsItems.next_item, ReadsWorldMember.world_import, ReadsWorldMember.world_export}
-use Rattle.print_grammar.specs.Grammar.{ReadsHead.head, ReadsAllNested.nested_end, ReadsExtern.extern_function, ReadsParams.no_params, ReadsResult.no_result}
+use Rattle.print_grammar.specs.{Grammar.ReadsFile.file, Grammar.ReadsItems.no_items, Grammar.ReadsItems.next_item, Grammar.ReadsWorldMember.world_import, Grammar.ReadsWorldMember.world_export}
+use Rattle.print_grammar.specs.{Grammar.ReadsHead.head, Grammar.ReadsAllNested.nested_end, Grammar.ReadsExtern.extern_function, Grammar.ReadsParams.no_params, Grammar.ReadsResult.no_result}
 use Rattle.std.specs.List.{flat_map}
 use Rattle.print_grammar.proofs.Scanned.{bare, no_parameters, scanned}
 use Rattle.print_output.specs.{OutputCall.body_calls, Render.render}

@@ -3,16 +3,14 @@ use Rattle.std.proofs.Common.{rules as std_rules, ◌≡◌, refl, ap, ℕ, true
 use Rattle.std.proofs.lemmas.Bool.{ltb-true}
 use Rattle.wit_model.specs.Names.{is_label, begins_with_letter}
 use Rattle.print_grammar.specs.{Keyword.Keyword, Keyword.Primitive, Keyword.primitive_text, Keyword.escaped, WellNamed.is_well_type, WellNamed.are_well_types}
-use Rattle.print_grammar.specs.Keyword.Primitive.{Bool_}
+use Rattle.print_grammar.specs.{Keyword.Primitive.Bool_, Tree.TypeTrees.NoTypes, Tree.TypeTrees.AndTypes, Grammar.ReadsType, Grammar.ReadsTypes, Grammar.IsId}
 use Rattle.print_grammar.specs.{Calls.type_calls, Calls.types_calls, AsRead.type_as_read, AsRead.types_as_read, Tree.TypeTree, Tree.TypeTrees}
-use Rattle.print_grammar.specs.{Tree.TypeTrees.NoTypes, Tree.TypeTrees.AndTypes, Grammar.ReadsType, Grammar.ReadsTypes, Grammar.IsId}
 use Rattle.print_grammar.specs.{Token.Token, Token.spelled, Token.Mark, Token.Token.Punctuation, Token.Token.Key, Token.Token.Digits}
-use Rattle.print_grammar.specs.Grammar.{ReadsTypes.last_type, ReadsTypes.next_type, ReadsTypes.last_type_with_comma, IsId.plain, IsId.with_percent}
+use Rattle.print_grammar.specs.{Grammar.ReadsTypes.last_type, Grammar.ReadsTypes.next_type, Grammar.ReadsTypes.last_type_with_comma, Grammar.IsId.plain, Grammar.IsId.with_percent}
 use Rattle.print_grammar.specs.Token.Mark.{Less, Greater, Comma, CloseParen, CloseBrace, Semi, At}
 use Rattle.print_grammar.specs.Tree.TypeTree.{PrimitiveType, Name, Handle, Own, Borrow, TupleOf, OptionOf, ListOf, FixedListOf, MapOf, Result, ResultOk, ResultErr, ResultOf, Future, FutureOf, Stream, StreamOf}
 use Rattle.print_grammar.specs.Grammar.ReadsType.{primitive, named, named_with_percent, own, borrow, tuple, option, map, list, fixed_list, future, future_of, stream, stream_of, result, result_ok, result_of, result_err}
-use Rattle.print_output.specs.OutputCall.{OutputCall}
-use Rattle.print_output.specs.OutputCall.OutputCall.{PushStr, Str}
+use Rattle.print_output.specs.{OutputCall.OutputCall, OutputCall.OutputCall.PushStr, OutputCall.OutputCall.Str}
 use Rattle.print_grammar.proofs.TokenFacts.{word_at, mark_at, id_token, id_is}
 use Rattle.print_grammar.proofs.VersionFacts.{number_at, ends_version}
 use Rattle.print_grammar.proofs.{TextOf.text_of, Printing.Prints.by_type, Printing.Prints.by_push, Printing.Prints.by_start, Printing.Prints.by_end}

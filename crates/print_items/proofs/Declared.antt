@@ -9,9 +9,8 @@ use Rattle.wit_model.specs.{Rules.in_list, Rules.is_named_kind, Rules.is_named_n
 use Rattle.print_output.specs.OutputCall.{lines_begun_after}
 use Rattle.print_grammar.specs.{Tree.TypeTree, Calls.declared_calls, Calls.type_calls}
 use Rattle.print_grammar.specs.{Tree.TypeTree.Name, Tree.Declared.AliasOf, WellNamed.are_well_some, WellNamed.is_well_type}
-use Rattle.print_items.specs.Shown.{kind_tree, shown_type, type_trees}
+use Rattle.print_items.specs.{Shown.kind_tree, Shown.shown_type, Shown.type_trees, TypeParts.handles_label, TypeParts.is_labelled, TypeParts.kind_calls}
 use Rattle.print_items.specs.DeclaredCalls.{alias_calls, is_word}
-use Rattle.print_items.specs.TypeParts.{handles_label, is_labelled, kind_calls}
 use Rattle.print_items.proofs.{TypesWell.type_rule, TypeParts.handles_at, TypeParts.shown_at, TypeParts.type_stays, TypeParts.well_in_range}
 use Rattle.base_lemmas.proofs.{Bools.right_of, Lists.within_there as one_there}
 use Rattle.wit_model.specs.declared.model.TypeDefKind.TheVariants as defined

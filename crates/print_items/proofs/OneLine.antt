@@ -1,14 +1,12 @@
 -- Labels and versions have no line end in them, and begin with no space.
 use Rattle.std.proofs.Common.{rules as std_rules, ◌≡◌, refl, subst, ℕ, Bool, true, false, IsTrue, ◌&&◌, not, ◌==◌, List, [], ◌∷◌, ◌++◌, if◌then◌else◌, arith, zero, suc, ◌/◌, ◌%◌, Result, Ok, Err}
 use Rattle.std.proofs.lemmas.{Bool.Decides.nat_tests, List.Splits.join_with_byte-slice_split, Bool.and_from as both_true, Bool.or_cases as either_true}
-use Rattle.std.specs.Prelude.{is_ok}
-use Rattle.std.specs.{List.list_all, List.slice_split, List.join_with_byte, Fmt.decimal, Fmt.digits, Fmt.digits_onto, Fmt.digit_glyph}
+use Rattle.std.specs.{Prelude.is_ok, List.list_all, List.slice_split, List.join_with_byte, Fmt.decimal, Fmt.digits, Fmt.digits_onto, Fmt.digit_glyph}
 use Rattle.semver.specs.{Identifiers.marked, Identifiers.parts_text, Parse.Parts, Parse.version_parts, Order.parts}
 use Rattle.semver.specs.Grammar.{is_identifier_byte, is_build_identifier, is_pre_identifier, is_pre_release, is_build, IsValid as IsValidVersion}
 use Rattle.semver.specs.declared.error.Error.{Error}
 use Rattle.semver.proofs.Grammar.{version_parts-sound}
-use Rattle.wit_model.specs.Text.{Text}
-use Rattle.wit_model.specs.Names.{is_fragment, begins_with_letter, is_label, is_version_text}
+use Rattle.wit_model.specs.{Text.Text, Names.is_fragment, Names.begins_with_letter, Names.is_label, Names.is_version_text}
 use Rattle.print_grammar.specs.Keyword.{escaped, is_keyword}
 use Rattle.print_output.specs.OutputCall.{is_one_line, has_no_space_first, may_begin}
 use Rattle.print_items.proofs.Driven.{spelled_made, call_passed}

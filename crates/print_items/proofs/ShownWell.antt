@@ -1,6 +1,6 @@
 -- What is shown in front of an item of a valid package is well named.
 use Rattle.std.proofs.Common.{rules as std_rules, ◌≡◌, refl, ℕ, suc, ◌<◌, Bool, true, List, [], ◌∷◌, length, get_or, Option, arith}
-use Rattle.std.proofs.lemmas.Str.{scalars-chars, IsUtf8-string_bytes}
+use Rattle.std.proofs.{lemmas.Str.scalars-chars, lemmas.Str.IsUtf8-string_bytes, lemmas.Bool.ltb-true, lemmas.Bool.and_from as both}
 use Rattle.std.specs.{Prelude.String, Prelude.is_some, List.list_all, Str.Lines.lines}
 use Rattle.std.specs.declared.alloc.Global.{Global}
 use lib.Utf8.{scalar, scalars}
@@ -10,7 +10,6 @@ use Rattle.wit_model.specs.{Names.is_label, Names.is_version, Names.is_version_t
 use Rattle.semver.specs.declared.Version.{Version}
 use Rattle.semver.specs.Identifiers.{version_text}
 use Rattle.semver.proofs.Grammar.{version_parts-complete}
-use Rattle.std.proofs.lemmas.Bool.{ltb-true, and_from as both}
 use Rattle.print_output.specs.OutputCall.{is_one_line}
 use Rattle.print_items.specs.Shown.{present_name, shown_docs, shown_gates, shown_external_id, shown_prefix}
 use Rattle.print_grammar.specs.WellNamed.{is_well_gates, is_well_prefix}

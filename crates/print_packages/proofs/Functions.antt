@@ -5,8 +5,7 @@ use Rattle.std.specs.{Prelude.String, List.list_all}
 use Rattle.std.specs.declared.alloc.Global.{Global}
 use Rattle.wit_model.specs.declared.model.{Resolve.Resolve, Function.Function, Interface.Interface, InterfaceId.InterfaceId}
 use Rattle.wit_model.specs.{Lookup.interface_at, Rules.is_freestanding, Text.text_of, Valid.IsValid}
-use Rattle.print_grammar.specs.{Tree.MemberTree, Calls.members_calls, Calls.prefix_calls, Calls.line_after_calls}
-use Rattle.print_grammar.specs.WellNamed.{is_well_member}
+use Rattle.print_grammar.specs.{Tree.MemberTree, Calls.members_calls, Calls.prefix_calls, Calls.line_after_calls, WellNamed.is_well_member}
 use Rattle.print_items.specs.{Shown.function_prefix, Shown.listed_functions, Shown.shown_function, Shown.shown_signature, ItemCalls.named_calls}
 use Rattle.print_uses.specs.Printable.{is_printable_function, shown_functions}
 use Rattle.print_output.specs.declared.type_kind.TypeKind.TheVariants.{FunctionFreestanding}

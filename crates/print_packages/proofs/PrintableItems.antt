@@ -5,8 +5,7 @@ use Rattle.std.specs.declared.alloc.Global.{Global}
 use Rattle.wit_model.specs.declared.model.{Resolve.Resolve, Docs.Docs, Function.Function, WorldKey.WorldKey}
 use Rattle.wit_model.specs.declared.model.{Interface.Interface, InterfaceId.InterfaceId, PackageId.PackageId, Stability.Stability, WorldItem.WorldItem}
 use Rattle.wit_model.specs.{Lookup.interface_at, Text.Text, Text.text_of, Rules.is_export_item, Rules.item_in_range, Rules.key_in_range}
-use Rattle.print_grammar.specs.{Tree.ExternTree.NamedFunction, Tree.ExternTree.NamedInterface, Tree.ExternTree.NamedPath}
-use Rattle.print_grammar.specs.Calls.{world_extern_calls}
+use Rattle.print_grammar.specs.{Tree.ExternTree.NamedFunction, Tree.ExternTree.NamedInterface, Tree.ExternTree.NamedPath, Calls.world_extern_calls}
 use Rattle.print_grammar.specs.WellNamed.{is_well_extern, is_well_path, is_well_prefix, is_well_world_member}
 use Rattle.print_items.specs.ItemCalls.{labelled_tree}
 use Rattle.print_items.specs.Shown.{extern_prefix, function_prefix, shown_import, shown_interface, shown_path, shown_signature}

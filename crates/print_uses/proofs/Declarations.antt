@@ -6,14 +6,11 @@ use Rattle.std.specs.declared.alloc.Global.{Global}
 use Rattle.wit_model.specs.declared.model.{Resolve.Resolve, Function.Function, Interface.Interface, InterfaceId.InterfaceId, PackageId.PackageId, TypeId.TypeId}
 use Rattle.wit_model.specs.declared.model.TypeDef.{TypeDef}
 use Rattle.wit_model.specs.{Lookup.interface_at, Lookup.type_at, Rules.in_list, Text.text_of, Valid.IsValid}
-use Rattle.print_grammar.specs.{Tree.Declared, Tree.MemberTree, Tree.Prefix, WellNamed.is_well_declared, WellNamed.is_well_prefix}
-use Rattle.print_grammar.specs.Tree.MemberTree.{TypeMember}
+use Rattle.print_grammar.specs.{Tree.Declared, Tree.MemberTree, Tree.Prefix, WellNamed.is_well_declared, WellNamed.is_well_prefix, Tree.MemberTree.TypeMember}
 use Rattle.print_grammar.specs.Calls.{declared_calls, members_calls, prefix_calls, printed_after, line_after_calls}
 use Rattle.print_items.specs.Shown.{Listed, listed_functions, listed_types, shown_declared, shown_interface, shown_prefix, shown_resource_member}
-use Rattle.print_uses.specs.Printable.{declaration_of, is_printable_type, shown_functions}
-use Rattle.print_uses.specs.UseGroups.{is_listed_type, type_members}
-use Rattle.print_uses.proofs.{Valid.in_package, Valid.interface_range, Valid.interface_types, Valid.is_known_listed}
-use Rattle.print_uses.proofs.WellLists.{all_both}
+use Rattle.print_uses.specs.{Printable.declaration_of, Printable.is_printable_type, Printable.shown_functions, UseGroups.is_listed_type, UseGroups.type_members}
+use Rattle.print_uses.proofs.{Valid.in_package, Valid.interface_range, Valid.interface_types, Valid.is_known_listed, WellLists.all_both}
 use Rattle.wit_model.specs.declared.model.TypeOwner.TheVariants as owner
 
 -- ---- calls

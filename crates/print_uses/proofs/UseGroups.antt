@@ -6,8 +6,7 @@ use Rattle.std.specs.{Prelude.codes, Prelude.is_some, Prelude.String, Str.chars,
 use Rattle.std.specs.declared.alloc.Global.{Global}
 use Rattle.wit_model.specs.declared.model.{Resolve.Resolve, InterfaceId.InterfaceId, PackageId.PackageId, TypeOwner.TypeOwner}
 use Rattle.wit_model.specs.declared.model.TypeDef.{TypeDef}
-use Rattle.wit_model.specs.{Names.is_label}
-use Rattle.wit_model.specs.{Rules.has_items, Rules.passes, Text.Text, Text.text_eq, Text.text_of}
+use Rattle.wit_model.specs.{Names.is_label, Rules.has_items, Rules.passes, Text.Text, Text.text_eq, Text.text_of}
 use Rattle.wit_model.proofs.{VersionLaws.same_text, TextLemmas.text_same}
 use Rattle.print_output.specs.{OutputCall.OutputCall.Str}
 use Rattle.print_grammar.specs.{Tree.MemberTree, Tree.PathTree, Tree.UsedName, Tree.MemberTree.UseMember}

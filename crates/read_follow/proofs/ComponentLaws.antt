@@ -9,7 +9,7 @@ use Rattle.comp_bytes.specs.Reading.{◌>>=◌, Reader, sequence_at}
 use Rattle.comp_meaning.specs.{ByLevels.all_used, ByLevels.entry_scope, ByLevels.entry_step, Reads.steps}
 use Rattle.comp_meaning.specs.Follow.{Scope as MeantScope, component_step, definition, exported_slot, find_type, function_signature, in_scope, new_scope, provided}
 use Rattle.read_follow.specs.declared.{bodies.Body.Body, refusal.Refusal.Refusal, scopes.Instance.Instance, slots.Slot.Slot, views.ShownType.ShownType}
-use Rattle.read_follow.specs.Bodies.{held_declaration_at, items_in, IsBody}
+use Rattle.read_follow.specs.{Bodies.held_declaration_at, Bodies.items_in, Bodies.IsBody, Slots.no_signature, Slots.slot_in, Slots.slots_in, Slots.AreNames}
 use Rattle.read_follow.specs.{Defining.AddsForms, Defining.Grows, Defining.IsDefined, Defining.IsDefinedFunction, Defining.IsUndefined, Found.Refuses}
 use Rattle.read_follow.specs.Following.{shown_type, AreTables, IsShownIn, IsSlotIn, IsTypeSlot}
 use Rattle.read_follow.specs.Functions.{functions_in, signature_in, FunctionShape, IsFunctionIn}
@@ -17,7 +17,6 @@ use Rattle.read_follow.specs.Numbering.{all_in, bare_parts, parts_in, scoped_tre
 use Rattle.read_follow.specs.{Pieces.AreAlike, ReadKeys.function_byte}
 use Rattle.read_follow.specs.{Placed.apart, Placed.HasNoNames, Placed.MayMeet, Placed.SignatureOver, Placed.SlotOver, Places.has_path, Places.ArePlacesOf}
 use Rattle.read_follow.specs.Scopes.{are_settled, find_slot, instance_in, meant_at, path_of, slot_of_instance, start_of, taken_from, waiting, weight, weights, world_signatures, world_trees, Enters, Goes, HasStages, IsFollowedTo, IsInstanceIn, IsPlacedWorld, IsScopedIn, IsScopeOf, IsStage, IsWorld, Stops, StopsAt, World}
-use Rattle.read_follow.specs.Slots.{no_signature, slot_in, slots_in, AreNames}
 use Rattle.plan_meaning.specs.Shapes.{Shape, named_shape, node_shape, part_tree, shape_trees, IsTable}
 use Rattle.read_follow.proofs.DefiningLaws.{all_at, longer, no_shapes, same_list, scoped_grown}
 use Rattle.read_follow.proofs.FollowingLaws.{functions_wider, joins_all, joins_grow, names_of, ranges_of, slot_counted}

@@ -3,8 +3,7 @@ use Rattle.std.proofs.Common.{rules as std_rules, ◌≡◌, inl, inr, refl, sym
 use Rattle.std.proofs.lemmas.{Bool.eq-eqb, Bool.eqb-true, Bool.lt-ltb, Bool.false≢true, List.take_more, List.map-append}
 use Rattle.std.proofs.lemmas.List.Elements.{Contains-append_left, Contains-append_right, Contains-append_cases}
 use Rattle.std.specs.{Borrow.Bor, List.AllByRecursion, List.Contains}
-use Rattle.wit_model.specs.{Text.Text, Types.no_tree}
-use Rattle.wit_model.specs.Tree.{Place, Primitive, Form, Tree, children, deepest}
+use Rattle.wit_model.specs.{Text.Text, Types.no_tree, Tree.Place, Tree.Primitive, Tree.Form, Tree.Tree, Tree.children, Tree.deepest}
 use Rattle.comp_meaning.specs.Rules.{is_named_form, form_labels, are_labels}
 use Rattle.read_follow.specs.declared.facts.{Fact.Fact, Names.Names, Summary.Summary}
 use Rattle.plan_meaning.specs.Shapes.{Shape, form_code, primitives, part_tree, shape_tree, IsShape, a_name, a_node}

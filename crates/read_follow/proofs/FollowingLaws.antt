@@ -12,12 +12,10 @@ use Rattle.read_follow.specs.Functions.{functions_in, signature_in, AreFunctions
 use Rattle.read_follow.specs.{Numbering.slot_parts, Numbering.CountUp, Placed.apart, Placed.MayMeet, Placed.SignatureOver, Placed.SlotOver, Placed.ViewOver}
 use Rattle.read_follow.specs.Slots.{no_signature, resource_slot, slot_in, slots_in, AreInRange, AreNames, IsName}
 use Rattle.plan_meaning.specs.Shapes.{Shape, named_shape, part_tree, shape_trees, IsTable}
-use Rattle.plan_meaning.proofs.ShapeLaws.{name_tree, part_behind, tree_at_number}
+use Rattle.plan_meaning.proofs.{ShapeLaws.name_tree, ShapeLaws.part_behind, ShapeLaws.tree_at_number, Lists.each_so}
 use Rattle.read_follow.proofs.DefiningLaws.{functions_grown, longer, no_shapes, one_longer, part_grown, same_list, map_so}
-use Rattle.read_follow.proofs.{NumberingLaws.count_pushed, OverLaws.definition_over, OverLaws.signature_over, PlacedLaws.same_types}
-use Rattle.read_follow.proofs.Refusing.{refused}
+use Rattle.read_follow.proofs.{NumberingLaws.count_pushed, OverLaws.definition_over, OverLaws.signature_over, PlacedLaws.same_types, Refusing.refused}
 use Rattle.base_lemmas.proofs.{Elements.all_end, Lists.mapped_get, Lists.slice_front}
-use Rattle.plan_meaning.proofs.Lists.{each_so}
 use Rattle.wit_model.specs.Tree as tree
 use Rattle.comp_meaning.specs.Follow as follow
 use Rattle.read_follow.specs.declared.slots.Slot.TheVariants as slots

@@ -11,8 +11,7 @@ use Rattle.read_follow.specs.declared.{keys.FunctionKey.FunctionKey, refusal.Ref
 use Rattle.read_follow.specs.{Found.Refuses, Rows.behind_rows, Slots.slots_in, Slots.AreInRange}
 use Rattle.read_follow.specs.Functions.{function_shape, param_of, param_tree, signature_in, FunctionShape, IsSignatureOf}
 use Rattle.plan_meaning.specs.Shapes.{part_tree}
-use Rattle.read_follow.proofs.{KeyLaws.beq_again, RowLaws.behind_more, RowLaws.raw_at, RowLaws.raw_end}
-use Rattle.read_follow.proofs.Refusing.{refused}
+use Rattle.read_follow.proofs.{KeyLaws.beq_again, RowLaws.behind_more, RowLaws.raw_at, RowLaws.raw_end, Refusing.refused}
 use Rattle.base_lemmas.proofs.Bools.{beq_same, left_of as first_true, right_of as second_true}
 use Rattle.wit_model.proofs.TextLemmas.{text_same}
 use Rattle.read_follow.specs.contracts.keys.FunctionKeyPartialEq.TheImpl as key_eq

@@ -1,7 +1,6 @@
 -- Places that are put into a table, each once.
 use Rattle.std.proofs.Common.{rules as std_rules, ◌≡◌, inl, refl, sym, ap, ◌∙◌, subst, ℕ, zero, suc, ◌+◌, ◌<◌, ◌≤◌, arith, Bool, true, false, ◌&&◌, ◌==◌, cond, List, [], ◌∷◌, ◌++◌, map, length, Option, Some, None, is_some, slice_get, unwrap_or, IfOk, Result}
-use Rattle.std.proofs.{Math.ListN.length-map}
-use Rattle.std.proofs.lemmas.{Bool.eqb-true, List.map-append, Option.slice_get_within as found_below}
+use Rattle.std.proofs.{Math.ListN.length-map, lemmas.Bool.eqb-true, lemmas.List.map-append, lemmas.Option.slice_get_within as found_below}
 use Rattle.wit_model.specs.{Names.read_path, Text.Text, Text.text_eq, Text.text_of}
 use Rattle.comp_meaning.specs.Follow.{complete_path}
 use Rattle.read_follow.specs.declared.{refusal.Refusal.Refusal, places.PlaceKey.PlaceKey}

@@ -8,8 +8,7 @@ use Rattle.read_follow.specs.declared.views.ShownType.{ShownType}
 use Rattle.read_follow.specs.{Defining.AddsForms, Defining.Grows, Following.slots_at, Following.view_at, Following.IsPlacedState, Following.State}
 use Rattle.read_follow.specs.Placed.{apart, slot_part, ComesBehind, FunctionOver, HasNoNames, IsNameAs, IsRepeated, IsShownAmong, IsTypeNamed, MayMeet, Rise, SlotOver, TypeOver, ViewOver}
 use Rattle.read_follow.specs.Places.{has_path}
-use Rattle.plan_meaning.specs.PlanRules.{is_form}
-use Rattle.plan_meaning.specs.Shapes.{Shape, first_label, named_shape, node_shape, Adds, IsTable}
+use Rattle.plan_meaning.specs.{PlanRules.is_form, Shapes.Shape, Shapes.first_label, Shapes.named_shape, Shapes.node_shape, Shapes.Adds, Shapes.IsTable}
 use Rattle.read_follow.proofs.DefiningLaws.{adds_cases, adds_name, same_list}
 use Rattle.base_lemmas.proofs.{Elements.all_end, Lists.at_last, Lists.last_or, Lists.slice_front}
 

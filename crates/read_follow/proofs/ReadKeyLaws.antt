@@ -11,8 +11,7 @@ use Rattle.read_follow.specs.declared.{keys.FunctionKey.FunctionKey}
 use Rattle.read_follow.specs.Functions.{function_shape, param_of, param_tree, signature_in}
 use Rattle.read_follow.specs.{Declares.declaration_by_first, Declares.type_by_first, ReadKeys.function_byte, ReadKeys.made_at, ReadKeys.param_meant}
 use Rattle.plan_meaning.specs.Shapes.{part_tree}
-use Rattle.read_follow.proofs.{DeclarationLaws.declaration_first, EntryLaws.plain_front}
-use Rattle.read_follow.proofs.StepLaws.{after_first, headed}
+use Rattle.read_follow.proofs.{DeclarationLaws.declaration_first, EntryLaws.plain_front, StepLaws.after_first, StepLaws.headed}
 
 -- ---- one form
 

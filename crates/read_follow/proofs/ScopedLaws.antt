@@ -4,9 +4,8 @@ use Rattle.std.proofs.lemmas.List.{append-nil}
 use Rattle.std.specs.List.{AllByRecursion, Contains, flat_map}
 use Rattle.wit_model.specs.{Meaning.Signature, Text.Text, Tree.Place, Tree.Tree}
 use Rattle.read_follow.specs.declared.{scopes.Instance.Instance, scopes.Seen.Seen, slots.Slot.Slot}
-use Rattle.read_follow.specs.{Defining.Grows, Facts.places}
+use Rattle.read_follow.specs.{Defining.Grows, Facts.places, Functions.functions_in, Functions.FunctionShape, Slots.slot_in, Slots.slots_in, Slots.AreNames}
 use Rattle.read_follow.specs.{Following.AreTables, Following.IsSlotIn, Placed.apart, Placed.MayMeet, Placed.SlotOver, Placed.TreeOver, Places.has_path}
-use Rattle.read_follow.specs.{Functions.functions_in, Functions.FunctionShape, Slots.slot_in, Slots.slots_in, Slots.AreNames}
 use Rattle.read_follow.specs.Numbering.{all_in, bare_parts, parts_in, slot_parts, slot_trees, CountUp}
 use Rattle.read_follow.specs.Scopes.{meant_at, AreScopedIn, IsPartOver, IsScopedIn, IsWorld, World}
 use Rattle.plan_meaning.specs.Shapes.{Shape, part_tree, shape_trees}

@@ -1,7 +1,6 @@
 -- What instances of a component type show, and what they use.
 use Rattle.std.proofs.Common.{rules as std_rules, ◌≡◌, ◌⊎◌, inl, inr, refl, sym, ap, ◌∙◌, subst, ℕ, ◌+◌, ◌<◌, ◌≤◌, ◌==◌, arith, Bool, false, not, ◌||◌, eqb, List, [], ◌∷◌, ◌++◌, map, length, length-append, take, Option, Some, None, slice_get, Result, IfOk, IfErr}
-use Rattle.std.proofs.Math.ListN.{length-map}
-use Rattle.std.proofs.lemmas.{Bool.cases_lt, List.append-nil, List.take-map, Option.slice_get_within as found_below}
+use Rattle.std.proofs.{Math.ListN.length-map, lemmas.Bool.cases_lt, lemmas.List.append-nil, lemmas.List.take-map, lemmas.Option.slice_get_within as found_below}
 use Rattle.std.specs.List.{list_any}
 use Rattle.wit_model.specs.{Meaning.Signature, Text.Text, Tree.Place, Tree.Tree}
 use Rattle.comp_bytes.specs.Reading.{◌>>=◌}

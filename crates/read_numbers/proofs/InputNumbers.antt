@@ -6,8 +6,7 @@ use Rattle.plan_meaning.specs.{NumberedViews.place_at, NumberedViews.Tables, Sha
 use Rattle.read_follow.specs.Functions.{FunctionShape}
 use Rattle.read_parts.specs.declared.members.{FollowedPart.FollowedPart, Member.Member}
 use Rattle.read_parts.specs.Members.{member_meant, part_meant, MembersStand, StandsIn}
-use Rattle.read_numbers.specs.NumberedInput.{InputInNumbers, MemberShown, PartShown}
-use Rattle.read_numbers.specs.NumberedParts.{tables_in}
+use Rattle.read_numbers.specs.{NumberedInput.InputInNumbers, NumberedInput.MemberShown, NumberedInput.PartShown, NumberedParts.tables_in}
 use Rattle.read_numbers.proofs.{ScopeNumbers.scopes_in_numbers, TableNumbers.places_in_numbers, TableNumbers.tables_in_numbers}
 
 module _ (shapes : List Shape) (fs : List FunctionShape) (paths : List (Option Text)) where

@@ -9,9 +9,8 @@ use Rattle.plan_meaning.specs.NumberedWorlds.{key_of, instance_of, seen_of, show
 use Rattle.plan_meaning.specs.Shapes.{Shape, shape_trees}
 use Rattle.read_follow.specs.declared.{instance_keys.InstanceKey.InstanceKey, scopes.Shown.Shown, views.ShownFunction.ShownFunction, views.ShownType.ShownType}
 use Rattle.read_follow.specs.declared.{scopes.Instance.Instance, scopes.Seen.Seen, slots.Slot.Slot, views.View.View}
-use Rattle.read_follow.specs.Following.{declared_in, shown_function, shown_type, IsShownIn, IsTypeSlot}
+use Rattle.read_follow.specs.{Following.declared_in, Following.shown_function, Following.shown_type, Following.IsShownIn, Following.IsTypeSlot, Places.key_at}
 use Rattle.read_follow.specs.{Functions.functions_in, Functions.signature_in, Functions.FunctionShape, Slots.no_signature, Slots.resource_slot, Slots.slot_in}
-use Rattle.read_follow.specs.Places.{key_at}
 use Rattle.read_follow.specs.Scopes.{instance_in, path_of, seen_in, shown_in, shown_text, view_in, viewed, IsInstanceIn}
 use Rattle.read_follow.proofs.{DefiningLaws.all_at, SlotLaws.mapped_none}
 use Rattle.read_numbers.specs.NumberedParts.{numbered_function, numbered_instance, numbered_key, numbered_seen, numbered_shown, numbered_shown_function, numbered_slot, numbered_type, numbered_view, instance_view, name_in, no_view, tables_in, text_in}

@@ -16,8 +16,7 @@ use Rattle.read_parts.specs.declared.{exported.ExportedPart.ExportedPart, member
 use Rattle.read_parts.specs.{Exported.raw_exported, Followed.PartScope, Followed.world, Followed.interface, Followed.labelled_scope, Followed.part_scope}
 use Rattle.read_parts.specs.Members.{entries_of, member_meant, part_meant, parts_weight, scope_of, with_front, AreFollowedTo, AreImportsBelow, AreMembersPlaced, AreMembersStaged, ArePlacesBelow, AreTypesBelow, ArePlacesInOrder, ArePlacesMet, IsMetBefore, in_earlier, in_same, IsMetBySome, IsPartFollowed, IsPlacedMember, IsShownBySome, IsStagedMember, MembersStand, StandsIn}
 use Rattle.read_parts.proofs.ExportLaws.{each_more, each_none}
-use Rattle.base_lemmas.proofs.Elements.{all_end}
-use Rattle.base_lemmas.proofs.Lists.{at_last, heads_equal, last_or, length_of_map, mapped_get, slice_front}
+use Rattle.base_lemmas.proofs.{Elements.all_end, Lists.at_last, Lists.heads_equal, Lists.last_or, Lists.length_of_map, Lists.mapped_get, Lists.slice_front}
 use Rattle.read_parts.specs.declared.members.FollowedPart.TheVariants as followed
 
 abbrev Paths : Type 0

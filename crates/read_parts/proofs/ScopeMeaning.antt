@@ -3,8 +3,7 @@ use Rattle.std.proofs.Common.{rules as std_rules, ◌≡◌, refl, ap, ◌∙◌
 use Rattle.wit_model.specs.{Text.Text}
 use Rattle.comp_bytes.specs.{Levels.PartType, Levels.wraps, Levels.shows, Reading.◌>>=◌}
 use Rattle.comp_meaning.specs.ByLevels.{exported_parts, member_by_levels, package_of_pieces, part_by_levels, world_of_pieces}
-use Rattle.comp_meaning.specs.Follow.{each}
-use Rattle.comp_meaning.specs.{Reads.Member, Reads.package_of_members, Reads.world_of_members}
+use Rattle.comp_meaning.specs.{Follow.each, Reads.Member, Reads.package_of_members, Reads.world_of_members}
 use Rattle.read_parts.specs.Followed.{PartScope, labelled_scope, member_of_scope, part_of_scope, part_scope, scopes_in, scopes_of, PackageByScopes, WorldByScopes}
 
 -- ---- one test behind another

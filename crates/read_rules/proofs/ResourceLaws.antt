@@ -1,7 +1,6 @@
 -- Names of resources, added to a set one by one.
 use Rattle.std.proofs.Common.{rules as std_rules, ◌≡◌, refl, sym, ap, ◌∙◌, ℕ, ◌+◌, ◌<◌, ◌≤◌, Bool, true, false, ◌&&◌, ◌||◌, cond, List, [], ◌∷◌, ◌++◌, map, drop, length, get_or}
-use Rattle.std.proofs.Math.ListN.{drop_of_length-le}
-use Rattle.std.proofs.lemmas.{List.drop_more, List.map-append, List.Folds.list_any-append}
+use Rattle.std.proofs.{Math.ListN.drop_of_length-le, lemmas.List.drop_more, lemmas.List.map-append, lemmas.List.Folds.list_any-append}
 use Rattle.std.specs.{Borrow.Bor, List.list_any}
 use Rattle.wit_model.specs.Text.{Text, text_eq}
 use Rattle.plan_meaning.specs.NumberedRules.{is_no_part, resources_of}

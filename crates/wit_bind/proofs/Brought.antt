@@ -15,8 +15,7 @@ use Rattle.wit_model.specs.{Text.Text, Text.optional_text, Text.text_of, Text.te
 use Rattle.wit_model.proofs.{Elements.contains-get, VersionLaws.same_text, OnePath.named-path}
 use Rattle.bind_copy.specs.Copies.{is_new_under, number_under, IsEntryUnder, IsFunctionUnder, IsInterfaceUnder, IsItemUnder, IsFunctionEntry as IsFunctionEntryUnder, become_one, IsTypeUnder}
 use Rattle.bind_union.specs.Carried.{EntryBecomes, IsCarried, IsFunctionCopy, IsFunctionEntry, IsInterfaceCopy, ItemBecomes, KeyBecomes, Renumbering}
-use Rattle.bind_union.specs.{Views.renamed_type, Merged.AreCopies}
-use Rattle.bind_union.specs.Joined.{same_key, none, met, added, Joined, IsJoined}
+use Rattle.bind_union.specs.{Views.renamed_type, Merged.AreCopies, Joined.same_key, Joined.none, Joined.met, Joined.added, Joined.Joined, Joined.IsJoined}
 use Rattle.bind_carry.specs.{ReadyItems.IsKeyReady, BoundGains.bound_fates, FirstPass.IsFirstPass, Fates.is_carried}
 use Rattle.bind_carry.specs.{Marked.AreChosen, Packaged.IsPackageCarried, Renumbered.first_of, Renumbered.is_copied, TooLong.CarriedThings, TooLong.TypeFates}
 use Rattle.bind_carry.specs.{First.first_fates, First.flag_under, Numbers.interface_number, Numbers.numbers_of, Numbers.package_number, Numbers.world_number}

@@ -4,9 +4,8 @@ use Rattle.std.proofs.lemmas.Cmp.{nat_list_eq_equiv}
 use Rattle.std.specs.Option.{option_map_or}
 use Rattle.wit_model.specs.{Text.Text, Text.text_eq, Rules.after_prefix}
 use Rattle.wit_bind.specs.{Keys.text_under, Cuts.has_slash, Cuts.IsCut, CutLaws.slash_within, KeyTests.after_slash}
-use Rattle.wit_model.proofs.TextLemmas.{text_same}
+use Rattle.wit_model.proofs.{TextLemmas.text_same, RulesLemmas.after_both}
 use mathlib.Core.Bool.{true≢false}
-use Rattle.wit_model.proofs.RulesLemmas.{after_both}
 
 -- a text and what it ends with
 pub same_after : (p q t : Text) → text_eq (p ++ q) t ≡ option_map_or (text_eq q) (after_prefix p t) false

@@ -7,8 +7,7 @@ use Rattle.indexmap.specs.IndexMap.{values, IsUnique}
 use Rattle.wit_model.specs.declared.model.{Docs.Docs, World.World, WorldId.WorldId}
 use Rattle.wit_model.specs.declared.model.{Function.Function, Package.Package, Resolve.Resolve, TypeDef.TypeDef, WorldKey.WorldKey, WorldItem.WorldItem}
 use Rattle.wit_model.specs.declared.model.{Interface.Interface, PackageId.PackageId, Stability.Stability, TypeDefKind.TypeDefKind}
-use Rattle.wit_model.specs.Lookup.{type_at, world_at, interface_path, key_text}
-use Rattle.wit_model.specs.{Text.Text, Text.optional_text, Valid.key_eq, Valid.IsValid}
+use Rattle.wit_model.specs.{Lookup.type_at, Lookup.world_at, Lookup.interface_path, Lookup.key_text, Text.Text, Text.optional_text, Valid.key_eq, Valid.IsValid}
 use Rattle.wit_model.proofs.{Elements.contains-get, OnePath.has-path}
 use Rattle.plan_meaning.specs.Built.{is_bare, is_bare_function, is_bare_interface, is_bare_item, is_bare_kind, is_bare_type, is_bare_world, is_undocumented, IsBare}
 use Rattle.bind_add.specs.Growth.{HasGainedItems, IsAdded}

@@ -1,6 +1,5 @@
 -- A world by its number.
-use Rattle.std.proofs.Common.{◌≡◌, refl, sym, ℕ, ◌<◌, length, Some, get_or}
-use Rattle.std.proofs.lemmas.Option.{slice_get_read}
+use Rattle.std.proofs.{Common.◌≡◌, Common.refl, Common.sym, Common.ℕ, Common.◌<◌, Common.length, Common.Some, Common.get_or, lemmas.Option.slice_get_read}
 use Rattle.wit_model.specs.declared.model.{Resolve.Resolve, World.World}
 use Rattle.wit_model.specs.Lookup.{world_at}
 

@@ -1,15 +1,12 @@
 -- Keys of a table are the same where their whole texts are.
 use Rattle.std.proofs.Common.{rules as std_rules, arith, ◌≡◌, refl, sym, ap, subst, ◌∙◌, ℕ, suc, ◌+◌, Bool, true, false, not, ◌&&◌, List, [], ◌∷◌, length, cond, Option, None, Some, option_map, String}
-use Rattle.std.specs.Prelude.{map, nat_eq, nat_lt, position, slice_get}
-use Rattle.std.specs.{Option.option_eq, List.position_or_len}
+use Rattle.std.specs.{Prelude.map, Prelude.nat_eq, Prelude.nat_lt, Prelude.position, Prelude.slice_get, Option.option_eq, List.position_or_len}
 use Rattle.std.specs.declared.alloc.Global.{Global}
-use Rattle.std.proofs.lemmas.{Bool.eq-eqb, Bool.eqb-true, Bool.lt-ltb, Option.same_Some as same-some}
-use Rattle.std.proofs.lemmas.Grind.{common_steps}
+use Rattle.std.proofs.{lemmas.Bool.eq-eqb, lemmas.Bool.eqb-true, lemmas.Bool.lt-ltb, lemmas.Option.same_Some as same-some, lemmas.Grind.common_steps}
 use Rattle.base_lemmas.proofs.Bools.{and-true, both_ways, no-and}
 use Rattle.wit_model.specs.Text.{Text, text_eq, text_of}
 use Rattle.wit_model.proofs.{VersionLaws.same_text, TextLemmas.text_same as text-same}
-use Rattle.wit_bind.specs.{Cuts.has_slash, Cuts.text_under, CutLaws.cut_same}
-use Rattle.wit_bind.specs.Tables.{front_text, Fronts, IsFront, number_at}
+use Rattle.wit_bind.specs.{Cuts.has_slash, Cuts.text_under, CutLaws.cut_same, Tables.front_text, Tables.Fronts, Tables.IsFront, Tables.number_at}
 
 -- ---- the number of a text
 

@@ -1,10 +1,8 @@
 -- Texts that get numbers, and entries of one table under the numbers of another.
 use Rattle.std.proofs.Common.{rules as std_rules, ◌≡◌, refl, sym, ap, subst, ◌∙◌, ℕ, suc, ◌+◌, Bool, true, false, not, ◌||◌, List, [], ◌∷◌, ◌++◌, cond, arith, map, Option, None, Some, option_map, String}
-use Rattle.std.specs.Prelude.{slice_get, option_and_then, string_eq}
-use Rattle.std.specs.{List.IsDistinct, List.list_any, List.position_or_len, Map.keys_of}
+use Rattle.std.specs.{Prelude.slice_get, Prelude.option_and_then, Prelude.string_eq, List.IsDistinct, List.list_any, List.position_or_len, Map.keys_of}
 use Rattle.std.specs.declared.alloc.Global.{Global}
-use Rattle.std.proofs.lemmas.Option.{same_Some as same-some, slice_get-map}
-use Rattle.std.proofs.lemmas.List.{map-append}
+use Rattle.std.proofs.{lemmas.Option.same_Some as same-some, lemmas.Option.slice_get-map, lemmas.List.map-append}
 use Rattle.indexmap.specs.{IndexMap.insert_all, IndexMap.insert_entry, IndexSet.insert_key}
 use Rattle.wit_model.specs.Text.{Text, text_eq, text_of}
 use Rattle.wit_model.proofs.{VersionLaws.same_text}

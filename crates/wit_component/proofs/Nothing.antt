@@ -4,8 +4,7 @@ use Rattle.std.specs.List.{flat_map}
 use Rattle.wit_model.specs.{Lookup.package_at, Meaning.PackageMeaning, Meant.package_meaning as meaning_of, Meant.Meant}
 use Rattle.comp_bytes.specs.{Spelling.IsComponent, Spelling.preamble}
 use Rattle.comp_bytes.proofs.{ComponentLaws.one_component}
-use Rattle.comp_meaning.specs.Follow.{is_filled}
-use Rattle.comp_meaning.specs.Reads.{interfaces_of, package_meaning, worlds_of, Member, Reads}
+use Rattle.comp_meaning.specs.{Follow.is_filled, Reads.interfaces_of, Reads.package_meaning, Reads.worlds_of, Reads.Member, Reads.Reads}
 use Rattle.wit_component.specs.ReadBack.{DecodedHaveMembers}
 use Rattle.base_lemmas.proofs.{Options.some_is}
 use Rattle.wit_model.proofs.RulesLemmas.{items_of_map as mapped}

@@ -1,8 +1,8 @@
 -- An instance more in the component type of a world: it is the latest one of its interface, and the aliases stay.
 use Rattle.std.proofs.Common.{rules as std_rules, ◌≡◌, refl, sym, subst, ap, ◌∙◌, ℕ, ◌+◌, ◌⊎◌, inl, inr, nat_cmp, nat_eq, Bool, true, false, List, [], ◌∷◌, ◌++◌, append_assoc, append-nil, length, length-append, map, flat_map, Option, Some, None, is_some, arith, ◌≤◌}
 use Rattle.std.proofs.{lemmas.Cmp.nat_eq_equiv, lemmas.Cmp.nat_cmp_total, lemmas.Map.Keys.IsDistinct-push, Math.Seq.drop-append_seam, Math.Seq.take-append_seam}
-use Rattle.std.proofs.lemmas.{List.Elements.Contains-append_cases, List.Elements.Contains-append_left, List.Elements.Contains-append_right, List.map-append}
-use Rattle.std.proofs.lemmas.Option.{slice_get_within}
+use Rattle.std.proofs.{lemmas.List.Elements.Contains-append_cases, lemmas.List.Elements.Contains-append_left, lemmas.List.Elements.Contains-append_right, lemmas.List.map-append}
+use Rattle.std.proofs.{lemmas.Option.slice_get_within, lemmas.Bool.cases_Bool}
 use Rattle.std.specs.{BTreeMap.is_at, BTreeMap.insert_entry, List.Contains, List.IsDistinct, Ordering.is_eq}
 use Rattle.wit_model.specs.declared.model.{Resolve.Resolve, TypeId.TypeId}
 use Rattle.comp_bytes.specs.{Raw.Alias, Raw.Declaration, Raw.Declarations, Raw.append, Held.type_slots_of}
@@ -13,7 +13,6 @@ use Rattle.wit_encode.specs.Encoders.{declared_after}
 use Rattle.wit_encode.specs.WorldAliases.{HasAliasesBehind, HasSlot, IsAliasBehind, KeepsAliases, KeepsBehind, KeepsListed, PlacedAlias, aliases_in, in_one_list, interfaces_in, pairs_in, place_and_number, placed_alias, placed_aliases, IsLatest}
 use Rattle.wit_encode.proofs.{DependencyAliases.known-kept, WrittenNames.names-behind, WrittenNames.names-more, Numbers.apart-behind}
 use Rattle.wit_encode.proofs.{Imported.at-same, LatestInstances.found-new, LatestInstances.found-other}
-use Rattle.std.proofs.lemmas.Bool.{cases_Bool}
 use Rattle.base_lemmas.proofs.Elements.{contains-later, contains-map, contains-one, last_of as one-contained, map_from as from-map}
 use Rattle.base_lemmas.proofs.{Lists.map_of_map, Lists.at_last, Lists.front_at, Numbers.none-twice, Options.some_same as one-some, Lists.front_or_end}
 

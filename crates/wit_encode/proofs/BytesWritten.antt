@@ -25,8 +25,7 @@ use Rattle.encode_names.specs.{WorldNames.name_of_interface, WorldNames.name_of_
 use Rattle.wit_encode.proofs.{ComponentExtents.components-light, ComponentExtents.import-extent, ComponentExtents.worlds-light, ImportLoop.numbers-next}
 use Rattle.wit_encode.proofs.{Extents.bytes-few, ExtentWeighing.dependencies-light, ExtentWeighing.instances-light, Lengths.u32-short, Opening.Placed}
 use Rattle.wit_encode.proofs.HeldKeys.{learnt-all}
-use Rattle.base_lemmas.proofs.Elements.{map_from}
-use Rattle.base_lemmas.proofs.Lists.{map_of_map as map-twice}
+use Rattle.base_lemmas.proofs.{Elements.map_from, Lists.map_of_map as map-twice}
 use Rattle.wit_model.specs.declared.model.WorldItem.TheVariants as item
 
 -- ---- answers

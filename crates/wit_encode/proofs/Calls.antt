@@ -1,6 +1,6 @@
 -- What the calls of an encoder of interfaces do to what it holds.
 use Rattle.std.proofs.Common.{rules as std_rules, ◌≡◌, refl, sym, subst, ap, ◌∙◌, ℕ, true, not, cond, List, [], ◌∷◌, ◌++◌, append-nil, map, option_to_list, Result, Ok, Err, IfOk, OnOk, OnErr, Option, Some, None, slice_get, length, arith}
-use Rattle.std.proofs.lemmas.List.{map-append}
+use Rattle.std.proofs.{lemmas.List.map-append, lemmas.Result.on_err_weaker}
 use Rattle.std.specs.{List.list_all, Option.option_map_or, Option.is_some}
 use Rattle.wit_model.specs.{Text.Text, Tree.Place, Tree.Tree, Tree.named, Meaning.Signature, Meaning.TypeMeaning}
 use Rattle.wit_model.specs.declared.model.{Resolve.Resolve, InterfaceId.InterfaceId}
@@ -17,7 +17,6 @@ use Rattle.wit_encode.proofs.Strict.{bind, definition-strict, function-strict, f
 use Rattle.wit_encode.proofs.Contents.{IsOf, Grew, grew-adds, grew-grows, grew-scope}
 use Rattle.wit_encode.specs.Instance.{standing_at, SlotsStand, is_slot_of, Contents, no_view, outer_slots, inner_scope, inner_contents, is_value_type, is_function_type, place_in, resources_in, scope_with, definitions_with}
 use Rattle.base_lemmas.proofs.{Bools.left_of as first_true, Bools.right_of as second_true, Options.there as some-of, Options.some_is, Options.if_ok}
-use Rattle.std.proofs.lemmas.Result.{on_err_weaker}
 use Rattle.wit_model.specs.Tree as tree_of_types
 use Rattle.comp_bytes.specs.declared.forms.ComponentTypeRef.TheVariants as refs
 use Rattle.comp_meaning.specs.Follow as follow

@@ -8,13 +8,11 @@ use Rattle.std.proofs.lemmas.Map.Made.{length-from_keys}
 use Rattle.std.specs.{Prelude.nat_eq, Prelude.IsPermutation, Prelude.String, List.Contains, List.IsDistinct, List.filter_map, List.cons_option, Borrow.Bor}
 use Rattle.std.specs.{Set.is_member, Set.distinct_count}
 use Rattle.std.specs.declared.alloc.Global.{Global}
-use Rattle.wit_model.specs.{Text.Text, Meaning.TypeMeaning, Meaning.FunctionMeaning, Lookup.place_of, Tree.Tree, Tree.Place}
-use Rattle.wit_model.specs.Valid.{IsValid}
+use Rattle.wit_model.specs.{Text.Text, Meaning.TypeMeaning, Meaning.FunctionMeaning, Lookup.place_of, Tree.Tree, Tree.Place, Valid.IsValid}
 use Rattle.wit_model.specs.declared.model.{Resolve.Resolve, InterfaceId.InterfaceId, TypeId.TypeId, Function.Function}
 use Rattle.comp_bytes.specs.Raw.{Declaration, Declarations, from_list}
 use Rattle.comp_meaning.specs.Follow.{Slot, new_instance}
-use Rattle.encode_types.specs.{Slots.Pairs, Slots.Standing, Slots.tree, MetKinds.referred, MetKinds.ReachedFrom}
-use Rattle.encode_types.specs.{Key.IsKeyOf, Room.HoldsFor, Scope.Scope}
+use Rattle.encode_types.specs.{Slots.Pairs, Slots.Standing, Slots.tree, MetKinds.referred, MetKinds.ReachedFrom, Key.IsKeyOf, Room.HoldsFor, Scope.Scope}
 use Rattle.encode_types.specs.{Codes.IsTable, Codes.ListKey, Codes.names_of, Codes.lists_of, Maps.IsOnce, Maps.IsKnown, Maps.LearnsOnly, Maps.MapsAgree}
 use Rattle.encode_types.specs.Counts.{Definitions, names_defined, is_defined_by_name, own_name, Shows, slots_of, named_slots, key_slots, AddsSlots, AddsKey, AddsTypes, AddsFunction}
 use Rattle.encode_types.specs.Distinct.{Key, key_of, key_view, are_same, KnowsKey, defined_under_names, AddsFunctions, DefinesKeys, DefinesTypes, value_slots, function_slots, is_function_type}

@@ -1,6 +1,6 @@
 -- Which value types a scope defines, from what has been defined call by call.
 use Rattle.std.proofs.Common.{◌≡◌, refl, sym, ap, subst, ◌∙◌, ℕ, suc, Bool, true, false, List, [], ◌∷◌, ◌++◌, map, Option, Some, None, arith, count_by, inl, inr}
-use Rattle.std.proofs.lemmas.List.Elements.{Contains-append_right}
+use Rattle.std.proofs.{lemmas.List.Elements.Contains-append_right, lemmas.Bool.cases_Bool}
 use Rattle.std.proofs.lemmas.List.Sorted.{IsPermutation-refl, IsPermutation-trans, IsPermutation-sym, IsPermutation-cons, IsPermutation-middle, IsPermutation-append_left, Contains-permutation}
 use Rattle.std.specs.Prelude.{nat_eq, not, cond, filter, IsPermutation, String, ◌||◌}
 use Rattle.std.specs.{List.Contains, List.AllZip, Option.option_map_or, Option.is_some, Set.is_member, Set.distinct_count}
@@ -18,7 +18,6 @@ use Rattle.encode_types.specs.{Slots.Pairs, Slots.Standing, Slots.tree, MetKinds
 use Rattle.encode_types.specs.Counts.{Definitions, Marked, slots_of, named_slots, other_slots, kind_slots, names_defined, is_defined_by_name, IsTarget, AddsSlots}
 use Rattle.encode_types.proofs.Encoding.{tabled}
 use Rattle.wit_encode.proofs.{Validity.valid-unnamed, Validity.valid-layered, Reached.part-at, ValueSlots.IsPlain}
-use Rattle.std.proofs.lemmas.Bool.{cases_Bool}
 use Rattle.base_lemmas.proofs.{Bools.right_of as second_true, Elements.contains-one, Elements.member-there as slot-there, Elements.there-member as has-slot}
 use Rattle.wit_model.proofs.ValidLemmas.{type_passes}
 

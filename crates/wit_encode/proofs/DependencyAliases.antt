@@ -15,9 +15,8 @@ use Rattle.encode_types.proofs.Planning.{lacks-member}
 use Rattle.wit_encode.specs.{Dependencies.HasImported, Dependencies.ImportsTypes, Dependencies.with_export, Instance.EncodesInterface}
 use Rattle.wit_encode.specs.DependencyAliases.{HasAliased, HasAliases, IsAliasAmong, IsAskedFor, IsMetAmong, IsMetByWhole, alias_in, aliases_declared, export_alias}
 use Rattle.wit_encode.proofs.{Imported.at-same, LatestInstances.found-new, LatestInstances.found-other}
-use Rattle.base_lemmas.proofs.Lists.{front_more}
+use Rattle.base_lemmas.proofs.{Lists.front_more, Numbers.none-twice}
 use Rattle.base_lemmas.proofs.Elements.{contains-later, contains-one, last_of as one-contained, map_from as from-map}
-use Rattle.base_lemmas.proofs.Numbers.{none-twice}
 use Rattle.comp_bytes.specs.declared.forms.ComponentTypeRef.TheVariants as refs
 
 -- ---- one declaration more

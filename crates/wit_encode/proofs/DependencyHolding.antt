@@ -13,9 +13,8 @@ use Rattle.wit_encode.specs.{Dependencies.HasImported, Dependencies.ImportsTypes
 use Rattle.wit_encode.specs.DependencyRoom.{HoldsImports, LacksImport, its_types, its_path, a_place, ImportsLackRoom, an_interface, a_path, too_many, ComponentLacksRoom, of_imports, of_interface, of_path, TypesLackRoom}
 use Rattle.wit_encode.specs.Instance.{EncodesInterface, EncodesPart, LacksInstanceRoom, whole_interface, types_alone_of}
 use Rattle.wit_encode.proofs.{DependencyAliases.export-aliased, Refusing.counts-refused, Refusing.outer-slots-few, WorldHolding.brought-some}
-use Rattle.wit_encode.proofs.Places.{part-beside}
+use Rattle.wit_encode.proofs.{Places.part-beside, WorldHolding.by-name, WorldHolding.defines-own}
 use Rattle.wit_encode.proofs.Placed.{grown-few, grown-listed, one-behind, placed-counted, placed-few, placed-instances}
-use Rattle.wit_encode.proofs.WorldHolding.{by-name, defines-own}
 use Rattle.comp_meaning.specs.Follow.{import_}
 use Rattle.base_lemmas.proofs.{Elements.zip-append, Options.there as some-of}
 use Rattle.comp_bytes.specs.declared.forms.ComponentTypeRef.TheVariants as refs

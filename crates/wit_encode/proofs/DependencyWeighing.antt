@@ -1,10 +1,7 @@
 -- An interface that has no room in a component type of its own weighs more than the largest number of 32 bits.
 use Rattle.std.proofs.Common.{rules as std_rules, ◌≡◌, refl, subst, ap, ℕ, zero, suc, ◌+◌, ◌≤◌, ◌==◌, inl, inr, Bool, true, List, [], ◌∷◌, Some, is_some, arith}
-use Rattle.std.proofs.lemmas.{List.Kept.AllPairs-cons}
-use Rattle.std.proofs.lemmas.List.Elements.{Contains-get_or}
-use Rattle.std.proofs.lemmas.List.Sums.{sum_by-cons}
-use Rattle.std.specs.{Prelude.sum_by, Prelude.AllPairs, Prelude.flat_map, List.Contains, List.IsDistinct}
-use Rattle.std.specs.Option.{option_map_or}
+use Rattle.std.proofs.{lemmas.List.Kept.AllPairs-cons, lemmas.List.Elements.Contains-get_or, lemmas.List.Sums.sum_by-cons}
+use Rattle.std.specs.{Prelude.sum_by, Prelude.AllPairs, Prelude.flat_map, List.Contains, List.IsDistinct, Option.option_map_or}
 use Rattle.indexmap.specs.IndexMap.{values}
 use Rattle.wit_model.specs.{Lookup.interface_at, Lookup.interface_path, Valid.IsValid, Valid.as_interface}
 use Rattle.wit_model.specs.{Rules.interface_type_numbers, Uses.has, Uses.direct_deps, Uses.once}

@@ -1,8 +1,8 @@
 -- The types that are exported as those of an interface are encoded, one for each, in order.
 use Rattle.std.proofs.Common.{rules as std_rules, ◌≡◌, refl, sym, subst, ap, ◌∙◌, ℕ, zero, suc, ◌+◌, ◌<◌, ◌≤◌, ◌⊎◌, inl, inr, Bool, true, false, ◌&&◌, cond, ◌==◌, nat_eq, List, [], ◌∷◌, ◌++◌, append-nil, take, length, get_or, map, filter_map, slice_get, Some, None, String, string_eq, string_bytes, nat_lt, option_map, option_and_then, option_to_list, arith}
-use Rattle.std.proofs.lemmas.{Cmp.nat_list_eq_equiv, Cmp.nat_eq_equiv, Option.slice_get_within, Option.get_or_from_slice_get, Option.same_Some as same-some}
-use Rattle.std.proofs.lemmas.{List.Sorted.IsPermutation-sym, List.Sorted.Contains-permutation, List.take_more, List.take_all, List.take-map, List.length-map}
-use Rattle.std.proofs.Math.ListN.{get_or-map}
+use Rattle.std.proofs.{lemmas.Cmp.nat_list_eq_equiv, lemmas.Cmp.nat_eq_equiv, lemmas.Option.slice_get_within, lemmas.Option.get_or_from_slice_get, lemmas.Option.same_Some as same-some}
+use Rattle.std.proofs.{lemmas.List.Sorted.IsPermutation-sym, lemmas.List.Sorted.Contains-permutation, lemmas.List.take_more, lemmas.List.take_all, lemmas.List.take-map, lemmas.List.length-map}
+use Rattle.std.proofs.{Math.ListN.get_or-map, lemmas.Option.slice_get-map}
 use Rattle.std.proofs.lemmas.List.Elements.{Contains-append_left, Contains-append_right, Contains-append_cases, Contains-push, Contains-push_cases}
 use Rattle.std.specs.declared.alloc.Global.{Global}
 use Rattle.std.specs.{Prelude.AllPairs, Prelude.is_none, Prelude.IsPermutation, List.Contains, List.IsDistinct, List.list_all, Map.keys_of}
@@ -27,7 +27,6 @@ use Rattle.wit_encode.proofs.Numbers.{once-before, gives-none, gives-one, one-ma
 use Rattle.wit_encode.proofs.ListedTypes.{IsListedType, numbers, owned-listed, listed-type, type-there, number-there, listed-once, listed-key, uses-before}
 use Rattle.wit_encode.proofs.Meeting.{AllMeetKnown, part-uses, meets-unnamed}
 use Rattle.base_lemmas.proofs.Lists.{get_back}
-use Rattle.std.proofs.lemmas.Option.{slice_get-map}
 use Rattle.encode_shown.proofs.Basics.{valid-references}
 use Rattle.base_lemmas.proofs.{Bools.left_of as first_true, Bools.right_of as second_true, Lists.nothing-mapped, Numbers.equal, Numbers.same-number}
 use Rattle.base_lemmas.proofs.Elements.{all-contained, contains-map, contains-one, last_of as one-contained, map_from as contains-mapped, all_at_too}

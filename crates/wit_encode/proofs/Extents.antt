@@ -4,8 +4,7 @@ use Rattle.std.proofs.{lemmas.List.Sums.sum_by-cons, lemmas.List.Sums.sum_by-app
 use Rattle.std.specs.{Prelude.sum_by, List.AllZip, Option.option_map_or, Borrow.Bor}
 use Rattle.std.specs.declared.alloc.Global.{Global}
 use Rattle.wit_model.specs.{Text.Text, Text.text_of, Text.optional_text, Weight.unit_of, Weight.members_of, Weight.name_texts, Weight.definition_weight}
-use Rattle.wit_model.specs.{Tree.Tree, Tree.children, Tree.child_list, Tree.is_given}
-use Rattle.wit_model.specs.{Meaning.Signature, Meant.type_meaning, Lookup.type_at}
+use Rattle.wit_model.specs.{Tree.Tree, Tree.children, Tree.child_list, Tree.is_given, Meaning.Signature, Meant.type_meaning, Lookup.type_at}
 use Rattle.wit_model.specs.{Types.trees_of, Types.tree_of, Types.declared_by, Types.tree_of_declaration, Valid.IsValid}
 use Rattle.wit_model.specs.declared.model.{Resolve.Resolve, Param.Param, TypeDef.TypeDef, TypeDefKind.TypeDefKind, «Type».«Type» as ValueType}
 use Rattle.comp_bytes.specs.declared.forms.{ComponentDefinedType.ComponentDefinedType, ComponentFuncType.ComponentFuncType, ComponentValType.ComponentValType}

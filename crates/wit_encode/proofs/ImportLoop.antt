@@ -1,7 +1,7 @@
 -- Interfaces imported one after the other, in the order in which they are reached.
 use Rattle.std.proofs.Common.{rules as std_rules, ◌≡◌, refl, sym, subst, ap, ◌∙◌, ℕ, zero, suc, ◌+◌, ◌<◌, ◌≤◌, ◌==◌, Bool, true, false, not, map, get_or, option_map, List, [], ◌∷◌, ◌++◌, length, take, append_assoc, Option, Some, None, slice_get, is_some, option_and_then, arith}
 use Rattle.std.proofs.{lemmas.List.Elements.Contains-append_left, Math.ListN.length-map, lemmas.List.take_all, lemmas.Map.Steps.length-le_from_distinct_below}
-use Rattle.std.proofs.lemmas.{Option.slice_get_within, Option.slice_get-map, Option.slice_get-get_or, Option.same_Some as same-some}
+use Rattle.std.proofs.lemmas.Option.{slice_get_within, slice_get-map, slice_get-get_or, same_Some as same-some}
 use Rattle.std.specs.List.{Contains, IsDistinct, list_any}
 use Rattle.wit_model.specs.{Lookup.interface_at, Lookup.interface_path, Lookup.path_of_interface, Valid.IsValid, Valid.is_place, Valid.numbers_in_range}
 use Rattle.wit_model.specs.Uses.{direct_deps}
@@ -15,14 +15,10 @@ use Rattle.wit_encode.specs.{DependencyCounts.DefinesImports, WrittenNames.Names
 use Rattle.wit_encode.specs.{DependencyAliases.HasImportAliases, DependencyRoom.HoldsImports, DependencyRoom.ImportsLackRoom, DependencyRoom.LacksImport}
 use Rattle.wit_encode.proofs.{DependencyAliases.import-aliased, DependencyHolding.import-defines, DependencyHolding.import-few, DependencyHolding.next-lacks}
 use Rattle.wit_encode.proofs.{Imported.imports_grow, ImportsStand.imports_stand, UsedPaths.used-path, WrittenNames.imports-named}
-use Rattle.base_lemmas.proofs.Lists.{take_found}
-use Rattle.std.proofs.lemmas.Bool.{lt-ltb}
-use Rattle.std.proofs.Common.{drop}
-use Rattle.std.proofs.lemmas.List.{length-take-le, take-append-drop}
-use Rattle.base_lemmas.proofs.Elements.{all_at_too}
+use Rattle.base_lemmas.proofs.{Lists.take_found, Elements.all_at_too}
+use Rattle.std.proofs.{lemmas.Bool.lt-ltb, Common.drop, lemmas.List.length-take-le, lemmas.List.take-append-drop, Math.Seq.take-append_seam}
 use Rattle.encode_shown.proofs.Dependencies.{distinct-front}
 use Rattle.base_lemmas.proofs.{Bools.left_of as first_true, Elements.any-contains, Numbers.equal, Numbers.same-number, Options.there as some-of, Lists.at_last, Elements.get-contains}
-use Rattle.std.proofs.Math.Seq.{take-append_seam}
 
 -- ---- lists
 

@@ -2,8 +2,7 @@
 use Rattle.std.proofs.Common.{rules as std_rules, ◌≡◌, inl, inr, refl, sym, subst, ap, ◌∙◌, ℕ, ◌+◌, ◌==◌, nat_lt, nat_cmp, Bool, true, List, [], ◌∷◌, ◌++◌, length, length-append, Some, None, slice_get, arith}
 use Rattle.std.proofs.{Math.Seq.take-append_seam, lemmas.List.map-append, lemmas.List.Elements.Contains-append_left, lemmas.List.Elements.Contains-append_right}
 use Rattle.std.proofs.lemmas.{Bool.lt-ltb, Bool.and_from as both, List.Folds.list_all-append, Bool.cases_Bool}
-use Rattle.std.specs.List.{Contains, list_all}
-use Rattle.std.specs.{Option.option_map_or, BTreeMap.insert_entry, BTreeMap.is_at, FinMap.nat_cmp-IsAntisymmetric}
+use Rattle.std.specs.{List.Contains, List.list_all, Option.option_map_or, BTreeMap.insert_entry, BTreeMap.is_at, FinMap.nat_cmp-IsAntisymmetric}
 use Rattle.wit_model.specs.{Text.Text, Lookup.interface_path, Lookup.place_of_path, Valid.IsValid}
 use Rattle.wit_model.specs.declared.model.{Resolve.Resolve, Interface.Interface, InterfaceId.InterfaceId, Function.Function}
 use Rattle.wit_model.proofs.Elements.{zip-push}
@@ -17,9 +16,8 @@ use Rattle.encode_types.specs.Known.{Aliased, AreAliases, Around, IsAlias, are_r
 use Rattle.encode_types.proofs.Tables.{equal-is}
 use Rattle.wit_encode.specs.Instance.{EncodesPart}
 use Rattle.wit_encode.specs.Dependencies.{AliasesLeaveImports, ExportsEnd, HasImported, ImportsGrow, NothingIsImported, imported_instance, seen_import, with_export, with_import}
-use Rattle.wit_encode.proofs.Components.{steps-count, steps-instance, steps-more}
+use Rattle.wit_encode.proofs.{Components.steps-count, Components.steps-instance, Components.steps-more, LatestInstances.found-new, LatestInstances.found-other}
 use Rattle.wit_encode.proofs.Importing.{right-more, stands, still-right, wide}
-use Rattle.wit_encode.proofs.LatestInstances.{found-new, found-other}
 use Rattle.base_lemmas.proofs.{Bools.left_of as first_true, Elements.contains-one, Numbers.same-number, Lists.front_or_end}
 use Rattle.comp_bytes.specs.declared.forms.ComponentTypeRef.TheVariants as refs
 use Rattle.comp_meaning.specs.Follow as follow

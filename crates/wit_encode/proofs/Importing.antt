@@ -5,8 +5,7 @@ use Rattle.std.specs.{List.Contains, List.list_all, List.list_any, List.filter, 
 use Rattle.std.specs.{Ordering.is_eq, Ordering.match_ordering, Map.remove_entry}
 use Rattle.std.specs.declared.{alloc.Global.Global, cmp.Ordering.TheVariants.Less, cmp.Ordering.TheVariants.Equal, cmp.Ordering.TheVariants.Greater}
 use Rattle.wit_model.specs.{Text.Text, Text.text_eq, Text.text_of, Lookup.interface_path, Lookup.place_of, Lookup.type_at, Rules.text_is}
-use Rattle.wit_model.specs.Tree.{Tree, Place, here, of_interface, named}
-use Rattle.wit_model.specs.{Types.number_tree, Parts.is_resource, Parts.numbered_from}
+use Rattle.wit_model.specs.{Tree.Tree, Tree.Place, Tree.here, Tree.of_interface, Tree.named, Types.number_tree, Parts.is_resource, Parts.numbered_from}
 use Rattle.wit_model.specs.declared.model.{Resolve.Resolve, InterfaceId.InterfaceId, TypeId.TypeId, TypeDef.TypeDef, TypeOwner.TypeOwner}
 use Rattle.comp_bytes.specs.{Held.type_slots, Held.type_slots_of, Raw.Alias, Raw.Declaration, Raw.Declarations, Raw.append}
 use Rattle.comp_meaning.specs.{Same.same_place, Follow.Slot, Follow.Instance, Follow.find_type, Follow.is_foreign_name}
@@ -17,8 +16,7 @@ use Rattle.wit_encode.specs.declared.interface.{OpenInterface.OpenInterface, For
 use Rattle.wit_encode.specs.Instance.{standing_at, SlotsStand, is_slot_of, outer_slots, outer_instances, is_owner_in, resources_in, is_sound_in, place_in, Contents, standing_instances, scope_from, scope_with, inner_contents, contents_of, around_at, encoder_scope, definitions_with}
 use Rattle.encode_types.proofs.Tables.{at-some, number-found}
 use Rattle.wit_encode.proofs.{Contents.slots-kept, Calls.Calls, Calls.alias-inside, Wider.Widened, Wider.widened, Wider.contents-wider, LatestInstances.own-key}
-use Rattle.wit_encode.proofs.Within.{CallsTo}
-use Rattle.wit_encode.proofs.LatestInstances.{found-new}
+use Rattle.wit_encode.proofs.{Within.CallsTo, LatestInstances.found-new}
 use Rattle.base_lemmas.proofs.Elements.{all_get}
 use Rattle.wit_model.proofs.Owners.{numbered_at}
 use Rattle.base_lemmas.proofs.{Bools.left_of as first_true, Bools.right_of as second_true, Elements.all-contained, Lists.front_more as get-left, Options.some_is}

@@ -1,6 +1,6 @@
 -- The types of an interface in valid packages: each stands in the list once, under its name, behind those of the list that it uses.
 use Rattle.std.proofs.Common.{◌≡◌, refl, sym, subst, ap, ◌∙◌, ℕ, ◌⊎◌, inl, inr, true, false, not, ◌&&◌, ◌||◌, ◌==◌, nat_lt, List, [], take, count_by, slice_get, Option, Some, None, is_some, String, string_bytes, option_map}
-use Rattle.std.proofs.lemmas.Option.{slice_get-map}
+use Rattle.std.proofs.{lemmas.Option.slice_get-map, lemmas.Bool.cases_Bool}
 use Rattle.std.specs.declared.alloc.Global.{Global}
 use Rattle.std.specs.{Prelude.is_none, List.Contains, List.list_all, Option.option_map_or, Str.bytes_eq, HashMap.get_by_text}
 use Rattle.indexmap.specs.IndexMap.{values}
@@ -12,7 +12,6 @@ use Rattle.wit_model.proofs.{Listed.misfit, InOrder.found_stands, Elements.has-c
 use Rattle.wit_model.proofs.{Listings.given_all, Listings.given_found, OnePath.given-test, OnePath.found-in, OnePath.interface-passes as interface_passes}
 use Rattle.encode_types.specs.{KeyLaws.text_same, Kinds.parts_of, Plan.foreign_owner, Table.interface_of_owner}
 use Rattle.wit_encode.proofs.{Owned.alias-part, Owned.own-interface, Owned.owner-kept as kept-of-owner, Numbers.after-at}
-use Rattle.std.proofs.lemmas.Bool.{cases_Bool}
 use Rattle.encode_shown.proofs.Basics.{or-cases}
 use Rattle.base_lemmas.proofs.{Bools.left_of as first_true, Bools.not-false, Bools.right_of as second_true, Elements.all-contained, Elements.get-contains}
 use Rattle.base_lemmas.proofs.Numbers.{same-number}

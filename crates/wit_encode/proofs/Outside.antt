@@ -1,7 +1,6 @@
 -- What the calls of an encoder of interfaces do between interfaces: then what is defined stands in the component type.
-use Rattle.encode_types.specs.Distinct.{target_of}
+use Rattle.encode_types.specs.{Distinct.target_of, Formed.IsFormed, Formed.IsFormedSignature, Known.no_around, Counts.one_type_more, Counts.one_function_more}
 use Rattle.encode_types.specs.Slots.{Standing, Keeps, Follows, FollowsFunction, Defines, DefinesFunction}
-use Rattle.encode_types.specs.{Formed.IsFormed, Formed.IsFormedSignature, Known.no_around, Counts.one_type_more, Counts.one_function_more}
 use Rattle.wit_encode.proofs.{ValueSlots.slots-next, ValueSlots.targets-push, Components.steps-count, Components.steps-more, Components.steps-instance, Contents.Grew, Contents.slots-kept, Calls.Calls, Calls.calls-from, Calls.defines-of, Calls.function-of, Calls.formed-value}
 use Rattle.wit_encode.proofs.Strict.{bind, definition-strict, function-strict}
 use Rattle.std.proofs.Common.{rules as std_rules, ◌≡◌, refl, sym, subst, ap, ◌∙◌, ℕ, true, cond, [], ◌∷◌, ◌++◌, append-nil, List, Result, IfOk, OnErr, Option, Some, None, length}

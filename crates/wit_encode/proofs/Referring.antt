@@ -1,9 +1,9 @@
 -- What the types and functions of an interface meet, and what maps learn of it, type by type and function by function.
 use Rattle.encode_types.specs.{Aliases.AliasesMet, Known.Around}
-use Rattle.encode_types.proofs.Aliasing.{met-more}
+use Rattle.encode_types.proofs.{Aliasing.met-more, Lists.none-in}
 use Rattle.std.proofs.Common.{rules as std_rules, ◌≡◌, sym, subst, ap, ◌∙◌, ℕ, ◌+◌, ◌<◌, ◌≤◌, true, ◌&&◌, inl, inr, List, [], ◌∷◌, ◌++◌, map, take, length, get_or, Option, option_to_list, Result, OnOk, arith}
-use Rattle.std.proofs.lemmas.Grind.{flat_map-append}
-use Rattle.std.proofs.lemmas.{List.take_more, List.take_all, List.map-append, List.Sorted.IsPermutation-sym, List.Sorted.length_permutation}
+use Rattle.std.proofs.{lemmas.Grind.flat_map-append, Common.append-nil}
+use Rattle.std.proofs.{lemmas.List.take_more, lemmas.List.take_all, lemmas.List.map-append, lemmas.List.Sorted.IsPermutation-sym, lemmas.List.Sorted.length_permutation}
 use Rattle.std.proofs.lemmas.List.Elements.{Contains-append_left, Contains-append_right, Contains-append_cases}
 use Rattle.std.specs.{Prelude.IsPermutation, Prelude.flat_map, List.Contains, Option.option_eq, Cmp.Lexicographic.pointwise}
 use mathlib.Core.Bool.{beq}
@@ -15,7 +15,6 @@ use Rattle.wit_encode.specs.{Instance.DeclaresFew, Exports.AllKnown}
 use Rattle.encode_types.specs.{Slots.Pairs, Scope.Scope, Plan.Reaches, Key.same_type, Key.same_param, Maps.IsKnown, Maps.AllReady, Maps.IsOnce, Codes.names_of, Codes.ListKey, Counts.Definitions, Distinct.key_of, Distinct.key_view, Distinct.are_same, Distinct.AddsFunctions, Distinct.DefinesTypes}
 use Rattle.encode_types.specs.MetKinds.{referred, IsMetKind, AreMetKinds, LearnsMet, LearnsFrom, key_types}
 use Rattle.encode_types.specs.declared.{key.FunctionKey.FunctionKey, maps.TypeEncodingMaps.TypeEncodingMaps}
-use Rattle.encode_types.proofs.Lists.{none-in}
 use Rattle.encode_types.proofs.{KindLaws.optional_same, Encoding.meets-reaches, Encoding.learns-nothing, Learning.learns-none, Learning.learns-then}
 use Rattle.wit_encode.proofs.{HeldKeys.same_equiv, HeldKeys.alike, DefinedTypes.HeldKinds, MetKinds.met-kinds, MetKinds.params-same, Opening.permuted-contains}
 use Rattle.wit_encode.proofs.Counting.{Began}
@@ -23,7 +22,6 @@ use Rattle.wit_model.proofs.Elements.{contains-flat}
 use Rattle.base_lemmas.proofs.Bools.{left_of as first_true, right_of as second_true}
 use Rattle.base_lemmas.proofs.Elements.{any-at, contains-map, map_from as from-map}
 use Rattle.encode_shown.proofs.Used.{contains-flat-from as from-flat}
-use Rattle.std.proofs.Common.{append-nil}
 use Rattle.wit_model.specs.declared.model.«Type».TheVariants as ty
 
 -- ---- what is learnt

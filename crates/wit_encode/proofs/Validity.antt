@@ -10,8 +10,7 @@ use Rattle.wit_model.specs.{Valid.IsValid, Valid.named_kinds, Valid.order_of_typ
 use Rattle.wit_model.specs.Types.{type_tree, number_tree, no_tree, trees_of, tree_of_definition, declaration_of}
 use Rattle.wit_model.specs.declared.model.{Resolve.Resolve, Param.Param, TypeDef.TypeDef, TypeOwner.TypeOwner, TypeId.TypeId, InterfaceId.InterfaceId, «Type».«Type» as ValueType, TypeDefKind.TypeDefKind}
 use Rattle.wit_model.proofs.{Entries.each_from_at, Entries.lists_pass, Resources.resource_step, PartsLemmas.owner_same as same-owner, ValidLemmas.type_passes, Elements.contains-flat, TreeTable.kept_numbers, TreeTable.kept_trees_at, OnePath.found-in}
-use Rattle.encode_types.specs.Plan.{IsLayered, InRange, AllInRange, Reaches, itself, foreign_owner}
-use Rattle.encode_types.specs.Scope.{IsImportable, Scope}
+use Rattle.encode_types.specs.{Plan.IsLayered, Plan.InRange, Plan.AllInRange, Plan.Reaches, Plan.itself, Plan.foreign_owner, Scope.IsImportable, Scope.Scope}
 use Rattle.encode_types.specs.Table.{table_scope, interface_of_owner, declaration_in, named_declaration, is_met_by, is_met_owner, has_named_owner, AllMetBy}
 use Rattle.encode_types.specs.{Kinds.parts_of, Kinds.has_definition, Kinds.kind_tree, Formed.is_formed, Formed.are_values, Formed.IsFormedSignature}
 use Rattle.encode_types.specs.Resources.{Names, is_resource_tree, is_resource_declaration, is_named_interface, resource_names}

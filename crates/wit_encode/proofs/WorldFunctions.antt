@@ -1,14 +1,13 @@
 -- A world that has no room in a component type weighs more than the largest number of 32 bits.
 use Rattle.std.proofs.Common.{rules as std_rules, ◌≡◌, refl, sym, subst, ap, ◌∙◌, append-nil, ℕ, zero, ◌≤◌, inl, inr, Bool, true, List, [], ◌∷◌, ◌++◌, map, filter_map, slice_get, take, Option, Some, None, option_to_list, length, arith, suc, ◌+◌, ◌*◌, ◌⊎◌, false, not, ◌&&◌, flat_map, length-append, option_map}
-use Rattle.std.proofs.lemmas.{List.map-append, List.Sums.sum_by-cons, List.Sums.sum_by-append}
-use Rattle.std.proofs.lemmas.List.{Concat.flat_map-append, Filters.sum_by-filter_both, Kept.AllPairs-filter}
+use Rattle.std.proofs.{lemmas.List.map-append, lemmas.List.Sums.sum_by-cons, lemmas.List.Sums.sum_by-append, Common.String}
+use Rattle.std.proofs.{lemmas.List.Concat.flat_map-append, lemmas.List.Filters.sum_by-filter_both, lemmas.List.Kept.AllPairs-filter, Math.Seq.take-append_seam}
 use Rattle.std.proofs.lemmas.List.Elements.{Contains-append_left, filter_map-append, Contains-append_cases}
 use Rattle.std.specs.List.{Contains, cons_option, filter}
 use Rattle.std.specs.{Option.option_map_or, Prelude.if◌then◌else◌, Prelude.sum_by, Prelude.AllPairs, Prelude.unwrap_or}
 use Rattle.indexmap.specs.IndexMap.{values}
 use Rattle.wit_model.specs.Lookup.{world_at, interface_at, interface_path, canonical_path, canonical_suffix, key_text, type_at}
-use Rattle.wit_model.specs.Meaning.{Signature}
-use Rattle.wit_model.specs.{Meant.signature_of, Meant.item_external_id, Parts.function_types, Parts.same_owner, Calls.implemented}
+use Rattle.wit_model.specs.{Meaning.Signature, Meant.signature_of, Meant.item_external_id, Parts.function_types, Parts.same_owner, Calls.implemented}
 use Rattle.wit_model.specs.Rules.{item_type, passes, is_member, is_name_key, interface_type_numbers, world_type_numbers, owner_in_range}
 use Rattle.wit_model.specs.{Uses.item_interface, Uses.items_of, Uses.has, Uses.once, Text.Text, Text.text_of, Text.text_eq, Text.optional_text}
 use Rattle.wit_model.specs.Valid.{IsValid, as_interface, as_world, function_names, functions_of_interface, functions_of_world, item_function}
@@ -39,8 +38,6 @@ use Rattle.wit_model.proofs.{PathParts.canonical_paths_join, OnePath.found-in}
 use Rattle.wit_model.proofs.{Elements.contains-filter_map, Elements.has-contains, Elements.contains-has, ValidLemmas.world_passes}
 use Rattle.base_lemmas.proofs.{Bools.left_of as first_true, Numbers.same-number, Lists.middle_get, Lists.filter_of_map}
 use Rattle.base_lemmas.proofs.Elements.{all-contained, contains-later, contains-map, contains-one, map_from as from-map, filter_kept}
-use Rattle.std.proofs.Math.Seq.{take-append_seam}
-use Rattle.std.proofs.Common.{String}
 use Rattle.std.specs.declared.alloc.Global.{Global}
 use Rattle.wit_model.specs.declared.model.WorldItem.TheVariants as item
 use Rattle.wit_model.specs.declared.model.TypeOwner.TheVariants as owner

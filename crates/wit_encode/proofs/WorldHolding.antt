@@ -6,11 +6,11 @@ use Rattle.std.proofs.lemmas.List.Elements.{Contains-append_left, Contains-appen
 use Rattle.std.specs.{Prelude.nat_eq, Prelude.cond, Prelude.AllPairs, List.AllZip, List.Contains, List.filter}
 use Rattle.std.specs.{Set.is_member, Set.distinct_count, Option.option_map_or}
 use Rattle.wit_model.specs.{Parts.function_types, Valid.IsValid, Lookup.type_at, Text.text_of, Meant.signature_of, Meant.type_meaning, Valid.item_function}
-use Rattle.wit_model.specs.Tree.{Tree}
+use Rattle.wit_model.specs.{Tree.Tree, Lookup.interface_at}
 use Rattle.wit_model.specs.declared.model.{Resolve.Resolve, World.World, TypeId.TypeId, TypeDef.TypeDef, InterfaceId.InterfaceId, Interface.Interface}
 use Rattle.wit_model.specs.declared.model.{WorldKey.WorldKey, WorldItem.WorldItem, Function.Function, «Type».«Type» as ValueType}
 use Rattle.comp_bytes.specs.Raw.{Declaration, Declarations, ExternName, declaration_count, from_list}
-use Rattle.comp_bytes.specs.{Held.declaration_slots, Held.fits_added, Held.type_slots_of, Fits.fits_declaration, Fits.fits_name}
+use Rattle.comp_bytes.specs.{Held.declaration_slots, Held.fits_added, Held.type_slots_of, Fits.fits_declaration, Fits.fits_name, Held.described_slots}
 use Rattle.comp_bytes.specs.declared.forms.ComponentTypeRef.{ComponentTypeRef}
 use Rattle.comp_meaning.specs.Follow.{Direction, import_, export_, new_scope}
 use Rattle.encode_types.specs.{Slots.tree, Key.IsKeyOf}
@@ -23,7 +23,7 @@ use Rattle.encode_types.specs.declared.{key.FunctionKey.FunctionKey, maps.TypeEn
 use Rattle.encode_types.proofs.Rooms.{only-more, only-reached, pairs-both, holds-few, are-different, counts-few}
 use Rattle.encode_types.proofs.{Defining.lists-longer, Lists.none-in, Pairs.pairs-map}
 use Rattle.encode_names.specs.{WorldSteps.Entry, WorldSteps.Entries, WorldSteps.declared_towards, WorldSteps.interfaces_among, WorldNames.name_of_item}
-use Rattle.wit_encode.specs.Places.{are_beside}
+use Rattle.wit_encode.specs.{Places.are_beside, Instance.EncodesInterface, WorldHolds.LacksDeclaration, WorldRoom.entries_in}
 use Rattle.wit_encode.specs.{Encoders.declared_after, WorldItems.HasShown, WorldItems.all_done, WorldItems.types_among, WorldItems.IsNext, WorldHolds.HoldsFew}
 use Rattle.wit_encode.specs.WorldRoom.{functions_among, referred_among, type_ids_among, IsMetAmong, IsNamedTypeOf, IsTypeAmong, AreSome, count_among, WorldLacksRoom, a_name, a_type as a_met_type, a_function, too_many}
 use Rattle.wit_encode.specs.{Instance.count_declared, Instance.SlotsStand, Instance.outer_slots, Instance.standing_at, DependencyAliases.alias_in}
@@ -35,16 +35,10 @@ use Rattle.wit_encode.proofs.{WrittenNames.no-function-name, HeldKeys.Keyed, Hel
 use Rattle.wit_encode.proofs.{Components.count-more, WorldShown.sound-outside, WorldCalls.reached-held, Directions.next-among, HeldKeys.learnt-all}
 use Rattle.wit_encode.proofs.{DefinedTypes.HeldKinds, DefinedTypes.defines-types, Refusing.counts-refused, Refusing.outer-pushed, Refusing.outer-slots-few}
 use Rattle.wit_encode.proofs.ValueSlots.{IsPlain, slots-kept, slots-declared, targets-kept, instances-kept, outer-values}
-use Rattle.wit_encode.proofs.{Referring.from-met, Referring.from-none, Referring.from-then, Referring.interface-kinds}
+use Rattle.wit_encode.proofs.{Referring.from-met, Referring.from-none, Referring.from-then, Referring.interface-kinds, DependencyAliases.known-kept}
 use Rattle.wit_encode.proofs.Counting.{slots-once, adds-alike, adds-function, adds-nothing, adds-trans, adds-types, exact-names}
 use Rattle.wit_encode.proofs.Directions.{next-entry}
-use Rattle.wit_encode.proofs.DependencyAliases.{known-kept}
-use Rattle.wit_encode.specs.Instance.{EncodesInterface}
-use Rattle.wit_model.specs.Lookup.{interface_at}
-use Rattle.comp_bytes.specs.Held.{described_slots}
-use Rattle.wit_encode.specs.WorldHolds.{LacksDeclaration}
 use Rattle.wit_model.proofs.Elements.{contains-filter_map}
-use Rattle.wit_encode.specs.WorldRoom.{entries_in}
 use Rattle.base_lemmas.proofs.Bools.{both_ways as both-ways, left_of as first_true, right_of as second_true}
 use Rattle.base_lemmas.proofs.Elements.{contains-map, map_from as from-map, last_of as one-contained, contains-one}
 use Rattle.wit_model.specs.declared.model.WorldItem.TheVariants as item

@@ -1,6 +1,6 @@
 -- A type of a world, imported behind what has been: nothing else that is named in the world is learnt with it.
 use Rattle.std.proofs.Common.{rules as std_rules, ◌≡◌, refl, sym, subst, ap, ◌∙◌, ℕ, ◌+◌, ◌≤◌, ◌⊎◌, inl, inr, nat_cmp, Bool, true, false, List, [], ◌∷◌, ◌++◌, length, map, Some, None, is_some, arith, append-nil, append_assoc, Option, ◌==◌, cond, filter_map, slice_get, take, option_map, option_and_then, String, count_by, option_to_list}
-use Rattle.std.proofs.lemmas.{List.length-map, List.Sums.sum_by-append, Option.same_Some as same-some}
+use Rattle.std.proofs.{lemmas.List.length-map, lemmas.List.Sums.sum_by-append, lemmas.Option.same_Some as same-some, Math.Seq.take-append_seam}
 use Rattle.std.proofs.lemmas.List.Elements.{Contains-append_left, Contains-append_right, Contains-append_cases, filter_map-append}
 use Rattle.std.specs.{BTreeMap.insert_entry, List.AllZip, List.Contains, Prelude.is_none, Option.option_map_or}
 use Rattle.wit_model.specs.{Lookup.interface_at, Lookup.key_text, Lookup.type_at, Meant.no_type, Meant.type_meaning, Meant.type_meaning_at, Meaning.TypeMeaning}
@@ -29,23 +29,20 @@ use Rattle.wit_encode.specs.Worlds.{WorldEncoder, brought_numbers, instances_dec
 use Rattle.wit_encode.specs.WrittenBytes.{AddsLearnt, items_extent}
 use Rattle.wit_encode.proofs.{Counting.adds-alike, Counting.adds-nothing, BytesWritten.learnt-most, BytesWritten.learnt-nothing, BytesWritten.learnt-then}
 use Rattle.wit_encode.proofs.{Aliases.keeps-instance, Aliases.keeps-aliases, Aliases.known-among, Aliases.none-since, WorldInterfaces.among-one}
-use Rattle.wit_encode.proofs.{WrittenNames.interface-name, WrittenNames.names-nothing, WrittenNames.names-then}
+use Rattle.wit_encode.proofs.{WrittenNames.interface-name, WrittenNames.names-nothing, WrittenNames.names-then, Numbers.once-before, Numbers.one-mapped}
 use Rattle.wit_encode.proofs.Placed.{grown-few, grown-listed, listed-cases, one-behind, placed-few, placed-instances, placed-targets, placed-slots}
 use Rattle.wit_encode.proofs.{Referring.from-none, Refusing.counts-refused, Refusing.outer-slots-few, OwnerScope.types_encode, Owned.named-listed}
 use Rattle.wit_encode.proofs.WorldHolding.{defines-behind, interfaces-more, towards-function, towards-target, count-both, full, known-number, known-numbers, known-once, met-before, towards-plain}
-use Rattle.wit_encode.proofs.{Numbers.once-before, Numbers.one-mapped}
 use Rattle.wit_encode.proofs.WorldShown.{type_seen, types-shown, items_meet_standing, no-type-exported, own-type, parts-listed, type-key}
 use Rattle.wit_encode.proofs.WorldFunctions.{before-next, done_items, next-place, scope-of, second, stand-before, types-given}
 use Rattle.wit_encode.proofs.Directions.{done-next, next-entry}
-use Rattle.wit_encode.proofs.WorldHolding.{by-name, defines-own}
-use Rattle.wit_encode.proofs.Exporting.{met-no-other, one-name as only-name}
+use Rattle.wit_encode.proofs.{WorldHolding.by-name, WorldHolding.defines-own, Exporting.met-no-other, Exporting.one-name as only-name}
 use Rattle.base_lemmas.proofs.Lists.{middle_get}
 use Rattle.base_lemmas.proofs.Elements.{zip-append, contains-one, first-contained as contains-first, last_of as one-contained}
 use Rattle.base_lemmas.proofs.{Bools.left_of as first_true, Bools.right_of as second_true, Numbers.equal, Numbers.same-number, Options.there as some-of}
 use Rattle.std.specs.declared.alloc.Global.{Global}
 use Rattle.encode_shown.proofs.{Used.contains-flat-from}
 use Rattle.wit_model.proofs.{Elements.contains-get, PartsLemmas.owner_same as same-owner, OnePath.one-number, Elements.contains-flat}
-use Rattle.std.proofs.Math.Seq.{take-append_seam}
 use Rattle.wit_model.specs.declared.model.WorldItem.TheVariants as item
 use Rattle.comp_bytes.specs.declared.forms.ComponentTypeRef.TheVariants as refs
 use Rattle.wit_model.specs.declared.model.TypeOwner.TheVariants as owner

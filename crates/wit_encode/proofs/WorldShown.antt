@@ -16,10 +16,9 @@ use Rattle.encode_names.specs.Rebuilt.{is_type_shown, others_seen, types_seen}
 use Rattle.encode_names.specs.WorldSteps.{AddsTypes, Entry, Entries, ShowsEntries, interfaces_among}
 use Rattle.encode_names.proofs.{Rebuilt.others-before, WorldSteps.types-appended, EntriesRebuilt.entries_are_rebuilt}
 use Rattle.wit_encode.specs.{Instance.Contents, Instance.no_view, OwnerScope.IsScopeOf, OwnerScope.InstancesStand, OwnerScope.IsTypeOf, OwnerScope.functions_of}
-use Rattle.wit_encode.specs.WrittenNames.{instance_declarations}
+use Rattle.wit_encode.specs.{WrittenNames.instance_declarations, WorldItems.HasShown, WorldItems.all_done, WorldItems.types_among}
 use Rattle.wit_encode.specs.Worlds.{KeepsTold, declared_type, is_sound_outside, others_of, seen_imports, world_resources, world_scope, world_view, instances_declared, WorldEncoder, world_around, world_definitions, world_view_of}
 use Rattle.wit_encode.specs.WorldUses.{item_types, interfaces_before, StandBefore, ItemsMeetStanding}
-use Rattle.wit_encode.specs.WorldItems.{HasShown, all_done, types_among}
 use Rattle.wit_encode.proofs.{Contents.IsOf, Contents.Grew, Contents.grew-adds, Contents.grew-grows, Mapped.contains-filter, Validity.valid-ownerless}
 use Rattle.wit_encode.proofs.Meeting.{named-meets, unnamed-meets, part-uses}
 use Rattle.wit_encode.proofs.{Numbers.after-at, Naming.named-owner, Owned.part-met, Directions.begins-here, Directions.numbers_of, Directions.order-then}

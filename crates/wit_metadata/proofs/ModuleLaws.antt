@@ -4,8 +4,7 @@ use Rattle.std.proofs.lemmas.{Bool.true≢false, Bool.Decides.Decides-eqb, Slice
 use Rattle.std.proofs.Math.Seq.{drop-append_seam}
 use Rattle.std.specs.{Prelude.◌-◌, Borrow.Bor, List.AllByRecursion, List.flat_map, List.starts_with}
 use Rattle.wit_model.specs.declared.error.Error.{Error}
-use Rattle.comp_bytes.specs.Form.{Sequence}
-use Rattle.comp_bytes.specs.{Answer.Refuses, Frames.IsCustom, Frames.IsFrame, Frames.ReadsCustom, Reading.frame_at, Writing.framed}
+use Rattle.comp_bytes.specs.{Form.Sequence, Answer.Refuses, Frames.IsCustom, Frames.IsFrame, Frames.ReadsCustom, Reading.frame_at, Writing.framed}
 use Rattle.comp_bytes.proofs.{ComponentLaws.frame_law, PartLaws.name_law}
 use Rattle.wit_metadata.specs.Modules.{AreOthers, Carries, Framed, HasData, IsFrontData, IsFrontless, IsInFront, IsModule, IsNamed, RefusesModule, TellsCarrying, carrying_name, module_bytes, module_preamble}
 use Rattle.base_lemmas.proofs.Lists.{is-nothing as no-bytes}

@@ -4,8 +4,7 @@ use Rattle.std.proofs.lemmas.{Bool.eqb-true, Bool.eq-eqb, Bool.ltb-true, Bool.or
 use Rattle.std.specs.{Prelude.flat_map, Prelude.nat_lt, List.list_all}
 use Rattle.wit_model.specs.declared.model.{Resolve.Resolve, Interface.Interface}
 use Rattle.wit_model.specs.{Lookup.interface_at, Valid.IsValid, Valid.owners}
-use Rattle.wit_model.specs.{Uses.has, Uses.once, Uses.direct_deps, Uses.reached_in}
-use Rattle.wit_model.specs.Chains.{Chain, UsesFall, ChainsReach, ReachedByChains}
+use Rattle.wit_model.specs.{Uses.has, Uses.once, Uses.direct_deps, Uses.reached_in, Chains.Chain, Chains.UsesFall, Chains.ChainsReach, Chains.ReachedByChains}
 use Rattle.wit_model.proofs.{Entries.each_from_at, Owners.all_once}
 use Rattle.base_lemmas.proofs.{Bools.left_of as first_true, Bools.right_of as second_true, Elements.not_all as any_by_all}
 

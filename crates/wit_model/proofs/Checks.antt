@@ -1,7 +1,6 @@
 -- A list keeps a rule where each number of it passes, and a rule is kept where its four lists keep it.
 use Rattle.std.proofs.Common.{rules as std_rules, ◌≡◌, refl, ap, ◌∙◌, ℕ, zero, suc, ◌+◌, ◌<◌, ◌≤◌, Bool, true, false, List, [], ◌∷◌, ◌++◌, Some, slice_get, unwrap_or, option_map, length, nat_lt, arith}
-use Rattle.std.proofs.lemmas.Option.{slice_get_within, slice_get_past, same_Some as some_same}
-use Rattle.std.proofs.lemmas.Bool.{and_from as both_true}
+use Rattle.std.proofs.{lemmas.Option.slice_get_within, lemmas.Option.slice_get_past, lemmas.Option.same_Some as some_same, lemmas.Bool.and_from as both_true}
 use Rattle.std.specs.List.{list_all}
 use Rattle.wit_model.specs.declared.model.{Resolve.Resolve, TypeDef.TypeDef}
 use Rattle.wit_model.specs.{Lookup.type_at, Parts.kind_numbers, Rules.each_from, Checks.KeepsIn, Checks.references, Checks.flags, Checks.entry_of}

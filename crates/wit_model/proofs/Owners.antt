@@ -5,10 +5,9 @@ use Rattle.std.specs.declared.alloc.Global.{Global}
 use Rattle.std.specs.{List.list_all, Option.option_map_or}
 use Rattle.indexmap.specs.IndexMap.{values}
 use Rattle.wit_model.specs.declared.model.{Resolve.Resolve, Interface.Interface, TypeDef.TypeDef, TypeOwner.TypeOwner, Function.Function}
-use Rattle.wit_model.specs.{Lookup.type_at, Lookup.interface_at, Lookup.resource_of}
+use Rattle.wit_model.specs.{Lookup.type_at, Lookup.interface_at, Lookup.resource_of, Rules.function_stays, Rules.type_stays, Rules.is_use, Rules.is_member}
 use Rattle.wit_model.specs.Parts.{kind_numbers, met_by, met_at, met_of, numbered_from, used_by_type, used_by_function, same_owner, has_owner}
 use Rattle.wit_model.specs.{Uses.once, Uses.interface_used_by, Uses.direct_deps, Valid.Keeps, Checks.references}
-use Rattle.wit_model.specs.Rules.{function_stays, type_stays, is_use, is_member}
 use Rattle.wit_model.proofs.{Lists.list_all_filter_map, Tables.grow_at, Tables.grow_keeps, Checks.below_at, Functions.all_flat}
 use Rattle.base_lemmas.proofs.{Bools.and-true, Bools.left_of as first_true, Bools.right_of as second_true, Elements.flat-same as flat_same}
 use Rattle.base_lemmas.proofs.Lists.{slice_take as get_take}

@@ -4,8 +4,7 @@ use Rattle.std.proofs.lemmas.List.{Elements.filter_map-append, Folds.list_any-ap
 use Rattle.std.specs.{List.list_all, List.cons_option}
 use Rattle.indexmap.specs.IndexMap.{values}
 use Rattle.wit_model.specs.declared.model.{Resolve.Resolve, Interface.Interface, World.World, WorldItem.WorldItem}
-use Rattle.wit_model.specs.Lookup.{interface_at}
-use Rattle.wit_model.specs.Uses.{has, item_interface, interface_used_by, direct_deps, items_of}
+use Rattle.wit_model.specs.{Lookup.interface_at, Uses.has, Uses.item_interface, Uses.interface_used_by, Uses.direct_deps, Uses.items_of}
 use Rattle.wit_model.specs.{Rules.is_id, Rules.each_after, Rules.used_interfaces, ItemOrders.shown_with, ItemOrders.shown_after, ItemOrders.uses_are_shown}
 use Rattle.wit_model.proofs.{Lists.list_all_filter_map, Owners.all_filter, Owners.all_once}
 use Rattle.base_lemmas.proofs.Bools.{and_assoc, exchange as and_swap}

@@ -3,8 +3,7 @@ use Rattle.std.proofs.Common.{rules as std_rules, ◌≡◌, sym, ap, ◌∙◌,
 use Rattle.std.proofs.lemmas.{Bool.and_parts, Bool.and_from, Bool.ltb-true, Option.same_Some, Slice.Eq.bytes_eq-Decides}
 use Rattle.std.specs.{Option.option_eq, Result.result_unwrap_or}
 use Rattle.semver.specs.declared.{error.Error.Error, Version.Version}
-use Rattle.semver.specs.Identifiers.{parts_of, parts_text}
-use Rattle.semver.specs.{Grammar.IsValid, Parse.Parts, Parse.version_parts}
+use Rattle.semver.specs.{Identifiers.parts_of, Identifiers.parts_text, Grammar.IsValid, Parse.Parts, Parse.version_parts}
 use Rattle.semver.proofs.Grammar.{version_parts-complete}
 use Rattle.wit_model.specs.{Text.Text, Text.text_eq, NameLaws.OneVersion, NameLaws.SameName}
 use Rattle.wit_model.specs.{Names.is_version, Lookup.optional_version_text, Rules.passes, Rules.same_version}

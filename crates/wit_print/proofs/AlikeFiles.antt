@@ -10,11 +10,10 @@ use Rattle.wit_model.specs.{Parts.same_owner, Valid.item_function}
 use Rattle.wit_print.specs.Documentation.{AlikeKinds, AlikeTypes, AlikeFunctions, AlikeEntries, AlikeInterfaces, AlikeKeys, AlikeItems, AlikeWorldEntries, AlikeWorlds, AlikePackages, DifferInDocumentation}
 use Rattle.wit_print.specs.Documentation.AlikeKinds.{records, resources, handles, flags, tuples, variants, enums, options, results, lists, maps, fixed_lists, futures, streams, aliases}
 use Rattle.wit_print.specs.Documentation.{AlikeKeys.labels, AlikeKeys.interfaces, AlikeItems.interface_items, AlikeItems.function_items, AlikeItems.type_items}
-use Rattle.print_grammar.specs.Tree.{PathTree.Local, ExternTree.Path, ExternTree.NamedPath, ExternTree.NamedInterface}
-use Rattle.print_grammar.specs.Tree.{MemberTree.UseMember, MemberTree.TypeMember, MemberTree.FunctionMember, ItemTree.InterfaceItem, ItemTree.WorldItem}
+use Rattle.print_grammar.specs.{Tree.PathTree.Local, Tree.ExternTree.Path, Tree.ExternTree.NamedPath, Tree.ExternTree.NamedInterface, Calls.file_calls}
+use Rattle.print_grammar.specs.{Tree.MemberTree.UseMember, Tree.MemberTree.TypeMember, Tree.MemberTree.FunctionMember, Tree.ItemTree.InterfaceItem, Tree.ItemTree.WorldItem}
 use Rattle.print_grammar.specs.Tree.WorldMember.{WorldUse, WorldType, WorldImport, WorldExport}
 use Rattle.print_grammar.specs.AsRead.{bare_prefix, bare_signature, bare_declared, bare_member, bare_extern, bare_world_member, bare_item, bare_package, bare_file}
-use Rattle.print_grammar.specs.Calls.{file_calls}
 use Rattle.print_items.specs.Shown.{shown_docs, shown_prefix, shown_gates, full_path, path_from, shown_path, own_name, used_of, grouped, Listed, shown_uses, DeclaredWith, shown_declared, declared_with, shown_declarations, path_from_owner, listed_types, listed_functions, shown_function, shown_interface, shown_extern, extern_prefix, Entry, shown_import, shown_export, is_interface_item, is_freestanding_item, type_of_entry, listed_imports, imported_functions, shown_world_in, shown_world, shown_interface_item, shown_world_item, shown_package_of, no_package, shown_package, shown_file}
 use Rattle.wit_print.proofs.AlikeTypes.{same, Both, at_both, or_alike, then_alike, map_alike, bare_map_alike, filter_alike, name_alike, external_id_alike, gates_alike, types_at, signature_alike, function_prefix_alike, declared_alike}
 use Rattle.wit_print.proofs.UndocumentedCalls.{undocumented_calls}

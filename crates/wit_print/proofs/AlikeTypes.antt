@@ -8,8 +8,7 @@ use Rattle.wit_model.specs.{Text.optional_text, Lookup.type_at, Lookup.is_async,
 use Rattle.wit_print.specs.Documentation.{AlikeGates, AlikeParams, AlikeFields, AlikeCases, AlikeFlags, AlikeEnumCases, AlikeKinds, AlikeTypes, AlikeFunctions, DifferInDocumentation}
 use Rattle.wit_print.specs.Documentation.AlikeGates.{unknown, stable, unstable}
 use Rattle.wit_print.specs.Documentation.AlikeKinds.{records, resources, handles, flags, tuples, variants, enums, options, results, lists, maps, fixed_lists, futures, streams, aliases}
-use Rattle.print_grammar.specs.{Tree.TypeTree, Tree.Gates.Since, Tree.Gates.Unstable}
-use Rattle.print_grammar.specs.Tree.{TypeTree.TupleOf}
+use Rattle.print_grammar.specs.{Tree.TypeTree, Tree.Gates.Since, Tree.Gates.Unstable, Tree.TypeTree.TupleOf}
 use Rattle.print_grammar.specs.Tree.Declared.{RecordOf, VariantOf, FlagsOf, EnumOf, AliasOf, ResourceOf}
 use Rattle.print_grammar.specs.AsRead.{bare_prefix, bare_field, bare_case, bare_label, bare_resource_member, bare_declared}
 use Rattle.print_items.specs.Shown.{present_name, shown_gates, shown_external_id, type_name, used_type, used_types, result_tree, kind_tree, def_tree, trees_from, type_trees, shown_type, shown_field, shown_case, shown_flag, shown_enum_case, belongs_to, shown_param, shown_params, shown_signature, constructor_result, function_prefix, shown_resource_member, shown_declared}

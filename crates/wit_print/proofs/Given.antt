@@ -6,8 +6,7 @@ use Rattle.wit_model.specs.{Rules.in_list, Rules.passes, Valid.item_function}
 use Rattle.print_items.specs.Shown.{Listed, imported_functions, listed_functions, listed_imports, listed_types, type_of_entry}
 use Rattle.print_packages.specs.GivenTypes.{behind}
 use Rattle.print_uses.specs.UseGroups.{is_listed_function, is_listed_type}
-use Rattle.print_uses.proofs.Declarations.{types_listed}
-use Rattle.print_uses.proofs.{Valid.interface_functions, Valid.is_known_listed, WellLists.all_both, WellLists.given_well}
+use Rattle.print_uses.proofs.{Declarations.types_listed, Valid.interface_functions, Valid.is_known_listed, WellLists.all_both, WellLists.given_well}
 use Rattle.print_packages.proofs.ValidWorlds.{is_known_entry, entry_function_known, world_is_shown}
 use Rattle.wit_print.specs.Given.{FunctionsCanBeGiven, TypesCanBeGiven, WorldFunctionsCanBeGiven, WorldTypesCanBeGiven}
 use Rattle.base_lemmas.proofs.{Elements.all-contained, Elements.all_pass as all-of}

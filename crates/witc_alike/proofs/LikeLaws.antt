@@ -1,6 +1,5 @@
 -- Worlds that have a sense, and what comes of two.
-use Rattle.std.proofs.Common.{◌≡◌, ◌∙◌, sym, subst, ℕ, Bool, true, false, List}
-use Rattle.std.proofs.lemmas.Bool.{true≢false}
+use Rattle.std.proofs.{Common.◌≡◌, Common.◌∙◌, Common.sym, Common.subst, Common.ℕ, Common.Bool, Common.true, Common.false, Common.List, lemmas.Bool.true≢false}
 use Rattle.std.specs.Prelude.{◌↔◌, IsTrue}
 use Rattle.wit_model.specs.declared.{error.Error.Error}
 use Rattle.wit_model.specs.{Refusals.IsMemory}

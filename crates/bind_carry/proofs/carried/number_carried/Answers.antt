@@ -1,5 +1,4 @@
-use Rattle.std.proofs.Common.{rules, ◌≡◌, ◌∙◌, ap, sym, length, map, is_none}
-use Rattle.std.proofs.lemmas.List.{length-map}
+use Rattle.std.proofs.{Common.rules, Common.◌≡◌, Common.◌∙◌, Common.ap, Common.sym, Common.length, Common.map, Common.is_none, lemmas.List.length-map}
 use Rattle.bind_carry.specs.Marked.{mark_worlds}
 use Rattle.bind_carry.specs.{Which.new_interfaces, Numbers.interface_number, Numbers.numbers_of, Numbers.package_number, Numbers.world_number}
 use Rattle.bind_carry.proofs.CopiesPlaced.{numbers_long}

@@ -1,5 +1,4 @@
-use Rattle.std.proofs.Common.{rules, ◌≡◌, ◌<◌, refl, true, length}
-use Rattle.std.proofs.lemmas.Option.{slice_get-get_or}
+use Rattle.std.proofs.{Common.rules, Common.◌≡◌, Common.◌<◌, Common.refl, Common.true, Common.length, lemmas.Option.slice_get-get_or}
 use Rattle.bind_copy.specs.Copies.{are_parts_below, IsPartUnder}
 use Rattle.bind_copy.proofs.{Members.parts_later, Members.parts_are, Written.all_written, Written.item_written, Written.none_written}
 use Rattle.bind_copy.proofs.moved.renumber_types.Goals as goal

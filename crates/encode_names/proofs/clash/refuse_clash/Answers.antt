@@ -1,5 +1,4 @@
-use Rattle.std.proofs.Common.{rules, sym, ap, subst, ◌∙◌, ◌++◌, map, true}
-use Rattle.std.proofs.lemmas.Map.Iter.{rest_more}
+use Rattle.std.proofs.{Common.rules, Common.sym, Common.ap, Common.subst, Common.◌∙◌, Common.◌++◌, Common.map, Common.true, lemmas.Map.Iter.rest_more}
 use Rattle.std.specs.{List.IsDistinct, Map.Iter.deref_pair}
 use Rattle.wit_model.specs.Text.{text_eq, text_of}
 use Rattle.encode_names.specs.{WorldNames.written_key, Clashes.canonical_names_of}

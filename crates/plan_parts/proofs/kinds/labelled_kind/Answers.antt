@@ -1,5 +1,4 @@
-use Rattle.std.proofs.Common.{◌≡◌, ◌∙◌, ap, sym, refl, map, []}
-use Rattle.std.proofs.lemmas.Bool.{eqb-true}
+use Rattle.std.proofs.{Common.◌≡◌, Common.◌∙◌, Common.ap, Common.sym, Common.refl, Common.map, Common.[], lemmas.Bool.eqb-true}
 use Rattle.wit_model.specs.Tree.{Form}
 use Rattle.read_rules.specs.Tables.{label_of, numbered_shape}
 use Rattle.plan_parts.proofs.KindLaws.{counted, empty_part, enum_form, flags_form, formed_over, last_labelled, no_parts, record_form, variant_form}

@@ -1,5 +1,4 @@
-use Rattle.std.proofs.Common.{◌≡◌, [], ◌∷◌, ◌∙◌, ap, sym, true}
-use Rattle.std.proofs.lemmas.Map.Iter.{rest_more}
+use Rattle.std.proofs.{Common.◌≡◌, Common.[], Common.◌∷◌, Common.◌∙◌, Common.ap, Common.sym, Common.true, lemmas.Map.Iter.rest_more}
 use Rattle.std.specs.Map.Iter.{deref_pair}
 use Rattle.print_grammar.specs.Calls.{members_calls}
 use Rattle.print_uses.specs.Printable.{is_printable_function, shown_functions}

@@ -1,5 +1,4 @@
-use Rattle.std.proofs.Common.{◌++◌, ◌&&◌, ◌∙◌, ap}
-use Rattle.std.proofs.lemmas.Result.{on_err_weaker as on_err, on_ok_weaker as on_ok}
+use Rattle.std.proofs.{Common.◌++◌, Common.◌&&◌, Common.◌∙◌, Common.ap, lemmas.Result.on_err_weaker as on_err, lemmas.Result.on_ok_weaker as on_ok}
 use Rattle.std.specs.{Prelude.codes, List.flat_map}
 use Rattle.wit_model.specs.Rules.{has_items}
 use Rattle.print_uses.specs.Printable.{entry_calls, printed_imports}

@@ -1,7 +1,6 @@
 use Rattle.read_follow.specs.Scopes.{start_of, world_of}
 use Rattle.read_follow.proofs.ComponentLaws.{entered_on, followed_none, followed_whole, stopped_on}
-use Rattle.read_follow.proofs.NameTableLaws.{no_names}
-use Rattle.read_follow.proofs.ScopeLaws.{world_with}
+use Rattle.read_follow.proofs.{NameTableLaws.no_names, ScopeLaws.world_with}
 use Rattle.read_follow.proofs.components.follow_entries.Goals as goal
 
 pub loop-init : goal.loop-init

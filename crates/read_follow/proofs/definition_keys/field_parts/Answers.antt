@@ -1,5 +1,4 @@
-use Rattle.std.proofs.Common.{◌∙◌, ap, ◌+◌, ◌<◌, [], ◌∷◌, map}
-use Rattle.std.proofs.lemmas.List.{map-append}
+use Rattle.std.proofs.{Common.◌∙◌, Common.ap, Common.◌+◌, Common.◌<◌, Common.[], Common.◌∷◌, Common.map, lemmas.List.map-append}
 use Rattle.read_follow.specs.KeyShapes.{label_of}
 use Rattle.read_follow.proofs.RowLaws.{field_refused, field_row, field_rows}
 use Rattle.read_follow.proofs.definition_keys.field_parts.Goals as goal

@@ -2,8 +2,7 @@ use Rattle.std.proofs.Common.{subst, List, [], ◌∷◌, map, Bool, ℕ}
 use Rattle.read_follow.specs.{Defining.Grows, ExternNames.raw_name, InstanceScopes.tables_of, Places.has_path, Places.place_number}
 use Rattle.read_follow.specs.Scopes.{direction, world_of, Goes, HasNoUsedView, IsInstanceAdded, IsUsedView}
 use Rattle.comp_meaning.specs.Follow.{see_instance}
-use Rattle.read_follow.proofs.{FollowingLaws.on_ok, UsedLaws.instance_goes, UsedLaws.instance_stops}
-use Rattle.read_follow.proofs.ScopeLaws.{world_with}
+use Rattle.read_follow.proofs.{FollowingLaws.on_ok, UsedLaws.instance_goes, UsedLaws.instance_stops, ScopeLaws.world_with}
 use Rattle.read_follow.proofs.seeing.see_instance.Goals as goal
 
 pub returns-in-Ok-used_view-clause-seen : goal.returns-in-Ok-used_view-clause-seen

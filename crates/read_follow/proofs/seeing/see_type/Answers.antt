@@ -2,8 +2,7 @@ use Rattle.std.proofs.Common.{◌∙◌, sym, ◌+◌}
 use Rattle.read_follow.specs.declared.scopes.Seen.{Seen}
 use Rattle.read_follow.specs.declared.scopes.Shown.TheVariants as shown
 use Rattle.read_follow.specs.Scopes.{world_of}
-use Rattle.read_follow.proofs.SeeLaws.{type_goes, type_stops}
-use Rattle.read_follow.proofs.ScopeLaws.{world_with}
+use Rattle.read_follow.proofs.{SeeLaws.type_goes, SeeLaws.type_stops, ScopeLaws.world_with}
 use Rattle.read_follow.proofs.seeing.see_type.Goals as goal
 
 pub returns-in_ok-push-in-Ok-2-clause-seen : goal.returns-in_ok-push-in-Ok-2-clause-seen

@@ -1,5 +1,4 @@
-use Rattle.std.proofs.Common.{◌∙◌, ap, ◌∷◌, [], ◌+◌, drop, map, List}
-use Rattle.std.proofs.lemmas.List.{map-append}
+use Rattle.std.proofs.{Common.◌∙◌, Common.ap, Common.◌∷◌, Common.[], Common.◌+◌, Common.drop, Common.map, Common.List, lemmas.List.map-append}
 use Rattle.comp_meaning.specs.Follow.{each}
 use Rattle.read_follow.specs.PartTypes.{IsWholePart}
 use Rattle.read_parts.specs.declared.exported.ExportedPart.{ExportedPart}

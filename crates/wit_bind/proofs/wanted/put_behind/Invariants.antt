@@ -1,5 +1,4 @@
-use Rattle.wit_bind.specs.{Choices.choice_of, KeyLists.member_entries}
-use Rattle.wit_bind.specs.Tables.{Stands}
+use Rattle.wit_bind.specs.{Choices.choice_of, KeyLists.member_entries, Tables.Stands}
 use Rattle.wit_bind.proofs.Putting.{IsLeft}
 use Rattle.wit_bind.proofs.wanted.put_behind.Given as goal
 

@@ -1,5 +1,4 @@
-use Rattle.std.proofs.Common.{sym, subst, ◌∙◌, ℕ, false, List}
-use Rattle.std.proofs.lemmas.Result.{IfErr-weaker, IfOk-weaker}
+use Rattle.std.proofs.{Common.sym, Common.subst, Common.◌∙◌, Common.ℕ, Common.false, Common.List, lemmas.Result.IfErr-weaker, lemmas.Result.IfOk-weaker}
 use Rattle.comp_read.specs.Decoded.{IsDecoded, RefusesBytes}
 use Rattle.wit_encode.specs.Packages.{MeansPackage, SpellsPackageAt}
 use Rattle.wit_component.specs.ReadBack.{IsReadBack, RefusesReadBack}

@@ -1,5 +1,4 @@
-use Rattle.std.proofs.Common.{◌≡◌, ap, ◌∙◌, ℕ, length, [], Result, Err, rules}
-use Rattle.std.proofs.lemmas.Bool.{lt-ltb}
+use Rattle.std.proofs.{Common.◌≡◌, Common.ap, Common.◌∙◌, Common.ℕ, Common.length, Common.[], Common.Result, Common.Err, Common.rules, lemmas.Bool.lt-ltb}
 use Rattle.wit_model.specs.declared.error.Error.{Error}
 use Rattle.comp_bytes.specs.Raw.{Declaration, Declarations, append}
 use Rattle.wit_model.proofs.OnePath.{found-in}

@@ -1,5 +1,4 @@
-use Rattle.std.proofs.Common.{◌∙◌, sym, ap, subst, List, ℕ}
-use Rattle.std.proofs.lemmas.Bool.{true≢false}
+use Rattle.std.proofs.{Common.◌∙◌, Common.sym, Common.ap, Common.subst, Common.List, Common.ℕ, lemmas.Bool.true≢false}
 use Rattle.wit_model.proofs.{VersionLaws.same_text, TextLemmas.text_same}
 use Rattle.comp_bytes.specs.Frames.{IsCustom}
 use Rattle.wit_metadata.specs.Encodings.{section_name}

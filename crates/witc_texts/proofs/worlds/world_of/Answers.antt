@@ -1,5 +1,4 @@
-use Rattle.std.proofs.Common.{refl, Some, None}
-use Rattle.std.proofs.lemmas.Option.{slice_get_read}
+use Rattle.std.proofs.{Common.refl, Common.Some, Common.None, lemmas.Option.slice_get_read}
 use Rattle.witc_texts.proofs.NamedLaws.{found}
 use Rattle.witc_texts.proofs.worlds.world_of.Goals as goal
 

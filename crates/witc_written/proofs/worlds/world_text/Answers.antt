@@ -1,5 +1,4 @@
-use Rattle.std.proofs.Common.{◌≡◌, ◌∙◌, sym, subst, true, ℕ}
-use Rattle.std.proofs.lemmas.Option.{slice_get_within}
+use Rattle.std.proofs.{Common.◌≡◌, Common.◌∙◌, Common.sym, Common.subst, Common.true, Common.ℕ, lemmas.Option.slice_get_within}
 use Rattle.std.specs.{Prelude.Vec, List.list_all}
 use Rattle.std.specs.declared.alloc.Global.{Global}
 use Rattle.wit_model.specs.declared.{error.Error.Error, error.Error.TheVariants.Memory, model.PackageId.PackageId}

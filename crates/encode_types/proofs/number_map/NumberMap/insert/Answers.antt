@@ -1,5 +1,4 @@
-use Rattle.std.proofs.Common.{ℕ, sym, subst, ◌++◌, ◌∷◌, []}
-use Rattle.std.proofs.lemmas.List.Elements.{Contains-append_right}
+use Rattle.std.proofs.{Common.ℕ, Common.sym, Common.subst, Common.◌++◌, Common.◌∷◌, Common.[], lemmas.List.Elements.Contains-append_right}
 use Rattle.std.specs.{Prelude.IsPermutation, List.Contains}
 use Rattle.encode_types.specs.NumberMaps.{NumberEntries}
 use Rattle.encode_types.proofs.{Tables.number-inserted, Ascending.ascending-push, Ascending.pushed-first, Ascending.pushed-second}

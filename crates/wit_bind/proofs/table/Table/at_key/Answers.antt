@@ -1,7 +1,6 @@
 use Rattle.std.proofs.Common.{◌≡◌, sym, ap, subst, ◌∙◌, ℕ, Option, Some, option_and_then, slice_get}
 use Rattle.wit_model.specs.Text.{Text, text_of, text_eq}
-use Rattle.wit_bind.specs.{Cuts.has_slash, Cuts.text_under, Encodings.encoding_at}
-use Rattle.wit_bind.specs.Tables.{front_text, IsFront, number_at}
+use Rattle.wit_bind.specs.{Cuts.has_slash, Cuts.text_under, Encodings.encoding_at, Tables.front_text, Tables.IsFront, Tables.number_at}
 use Rattle.wit_bind.proofs.{TableKeys.front_there, TableMeet.number_there}
 use Rattle.wit_bind.proofs.table.Table.at_key.Goals as goal
 

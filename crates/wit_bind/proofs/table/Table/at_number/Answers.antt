@@ -1,8 +1,7 @@
 use Rattle.std.proofs.Common.{◌≡◌, sym, ap, ◌∙◌, map, None, Some}
 use Rattle.wit_model.specs.Text.{Text, text_of}
 use Rattle.wit_bind.specs.declared.table.Place.{Place}
-use Rattle.wit_bind.specs.{Cuts.text_under, Encodings.encoding_at}
-use Rattle.wit_bind.specs.Tables.{Fronts, number_at, TableValue, whole_entries}
+use Rattle.wit_bind.specs.{Cuts.text_under, Encodings.encoding_at, Tables.Fronts, Tables.number_at, Tables.TableValue, Tables.whole_entries}
 use Rattle.wit_bind.proofs.{Kept.kept_at, Kept.under, TableEntries.found, TableEntries.nothing_under, TableKeys.front_there}
 use Rattle.wit_bind.proofs.table.Table.at_number.Goals as goal
 

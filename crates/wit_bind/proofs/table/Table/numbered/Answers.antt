@@ -3,8 +3,7 @@ use Rattle.std.specs.Prelude.{string_eq}
 use Rattle.std.specs.declared.alloc.Global.{Global}
 use Rattle.indexmap.specs.IndexSet.{insert_key}
 use Rattle.wit_model.specs.Text.{text_of}
-use Rattle.wit_bind.specs.Encodings.{kept_encodings}
-use Rattle.wit_bind.specs.Tables.{Keeps, number_at, TableValue}
+use Rattle.wit_bind.specs.{Encodings.kept_encodings, Tables.Keeps, Tables.number_at, Tables.TableValue}
 use Rattle.wit_bind.proofs.{TableEntries.table_kept, TableEntries.whole_kept, TableMeet.key_stands, TableMeet.keys_stay}
 use Rattle.wit_bind.proofs.table.Table.numbered.Goals as goal
 

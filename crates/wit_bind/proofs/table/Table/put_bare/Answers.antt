@@ -1,7 +1,6 @@
 use Rattle.std.proofs.Common.{sym, ap, subst, ◌∙◌, [], ◌∷◌, OnOk}
 use Rattle.wit_model.specs.Text.{Text}
-use Rattle.wit_bind.specs.{Cuts.has_slash, Cuts.text_under, KeyLists.Puts}
-use Rattle.wit_bind.specs.Tables.{front_text, IsFront}
+use Rattle.wit_bind.specs.{Cuts.has_slash, Cuts.text_under, KeyLists.Puts, Tables.front_text, Tables.IsFront}
 use Rattle.wit_bind.proofs.TableEntries.{number_proper}
 use Rattle.wit_bind.proofs.table.Table.put_bare.Goals as goal
 
