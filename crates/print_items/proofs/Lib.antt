@@ -13,7 +13,7 @@ pub mod DocLines
 pub mod ShownWell
 -- What is shown of a type number is well named, if its parts stand before it. Serves Declared, TypeParts; crates above.
 pub mod TypesWell
--- What is shown of a type number: its name, or the calls for its kind part by part. Serves type_name::types, type_name::write_type.
+-- What is shown of a type number: its name, or the calls for its kind part by part. Serves type_name::types, type_name::write_type; crates above.
 pub mod TypeParts
 -- Declared types, part by part. Serves alias::write_kind_behind, alias::write_type_alias, labels::write_enum, labels::write_flags and 2 more; crates above.
 pub mod Declared
