@@ -51,49 +51,38 @@ encode_instance-requires-clause-around c =
 
 pub returns : goal.returns
 returns c =
-    let r = c.args.resolve.now in
-    let before = c.import_dependencies.new.encoder in
-    let after = c.encode_instance.new.self in
-    let same = c.import_dependencies.ensures.resolve ∙ c.new-encoder.ensures.resolve in
-    let found = found-in r.interfaces.items c.args.interface.0 (lt-ltb c.args.interface.0 (length r.interfaces.items) (path-in-range r c.args.interface.0 c.requires.named)) in
-    let encodes = subst (λ (q : Resolve). EncodesInterface q (outside before) (outside after) c.args.interface found.0 c.in_ok-slot.slot) same
-    (c.in_ok-slot.ensures.ok found.0 (ap (λ (q : Resolve). interface_at q c.args.interface.0) same ∙ found.1)) in
-    let q = c.new-encoder.result.resolve.now in
+    let own = c.args.interface in let new = c.new-encoder in let ns = map (λ (id : InterfaceId). id.0) c.in_ok-reached.reached.items in
+    let ids = map (λ (id : InterfaceId). id.0) c.deref-2.result.now in let canonical = c.args.canonical_names in let done = c.in_ok-import_dependencies.ensures in
+    let r = c.args.resolve.now in let before = c.import_dependencies.new.encoder in let after = c.encode_instance.new.self in let q = new.result.resolve.now in
+    let same = c.import_dependencies.ensures.resolve ∙ new.ensures.resolve in
+    let found = found-in r.interfaces.items own.0 (lt-ltb own.0 (length r.interfaces.items) (path-in-range r own.0 c.requires.named)) in
+    let encodes = subst (λ (q : Resolve). EncodesInterface q (outside before) (outside after) own found.0 c.in_ok-slot.slot) same
+    (c.in_ok-slot.ensures.ok found.0 (ap (λ (q : Resolve). interface_at q own.0) same ∙ found.1)) in
+    let at = c.in_ok-export.ensures.ok ∙ ap (λ n. append after.outer (Declarations.declares (Declaration.exported n (refs.Instance c.in_ok-slot.slot)) Declarations.no_more)) c.in_ok-name.ensures.ok in
     record {
       shows = λ path is.
-          let imported = moved r c.new-encoder.result.resolve.now c.in_ok-reached.reached.items c.deref-2.result.now (outside before) c.new-encoder.ensures.resolve c.deref-2.ensures.value
-          c.in_ok-import_dependencies.ensures.imported in
-          subst (ShowsComponent r c.args.interface.0 path)
-          (sym (c.in_ok-export.ensures.ok ∙ ap (λ n. append after.outer (Declarations.declares (Declaration.exported n (refs.Instance c.in_ok-slot.slot)) Declarations.no_more))
-          c.in_ok-name.ensures.ok))
-          (exports_end r c.args.canonical_names (outside before) (outside after) (map (λ (id : InterfaceId). id.0) c.in_ok-reached.reached.items) c.args.interface found.0 path c.in_ok-slot.slot
-          c.requires.valid is imported c.in_ok-reached.ensures.reached encodes);
+          let imported = moved r new.result.resolve.now c.in_ok-reached.reached.items c.deref-2.result.now (outside before) new.ensures.resolve c.deref-2.ensures.value done.imported in
+          subst (ShowsComponent r own.0 path) (sym at) (exports_end r canonical (outside before) (outside after) ns own found.0 path c.in_ok-slot.slot c.requires.valid is imported
+          c.in_ok-reached.ensures.reached encodes);
       names =
-          let start = c.new-encoder.result.outer in
-          let named = subst (λ (q : Resolve). NamesInterfaces q c.args.canonical_names (map (λ (id : InterfaceId). id.0) c.deref-2.result.now) start before.outer) c.new-encoder.ensures.resolve
-          c.in_ok-import_dependencies.ensures.named in
-          all-named r c.args.canonical_names (outside before) (outside after) (map (λ (id : InterfaceId). id.0) c.deref-2.result.now) c.args.interface found.0 c.in_ok-slot.slot start c.export.new.self
-          c.new-encoder.ensures.outer named (ap (map (λ (id : InterfaceId). id.0)) c.deref-2.ensures.value ∙ c.in_ok-reached.ensures.order) encodes
-          (c.in_ok-export.ensures.ok ∙ ap (λ n. append after.outer (Declarations.declares (Declaration.exported n (refs.Instance c.in_ok-slot.slot)) Declarations.no_more)) c.in_ok-name.ensures.ok);
+          let start = new.result.outer in
+          let named = subst (λ (q : Resolve). NamesInterfaces q canonical ids start before.outer) new.ensures.resolve done.named in
+          all-named r canonical (outside before) (outside after) ids own found.0 c.in_ok-slot.slot start c.export.new.self new.ensures.outer named
+          (ap (map (λ (id : InterfaceId). id.0)) c.deref-2.ensures.value ∙ c.in_ok-reached.ensures.order) encodes at;
       once =
-          let defined = subst (λ (q : Resolve). DefinesImports q before.outer (map (λ (id : InterfaceId). id.0) c.deref-2.result.now)) c.new-encoder.ensures.resolve
-          (c.in_ok-import_dependencies.ensures.once (nothing-defined q c.new-encoder.result.outer c.new-encoder.ensures.outer)) in
-          export-defines r c.args.canonical_names (outside before) (outside after) c.args.interface found.0 c.in_ok-slot.slot c.export.new.self encodes
-          (c.in_ok-export.ensures.ok ∙ ap (λ n. append after.outer (Declarations.declares (Declaration.exported n (refs.Instance c.in_ok-slot.slot)) Declarations.no_more)) c.in_ok-name.ensures.ok)
-          (map (λ (id : InterfaceId). id.0) c.deref-2.result.now) found.1 (ap (map (λ (id : InterfaceId). id.0)) c.deref-2.ensures.value ∙ c.in_ok-reached.ensures.order) defined
-          (subst (λ (q : Resolve). HasImported q (outside before) (map (λ (id : InterfaceId). id.0) c.deref-2.result.now)) c.new-encoder.ensures.resolve c.in_ok-import_dependencies.ensures.imported)
-          (subst (λ (q : Resolve). HasImportAliases q (outside before) (map (λ (id : InterfaceId). id.0) c.deref-2.result.now)) c.new-encoder.ensures.resolve
-          (c.in_ok-import_dependencies.ensures.aliases (nothing-aliased q (IsMetAmong q []) (outside c.new-encoder.result) c.new-encoder.ensures.outer)));
+          let defined = subst (λ (q : Resolve). DefinesImports q before.outer ids) new.ensures.resolve (done.once (nothing-defined q new.result.outer new.ensures.outer)) in
+          export-defines r canonical (outside before) (outside after) own found.0 c.in_ok-slot.slot c.export.new.self encodes at ids found.1
+          (ap (map (λ (id : InterfaceId). id.0)) c.deref-2.ensures.value ∙ c.in_ok-reached.ensures.order) defined
+          (subst (λ (q : Resolve). HasImported q (outside before) ids) new.ensures.resolve done.imported)
+          (subst (λ (q : Resolve). HasImportAliases q (outside before) ids) new.ensures.resolve (done.aliases (nothing-aliased q (IsMetAmong q []) (outside new.result) new.ensures.outer)));
       differ = search rules;
       light =
-          let ns = map (λ (id : InterfaceId). id.0) c.in_ok-reached.reached.items in
-          let imports = subst (λ (xs : List InterfaceId). AddsBytes (imports_extent q c.args.canonical_names (map (λ (id : InterfaceId). id.0) xs)) c.new-encoder.result.outer before.outer)
-          c.deref-2.ensures.value c.in_ok-import_dependencies.ensures.written in
-          component-few r before.resolve.now c.requires.valid c.args.interface ns c.args.canonical_names (c.import_dependencies.ensures.resolve ∙ c.new-encoder.ensures.resolve) c.requires.named
-          c.in_ok-reached.ensures.reached c.new-encoder.result.outer before.outer c.export.new.self c.new-encoder.ensures.outer
-          (subst (λ (z : Resolve). AddsBytes (imports_extent z c.args.canonical_names ns) c.new-encoder.result.outer before.outer) (sym c.import_dependencies.ensures.resolve) imports)
-          (adds-described (whole_instance_weight before.resolve.now c.args.interface.0) before.outer after.outer c.export.new.self _ _ (name_of_interface r c.args.canonical_names c.args.interface.0)
-          c.in_ok-slot.ensures.written c.in_ok-export.ensures.ok (bytes-few.exports _ (refs.Instance c.in_ok-slot.slot)) c.in_ok-name.ensures.ok);
+          let imports = subst (λ (xs : List InterfaceId). AddsBytes (imports_extent q canonical (map (λ (id : InterfaceId). id.0) xs)) new.result.outer before.outer) c.deref-2.ensures.value
+          done.written in
+          component-few r before.resolve.now c.requires.valid own ns canonical (c.import_dependencies.ensures.resolve ∙ new.ensures.resolve) c.requires.named c.in_ok-reached.ensures.reached
+          new.result.outer before.outer c.export.new.self new.ensures.outer (subst (λ (z : Resolve). AddsBytes (imports_extent z canonical ns) new.result.outer before.outer)
+          (sym c.import_dependencies.ensures.resolve) imports) (adds-described (whole_instance_weight before.resolve.now own.0) before.outer after.outer c.export.new.self _ _
+          (name_of_interface r canonical own.0) c.in_ok-slot.ensures.written c.in_ok-export.ensures.ok (bytes-few.exports _ (refs.Instance c.in_ok-slot.slot)) c.in_ok-name.ensures.ok);
       size = search rules;
       refuses = search rules;
     }

@@ -32,17 +32,16 @@ returns-in_err-add_worlds-clause-refuses c = package-at c.args.resolve.now c.arg
 
 pub returns : goal.returns
 returns c =
+    let id = c.args.package.0 in let names = c.args.canonical_names in let first = c.in_ok-builder.builder in let end = c.add_worlds.new.builder in
     let r = c.args.resolve.now in
     let own = c.index-own.result.now in
-    let at : package_at r c.args.package.0 ≡ Some own = slice_get_read _ _ _ _ refl c.requires.in_range c.index-own.ensures in
+    let at : package_at r id ≡ Some own = slice_get_read _ _ _ _ refl c.requires.in_range c.index-own.ensures in
     record {
-      means = λ p is some. parts-mean r c.requires.valid c.args.package.0 p is c.args.canonical_names c.add_worlds.new.builder
-          (subst (λ (q : Package). HoldsPackage r c.args.canonical_names q c.add_worlds.new.builder) (some-same own p (sym at ∙ is))
-          (package-held r c.requires.valid c.args.package.0 own at c.args.canonical_names c.in_ok-builder.builder c.add_worlds.new.builder c.in_ok-builder.ensures.holds
-          c.in_ok-add_worlds.ensures.adds)) some;
-      holds = λ p is. subst (λ (q : Package). HoldsPackage r c.args.canonical_names q c.add_worlds.new.builder) (some-same own p (sym at ∙ is))
-          (package-held r c.requires.valid c.args.package.0 own at c.args.canonical_names c.in_ok-builder.builder c.add_worlds.new.builder c.in_ok-builder.ensures.holds
-          c.in_ok-add_worlds.ensures.adds);
+      means = λ p is some. parts-mean r c.requires.valid id p is names end
+          (subst (λ (q : Package). HoldsPackage r names q end) (some-same own p (sym at ∙ is))
+          (package-held r c.requires.valid id own at names first end c.in_ok-builder.ensures.holds c.in_ok-add_worlds.ensures.adds)) some;
+      holds = λ p is. subst (λ (q : Package). HoldsPackage r names q end) (some-same own p (sym at ∙ is))
+          (package-held r c.requires.valid id own at names first end c.in_ok-builder.ensures.holds c.in_ok-add_worlds.ensures.adds);
       differ = λ asked p is. subst (HasNoClashes r) (some-same own p (sym at ∙ is)) (record { interfaces = c.in_ok-builder.ensures.differ asked; worlds = c.in_ok-add_worlds.ensures.differ asked });
       size = search rules;
       refuses = search rules;

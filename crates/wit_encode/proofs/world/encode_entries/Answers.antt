@@ -27,35 +27,27 @@ encode_items-requires-2-clause-begins c = record {
 
 pub returns : goal.returns
 returns c =
-    let r = c.args.resolve.now in
+    let last = c.encode_items-2.new.self in let first = c.in_ok-encode_items.ensures in let second = c.in_ok-encode_items-2.ensures in let new = c.new-encoder.ensures in
+    let canonical = c.args.canonical_names in let own = c.index-def.result.now in let at = there (goal.at.returns c).After-index-def in let r = c.args.resolve.now in
     record {
-      shows = λ w is. world-shown c.args.resolve.now c.requires.valid w c.encode_items-2.new.self
-          (c.in_ok-encode_items-2.ensures.ok w (c.in_ok-encode_items.ensures.ok w (c.new-encoder.ensures.starts w is)));
+      shows = λ w is. world-shown r c.requires.valid w last (second.ok w (first.ok w (new.starts w is)));
       once = λ w is.
-          let same : c.index-def.result.now ≡ w = some-same c.index-def.result.now w (sym (there (goal.at.returns c).After-index-def) ∙ is) in
-          let imported = subst (λ (z : World). HasDefined r c.encode_items.new.self z.imports.entries) same (c.in_ok-encode_items.ensures.once [] c.new-encoder.ensures.defines) in
-          let exported = subst (λ (z : World). HasDefined r c.encode_items-2.new.self (w.imports.entries ++ z.exports.entries)) same (c.in_ok-encode_items-2.ensures.once w.imports.entries imported) in
-          defines-once r c.requires.valid w c.encode_items-2.new.self (ended export_ w) (c.in_ok-encode_items-2.ensures.ok w (c.in_ok-encode_items.ensures.ok w (c.new-encoder.ensures.starts
-          w is))) exported (c.in_ok-encode_items-2.ensures.places (c.in_ok-encode_items.ensures.places (subst (λ (z : Declarations). are_beside 0 z ≡ true) (sym c.new-encoder.ensures.empty) refl)));
+          let same : own ≡ w = some-same own w (sym at ∙ is) in
+          let imported = subst (λ (z : World). HasDefined r c.encode_items.new.self z.imports.entries) same (first.once [] new.defines) in
+          let exported = subst (λ (z : World). HasDefined r last (w.imports.entries ++ z.exports.entries)) same (second.once w.imports.entries imported) in
+          defines-once r c.requires.valid w last (ended export_ w) (second.ok w (first.ok w (new.starts w is))) exported
+          (second.places (first.places (subst (λ (z : Declarations). are_beside 0 z ≡ true) (sym new.empty) refl)));
       light =
-          let w = c.index-def.result.now in
-          let at = there (goal.at.returns c).After-index-def in
-          let after = c.encode_items-2.new.self in
-          let shown = c.in_ok-encode_items-2.ensures.ok w (c.in_ok-encode_items.ensures.ok w (c.new-encoder.ensures.starts w at)) in
-          let exported : HasDefined r after (w.imports.entries ++ w.exports.entries) =
-          c.in_ok-encode_items-2.ensures.once w.imports.entries (c.in_ok-encode_items.ensures.once [] c.new-encoder.ensures.defines) in
-          let both = sum_by-append (item_extent r c.args.canonical_names) w.imports.entries w.exports.entries in
-          world-few r c.requires.valid c.args.world w at c.args.canonical_names exported.began c.new-encoder.result.maps after.maps c.new-encoder.result.outer after.outer shown.agree.once
-          exported.no_numbers exported.learns.only c.new-encoder.ensures.empty
-          (learnt-most (omega (arith, both)) (learnt-then c.in_ok-encode_items.ensures.written c.in_ok-encode_items-2.ensures.written));
+          let shown = second.ok own (first.ok own (new.starts own at)) in
+          let exported : HasDefined r last (own.imports.entries ++ own.exports.entries) = second.once own.imports.entries (first.once [] new.defines) in
+          let both = sum_by-append (item_extent r canonical) own.imports.entries own.exports.entries in
+          world-few r c.requires.valid c.args.world own at canonical exported.began c.new-encoder.result.maps last.maps c.new-encoder.result.outer last.outer shown.agree.once exported.no_numbers
+          exported.learns.only new.empty (learnt-most (omega (arith, both)) (learnt-then first.written second.written));
       size = search rules;
       names = λ w is.
-          let same : c.index-def.result.now ≡ w = some-same c.index-def.result.now w (sym (there (goal.at.returns c).After-index-def) ∙ is) in
-          subst (λ (z : World). WritesNames c.args.resolve.now c.args.canonical_names z c.encode_items-2.new.self.outer) same
-          (subst (λ (ds : Declarations). NamesMore c.args.resolve.now c.args.canonical_names (c.index-def.result.now.imports.entries ++ c.index-def.result.now.exports.entries) ds
-          c.encode_items-2.new.self.outer) c.new-encoder.ensures.empty
-          (names-then c.args.resolve.now c.args.canonical_names c.index-def.result.now.imports.entries c.index-def.result.now.exports.entries c.new-encoder.result.outer c.encode_items.new.self.outer
-          c.encode_items-2.new.self.outer c.in_ok-encode_items.ensures.names c.in_ok-encode_items-2.ensures.names));
+          let same : own ≡ w = some-same own w (sym at ∙ is) in
+          subst (λ (z : World). WritesNames r canonical z last.outer) same (subst (λ (ds : Declarations). NamesMore r canonical (own.imports.entries ++ own.exports.entries) ds last.outer) new.empty
+          (names-then r canonical own.imports.entries own.exports.entries c.new-encoder.result.outer c.encode_items.new.self.outer last.outer first.names second.names));
       refuses = search rules;
     }
 

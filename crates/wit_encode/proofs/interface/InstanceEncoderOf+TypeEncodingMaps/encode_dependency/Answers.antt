@@ -32,11 +32,9 @@ encode_part-requires-clause-listed c = record {
 
 pub returns-clause-ok : goal.returns-clause-ok
 returns-clause-ok c =
-    let r = c.args.self.now.resolve.now in
-    ok-then c.encode_part.result (λ k. (def : Interface) → interface_at r c.args.interface.0 ≡ Some def
-    → EncodesPart r (outside c.args.self.now) (outside c.encode_part.new.self) c.args.interface def [] [] k)
-    (λ k. (def : Interface) → interface_at r c.args.interface.0 ≡ Some def → EncodesDependency r (outside c.args.self.now) (outside c.encode_part.new.self) c.args.interface def k)
-    (λ k all def is. types-alone r (outside c.args.self.now) (outside c.encode_part.new.self) c.args.interface def [] k refl (all def is)) c.encode_part.ensures.ok
+    let r = c.args.self.now.resolve.now in let start = outside c.args.self.now in let id = c.args.interface in let end = outside c.encode_part.new.self in
+    ok-then c.encode_part.result (λ k. (def : Interface) → interface_at r id.0 ≡ Some def → EncodesPart r start end id def [] [] k)
+    (λ k. (def : Interface) → interface_at r id.0 ≡ Some def → EncodesDependency r start end id def k) (λ k all def is. types-alone r start end id def [] k refl (all def is)) c.encode_part.ensures.ok
 
 pub returns-clause-size : goal.returns-clause-size
 returns-clause-size c = λ h def is.

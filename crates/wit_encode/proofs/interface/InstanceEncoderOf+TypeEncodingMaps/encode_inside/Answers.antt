@@ -57,52 +57,41 @@ counted : (c : In_ok-outcome-in-Some) → Began c.replace-saved.new.dest
     → Counted c.args.self.now.resolve.now c.args.interface (stands_inside c.args.self.now.resolve.now c.args.interface c.encode_parts-outcome.new.self.outer c.in-Some.current.declared)
     c.encode_parts-outcome.new.self.maps (map (λ f. f.2.now) c.args.functions.now) c.args.types.now c.in-Some.current.declared
 counted c new continues =
-    let r = c.args.self.now.resolve.now in
+    let start = c.args.self.now.outer in let own = c.args.interface in let is = sym c.replace-inner.ensures.value ∙ c.in-Some.is in let first = c.replace-saved.new.dest in
+    let known = c.args.self.now.foreign in let more = c.in_ok-outcome-in-Some.ensures in let ts = c.args.types.now in let r = c.args.self.now.resolve.now in
     let after = c.encode_parts-outcome.new.self in
     let fs : List Function = map (λ f. f.2.now) c.args.functions.now in
-    let there = closed r c.args.self.now.outer after.outer c.args.interface c.args.self.now.foreign after.inner c.in-Some.current _ _ (sym c.replace-inner.ensures.value ∙ c.in-Some.is)
-    c.encode_parts-outcome.ensures.continues.inside continues in
-    closed-counts r c.requires.valid c.args.self.now.outer after.outer c.args.interface c.args.self.now.foreign after.inner c.in-Some.current _ _ fs c.args.types.now
-    (sym c.replace-inner.ensures.value ∙ c.in-Some.is) new
-    (interface-kinds r _ (Some c.args.interface) c.replace-saved.new.dest after.maps _ _ c.args.types.now fs new c.in_ok-outcome-in-Some.ensures.counts c.in_ok-outcome-in-Some.ensures.learns
-    c.in_ok-outcome-in-Some.ensures.known c.encode_parts-outcome.ensures.continues.continues.agree.once c.requires.valid)
-    (subst (λ (o : Option OpenInterface). AddsFunctions c.args.self.now.resolve.now (encoder_scope c.args.self.now.resolve.now c.args.self.now.outer o)
-    c.replace-saved.new.dest after.maps (definitions_with (contents_of c.args.self.now.resolve.now c.args.self.now.outer o))
-    (definitions_with (contents_of c.args.self.now.resolve.now after.outer after.inner)) fs)
-    (opened-with c.args.interface c.new-2.result c.replace-foreign.result c.args.self.now.foreign c.new-2.ensures c.replace-foreign.ensures.value) c.in_ok-outcome-in-Some.ensures.counts)
-    (subst (λ (z : Contents). MapsAgree r after.maps (SlotsStand z.slots)) there.at continues.agree) (first_true _ _ there.sound) c.in_ok-outcome-in-Some.ensures.defined
+    let there = closed r start after.outer own known after.inner c.in-Some.current _ _ is c.encode_parts-outcome.ensures.continues.inside continues in
+    closed-counts r c.requires.valid start after.outer own known after.inner c.in-Some.current _ _ fs ts is new
+    (interface-kinds r _ (Some own) first after.maps _ _ ts fs new more.counts more.learns more.known c.encode_parts-outcome.ensures.continues.continues.agree.once c.requires.valid)
+    (subst (λ (o : Option OpenInterface). AddsFunctions r (encoder_scope r start o) first after.maps (definitions_with (contents_of r start o))
+    (definitions_with (contents_of r after.outer after.inner)) fs) (opened-with own c.new-2.result c.replace-foreign.result known c.new-2.ensures c.replace-foreign.ensures.value) more.counts)
+    (subst (λ (z : Contents). MapsAgree r after.maps (SlotsStand z.slots)) there.at continues.agree) (first_true _ _ there.sound) more.defined
 
 pub returns : goal.returns
 returns c =
-    let after = c.encode_parts-outcome.new.self in
-    let made = counted c (began (goal.at.returns c).In-Some) (continued (goal.at.returns c).In-Some) in
+    let r = c.args.self.now.resolve.now in let start = c.args.self.now.outer in let own = c.args.interface in let is = sym c.replace-inner.ensures.value ∙ c.in-Some.is in
+    let first = c.replace-saved.new.dest in let ts = c.args.types.now in let after = c.encode_parts-outcome.new.self in
+    let new = began (goal.at.returns c).In-Some in
+    let continues = continued (goal.at.returns c).In-Some in
+    let made = counted c new continues in
     record {
       closed = search rules;
       resolve = search rules;
       reaches = around-grown (goal.at.returns c).In-Some;
       maps = search rules;
       ok =
-          let r = c.args.self.now.resolve.now in
-          let known = c.args.self.now.foreign in
-          let continues = continued (goal.at.returns c).In-Some in
-          let shows = subst (λ (o : Option OpenInterface). (contents_of c.args.self.now.resolve.now after.outer after.inner).shown.functions
-          ≡ (contents_of c.args.self.now.resolve.now c.args.self.now.outer o).shown.functions ++ map (λ f. meaning_of c.args.self.now.resolve.now (placed_function f)) c.args.functions.now)
-          (begun (goal.at.returns c).After-new-2) c.in_ok-outcome-in-Some.ensures.shows in
-          closed-instance r c.requires.valid c.args.self.now.outer after.outer c.args.interface c.requires.listed.def (listed-there r c.args.interface c.args.types.now c.requires.listed)
-          known after.inner
-          c.in-Some.current _ _ _ (sym c.replace-inner.ensures.value ∙ c.in-Some.is) c.encode_parts-outcome.ensures.continues.inside continues shows c.in_ok-outcome-in-Some.ensures.exported;
+          let shows = subst (λ (o : Option OpenInterface). (contents_of r after.outer after.inner).shown.functions ≡ (contents_of r start o).shown.functions
+          ++ map (λ f. meaning_of r (placed_function f)) c.args.functions.now) (begun (goal.at.returns c).After-new-2) c.in_ok-outcome-in-Some.ensures.shows in
+          closed-instance r c.requires.valid start after.outer own c.requires.listed.def (listed-there r own ts c.requires.listed) c.args.self.now.foreign after.inner c.in-Some.current _ _ _ is
+          c.encode_parts-outcome.ensures.continues.inside continues shows c.in_ok-outcome-in-Some.ensures.exported;
       function_types = made.keys;
       value_types = made.types;
-      few =
-          let new = began (goal.at.returns c).In-Some in
-          declares-few c.args.self.now.resolve.now c.args.interface c.args.types.now c.args.functions.now c.replace-saved.new.dest after.maps after.outer after.inner c.new-2.result
-          c.in-Some.current new
-          c.new-2.ensures (sym c.replace-inner.ensures.value ∙ c.in-Some.is) c.in_ok-outcome-in-Some.ensures.learns.only c.in_ok-outcome-in-Some.ensures.held
-          (counted c new (continued (goal.at.returns c).In-Some)).known;
-      places = subst (λ (o : Option OpenInterface). StandInOrder (declared_inside o)) (sym c.replace-inner.ensures.value ∙ c.in-Some.is) (c.in_ok-outcome-in-Some.ensures.places c.new-2.ensures);
-      written = taken c.args.self.now.resolve.now c.args.interface _ _ c.replace-saved.new.dest after.maps c.args.self.now.outer after.outer after.inner c.new-2.result c.in-Some.current
-          (began (goal.at.returns c).In-Some).numbers c.new-2.ensures (sym c.replace-inner.ensures.value ∙ c.in-Some.is) c.encode_parts-outcome.ensures.continues.continues.agree.once
-          c.in_ok-outcome-in-Some.ensures.learns.only c.in_ok-outcome-in-Some.ensures.written.extent;
+      few = declares-few r own ts c.args.functions.now first after.maps after.outer after.inner c.new-2.result c.in-Some.current new c.new-2.ensures is
+          c.in_ok-outcome-in-Some.ensures.learns.only c.in_ok-outcome-in-Some.ensures.held made.known;
+      places = subst (λ (o : Option OpenInterface). StandInOrder (declared_inside o)) is (c.in_ok-outcome-in-Some.ensures.places c.new-2.ensures);
+      written = taken r own _ _ first after.maps start after.outer after.inner c.new-2.result c.in-Some.current new.numbers c.new-2.ensures is
+          c.encode_parts-outcome.ensures.continues.continues.agree.once c.in_ok-outcome-in-Some.ensures.learns.only c.in_ok-outcome-in-Some.ensures.written.extent;
       size = search rules;
       refuses = search rules;
     }

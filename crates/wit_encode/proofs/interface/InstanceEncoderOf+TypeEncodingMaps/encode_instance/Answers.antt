@@ -47,18 +47,16 @@ some-same a b e = cc
 
 pub returns-clause-ok : goal.returns-clause-ok
 returns-clause-ok c =
+    let start = outside c.args.self.now in let id = c.args.interface in let end = outside c.encode_part.new.self in let own = c.index-def.result.now in
     let at = there (goal.at.returns-clause-ok c).After-index-def in
     let r = c.args.self.now.resolve.now in
     let fs = c.deref-2.result.now in
-    ok-then c.encode_part.result (λ k. (def : Interface) → interface_at r c.args.interface.0 ≡ Some def
-    → EncodesPart r (outside c.args.self.now) (outside c.encode_part.new.self) c.args.interface def (map placed_function fs) (map (λ f. f.2.now) fs) k)
-    (λ k. (def : Interface) → interface_at r c.args.interface.0 ≡ Some def → EncodesInterface r (outside c.args.self.now) (outside c.encode_part.new.self) c.args.interface def k) (λ k all def is.
-    let is_def = some-same c.index-def.result.now def (sym at ∙ is) in
-    whole r c.requires.valid (outside c.args.self.now) (outside c.encode_part.new.self) c.args.interface def fs k is
-    (subst (λ (d : Interface). IsPermutation (map keyed d.functions.entries) (map placed_function fs)) is_def
-    (subst (λ xs. IsPermutation (map keyed c.index-def.result.now.functions.entries) (map placed_function xs)) (sym c.deref-2.ensures.value) c.in_ok-functions.ensures.all))
-    (ap (map placed_function) c.deref-2.ensures.value ∙ c.in_ok-functions.ensures.order ∙ ap functions_in_order is_def) (all def is))
-    c.encode_part.ensures.ok
+    ok-then c.encode_part.result (λ k. (def : Interface) → interface_at r id.0 ≡ Some def → EncodesPart r start end id def (map placed_function fs) (map (λ f. f.2.now) fs) k)
+    (λ k. (def : Interface) → interface_at r id.0 ≡ Some def → EncodesInterface r start end id def k) (λ k all def is.
+    let is_def = some-same own def (sym at ∙ is) in
+    whole r c.requires.valid start end id def fs k is (subst (λ (d : Interface). IsPermutation (map keyed d.functions.entries) (map placed_function fs)) is_def
+    (subst (λ xs. IsPermutation (map keyed own.functions.entries) (map placed_function xs)) (sym c.deref-2.ensures.value) c.in_ok-functions.ensures.all))
+    (ap (map placed_function) c.deref-2.ensures.value ∙ c.in_ok-functions.ensures.order ∙ ap functions_in_order is_def) (all def is)) c.encode_part.ensures.ok
 
 -- what is met from all that the interface refers to
 whole-met : (c : After-encode_part) (a : Around)

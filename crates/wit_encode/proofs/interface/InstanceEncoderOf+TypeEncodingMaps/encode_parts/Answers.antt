@@ -23,6 +23,7 @@ types-continue c = after-types c.args.resolve.now c.args.self.now.resolve.now c.
 
 pub returns : goal.returns
 returns c =
+    let e₀ = c.args.self.now in let e₁ = c.encode_types.new.self in let e₂ = c.encode_functions.new.self in
     let types = map (λ t. ty.Id t) c.args.types.now in
     let others = flat_map function_types (map (λ f. f.2.now) c.args.functions.now) in
     record {
@@ -34,34 +35,29 @@ returns c =
       aliases = makes-then (ap (λ (s : Scope). s.own_interface) c.encode_types.ensures.leaves.scope_stays) (met-more (reached-left types others) c.encode_types.ensures.aliases)
           (met-more (reached-right types others) c.encode_functions.ensures.aliases);
       shows = search rules;
-      counts = parts-counted c.encode_functions.result c.args.resolve.now c.args.self.now.resolve.now c.encode_types.new.self.resolve.now c.args.self.now.outer c.encode_types.new.self.outer
-          c.encode_functions.new.self.outer c.args.self.now.inner c.encode_types.new.self.inner c.encode_functions.new.self.inner c.args.self.now.maps c.encode_types.new.self.maps
-          c.encode_functions.new.self.maps (map (λ f. f.2.now) c.args.functions.now) c.requires.begins.packages_ c.encode_types.ensures.leaves.scope_stays c.in_ok-encode_types.ensures.counts
-          c.encode_functions.ensures.counts;
-      known = on_ok c.encode_functions.result _ _ (λ l. λ t h. known-grow c.encode_types.new.self.maps c.encode_functions.new.self.maps t.0 l.learns.grow
-          (c.in_ok-encode_types.ensures.known t h)) c.encode_functions.ensures.learns;
+      counts = parts-counted c.encode_functions.result c.args.resolve.now e₀.resolve.now e₁.resolve.now e₀.outer e₁.outer e₂.outer e₀.inner e₁.inner e₂.inner e₀.maps e₁.maps e₂.maps
+          (map (λ f. f.2.now) c.args.functions.now) c.requires.begins.packages_ c.encode_types.ensures.leaves.scope_stays c.in_ok-encode_types.ensures.counts c.encode_functions.ensures.counts;
+      known = on_ok c.encode_functions.result _ _ (λ l. λ t h. known-grow e₁.maps e₂.maps t.0 l.learns.grow (c.in_ok-encode_types.ensures.known t h)) c.encode_functions.ensures.learns;
       learns = on_ok c.encode_functions.result _ _ (λ l. from-then (ap (λ (s : Scope). s.own_interface) c.encode_types.ensures.leaves.scope_stays) c.in_ok-encode_types.ensures.learns l)
           c.encode_functions.ensures.learns;
-      exported = exported-after c.encode_functions.result c.args.resolve.now c.args.self.now.resolve.now c.encode_types.new.self.resolve.now c.args.self.now.outer c.encode_types.new.self.outer
-          c.encode_functions.new.self.outer c.args.self.now.inner c.encode_types.new.self.inner c.encode_functions.new.self.inner (declarations_in c.args.resolve.now (own_of c.args.self.now.inner))
-          c.requires.begins.packages_ c.encode_types.ensures.leaves.scope_stays c.in_ok-encode_types.ensures.exported c.encode_functions.ensures.types_stay;
-      defined = parts-named c.encode_functions.result c.args.resolve.now c.args.self.now.resolve.now c.encode_types.new.self.resolve.now c.args.self.now.outer
-          c.encode_types.new.self.outer c.args.self.now.inner c.encode_types.new.self.inner c.encode_types.new.self.maps c.encode_functions.new.self.maps _
-          c.encode_types.ensures.leaves.scope_stays c.in_ok-encode_types.ensures.defined c.encode_functions.ensures.names_stay;
+      exported = exported-after c.encode_functions.result c.args.resolve.now e₀.resolve.now e₁.resolve.now e₀.outer e₁.outer e₂.outer e₀.inner e₁.inner e₂.inner
+          (declarations_in c.args.resolve.now (own_of e₀.inner)) c.requires.begins.packages_ c.encode_types.ensures.leaves.scope_stays c.in_ok-encode_types.ensures.exported
+          c.encode_functions.ensures.types_stay;
+      defined = parts-named c.encode_functions.result c.args.resolve.now e₀.resolve.now e₁.resolve.now e₀.outer e₁.outer e₀.inner e₁.inner e₁.maps e₂.maps _ c.encode_types.ensures.leaves.scope_stays
+          c.in_ok-encode_types.ensures.defined c.encode_functions.ensures.names_stay;
       held = on-both c.encode_functions.result _ _ _ (λ l h. holds-most (omega arith)
           (holds-then (ap (λ (s : Scope). s.own_interface) c.encode_types.ensures.leaves.scope_stays) c.encode_types.ensures.leaves.maps_grow l.learns.grow c.in_ok-encode_types.ensures.held h))
           c.encode_functions.ensures.learns c.encode_functions.ensures.held;
-      places = on_ok c.encode_functions.result _ _ (λ p none. p (types-in-order c.args.self.now.resolve.now c.encode_types.new.self.resolve.now c.args.self.now.outer c.encode_types.new.self.outer
-          c.args.self.now.inner c.encode_types.new.self.inner c.requires.inside
-          (open-still c.args.self.now.inner c.encode_types.new.self.inner (ap (λ (s : Scope). s.own_interface) c.encode_types.ensures.leaves.scope_stays) c.requires.inside) none
-          c.encode_types.ensures.leaves.grows.own_ c.in_ok-encode_types.ensures.counts.functions)) c.encode_functions.ensures.places;
+      places = on_ok c.encode_functions.result _ _ (λ p none. p (types-in-order e₀.resolve.now e₁.resolve.now e₀.outer e₁.outer e₀.inner e₁.inner c.requires.inside
+          (open-still e₀.inner e₁.inner (ap (λ (s : Scope). s.own_interface) c.encode_types.ensures.leaves.scope_stays) c.requires.inside) none c.encode_types.ensures.leaves.grows.own_
+          c.in_ok-encode_types.ensures.counts.functions)) c.encode_functions.ensures.places;
       written = on_ok c.encode_functions.result _ _ (λ w. writes-most (omega arith) (writes-then c.encode_types.ensures.leaves.scope_stays c.in_ok-encode_types.ensures.written w))
           c.encode_functions.ensures.written;
       size = λ h.
           let same = c.in_ok-encode_types.ensures.counts.keys in
           lacks-behind (ap (λ (s : Scope). s.own_interface) c.encode_types.ensures.leaves.scope_stays) c.encode_types.ensures.leaves.maps_grow
           (only-more (reached-left types others) c.in_ok-encode_types.ensures.learns.only) (reached-right types others) (map placed_function c.args.functions.now) c.in_ok-encode_types.ensures.held
-          (knows-along c.encode_types.new.self.maps c.args.self.now.maps (sym same.lists) (sym same.names_)) (c.encode_functions.ensures.size h);
+          (knows-along e₁.maps e₀.maps (sym same.lists) (sym same.names_)) (c.encode_functions.ensures.size h);
       refuses = search rules;
     }
 

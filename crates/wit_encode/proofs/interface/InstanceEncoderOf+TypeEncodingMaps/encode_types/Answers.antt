@@ -1,18 +1,27 @@
-use Rattle.std.proofs.Common.{◌≡◌, inl, inr, List, take, refl, sym, subst, ap, arith, [], ◌∷◌, get_or, length, map, rules}
+use Rattle.std.proofs.Common.{◌≡◌, ℕ, ◌<◌, Option, inl, inr, List, take, refl, sym, subst, ap, arith, [], ◌∷◌, get_or, length, map, rules}
 use Rattle.std.proofs.lemmas.{Option.slice_get-get_or, List.Elements.Contains-get_or, List.take_all}
 use Rattle.wit_encode.specs.Encoders.{encoder_view}
 use Rattle.wit_encode.specs.Instance.{own_of, declarations_in, contents_of, encoder_scope, definitions_with}
 use Rattle.encode_types.proofs.Rooms.{holds-none, holds-then, room-after, only-more, map-taken}
-use Rattle.encode_types.proofs.{Defining.leaves-kept, Defining.leaves-trans, Defining.counts-none, Defining.counts-trans, Around.around-same}
-use Rattle.encode_types.proofs.{Writing.writes-nothing, Writing.writes-then, Aliasing.met-none, Aliasing.met-more, Aliasing.makes-then}
-use Rattle.wit_model.specs.declared.model.{Resolve.Resolve, TypeId.TypeId}
-use Rattle.encode_types.specs.{Scope.Scope, Fits.CanEncode}
+use Rattle.encode_types.proofs.{Defining.leaves-kept, Defining.leaves-trans, Defining.counts-none, Defining.counts-trans, Around.around-same, Writing.writes-nothing, Writing.writes-then, Aliasing.met-none, Aliasing.met-more, Aliasing.makes-then}
+use Rattle.wit_model.specs.declared.model.{InterfaceId.InterfaceId, Resolve.Resolve, TypeId.TypeId}
+use Rattle.encode_types.specs.{Scope.Scope, Fits.CanEncode, MetKinds.ReachedFrom}
 use Rattle.wit_encode.proofs.Referring.{from-none, from-type, from-types}
 use Rattle.wit_encode.proofs.{Counting.exact-names, Exporting.exports-start, Exporting.exports-next, Exporting.exports-end}
 use Rattle.std.specs.List.{Contains}
 use Rattle.base_lemmas.proofs.Elements.{contains-map, last_of as one-contained}
 use Rattle.wit_model.specs.declared.model.«Type».TheVariants as ty
 use Rattle.wit_encode.proofs.interface.InstanceEncoderOf+TypeEncodingMaps.encode_types.Goals as goal
+
+-- what is met from one of the types
+met-here : (r : Resolve) (own : Option InterfaceId) (ts : List TypeId) (i : ℕ) → i < length ts → (n : ℕ) → ReachedFrom r own (ty.Id (get_or ts i (record { 0 = 0 })) ∷ []) n
+    → ReachedFrom r own (map (λ t. ty.Id t) ts) n
+met-here r own ts i inside n x = (
+  x.0,
+  subst (Contains (map (λ (t : TypeId). ty.Id t) ts)) (one-contained (ty.Id (get_or ts i (record { 0 = 0 }))) x.0 x.1)
+      (contains-map (λ (t : TypeId). ty.Id t) ts (get_or ts i (record { 0 = 0 })) (Contains-get_or ts i (record { 0 = 0 }) inside)),
+  x.2,
+)
 
 pub loop-id-init : goal.loop-id-init
 loop-id-init c = record {
@@ -38,27 +47,21 @@ encode_valtype-requires c = λ _. (
 )
 
 pub loop-id-preserved : goal.loop-id-preserved
-loop-id-preserved c = record {
-  leaves = leaves-trans c.loop-id.invariant.leaves c.encode_valtype.ensures.leaves;
-  aliases = makes-then (ap (λ (z : Scope). z.own_interface) c.loop-id.invariant.leaves.scope_stays) c.loop-id.invariant.aliases (met-more (λ n x. (
-    x.0,
-    subst (Contains (map (λ (t : TypeId). ty.Id t) c.args.types.now)) (one-contained (ty.Id (get_or c.args.types.now c.loop-id.id-index (record { 0 = 0 }))) x.0 x.1)
-        (contains-map (λ (t : TypeId). ty.Id t) c.args.types.now (get_or c.args.types.now c.loop-id.id-index (record { 0 = 0 }))
-        (Contains-get_or c.args.types.now c.loop-id.id-index (record { 0 = 0 }) c.loop-id-test.true)),
-    x.2,
-  )) c.encode_valtype.ensures.aliases);
-  held = holds-then (ap (λ (z : Scope). z.own_interface) c.loop-id.invariant.leaves.scope_stays) c.loop-id.invariant.leaves.maps_grow c.encode_valtype.ensures.leaves.maps_grow c.loop-id.invariant.held
-      c.in_ok-encode_valtype.ensures.held;
-  written = writes-then c.loop-id.invariant.leaves.scope_stays c.loop-id.invariant.written c.in_ok-encode_valtype.ensures.written;
-  learns = from-type c.args.resolve.now (own_of c.args.self.now.inner) (own_of c.loop-id.self.inner) c.args.types.now c.loop-id.id-index (record { 0 = 0 }) c.args.self.now.maps c.loop-id.self.maps
-      c.encode_valtype.new.enc.maps c.loop-id-test.true (ap (λ (z : Scope). z.own_interface) c.loop-id.invariant.leaves.scope_stays) c.loop-id.invariant.learns c.in_ok-encode_valtype.ensures.learns;
-  first = exports-next c.args.resolve.now c.requires.begins.valid (encoder_scope c.args.self.now.resolve.now c.args.self.now.outer c.args.self.now.inner) c.args.types.now c.requires.begins.listed
-      (ap (λ (z : Resolve). declarations_in z (own_of c.args.self.now.inner)) c.requires.begins.packages_) c.loop-id.id-index (get_or c.args.types.now c.loop-id.id-index (record { 0 = 0 }))
-      (slice_get-get_or c.args.types.now c.loop-id.id-index (record { 0 = 0 }) c.loop-id-test.true) _ c.loop-id.invariant.leaves.scope_stays _ _ _ _ c.loop-id.invariant.first
-      c.encode_valtype.ensures.leaves.agree.once c.encode_valtype.ensures.leaves.maps_grow c.in_ok-encode_valtype.ensures.knows c.in_ok-encode_valtype.ensures.learns.only
-      c.in_ok-encode_valtype.ensures.counts.shows;
-  counts = counts-trans c.loop-id.invariant.leaves.scope_stays c.loop-id.invariant.counts c.in_ok-encode_valtype.ensures.counts;
-}
+loop-id-preserved c =
+    let so_far = c.loop-id.invariant in let made = c.in_ok-encode_valtype.ensures in let leaves = c.encode_valtype.ensures.leaves in let begins = c.requires.begins in let r = c.args.resolve.now in
+    let ts = c.args.types.now in let n = c.loop-id.id-index in let e = c.args.self.now in let same = ap (λ (z : Scope). z.own_interface) so_far.leaves.scope_stays in
+    record {
+      leaves = leaves-trans so_far.leaves leaves;
+      aliases = makes-then same so_far.aliases (met-more (met-here _ _ ts n c.loop-id-test.true) c.encode_valtype.ensures.aliases);
+      held = holds-then same so_far.leaves.maps_grow leaves.maps_grow so_far.held made.held;
+      written = writes-then so_far.leaves.scope_stays so_far.written made.written;
+      learns = from-type r (own_of e.inner) (own_of c.loop-id.self.inner) ts n (record { 0 = 0 }) e.maps c.loop-id.self.maps c.encode_valtype.new.enc.maps c.loop-id-test.true same so_far.learns
+          made.learns;
+      first = exports-next r begins.valid (encoder_scope e.resolve.now e.outer e.inner) ts begins.listed (ap (λ (z : Resolve). declarations_in z (own_of e.inner)) begins.packages_) n
+          (get_or ts n (record { 0 = 0 })) (slice_get-get_or ts n (record { 0 = 0 }) c.loop-id-test.true) _ so_far.leaves.scope_stays _ _ _ _ so_far.first leaves.agree.once leaves.maps_grow made.knows
+          made.learns.only made.counts.shows;
+      counts = counts-trans so_far.leaves.scope_stays so_far.counts made.counts;
+    }
 
 pub returns-in_err-encode_valtype-clause-leaves : goal.returns-in_err-encode_valtype-clause-leaves
 returns-in_err-encode_valtype-clause-leaves c = leaves-trans c.loop-id.invariant.leaves c.encode_valtype.ensures.leaves
@@ -85,21 +88,10 @@ returns-clause-learns c = from-types c.args.resolve.now (own_of c.args.self.now.
     c.loop-id.invariant.learns
 
 pub returns-in_err-encode_valtype-clause-size : goal.returns-in_err-encode_valtype-clause-size
-returns-in_err-encode_valtype-clause-size c = λ h.
-    let t : TypeId = get_or c.args.types.now c.loop-id.id-index (record { 0 = 0 }) in
-    room-after (ap (λ (z : Scope). z.own_interface) c.loop-id.invariant.leaves.scope_stays) c.loop-id.invariant.leaves.maps_grow c.loop-id.invariant.held
-    (only-more (λ n x. (x.0, map-taken (λ (t : TypeId). ty.Id t) c.args.types.now c.loop-id.id-index x.0 x.1, x.2)) c.loop-id.invariant.learns.only) (λ n x. (
-      x.0,
-      subst (Contains (map (λ (t : TypeId). ty.Id t) c.args.types.now)) (one-contained (ty.Id t) x.0 x.1)
-          (contains-map (λ (t : TypeId). ty.Id t) c.args.types.now t (Contains-get_or c.args.types.now c.loop-id.id-index (record { 0 = 0 }) c.loop-id-test.true)),
-      x.2,
-    )) (λ q k. k) (omega (arith, ap length c.loop-id.invariant.counts.keys.lists)) (c.encode_valtype.ensures.size (search rules))
+returns-in_err-encode_valtype-clause-size c = λ h. room-after (ap (λ (z : Scope). z.own_interface) c.loop-id.invariant.leaves.scope_stays) c.loop-id.invariant.leaves.maps_grow c.loop-id.invariant.held
+    (only-more (λ n x. (x.0, map-taken (λ (t : TypeId). ty.Id t) c.args.types.now c.loop-id.id-index x.0 x.1, x.2)) c.loop-id.invariant.learns.only)
+    (met-here _ _ c.args.types.now c.loop-id.id-index c.loop-id-test.true) (λ q k. k) (omega (arith, ap length c.loop-id.invariant.counts.keys.lists)) (c.encode_valtype.ensures.size (search rules))
 
 pub returns-in_err-encode_valtype-clause-aliases : goal.returns-in_err-encode_valtype-clause-aliases
-returns-in_err-encode_valtype-clause-aliases c = makes-then (ap (λ (z : Scope). z.own_interface) c.loop-id.invariant.leaves.scope_stays) c.loop-id.invariant.aliases (met-more (λ n x. (
-  x.0,
-  subst (Contains (map (λ (t : TypeId). ty.Id t) c.args.types.now)) (one-contained (ty.Id (get_or c.args.types.now c.loop-id.id-index (record { 0 = 0 }))) x.0 x.1)
-      (contains-map (λ (t : TypeId). ty.Id t) c.args.types.now (get_or c.args.types.now c.loop-id.id-index (record { 0 = 0 }))
-      (Contains-get_or c.args.types.now c.loop-id.id-index (record { 0 = 0 }) c.loop-id-test.true)),
-  x.2,
-)) c.encode_valtype.ensures.aliases)
+returns-in_err-encode_valtype-clause-aliases c = makes-then (ap (λ (z : Scope). z.own_interface) c.loop-id.invariant.leaves.scope_stays) c.loop-id.invariant.aliases
+    (met-more (met-here _ _ c.args.types.now c.loop-id.id-index c.loop-id-test.true) c.encode_valtype.ensures.aliases)

@@ -8,52 +8,44 @@ use Rattle.wit_encode.proofs.interface.InstanceEncoderOfTypeEncodingMapsValtypeE
 
 pub returns-in-Some : goal.returns-in-Some
 returns-in-Some c =
-    let calls = function-within c.define_function_inside.result c.args.self.now.resolve.now c.args.self.now.outer c.args.self.now.inner c.in-Some.current
-    c.define_function_inside.new.inner c.in-Some.is c.args.def c.requires c.define_function_inside.ensures.ok c.define_function_inside.ensures.err in
+    let call = c.define_function_inside in let start = c.args.self.now.outer in let inner = c.args.self.now.inner in let current = c.in-Some.current in let r = c.args.self.now.resolve.now in
+    let calls = function-within call.result r start inner current call.new.inner c.in-Some.is c.args.def c.requires call.ensures.ok call.ensures.err in
     record {
       ok = calls.ok;
-      grows = slots-grow calls.grows (ap (around_of c.args.self.now.outer) (sym c.in-Some.is))
-          (inside-called c.define_function_inside.result c.args.self.now.inner c.in-Some.current (record c.in-Some.current { declared = c.define_function_inside.new.inner }) _ c.in-Some.is refl
-          c.define_function_inside.ensures.ok c.define_function_inside.ensures.err);
+      grows = slots-grow calls.grows (ap (around_of start) (sym c.in-Some.is))
+          (inside-called call.result inner current (record current { declared = call.new.inner }) _ c.in-Some.is refl call.ensures.ok call.ensures.err);
       scope_stays = calls.scope_stays;
-      around_stays = ap (around_of c.args.self.now.outer) (sym c.in-Some.is);
+      around_stays = ap (around_of start) (sym c.in-Some.is);
       imports_stay = search rules;
       maps_stay = search rules;
-      counts = slot-function c.define_function_inside.result _ _ _ _ _ _ _ calls.ok calls.counted;
-      held = held-inside c.args.self.now.outer c.args.self.now.inner c.in-Some.current c.define_function_inside.new.inner c.in-Some.is c.define_function_inside.ensures.held;
-      written = when-ok c.define_function_inside.result _ _ (λ i made s f. record {
-        extent = inside-more c.args.self.now.outer c.args.self.now.inner c.in-Some.current c.define_function_inside.new.inner _ _ c.in-Some.is made.1 (bytes-few.functions _ c.args.def s f);
-      }) c.define_function_inside.ensures.ok;
+      counts = slot-function call.result _ _ _ _ _ _ _ calls.ok calls.counted;
+      held = held-inside start inner current call.new.inner c.in-Some.is call.ensures.held;
+      written = when-ok call.result _ _ (λ i made s f. record { extent = inside-more start inner current call.new.inner _ _ c.in-Some.is made.1 (bytes-few.functions _ c.args.def s f) })
+          call.ensures.ok;
       size = λ h s f. record {
-        lacks = inl (function-inside c.args.self.now.resolve.now c.define_function_inside.result h (stands_in c.args.self.now.resolve.now c.args.self.now.outer c.args.self.now.inner)
-            c.define_function_inside.new.inner c.args.def c.define_function_inside.ensures.size s f);
-        held = kept-inside c.args.self.now.outer c.args.self.now.inner c.in-Some.current c.define_function_inside.new.inner c.in-Some.is
-            (on-size c.define_function_inside.result _ c.define_function_inside.ensures.err h);
+        lacks = inl (function-inside r call.result h (stands_in r start inner) call.new.inner c.args.def call.ensures.size s f);
+        held = kept-inside start inner current call.new.inner c.in-Some.is (on-size call.result _ call.ensures.err h);
       };
       refuses = search rules;
     }
 
 pub returns : goal.returns
 returns c =
-    let calls = function-without c.define_function_outside.result c.args.self.now.resolve.now c.args.self.now.outer c.args.self.now.inner c.define_function_outside.new.outer c.in-None.is
-    c.args.def c.requires c.define_function_outside.ensures.ok c.define_function_outside.ensures.err in
+    let call = c.define_function_outside in let start = c.args.self.now.outer in let inner = c.args.self.now.inner in let r = c.args.self.now.resolve.now in
+    let calls = function-without call.result r start inner call.new.outer c.in-None.is c.args.def c.requires call.ensures.ok call.ensures.err in
     record {
       ok = calls.ok;
-      grows = slots-grow calls.grows (ap (around_of c.define_function_outside.new.outer) c.in-None.is ∙ sym (ap (around_of c.args.self.now.outer) c.in-None.is)) (λ ns h. h);
+      grows = slots-grow calls.grows (ap (around_of call.new.outer) c.in-None.is ∙ sym (ap (around_of start) c.in-None.is)) (λ ns h. h);
       scope_stays = calls.scope_stays;
-      around_stays = ap (around_of c.define_function_outside.new.outer) c.in-None.is ∙ sym (ap (around_of c.args.self.now.outer) c.in-None.is);
+      around_stays = ap (around_of call.new.outer) c.in-None.is ∙ sym (ap (around_of start) c.in-None.is);
       imports_stay = search rules;
       maps_stay = search rules;
-      counts = slot-function c.define_function_outside.result _ _ _ _ _ _ _ calls.ok calls.counted;
-      held = held-outside c.args.self.now.outer c.define_function_outside.new.outer c.args.self.now.inner c.in-None.is c.define_function_outside.ensures.held;
-      written = when-ok c.define_function_outside.result _ _ (λ i made s f. record {
-        extent = outside-more c.args.self.now.outer c.define_function_outside.new.outer c.args.self.now.inner _ _ c.in-None.is made.1 (bytes-few.functions _ c.args.def s f);
-      }) c.define_function_outside.ensures.ok;
+      counts = slot-function call.result _ _ _ _ _ _ _ calls.ok calls.counted;
+      held = held-outside start call.new.outer inner c.in-None.is call.ensures.held;
+      written = when-ok call.result _ _ (λ i made s f. record { extent = outside-more start call.new.outer inner _ _ c.in-None.is made.1 (bytes-few.functions _ c.args.def s f) }) call.ensures.ok;
       size = λ h s f. record {
-        lacks = inl (function-outside c.args.self.now.resolve.now c.define_function_outside.result h c.define_function_outside.new.outer c.args.self.now.inner c.in-None.is
-            (stands_in c.args.self.now.resolve.now c.args.self.now.outer c.args.self.now.inner) c.args.def c.define_function_outside.ensures.size s f);
-        held = kept-outside c.args.self.now.outer c.define_function_outside.new.outer c.args.self.now.inner c.in-None.is (on-size c.define_function_outside.result _
-            c.define_function_outside.ensures.err h);
+        lacks = inl (function-outside r call.result h call.new.outer inner c.in-None.is (stands_in r start inner) c.args.def call.ensures.size s f);
+        held = kept-outside start call.new.outer inner c.in-None.is (on-size call.result _ call.ensures.err h);
       };
       refuses = search rules;
     }

@@ -10,23 +10,20 @@ use Rattle.wit_encode.proofs.interface.InstanceEncoderOfTypeEncodingMapsValtypeE
 
 pub returns : goal.returns
 returns c =
+    let start = c.args.self.now.outer in let inner = c.args.self.now.inner in let current = c.in-Some.current in let end = c.export_inside.new.inner in
     let res : Result ℕ Error = Ok c.in_ok-slot-in-Some.slot in
-    let made = type-within res c.args.self.now.resolve.now c.args.self.now.outer c.args.self.now.inner c.in-Some.current c.export_inside.new.inner c.in-Some.is c.args.index (raw_name c.args.name)
-    c.requires c.in_ok-slot-in-Some.ensures.ok tt in
+    let made = type-within res c.args.self.now.resolve.now start inner current end c.in-Some.is c.args.index (raw_name c.args.name) c.requires c.in_ok-slot-in-Some.ensures.ok tt in
     record {
       ok = made.ok;
-      grows = slots-grow made.grows (ap (around_of c.args.self.now.outer) (sym c.in-Some.is))
-          (inside-called res c.args.self.now.inner c.in-Some.current (record c.in-Some.current { declared = c.export_inside.new.inner }) _ c.in-Some.is refl c.in_ok-slot-in-Some.ensures.ok tt);
+      grows = slots-grow made.grows (ap (around_of start) (sym c.in-Some.is))
+          (inside-called res inner current (record current { declared = end }) _ c.in-Some.is refl c.in_ok-slot-in-Some.ensures.ok tt);
       scope_stays = made.scope_stays;
-      around_stays = ap (around_of c.args.self.now.outer) (sym c.in-Some.is);
+      around_stays = ap (around_of start) (sym c.in-Some.is);
       imports_stay = search rules;
       maps_stay = search rules;
       counts = made.counted;
-      held = held-inside c.args.self.now.outer c.args.self.now.inner c.in-Some.current c.export_inside.new.inner c.in-Some.is c.export_inside.ensures.held;
-      written = record {
-        extent = inside-more c.args.self.now.outer c.args.self.now.inner c.in-Some.current c.export_inside.new.inner _ _ c.in-Some.is c.in_ok-slot-in-Some.ensures.ok.1
-            (bytes-few.exports (raw_name c.args.name) (refs.TypeEq c.args.index));
-      };
+      held = held-inside start inner current end c.in-Some.is c.export_inside.ensures.held;
+      written = record { extent = inside-more start inner current end _ _ c.in-Some.is c.in_ok-slot-in-Some.ensures.ok.1 (bytes-few.exports (raw_name c.args.name) (refs.TypeEq c.args.index)) };
       size = search rules;
       refuses = search rules;
     }

@@ -38,39 +38,38 @@ list_instance-requires c =
 
 pub returns : goal.returns
 returns c =
+    let e₀ = c.args.self.now in let e₁ = c.define_instance.new.self in let i = c.args.interface in let k = c.in_ok-slot.slot in let outer = c.declare.new.outer in
     let r = c.args.resolve.now in
     let canonical = c.args.placed.canonical_names in
     let entry = entry_of c.args.placed in
     let next = c.requires.next in
     let direction = towards c.args.placed.direction in
-    let there = interface-there r c.requires.valid next.world c.args.self.now next.done next.shown direction entry next.next c.args.interface c.requires.item in
-    let part = c.in_ok-slot.ensures.ok there.0 (ap (λ (q : Resolve). interface_at q c.args.interface.0) next.shown.packages_ ∙ there.1) in
-    let encodes = subst (λ (q : Resolve). EncodesInterface q (world_around c.args.self.now) (world_around c.define_instance.new.self) c.args.interface there.0 c.in_ok-slot.slot)
-    next.shown.packages_ part in
+    let there = interface-there r c.requires.valid next.world e₀ next.done next.shown direction entry next.next i c.requires.item in
+    let part = c.in_ok-slot.ensures.ok there.0 (ap (λ (q : Resolve). interface_at q i.0) next.shown.packages_ ∙ there.1) in
+    let encodes = subst (λ (q : Resolve). EncodesInterface q (world_around e₀) (world_around e₁) i there.0 k) next.shown.packages_ part in
     record {
-      ok = on-each c.list_instance.result (λ lists w done h n. interface-encoded r c.requires.valid w c.args.self.now c.define_instance.new.self done h direction canonical entry n c.args.interface
-          c.requires.item c.in_ok-slot.slot c.define_instance.ensures.rest c.in_ok-slot.ensures.ok c.declare.new.outer
-          (c.in_ok-declare.ensures.ok ∙ ap (λ n. declared_after c.define_instance.new.self.outer (declared_towards direction n (refs.Instance c.in_ok-slot.slot))) c.in_ok-name.ensures.ok)
+      ok = on-each c.list_instance.result (λ lists w done h n. interface-encoded r c.requires.valid w e₀ e₁ done h direction canonical entry n i c.requires.item k c.define_instance.ensures.rest
+          c.in_ok-slot.ensures.ok outer (c.in_ok-declare.ensures.ok ∙ ap (λ n. declared_after e₁.outer (declared_towards direction n (refs.Instance k))) c.in_ok-name.ensures.ok)
           c.list_instance.new.self lists) c.list_instance.ensures.ok;
-      once = on-each c.list_instance.result (λ lists es h. interface-defined r c.args.self.now c.define_instance.new.self c.list_instance.new.self entry c.args.interface there.0 c.in_ok-slot.slot
-          direction _ c.declare.new.outer c.requires.item there.1 c.define_instance.ensures.rest encodes c.in_ok-declare.ensures.ok lists es h) c.list_instance.ensures.ok;
-      few = on-each c.list_instance.result (λ lists es h. interface-few r c.args.self.now c.define_instance.new.self c.list_instance.new.self entry c.args.interface there.0 c.in_ok-slot.slot direction
-          _ c.declare.new.outer c.requires.item there.1 c.define_instance.ensures.rest encodes c.in_ok-declare.ensures.ok lists es h) c.list_instance.ensures.ok;
+      once = on-each c.list_instance.result (λ lists es h. interface-defined r e₀ e₁ c.list_instance.new.self entry i there.0 k direction _ outer c.requires.item there.1 c.define_instance.ensures.rest
+          encodes c.in_ok-declare.ensures.ok lists es h) c.list_instance.ensures.ok;
+      few = on-each c.list_instance.result (λ lists es h. interface-few r e₀ e₁ c.list_instance.new.self entry i there.0 k direction _ outer c.requires.item there.1 c.define_instance.ensures.rest
+          encodes c.in_ok-declare.ensures.ok lists es h) c.list_instance.ensures.ok;
       written = on-each c.list_instance.result (λ lists.
-          let whole = interface-item r canonical c.args.placed.key.now c.args.placed.item.now c.args.interface.0 c.requires.item in
-          let one = subst (λ (q : Resolve). AddsBytes (whole_extent q c.args.interface.0) c.args.self.now.outer c.define_instance.new.self.outer) next.shown.packages_ c.in_ok-slot.ensures.written in
-          let both = adds-described (whole_instance_weight r c.args.interface.0) c.args.self.now.outer c.define_instance.new.self.outer c.declare.new.outer _ _
-          (name_of_item r canonical entry) one c.in_ok-declare.ensures.ok (declared-few direction _ (refs.Instance c.in_ok-slot.slot)) c.in_ok-name.ensures.ok in
-          subst (λ (z : WorldEncoder). AddsLearnt r (items_extent r canonical (entry ∷ [])) c.args.self.now.maps z.maps c.args.self.now.outer z.outer) (sym lists.rest)
-          (subst (λ (z : WorldEncoder). AddsLearnt r (items_extent r canonical (entry ∷ [])) c.args.self.now.maps z.maps c.args.self.now.outer c.declare.new.outer)
-          (sym c.define_instance.ensures.rest) (learnt-most (omega (arith, whole)) (learnt-beside c.args.self.now.maps _ _ both)))) c.list_instance.ensures.ok;
+          let whole = interface-item r canonical c.args.placed.key.now c.args.placed.item.now i.0 c.requires.item in
+          let one = subst (λ (q : Resolve). AddsBytes (whole_extent q i.0) e₀.outer e₁.outer) next.shown.packages_ c.in_ok-slot.ensures.written in
+          let both = adds-described (whole_instance_weight r i.0) e₀.outer e₁.outer outer _ _ (name_of_item r canonical entry) one c.in_ok-declare.ensures.ok
+          (declared-few direction _ (refs.Instance k)) c.in_ok-name.ensures.ok in
+          subst (λ (z : WorldEncoder). AddsLearnt r (items_extent r canonical (entry ∷ [])) e₀.maps z.maps e₀.outer z.outer) (sym lists.rest)
+          (subst (λ (z : WorldEncoder). AddsLearnt r (items_extent r canonical (entry ∷ [])) e₀.maps z.maps e₀.outer outer) (sym c.define_instance.ensures.rest)
+          (learnt-most (omega (arith, whole)) (learnt-beside e₀.maps _ _ both)))) c.list_instance.ensures.ok;
       size = λ refused. never-size c.list_instance.result c.list_instance.ensures.memory refused;
-      names = on-each c.list_instance.result (λ lists. subst (λ (z : WorldEncoder). NamesMore r canonical (entry ∷ []) c.args.self.now.outer z.outer) (sym lists.rest)
-          (interface-names r c.args.self.now.resolve.now canonical entry c.args.interface (world_around c.args.self.now) (world_around c.define_instance.new.self) there.0 c.declare.new.outer direction
-          _ c.in_ok-slot.slot c.requires.item part c.in_ok-declare.ensures.ok c.in_ok-name.ensures.ok)) c.list_instance.ensures.ok;
+      names = on-each c.list_instance.result (λ lists. subst (λ (z : WorldEncoder). NamesMore r canonical (entry ∷ []) e₀.outer z.outer) (sym lists.rest)
+          (interface-names r e₀.resolve.now canonical entry i (world_around e₀) (world_around e₁) there.0 outer direction _ k c.requires.item part c.in_ok-declare.ensures.ok c.in_ok-name.ensures.ok))
+          c.list_instance.ensures.ok;
       places = on-each c.list_instance.result (λ lists h. subst (λ (z : Declarations). are_beside 0 z ≡ true) (sym (ap (λ (z : WorldEncoder). z.outer) lists.rest ∙ c.in_ok-declare.ensures.ok))
-          (part-beside c.args.self.now.resolve.now (world_around c.args.self.now) (world_around c.define_instance.new.self) c.args.interface there.0 _ _ c.in_ok-slot.slot part.part _
-          (towards-instance direction _ c.in_ok-slot.slot) (towards-function direction _ (refs.Instance c.in_ok-slot.slot)) h)) c.list_instance.ensures.ok;
+          (part-beside e₀.resolve.now (world_around e₀) (world_around e₁) i there.0 _ _ k part.part _ (towards-instance direction _ k) (towards-function direction _ (refs.Instance k)) h))
+          c.list_instance.ensures.ok;
       refuses = search rules;
     }
 

@@ -25,21 +25,19 @@ loop-key-preserved c =
     }
 
 pub returns : goal.returns
-returns c = record {
-  ok = goes-whole c.args.resolve.now c.args.canonical_names c.args.self.now c.loop-key.self (towards c.args.direction) c.args.items.now.entries c.loop-key.key-iterator c.requires.begins
-      c.loop-key.invariant.going (rest_all deref_pair c.loop-key.key-iterator c.next.new.self c.next.result c.in-None.is c.next.ensures.steps);
-  once = defines-whole c.args.resolve.now c.args.canonical_names c.args.self.now c.loop-key.self (towards c.args.direction) c.args.items.now.entries c.loop-key.key-iterator
-      c.loop-key.invariant.going (rest_all deref_pair c.loop-key.key-iterator c.next.new.self c.next.result c.in-None.is c.next.ensures.steps);
-  few = holds-whole c.args.resolve.now c.args.canonical_names c.args.self.now c.loop-key.self (towards c.args.direction) c.args.items.now.entries c.loop-key.key-iterator
-      c.loop-key.invariant.going (rest_all deref_pair c.loop-key.key-iterator c.next.new.self c.next.result c.in-None.is c.next.ensures.steps);
-  written = written-whole c.args.resolve.now c.args.canonical_names c.args.self.now c.loop-key.self (towards c.args.direction) c.args.items.now.entries c.loop-key.key-iterator
-      c.loop-key.invariant.going (rest_all deref_pair c.loop-key.key-iterator c.next.new.self c.next.result c.in-None.is c.next.ensures.steps);
-  size = search rules;
-  names = names-whole c.args.resolve.now c.args.canonical_names c.args.self.now c.loop-key.self (towards c.args.direction) c.args.items.now.entries c.loop-key.key-iterator
-      c.loop-key.invariant.going (rest_all deref_pair c.loop-key.key-iterator c.next.new.self c.next.result c.in-None.is c.next.ensures.steps);
-  places = c.loop-key.invariant.places;
-  refuses = search rules;
-}
+returns c =
+    let r = c.args.resolve.now in let ns = c.args.canonical_names in let to = towards c.args.direction in let es = c.args.items.now.entries in let it = c.loop-key.key-iterator in
+    let going = c.loop-key.invariant.going in let all = rest_all deref_pair it c.next.new.self c.next.result c.in-None.is c.next.ensures.steps in
+    record {
+      ok = goes-whole r ns c.args.self.now c.loop-key.self to es it c.requires.begins going all;
+      once = defines-whole r ns c.args.self.now c.loop-key.self to es it going all;
+      few = holds-whole r ns c.args.self.now c.loop-key.self to es it going all;
+      written = written-whole r ns c.args.self.now c.loop-key.self to es it going all;
+      size = search rules;
+      names = names-whole r ns c.args.self.now c.loop-key.self to es it going all;
+      places = c.loop-key.invariant.places;
+      refuses = search rules;
+    }
 
 pub returns-in_err-encode_item-clause-size : goal.returns-in_err-encode_item-clause-size
 returns-in_err-encode_item-clause-size c = λ h.

@@ -15,31 +15,29 @@ encode_valtype-requires c =
     λ _. ((refl, tt), rw next.shown.packages_ (can, next.shown.agree))
 
 pub returns : goal.returns
-returns c = record {
-  ok = λ w done h next. type-encoded c.args.resolve.now c.requires.valid w c.args.self.now c.encode_valtype.new.enc done h c.args.placed.key.now c.args.id c.args.placed.item.now
-      c.requires.item (towards c.args.placed.direction) next
-      c.encode_valtype.ensures.leaves c.in_ok-encode_valtype.ensures.learns.only c.in_ok-encode_valtype.ensures.counts.shows c.in_ok-encode_valtype.ensures.knows;
-  once = λ es h. type-defined c.args.resolve.now c.args.self.now c.encode_valtype.new.enc es (world_encoder_view c.args.self.now).scope refl c.args.placed.key.now c.args.placed.item.now c.args.id
-      c.requires.item h c.in_ok-encode_valtype.ensures.counts c.in_ok-encode_valtype.ensures.learns (ap (λ (s : Scope). s.others.declared) c.encode_valtype.ensures.leaves.scope_stays) (record {
-        packages_ = c.requires.next.shown.packages_;
-        packages_stay = ap (λ (s : Scope). s.packages) c.encode_valtype.ensures.leaves.scope_stays;
-        keeps = λ ns. c.encode_valtype.ensures.leaves.grows.own_ (Told.numbers (zero ∷ ns));
-        imports = c.encode_valtype.ensures.imports;
-      });
-  few = λ es h. type-few c.args.resolve.now c.args.self.now.resolve.now c.encode_valtype.new.enc.resolve.now c.args.self.now c.encode_valtype.new.enc es c.args.placed.key.now c.args.placed.item.now
-      c.args.id c.requires.item c.requires.next.shown.packages_ (ap (λ (s : Scope). s.packages) c.encode_valtype.ensures.leaves.scope_stays ∙ c.requires.next.shown.packages_)
-      (ap (λ (s : Scope). s.others.listed) c.encode_valtype.ensures.leaves.scope_stays) h c.in_ok-encode_valtype.ensures.counts.keys.lists c.in_ok-encode_valtype.ensures.held;
-  written =
-      let types : AddsLearnt c.args.resolve.now 0 c.args.self.now.maps c.encode_valtype.new.enc.maps c.args.self.now.outer c.encode_valtype.new.enc.outer =
-      record { few = c.in_ok-encode_valtype.ensures.written.extent } in
-      learnt-most (omega arith) types;
-  size = search rules;
-  names = type-names c.args.resolve.now c.args.self.now.resolve.now c.args.placed.canonical_names (entry_of c.args.placed) c.args.id c.args.self.now.outer c.encode_valtype.new.enc.outer
-      c.requires.item c.encode_valtype.ensures.leaves.grows.around_;
-  places = types-beside c.args.self.now.outer c.encode_valtype.new.enc.outer (c.encode_valtype.ensures.leaves.grows.own_ (Told.declared c.args.self.now.outer) (grows-none c.args.self.now.outer))
-      c.in_ok-encode_valtype.ensures.counts.functions;
-  refuses = search rules;
-}
+returns c =
+    let r = c.args.resolve.now in let start = c.args.self.now in let end = c.encode_valtype.new.enc in let key = c.args.placed.key.now in let leaves = c.encode_valtype.ensures.leaves in
+    let counts = c.in_ok-encode_valtype.ensures.counts in
+    record {
+      ok = λ w done h next. type-encoded r c.requires.valid w start end done h key c.args.id c.args.placed.item.now c.requires.item (towards c.args.placed.direction) next leaves
+          c.in_ok-encode_valtype.ensures.learns.only counts.shows c.in_ok-encode_valtype.ensures.knows;
+      once = λ es h. type-defined r start end es (world_encoder_view start).scope refl key c.args.placed.item.now c.args.id
+          c.requires.item h counts c.in_ok-encode_valtype.ensures.learns (ap (λ (s : Scope). s.others.declared) leaves.scope_stays) (record {
+            packages_ = c.requires.next.shown.packages_;
+            packages_stay = ap (λ (s : Scope). s.packages) leaves.scope_stays;
+            keeps = λ ns. leaves.grows.own_ (Told.numbers (zero ∷ ns));
+            imports = c.encode_valtype.ensures.imports;
+          });
+      few = λ es h. type-few r start.resolve.now end.resolve.now start end es key c.args.placed.item.now c.args.id c.requires.item c.requires.next.shown.packages_
+          (ap (λ (s : Scope). s.packages) leaves.scope_stays ∙ c.requires.next.shown.packages_) (ap (λ (s : Scope). s.others.listed) leaves.scope_stays) h counts.keys.lists
+          c.in_ok-encode_valtype.ensures.held;
+      written =
+          let types : AddsLearnt r 0 start.maps end.maps start.outer end.outer = record { few = c.in_ok-encode_valtype.ensures.written.extent } in learnt-most (omega arith) types;
+      size = search rules;
+      names = type-names r start.resolve.now c.args.placed.canonical_names (entry_of c.args.placed) c.args.id start.outer end.outer c.requires.item leaves.grows.around_;
+      places = types-beside start.outer end.outer (leaves.grows.own_ (Told.declared start.outer) (grows-none start.outer)) counts.functions;
+      refuses = search rules;
+    }
 
 pub returns-in_err-encode_valtype-clause-size : goal.returns-in_err-encode_valtype-clause-size
 returns-in_err-encode_valtype-clause-size c = λ h.

@@ -10,8 +10,7 @@ use Rattle.wit_encode.proofs.world.WorldEncoderOfTypeEncodingMapsValtypeEncoder.
 pub returns : goal.returns
 returns c =
     let made = imports-type {E = Error} (Ok c.in_ok-slot.slot) c.args.self.now.resolve.now c.args.self.now.world c.args.self.now.instances (world_around c.args.self.now)
-    c.import_type_outside.new.outer
-    c.args.self.now.maps c.requires.declared.sound c.args.index (raw_name c.args.name) c.requires c.in_ok-slot.ensures.ok tt in
+    c.import_type_outside.new.outer c.args.self.now.maps c.requires.declared.sound c.args.index (raw_name c.args.name) c.requires c.in_ok-slot.ensures.ok tt in
     record {
       ok = made.ok;
       grows = made.grows;
