@@ -1,5 +1,5 @@
 -- Types of functions that are followed as they are read, with no list of their own for the parameters.
-use Rattle.std.specs.Prelude.{ℕ, Bool, List, Option, Some, if◌then◌else◌}
+use Rattle.std.specs.Prelude.{ℕ, Bool, false, ◌==◌, ◌&&◌, ◌||◌, List, ◌∷◌, Option, Some, if◌then◌else◌}
 use Rattle.std.specs.Borrow.{Bor}
 use Rattle.wit_model.specs.{Text.Text, Tree.Tree}
 use Rattle.comp_bytes.specs.Reading.{Reader, ◌>>=◌}
@@ -16,3 +16,8 @@ param_meant T p = param_tree T (param_of p)
 -- the byte that begins the type of a function
 abbrev pub function_byte : Bool → ℕ
 function_byte is_async = if is_async then 0x43 else 0x40
+
+-- whether the declaration of a function's type stands in front (Binary.md, "Type Definitions")
+abbrev pub has_function_in_front : List ℕ → Bool
+has_function_in_front (declares ∷ form ∷ rest) = declares == 0x01 && (form == 0x40 || form == 0x43)
+has_function_in_front bytes = false

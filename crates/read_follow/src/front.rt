@@ -1,8 +1,8 @@
 //! Numbers, names and single bytes at the front.
 
-ghost use Rattle.std.specs.Prelude.{◌≡◌, ◌∷◌, IfSome};
+ghost use Rattle.std.specs.Prelude.{◌≡◌, ◌∷◌, false, IfSome, IfNone};
 ghost use Rattle.comp_bytes.specs.Reading.{name_at, type_index_at, u32_at};
-ghost use Rattle.read_follow.specs.{Found.Finds, ReadKeys.function_byte};
+ghost use Rattle.read_follow.specs.{Found.Finds, ReadKeys.function_byte, ReadKeys.has_function_in_front};
 
 use crate::refusal::{Refusal, refusal_of};
 use comp_bytes::{read_index, read_name, read_u32};
@@ -25,7 +25,8 @@ pub(crate) fn u32_of(bytes: &[u8]) -> Result<(u32, &[u8]), Refusal>
 
 /// If the declaration of a function's type stands in front: whether the function is asynchronous, and the bytes behind those two that say so.
 pub(crate) fn function_in_front(bytes: &[u8]) -> Option<(bool, &[u8])>
-    ensures { IfSome result (λ x. bytes.now ≡ 1 ∷ function_byte x.0 ∷ x.1.now) }
+    ensures some { IfSome result (λ x. bytes.now ≡ 1 ∷ function_byte x.0 ∷ x.1.now) }
+    ensures none { IfNone result (has_function_in_front bytes.now ≡ false) }
 {
     let Some((first, behind)) = bytes.split_first() else {
         return None;

@@ -1,0 +1,4 @@
+//! Runs of the program over readers and writers of the tests' own.
+
+mod commands;
+mod words;
