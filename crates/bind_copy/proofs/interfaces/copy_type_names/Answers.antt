@@ -16,7 +16,7 @@ loop-name-preserved c =
     let step : c.loop-name.name-iterator ≡ e ∷ rest = rest_more deref_pair c.loop-name.name-iterator rest c.next.result (c.in-Some.name, c.in-Some.id) c.in-Some.is c.next.ensures.steps in
     let below : are_names_below (length numbers) rest ≡ true = search rules in (
       below,
-      λ apart. names_more numbers whole c.loop-name.copy.entries c.insert.new.self.entries rest e c.in_ok-name.name c.in_ok-insert.ensures.entries (search rules)
+      λ apart. names_more numbers whole c.loop-name.copy.entries c.put.new.map.entries rest e c.in_ok-name.name c.in_ok-put.ensures.entries (search rules)
           (sym (unwrap_or-slice_get numbers c.in-Some.id.now.0 0)) (names_apart whole apart)
           (ap (λ es. type_names c.loop-name.copy.entries ++ type_names_under numbers es) (sym step) ∙ c.loop-name.invariant.1 apart),
     )
