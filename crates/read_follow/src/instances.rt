@@ -12,10 +12,11 @@ use crate::defining::{define, define_function};
 use crate::functions::Functions;
 use crate::refusal::Refusal;
 use crate::shows::show;
-use crate::slots::{Slot, slot_at};
+use crate::slots::Slot;
 use crate::table::Table;
 use crate::views::{InstanceScope, View};
 use comp_bytes::Alias;
+use read_scope::slot_at;
 use std::alloc::Global;
 use wit_model::Cause;
 

@@ -20,11 +20,12 @@ use crate::refusal::Refusal;
 use crate::scopes::{Instance, Scope, Seen, Shown};
 use crate::shows::{declared_by, is_simple, name_number, name_slot};
 use crate::signatures::function_in;
-use crate::slots::{Slot, slot_at};
+use crate::slots::Slot;
 use crate::table::Table;
 use crate::views::View;
 use comp_bytes::ComponentTypeRef;
 use indexmap::IndexSet;
+use read_scope::slot_at;
 use std::alloc::Global;
 use wit_model::Cause;
 

@@ -12,10 +12,11 @@ use crate::keys::Key;
 use crate::names::ExternName;
 use crate::refusal::Refusal;
 use crate::signatures::function_in;
-use crate::slots::{Slot, slot_at};
+use crate::slots::Slot;
 use crate::table::Table;
 use crate::views::{InstanceScope, ShownFunction, ShownType};
 use comp_bytes::ComponentTypeRef;
+use read_scope::slot_at;
 use std::alloc::Global;
 use wit_model::Cause;
 

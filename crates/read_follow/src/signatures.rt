@@ -17,8 +17,9 @@ use crate::front::u32_of;
 use crate::items::field_of;
 use crate::keys::FunctionKey;
 use crate::refusal::Refusal;
-use crate::slots::{Slot, given_in, slot_at, value_in};
+use crate::slots::{Slot, given_in, value_in};
 use comp_bytes::{ComponentFuncType, ComponentValType};
+use read_scope::slot_at;
 use std::alloc::Global;
 use wit_model::Cause;
 

@@ -1,6 +1,6 @@
 //! What the indexes of a scope stand for.
 
-ghost use Rattle.std.specs.Prelude.{◌≡◌, ◌<◌, ◌+◌, ℕ, List, option_map, slice_get, IfOk, IfSome};
+ghost use Rattle.std.specs.Prelude.{◌≡◌, ◌<◌, ◌+◌, ℕ, List, option_map, IfOk, IfSome};
 ghost use Rattle.wit_model.specs.{Meaning.Signature, Tree.Tree};
 ghost use Rattle.comp_meaning.specs.Follow.{given, value_type, resource_in as resource_in_lem};
 ghost use Rattle.read_follow.specs.Found.{Gives};
@@ -10,6 +10,7 @@ ghost use Rattle.plan_meaning.specs.Shapes.{part_tree};
 use crate::bodies::Body;
 use crate::refusal::Refusal;
 use comp_bytes::{ComponentValType, PrimitiveValType};
+use read_scope::slot_at;
 use wit_model::Cause;
 
 /// What a type index stands for. A part is a primitive by its number, or 14 more than the number of a type in the table.
@@ -45,13 +46,6 @@ pub(crate) fn primitive_index(primitive: PrimitiveValType) -> usize
         PrimitiveValType::String => 12,
         PrimitiveValType::ErrorContext => 13,
     }
-}
-
-/// The slot of an index, if there is one.
-pub(crate) fn slot_at<'a>(slots: &[Slot<'a>], n: u32) -> Option<Slot<'a>>
-    ensures { result ≡ slice_get slots.now n }
-{
-    slots.get(n as usize).copied()
 }
 
 /// The part that a value type is. Takes constant time.

@@ -1,7 +1,7 @@
 //! Types and exports at the top of a component, in the order in which they take their indexes.
 
 ghost use Rattle.std.specs.List.{AllByRecursion, list_any};
-ghost use Rattle.std.specs.Prelude.{◌≡◌, ◌==◌, false, map, slice_get, IfErr, IfOk, IsOkUnless, OnOk, Some};
+ghost use Rattle.std.specs.Prelude.{◌≡◌, ◌==◌, false, map, IfErr, IfOk, IsOkUnless, OnOk, Some};
 ghost use Rattle.comp_meaning.specs.{ByLevels.top_export, ByLevels.top_part, ByLevels.top_piece, Reads.is_bare as is_bare_lem, Reads.steps};
 ghost use Rattle.read_follow.specs.{ExternNames.raw_name, Found.Gives, Found.Refuses};
 ghost use Rattle.read_follow.specs.{PartTypes.raw_part_type, PartTypes.IsWholePart, Pieces.raw_export, Pieces.raw_piece, Pieces.IsWholePiece};
@@ -12,6 +12,7 @@ use crate::offsets::in_front;
 use distinct_names::Named;
 use indexmap::IndexSet;
 use read_follow::{ExternName, PartType, Piece, Refusal, TopExport};
+use read_scope::slot_at;
 use std::alloc::Global;
 use wit_model::{Cause, is_label};
 
@@ -82,13 +83,6 @@ fn is_bare(name: ExternName<'_>) -> bool
     ensures { result ≡ is_bare_lem (raw_name name.entry) }
 {
     name.implements.is_none() && (name.version_suffix.is_none() && name.external_id.is_none())
-}
-
-/// What an index stands for, if there is anything.
-fn slot_at(slots: &[usize], n: u32) -> Option<usize>
-    ensures { result ≡ slice_get slots.now n }
-{
-    slots.get(n as usize).copied()
 }
 
 /// Whether a type of this number isn't exported yet, and may be under the name of this export.
