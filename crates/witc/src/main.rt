@@ -1,11 +1,6 @@
 //! The program `witc`: WIT packages as bytes and as text.
 #![tactic(auto)]
 
-#[cfg(test)]
-mod example;
-#[cfg(test)]
-mod tests;
-
 use std::process::ExitCode;
 use wit_component::Error;
 use witc_run::{Refusal, refuse, run, words};
