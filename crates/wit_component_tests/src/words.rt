@@ -3,7 +3,7 @@
 use std::env::FillError;
 use std::rt::Env;
 use std::test::Fail;
-use witc_run::words;
+use witc_run::words::words;
 
 /// So many words behind the program's name, each of so many letters `w`.
 #[derive(Drop)]

@@ -3,7 +3,9 @@
 
 use std::process::ExitCode;
 use wit_component::Error;
-use witc_run::{Refusal, refuse, run, words};
+use witc_run::run::run;
+use witc_run::words::words;
+use witc_run::{Refusal, refuse};
 
 fn main(rt: HostRuntime) -> ExitCode {
     let alloc = rt.alloc();

@@ -10,10 +10,8 @@ mod input;
 mod module;
 mod print;
 mod refusal;
-mod run;
-mod words;
+pub mod run;
+pub mod words;
 
 pub use answer::{BAD_WORDS, DONE, REFUSED, refuse};
 pub use refusal::Refusal;
-pub use run::run;
-pub use words::words;

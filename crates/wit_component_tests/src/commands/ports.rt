@@ -3,7 +3,7 @@
 use std::alloc::{AllocError, Global};
 use std::io;
 use std::io::{ErrorKind, Read, Write};
-use witc_run::run;
+use witc_run::run::run;
 
 /// At which call the reader and the writer fail, counted from 1. At 0 they don't.
 #[derive(Clone, Copy)]
