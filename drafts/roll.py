@@ -3,9 +3,9 @@
 import json, os, re, shutil, subprocess, sys, threading, time
 MAIN = '/work/main'
 lanes = int(sys.argv[1])
-WEIGHT = dict(wit_encode=445, wit_compat=579, read_follow=511, bind_carry=454, plan_package=228, wit_bind=203, plan_parts=196, bind_copy=193, read_rules=185, comp_read=149, bind_clash=144, case_words=138, plan_types=126,
+WEIGHT = dict(witc_run=150, read_scope=10, wit_encode=445, wit_compat=579, read_follow=511, bind_carry=454, plan_package=228, wit_bind=203, plan_parts=196, bind_copy=193, read_rules=185, comp_read=149, bind_clash=144, case_words=138, plan_types=126,
   comp_bytes_tests=121, read_parts=111, bind_modules=96, read_members=95, wit_interfaces=94, read_exports=89, wit_metadata=74, read_numbers=62, wit_component=54, bind_json=53, bind_names=43, cases=900, wit_component_tests=341,
-  wit_print_tests=245, witc=590, callers=122, witc_ffi=240, witc_written=81, witc_texts=75, witc_alike=61, wit_samples=49, witc_listed=43, check_rules=660, print_items=300, print_packages=300, print_uses=120, wit_print=120, wit_json=156,
+  wit_print_tests=245, witc=400, callers=122, witc_ffi=240, witc_written=81, witc_texts=75, witc_alike=61, wit_samples=49, witc_listed=43, check_rules=660, print_items=300, print_packages=300, print_uses=120, wit_print=120, wit_json=156,
   comp_bytes=150, wit_model=150, encode_types=200, plan_meaning=60, bind_union=40, print_calls=60, print_grammar=60, print_output=60)
 TRIAL = set(open('/work/tools/trial_crates.txt').read().split())
 tried = set(open('/work/tools/tried.txt').read().split()) if os.path.exists('/work/tools/tried.txt') else set()
