@@ -32,7 +32,7 @@ fn settle_one(fate: Fate, def: &TypeDef, adds: bool, done: &[Fate]) -> Fate
 }
 
 /// What becomes of each type in the end: where anything is added, a type without a name is copied if all its parts are carried.
-pub(crate) fn settle(
+pub fn settle(
     alloc: Global,
     types: &[TypeDef],
     fates: &[Fate],
@@ -77,7 +77,7 @@ fn carried_type(
 }
 
 /// Copies the types that are copied behind those that were added before, in their order, and answers the number that each type has from now on.
-pub(crate) fn copy_types(
+pub fn copy_types(
     alloc: Global,
     own: usize,
     types: &[TypeDef],
@@ -102,7 +102,7 @@ pub(crate) fn copy_types(
 }
 
 /// Whether a flag is set.
-pub(crate) fn any(flags: &[bool]) -> bool
+pub fn any(flags: &[bool]) -> bool
     ensures { result ≡ list_any (λ b. b) flags.now }
 {
     flags.iter().any(|flag| *flag)

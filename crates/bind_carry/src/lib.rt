@@ -1,21 +1,17 @@
-//! What the union of a `Resolve` and its bound world with another adds to it.
+//! What is carried of another `Resolve`: the fates of its types, its numbers and names, and the laws of their union.
 #![tactic(auto)]
 
 pub mod added_laws;
-mod bound;
-mod carried;
-mod fate;
-mod fates;
+pub mod bound;
+pub mod fate;
+pub mod fates;
 pub mod laws;
 pub mod merged;
-mod moved;
-mod numbers;
-mod owned;
-mod packages;
+pub mod moved;
+pub mod numbers;
+pub mod owned;
+pub mod packages;
 mod parts;
-mod plan;
-mod union;
-mod which;
-mod whole;
-
-pub use union::union_of;
+pub mod plan;
+pub mod which;
+pub mod whole;

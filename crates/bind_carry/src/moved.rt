@@ -44,7 +44,7 @@ fn placed(own: usize, fate: Fate, places: &mut Vec<TypeDef>) -> Result<u32, Erro
 }
 
 /// Makes places for the types that are carried as a whole, behind those that were made before, and answers the number that each type has from now on.
-pub(crate) fn type_places(
+pub fn type_places(
     alloc: Global,
     own: usize,
     fates: &[Fate],
@@ -83,7 +83,7 @@ fn move_one(types: &[u32], fate: Fate, def: TypeDef, place: usize, places: &mut 
 }
 
 /// Moves the types that are carried as a whole to their places, in their order.
-pub(crate) fn move_types(types: &[u32], fates: &[Fate], defs: Vec<TypeDef>, places: &mut [TypeDef])
+pub fn move_types(types: &[u32], fates: &[Fate], defs: Vec<TypeDef>, places: &mut [TypeDef])
     requires count { length fates.now ≡ length defs.items }
     requires room { copies_of fates.now ≤ length places.old }
     requires below { (n : ℕ) (def : TypeDefValue) → slice_get defs.items n ≡ Some def

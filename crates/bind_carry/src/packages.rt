@@ -74,7 +74,7 @@ fn new_package(alloc: Global, carried: &Carried, package: &Package) -> Result<Pa
 }
 
 /// The packages that have no own one of their name, with what is copied of them.
-pub(crate) fn new_package_list(
+pub fn new_package_list(
     alloc: Global,
     other: &Resolve,
     carried: &Carried,
@@ -141,11 +141,7 @@ fn gain(
 }
 
 /// What own packages gain.
-pub(crate) fn gained_names(
-    alloc: Global,
-    other: &Resolve,
-    carried: &Carried,
-) -> Result<Vec<Names>, Error>
+pub fn gained_names(alloc: Global, other: &Resolve, carried: &Carried) -> Result<Vec<Names>, Error>
     requires whole { IsWhole carried.now }
     requires packages { length carried.now.packages.items ≡ length other.now.packages.items }
     requires interfaces { (n : ℕ) (p : PackageValue) → package_at other.now n ≡ Some p

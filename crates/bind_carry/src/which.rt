@@ -12,7 +12,7 @@ use std::alloc::{AllocError, Global};
 use wit_model::{Error, Interface, Map, Resolve, WorldItem, WorldKey};
 
 /// Which worlds are copied as a whole: those whose path no own world has, but for the world `root:root/root`.
-pub(crate) fn copied_worlds(
+pub fn copied_worlds(
     alloc: Global,
     other: &Resolve,
     matches: &Matches,
@@ -49,7 +49,7 @@ fn mark_inline(other: &Resolve, item: &WorldItem, marks: &mut [bool])
 }
 
 /// Shown the inline interfaces among items whose keys have no item here.
-pub(crate) fn mark_new_inline(
+pub fn mark_new_inline(
     other: &Resolve,
     interfaces: &[u32],
     here: &Map<WorldKey, WorldItem>,
@@ -111,7 +111,7 @@ fn new_named(alloc: Global, other: &Resolve, matches: &Matches) -> Result<Vec<bo
 }
 
 /// Which interfaces are copied with these worlds: those with a path that no own one has, and the inline ones of the worlds.
-pub(crate) fn copied_interfaces(
+pub fn copied_interfaces(
     alloc: Global,
     other: &Resolve,
     matches: &Matches,
@@ -131,7 +131,7 @@ pub(crate) fn copied_interfaces(
 }
 
 /// So many flags, none of them set.
-pub(crate) fn unmarked(alloc: Global, count: usize) -> Result<Vec<bool>, Error>
+pub fn unmarked(alloc: Global, count: usize) -> Result<Vec<bool>, Error>
     ensures flags { IfOk result (λ v. v.items ≡ replicate count false) }
     ensures refuses { IfErr result IsMemory }
 {

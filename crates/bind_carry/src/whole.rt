@@ -37,10 +37,7 @@ fn no_interface(alloc: Global) -> Interface {
 }
 
 /// A place for each interface that is carried.
-pub(crate) fn interface_places(
-    alloc: Global,
-    carried: &[bool],
-) -> Result<Vec<Interface>, AllocError>
+pub fn interface_places(alloc: Global, carried: &[bool]) -> Result<Vec<Interface>, AllocError>
     ensures { IfOk result (λ v. length v.items ≡ copied_count carried.now) }
 {
     let mut places = Vec::with_capacity(alloc, carried.len())?;
@@ -83,7 +80,7 @@ fn move_one(
 }
 
 /// Moves the interfaces that are carried to their places, in their order.
-pub(crate) fn move_interfaces(
+pub fn move_interfaces(
     carried: &Carried,
     types: &[u32],
     interfaces: Vec<Interface>,
@@ -132,7 +129,7 @@ fn copy_world(
 }
 
 /// The worlds that are copied, in their order.
-pub(crate) fn copy_worlds(
+pub fn copy_worlds(
     alloc: Global,
     other: &Resolve,
     carried: &Carried,

@@ -14,9 +14,9 @@ ghost use Rattle.wit_bind.specs.Comes.{BringsNothing};
 
 use crate::metadata::ModuleMetadata;
 use bind_add::{Added, add, reserve};
-use bind_carry::union_of;
 use bind_clash::refuse_clash;
 use bind_match::{Matches, matched_packages, matches_of};
+use bind_unite::union_of;
 use indexmap::IndexSet;
 use std::alloc::Global;
 use wit_model::{
