@@ -10,7 +10,7 @@ use Rattle.wit_model.specs.Lookup.{interface_at, interface_path, key_text, path_
 use Rattle.wit_model.specs.Meaning.{Entry, InterfaceMeaning, InterfaceSense, WorldMeaning, WorldSense, entry_sense, interface_sense, world_sense}
 use Rattle.wit_model.specs.Meant.{entries_meaning, entry_meaning, interface_meaning_at, no_world, world_meaning, world_meaning_at}
 use Rattle.wit_model.proofs.{Elements.contains-get, AnyOrder.found-there as find-contains}
-use Rattle.wit_compat.specs.Senses.{Sense, of_import, of_interface, of_world, sense_of}
+use Rattle.compat_meaning.specs.Senses.{Sense, of_import, of_interface, of_world, sense_of}
 use Rattle.bind_meaning.specs.{Binding.Binding, Binding.Stand, ByNumbers.binding_at, Encodings.Encodings, Roots.root_path}
 use Rattle.bind_meaning.specs.Clash.{Differ, ExportFault, ImportFault, InterfaceFault, IsFirstOf, WorldFault, carried_worlds}
 use Rattle.bind_meaning.proofs.{Listed.from-map, Listed.given as unpacked, Searches.second-there as second-differs, Searches.stands-second as second-stands}
@@ -23,7 +23,7 @@ use Rattle.bind_clash.specs.Laws.{AreWorlds, FaultsAreOfBindings, IsFirstIn}
 use Rattle.bind_clash.proofs.KeysMatched.{found-distinct, no-own-entry, own-entry}
 use Rattle.bind_clash.proofs.PathsMatched.{IsPathOf, crossed-world-has, crossed-world-there, has-root, interface-in-has, interface-in-there, own-interface-has, own-interface-there, root-has, untrue, world-in-has, world-in-there, world-path-of}
 use Rattle.base_lemmas.proofs.{Elements.contains-map, Elements.get-contains, Options.there as some-of}
-use Rattle.wit_compat.specs.declared.place.Place.TheVariants as place
+use Rattle.compat_meaning.specs.declared.place.Place.TheVariants as place
 
 -- ---- what is there on both sides
 

@@ -10,15 +10,15 @@ use Rattle.wit_model.specs.{Rules.entries_in_range, Rules.in_list, Rules.package
 use Rattle.wit_model.specs.Text.{Text, optional_text, text_eq, text_of}
 use Rattle.std.specs.declared.alloc.Global.{Global}
 use Rattle.wit_model.proofs.{Entries.each_from_at, Entries.lists_pass, OnePath.found-in, OnePath.package-passes}
-use Rattle.wit_compat.specs.declared.place.Place.{Place}
-use Rattle.wit_compat.specs.Senses.{sense_of}
+use Rattle.compat_meaning.specs.declared.place.Place.{Place}
+use Rattle.compat_meaning.specs.Senses.{sense_of}
 use Rattle.bind_meaning.proofs.Listed.{given as unpacked}
 use Rattle.bind_match.specs.declared.matches.Matches.{Matches}
 use Rattle.bind_match.specs.Matching.{home_in, interface_in, is_root_world, own_interface_of, own_world_of, world_in}
 use Rattle.bind_clash.specs.Faults.{is_own_world_of, CrossingAt, CrossingOf, InterfaceDiffers, InterfaceFaultAt, IsLeastFault, IsMatched, OtherSense, WorldDiffers, WorldFaultAt}
 use Rattle.bind_clash.proofs.LeastFaults.{one_fault, same_faults}
 use Rattle.base_lemmas.proofs.{Bools.left_of as first_true, Bools.right_of as second_true, Numbers.false_true, Options.if_ok as in_ok}
-use Rattle.wit_compat.specs.declared.place.Place.TheVariants as place
+use Rattle.compat_meaning.specs.declared.place.Place.TheVariants as place
 
 -- ---- small words
 

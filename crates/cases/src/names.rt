@@ -2,7 +2,7 @@
 
 ghost use Rattle.std.specs.Prelude.{◌≡◌, true};
 ghost use Rattle.wit_model.specs.{Rules.entries_in_range, Rules.item_in_range, Valid.IsValid};
-ghost use Rattle.wit_compat.specs.Compatible.{HasItemsInRange};
+ghost use Rattle.compat_meaning.specs.Compatible.{HasItemsInRange};
 
 use crate::answer::Answer;
 use case_words::quoted;

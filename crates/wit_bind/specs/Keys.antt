@@ -5,7 +5,7 @@ use Rattle.wit_model.specs.declared.model.{Resolve.Resolve, WorldKey.WorldKey}
 use Rattle.wit_model.specs.{Lookup.canonical_path, Text.Text, Text.text_of}
 use Rattle.wit_model.specs.declared.model.WorldKey.TheVariants as key
 pub use Rattle.bind_meaning.specs.Keys.{text_under}
-pub use Rattle.wit_compat.specs.Opened.{bare_identity as unversioned, bare_path as unversioned_path}
+pub use Rattle.compat_meaning.specs.Opened.{bare_identity as unversioned, bare_path as unversioned_path}
 
 -- what stands in front of a function: the label under which its interface, or itself, is imported or exported, or the canonical path of its interface
 abbrev pub scope_of : Resolve → WorldKey → Option Text

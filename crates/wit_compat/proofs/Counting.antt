@@ -4,9 +4,9 @@ use Rattle.std.proofs.lemmas.{List.length-take-le, List.take-append-drop, List.t
 use Rattle.std.proofs.lemmas.{List.Elements.Contains-append_left, Map.Keys.IsDistinct-head, Map.Keys.IsDistinct-tail}
 use Rattle.std.specs.List.{Contains, IsDistinct, AllByRecursion}
 use Rattle.wit_model.specs.declared.model.{Resolve.Resolve, World.World}
-use Rattle.wit_compat.specs.Walk.{Pair, AreDifferent, IsCounted, pairs_of_worlds}
-use Rattle.wit_compat.specs.Table.{AreAmong, AreReached, IsLayered, IsSettled}
-use Rattle.wit_compat.proofs.Alike.{closed}
+use Rattle.compat_meaning.specs.Walk.{Pair, AreDifferent, IsCounted, pairs_of_worlds}
+use Rattle.compat_meaning.specs.Table.{AreAmong, AreReached, IsLayered, IsSettled}
+use Rattle.compat_meaning.proofs.Alike.{closed}
 use Rattle.base_lemmas.proofs.Elements.{all_at}
 
 abbrev pub same_numbers : Pair → Pair → Bool

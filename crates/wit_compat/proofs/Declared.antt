@@ -9,16 +9,16 @@ use Rattle.wit_model.specs.{Meant.type_meaning_at, Rules.is_named_number, Rules.
 use Rattle.wit_model.specs.Tree.{Tree, Form, Declaration, type_, resource, primitive, named, node, children, child_list}
 use Rattle.wit_model.specs.Types.{number_of, type_tree, tree_of, trees_of, no_tree, declared_by, tree_of_declaration}
 use Rattle.wit_model.proofs.{Entries.each_from_at, Entries.lists_pass, TreeTable.kept_numbers, TreeLemmas.child_list_of_children as children_back}
-use Rattle.wit_compat.specs.declared.look.Look.{Look}
-use Rattle.wit_compat.specs.{Opened.form_of, Opened.places_of, TwoSides.AreParted, TwoSides.aliased, TwoSides.IsKindOf, TwoSides.SameDeclared, TwoSides.TellsDeclared}
-use Rattle.wit_compat.specs.Table.{AllInRange, InRange}
-use Rattle.wit_compat.proofs.{Alike.is_below, Alike.node_children, Alike.node_form, OpenedTable.opened_built}
-use Rattle.wit_compat.proofs.Sided.{named_is, never, number_case, places_in_range}
+use Rattle.compat_meaning.specs.declared.look.Look.{Look}
+use Rattle.compat_meaning.specs.{Opened.form_of, Opened.places_of, TwoSides.AreParted, TwoSides.aliased, TwoSides.IsKindOf, TwoSides.SameDeclared, TwoSides.TellsDeclared}
+use Rattle.compat_meaning.specs.Table.{AllInRange, InRange}
+use Rattle.compat_meaning.proofs.{Alike.is_below, Alike.node_children, Alike.node_form, OpenedTable.opened_built}
+use Rattle.compat_meaning.proofs.Sided.{named_is, never, number_case, places_in_range}
 use Rattle.base_lemmas.proofs.{Bools.right_of as second_true, Elements.last_of as one-contained, Lists.within_there as found_at}
 use Rattle.wit_model.specs.declared.model.TypeDefKind.TheVariants as kind
 use Rattle.wit_model.specs.declared.model.Handle.TheVariants as handle
 use Rattle.wit_model.specs.declared.model.«Type».TheVariants as ty
-use Rattle.wit_compat.specs.declared.look.Look.TheVariants as look
+use Rattle.compat_meaning.specs.declared.look.Look.TheVariants as look
 
 true_false : {P : Type 0} → true ≡ false → P
 true_false e = let wrong : ⊥ = cc in absurd wrong

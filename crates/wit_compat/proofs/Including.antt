@@ -4,11 +4,12 @@ use Rattle.std.proofs.lemmas.List.{drop_more, map-append, take-append-drop, take
 use Rattle.std.proofs.lemmas.List.Elements.{Contains-append_right, Contains-get_or, Contains-push_cases}
 use Rattle.std.specs.List.{Contains}
 use Rattle.wit_model.specs.declared.{model.Resolve.Resolve, error.Error.Error}
-use Rattle.wit_compat.specs.declared.part.Entry.{Entry}
-use Rattle.wit_compat.specs.Compatible.{IsFault, is_missing, is_other, missing, differs, spelled_name, IsMemoryOr, IsEntryFault, IsFaultOf, IsIncluded}
-use Rattle.wit_compat.specs.Flat.{Name, Thing, Shown, all_shown, find_named, shown}
-use Rattle.wit_compat.specs.{Parts.named_thing, Parts.thing_of, Walk.Pair, Walk.pairs_of_entry, Walk.pairs_shared, Table.AreAmong, Table.AreReached}
-use Rattle.wit_compat.proofs.{Either.flat_from, Settling.reached_join}
+use Rattle.compat_meaning.specs.declared.part.Entry.{Entry}
+use Rattle.compat_meaning.specs.Compatible.{IsFault, is_missing, is_other, missing, differs, spelled_name, IsMemoryOr, IsEntryFault, IsFaultOf, IsIncluded}
+use Rattle.compat_meaning.specs.Flat.{Name, Thing, Shown, all_shown, find_named, shown}
+use Rattle.compat_meaning.specs.{Parts.named_thing, Parts.thing_of, Walk.Pair, Walk.pairs_of_entry, Walk.pairs_shared, Table.AreAmong, Table.AreReached}
+use Rattle.compat_meaning.proofs.{Either.flat_from}
+use Rattle.wit_compat.proofs.{Settling.reached_join}
 use Rattle.wit_model.proofs.Elements.{contains-flat}
 use Rattle.base_lemmas.proofs.{Elements.contains-map as contains_mapped, Elements.map_from as contains_map, Lists.map_of_map}
 

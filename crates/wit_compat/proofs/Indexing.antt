@@ -1,12 +1,12 @@
 -- An index finds what its list has.
 use Rattle.std.proofs.Common.{rules as std_rules, ◌≡◌, refl, sym, ap, ◌∙◌, ℕ, ◌+◌, ◌<◌, ◌==◌, subst, Bool, true, false, ◌&&◌, cond, List, [], ◌∷◌, ◌++◌, map, take, length, get_or, Option, Some, None, option_map}
 use Rattle.std.proofs.lemmas.{List.take_more, List.map-append}
-use Rattle.wit_compat.proofs.Either.{of_two}
+use Rattle.compat_meaning.proofs.Either.{of_two}
 use Rattle.base_lemmas.proofs.Elements.{contains-later, first-contained, last_of}
 use Rattle.std.specs.{Borrow.Bor, List.Contains, Map.lookup, Option.is_none, Option.option_copied}
 use Rattle.wit_model.specs.Text.{text_eq}
-use Rattle.wit_compat.specs.declared.part.Entry.{Entry}
-use Rattle.wit_compat.specs.{Flat.Name, Flat.Thing, Flat.find_named, Flat.same_name, Parts.thing_of, Parts.named_thing, Numbered.AllNumbersTell}
+use Rattle.compat_meaning.specs.declared.part.Entry.{Entry}
+use Rattle.compat_meaning.specs.{Flat.Name, Flat.Thing, Flat.find_named, Flat.same_name, Parts.thing_of, Parts.named_thing, Numbered.AllNumbersTell}
 use Rattle.wit_compat.specs.Index.{NumberedName, indexed, AllToldFrom, ComeFrom, Indexes, IsToldFrom}
 
 abbrev thing_in : Entry → Thing

@@ -5,8 +5,8 @@ use Rattle.std.specs.{Borrow.Bor, List.Contains, List.IsAmong, Option.option_cop
 use Rattle.wit_model.specs.declared.model.{Resolve.Resolve, Interface.Interface, TypeId.TypeId}
 use Rattle.wit_model.specs.{Lookup.interface_at, Meaning.InterfaceSense, Meaning.TypeMeaning, Meaning.interface_sense}
 use Rattle.wit_model.specs.{Meant.interface_meaning, Meant.interface_meaning_at, Meant.type_meaning_at, Text.Text}
-use Rattle.wit_compat.specs.TwoSides.{functions_sense, types_sense}
-use Rattle.wit_compat.proofs.Sided.{never}
+use Rattle.compat_meaning.specs.TwoSides.{functions_sense, types_sense}
+use Rattle.compat_meaning.proofs.Sided.{never}
 use Rattle.base_lemmas.proofs.Options.{if_ok}
 
 pub among_found : {X : Type 0} (xs : List X) (o : Option (Bor X)) (y : Bor X) → IfSome o (λ x. IsAmong xs x.now) → o ≡ Some y → Contains xs y.now

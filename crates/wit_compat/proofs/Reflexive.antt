@@ -10,10 +10,11 @@ use Rattle.wit_model.specs.Rules.{are_member_labels, function_labels, in_list, i
 use Rattle.wit_model.specs.Valid.{IsValid, as_interface, functions_of_interface, function_names, labels, order_of_types}
 use Rattle.wit_model.proofs.Entries.{each_from_all, each_from_at, lists_pass, none_breaks}
 use Rattle.wit_model.proofs.Listings.{interface_fits, misnamed_in_interface_breaks}
-use Rattle.wit_compat.specs.{Compatible.Accepts, Compatible.HasKeysOnce, Compatible.IsIncluded, Compatible.bare_keys, Opened.bare_key}
-use Rattle.wit_compat.specs.Flat.{Name, Shown, Thing, interface, of_type, of_function, entry_things, find_named, flat, function_member, members, same_name, shown, things_of, type_member}
-use Rattle.wit_compat.proofs.{Including.found_shown, Indexing.same_name_is, Keyed.item_key, Keyed.of_members, Validity.interface_numbers}
-use Rattle.wit_compat.proofs.Either.{flat_from, of_first, of_two}
+use Rattle.compat_meaning.specs.{Compatible.Accepts, Compatible.HasKeysOnce, Compatible.IsIncluded, Compatible.bare_keys, Opened.bare_key}
+use Rattle.compat_meaning.specs.Flat.{Name, Shown, Thing, interface, of_type, of_function, entry_things, find_named, flat, function_member, members, same_name, shown, things_of, type_member}
+use Rattle.compat_meaning.proofs.{Keyed.item_key, Keyed.of_members, Validity.interface_numbers}
+use Rattle.wit_compat.proofs.{Including.found_shown, Indexing.same_name_is}
+use Rattle.compat_meaning.proofs.Either.{flat_from, of_first, of_two}
 use Rattle.base_lemmas.proofs.{Bools.left_of as first_true, Bools.right_of as second_true, Lists.within_there as found_at}
 use Rattle.base_lemmas.proofs.Elements.{all-contained as all_contained, all_at, any-at as any_contained, contains-later, contains-map as contains_mapped, first-contained, map_from as contains_map, none_in as none_contained}
 use Rattle.wit_model.specs.declared.error.EntryList.TheVariants as lists

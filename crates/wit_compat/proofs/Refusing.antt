@@ -4,9 +4,9 @@ use Rattle.std.proofs.lemmas.List.Elements.{Contains-append_right}
 use Rattle.base_lemmas.proofs.Elements.{first-contained}
 use Rattle.std.specs.List.{Contains}
 use Rattle.wit_model.specs.declared.{model.Resolve.Resolve, model.World.World, error.Error.Error}
-use Rattle.wit_compat.specs.Compatible.{Accepts, IsFault, is_missing, is_other, IsFirstFault, IsIncluded, IsMismatch, IsRefused, memory, refused, IsRepeated, Refusal, Refuses, package_name, packages, keys, imports, exports, HasKeysOnce, keys_of_world}
-use Rattle.wit_compat.specs.Flat.{Name, Shown, find_named}
-use Rattle.wit_compat.proofs.Repeating.{both_once, repeated_excludes}
+use Rattle.compat_meaning.specs.Compatible.{Accepts, IsFault, is_missing, is_other, IsFirstFault, IsIncluded, IsMismatch, IsRefused, memory, refused, IsRepeated, Refusal, Refuses, package_name, packages, keys, imports, exports, HasKeysOnce, keys_of_world}
+use Rattle.compat_meaning.specs.Flat.{Name, Shown, find_named}
+use Rattle.compat_meaning.proofs.Repeating.{both_once, repeated_excludes}
 
 no_fault : (name : Name) (s : Shown) (o : Option Shown) (f : Refusal) → IsFault name s o f → o ≡ Some s → ⊥
 no_fault name s _ _ is_missing e = let z : ⊥ = cc in z

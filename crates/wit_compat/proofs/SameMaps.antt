@@ -4,7 +4,7 @@ use Rattle.std.proofs.Math.ListN.{length-map}
 use Rattle.std.proofs.lemmas.{Cmp.nat_list_cmp_total, Cmp.nat_list_eq_equiv, Map.Iter.rest_all, Map.Iter.rest_more, Map.Keys.IsDistinct-cons, Map.Steps.length-le_from_keys}
 use Rattle.std.specs.declared.alloc.Global.{Global}
 use Rattle.wit_model.specs.Text.{Text, TextMap, text_cmp, text_eq, text_of}
-use Rattle.wit_compat.proofs.Sided.{never, not_same}
+use Rattle.compat_meaning.proofs.Sided.{never, not_same}
 use Rattle.base_lemmas.proofs.{Elements.contains-later, Elements.contains-map, Elements.first-contained, Maps.lookup_of_map, Options.there as some_there}
 use Rattle.std.specs.{Borrow.Bor, List.Contains, List.IsDistinct, List.list_any, Map.keys_of, Map.lookup, Prelude.string_eq}
 use Rattle.std.specs.Map.Iter.{TakesFirst, deref_pair}

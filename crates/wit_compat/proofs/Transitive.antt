@@ -3,7 +3,7 @@ use Rattle.std.proofs.Common.{rules as std_rules, ◌≡◌, refl, ap, Bool, tru
 use Rattle.base_lemmas.proofs.Elements.{contains-later, first-contained}
 use Rattle.std.specs.List.{Contains}
 use Rattle.wit_model.specs.declared.model.{Resolve.Resolve, World.World}
-use Rattle.wit_compat.specs.{Compatible.Accepts, Compatible.IsIncluded, Flat.Name, Flat.Shown, Flat.find_named, Flat.same_name}
+use Rattle.compat_meaning.specs.{Compatible.Accepts, Compatible.IsIncluded, Flat.Name, Flat.Shown, Flat.find_named, Flat.same_name}
 use Rattle.wit_compat.proofs.Indexing.{same_name_is}
 
 -- what is found under a name stands in the list

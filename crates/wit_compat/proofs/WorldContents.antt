@@ -8,8 +8,9 @@ use Rattle.wit_model.specs.{Lookup.key_text, Lookup.world_at, Lookup.interface_p
 use Rattle.wit_model.specs.Meaning.{Entry, InterfaceSense, WorldSense, entries_sense, entry_sense, world_sense, Item, interface, inline, interface_sense, item_sense}
 use Rattle.wit_model.specs.Meant.{entries_meaning, entry_meaning, world_meaning, world_meaning_at, interface_item, interface_meaning_at, type_meaning_at}
 use Rattle.wit_model.specs.Rules.{item_in_range}
-use Rattle.wit_compat.specs.TwoSides.{indexed_sense, sense_entry, AllItemsInRange, BorrowedEntry, PutsFirst, SameInterfaceEntries}
-use Rattle.wit_compat.proofs.{SameMaps.maps_same, SameMaps.under, SameMaps.under_is, Sided.never}
+use Rattle.compat_meaning.specs.TwoSides.{indexed_sense, sense_entry, AllItemsInRange, BorrowedEntry, PutsFirst, SameInterfaceEntries}
+use Rattle.compat_meaning.proofs.{Sided.never}
+use Rattle.wit_compat.proofs.{SameMaps.maps_same, SameMaps.under, SameMaps.under_is}
 use Rattle.base_lemmas.proofs.{Options.there as some-of}
 use Rattle.wit_model.specs.declared.model.WorldItem.TheVariants as item
 

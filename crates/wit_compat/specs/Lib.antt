@@ -1,12 +1,2 @@
-pub mod Opened
-pub mod Flat
-pub mod Compatible
-pub mod Walk
-pub mod Table
-pub mod Numbered
-pub mod Outline
-pub mod Parts
 pub mod Index
-pub mod TwoSides
 pub mod Comparison
-pub mod Senses

@@ -4,12 +4,12 @@ ghost use Rattle.std.specs.Prelude.{◌≡◌, ◌↔◌, true, option_map, Some
 ghost use Rattle.std.specs.HashMap.{get_by_text};
 ghost use Rattle.wit_model.specs.{Meaning.entries_sense, Meaning.world_sense, Rules.entries_in_range, Rules.item_in_range, Text.text_of};
 ghost use Rattle.wit_model.specs.Meant.{entries_meaning, world_meaning};
-ghost use Rattle.wit_compat.specs.{Senses.sense_of_item, Compatible.HasItemsInRange};
-ghost use Rattle.wit_compat.specs.TwoSides.{indexed_sense, AllItemsInRange, AllSame, IsSide, PutsFirst};
+ghost use Rattle.compat_meaning.specs.{Senses.sense_of_item, Compatible.HasItemsInRange};
+ghost use Rattle.compat_meaning.specs.TwoSides.{indexed_sense, AllItemsInRange, AllSame, IsSide, PutsFirst};
 
 use crate::items::same_items;
-use crate::pairs::Pairs;
-use crate::side::{Side, key_text};
+use compat_meaning::pairs::Pairs;
+use compat_meaning::side::{Side, key_text};
 use indexmap::IndexMap;
 use keyed_hash::KeyedHash;
 use keyed_names::hash_of_keys;

@@ -2,12 +2,13 @@
 
 ghost use Rattle.std.specs.Prelude.{◌≡◌, ◌<◌, ◌↔◌, ◌∷◌, [], None, Some, length, IfOk, IsTrue};
 ghost use Rattle.wit_model.specs.{Meant.type_meaning_at, Rules.is_resource_itself};
-ghost use Rattle.wit_compat.specs.TwoSides.{aliased, AllSame, IsKindOf, IsSide, SameDeclared, TellsDeclared};
+ghost use Rattle.compat_meaning.specs.TwoSides.{aliased, AllSame, IsKindOf, IsSide, SameDeclared, TellsDeclared};
 
-use crate::look::{Look, look_into};
-use crate::pairs::Pairs;
+use crate::look::look_into;
 use crate::sense::{same_external_ids, same_types};
-use crate::side::Side;
+use compat_meaning::look::Look;
+use compat_meaning::pairs::Pairs;
+use compat_meaning::side::Side;
 use std::alloc::{AllocError, Global};
 use wit_model::{Type, TypeDefKind, TypeId};
 

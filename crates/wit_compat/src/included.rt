@@ -3,16 +3,18 @@
 ghost use Rattle.std.specs.Prelude.{◌≡◌, ◌++◌, ◌≤◌, ◌∷◌, [], true, false, length, map, Some, IfOk, OnOk, IfErr};
 ghost use Rattle.std.specs.List.{Contains};
 ghost use Rattle.wit_model.specs.Text.{text_of};
-ghost use Rattle.wit_compat.specs.Compatible.{differs as differs_lem, missing as missing_lem, spelled_name as spelled_name_lem, IsEntryFault, IsFaultOf, IsIncluded, IsMemoryOr};
-ghost use Rattle.wit_compat.specs.{Flat.all_shown, Flat.find_named, Flat.shown, Walk.heads_of, Walk.pairs_between, Walk.pairs_of_entry, Walk.pairs_shared};
-ghost use Rattle.wit_compat.specs.{Index.indexed, Index.AllToldFrom, Index.IsToldFrom, Table.AreAmong, Table.AreReached, Table.IsLayered, Table.IsSettled};
-ghost use Rattle.wit_compat.specs.{Outline.AreNames, Parts.named_thing, Parts.thing_of, Parts.EntriesInRange, Parts.FoundInRange, Parts.ThingInRange};
+ghost use Rattle.compat_meaning.specs.Compatible.{differs as differs_lem, missing as missing_lem, spelled_name as spelled_name_lem, IsEntryFault, IsFaultOf, IsIncluded, IsMemoryOr};
+ghost use Rattle.compat_meaning.specs.{Flat.all_shown, Flat.find_named, Flat.shown, Walk.heads_of, Walk.pairs_between, Walk.pairs_of_entry, Walk.pairs_shared};
+ghost use Rattle.compat_meaning.specs.{Table.AreAmong, Table.AreReached, Table.IsLayered, Table.IsSettled};
+ghost use Rattle.wit_compat.specs.{Index.indexed, Index.AllToldFrom, Index.IsToldFrom};
+ghost use Rattle.compat_meaning.specs.{Outline.AreNames, Parts.named_thing, Parts.thing_of, Parts.EntriesInRange, Parts.FoundInRange, Parts.ThingInRange};
 
 use crate::index::{Index, find};
-use crate::names::Names;
-use crate::pairs::Pairs;
-use crate::part::{Entry, Part, same_parts};
+use crate::part::same_parts;
 use crate::steps::Steps;
+use compat_meaning::names::Names;
+use compat_meaning::pairs::Pairs;
+use compat_meaning::part::{Entry, Part};
 use std::alloc::{AllocError, Global};
 use wit_model::{Error, Resolve, Type};
 

@@ -5,14 +5,14 @@ ghost use Rattle.std.specs.{HashMap.get_by_text, List.Contains};
 ghost use Rattle.indexmap.specs.IndexMap.{values};
 ghost use Rattle.wit_model.specs.{Meaning.interface_sense, Meant.function_meaning, Meant.interface_meaning, Meant.interface_meaning_at, Meant.type_meaning_at};
 ghost use Rattle.wit_model.specs.{Parts.function_types, Text.text_of};
-ghost use Rattle.wit_compat.specs.TwoSides.{functions_sense, types_sense, AllSame, HasTypesInRange, IsSide};
-ghost use Rattle.wit_compat.specs.Table.{AllInRange};
+ghost use Rattle.compat_meaning.specs.TwoSides.{functions_sense, types_sense, AllSame, HasTypesInRange, IsSide};
+ghost use Rattle.compat_meaning.specs.Table.{AllInRange};
 ghost use Rattle.wit_model.specs.declared.model.{TypeId.TypeId as TypeNumber, Function.Function as FunctionModel};
 
 use crate::declarations::same_type_meanings;
-use crate::pairs::Pairs;
 use crate::sense::same_function_senses;
-use crate::side::Side;
+use compat_meaning::pairs::Pairs;
+use compat_meaning::side::Side;
 use std::alloc::{AllocError, Global};
 use wit_model::{Function, Interface, InterfaceId, Map, TypeId};
 

@@ -2,13 +2,13 @@
 
 ghost use Rattle.std.specs.Prelude.{◌≡◌, ◌<◌, ◌↔◌, true, length, IfOk, IsTrue};
 ghost use Rattle.wit_model.specs.{Meaning.item_sense, Meant.interface_item, Rules.item_in_range};
-ghost use Rattle.wit_compat.specs.{Senses.sense_of_item, TwoSides.AllSame, TwoSides.IsSide, TwoSides.SameInterfaceEntries};
+ghost use Rattle.compat_meaning.specs.{Senses.sense_of_item, TwoSides.AllSame, TwoSides.IsSide, TwoSides.SameInterfaceEntries};
 
 use crate::declarations::same_type_meanings;
 use crate::interfaces::same_interfaces;
-use crate::pairs::Pairs;
 use crate::sense::{same_external_ids, same_function_senses};
-use crate::side::{Side, path_at, same_paths};
+use compat_meaning::pairs::Pairs;
+use compat_meaning::side::{Side, path_at, same_paths};
 use std::alloc::{AllocError, Global};
 use wit_model::{InterfaceId, WorldItem};
 

@@ -1,8 +1,8 @@
 //! Laws about the definitions, and the comparison of two worlds with its steps counted.
 
 ghost use Rattle.std.specs.Prelude.{◌≡◌, ◌<◌, length, is_ok, MatchResult};
-ghost use Rattle.wit_compat.specs.Compatible.{Accepts, HasKeysOnce, IsRefused, OfWorlds, Refusal, Refuses};
-ghost use Rattle.wit_compat.specs.Walk.{IsCounted};
+ghost use Rattle.compat_meaning.specs.Compatible.{Accepts, HasKeysOnce, IsRefused, OfWorlds, Refusal, Refuses};
+ghost use Rattle.compat_meaning.specs.Walk.{IsCounted};
 ghost use Rattle.wit_model.specs.declared.model.{Resolve.Resolve, World.World};
 ghost use Rattle.wit_model.specs.Valid.{IsValid};
 

@@ -3,23 +3,16 @@
 ghost use Rattle.std.specs.Prelude.{◌≡◌, ◌<◌, ◌↔◌, Bool, Vec, true, false, length, IfOk, IsTrue};
 ghost use Rattle.std.specs.declared.alloc.Global.{Global};
 ghost use Rattle.wit_model.specs.declared.model.{«Type».«Type» as ValueType, «Type».TheVariants.Id};
-ghost use Rattle.wit_compat.specs.{Opened.form_of, Opened.places_of, TwoSides.name_leaf, TwoSides.AllSame, TwoSides.IsSide, TwoSides.Says, Table.InRange};
-ghost use Rattle.wit_compat.specs.declared.look.Look.TheVariants.{Known, Parts};
+ghost use Rattle.compat_meaning.specs.{Opened.form_of, Opened.places_of, TwoSides.name_leaf, TwoSides.AllSame, TwoSides.IsSide, TwoSides.Says, Table.InRange};
+ghost use Rattle.compat_meaning.specs.declared.look.Look.TheVariants.{Known, Parts};
 
-use crate::follow::number_of;
-use crate::kinds::{name_text, places, same_forms};
-use crate::pairs::Pairs;
-use crate::side::{Side, same_owners};
+use compat_meaning::follow::number_of;
+use compat_meaning::kinds::{name_text, places, same_forms};
+use compat_meaning::look::Look;
+use compat_meaning::pairs::Pairs;
+use compat_meaning::side::{Side, same_owners};
 use std::alloc::{AllocError, Global};
 use wit_model::{Type, TypeDef, TypeDefKind, TypeId};
-
-/// What a look shows.
-pub(crate) enum Look {
-    /// Whether the types stand for the same.
-    Known(bool),
-    /// They do exactly where the types at equal places do.
-    Parts(Vec<Type>, Vec<Type>),
-}
 
 /// Whether two named types have the same place and name.
 fn same_names(left: &Side, right: &Side, a: &TypeDef, b: &TypeDef) -> bool

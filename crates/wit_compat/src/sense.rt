@@ -2,13 +2,14 @@
 
 ghost use Rattle.std.specs.Prelude.{◌≡◌, ◌↔◌, map, IfOk, IsTrue};
 ghost use Rattle.wit_model.specs.{Meant.function_meaning, Meant.signature_of, Parts.function_types, Text.optional_text, Types.type_tree};
-ghost use Rattle.wit_compat.specs.{TwoSides.AllSame, TwoSides.IsSide, TwoSides.SameType, Table.AllInRange, Table.InRange};
+ghost use Rattle.compat_meaning.specs.{TwoSides.AllSame, TwoSides.IsSide, TwoSides.SameType, Table.AllInRange, Table.InRange};
 
-use crate::follow::number_of;
 use crate::functions::{same_shapes, value_types};
-use crate::look::{Look, look_at};
-use crate::pairs::Pairs;
-use crate::side::Side;
+use crate::look::look_at;
+use compat_meaning::follow::number_of;
+use compat_meaning::look::Look;
+use compat_meaning::pairs::Pairs;
+use compat_meaning::side::Side;
 use std::alloc::{AllocError, Global};
 use wit_model::{Function, Type};
 

@@ -2,14 +2,15 @@
 
 ghost use Rattle.std.specs.Prelude.{◌≡◌, ◌<◌, ◌↔◌, true, is_some, length, IfErr, IfOk, IsTrue};
 ghost use Rattle.wit_model.specs.{Meaning.world_sense, Meant.world_meaning_at, Valid.IsValid, Refusals.IsMemory};
-ghost use Rattle.wit_compat.specs.{Senses.sense_of, Comparison.IsReady, TwoSides.AllSame, TwoSides.IsSide};
+ghost use Rattle.compat_meaning.specs.{Senses.sense_of, TwoSides.AllSame, TwoSides.IsSide};
+ghost use Rattle.wit_compat.specs.{Comparison.IsReady};
 
 use crate::contents::same_worlds;
 use crate::interfaces::same_interfaces;
 use crate::items::same_items;
-use crate::pairs::Pairs;
-use crate::place::{Place, import_at};
-use crate::side::Side;
+use compat_meaning::pairs::Pairs;
+use compat_meaning::place::{Place, import_at};
+use compat_meaning::side::Side;
 use indexmap::IndexSet;
 use std::alloc::{AllocError, Global};
 use std::marker::Model;
@@ -92,7 +93,7 @@ pub struct Senses<'a> {
 impl<'a> Model for Senses<'a> {
     ghost use Rattle.wit_model.specs.contracts.model.Resolve.{the_row};
     ghost use Rattle.wit_compat.specs.Comparison.{Comparison, comparison_code};
-    ghost use Rattle.wit_compat.specs.TwoSides.{AllSame};
+    ghost use Rattle.compat_meaning.specs.TwoSides.{AllSame};
 
     ghost Value = { Comparison };
 

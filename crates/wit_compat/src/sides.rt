@@ -2,16 +2,17 @@
 
 ghost use Rattle.std.specs.Prelude.{◌≡◌, ◌++◌, ◌≤◌, true, length, map, IfOk, OnOk, IfErr};
 ghost use Rattle.wit_model.specs.{Rules.entries_in_range, Valid.IsValid};
-ghost use Rattle.wit_compat.specs.{Compatible.IsFaultOf, Compatible.IsIncluded, Flat.flat, Flat.things_of, Table.AreAmong, Table.AreReached, Table.IsSettled};
-ghost use Rattle.wit_compat.specs.{Index.AllToldFrom, Index.Indexes, Outline.AreNames, Parts.named_thing, Walk.heads_of, Walk.pairs_shared};
+ghost use Rattle.compat_meaning.specs.{Compatible.IsFaultOf, Compatible.IsIncluded, Flat.flat, Flat.things_of, Table.AreAmong, Table.AreReached, Table.IsSettled};
+ghost use Rattle.compat_meaning.specs.{Outline.AreNames, Parts.named_thing, Walk.heads_of, Walk.pairs_shared};
+ghost use Rattle.wit_compat.specs.{Index.AllToldFrom, Index.Indexes};
 
 use crate::included::included;
 use crate::index::{Index, index};
-use crate::names::{Names, add_keys};
-use crate::pairs::Pairs;
-use crate::part::Entry;
 use crate::steps::Steps;
 use crate::things::things;
+use compat_meaning::names::{Names, add_keys};
+use compat_meaning::pairs::Pairs;
+use compat_meaning::part::Entry;
 use indexmap::IndexSet;
 use keyed_hash::Digest;
 use std::alloc::{AllocError, Global};

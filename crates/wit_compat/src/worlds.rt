@@ -4,17 +4,17 @@ ghost use Rattle.std.specs.Prelude.{◌≡◌, ◌++◌, ◌≤◌, ◌<◌, ◌
 ghost use Rattle.std.specs.Option.{option_copied};
 ghost use Rattle.wit_model.specs.declared.error.Error.TheVariants.{Memory as MemoryError};
 ghost use Rattle.wit_model.specs.{Meant.package_of_world, Rules.entries_in_range, Valid.IsValid};
-ghost use Rattle.wit_compat.specs.Compatible.{package_name, refusal_of, twice_without_version, Accepts, Compatible, HasItemsInRange, HasKeysOnce, IsMismatch, IsRefused, IsRepeated, OfWorlds};
-ghost use Rattle.wit_compat.specs.Opened.{bare_identity};
-ghost use Rattle.wit_compat.specs.{Outline.AreNames, Walk.heads_of, Walk.pairs_of_worlds, Walk.IsCounted, Table.AreAmong, Table.AreReached, Table.IsSettled};
+ghost use Rattle.compat_meaning.specs.Compatible.{package_name, refusal_of, twice_without_version, Accepts, Compatible, HasItemsInRange, HasKeysOnce, IsMismatch, IsRefused, IsRepeated, OfWorlds};
+ghost use Rattle.compat_meaning.specs.Opened.{bare_identity};
+ghost use Rattle.compat_meaning.specs.{Outline.AreNames, Walk.heads_of, Walk.pairs_of_worlds, Walk.IsCounted, Table.AreAmong, Table.AreReached, Table.IsSettled};
 
-use crate::follow::heads;
 use crate::laws::semver_check_counted;
-use crate::names::{Names, names_of};
-use crate::pairs::Pairs;
-use crate::repeats::twice;
 use crate::sides::compare_sides;
 use crate::steps::Steps;
+use compat_meaning::follow::heads;
+use compat_meaning::names::{Names, names_of};
+use compat_meaning::pairs::Pairs;
+use compat_meaning::repeats::twice;
 use indexmap::IndexSet;
 use std::alloc::Global;
 use wit_model::{Error, Package, PackageName, Resolve, Type, World, WorldId};

@@ -63,9 +63,9 @@ pub use Rattle.wit_encode.specs.WholeWorlds
 pub use Rattle.wit_encode.specs.WorldAliases
 pub use Rattle.wit_interfaces.specs.InterfaceEncoders
 pub use Rattle.wit_compat.specs.Comparison
-pub use Rattle.wit_compat.specs.Compatible
-pub use Rattle.wit_compat.specs.Senses
-pub use Rattle.wit_compat.specs.Walk
+pub use Rattle.compat_meaning.specs.Compatible
+pub use Rattle.compat_meaning.specs.Senses
+pub use Rattle.compat_meaning.specs.Walk
 pub use Rattle.print_grammar.specs.AsRead
 pub use Rattle.print_grammar.specs.Calls
 pub use Rattle.print_grammar.specs.Reading

@@ -4,7 +4,7 @@ use Rattle.wit_model.specs.declared.{error.Error.Error, model.Resolve.Resolve, m
 use Rattle.wit_component.specs.{Decoded.IsDecoded, Decoded.RefusesBytes, Senses.sense_of}
 use Rattle.witc_texts.specs.Named.{NamesWorld}
 use Rattle.witc_alike.specs.declared.likeness.Alike.{Alike}
-use Rattle.wit_compat.specs.declared.place.Place.TheVariants as place
+use Rattle.compat_meaning.specs.declared.place.Place.TheVariants as place
 use Rattle.witc_alike.specs.declared.likeness.Alike.TheVariants as alike
 
 -- The bytes mean a package, and the number is of its world of this name.

@@ -1,5 +1,5 @@
 use Rattle.std.proofs.{Common.rules, Common.refl, lemmas.Option.slice_get_read}
-use Rattle.wit_compat.proofs.Ranges.{has_items}
+use Rattle.compat_meaning.proofs.Ranges.{has_items}
 use Rattle.cases.proofs.names.put_worlds.Goals as goal
 
 pub put_world-requires : goal.put_world-requires

@@ -1,6 +1,7 @@
 use Rattle.std.proofs.{Common.rules, Common.arith, Common.refl, Common.subst, lemmas.Map.Iter.rest_all, lemmas.Map.Iter.rest_more}
 use Rattle.std.specs.{List.Contains, Map.Iter.deref_pair}
-use Rattle.wit_compat.proofs.{Ranges.next_in_range, WorldContents.all_made, WorldContents.nothing_made, WorldContents.put_in_range, WorldContents.put_split}
+use Rattle.compat_meaning.proofs.{Ranges.next_in_range}
+use Rattle.wit_compat.proofs.{WorldContents.all_made, WorldContents.nothing_made, WorldContents.put_in_range, WorldContents.put_split}
 use Rattle.wit_compat.proofs.contents.items.Goals as goal
 
 pub loop-key-init : goal.loop-key-init

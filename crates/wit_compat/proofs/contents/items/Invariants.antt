@@ -1,6 +1,6 @@
 use Rattle.std.proofs.Common.{◌≡◌, true}
 use Rattle.wit_model.specs.Rules.{entries_in_range}
-use Rattle.wit_compat.specs.TwoSides.{AllItemsInRange}
+use Rattle.compat_meaning.specs.TwoSides.{AllItemsInRange}
 use Rattle.wit_compat.proofs.WorldContents.{IsSplit}
 use Rattle.wit_compat.proofs.contents.items.Given as goal
 

@@ -2,7 +2,7 @@ use Rattle.std.proofs.Common.{map}
 use Rattle.std.specs.Borrow.{Bor}
 use Rattle.wit_model.specs.declared.model.WorldItem.{WorldItem}
 use Rattle.wit_model.specs.{Meaning.entry_sense, Meant.entry_meaning, Text.text_of}
-use Rattle.wit_compat.specs.TwoSides.{sense_entry, AllSame}
+use Rattle.compat_meaning.specs.TwoSides.{sense_entry, AllSame}
 use Rattle.wit_compat.proofs.SameMaps.{IsAlong}
 use Rattle.wit_compat.proofs.contents.same_indexed.Given as goal
 

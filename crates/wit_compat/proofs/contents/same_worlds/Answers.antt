@@ -1,5 +1,6 @@
 use Rattle.std.proofs.Common.{rules}
-use Rattle.wit_compat.proofs.{Sided.never, Sided.not_same, WorldContents.contents_exact, WorldContents.imports_back}
+use Rattle.compat_meaning.proofs.{Sided.never, Sided.not_same}
+use Rattle.wit_compat.proofs.{WorldContents.contents_exact, WorldContents.imports_back}
 use Rattle.base_lemmas.proofs.Options.{if_ok as in_ok}
 use Rattle.wit_compat.proofs.contents.same_worlds.Goals as goal
 

@@ -1,5 +1,6 @@
 use Rattle.std.proofs.Common.{sym, ap, ◌∙◌, Some, option_map}
-use Rattle.wit_compat.specs.{Flat.all_shown, Flat.shown, Index.indexed, Parts.named_thing, Parts.thing_of, Walk.pairs_of_entry}
+use Rattle.compat_meaning.specs.{Flat.all_shown, Flat.shown, Parts.named_thing, Parts.thing_of, Walk.pairs_of_entry}
+use Rattle.wit_compat.specs.{Index.indexed}
 use Rattle.wit_compat.proofs.{Including.entry_differs, Including.entry_missing, Including.found_shown, Including.shown_entry, Signatures.reached_none}
 use Rattle.wit_compat.proofs.included.check_entry.Goals as goal
 

@@ -1,5 +1,6 @@
 use Rattle.std.proofs.Common.{rules, arith, map}
-use Rattle.wit_compat.specs.{Index.indexed, Parts.named_thing, Walk.pairs_shared}
+use Rattle.compat_meaning.specs.{Parts.named_thing, Walk.pairs_shared}
+use Rattle.wit_compat.specs.{Index.indexed}
 use Rattle.wit_compat.proofs.Including.{all_hold, all_included, first_fault, reached_more, stand_all, stand_more}
 use Rattle.wit_compat.proofs.Signatures.{reached_none}
 use Rattle.wit_compat.proofs.included.included.Goals as goal

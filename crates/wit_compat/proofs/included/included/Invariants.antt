@@ -1,5 +1,6 @@
 use Rattle.std.proofs.Common.{◌++◌, map, take}
-use Rattle.wit_compat.specs.{Index.indexed, Parts.named_thing, Walk.pairs_shared, Table.AreAmong, Table.AreReached, Table.IsSettled}
+use Rattle.compat_meaning.specs.{Parts.named_thing, Walk.pairs_shared, Table.AreAmong, Table.AreReached, Table.IsSettled}
+use Rattle.wit_compat.specs.{Index.indexed}
 use Rattle.wit_compat.proofs.Including.{AllStand}
 use Rattle.wit_compat.proofs.included.included.Given as goal
 

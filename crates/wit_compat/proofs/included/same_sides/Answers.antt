@@ -1,5 +1,5 @@
 use Rattle.std.proofs.Common.{◌≡◌, sym, subst, true, IfOk}
-use Rattle.wit_compat.specs.{Parts.thing_of, Walk.pairs_between, Table.AreAmong}
+use Rattle.compat_meaning.specs.{Parts.thing_of, Walk.pairs_between, Table.AreAmong}
 use Rattle.wit_compat.proofs.included.same_sides.Goals as goal
 
 pub returns-then-back-clause-holds : goal.returns-then-back-clause-holds

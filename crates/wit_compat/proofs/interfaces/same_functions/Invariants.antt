@@ -1,6 +1,6 @@
 use Rattle.std.proofs.Common.{map}
 use Rattle.wit_model.specs.{Meant.function_meaning, Text.text_of}
-use Rattle.wit_compat.specs.TwoSides.{AllSame}
+use Rattle.compat_meaning.specs.TwoSides.{AllSame}
 use Rattle.wit_compat.proofs.SameMaps.{entry, IsAlong}
 use Rattle.wit_compat.proofs.interfaces.same_functions.Given as goal
 

@@ -1,5 +1,6 @@
 use Rattle.std.proofs.{Common.refl, lemmas.Option.slice_get_read}
-use Rattle.wit_compat.proofs.{Members.interfaces_exact, Ranges.has_types}
+use Rattle.compat_meaning.proofs.{Ranges.has_types}
+use Rattle.wit_compat.proofs.{Members.interfaces_exact}
 use Rattle.base_lemmas.proofs.Options.{if_ok as in_ok}
 use Rattle.wit_compat.proofs.interfaces.same_interfaces.Goals as goal
 

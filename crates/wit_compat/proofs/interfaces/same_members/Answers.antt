@@ -1,5 +1,6 @@
 use Rattle.std.proofs.Common.{rules}
-use Rattle.wit_compat.proofs.{Members.members_exact, Members.types_back, Sided.never, Sided.not_same}
+use Rattle.compat_meaning.proofs.{Sided.never, Sided.not_same}
+use Rattle.wit_compat.proofs.{Members.members_exact, Members.types_back}
 use Rattle.base_lemmas.proofs.Options.{if_ok as in_ok}
 use Rattle.wit_compat.proofs.interfaces.same_members.Goals as goal
 

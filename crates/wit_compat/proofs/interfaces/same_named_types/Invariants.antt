@@ -1,7 +1,7 @@
 use Rattle.std.proofs.Common.{map}
 use Rattle.wit_model.specs.declared.model.TypeId.{TypeId}
 use Rattle.wit_model.specs.{Meant.type_meaning_at, Text.text_of}
-use Rattle.wit_compat.specs.TwoSides.{AllSame}
+use Rattle.compat_meaning.specs.TwoSides.{AllSame}
 use Rattle.wit_compat.proofs.SameMaps.{entry, IsAlong}
 use Rattle.wit_compat.proofs.interfaces.same_named_types.Given as goal
 

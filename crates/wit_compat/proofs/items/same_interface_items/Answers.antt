@@ -1,5 +1,5 @@
 use Rattle.std.proofs.Common.{sym, ap, ◌∙◌, option_map}
-use Rattle.wit_compat.specs.TwoSides.{path_text}
+use Rattle.compat_meaning.specs.TwoSides.{path_text}
 use Rattle.wit_compat.proofs.WorldContents.{both_inline, both_paths, first_inline, second_inline}
 use Rattle.wit_compat.proofs.items.same_interface_items.Goals as goal
 use Rattle.base_lemmas.proofs.Options.{if_ok as in_ok}

@@ -1,6 +1,7 @@
 use Rattle.std.proofs.Common.{◌↔◌, IsTrue, sym, ap, subst, ◌∙◌}
 use Rattle.wit_model.specs.Rules.{item_in_range}
-use Rattle.wit_compat.proofs.{Validity.function_types_in_range, WorldContents.type_items, WorldContents.SameEntries}
+use Rattle.compat_meaning.proofs.{Validity.function_types_in_range}
+use Rattle.wit_compat.proofs.{WorldContents.type_items, WorldContents.SameEntries}
 use Rattle.base_lemmas.proofs.Options.{if_ok as in_ok}
 use Rattle.wit_model.specs.declared.model.WorldItem.TheVariants as item
 use Rattle.wit_compat.proofs.items.same_items.Goals as goal

@@ -1,5 +1,5 @@
 use Rattle.std.proofs.Common.{sym, ◌∙◌}
-use Rattle.wit_compat.proofs.Sided.{never, number_apart, primitive_exact}
+use Rattle.compat_meaning.proofs.Sided.{never, number_apart, primitive_exact}
 use Rattle.wit_compat.proofs.look.look_at.Goals as goal
 
 pub returns-in-None-number_of : goal.returns-in-None-number_of

@@ -1,6 +1,6 @@
 use Rattle.std.proofs.{Common.refl, Common.sym, Common.◌∙◌, lemmas.Option.slice_get_read}
 use Rattle.indexmap.proofs.CallerLemmas.{Contains-list_any}
-use Rattle.wit_compat.proofs.{Growing.same_pair, Sided.both_named, Sided.first_named, Sided.second_named, Sided.looked, Sided.never}
+use Rattle.compat_meaning.proofs.{Growing.same_pair, Sided.both_named, Sided.first_named, Sided.second_named, Sided.looked, Sided.never}
 use Rattle.wit_compat.proofs.look.look_up.Goals as goal
 
 pub returns-then-is_some-2 : goal.returns-then-is_some-2

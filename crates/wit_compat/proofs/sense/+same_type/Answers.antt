@@ -1,7 +1,7 @@
 use Rattle.std.proofs.Common.{rules, refl, subst, ◌<◌, get_or}
 use Rattle.wit_model.specs.declared.model.«Type».TheVariants as ty
-use Rattle.wit_compat.specs.TwoSides.{rank}
-use Rattle.wit_compat.proofs.Sided.{all_parts, never, not_same, part_differs, part_more, part_there, parts_said}
+use Rattle.compat_meaning.specs.TwoSides.{rank}
+use Rattle.compat_meaning.proofs.Sided.{all_parts, never, not_same, part_differs, part_more, part_there, parts_said}
 use Rattle.wit_compat.proofs.sense.+same_type.Goals as goal
 
 pub loop-i-init : goal.loop-i-init

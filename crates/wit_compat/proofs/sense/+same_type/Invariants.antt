@@ -1,6 +1,6 @@
 use Rattle.std.proofs.Common.{◌≡◌, map, take}
 use Rattle.wit_model.specs.Types.{type_tree}
-use Rattle.wit_compat.specs.TwoSides.{rank, AllSame}
+use Rattle.compat_meaning.specs.TwoSides.{rank, AllSame}
 use Rattle.wit_compat.proofs.sense.+same_type.Given as goal
 
 abbrev pub decreases-same_type : goal.decreases-same_type

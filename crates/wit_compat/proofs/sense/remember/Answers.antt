@@ -1,6 +1,6 @@
 use Rattle.std.proofs.Common.{sym, subst, ◌∙◌}
 use Rattle.std.specs.List.{Contains}
-use Rattle.wit_compat.proofs.Sided.{inserted, remembered}
+use Rattle.compat_meaning.proofs.Sided.{inserted, remembered}
 use Rattle.wit_compat.proofs.sense.remember.Goals as goal
 
 pub returns-in_ok-insert-in-Some-number_of : goal.returns-in_ok-insert-in-Some-number_of

@@ -1,6 +1,7 @@
 use Rattle.std.proofs.Common.{rules}
 use Rattle.wit_model.specs.Types.{type_tree}
-use Rattle.wit_compat.proofs.{Sided.never, Signatures.shapes_same, Signatures.signatures_exact}
+use Rattle.compat_meaning.proofs.{Sided.never}
+use Rattle.wit_compat.proofs.{Signatures.shapes_same, Signatures.signatures_exact}
 use Rattle.wit_compat.proofs.sense.same_signatures.Goals as goal
 
 pub returns-then-not-branch-clause-exact : goal.returns-then-not-branch-clause-exact

@@ -1,6 +1,6 @@
 use Rattle.std.proofs.{Common.rules, Common.get_or, lemmas.Option.slice_get-get_or, lemmas.List.Elements.Contains-get_or}
 use Rattle.wit_model.specs.declared.model.«Type».TheVariants as ty
-use Rattle.wit_compat.proofs.Sided.{never, not_same, tree_at_place}
+use Rattle.compat_meaning.proofs.Sided.{never, not_same, tree_at_place}
 use Rattle.wit_compat.proofs.sense.same_types.Goals as goal
 
 pub same_type-requires-clause-a : goal.same_type-requires-clause-a

@@ -1,6 +1,6 @@
 use Rattle.std.proofs.Common.{◌≡◌, map, take}
 use Rattle.wit_model.specs.Types.{type_tree}
-use Rattle.wit_compat.specs.TwoSides.{AllSame}
+use Rattle.compat_meaning.specs.TwoSides.{AllSame}
 use Rattle.wit_compat.proofs.sense.same_types.Given as goal
 
 -- those so far stand for the same

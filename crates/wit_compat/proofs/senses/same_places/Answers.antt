@@ -1,6 +1,6 @@
 use Rattle.std.proofs.Common.{sym, ap, ◌∙◌}
 use Rattle.std.specs.Option.{option_copied}
-use Rattle.wit_compat.proofs.Ranges.{import_in_range}
+use Rattle.compat_meaning.proofs.Ranges.{import_in_range}
 use Rattle.wit_compat.proofs.senses.same_places.Goals as goal
 
 pub same_items-requires-clause-a : goal.same_items-requires-clause-a

@@ -1,5 +1,6 @@
 use Rattle.std.proofs.{Common.refl, lemmas.Option.slice_get_read}
-use Rattle.wit_compat.proofs.{WorldContents.worlds_exact, Ranges.has_items}
+use Rattle.compat_meaning.proofs.{Ranges.has_items}
+use Rattle.wit_compat.proofs.{WorldContents.worlds_exact}
 use Rattle.base_lemmas.proofs.Options.{if_ok as in_ok}
 use Rattle.wit_compat.proofs.senses.same_worlds_at.Goals as goal
 

@@ -1,9 +1,11 @@
 use Rattle.std.proofs.Common.{◌≡◌, ap, subst, ◌∙◌, ◌++◌, List, map}
 use Rattle.std.proofs.lemmas.Result.{on_ok_weaker as ok_then, IfErr-weaker}
-use Rattle.wit_compat.specs.{Compatible.IsFaultOf, Compatible.IsIncluded, Flat.all_shown, Flat.things_of, Parts.named_thing, Table.AreAmong, Table.AreReached}
-use Rattle.wit_compat.specs.{Index.indexed, Walk.Pair, Walk.pairs_shared}
+use Rattle.compat_meaning.specs.{Compatible.IsFaultOf, Compatible.IsIncluded, Flat.all_shown, Flat.things_of, Parts.named_thing, Table.AreAmong, Table.AreReached}
+use Rattle.compat_meaning.specs.{Walk.Pair, Walk.pairs_shared}
+use Rattle.wit_compat.specs.{Index.indexed}
 use Rattle.wit_compat.proofs.Matching.{entries_in_range_by, fault_alike, found_in_range, included_alike, pairs_alike}
-use Rattle.wit_compat.proofs.{Signatures.reached_none, Validity.layered, Validity.things_in_range}
+use Rattle.compat_meaning.proofs.{Validity.layered, Validity.things_in_range}
+use Rattle.wit_compat.proofs.{Signatures.reached_none}
 use Rattle.wit_compat.proofs.sides.compare_sides.Goals as goal
 
 pub included-requires-clause-layered : goal.included-requires-clause-layered

@@ -1,6 +1,8 @@
 use Rattle.std.proofs.Common.{sym, subst}
-use Rattle.wit_compat.specs.{Index.ComeFrom, Numbered.AllNumbersTell}
-use Rattle.wit_compat.proofs.{Indexing.told_from, Numbering.all_tell}
+use Rattle.compat_meaning.specs.{Numbered.AllNumbersTell}
+use Rattle.wit_compat.specs.{Index.ComeFrom}
+use Rattle.compat_meaning.proofs.{Numbering.all_tell}
+use Rattle.wit_compat.proofs.{Indexing.told_from}
 use Rattle.wit_compat.proofs.sides.gathered.Goals as goal
 
 pub index-requires : goal.index-requires

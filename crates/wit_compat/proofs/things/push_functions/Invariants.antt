@@ -1,5 +1,5 @@
 use Rattle.std.proofs.Common.{◌≡◌, ◌++◌, map}
-use Rattle.wit_compat.specs.{Flat.function_member, Parts.numbered_thing, Parts.with_number}
+use Rattle.compat_meaning.specs.{Flat.function_member, Parts.numbered_thing, Parts.with_number}
 use Rattle.wit_compat.proofs.things.push_functions.Given as goal
 
 -- what is there, and what is left

@@ -1,7 +1,7 @@
 use Rattle.std.proofs.Common.{◌≡◌, sym, ap, ◌∙◌, ◌++◌, [], map, None, append-nil}
 use Rattle.std.specs.Option.{option_map_or}
 use Rattle.wit_model.specs.Lookup.{interface_at}
-use Rattle.wit_compat.specs.{Flat.members, Parts.numbered_thing, Parts.with_number}
+use Rattle.compat_meaning.specs.{Flat.members, Parts.numbered_thing, Parts.with_number}
 use Rattle.wit_compat.proofs.things.push_interface.Goals as goal
 
 pub returns-in-None : goal.returns-in-None

@@ -1,8 +1,8 @@
 use Rattle.std.proofs.Common.{rules, arith, ◌≡◌, sym, ap, subst, ◌∙◌, ◌++◌, map, append_assoc, Some}
 use Rattle.std.proofs.lemmas.Map.Iter.{rest_more}
 use Rattle.std.specs.{List.Contains, Map.Iter.deref_pair}
-use Rattle.wit_compat.specs.{Flat.item_things, Flat.things_of, Numbered.number_in, Opened.bare_key, Parts.named_thing}
-use Rattle.wit_compat.proofs.Keyed.{item_key, numbered_more, things_more}
+use Rattle.compat_meaning.specs.{Flat.item_things, Flat.things_of, Numbered.number_in, Opened.bare_key, Parts.named_thing}
+use Rattle.compat_meaning.proofs.Keyed.{item_key, numbered_more, things_more}
 use Rattle.wit_compat.proofs.things.things.Goals as goal
 
 pub loop-key-init : goal.loop-key-init

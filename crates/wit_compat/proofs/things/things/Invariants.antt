@@ -1,6 +1,6 @@
 use Rattle.std.proofs.Common.{◌≡◌, ◌++◌, true, map}
 use Rattle.wit_model.specs.Rules.{entries_in_range}
-use Rattle.wit_compat.specs.{Flat.things_of, Numbered.AreNumbered, Numbered.KeepsNumbers, Parts.named_thing}
+use Rattle.compat_meaning.specs.{Flat.things_of, Numbered.AreNumbered, Numbered.KeepsNumbers, Parts.named_thing}
 use Rattle.wit_compat.proofs.things.things.Given as goal
 
 -- what is there, and what is left

@@ -1,7 +1,7 @@
 use Rattle.std.proofs.Common.{◌≡◌, refl, sym, ap, subst, ◌∙◌, is_ok, MatchResult, unwrap_or}
 use Rattle.std.proofs.lemmas.Option.{slice_get_read}
-use Rattle.wit_compat.specs.{Compatible.Accepts, Compatible.IsRefused, Walk.IsCounted}
-use Rattle.wit_compat.proofs.Validity.{world_items}
+use Rattle.compat_meaning.specs.{Compatible.Accepts, Compatible.IsRefused, Walk.IsCounted}
+use Rattle.compat_meaning.proofs.Validity.{world_items}
 use Rattle.wit_compat.proofs.worlds.compare.Goals as goal
 
 pub compare_worlds-requires-clause-prev : goal.compare_worlds-requires-clause-prev

@@ -1,6 +1,7 @@
 use Rattle.std.proofs.Common.{rules, ◌≡◌, subst, is_ok, ◌++◌, [], List}
-use Rattle.wit_compat.specs.{Walk.Pair, Walk.pairs_of_worlds, Table.AreReached}
-use Rattle.wit_compat.proofs.{Counting.counted, Counting.ok_holds, Validity.layered}
+use Rattle.compat_meaning.specs.{Walk.Pair, Walk.pairs_of_worlds, Table.AreReached}
+use Rattle.compat_meaning.proofs.{Validity.layered}
+use Rattle.wit_compat.proofs.{Counting.counted, Counting.ok_holds}
 use Rattle.wit_compat.proofs.worlds.compare_anew.Goals as goal
 
 pub returns-clause-counted : goal.returns-clause-counted

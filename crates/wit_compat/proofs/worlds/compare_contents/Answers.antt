@@ -1,5 +1,5 @@
 use Rattle.std.proofs.{Common.true, Common.false, lemmas.Result.on_ok_weaker as ok_then}
-use Rattle.wit_compat.specs.{Flat.things_of, Walk.pairs_shared}
+use Rattle.compat_meaning.specs.{Flat.things_of, Walk.pairs_shared}
 use Rattle.wit_compat.proofs.Signatures.{among_two, reached_first, reached_two}
 use Rattle.wit_compat.proofs.worlds.compare_contents.Goals as goal
 

@@ -1,5 +1,6 @@
-use Rattle.wit_compat.specs.Compatible.{Accepts, IsRefused, memory}
-use Rattle.wit_compat.proofs.{Matching.by_result, Refusing.mismatch_refused, Refusing.repeated_refused, Validity.types_fit}
+use Rattle.compat_meaning.specs.Compatible.{Accepts, IsRefused, memory}
+use Rattle.compat_meaning.proofs.{Validity.types_fit}
+use Rattle.wit_compat.proofs.{Matching.by_result, Refusing.mismatch_refused, Refusing.repeated_refused}
 use Rattle.std.proofs.lemmas.Result.{on_ok_weaker as ok_then, IfErr-weaker}
 use Rattle.wit_compat.proofs.worlds.compare_named.Goals as goal
 

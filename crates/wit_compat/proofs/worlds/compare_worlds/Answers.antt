@@ -1,6 +1,6 @@
 use Rattle.std.proofs.Common.{rules, refl}
 use Rattle.wit_model.specs.declared.error.Error.TheVariants as error
-use Rattle.wit_compat.specs.Compatible.{memory, other_package, packages, refused}
+use Rattle.compat_meaning.specs.Compatible.{memory, other_package, packages, refused}
 use Rattle.wit_compat.proofs.worlds.compare_worlds.Goals as goal
 
 pub returns-then-not-same_packages-clause-accepts : goal.returns-then-not-same_packages-clause-accepts

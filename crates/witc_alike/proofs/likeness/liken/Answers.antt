@@ -1,9 +1,9 @@
 use Rattle.std.proofs.{Common.◌≡◌, lemmas.Option.slice_get_within}
-use Rattle.wit_compat.specs.Senses.{sense_of}
+use Rattle.compat_meaning.specs.Senses.{sense_of}
 use Rattle.witc_alike.specs.Likeness.{RefusesTwo, differ, first, no_first, no_second, same, second}
 use Rattle.witc_alike.proofs.LikeLaws.{have-other, have-same, memory-refused}
 use Rattle.base_lemmas.proofs.Options.{passed}
-use Rattle.wit_compat.specs.declared.place.Place.TheVariants as place
+use Rattle.compat_meaning.specs.declared.place.Place.TheVariants as place
 use Rattle.witc_alike.proofs.likeness.liken.Goals as goal
 
 pub returns-in_err-resolve-clause-refused : goal.returns-in_err-resolve-clause-refused

@@ -1,0 +1,10 @@
+pub mod Opened
+pub mod Flat
+pub mod Compatible
+pub mod Walk
+pub mod Table
+pub mod Numbered
+pub mod Outline
+pub mod Parts
+pub mod TwoSides
+pub mod Senses
