@@ -10,7 +10,7 @@ use wit_model::{Case, Field, Handle, Record, Result_, Tuple, Type, TypeDefKind, 
 
 impl Fate {
     /// Whether a type of this fate has a number from now on.
-    pub(crate) fn carries(self) -> bool
+    pub fn carries(self) -> bool
         ensures { result ≡ carries self }
     {
         match self {

@@ -11,7 +11,7 @@ use wit_model::{Handle, Type, TypeDefKind, TypeId};
 
 /// A list of numbers as a key of an ordered map, in falling order. What is new mostly has the greatest numbers, so it stands first, where a
 /// search begins.
-pub(crate) type ListKey = Reverse<Vec<u64>>;
+pub type ListKey = Reverse<Vec<u64>>;
 
 fn id_code(id: TypeId) -> u64
     ensures { result ≡ 14 + id.0 }
@@ -65,7 +65,7 @@ fn push_all(list: &mut Vec<u64>, types: &[Type]) -> Result<(), AllocError>
 }
 
 /// The list of an unnamed kind: a number for its case, then its parts, with a mark for each optional part.
-pub(crate) fn kind_list(alloc: Global, kind: &TypeDefKind) -> Result<Vec<u64>, AllocError>
+pub fn kind_list(alloc: Global, kind: &TypeDefKind) -> Result<Vec<u64>, AllocError>
     requires { is_named_kind kind.now ≡ false }
     ensures { IfOk result (λ v. v.items ≡ kind_code kind.now) }
 {

@@ -88,7 +88,7 @@ fn values_in(
 }
 
 /// The names of flags.
-pub(crate) fn flag_names<'a>(alloc: Global, flags: &'a [Flag]) -> Result<Vec<&'a str>, AllocError>
+pub fn flag_names<'a>(alloc: Global, flags: &'a [Flag]) -> Result<Vec<&'a str>, AllocError>
     ensures { IfOk result (λ v. texts v.items ≡ map (λ f. text_of f.name) flags.now) }
 {
     let mut names = Vec::new(alloc);
@@ -99,10 +99,7 @@ pub(crate) fn flag_names<'a>(alloc: Global, flags: &'a [Flag]) -> Result<Vec<&'a
 }
 
 /// The names of the cases of an enum.
-pub(crate) fn case_names<'a>(
-    alloc: Global,
-    cases: &'a [EnumCase],
-) -> Result<Vec<&'a str>, AllocError>
+pub fn case_names<'a>(alloc: Global, cases: &'a [EnumCase]) -> Result<Vec<&'a str>, AllocError>
     ensures { IfOk result (λ v. texts v.items ≡ map (λ c. text_of c.name) cases.now) }
 {
     let mut names = Vec::new(alloc);

@@ -22,7 +22,7 @@ use wit_model::{Error, Param, Resolve, Type, TypeId};
 
 // ---- reads
 
-pub(crate) fn index_of<'a, E: ValtypeEncoder<'a>>(enc: &mut E, id: TypeId) -> Option<u32>
+pub fn index_of<'a, E: ValtypeEncoder<'a>>(enc: &mut E, id: TypeId) -> Option<u32>
     ensures same { enc.new ≡ enc.old }
     ensures some { IfSome result (λ i. Contains (E.view enc.old).maps.id_to_index.entries (id.0, i)) }
     ensures none { IsKnown (E.view enc.old).maps id.0 → IsSome result }
@@ -30,7 +30,7 @@ pub(crate) fn index_of<'a, E: ValtypeEncoder<'a>>(enc: &mut E, id: TypeId) -> Op
     enc.type_encoding_maps().index_of(id)
 }
 
-pub(crate) fn index_of_kind<'a, E: ValtypeEncoder<'a>>(enc: &mut E, list: &ListKey) -> Option<u32>
+pub fn index_of_kind<'a, E: ValtypeEncoder<'a>>(enc: &mut E, list: &ListKey) -> Option<u32>
     ensures same { enc.new ≡ enc.old }
     ensures some { IfSome result (λ i. Contains (lists_of (E.view enc.old).maps.def_to_index) (list.now.0.items, i)) }
     ensures none { IfNone result (LacksList (lists_of (E.view enc.old).maps.def_to_index) list.now.0.items) }
@@ -38,7 +38,7 @@ pub(crate) fn index_of_kind<'a, E: ValtypeEncoder<'a>>(enc: &mut E, list: &ListK
     enc.type_encoding_maps().index_of_kind(list)
 }
 
-pub(crate) fn index_of_key<'a, E: ValtypeEncoder<'a>>(enc: &mut E, list: &ListKey) -> Option<u32>
+pub fn index_of_key<'a, E: ValtypeEncoder<'a>>(enc: &mut E, list: &ListKey) -> Option<u32>
     ensures same { enc.new ≡ enc.old }
     ensures some { IfSome result (λ i. Contains (lists_of (E.view enc.old).maps.func_type_map) (list.now.0.items, i)) }
     ensures none { IfNone result (LacksList (lists_of (E.view enc.old).maps.func_type_map) list.now.0.items) }
@@ -46,21 +46,21 @@ pub(crate) fn index_of_key<'a, E: ValtypeEncoder<'a>>(enc: &mut E, list: &ListKe
     enc.type_encoding_maps().index_of_key(list)
 }
 
-pub(crate) fn unit_future<'a, E: ValtypeEncoder<'a>>(enc: &mut E) -> Option<u32>
+pub fn unit_future<'a, E: ValtypeEncoder<'a>>(enc: &mut E) -> Option<u32>
     ensures same { enc.new ≡ enc.old }
     ensures value { result ≡ (E.view enc.old).maps.unit_future }
 {
     enc.type_encoding_maps().unit_future
 }
 
-pub(crate) fn unit_stream<'a, E: ValtypeEncoder<'a>>(enc: &mut E) -> Option<u32>
+pub fn unit_stream<'a, E: ValtypeEncoder<'a>>(enc: &mut E) -> Option<u32>
     ensures same { enc.new ≡ enc.old }
     ensures value { result ≡ (E.view enc.old).maps.unit_stream }
 {
     enc.type_encoding_maps().unit_stream
 }
 
-pub(crate) fn value_of<'a, E: ValtypeEncoder<'a>>(enc: &mut E, ty: &Type) -> ComponentValType
+pub fn value_of<'a, E: ValtypeEncoder<'a>>(enc: &mut E, ty: &Type) -> ComponentValType
     requires { IsReady (E.view enc.old).maps ty.now }
     ensures same { enc.new ≡ enc.old }
     ensures value { IsWritten (E.view enc.old).maps result ty.now }
@@ -68,7 +68,7 @@ pub(crate) fn value_of<'a, E: ValtypeEncoder<'a>>(enc: &mut E, ty: &Type) -> Com
     value_in(enc.type_encoding_maps(), ty)
 }
 
-pub(crate) fn params_of<'a, E: ValtypeEncoder<'a>>(
+pub fn params_of<'a, E: ValtypeEncoder<'a>>(
     alloc: Global,
     enc: &mut E,
     params: &'a [Param],
@@ -80,7 +80,7 @@ pub(crate) fn params_of<'a, E: ValtypeEncoder<'a>>(
     params_in(alloc, enc.type_encoding_maps(), params)
 }
 
-pub(crate) fn definition_of<'a, E: ValtypeEncoder<'a>>(
+pub fn definition_of<'a, E: ValtypeEncoder<'a>>(
     alloc: Global,
     enc: &mut E,
     shape: Shape<'a, '_>,
@@ -92,7 +92,7 @@ pub(crate) fn definition_of<'a, E: ValtypeEncoder<'a>>(
     definition(alloc, enc.type_encoding_maps(), shape)
 }
 
-pub(crate) fn order_of<'a, E: ValtypeEncoder<'a>>(
+pub fn order_of<'a, E: ValtypeEncoder<'a>>(
     alloc: Global,
     enc: &mut E,
     resolve: &'a Resolve,
@@ -109,7 +109,7 @@ pub(crate) fn order_of<'a, E: ValtypeEncoder<'a>>(
 
 // ---- writes
 
-pub(crate) fn list_of_key<'a, E: ValtypeEncoder<'a>>(
+pub fn list_of_key<'a, E: ValtypeEncoder<'a>>(
     alloc: Global,
     enc: &mut E,
     resolve: &'a Resolve,
@@ -129,7 +129,7 @@ pub(crate) fn list_of_key<'a, E: ValtypeEncoder<'a>>(
     enc.type_encoding_maps().list_of_key(alloc, key)
 }
 
-pub(crate) fn remember_id<'a, E: ValtypeEncoder<'a>>(
+pub fn remember_id<'a, E: ValtypeEncoder<'a>>(
     enc: &mut E,
     resolve: &'a Resolve,
     id: TypeId,
@@ -151,7 +151,7 @@ pub(crate) fn remember_id<'a, E: ValtypeEncoder<'a>>(
     enc.type_encoding_maps().remember_id(id, index)
 }
 
-pub(crate) fn remember_kind<'a, E: ValtypeEncoder<'a>>(
+pub fn remember_kind<'a, E: ValtypeEncoder<'a>>(
     enc: &mut E,
     resolve: &'a Resolve,
     list: ListKey,
@@ -173,7 +173,7 @@ pub(crate) fn remember_kind<'a, E: ValtypeEncoder<'a>>(
     enc.type_encoding_maps().remember_kind(list, index)
 }
 
-pub(crate) fn remember_key<'a, E: ValtypeEncoder<'a>>(
+pub fn remember_key<'a, E: ValtypeEncoder<'a>>(
     enc: &mut E,
     resolve: &'a Resolve,
     list: ListKey,
@@ -196,7 +196,7 @@ pub(crate) fn remember_key<'a, E: ValtypeEncoder<'a>>(
     enc.type_encoding_maps().remember_key(list, index)
 }
 
-pub(crate) fn remember_unit_future<'a, E: ValtypeEncoder<'a>>(enc: &mut E, index: u32)
+pub fn remember_unit_future<'a, E: ValtypeEncoder<'a>>(enc: &mut E, index: u32)
     requires stands { (E.view enc.old).stands index (tree (future_tree None)) }
     requires fresh { (E.view enc.old).maps.unit_future ≡ None }
     requires agree { Agrees (E.view enc.old).scope.packages (E.view enc.old) }
@@ -211,7 +211,7 @@ pub(crate) fn remember_unit_future<'a, E: ValtypeEncoder<'a>>(enc: &mut E, index
     enc.type_encoding_maps().remember_unit_future(index);
 }
 
-pub(crate) fn remember_unit_stream<'a, E: ValtypeEncoder<'a>>(enc: &mut E, index: u32)
+pub fn remember_unit_stream<'a, E: ValtypeEncoder<'a>>(enc: &mut E, index: u32)
     requires stands { (E.view enc.old).stands index (tree (stream_tree None)) }
     requires fresh { (E.view enc.old).maps.unit_stream ≡ None }
     requires agree { Agrees (E.view enc.old).scope.packages (E.view enc.old) }

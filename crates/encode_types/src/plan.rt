@@ -60,7 +60,7 @@ impl Order {
 }
 
 /// The interface of a type, where it is another one.
-pub(crate) fn foreign(own: Option<InterfaceId>, owner: TypeOwner) -> Option<InterfaceId>
+pub fn foreign(own: Option<InterfaceId>, owner: TypeOwner) -> Option<InterfaceId>
     ensures { result ≡ foreign_owner own owner }
 {
     match owner {

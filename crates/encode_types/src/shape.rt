@@ -11,7 +11,7 @@ use wit_model::{
 /// A kind of type that has a form of its own, neither a resource nor an alias.
 /// What goes by name is borrowed for `'a`, and the others for `'p`.
 #[derive(Clone, Copy)]
-pub(crate) enum Shape<'a, 'p> {
+pub enum Shape<'a, 'p> {
     Record(&'a Record),
     Flags(&'a Flags),
     Tuple(&'p Tuple),
@@ -28,7 +28,7 @@ pub(crate) enum Shape<'a, 'p> {
 }
 
 /// The shape of a kind.
-pub(crate) fn shape_of<'a>(kind: &'a TypeDefKind) -> Shape<'a, 'a>
+pub fn shape_of<'a>(kind: &'a TypeDefKind) -> Shape<'a, 'a>
     requires { has_form kind.now ≡ true }
     ensures { kind_of result ≡ kind.now }
 {
@@ -71,7 +71,7 @@ fn field_types(alloc: Global, fields: &[Field]) -> Result<Vec<Type>, AllocError>
 }
 
 /// The types of parameters.
-pub(crate) fn param_types(alloc: Global, params: &[Param]) -> Result<Vec<Type>, AllocError>
+pub fn param_types(alloc: Global, params: &[Param]) -> Result<Vec<Type>, AllocError>
     ensures { IfOk result (λ v. v.items ≡ map (λ p. p.ty) params.now) }
 {
     let mut types = Vec::new(alloc);
@@ -124,7 +124,7 @@ fn handle_target(handle: Handle) -> Type
 }
 
 /// The types that a shape is made of.
-pub(crate) fn shape_parts(alloc: Global, shape: Shape) -> Result<Vec<Type>, AllocError>
+pub fn shape_parts(alloc: Global, shape: Shape) -> Result<Vec<Type>, AllocError>
     ensures { IfOk result (λ v. v.items ≡ parts_of (kind_of shape.entry)) }
 {
     match shape {

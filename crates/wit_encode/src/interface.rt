@@ -17,9 +17,8 @@ use comp_bytes::{
     Alias, ComponentDefinedType, ComponentExternName, ComponentFuncType, ComponentType,
     ComponentTypeRef, InstanceType,
 };
-use encode_types::{
-    LendsMaps, TypeEncodingMaps, ValtypeEncoder, encode_func_type, encode_valtype, name_of,
-};
+use encode_kinds::{encode_func_type, encode_valtype, name_of};
+use encode_types::{LendsMaps, TypeEncodingMaps, ValtypeEncoder};
 use std::alloc::Global;
 use std::collections::BTreeMap;
 use std::mem;

@@ -23,8 +23,9 @@ use crate::interface::{
 use comp_bytes::{
     ComponentDefinedType, ComponentExternName, ComponentFuncType, ComponentType, ComponentTypeRef,
 };
+use encode_kinds::{encode_func_type, encode_valtype};
 use encode_names::{item_name, refuse_clashes};
-use encode_types::{LendsMaps, TypeEncodingMaps, ValtypeEncoder, encode_func_type, encode_valtype};
+use encode_types::{LendsMaps, TypeEncodingMaps, ValtypeEncoder};
 use std::alloc::Global;
 use std::mem;
 use wit_model::{
