@@ -1,7 +1,6 @@
--- Where copies of types stand, under the numbers that all types have. Serves bound::bind_entries, bound::copy_inline, bound::export_keys, bound::unify_types and 2 more; crates above.
+-- Where copies of types stand, under the numbers that all types have. Serves Addable, FirstInterfaces, FirstNumbers, FirstOfUnion and 21 more; crates above.
 pub mod CopiesPlaced
--- Where copies of things stand whose flags are set, under the numbers that are given to them one behind the other. Serves bound::inline_copies, packages::new_package_list, whole::copy_worlds; crates
--- above.
+-- Where copies of things stand whose flags are set, under the numbers that are given to them one behind the other. Serves packages::new_package_list, whole::copy_worlds; crates above.
 pub mod KeptPlaced
 -- What a union adds, once it is added, has all that is carried by path. Serves laws::of_unions; crates above.
 pub mod FirstOfUnion
@@ -15,7 +14,7 @@ pub mod Addable
 pub mod Marking
 -- At most as many are copied as pass a test that each of these passes. Serves crates above.
 pub mod CountedCopies
--- How many are copied. Serves bound::bind_items, fates::copy_types, moved::move_types, union::planned and 1 more; crates above.
+-- How many are copied. Serves fates::copy_types, moved::move_types, whole::move_interfaces; crates above.
 pub mod Counting
 -- Names that a package gains join those that it had. Serves FirstInterfaces, FirstWorlds, NamesCopied, SecondCarried; crates above.
 pub mod Joined
@@ -28,17 +27,18 @@ pub mod SettledParts
 pub mod PassedTypes
 -- What is copied of interfaces: each stands under its new number, with its types and its functions. Serves FirstNumbers, FirstWorlds, KeysGained, SecondCarried and 2 more; crates above.
 pub mod FirstInterfaces
--- A valid `Resolve` is in range. Serves union::planned, union::union_of; crates above.
+-- A valid `Resolve` is in range. Serves FirstNumbers, FirstWorlds, KeysGained, NamesCopied and 6 more; crates above.
 pub mod Ranges
 -- Worlds that are carried by path have numbers of their own, and packages stand in packages of their names. Serves FirstWorlds, KeysGained, NamesCopied, NamesMerged and 5 more; crates above.
 pub mod FirstNumbers
--- The pass over what the bound world gains begins as it should: what it copies is of the bound world, or of an inline interface that is gained. Serves bound::bind_types; crates above.
+-- The pass over what the bound world gains begins as it should: what it copies is of the bound world, or of an inline interface that is gained. Serves KeysGained, Ready, SecondCarried, SecondItems
+-- and 2 more; crates above.
 pub mod SecondInitial
--- What is carried of a `Resolve` in range can be copied, and so can what the bound world gains. Serves bound::bind_items, union::planned; crates above.
+-- What is carried of a `Resolve` in range can be copied, and so can what the bound world gains. Serves FirstWorlds, KeysGained, Planning, SecondCarried and 1 more; crates above.
 pub mod Ready
 -- What validity says of the keys of a world, and when a key is new under other numbers. Serves KeysGained, SecondCarried, SecondItems, SecondPass and 1 more; crates above.
 pub mod WorldEntries
--- Keys of the other's bound world stay apart under both numberings, and what is gained of them comes behind what was there. Serves bound::keys_under; crates above.
+-- Keys of the other's bound world stay apart under both numberings, and what is gained of them comes behind what was there. Serves FirstWorlds, SecondCarried, UnionDistinct, UnionKeys; crates above.
 pub mod KeysGained
 -- Worlds that are copied: all that their items name is carried, so each is a copy as the laws on unions ask for it. Serves laws::first_pass; crates above.
 pub mod FirstWorlds
@@ -64,11 +64,11 @@ pub mod SecondPass
 pub mod SecondCarried
 -- What a union adds, once it is added, is merged. Serves merged::merged_unions; crates above.
 pub mod MergedUnion
--- Things that are moved one after the other to the places that were made for them. Serves moved::move_types, moved::type_places, union::planned, union::union_of and 1 more.
+-- Things that are moved one after the other to the places that were made for them. Serves moved::move_types, moved::type_places, whole::move_interfaces; crates above.
 pub mod Moving
 -- The names in packages once all is added: own ones, each package's followed by what is new in it, and then those of new packages. Serves added_laws::added_names; crates above.
 pub mod NamesMerged
--- What a union adds, once what is moved is in its places. Serves union::planned, union::union_of.
+-- What a union adds, once what is moved is in its places. Serves crates above.
 pub mod Planning
 -- Types that meet their fates one by one. Serves fates::copy_types.
 pub mod Settling
