@@ -7,7 +7,7 @@ use Rattle.wit_model.specs.declared.model.{Function.Function, Interface.Interfac
 use Rattle.wit_model.specs.declared.model.Resolve.{Resolve}
 use Rattle.wit_model.specs.{Text.Text, Text.text_of, Lookup.interface_at, Lookup.key_text}
 use Rattle.wit_bind.specs.declared.bindgen.Bindgen.{Bindgen}
-use Rattle.wit_bind.specs.{Encodings.Encodings, Encodings.encoding_under, Functions.Items, Functions.exports_of, Functions.imports_of, Keys.function_key}
+use Rattle.bind_keys.specs.{Encodings.Encodings, Encodings.encoding_under, Functions.Items, Functions.exports_of, Functions.imports_of, Keys.function_key}
 use Rattle.wit_json.specs.Listed.{listed, member, number_token, whole_listing}
 use Rattle.wit_model.specs.declared.model.StringEncoding.TheVariants as encodings
 use Rattle.wit_model.specs.declared.model.WorldItem.TheVariants as item

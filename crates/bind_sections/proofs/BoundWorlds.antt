@@ -32,8 +32,9 @@ use Rattle.bind_carry.proofs.NamesGained.{home_is as id-is}
 use Rattle.semver.specs.declared.{Version.Version}
 use Rattle.semver.specs.{Identifiers.parts_of}
 use Rattle.semver.proofs.Grammar.{version_parts-complete}
-use Rattle.wit_bind.specs.Functions.{Items, IsFunctionKey, MapsFunctions, of_interface, of_item, exports_of, imports_of}
-use Rattle.wit_bind.specs.{Keys.function_key, Keys.scope_of, Bindings.binding_of}
+use Rattle.bind_keys.specs.Functions.{Items, IsFunctionKey, MapsFunctions, of_interface, of_item, exports_of, imports_of}
+use Rattle.bind_keys.specs.{Keys.function_key, Keys.scope_of}
+use Rattle.wit_bind.specs.{Bindings.binding_of}
 use Rattle.wit_bind.proofs.ValidKeys.{canonical-by-name}
 use Rattle.wit_bind.proofs.BoundWorlds.{HasMeaning, has-meaning, meaning-there, path-there, world-path}
 use Rattle.wit_bind.specs.declared.bindgen.Bindgen.{Bindgen}

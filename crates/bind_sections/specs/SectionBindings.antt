@@ -5,7 +5,7 @@ use Rattle.wit_model.specs.declared.error.Error.{Error}
 use Rattle.wit_model.specs.{Meaning.WorldPackage, Meant.MeantWorld}
 use Rattle.comp_meaning.specs.Reads.{ReadsWorld}
 use Rattle.wit_bind.specs.declared.bindgen.Bindgen.{Bindgen}
-use Rattle.wit_bind.specs.Functions.{MapsFunctions, exports_of, imports_of}
+use Rattle.bind_keys.specs.Functions.{MapsFunctions, exports_of, imports_of}
 use Rattle.comp_read.specs.{DecodedWorlds.IsDecodedWorld, DecodedWorlds.MeansNoWorld, Order.FollowsBytes}
 use Rattle.wit_metadata.specs.{Carried.CarriesEncoding, Carried.MeansWorld, Said.AnswersSaid}
 use Rattle.wit_model.specs.declared.error.Error.TheVariants as errors

@@ -14,10 +14,6 @@ pub mod NumbersAgree
 pub mod TooMany
 -- What is copied of other bindings comes by its path, or is gained by the own bound world. Serves Growth, Outgrown.
 pub mod Coming
--- What is kept under keys is a map by their texts. Serves table::at_number, table::at_twice, table::insert, table::search.
-pub mod Kept
--- The least key that has two encodings, found one entry after the other; and encodings added to others. Serves table::conflict.
-pub mod Conflicts
 -- What is added under new keys comes behind what was there. Serves laws::grown_extend.
 pub mod Extending
 -- Encodings put under one key after the other. Serves wanted::put_behind, wanted::put_members, wanted::wanted_encodings.
@@ -30,10 +26,6 @@ pub mod Growing
 pub mod Growth
 -- Bindings that are as they were stand for the same binding. Serves laws::kept_bindings_are_the_same.
 pub mod KeptBindings
--- Keys compared part by part. Serves keys::after_interface, keys::after_names, keys::after_path, keys::is_function_key and 9 more.
-pub mod KeyTexts
--- The last slash of a text. Serves table::at_last_slash.
-mod LastSlashes
 -- What is merged of two bindings stands for their union. Serves laws::united_are_the_union.
 pub mod UnionBound
 -- What comes of two bindings that don't clash, once all that the one brings is added to the other. Serves bindgen::merge_matched.
@@ -52,17 +44,9 @@ pub mod RootBindings
 mod Roots
 -- A world by its number. Serves encodings::from_unversioned.
 mod Sides
--- Keys of a table are the same where their whole texts are. Serves table::at, table::at_key, table::at_number, table::numbers_here.
-mod TableKeys
--- Entries of a table are found and put by the whole texts of their keys. Serves table::at_number, table::at_twice, table::conflict, table::insert and 2 more.
-mod TableEntries
--- Texts that get numbers, and entries of one table under the numbers of another. Serves table::add, table::at_key, table::number_all, table::numbered.
-mod TableMeet
 -- It can be told whether meanings have the same sense. Serves Uniting; crates above.
 pub mod Telling
 -- Room for more changes no entry, so bindings are as they were. Serves bindgen::grow.
 pub mod Unchanged
 -- Bindings of which nothing clashes by numbers unite. Serves bindgen::matched.
 pub mod Uniting
--- The pieces of a version's canonical part are its text. Serves versions::after_at_version, versions::after_identifier, versions::push_at_version.
-mod VersionTexts

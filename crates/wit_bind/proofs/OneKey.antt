@@ -8,8 +8,8 @@ use Rattle.wit_model.specs.declared.model.{PackageId.PackageId, PackageName.Pack
 use Rattle.wit_model.specs.{Text.Text, Text.text_of, Names.at_version, Names.is_label, Names.path_in, Rules.passes}
 use Rattle.wit_model.specs.{Lookup.canonical_identity_of, Lookup.interface_at, Lookup.package_at, Lookup.world_at, Paths.full_name, Valid.IsValid, Valid.labels}
 use Rattle.wit_model.proofs.{Elements.none-in, NameLaws.label_lacks, OnePath.interface-passes, OnePath.package-name}
-use Rattle.wit_bind.specs.{Keys.function_key, Keys.text_under, Keys.unversioned, Keys.unversioned_key, Encodings.Encodings, Encodings.encoding_at}
-use Rattle.wit_bind.specs.Functions.{Items}
+use Rattle.bind_keys.specs.{Keys.function_key, Keys.text_under, Keys.unversioned, Keys.unversioned_key, Encodings.Encodings, Encodings.encoding_at}
+use Rattle.bind_keys.specs.Functions.{Items}
 use Rattle.wit_bind.specs.OldKeys.{IsFunctionOf, itself, member, items_of, items_on, CarriesEach, CarriesOver, HadEncoding, OneOldKey}
 use Rattle.wit_bind.specs.declared.encodings.Side.{Side}
 use Rattle.bind_meaning.proofs.Listed.{given, mapped}

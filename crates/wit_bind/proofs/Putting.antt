@@ -6,8 +6,8 @@ use Rattle.std.specs.declared.alloc.Global.{Global}
 use Rattle.wit_model.specs.declared.model.{Function.Function, Resolve.Resolve, StringEncoding.StringEncoding, WorldKey.WorldKey}
 use Rattle.wit_model.specs.Text.{Text, text_eq}
 use Rattle.wit_model.proofs.{Elements.none-in, VersionLaws.same_text, TextLemmas.text_same as text-same}
-use Rattle.wit_bind.specs.{Encodings.Encodings, Encodings.encoding_at, Keys.scope_of, Keys.text_under}
-use Rattle.wit_bind.specs.KeyLists.{Choice, Entry, entry_of, member_entries, Puts, put_all}
+use Rattle.bind_keys.specs.{Encodings.Encodings, Encodings.encoding_at, Keys.scope_of, Keys.text_under}
+use Rattle.bind_keys.specs.KeyLists.{Choice, Entry, entry_of, member_entries, Puts, put_all}
 
 abbrev Look : Type 0
 Look = Text → Option StringEncoding

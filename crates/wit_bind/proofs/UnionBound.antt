@@ -22,7 +22,8 @@ use Rattle.bind_union.specs.Meanings.{BoundMeans, HaveDistinctTexts, Shows, Show
 use Rattle.bind_union.proofs.{Carrying.same_identity, United.interfaces_are_united, UnitedWorlds.worlds_are_united}
 use Rattle.bind_clash.proofs.PathsMatched.{has-root, root-has, world-path-of}
 use Rattle.wit_bind.specs.declared.bindgen.Bindgen.{Bindgen}
-use Rattle.wit_bind.specs.{Bindings.binding_of, Bindings.IsBindgen, MergedLaws.IsUnited, MergedLaws.UnitedAreTheUnion, Unions.Gains, Unions.or_else}
+use Rattle.bind_keys.specs.{Unions.Gains, Unions.or_else}
+use Rattle.wit_bind.specs.{Bindings.binding_of, Bindings.IsBindgen, MergedLaws.IsUnited, MergedLaws.UnitedAreTheUnion}
 use Rattle.base_lemmas.proofs.{Bools.left_of as first_true, Bools.right_of as second_true, Elements.contains-map, Elements.get-contains}
 use Rattle.std.specs.FinSet as set
 

@@ -3,7 +3,7 @@ use Rattle.std.specs.Prelude.{Some, option_and_then}
 use Rattle.indexmap.specs.IndexMap.{get_by_text}
 use Rattle.wit_model.specs.declared.model.Resolve.{Resolve}
 use Rattle.wit_bind.specs.declared.wanted.Wanted.{Wanted}
-use Rattle.wit_bind.specs.{Keys.unversioned_key, KeyLists.Choice}
+use Rattle.bind_keys.specs.{Keys.unversioned_key, KeyLists.Choice}
 use Rattle.wit_bind.specs.declared.wanted.Wanted.TheVariants as wanted
 
 -- one for all, or the one that stands under the function's key without version

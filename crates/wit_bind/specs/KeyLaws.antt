@@ -3,7 +3,7 @@ use Rattle.std.specs.{Prelude.◌≡◌, Prelude.ℕ, Prelude.Some, Prelude.Stri
 use Rattle.std.specs.declared.alloc.Global.{Global}
 use Rattle.wit_model.specs.declared.model.{Resolve.Resolve, Interface.Interface, Function.Function, WorldItem.WorldItem, WorldKey.WorldKey}
 use Rattle.wit_model.specs.{Text.Text, Text.text_of, Lookup.interface_at, Uses.item_interface, Valid.IsValid}
-use Rattle.wit_bind.specs.{Keys.text_under, Keys.function_key, Functions.Items, Functions.imports_of, Functions.exports_of, Functions.IsFunctionKey}
+use Rattle.bind_keys.specs.{Keys.text_under, Keys.function_key, Functions.Items, Functions.imports_of, Functions.exports_of, Functions.IsFunctionKey}
 use Rattle.wit_model.specs.declared.model.WorldItem.TheVariants as item
 
 -- Each function of these items has a key, under its own name.

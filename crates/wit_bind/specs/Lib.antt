@@ -1,17 +1,7 @@
-pub mod Keys
-pub mod Encodings
-pub mod Functions
-pub mod KeyTests
-pub mod KeyLists
 pub mod KeyLaws
 pub mod Roots
-pub mod Versions
 pub mod OldKeys
 pub mod Choices
-pub mod Cuts
-pub mod CutLaws
-pub mod Places
-pub mod Tables
 pub mod Bindings
 pub mod Extends
 pub mod Brings
@@ -19,6 +9,5 @@ pub mod Comes
 pub use Rattle.bind_carry.specs.MadeOf
 pub mod Merged
 pub mod Merges
-pub mod Unions
 pub mod MergedLaws
 pub mod Apart

@@ -11,7 +11,8 @@ use Rattle.bind_match.specs.declared.matches.Matches.{Matches}
 use Rattle.bind_meaning.specs.{Clash.CanUnite, Union.union}
 use Rattle.bind_union.specs.{Carried.Renumbering, Merged.IsMerged}
 use Rattle.wit_bind.specs.declared.bindgen.Bindgen.{Bindgen}
-use Rattle.wit_bind.specs.{Bindings.binding_of, Bindings.IsBindgen, Unions.Gains}
+use Rattle.bind_keys.specs.{Unions.Gains}
+use Rattle.wit_bind.specs.{Bindings.binding_of, Bindings.IsBindgen}
 
 -- The other's `Resolve` is merged into the own one, all but its root world; the bound world stays bound, and the encodings are gained. That no map has a key
 -- twice is shown by reading the maps.

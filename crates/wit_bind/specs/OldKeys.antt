@@ -6,7 +6,7 @@ use Rattle.wit_model.specs.declared.model.{Resolve.Resolve, World.World}
 use Rattle.wit_model.specs.declared.model.{Interface.Interface, Function.Function, StringEncoding.StringEncoding, WorldItem.WorldItem, WorldKey.WorldKey}
 use Rattle.wit_model.specs.{Text.Text, Text.text_of, Lookup.interface_at, Lookup.world_at, Uses.item_interface, Valid.IsValid}
 use Rattle.wit_bind.specs.declared.encodings.Side.{Side}
-use Rattle.wit_bind.specs.{Keys.function_key, Keys.unversioned_key, Encodings.Encodings, Encodings.encoding_at, Functions.Items}
+use Rattle.bind_keys.specs.{Keys.function_key, Keys.unversioned_key, Encodings.Encodings, Encodings.encoding_at, Functions.Items}
 use Rattle.wit_model.specs.declared.model.WorldItem.TheVariants as item
 use Rattle.wit_model.specs.declared.model.WorldKey.TheVariants as key
 use Rattle.wit_bind.specs.declared.encodings.Side.TheVariants as sides

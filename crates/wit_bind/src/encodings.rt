@@ -4,14 +4,15 @@ ghost use Rattle.std.specs.Prelude.{◌≡◌, ◌<◌, length, IfErr, IfOk, OnE
 ghost use Rattle.std.specs.FinMap.{empty};
 ghost use Rattle.indexmap.specs.IndexMap.{get_by_text};
 ghost use Rattle.wit_model.specs.{Text.optional_text, Valid.IsValid, Refusals.IsMemory};
-ghost use Rattle.wit_bind.specs.{Keys.function_key, OldKeys.items_of as items_of_lem, OldKeys.items_on, OldKeys.CarriesEach, OldKeys.CarriesOver};
-ghost use Rattle.wit_bind.specs.{Encodings.encoding_under, Unions.Gains};
+ghost use Rattle.bind_keys.specs.{Keys.function_key};
+ghost use Rattle.wit_bind.specs.{OldKeys.items_of as items_of_lem, OldKeys.items_on, OldKeys.CarriesEach, OldKeys.CarriesOver};
+ghost use Rattle.bind_keys.specs.{Encodings.encoding_under, Unions.Gains};
 ghost use Rattle.bind_clash.specs.Faults.{IsLeastFault};
 ghost use Rattle.bind_meaning.specs.Clash.{EncodingFault};
 
-use crate::keys::short_scope;
-use crate::table::{Table, has_slash};
 use crate::wanted::{Wanted, wanted_encodings};
+use bind_keys::keys::short_scope;
+use bind_keys::table::{Table, has_slash};
 use indexmap::IndexMap;
 use std::alloc::Global;
 use std::marker::Model;
@@ -42,7 +43,7 @@ fn items_of<'a>(world: &'a World, side: Side) -> &'a Map<WorldKey, WorldItem>
 }
 
 impl Model for EncodingMap {
-    ghost use Rattle.wit_bind.specs.Encodings.{Encodings, encodings_code};
+    ghost use Rattle.bind_keys.specs.Encodings.{Encodings, encodings_code};
 
     ghost Value = { Encodings };
 

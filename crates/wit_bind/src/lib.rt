@@ -3,11 +3,8 @@
 
 mod bindgen;
 mod encodings;
-mod keys;
 pub mod laws;
 mod metadata;
-mod table;
-mod versions;
 mod wanted;
 
 pub use bindgen::{Bindgen, merge_matched};

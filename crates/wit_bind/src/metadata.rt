@@ -3,7 +3,8 @@
 ghost use Rattle.std.specs.Prelude.{◌≡◌, ◌<◌, length, IfErr, IfOk, OnErr, OnOk};
 ghost use Rattle.std.specs.FinMap.{empty as nothing};
 ghost use Rattle.bind_meaning.specs.Clash.{EncodingFault, NoFault};
-ghost use Rattle.wit_bind.specs.{Functions.exports_of, Functions.imports_of, Functions.MapsFunctions, Merges.IsEncodingRefusal, Unions.Gains};
+ghost use Rattle.bind_keys.specs.{Functions.exports_of, Functions.imports_of, Functions.MapsFunctions, Unions.Gains};
+ghost use Rattle.wit_bind.specs.{Merges.IsEncodingRefusal};
 ghost use Rattle.wit_model.specs.Refusals.{IsMemory};
 
 use crate::encodings::{EncodingMap, unite_both};

@@ -2,14 +2,15 @@
 
 ghost use Rattle.std.specs.Prelude.{◌≡◌, option_to_list, IfErr, IfOk, OnOk, Some};
 ghost use Rattle.std.specs.{FinMap.empty};
-ghost use Rattle.wit_bind.specs.{Keys.scope_of, Choices.choice_of};
-ghost use Rattle.wit_bind.specs.KeyLists.{entries_of_item, entries_of_items, entry_of, member_entries, own_entries, Puts};
-ghost use Rattle.wit_bind.specs.Tables.{Keeps, Stands};
+ghost use Rattle.bind_keys.specs.{Keys.scope_of};
+ghost use Rattle.wit_bind.specs.{Choices.choice_of};
+ghost use Rattle.bind_keys.specs.KeyLists.{entries_of_item, entries_of_items, entry_of, member_entries, own_entries, Puts};
+ghost use Rattle.bind_keys.specs.Tables.{Keeps, Stands};
 ghost use Rattle.wit_model.specs.Refusals.{IsMemory};
 
 use crate::encodings::EncodingMap;
-use crate::keys::{shared_scope, unversioned_key};
-use crate::table::{Front, Table};
+use bind_keys::keys::{shared_scope, unversioned_key};
+use bind_keys::table::{Front, Table};
 use indexmap::IndexMap;
 use std::alloc::Global;
 use wit_model::lookup::interface_at;

@@ -89,10 +89,10 @@ pub use Rattle.bind_meaning.specs.Union
 pub use Rattle.wit_bind.specs.Bindings
 pub use Rattle.wit_bind.specs.Brings
 pub use Rattle.wit_bind.specs.Comes
-pub use Rattle.wit_bind.specs.Encodings
+pub use Rattle.bind_keys.specs.Encodings
 pub use Rattle.wit_bind.specs.Extends
-pub use Rattle.wit_bind.specs.Functions
-pub use Rattle.wit_bind.specs.Keys
+pub use Rattle.bind_keys.specs.Functions
+pub use Rattle.bind_keys.specs.Keys
 pub use Rattle.wit_bind.specs.MadeOf
 pub use Rattle.wit_bind.specs.Merged
 pub use Rattle.wit_bind.specs.Merges

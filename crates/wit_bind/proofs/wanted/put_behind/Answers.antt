@@ -2,7 +2,8 @@ use Rattle.std.proofs.Common.{rules, ap, subst, ◌∙◌, List, option_to_list}
 use Rattle.std.proofs.lemmas.Map.Iter.{rest_all, rest_more}
 use Rattle.std.specs.Map.Iter.{deref_pair}
 use Rattle.wit_model.specs.Text.{text_of}
-use Rattle.wit_bind.specs.{Choices.choice_of, KeyLists.Entry, KeyLists.Puts, KeyLists.entry_of, KeyLists.member_entries}
+use Rattle.bind_keys.specs.{KeyLists.Entry, KeyLists.Puts, KeyLists.entry_of, KeyLists.member_entries}
+use Rattle.wit_bind.specs.{Choices.choice_of}
 use Rattle.wit_bind.proofs.Putting.{IsLeft, given-front, left_next, left_none}
 use Rattle.wit_bind.proofs.wanted.put_behind.Goals as goal
 

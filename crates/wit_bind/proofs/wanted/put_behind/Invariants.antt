@@ -1,4 +1,5 @@
-use Rattle.wit_bind.specs.{Choices.choice_of, KeyLists.member_entries, Tables.Stands}
+use Rattle.bind_keys.specs.{KeyLists.member_entries, Tables.Stands}
+use Rattle.wit_bind.specs.{Choices.choice_of}
 use Rattle.wit_bind.proofs.Putting.{IsLeft}
 use Rattle.wit_bind.proofs.wanted.put_behind.Given as goal
 

@@ -1,5 +1,6 @@
 use Rattle.std.proofs.Common.{rules, ◌≡◌, None}
-use Rattle.wit_bind.specs.{Choices.choice_of, Keys.scope_of}
+use Rattle.bind_keys.specs.{Keys.scope_of}
+use Rattle.wit_bind.specs.{Choices.choice_of}
 use Rattle.wit_bind.proofs.Putting.{puts_no_members}
 use Rattle.wit_bind.proofs.wanted.put_members.Goals as goal
 

@@ -1,6 +1,7 @@
 use Rattle.std.proofs.{Common.ap, Common.subst, Common.List, lemmas.Map.Iter.rest_all, lemmas.Map.Iter.rest_more}
 use Rattle.std.specs.{FinMap.empty, Map.Iter.deref_pair}
-use Rattle.wit_bind.specs.{Choices.choice_of, KeyLists.Entry, KeyLists.entries_of_item, KeyLists.entries_of_items}
+use Rattle.bind_keys.specs.{KeyLists.Entry, KeyLists.entries_of_item, KeyLists.entries_of_items}
+use Rattle.wit_bind.specs.{Choices.choice_of}
 use Rattle.wit_bind.proofs.Putting.{IsLeft, left_next, left_none}
 use Rattle.wit_bind.proofs.wanted.wanted_encodings.Goals as goal
 

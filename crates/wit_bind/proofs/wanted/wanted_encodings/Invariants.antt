@@ -1,5 +1,6 @@
 use Rattle.std.specs.FinMap.{empty}
-use Rattle.wit_bind.specs.{Choices.choice_of, KeyLists.entries_of_items}
+use Rattle.bind_keys.specs.{KeyLists.entries_of_items}
+use Rattle.wit_bind.specs.{Choices.choice_of}
 use Rattle.wit_bind.proofs.Putting.{IsLeft}
 use Rattle.wit_bind.proofs.wanted.wanted_encodings.Given as goal
 

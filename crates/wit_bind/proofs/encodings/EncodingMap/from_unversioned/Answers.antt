@@ -1,7 +1,8 @@
 use Rattle.std.proofs.Common.{◌≡◌, ap, ◌∙◌, subst, IfOk, []}
 use Rattle.std.specs.Option.{option_map_or}
 use Rattle.indexmap.specs.IndexMap.{get_by_text}
-use Rattle.wit_bind.specs.{Functions.Items, OldKeys.items_of, OldKeys.items_on, OldKeys.CarriesOver}
+use Rattle.bind_keys.specs.{Functions.Items}
+use Rattle.wit_bind.specs.{OldKeys.items_of, OldKeys.items_on, OldKeys.CarriesOver}
 use Rattle.wit_bind.proofs.{FunctionKeys.all_carried, OneKey.all_each, Sides.at_number}
 use Rattle.wit_bind.proofs.encodings.EncodingMap.from_unversioned.Goals as goal
 

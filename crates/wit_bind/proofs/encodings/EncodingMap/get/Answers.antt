@@ -1,5 +1,5 @@
 use Rattle.std.proofs.Common.{rules, ◌≡◌, sym, ap, ◌∙◌, Some, option_map}
-use Rattle.wit_bind.specs.{Keys.scope_of, Keys.text_under, Encodings.encoding_at, Encodings.encoding_under}
+use Rattle.bind_keys.specs.{Keys.scope_of, Keys.text_under, Encodings.encoding_at, Encodings.encoding_under}
 use Rattle.wit_bind.proofs.encodings.EncodingMap.get.Goals as goal
 
 pub returns-in-Some : goal.returns-in-Some

@@ -1,0 +1,11 @@
+pub mod Keys
+pub mod Encodings
+pub mod Functions
+pub mod KeyTests
+pub mod KeyLists
+pub mod Versions
+pub mod Cuts
+pub mod CutLaws
+pub mod Places
+pub mod Tables
+pub mod Unions
