@@ -18,8 +18,8 @@ nothing_behind [] = refl
 nothing_behind (x ∷ xs) = ap (λ ys. x ∷ ys) (nothing_behind xs)
 
 -- one text after another: nothing follows where the first isn't there, and else what follows the second
-pub then_none : (p q t : Text) → None ≡ after_prefix p t → None ≡ after_prefix (p ++ q) t
-then_none p q t h = ap (option_and_then (after_prefix q)) h ∙ sym (after_both p q t)
+pub then_none : (p q t : Text) (rest : Option Text) → rest ≡ None → None ≡ after_prefix p t → rest ≡ after_prefix (p ++ q) t
+then_none p q t rest none h = none ∙ ap (option_and_then (after_prefix q)) h ∙ sym (after_both p q t)
 
 pub then_some : (p q t first : Text) (rest : Option Text) → Some first ≡ after_prefix p t → rest ≡ after_prefix q first → rest ≡ after_prefix (p ++ q) t
 then_some p q t first rest found h = h ∙ ap (option_and_then (after_prefix q)) found ∙ sym (after_both p q t)

@@ -1,4 +1,4 @@
-use Rattle.std.proofs.Common.{rules, ◌≡◌, ◌∙◌, None}
+use Rattle.std.proofs.Common.{rules}
 use Rattle.std.specs.Option.{option_copied}
 use Rattle.wit_model.specs.{Lookup.canonical_identity_of, Names.at_version, Text.Text}
 use Rattle.bind_keys.proofs.KeyTexts.{then_none, then_some}
@@ -7,8 +7,7 @@ use Rattle.bind_keys.proofs.keys.after_interface.Goals as goal
 pub returns-in_err-rest : goal.returns-in_err-rest
 returns-in_err-rest c =
     let end : Text = at_version (canonical_identity_of c.args.own.now).version in
-    let given : option_copied c.from_residual.result ≡ None = search rules in
-    given ∙ then_none c.args.name.now end c.args.text.now (search rules)
+    then_none c.args.name.now end c.args.text.now (option_copied c.from_residual.result) (search rules) (search rules)
 
 pub returns : goal.returns
 returns c =

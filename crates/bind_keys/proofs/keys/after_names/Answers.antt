@@ -1,4 +1,4 @@
-use Rattle.std.proofs.Common.{rules, ◌≡◌, ◌∙◌, None, ◌∷◌, [], ◌++◌}
+use Rattle.std.proofs.Common.{rules, ◌∷◌, [], ◌++◌}
 use Rattle.std.specs.Option.{option_copied}
 use Rattle.wit_model.specs.Text.{text_of}
 use Rattle.bind_keys.proofs.KeyTexts.{then_none, then_some}
@@ -7,8 +7,7 @@ use Rattle.bind_keys.proofs.keys.after_names.Goals as goal
 pub returns-in_err-rest : goal.returns-in_err-rest
 returns-in_err-rest c =
     let own = c.args.own.now in
-    let given : option_copied c.from_residual.result ≡ None = search rules in
-    given ∙ then_none (text_of own.namespace ++ (58 ∷ [])) (text_of own.name ++ (47 ∷ [])) c.args.text.now (search rules)
+    then_none (text_of own.namespace ++ (58 ∷ [])) (text_of own.name ++ (47 ∷ [])) c.args.text.now (option_copied c.from_residual.result) (search rules) (search rules)
 
 pub returns : goal.returns
 returns c =

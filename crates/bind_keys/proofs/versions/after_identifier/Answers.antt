@@ -1,4 +1,4 @@
-use Rattle.std.proofs.Common.{rules, ◌≡◌, sym, ap, ◌∙◌, None}
+use Rattle.std.proofs.Common.{rules, sym, ap, ◌∙◌}
 use Rattle.std.specs.Option.{option_copied}
 use Rattle.wit_model.specs.Rules.{after_prefix}
 use Rattle.bind_keys.proofs.{KeyTexts.then_none, KeyTexts.then_some, VersionTexts.marked_filled}
@@ -6,8 +6,7 @@ use Rattle.bind_keys.proofs.versions.after_identifier.Goals as goal
 
 pub returns-in_err-rest : goal.returns-in_err-rest
 returns-in_err-rest c =
-    let given : option_copied c.from_residual.result ≡ None = search rules in
-    given ∙ then_none c.args.mark.now c.args.identifier.now c.args.text.now (search rules)
+    then_none c.args.mark.now c.args.identifier.now c.args.text.now (option_copied c.from_residual.result) (search rules) (search rules)
     ∙ ap (λ t. after_prefix t c.args.text.now) (sym (marked_filled c.args.mark.now c.args.identifier.now c.if-is_empty.ensures))
 
 pub returns : goal.returns

@@ -1,12 +1,10 @@
-use Rattle.std.proofs.Common.{rules, ◌≡◌, ◌∙◌, None, ◌∷◌, [], ◌++◌}
+use Rattle.std.proofs.Common.{rules, ◌∷◌, [], ◌++◌}
 use Rattle.std.specs.{Prelude.decimal, Option.option_copied}
 use Rattle.bind_keys.proofs.KeyTexts.{then_none, then_some}
 use Rattle.bind_keys.proofs.versions.after_two_points.Goals as goal
 
 pub returns-in_err-rest : goal.returns-in_err-rest
-returns-in_err-rest c =
-    let given : option_copied c.from_residual.result ≡ None = search rules in
-    given ∙ then_none (decimal c.args.first ++ (46 ∷ [])) (decimal c.args.second ++ (46 ∷ [])) c.args.text.now (search rules)
+returns-in_err-rest c = then_none (decimal c.args.first ++ (46 ∷ [])) (decimal c.args.second ++ (46 ∷ [])) c.args.text.now (option_copied c.from_residual.result) (search rules) (search rules)
 
 pub returns : goal.returns
 returns c = then_some (decimal c.args.first ++ (46 ∷ [])) (decimal c.args.second ++ (46 ∷ [])) c.args.text.now c.in_ok-rest.rest.now (option_copied c.after_point-2.result) (search rules)
