@@ -28,5 +28,7 @@ pub mod Refusing
 pub mod SameMaps
 -- Two functions have the same opened signature exactly where its parts are the same. Serves functions::same_functions, included, included::check_entry, part::same_parts and 3 more.
 pub mod Signatures
+-- Places of two sorts have different senses. Serves senses::same_places.
+pub mod Sorts
 -- Items of worlds of two `Resolve`s. Serves contents::items, contents::put, contents::same_indexed, contents::same_item_under and 6 more.
 pub mod WorldContents
