@@ -1,10 +1,8 @@
 -- What own packages gain is of packages that there are, and of none twice.
 use Rattle.base_lemmas.proofs.{Elements.all_by_number as all_of, Elements.zip_at_right as zip_at, Lists.mapped_get as mapped_at}
 use Rattle.bind_add.specs.{Growth.AreOfDifferent, Growth.are_in_range, declared.added.Names.Names}
-use Rattle.bind_carry.proofs.{CopiesPlaced.some_same, CopiesPlaced.uncopied_under, FirstOfUnion.IsFound, FirstOfUnion.found_number, FirstOfUnion.found_own}
-use Rattle.bind_carry.proofs.{FirstOfUnion.unflagged_found, NamesGained.IsGrownOf, NamesGained.grown_of, NamesGained.rank}
-use Rattle.bind_carry.specs.{First.flag_under, FirstPass.UnionsAreAddable, Numbers.numbers_of, Numbers.package_number, Packaged.IsGained}
-use Rattle.bind_carry.specs.{Packaged.grown_packages, declared.plan.Carried.Carried}
+use Rattle.bind_carry.proofs.{CopiesPlaced.some_same, CopiesPlaced.uncopied_under, FirstOfUnion.IsFound, FirstOfUnion.found_number, FirstOfUnion.found_own, FirstOfUnion.unflagged_found, NamesGained.IsGrownOf, NamesGained.grown_of, NamesGained.rank}
+use Rattle.bind_carry.specs.{First.flag_under, FirstPass.UnionsAreAddable, Numbers.numbers_of, Numbers.package_number, Packaged.IsGained, Packaged.grown_packages, declared.plan.Carried.Carried}
 use Rattle.bind_copy.specs.Copies.{number_under}
 use Rattle.bind_match.proofs.SameNames.{name_same}
 use Rattle.bind_match.specs.Matching.{own_package_of}

@@ -1,8 +1,7 @@
 -- Where copies of types stand, under the numbers that all types have.
 use Rattle.bind_union.{proofs.MatchedStand.numbers_rise, specs.Carried.Rises}
 use Rattle.base_lemmas.proofs.{Lists.mapped_get as mapped_at, Numbers.equal_or_past}
-use Rattle.bind_carry.specs.{Fates.AreCopied, Fates.IsCopiedType, Fates.copied_types, Fates.copies, Fates.numbers_by, Fates.stood, First.flag_under}
-use Rattle.bind_carry.specs.{Numbers.copied_count, Numbers.numbers_of, Renumbered.is_copied, TooLong.copies_of, declared.fate.Fate.Fate}
+use Rattle.bind_carry.specs.{Fates.AreCopied, Fates.IsCopiedType, Fates.copied_types, Fates.copies, Fates.numbers_by, Fates.stood, First.flag_under, Numbers.copied_count, Numbers.numbers_of, Renumbered.is_copied, TooLong.copies_of, declared.fate.Fate.Fate}
 use Rattle.bind_copy.specs.Copies.{IsTypeUnder, number_under}
 use Rattle.bind_union.proofs.Lists.{no_true}
 use Rattle.std.proofs.Common.{Bool, List, None, Option, Some, [], ap, append_assoc, arith, false, inl, inr, length, map, refl, slice_get, subst, suc, sym, true, unwrap_or, zero, ℕ, ◌++◌, ◌+◌, ◌<◌, ◌||◌, ◌∙◌, ◌∷◌, ◌≡◌, ◌≤◌, ◌⊎◌}

@@ -3,8 +3,7 @@ use Rattle.std.proofs.Common.{rules as std_rules, ◌≡◌, refl, ℕ, ◌+◌,
 use Rattle.std.specs.{List.AllZip, Prelude.Option}
 use Rattle.wit_model.specs.declared.model.{Interface.Interface, PackageId.PackageId, TypeDef.TypeDef}
 use Rattle.bind_carry.specs.declared.fate.Fate.{Fate}
-use Rattle.bind_carry.specs.{Fates.copied_types, Fates.AreCopied, Fates.MeetsFate, BoundGains.AreInlineCopied, Whole.kept}
-use Rattle.bind_carry.specs.{Numbers.copied_count, TooLong.copies_of}
+use Rattle.bind_carry.specs.{Fates.copied_types, Fates.AreCopied, Fates.MeetsFate, BoundGains.AreInlineCopied, Whole.kept, Numbers.copied_count, TooLong.copies_of}
 use Rattle.base_lemmas.proofs.Elements.{zip_long}
 use Rattle.bind_carry.specs.declared.fate.Fate.TheVariants as fate
 

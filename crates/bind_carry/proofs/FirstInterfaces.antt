@@ -1,13 +1,9 @@
 -- What is copied of interfaces: each stands under its new number, with its types and its functions.
 use Rattle.bind_meaning.proofs.Listed.{by_option}
-use Rattle.bind_carry.proofs.{CopiesPlaced.by_either, CopiesPlaced.by_test, SettledParts.copied_still, SettledParts.settled_long, SettledParts.stands_still}
-use Rattle.base_lemmas.proofs.{Bools.left_of as first_true, Bools.right_of as second_true, Lists.within_there, Numbers.equal, Numbers.same-number}
-use Rattle.bind_carry.proofs.{CopiesPlaced.some_same, Joined.function_copy, PartsCarried.has_home, PartsCarried.no_home}
+use Rattle.bind_carry.proofs.{CopiesPlaced.by_either, CopiesPlaced.by_test, SettledParts.copied_still, SettledParts.settled_long, SettledParts.stands_still, CopiesPlaced.some_same, Joined.function_copy, PartsCarried.has_home, PartsCarried.no_home}
 use Rattle.bind_carry.proofs.PassedTypes.{carried_if, carried_within, copy_holds, parts_hold, stood_first}
-use Rattle.bind_carry.specs.{CarriedParts.PartsOfOwners, CarriedParts.is_function_carried, Fates.AreCopied, Fates.FallBelow, Fates.carries, Fates.copies}
-use Rattle.bind_carry.specs.{Fates.is_carried, Fates.stood, First.adds_any, First.fate_beside, First.fate_in, First.fate_named, First.fate_of}
-use Rattle.bind_carry.specs.{First.first_fates, First.flag_under, Initial.IsInitial, Listed.type_named, Marked.AreChosen}
-use Rattle.bind_carry.specs.{Renumbered.first_of, Renumbered.is_copied, Renumbered.is_matched, Whole.home_under, declared.fate.Fate.Fate}
+use Rattle.base_lemmas.proofs.{Bools.left_of as first_true, Bools.right_of as second_true, Lists.within_there, Numbers.equal, Numbers.same-number}
+use Rattle.bind_carry.specs.{CarriedParts.PartsOfOwners, CarriedParts.is_function_carried, Fates.AreCopied, Fates.FallBelow, Fates.carries, Fates.copies, Fates.is_carried, Fates.stood, First.adds_any, First.fate_beside, First.fate_in, First.fate_named, First.fate_of, First.first_fates, First.flag_under, Initial.IsInitial, Listed.type_named, Marked.AreChosen, Renumbered.first_of, Renumbered.is_copied, Renumbered.is_matched, Whole.home_under, declared.fate.Fate.Fate}
 use Rattle.bind_carry.specs.declared.plan.Carried.{Carried}
 use Rattle.bind_copy.specs.Copies.{IsFunctionEntry as IsEntryUnderNumbers, IsInterfaceUnder, number_under, type_names, type_names_under}
 use Rattle.bind_union.proofs.{Carrying.references_of, Carrying.refers_below, Images.numbers_of_view, Lists.no_true}
@@ -18,10 +14,8 @@ use Rattle.std.proofs.lemmas.{Bool.or_left, Bool.or_right, List.length-map, List
 use Rattle.std.specs.{List.AllZip, List.list_all, List.list_any, Option.option_map_or, Prelude.String, String.string_eq}
 use Rattle.std.specs.declared.alloc.Global.{Global}
 use Rattle.wit_model.proofs.Chains.{all_has as passes_at}
-use Rattle.wit_model.specs.{Lookup.interface_at, Lookup.type_at, Parts.same_owner, Rules.interface_type_numbers, Rules.package_number, Text.Text}
-use Rattle.wit_model.specs.{Text.optional_text, Text.text_of, Uses.has, Valid.IsValid, Valid.as_interface, declared.model.Function.Function}
-use Rattle.wit_model.specs.declared.model.{Interface.Interface, InterfaceId.InterfaceId, PackageId.PackageId, Resolve.Resolve, TypeDef.TypeDef, TypeId.TypeId}
-use Rattle.wit_model.specs.declared.model.{TypeOwner.TypeOwner, WorldId.WorldId}
+use Rattle.wit_model.specs.{Lookup.interface_at, Lookup.type_at, Parts.same_owner, Rules.interface_type_numbers, Rules.package_number, Text.Text, Text.optional_text, Text.text_of, Uses.has, Valid.IsValid, Valid.as_interface, declared.model.Function.Function}
+use Rattle.wit_model.specs.declared.model.{Interface.Interface, InterfaceId.InterfaceId, PackageId.PackageId, Resolve.Resolve, TypeDef.TypeDef, TypeId.TypeId, TypeOwner.TypeOwner, WorldId.WorldId}
 use Rattle.wit_model.specs.declared.model.TypeOwner.TheVariants as owner
 use Rattle.bind_carry.specs.declared.fate.Fate.TheVariants as fate
 

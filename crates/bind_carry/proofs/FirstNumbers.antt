@@ -5,27 +5,18 @@ pub use Rattle.bind_carry.proofs.CopiesPlaced.{uncopied_under}
 use Rattle.bind_carry.proofs.CopiesPlaced.{copied_behind, fates_rise, numbers_by_long, stands_under}
 use Rattle.bind_carry.proofs.FirstInterfaces.{adds_interface, copy_stands, excluded, final_stands, first_types, home_number, named_carried, owned_copied}
 use Rattle.bind_carry.proofs.{Marking.are_chosen, PassedTypes.carried_within, Ranges.shown_below}
-use Rattle.bind_carry.specs.{Fates.AreCopied, Fates.copies, Fates.is_carried, Fates.numbers_by, First.first_fates, First.flag_under}
-use Rattle.bind_carry.specs.{InRange.IsInRange, Listed.given_interface, Listed.type_named, Marked.AreChosen, MatchedSame.AreMatchedAt, MatchedSame.IsMatchedAt}
-use Rattle.bind_carry.specs.{MatchedSame.NoneOfPath, Numbers.interface_number, Numbers.numbers_of, Numbers.world_number, Renumbered.first_of}
-use Rattle.bind_carry.specs.{Renumbered.is_copied, Renumbered.is_matched, Which.AreMatchedAll, Which.IsNumbered, Whole.IsInterfaceCarried, Whole.home_under}
-use Rattle.bind_carry.specs.{Whole.kept, declared.fate.Fate.Fate, declared.plan.Carried.Carried}
+use Rattle.bind_carry.specs.{Fates.AreCopied, Fates.copies, Fates.is_carried, Fates.numbers_by, First.first_fates, First.flag_under, InRange.IsInRange, Listed.given_interface, Listed.type_named, Marked.AreChosen, MatchedSame.AreMatchedAt, MatchedSame.IsMatchedAt, MatchedSame.NoneOfPath, Numbers.interface_number, Numbers.numbers_of, Numbers.world_number, Renumbered.first_of, Renumbered.is_copied, Renumbered.is_matched, Which.AreMatchedAll, Which.IsNumbered, Whole.IsInterfaceCarried, Whole.home_under, Whole.kept, declared.fate.Fate.Fate, declared.plan.Carried.Carried}
 use Rattle.bind_copy.specs.Copies.{number_under}
 use Rattle.bind_match.specs.declared.matches.Matches.{Matches}
 use Rattle.bind_union.proofs.{Homes.apart, Listed.found_by_text, Listed.under_text, Lists.no_true, MatchedStand.matched_stand, MatchedStand.numbers_rise}
-use Rattle.bind_union.proofs.Namesakes.{IsListedType, found_same, home_listed, listed_type, matches_are_namesakes, meaning_under, number_listed}
-use Rattle.bind_union.proofs.Namesakes.{numbers_are as numbers_are_of, under_contains}
-use Rattle.bind_union.specs.{Carried.IsInterface, Carried.IsType, Carried.Renumbering, Carried.Rises, Carried.carries_owner, Matching.AreMatched}
-use Rattle.bind_union.specs.{Matching.IsMatch, Matching.type_names, Merged.BeginsWith}
+use Rattle.bind_union.proofs.Namesakes.{IsListedType, found_same, home_listed, listed_type, matches_are_namesakes, meaning_under, number_listed, numbers_are as numbers_are_of, under_contains}
+use Rattle.bind_union.specs.{Carried.IsInterface, Carried.IsType, Carried.Renumbering, Carried.Rises, Carried.carries_owner, Matching.AreMatched, Matching.IsMatch, Matching.type_names, Merged.BeginsWith}
 use Rattle.indexmap.specs.IndexMap.{values}
 use Rattle.std.proofs.Common.{Bool, List, None, Option, Some, [], ap, arith, false, inl, inr, is_some, length, map, not, option_map, refl, rules as std_rules, slice_get, subst, suc, sym, true, unwrap_or, zero, ℕ, ◌&&◌, ◌++◌, ◌<◌, ◌||◌, ◌∙◌, ◌∷◌, ◌≡◌}
 use Rattle.std.proofs.lemmas.{Bool.or_left, List.length-map, List.Folds.list_all-map, Option.slice_get_within}
 use Rattle.std.specs.{HashMap.get_by_text, List.AllZip, List.Contains, List.list_all, Prelude.String, declared.alloc.Global.Global}
 use Rattle.wit_model.proofs.{OnePath.found-in, OnePath.interface-passes, OnePath.path-once, PartsLemmas.owner_same as owner_equal}
-use Rattle.wit_model.specs.{Lookup.interface_at, Lookup.interface_path, Lookup.type_at, Meaning.InterfaceSense, Meant.interface_meaning, Meant.type_meaning_at}
-use Rattle.wit_model.specs.{Parts.same_owner, Rules.are_in_order, Rules.function_in_range, Rules.in_list, Rules.interface_type_numbers, Rules.is_named_of}
-use Rattle.wit_model.specs.{Rules.package_number, Rules.passes, Text.Text, Text.optional_text, Text.text_of, Uses.has, Valid.IsValid, Valid.as_interface}
-use Rattle.wit_model.specs.{Valid.is_place, Valid.numbers_in_range, Valid.order_of_types, declared.model.Interface.Interface}
+use Rattle.wit_model.specs.{Lookup.interface_at, Lookup.interface_path, Lookup.type_at, Meaning.InterfaceSense, Meant.interface_meaning, Meant.type_meaning_at, Parts.same_owner, Rules.are_in_order, Rules.function_in_range, Rules.in_list, Rules.interface_type_numbers, Rules.is_named_of, Rules.package_number, Rules.passes, Text.Text, Text.optional_text, Text.text_of, Uses.has, Valid.IsValid, Valid.as_interface, Valid.is_place, Valid.numbers_in_range, Valid.order_of_types, declared.model.Interface.Interface}
 use Rattle.wit_model.specs.declared.model.{InterfaceId.InterfaceId, Resolve.Resolve, TypeDef.TypeDef, TypeId.TypeId, WorldId.WorldId}
 
 -- ---- What own interfaces of equal path and sense give: types of the same names, and what stands for what by path.

@@ -3,9 +3,7 @@ use Rattle.bind_carry.proofs.{CopiesPlaced.by_test, CopiesPlaced.some_same, Copi
 use Rattle.base_lemmas.proofs.{Lists.front_at, Lists.mapped_get as mapped_at, Lists.set_there, Numbers.differ, Numbers.equal}
 use Rattle.bind_add.proofs.Gains.{set_here}
 use Rattle.bind_add.specs.{Growth.GainsNone, Growth.HaveGained, declared.added.Names.Names}
-use Rattle.bind_carry.specs.{BoundGains.bound_fates, Fates.AreCopied, First.first_fates, First.flag_under, FirstPass.UnionsHaveTheFirst, Numbers.numbers_of}
-use Rattle.bind_carry.specs.{Numbers.package_number, Packaged.IsGained, Packaged.IsPackageCarried, Packaged.grown_packages, SecondPass.UnionsHaveTheSecond}
-use Rattle.bind_carry.specs.{Whole.kept, declared.plan.Carried.Carried}
+use Rattle.bind_carry.specs.{BoundGains.bound_fates, Fates.AreCopied, First.first_fates, First.flag_under, FirstPass.UnionsHaveTheFirst, Numbers.numbers_of, Numbers.package_number, Packaged.IsGained, Packaged.IsPackageCarried, Packaged.grown_packages, SecondPass.UnionsHaveTheSecond, Whole.kept, declared.plan.Carried.Carried}
 use Rattle.bind_copy.specs.Copies.{number_under}
 use Rattle.bind_match.specs.Matching.{own_package_of, package_from}
 use Rattle.bind_union.proofs.Lists.{no_true}

@@ -1,16 +1,12 @@
 -- Worlds that are copied: all that their items name is carried, so each is a copy as the laws on unions ask for it.
 use Rattle.bind_meaning.proofs.Listed.{by_option}
 use Rattle.bind_carry.proofs.CopiesPlaced.{by_either, by_test, copied_behind, copied_past, numbers_by_long, some_same}
-use Rattle.base_lemmas.proofs.{Bools.left_of as first_true, Bools.right_of as second_true, Elements.all_get as all_at, Lists.within_there, Numbers.equal}
-use Rattle.base_lemmas.proofs.Numbers.{same-number}
 use Rattle.bind_carry.proofs.FirstInterfaces.{adds_world, excluded, home_number, parts_of, world_owned_copied}
 use Rattle.bind_carry.proofs.FirstNumbers.{chosen_so, flag_within, interfaces_hold, interfaces_once, interfaces_rise, named_of_path, names, types_hold}
-use Rattle.bind_carry.proofs.{FirstNumbers.types_rise, FirstNumbers.worlds_apart, FirstOfUnion.packages_hold, Joined.items_join, KeptPlaced.kept_here}
-use Rattle.bind_carry.proofs.{KeysGained.is_key_carried, KeysGained.keys_apart, PassedTypes.copied_carried, Ranges.is_in_range, Ready.fates_long}
-use Rattle.bind_carry.specs.{CarriedParts.is_function_carried, Fates.copies, First.first_fates, First.flag_under, FirstPass.FirstIsCarried}
-use Rattle.bind_carry.specs.{FirstPass.FirstIsCopied, FirstPass.FirstWorldsAreCopied, FirstPass.IsFirstPass, Listed.type_named, Marked.AreChosen}
-use Rattle.bind_carry.specs.{Marked.is_shown_in, Marked.is_shown_of, Numbers.interface_number, Numbers.world_number, ReadyItems.AreReady}
-use Rattle.bind_carry.specs.{ReadyItems.IsItemReady, ReadyItems.IsKeyReady, Renumbered.first_of, Renumbered.is_matched, Whole.IsWorldCarried, Whole.kept}
+use Rattle.bind_carry.proofs.{FirstNumbers.types_rise, FirstNumbers.worlds_apart, FirstOfUnion.packages_hold, Joined.items_join, KeptPlaced.kept_here, KeysGained.is_key_carried, KeysGained.keys_apart, PassedTypes.copied_carried, Ranges.is_in_range, Ready.fates_long}
+use Rattle.base_lemmas.proofs.{Bools.left_of as first_true, Bools.right_of as second_true, Elements.all_get as all_at, Lists.within_there, Numbers.equal}
+use Rattle.base_lemmas.proofs.Numbers.{same-number}
+use Rattle.bind_carry.specs.{CarriedParts.is_function_carried, Fates.copies, First.first_fates, First.flag_under, FirstPass.FirstIsCarried, FirstPass.FirstIsCopied, FirstPass.FirstWorldsAreCopied, FirstPass.IsFirstPass, Listed.type_named, Marked.AreChosen, Marked.is_shown_in, Marked.is_shown_of, Numbers.interface_number, Numbers.world_number, ReadyItems.AreReady, ReadyItems.IsItemReady, ReadyItems.IsKeyReady, Renumbered.first_of, Renumbered.is_matched, Whole.IsWorldCarried, Whole.kept}
 use Rattle.bind_carry.specs.declared.{fate.Fate.Fate, plan.Carried.Carried}
 use Rattle.bind_copy.specs.Copies.{AreNewCopied, number_under}
 use Rattle.bind_match.specs.declared.matches.Matches.{Matches}
@@ -19,14 +15,10 @@ use Rattle.bind_union.specs.{Carried.IsCarried, Carried.Renumbering, Joined.Join
 use Rattle.std.proofs.Common.{Bool, List, None, Option, Some, [], ap, append-nil, arith, cond, false, filter_map, is_some, length, map, not, option_to_list, refl, rules as std_rules, slice_get, subst, suc, sym, true, unwrap_or, zero, ℕ, ◌&&◌, ◌++◌, ◌+◌, ◌==◌, ◌||◌, ◌∙◌, ◌∷◌, ◌≡◌, ◌≤◌}
 use Rattle.std.proofs.lemmas.{Bool.and_from as both, Bool.or_left, Bool.or_right, List.length-map, List.Sums.sum_by-append, List.Sums.sum_by-cons}
 use Rattle.std.proofs.lemmas.Map.Keys.{any_passes_from_place as any_of_at}
-use Rattle.std.specs.{List.IsDistinct, List.list_all, List.list_any, Map.keys_of, Option.option_eq, Option.option_map_or, Prelude.String, Prelude.count_by}
-use Rattle.std.specs.{Prelude.option_and_then, Prelude.sum_by, declared.alloc.Global.Global}
+use Rattle.std.specs.{List.IsDistinct, List.list_all, List.list_any, Map.keys_of, Option.option_eq, Option.option_map_or, Prelude.String, Prelude.count_by, Prelude.option_and_then, Prelude.sum_by, declared.alloc.Global.Global}
 use Rattle.wit_model.proofs.{OnePath.found-in, OnePath.interface-passes, PartsLemmas.owner_same as owner_equal, ValidLemmas.world_passes}
-use Rattle.wit_model.specs.{Lookup.interface_at, Lookup.package_at, Lookup.type_at, Lookup.world_at, Parts.same_owner, Rules.entries_in_range}
+use Rattle.wit_model.specs.{Lookup.interface_at, Lookup.package_at, Lookup.type_at, Lookup.world_at, Parts.same_owner, Rules.entries_in_range, Rules.key_in_range, Rules.package_number, Rules.passes, Rules.times_shown, Text.text_of, Uses.has, Uses.item_interface, Uses.items_of, Valid.IsValid, Valid.as_interface, Valid.as_world, Valid.is_place, Valid.item_function, Valid.key_eq, Valid.numbers_in_range, Valid.places, Valid.world_items, declared.model.Function.Function, declared.model.Interface.Interface}
 use Rattle.wit_model.specs.Rules.{export_stands, import_stands, in_list, interface_is_listed, is_id, is_interface_key, is_world_name, item_in_range}
-use Rattle.wit_model.specs.{Rules.key_in_range, Rules.package_number, Rules.passes, Rules.times_shown, Text.text_of, Uses.has, Uses.item_interface}
-use Rattle.wit_model.specs.{Uses.items_of, Valid.IsValid, Valid.as_interface, Valid.as_world, Valid.is_place, Valid.item_function, Valid.key_eq}
-use Rattle.wit_model.specs.{Valid.numbers_in_range, Valid.places, Valid.world_items, declared.model.Function.Function, declared.model.Interface.Interface}
 use Rattle.wit_model.specs.declared.model.{InterfaceId.InterfaceId, Resolve.Resolve, TypeDef.TypeDef, TypeId.TypeId, World.World, WorldItem.WorldItem}
 use Rattle.wit_model.specs.declared.model.WorldKey.{WorldKey}
 use Rattle.wit_model.specs.declared.model.WorldItem.TheVariants as item

@@ -5,8 +5,7 @@ use Rattle.std.specs.{List.filter, List.list_all, List.list_any, List.AllZip, Li
 use Rattle.wit_model.specs.declared.model.{Function.Function, FunctionKind.FunctionKind, WorldItem.WorldItem, WorldKey.WorldKey}
 use Rattle.wit_model.specs.{Parts.function_numbers, Text.Text, Text.text_of}
 use Rattle.bind_copy.specs.Copies.{is_key_under, is_new_under, number_under, IsEntryUnder, IsFunctionUnder, IsItemUnder, IsKeyUnder, call_under as call_under_numbers}
-use Rattle.bind_union.specs.{Carried.call_under, Carried.ItemBecomes, Carried.IsFunctionCopy, Carried.KeyBecomes, Carried.Renumbering}
-use Rattle.bind_union.specs.{Joined.is_new, Joined.same_key, Joined.Joined, Merged.is_name, Merged.JoinedNames}
+use Rattle.bind_union.specs.{Carried.call_under, Carried.ItemBecomes, Carried.IsFunctionCopy, Carried.KeyBecomes, Carried.Renumbering, Joined.is_new, Joined.same_key, Joined.Joined, Merged.is_name, Merged.JoinedNames}
 use Rattle.bind_carry.specs.ReadyItems.{AreReady, IsItemReady, IsKeyReady}
 use Rattle.std.specs.declared.alloc.Global.{Global}
 use Rattle.bind_union.specs.Joined as joined

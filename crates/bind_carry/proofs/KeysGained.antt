@@ -1,11 +1,8 @@
 -- Keys of the other's bound world stay apart under both numberings, and what is gained of them comes behind what was there.
 use Rattle.base_lemmas.proofs.{Bools.left_of as first_true, Bools.right_of as second_true, Elements.contains-later}
 use Rattle.bind_add.specs.declared.added.Added.{Added}
-use Rattle.bind_carry.proofs.{CopiesPlaced.uncopied_under, FirstInterfaces.excluded, FirstNumbers.chosen_so, FirstNumbers.interfaces_once}
-use Rattle.bind_carry.proofs.{InsertedBehind.new_behind, Ranges.is_in_range, Ranges.shown_below, Ready.interface_count, SecondInitial.gained_inline_alone}
-use Rattle.bind_carry.proofs.{SecondInitial.gained_long, WorldEntries.export_keyed, WorldEntries.import_keyed}
-use Rattle.bind_carry.specs.{BoundGains.AreKeysUnder, First.flag_under, First.is_named_at, InRange.IsInRange, Marked.AreChosen, Marked.is_inline_at}
-use Rattle.bind_carry.specs.{MatchedSame.AreMatchedAt, MatchedSame.NoneOfPath, Renumbered.is_matched, Shown.AreShownBelow, Union.IsUnionOf, Which.AreMatchedAll}
+use Rattle.bind_carry.proofs.{CopiesPlaced.uncopied_under, FirstInterfaces.excluded, FirstNumbers.chosen_so, FirstNumbers.interfaces_once, InsertedBehind.new_behind, Ranges.is_in_range, Ranges.shown_below, Ready.interface_count, SecondInitial.gained_inline_alone, SecondInitial.gained_long, WorldEntries.export_keyed, WorldEntries.import_keyed}
+use Rattle.bind_carry.specs.{BoundGains.AreKeysUnder, First.flag_under, First.is_named_at, InRange.IsInRange, Marked.AreChosen, Marked.is_inline_at, MatchedSame.AreMatchedAt, MatchedSame.NoneOfPath, Renumbered.is_matched, Shown.AreShownBelow, Union.IsUnionOf, Which.AreMatchedAll}
 use Rattle.bind_carry.specs.declared.plan.Carried.{Carried}
 use Rattle.bind_copy.proofs.{Copied.at_middle, Gained.same_images}
 use Rattle.bind_copy.specs.Copies.{IsKeyUnder, become_one, number_under}

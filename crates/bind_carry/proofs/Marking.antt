@@ -1,8 +1,7 @@
 -- What flags say that are set one after the other for the inline interfaces that are shown.
 use Rattle.base_lemmas.proofs.{Bools.or_false, Bools.or_true, Lists.set_there, Numbers.differ, Numbers.equal, Options.none_not_some as none_is}
 use Rattle.bind_add.proofs.Gains.{set_here}
-use Rattle.bind_carry.specs.{First.flag_under, Listed.given_interface, Marked.AreChosen, Marked.is_inline_at, Marked.is_shown_in, Marked.is_shown_of}
-use Rattle.bind_carry.specs.{Marked.mark_item, Marked.mark_items, Marked.mark_worlds, Shown.AreShownBelow, Shown.IsShownBelow, Which.new_interfaces}
+use Rattle.bind_carry.specs.{First.flag_under, Listed.given_interface, Marked.AreChosen, Marked.is_inline_at, Marked.is_shown_in, Marked.is_shown_of, Marked.mark_item, Marked.mark_items, Marked.mark_worlds, Shown.AreShownBelow, Shown.IsShownBelow, Which.new_interfaces}
 use Rattle.std.proofs.Common.{Bool, List, None, Option, Some, [], ap, arith, false, is_none, is_some, length, not, refl, rules as std_rules, slice_get, slice_set, subst, suc, sym, true, unwrap_or, zero, ℕ, ◌&&◌, ◌<◌, ◌||◌, ◌∙◌, ◌∷◌, ◌≡◌}
 use Rattle.std.specs.{Prelude.String, declared.alloc.Global.Global}
 use Rattle.wit_model.specs.{Lookup.interface_at, Rules.is_id, Uses.item_interface, declared.model.Interface.Interface, declared.model.InterfaceId.InterfaceId}

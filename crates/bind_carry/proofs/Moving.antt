@@ -1,6 +1,5 @@
 -- Things that are moved one after the other to the places that were made for them.
-use Rattle.bind_carry.specs.{Fates.IsCopiedType, Fates.copied_types, Fates.copies, Fates.numbers_by, Moved.AreMoved, Moved.AreMovedSoFar, Moved.IsMovedBy}
-use Rattle.bind_carry.specs.{Moved.MeetsPlace, TooLong.copies_of, Whole.kept, declared.fate.Fate.Fate}
+use Rattle.bind_carry.specs.{Fates.IsCopiedType, Fates.copied_types, Fates.copies, Fates.numbers_by, Moved.AreMoved, Moved.AreMovedSoFar, Moved.IsMovedBy, Moved.MeetsPlace, TooLong.copies_of, Whole.kept, declared.fate.Fate.Fate}
 use Rattle.bind_union.proofs.Lists.{no_true}
 use Rattle.std.proofs.Common.{Bool, List, [], ap, append-nil, append_assoc, arith, drop, false, length, refl, rules as std_rules, set, subst, sym, true, ℕ, ◌++◌, ◌+◌, ◌<◌, ◌∙◌, ◌∷◌, ◌≡◌, ◌≤◌}
 use Rattle.std.proofs.{Math.Seq.set-append_seam, lemmas.List.drop_more, lemmas.List.length-append, lemmas.List.length-drop}

@@ -1,27 +1,21 @@
 -- Names that a package gains weren't there, so they come behind what was.
-use Rattle.base_lemmas.proofs.{Bools.left_of as first_true, Bools.right_of as second_true, Elements.all-contained, Elements.contains-later}
-use Rattle.base_lemmas.proofs.{Elements.contains-map, Lists.mapped_get as mapped_at, Options.none_not_some}
+use Rattle.base_lemmas.proofs.{Bools.left_of as first_true, Bools.right_of as second_true, Elements.all-contained, Elements.contains-later, Elements.contains-map, Lists.mapped_get as mapped_at, Options.none_not_some}
 use Rattle.bind_add.specs.declared.added.Names.{Names}
-use Rattle.bind_carry.proofs.{CopiesPlaced.nothing_there, CopiesPlaced.some_same, CopiesPlaced.uncopied_under, FirstOfUnion.found_number}
-use Rattle.bind_carry.proofs.{FirstOfUnion.unflagged_found, InsertedBehind.none_more}
-use Rattle.bind_carry.specs.{AddedApart.AreMatchedByName, First.flag_under, Listed.given_interface, Marked.AreChosen}
-use Rattle.bind_carry.specs.{Numbers.package_number as number_of_package, Packaged.IsGained, Packaged.grown_packages, Which.IsNumbered, Which.new_worlds}
+use Rattle.bind_carry.proofs.{CopiesPlaced.nothing_there, CopiesPlaced.some_same, CopiesPlaced.uncopied_under, FirstOfUnion.found_number, FirstOfUnion.unflagged_found, InsertedBehind.none_more}
+use Rattle.bind_carry.specs.{AddedApart.AreMatchedByName, First.flag_under, Listed.given_interface, Marked.AreChosen, Numbers.package_number as number_of_package, Packaged.IsGained, Packaged.grown_packages, Which.IsNumbered, Which.new_worlds}
 use Rattle.bind_carry.specs.declared.plan.Carried.{Carried}
 use Rattle.bind_copy.specs.Copies.{names_in, number_under}
 use Rattle.bind_match.specs.Matching.{given, interface_in, is_root_world, own_interface_of, own_world_of, package_from, world_in}
 use Rattle.bind_match.specs.declared.matches.Matches.{Matches}
-use Rattle.bind_union.proofs.{Carrying.path_by, Carrying.path_parts, KeptPackages.found_option, KeptPackages.interfaces_stand, KeptPackages.is_interface_of}
-use Rattle.bind_union.proofs.{KeptPackages.is_world_of, KeptPackages.worlds_stand, Lists.no_true, UnitedWorlds.world_path}
+use Rattle.bind_union.proofs.{Carrying.path_by, Carrying.path_parts, KeptPackages.found_option, KeptPackages.interfaces_stand, KeptPackages.is_interface_of, KeptPackages.is_world_of, KeptPackages.worlds_stand, Lists.no_true, UnitedWorlds.world_path}
 use Rattle.bind_union.specs.Merged.{interface_names, world_names}
 use Rattle.indexmap.specs.IndexMap.{insert_all, insert_entry}
 use Rattle.std.proofs.Common.{Bool, List, Option, Some, [], ap, append-nil, append_assoc, ap₂, arith, cond, false, if◌then◌else◌, is_none, is_some, length, map, not, option_and_then, option_map, refl, rules as std_rules, slice_get, subst, suc, sym, true, zero, ℕ, ◌&&◌, ◌++◌, ◌+◌, ◌||◌, ◌∙◌, ◌∷◌, ◌≡◌}
 use Rattle.std.proofs.lemmas.{Bool.and_from as both, List.length-map, Map.Made.IsDistinct-keys_filter, Option.slice_get_within as within_list}
-use Rattle.std.specs.{HashMap.get_by_text, List.AllByRecursion, List.AllZip, List.Contains, List.IsDistinct, List.filter, List.list_all, List.list_any}
-use Rattle.std.specs.{Map.keys_of, Map.lookup, Prelude.String, String.string_eq, declared.alloc.Global.Global}
+use Rattle.std.specs.{HashMap.get_by_text, List.AllByRecursion, List.AllZip, List.Contains, List.IsDistinct, List.filter, List.list_all, List.list_any, Map.keys_of, Map.lookup, Prelude.String, String.string_eq, declared.alloc.Global.Global}
 use Rattle.wit_model.proofs.{Distinct.text_eq_flip, TextLemmas.text_named as label_is, TextLemmas.text_same}
 use Rattle.wit_model.specs.Lookup.{identity_of, interface_at, package_at, path_of_interface, path_of_world, world_at}
-use Rattle.wit_model.specs.{Names.path_in, Rules.is_id, Rules.package_number, Rules.same_package_name, Rules.text_is, Text.Text, Text.optional_text}
-use Rattle.wit_model.specs.{Text.text_eq, Text.text_of, Valid.IsValid, declared.model.Interface.Interface, declared.model.InterfaceId.InterfaceId}
+use Rattle.wit_model.specs.{Names.path_in, Rules.is_id, Rules.package_number, Rules.same_package_name, Rules.text_is, Text.Text, Text.optional_text, Text.text_eq, Text.text_of, Valid.IsValid, declared.model.Interface.Interface, declared.model.InterfaceId.InterfaceId}
 use Rattle.wit_model.specs.declared.model.{Package.Package, PackageId.PackageId, PackageName.PackageName, Resolve.Resolve, World.World, WorldId.WorldId}
 
 -- ---- lists

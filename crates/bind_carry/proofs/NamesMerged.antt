@@ -1,17 +1,12 @@
 -- The names in packages once all is added: own ones, each package's followed by what is new in it, and then those of new packages.
-use Rattle.base_lemmas.proofs.{Bools.and_flip, Bools.both_ways as either_way, Bools.left_of as first_true, Bools.right_of as second_true, Elements.any_of_map}
-use Rattle.base_lemmas.proofs.{Elements.contains-later, Elements.zip_at_right as zip_at, Lists.map_of_map as map_twice, Lists.mapped_get as mapped_at}
+use Rattle.base_lemmas.proofs.{Bools.and_flip, Bools.both_ways as either_way, Bools.left_of as first_true, Bools.right_of as second_true, Elements.any_of_map, Elements.contains-later, Elements.zip_at_right as zip_at, Lists.map_of_map as map_twice, Lists.mapped_get as mapped_at}
 use Rattle.base_lemmas.proofs.Options.{none_is as no_version}
 use Rattle.bind_add.specs.{Growth.GainsNone, Growth.HasGained, Growth.HaveGained, declared.added.Names.Names}
-use Rattle.bind_carry.proofs.{CopiesPlaced.some_same, FirstNumbers.chosen_so, FirstOfUnion.found_own, FirstOfUnion.some_gains}
-use Rattle.bind_carry.proofs.{InsertedBehind.filter_whole, NamesGained.IsGrownOf, NamesGained.IsHome}
+use Rattle.bind_carry.proofs.{CopiesPlaced.some_same, FirstNumbers.chosen_so, FirstOfUnion.found_own, FirstOfUnion.some_gains, InsertedBehind.filter_whole, NamesGained.IsGrownOf, NamesGained.IsHome, NamesGained.new_world_flag, NamesGained.some_from, NamesGained.world_looked, NamesGained.world_of, Ranges.is_in_range}
 use Rattle.bind_carry.proofs.NamesGained.{copied_interface, copied_world, gain_of, grown_of, home_of, interface_looked, interface_of, names_along}
-use Rattle.bind_carry.proofs.{NamesGained.new_world_flag, NamesGained.some_from, NamesGained.world_looked, NamesGained.world_of, Ranges.is_in_range}
 use Rattle.bind_carry.proofs.UnionDistinct.{interfaces_behind, matched_all, worlds_behind}
-use Rattle.bind_carry.specs.{AddedApart.AreMatchedByName, AddedNames.NamesAreMerged, First.flag_under, Listed.given_interface, ListedNames.PackageNames}
-use Rattle.bind_carry.specs.{ListedNames.carried_names, ListedNames.grown_names, ListedNames.texts_followed_by, Marked.AreChosen, Packaged.IsGained}
+use Rattle.bind_carry.specs.{AddedApart.AreMatchedByName, AddedNames.NamesAreMerged, First.flag_under, Listed.given_interface, ListedNames.PackageNames, ListedNames.carried_names, ListedNames.grown_names, ListedNames.texts_followed_by, Marked.AreChosen, Packaged.IsGained, Which.IsNumbered, Whole.kept, declared.plan.Carried.Carried}
 use Rattle.bind_carry.specs.Packaged.{IsInterfaceName, IsPackageCarried, IsWorldName, grown_packages, is_copied_interface, is_copied_world}
-use Rattle.bind_carry.specs.{Which.IsNumbered, Whole.kept, declared.plan.Carried.Carried}
 use Rattle.bind_copy.specs.Copies.{names_in, number_under}
 use Rattle.bind_match.specs.Matching.{interface_in, is_root_name, is_root_world, own_interface_of, own_package_of, own_world_of, package_from, world_in}
 use Rattle.bind_match.specs.declared.matches.Matches.{Matches}
@@ -21,13 +16,10 @@ use Rattle.bind_union.proofs.{Carrying.same_identity, Lists.no_true}
 use Rattle.indexmap.specs.IndexMap.{IsUnique}
 use Rattle.std.proofs.Common.{Bool, List, None, Option, Some, [], ap, append-nil, ap₂, arith, cond, false, inl, inr, is_some, length, map, not, option_and_then, refl, rules as std_rules, slice_get, string_eq, subst, suc, sym, true, unwrap_or, zero, ℕ, ◌&&◌, ◌++◌, ◌+◌, ◌∙◌, ◌∷◌, ◌≡◌}
 use Rattle.std.proofs.lemmas.{Bool.and_from as both, List.map-append}
-use Rattle.std.specs.{Cmp.Lexicographic.texts_ties, FinMap.find, List.AllZip, List.Contains, List.filter, List.list_any, Option.option_map_or}
-use Rattle.std.specs.{Ordering.eq_by_cmp, Prelude.String, Prelude.codes, Prelude.is_none, declared.alloc.Global.Global}
-use Rattle.wit_model.proofs.{Elements.contains-get, LookupLemmas.versionless, NameLaws.identity_name, NameLaws.identity_namespace, NameLaws.label_lacks}
-use Rattle.wit_model.proofs.{OnePath.IsPackageName, OnePath.package-name, OnePath.package-once, TextLemmas.text_same, VersionLaws.same_name}
+use Rattle.std.specs.{Cmp.Lexicographic.texts_ties, FinMap.find, List.AllZip, List.Contains, List.filter, List.list_any, Option.option_map_or, Ordering.eq_by_cmp, Prelude.String, Prelude.codes, Prelude.is_none, declared.alloc.Global.Global}
+use Rattle.wit_model.proofs.{Elements.contains-get, LookupLemmas.versionless, NameLaws.identity_name, NameLaws.identity_namespace, NameLaws.label_lacks, OnePath.IsPackageName, OnePath.package-name, OnePath.package-once, TextLemmas.text_same, VersionLaws.same_name}
 use Rattle.wit_model.proofs.VersionLaws.{same_text}
-use Rattle.wit_model.specs.{Lookup.identity_of, Lookup.optional_version_text, Lookup.package_at, Names.PackageIdentity, Names.at_version, Names.is_identity}
-use Rattle.wit_model.specs.{Rules.same_package_name, Text.Text, Text.text_cmp, Text.text_eq, Text.text_of, Valid.IsValid}
+use Rattle.wit_model.specs.{Lookup.identity_of, Lookup.optional_version_text, Lookup.package_at, Names.PackageIdentity, Names.at_version, Names.is_identity, Rules.same_package_name, Text.Text, Text.text_cmp, Text.text_eq, Text.text_of, Valid.IsValid}
 use Rattle.wit_model.specs.declared.model.{InterfaceId.InterfaceId, Package.Package, PackageId.PackageId, PackageName.PackageName, Resolve.Resolve}
 use Rattle.wit_model.specs.declared.model.WorldId.{WorldId}
 

@@ -2,8 +2,7 @@
 use Rattle.base_lemmas.proofs.{Elements.zip_at_right as zip_at, Lists.front_at, Lists.within_there}
 use Rattle.bind_add.specs.{Growth.GainsNone, declared.added.Names.Names}
 use Rattle.bind_carry.proofs.{CopiesPlaced.kept_from, Counting.carried_all, FirstNumbers.flag_within, FirstOfUnion.some_gains, NamesGained.grown_of}
-use Rattle.bind_carry.specs.{First.first_fates, FirstPass.IsFirstPass, Numbers.package_number, Packaged.IsGained}
-use Rattle.bind_carry.specs.{Packaged.IsPackageCarried, Packaged.grown_packages, Renumbered.first_of, declared.plan.Carried.Carried}
+use Rattle.bind_carry.specs.{First.first_fates, FirstPass.IsFirstPass, Numbers.package_number, Packaged.IsGained, Packaged.IsPackageCarried, Packaged.grown_packages, Renumbered.first_of, declared.plan.Carried.Carried}
 use Rattle.bind_copy.specs.Copies.{number_under}
 use Rattle.bind_match.specs.declared.matches.Matches.{Matches}
 use Rattle.bind_union.specs.Merged.{IsKeptPackage, IsPackageOf}

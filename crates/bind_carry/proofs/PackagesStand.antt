@@ -2,15 +2,10 @@
 use Rattle.bind_meaning.proofs.Listed.{by_option}
 use Rattle.base_lemmas.proofs.Lists.{front_at, mapped_get as mapped_at}
 use Rattle.bind_add.specs.{Growth.HasGained, declared.added.Names.Names}
-use Rattle.bind_carry.proofs.{CopiesPlaced.copied_behind, CopiesPlaced.nothing_there, CopiesPlaced.uncopied_under, FirstNumbers.chosen_so, FirstOfUnion.IsFound}
-use Rattle.bind_carry.proofs.{FirstOfUnion.found_number, FirstOfUnion.found_own, FirstOfUnion.new_package, KeptPlaced.IsKeptAt, NamesCopied.interfaces_join}
-use Rattle.bind_carry.proofs.{NamesCopied.name_entry, NamesCopied.worlds_join, NamesGained.gain_of, NamesGained.interface_looked, NamesGained.listed_interface}
-use Rattle.bind_carry.proofs.{NamesGained.listed_world, NamesGained.some_from, NamesGained.world_looked, Ranges.is_in_range, UnionDistinct.interfaces_behind}
+use Rattle.bind_carry.proofs.{CopiesPlaced.copied_behind, CopiesPlaced.nothing_there, CopiesPlaced.uncopied_under, FirstNumbers.chosen_so, FirstOfUnion.IsFound, FirstOfUnion.found_number, FirstOfUnion.found_own, FirstOfUnion.new_package, KeptPlaced.IsKeptAt, NamesCopied.interfaces_join, NamesCopied.name_entry, NamesCopied.worlds_join, NamesGained.gain_of, NamesGained.interface_looked, NamesGained.listed_interface, NamesGained.listed_world, NamesGained.some_from, NamesGained.world_looked, Ranges.is_in_range, UnionDistinct.interfaces_behind}
 use Rattle.bind_carry.proofs.UnionDistinct.{worlds_behind}
-use Rattle.bind_carry.specs.{AddedApart.AreMatchedByName, First.first_fates, First.flag_under, FirstPass.IsFirstPass, Marked.AreChosen}
-use Rattle.bind_carry.specs.{MergedUnion.NoOwnInterfaceAtPath, MergedUnion.NoOwnWorldAtPath, Numbers.package_number, Packaged.IsGained}
+use Rattle.bind_carry.specs.{AddedApart.AreMatchedByName, First.first_fates, First.flag_under, FirstPass.IsFirstPass, Marked.AreChosen, MergedUnion.NoOwnInterfaceAtPath, MergedUnion.NoOwnWorldAtPath, Numbers.package_number, Packaged.IsGained, Renumbered.first_of, SecondPass.is_left_out, declared.plan.Carried.Carried}
 use Rattle.bind_carry.specs.Packaged.{IsInterfaceName, IsPackageCarried, IsWorldName, grown_packages, is_copied_interface, is_copied_world}
-use Rattle.bind_carry.specs.{Renumbered.first_of, SecondPass.is_left_out, declared.plan.Carried.Carried}
 use Rattle.bind_copy.specs.Copies.{number_under}
 use Rattle.bind_match.specs.Matching.{interface_in, is_root_world, own_interface_of, own_package_of, own_world_of, package_from, world_in}
 use Rattle.bind_match.specs.declared.matches.Matches.{Matches}

@@ -7,16 +7,11 @@ use Rattle.indexmap.specs.IndexMap.{values}
 use Rattle.std.proofs.Common.{Bool, List, None, Option, Some, [], ap, arith, false, flat_map, is_some, length, ltb-true, nat_lt, not, option_to_list, refl, rules as std_rules, suc, sym, true, zero, ℕ, ◌&&◌, ◌++◌, ◌<◌, ◌||◌, ◌∙◌, ◌∷◌, ◌≡◌}
 use Rattle.std.proofs.lemmas.{Bool.and_from as both, Bool.lt-ltb, List.Folds.list_all-append, List.Folds.list_all-map, Option.slice_get_within}
 use Rattle.std.specs.{List.list_all, Option.option_map_or, Prelude.String, declared.alloc.Global.Global}
-use Rattle.wit_model.proofs.{Checks.below_at, Functions.all_flat, OnePath.found-in, OnePath.interface-passes, Owners.function_home, Owners.named_met}
-use Rattle.wit_model.proofs.{Owners.owned_stays, Owners.unnamed_met, PartsLemmas.owner_same as owner_equal, UsesLemmas.alias_numbers, ValidLemmas.type_passes}
+use Rattle.wit_model.proofs.{Checks.below_at, Functions.all_flat, OnePath.found-in, OnePath.interface-passes, Owners.function_home, Owners.named_met, Owners.owned_stays, Owners.unnamed_met, PartsLemmas.owner_same as owner_equal, UsesLemmas.alias_numbers, ValidLemmas.type_passes}
 use Rattle.wit_model.proofs.ValidLemmas.{world_passes}
-use Rattle.wit_model.specs.{Checks.references, Lookup.interface_at, Lookup.type_at, Lookup.world_at, Parts.function_numbers, Parts.has_owner}
-use Rattle.wit_model.specs.{Parts.kind_numbers, Parts.met_by, Parts.met_of, Parts.same_owner, Parts.used_by_type, Rules.entries_in_range}
+use Rattle.wit_model.specs.{Checks.references, Lookup.interface_at, Lookup.type_at, Lookup.world_at, Parts.function_numbers, Parts.has_owner, Parts.kind_numbers, Parts.met_by, Parts.met_of, Parts.same_owner, Parts.used_by_type, Rules.entries_in_range, Rules.item_in_range, Rules.key_in_range, Rules.owner_in_range, Rules.package_number, Rules.passes, Text.text_eq, Text.text_of, Uses.alias_target, Uses.direct_deps, Uses.owner_interface, Valid.IsValid, Valid.Keeps, Valid.as_interface, Valid.as_world, Valid.order_of_types, Valid.owners, declared.model.Function.Function, declared.model.Interface.Interface}
 use Rattle.wit_model.specs.Rules.{function_in_range, function_stays, in_list, is_listed, is_member, is_name_key, is_named_kind, is_named_number, is_use}
-use Rattle.wit_model.specs.{Rules.item_in_range, Rules.key_in_range, Rules.owner_in_range, Rules.package_number, Rules.passes, Text.text_eq, Text.text_of}
-use Rattle.wit_model.specs.{Uses.alias_target, Uses.direct_deps, Uses.owner_interface, Valid.IsValid, Valid.Keeps, Valid.as_interface, Valid.as_world}
 use Rattle.wit_model.specs.Valid.{function_names, functions_of_interface, functions_of_world, is_place, item_function, named_kinds, numbers_in_range}
-use Rattle.wit_model.specs.{Valid.order_of_types, Valid.owners, declared.model.Function.Function, declared.model.Interface.Interface}
 use Rattle.wit_model.specs.declared.model.{Resolve.Resolve, TypeDef.TypeDef, TypeOwner.TypeOwner, World.World, WorldItem.WorldItem, WorldKey.WorldKey}
 use Rattle.wit_model.specs.declared.model.TypeOwner.TheVariants as owner
 

@@ -1,10 +1,9 @@
 -- Types that a pass copies: each stands under its new number, and all its parts are carried. Both passes are so.
 use Rattle.bind_carry.proofs.CopiesPlaced.{by_test}
-use Rattle.base_lemmas.proofs.{Lists.within_there, Options.nameless as some_none, Options.none_some}
 use Rattle.bind_carry.proofs.{CopiesPlaced.IsPlaced, CopiesPlaced.copy_placed, PartsCarried.no_home, PartsCarried.parts_are_carried, SettledParts.copied_still}
 use Rattle.bind_carry.proofs.SettledParts.{settled_all, stands_still, unnamed_carried, unnamed_parts}
-use Rattle.bind_carry.specs.{CarriedParts.AreCarriedByOwner, CarriedParts.PartsOfOwners, Fates.AreCopied, Fates.FallBelow, Fates.are_carried, Fates.carries}
-use Rattle.bind_carry.specs.{Fates.copies, Fates.is_carried, Fates.settled, Fates.settled_from, Initial.IsInitial, Renumbered.is_copied}
+use Rattle.base_lemmas.proofs.{Lists.within_there, Options.nameless as some_none, Options.none_some}
+use Rattle.bind_carry.specs.{CarriedParts.AreCarriedByOwner, CarriedParts.PartsOfOwners, Fates.AreCopied, Fates.FallBelow, Fates.are_carried, Fates.carries, Fates.copies, Fates.is_carried, Fates.settled, Fates.settled_from, Initial.IsInitial, Renumbered.is_copied}
 use Rattle.bind_carry.specs.declared.fate.Fate.{Fate}
 use Rattle.bind_copy.specs.Copies.{number_under}
 use Rattle.bind_union.proofs.{Carrying.references_of, Carrying.refers_below, Images.numbers_of_view, Lists.no_true}

@@ -1,17 +1,14 @@
 -- What a union adds, once what is moved is in its places.
 use Rattle.std.proofs.{lemmas.List.drop_at, lemmas.Bool.lt-ltb, lemmas.Bool.ltb-true, lemmas.List.with_items_is, lemmas.Option.slice_get_within}
+use Rattle.std.proofs.Common.{List, Some, [], ap, arith, length, nat_lt, rules as std_rules, slice_get, subst, sym, true, ℕ, ◌++◌, ◌∙◌, ◌≡◌, ◌≤◌}
 use Rattle.base_lemmas.proofs.Elements.{all_weaker, zip_long}
 use Rattle.bind_add.specs.declared.added.Added.{Added}
 use Rattle.bind_carry.proofs.{CopiesPlaced.numbers_by_long, Counting.carried_all, Counting.length_both, Counting.types_counted, Ready.carried_ready}
 use Rattle.bind_carry.proofs.Ready.{fates_long}
-use Rattle.bind_carry.specs.{Bound.bound_interfaces, BoundGains.bound_fates, Fates.AreCopied, Fates.IsCopiedType, Fates.copied_types, Fates.numbers_by}
-use Rattle.bind_carry.specs.{First.first_fates, InRange.IsInRange, Moved.AreMoved, Moved.IsInterfaceBelow, Numbers.copied_count, Over.IsPlacedOver}
-use Rattle.bind_carry.specs.{Planned.IsPlanned, TooLong.AreTooManyGained, TooLong.copies_of, Union.IsUnionOf, Which.AreMatchedAll, Whole.IsInterfaceCarried}
-use Rattle.bind_carry.specs.{Whole.kept, declared.fate.Fate.Fate, declared.plan.Carried.Carried, declared.plan.Planned.Planned}
+use Rattle.bind_carry.specs.{Bound.bound_interfaces, BoundGains.bound_fates, Fates.AreCopied, Fates.IsCopiedType, Fates.copied_types, Fates.numbers_by, First.first_fates, InRange.IsInRange, Moved.AreMoved, Moved.IsInterfaceBelow, Numbers.copied_count, Over.IsPlacedOver, Planned.IsPlanned, TooLong.AreTooManyGained, TooLong.copies_of, Union.IsUnionOf, Which.AreMatchedAll, Whole.IsInterfaceCarried, Whole.kept, declared.fate.Fate.Fate, declared.plan.Carried.Carried, declared.plan.Planned.Planned}
 use Rattle.bind_copy.specs.Copies.{all_below}
 use Rattle.bind_match.specs.declared.matches.Matches.{Matches}
 use Rattle.bind_union.specs.Views.{kind_view, view_numbers}
-use Rattle.std.proofs.Common.{List, Some, [], ap, arith, length, nat_lt, rules as std_rules, slice_get, subst, sym, true, ℕ, ◌++◌, ◌∙◌, ◌≡◌, ◌≤◌}
 use Rattle.std.specs.{List.AllZip, Vec.with_items}
 use Rattle.wit_model.specs.declared.model.{Interface.Interface, Resolve.Resolve, TypeDef.TypeDef, World.World}
 

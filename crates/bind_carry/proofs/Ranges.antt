@@ -1,22 +1,18 @@
 -- A valid `Resolve` is in range.
 use Rattle.bind_carry.proofs.CopiesPlaced.{by_test}
 use Rattle.base_lemmas.proofs.{Bools.left_of as first_true, Bools.right_of as second_true, Lists.within_there as there}
-use Rattle.bind_carry.specs.{BoundGains.are_types_below, Fates.FallBelow, InRange.IsInRange, Listed.IsHomeBelow, Listed.IsOwnerBelow}
-use Rattle.bind_carry.specs.{Listed.are_interfaces_below, Listed.are_worlds_below, Shown.AreNewShownBelow, Shown.AreShownBelow, Shown.IsShownBelow}
+use Rattle.bind_carry.specs.{BoundGains.are_types_below, Fates.FallBelow, InRange.IsInRange, Listed.IsHomeBelow, Listed.IsOwnerBelow, Listed.are_interfaces_below, Listed.are_worlds_below, Shown.AreNewShownBelow, Shown.AreShownBelow, Shown.IsShownBelow}
 use Rattle.bind_carry.specs.Shown.{are_keys_below, type_in}
-use Rattle.bind_copy.specs.Copies.{AreEntriesBelow, AreFunctionsBelow, IsFunctionBelow, IsItemBelow, all_below, are_names_below, are_params_below, call_numbers}
-use Rattle.bind_copy.specs.Copies.{key_numbers}
+use Rattle.bind_copy.specs.Copies.{AreEntriesBelow, AreFunctionsBelow, IsFunctionBelow, IsItemBelow, all_below, are_names_below, are_params_below, call_numbers, key_numbers}
 use Rattle.bind_union.proofs.{Carrying.references_of, Carrying.refers_below, Images.given_numbers, Images.numbers_cons, Images.numbers_of_view}
 use Rattle.indexmap.specs.IndexMap.{values}
 use Rattle.std.proofs.Common.{List, Option, Some, [], ap, filter_map, length, ltb-true, map, nat_lt, option_to_list, refl, rules as std_rules, slice_get, sym, true, ℕ, ◌&&◌, ◌∙◌, ◌∷◌, ◌≡◌, ◌≤◌}
 use Rattle.std.proofs.lemmas.{Bool.ltb-false, List.Elements.filter_map-append, List.Folds.list_all-append, List.Folds.list_all-map}
 use Rattle.std.specs.{List.list_all, Option.option_map_or, Prelude.String, declared.alloc.Global.Global}
 use Rattle.wit_model.proofs.{Entries.lists_pass, OnePath.interface-passes, OnePath.package-passes, RulesLemmas.each_at}
-use Rattle.wit_model.specs.{Lookup.interface_at, Lookup.package_at, Lookup.resource_of, Lookup.type_at, Lookup.world_at, Parts.kind_numbers}
+use Rattle.wit_model.specs.{Lookup.interface_at, Lookup.package_at, Lookup.resource_of, Lookup.type_at, Lookup.world_at, Parts.kind_numbers, Types.number_of, Valid.IsValid, Valid.Keeps, Valid.is_place, Valid.numbers_in_range, declared.model.Function.Function}
 use Rattle.wit_model.specs.Rules.{entries_in_range, function_in_range, in_list, item_in_range, key_in_range, owner_in_range, package_number, passes}
-use Rattle.wit_model.specs.{Types.number_of, Valid.IsValid, Valid.Keeps, Valid.is_place, Valid.numbers_in_range, declared.model.Function.Function}
-use Rattle.wit_model.specs.declared.model.{FunctionKind.FunctionKind, Interface.Interface, Package.Package, PackageId.PackageId, Param.Param, Resolve.Resolve}
-use Rattle.wit_model.specs.declared.model.{TypeDef.TypeDef, TypeOwner.TypeOwner, World.World, WorldItem.WorldItem, WorldKey.WorldKey}
+use Rattle.wit_model.specs.declared.model.{FunctionKind.FunctionKind, Interface.Interface, Package.Package, PackageId.PackageId, Param.Param, Resolve.Resolve, TypeDef.TypeDef, TypeOwner.TypeOwner, World.World, WorldItem.WorldItem, WorldKey.WorldKey}
 
 -- ---- functions
 

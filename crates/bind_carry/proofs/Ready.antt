@@ -1,9 +1,6 @@
 -- What is carried of a `Resolve` in range can be copied, and so can what the bound world gains.
-use Rattle.bind_carry.proofs.{CopiesPlaced.numbers_by_long, CopiesPlaced.numbers_long, Ranges.keys_below, Ranges.new_shown_below, Ranges.types_below}
-use Rattle.bind_carry.proofs.{SecondInitial.second_long, SecondInitial.unified_long, SettledParts.settled_long}
-use Rattle.bind_carry.specs.{Bound.IsBoundReady, BoundGains.AreWorldKeysBelow, BoundGains.are_types_below, BoundGains.bound_fates, Fates.AreCopied}
-use Rattle.bind_carry.specs.{First.adds_any, First.fate_of, First.first_fates, InRange.IsInRange, Listed.IsOwnerBelow, Numbers.numbers_of, Over.IsCarriedReady}
-use Rattle.bind_carry.specs.{Shown.AreNewShownBelow, Which.AreMatchedAll, Which.IsNumbered, declared.fate.Fate.Fate, declared.plan.Carried.Carried}
+use Rattle.bind_carry.proofs.{CopiesPlaced.numbers_by_long, CopiesPlaced.numbers_long, Ranges.keys_below, Ranges.new_shown_below, Ranges.types_below, SecondInitial.second_long, SecondInitial.unified_long, SettledParts.settled_long}
+use Rattle.bind_carry.specs.{Bound.IsBoundReady, BoundGains.AreWorldKeysBelow, BoundGains.are_types_below, BoundGains.bound_fates, Fates.AreCopied, First.adds_any, First.fate_of, First.first_fates, InRange.IsInRange, Listed.IsOwnerBelow, Numbers.numbers_of, Over.IsCarriedReady, Shown.AreNewShownBelow, Which.AreMatchedAll, Which.IsNumbered, declared.fate.Fate.Fate, declared.plan.Carried.Carried}
 use Rattle.bind_copy.specs.Copies.{AreEntriesBelow, AreFunctionsBelow, are_names_below}
 use Rattle.bind_match.specs.declared.matches.Matches.{Matches}
 use Rattle.std.proofs.Common.{Bool, List, Some, ap, is_none, length, map, rules as std_rules, subst, sym, true, ℕ, ◌+◌, ◌∙◌, ◌≡◌}

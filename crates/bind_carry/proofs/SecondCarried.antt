@@ -1,25 +1,20 @@
 -- What the second pass carries, and that it is copied and joined as the laws on unions ask for it: interfaces, worlds, and the bound world with what it gains.
 use Rattle.bind_union.specs.Joined.{Joined}
-use Rattle.bind_carry.proofs.CopiesPlaced.{by_either, by_test}
-use Rattle.bind_meaning.proofs.Listed.{by_option}
-use Rattle.base_lemmas.proofs.{Bools.left_of as first_true, Bools.right_of as second_true, Elements.all-contained, Elements.get-contains, Elements.lookup_stands, Lists.front_at, Lists.within_there, Numbers.equal, Numbers.same-number}
-use Rattle.bind_carry.proofs.CopiesPlaced.{copied_behind, copied_from, fates_rise, copied_home, copied_past, copy_placed, kept_from, some_same}
-use Rattle.bind_carry.proofs.{Counting.carried_all, Counting.copied_long as types_copied_long, Counting.inline_all, FirstInterfaces.copy_stands, FirstInterfaces.home_number, FirstNumbers.flag_within, FirstOfUnion.grown_name, FirstWorlds.first_is_copied, InsertedBehind.new_behind, Joined.items_join, KeptPlaced.IsKeptAt, KeptPlaced.kept_here, KeptPlaced.kept_placed, KeysGained.entries_apart, PackagesFrom.package_from, Ready.interface_count, WorldEntries.IsNumberedSame, WorldEntries.IsPlacedIn}
+use Rattle.bind_union.specs.Carried.{IsCarried, IsInterface, KeyBecomes, Renumbering, Rises, carries_owner}
+use Rattle.bind_carry.proofs.CopiesPlaced.{by_either, by_test, copied_behind, copied_from, fates_rise, copied_home, copied_past, copy_placed, kept_from, some_same}
+use Rattle.bind_carry.proofs.{Counting.carried_all, Counting.copied_long as types_copied_long, Counting.inline_all, FirstInterfaces.copy_stands, FirstInterfaces.home_number, FirstNumbers.flag_within, FirstOfUnion.grown_name, FirstWorlds.first_is_copied, InsertedBehind.new_behind, Joined.items_join, KeptPlaced.IsKeptAt, KeptPlaced.kept_here, KeptPlaced.kept_placed, KeysGained.entries_apart, PackagesFrom.package_from, Ready.interface_count, WorldEntries.IsNumberedSame, WorldEntries.IsPlacedIn, PassedTypes.copied_carried, PassedTypes.parts_hold, SecondInitial.IsUnified, SecondInitial.shows_gained, SecondInitial.is_shown_new}
 use Rattle.bind_carry.proofs.FirstNumbers.{interface_is, interfaces_once, own_path, type_low, types_are}
 use Rattle.bind_carry.proofs.FirstWorlds.{first_worlds_are_copied, one_shows, some_count, times_of}
-use Rattle.bind_carry.proofs.{PassedTypes.copied_carried, PassedTypes.parts_hold, SecondInitial.IsUnified, SecondInitial.shows_gained, SecondInitial.is_shown_new}
 use Rattle.bind_carry.proofs.WorldEntries.{any_place, export_keyed, export_range, export_so, import_keyed, import_range, label_new, new_under_same}
 use Rattle.bind_carry.proofs.SecondItems.{type_number, same_label, not_some, shown_in, not_root, same_parts_of}
-use Rattle.bind_carry.specs.{CarriedParts.is_function_carried, FirstPass.IsFirstPass, Marked.is_inline_at, Marked.is_shown_in, Numbers.interface_number, Numbers.numbers_of, Numbers.world_number, ReadyItems.AreReady, ReadyItems.IsItemReady, ReadyItems.IsKeyReady, Renumbered.is_copied, Renumbered.is_matched, SecondPass.ArePackagesMerged, SecondPass.IsSecondPass, SecondPass.is_left_out, Shown.any_new, Shown.type_in, Which.new_worlds, Whole.IsInterfaceCarried, Whole.IsWorldCarried, declared.fate.Fate.Fate, declared.plan.Carried.Carried}
-use Rattle.bind_carry.specs.{Fates.carries, Fates.copied_types, Fates.copies, Fates.is_carried, Fates.numbers_by, First.flag_under, First.is_named_at}
+use Rattle.bind_meaning.proofs.Listed.{by_option}
+use Rattle.base_lemmas.proofs.{Bools.left_of as first_true, Bools.right_of as second_true, Elements.all-contained, Elements.get-contains, Elements.lookup_stands, Lists.front_at, Lists.within_there, Numbers.equal, Numbers.same-number}
+use Rattle.bind_carry.specs.{CarriedParts.is_function_carried, FirstPass.IsFirstPass, Marked.is_inline_at, Marked.is_shown_in, Numbers.interface_number, Numbers.numbers_of, Numbers.world_number, ReadyItems.AreReady, ReadyItems.IsItemReady, ReadyItems.IsKeyReady, Renumbered.is_copied, Renumbered.is_matched, SecondPass.ArePackagesMerged, SecondPass.IsSecondPass, SecondPass.is_left_out, Shown.any_new, Shown.type_in, Which.new_worlds, Whole.IsInterfaceCarried, Whole.IsWorldCarried, declared.fate.Fate.Fate, declared.plan.Carried.Carried, Fates.carries, Fates.copied_types, Fates.copies, Fates.is_carried, Fates.numbers_by, First.flag_under, First.is_named_at}
 use Rattle.bind_copy.specs.Copies.{IsInterfaceUnder, become_one, is_key_under, is_new_under, number_under}
 use Rattle.bind_match.specs.declared.matches.Matches.{Matches}
-use Rattle.bind_union.{proofs.Lists.no_true, proofs.MatchedStand.numbers_rise, proofs.WorldRules.by_entries, proofs.WorldNamesakes.IsWorldType}
-use Rattle.bind_union.specs.Carried.{IsCarried, IsInterface, KeyBecomes, Renumbering, Rises, carries_owner}
-use Rattle.bind_union.{specs.Joined.IsJoined, specs.Merged.AreCopies, specs.Merged.IsCopyUnder, specs.Merged.IsMerged}
+use Rattle.bind_union.{proofs.Lists.no_true, proofs.MatchedStand.numbers_rise, proofs.WorldRules.by_entries, proofs.WorldNamesakes.IsWorldType, specs.Joined.IsJoined, specs.Merged.AreCopies, specs.Merged.IsCopyUnder, specs.Merged.IsMerged}
 use Rattle.std.proofs.Common.{Bool, List, None, Option, Some, [], ap, append-nil, append_assoc, arith, false, filter_map, if◌then◌else◌, inl, inr, is_none, is_some, length, map, not, option_and_then, option_map, option_to_list, refl, rules as std_rules, slice_get, subst, sym, true, unwrap_or, ℕ, ◌&&◌, ◌++◌, ◌+◌, ◌<◌, ◌==◌, ◌||◌, ◌∙◌, ◌≡◌, ◌≤◌, ◌⊎◌}
-use Rattle.std.proofs.lemmas.{Bool.and_from as both, Bool.cases_lt as in_two, Bool.or_left, Bool.or_right, Bool.true_from_ne_false, Option.slice_get_within}
-use Rattle.std.proofs.lemmas.{List.length-append, List.length-map, Map.Keys.any_passes_from_place as any_at}
+use Rattle.std.proofs.lemmas.{Bool.and_from as both, Bool.cases_lt as in_two, Bool.or_left, Bool.or_right, Bool.true_from_ne_false, Option.slice_get_within, List.length-append, List.length-map, Map.Keys.any_passes_from_place as any_at}
 use Rattle.std.specs.{List.Contains, List.IsDistinct, List.list_all, List.list_any, Map.keys_of, Map.lookup, Option.option_map_or, Prelude.String, declared.alloc.Global.Global}
 use Rattle.wit_model.proofs.{Chains.all_has as passes_at, Elements.contains-get, OnePath.found-in, TextLemmas.text_same as text-same}
 use Rattle.wit_model.specs.{Lookup.interface_at, Lookup.interface_path, Lookup.key_text, Lookup.type_at, Lookup.world_at, Rules.export_stands, Rules.interface_type_numbers, Text.text_of, Uses.has, Uses.item_interface, Uses.items_of, Valid.IsValid, Valid.as_interface, Valid.as_world, Valid.item_function, Valid.key_eq, declared.model.Function.Function}

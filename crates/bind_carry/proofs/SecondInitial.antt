@@ -2,9 +2,7 @@
 use Rattle.bind_carry.proofs.{CopiesPlaced.by_either, CopiesPlaced.by_test, Marking.joins, Marking.mark_item_long, Marking.mark_one, Marking.no_more}
 use Rattle.base_lemmas.proofs.{Bools.left_of as first_true, Bools.right_of as second_true, Lists.set_there, Numbers.differ, Numbers.equal}
 use Rattle.bind_add.proofs.Gains.{set_here, set_length}
-use Rattle.bind_carry.specs.{BoundGains.gained_inline, BoundGains.gains_any, BoundGains.type_under_key, BoundGains.unified, BoundGains.unify_one, Fates.carries}
-use Rattle.bind_carry.specs.{First.beside_first, First.flag_under, First.second_from, First.second_in, Marked.is_inline_at, Marked.mark_item}
-use Rattle.bind_carry.specs.{Marked.mark_new_items, Renumbered.is_matched, Shown.AreShownBelow, Shown.any_new, Shown.type_in, declared.fate.Fate.Fate}
+use Rattle.bind_carry.specs.{BoundGains.gained_inline, BoundGains.gains_any, BoundGains.type_under_key, BoundGains.unified, BoundGains.unify_one, Fates.carries, First.beside_first, First.flag_under, First.second_from, First.second_in, Marked.is_inline_at, Marked.mark_item, Marked.mark_new_items, Renumbered.is_matched, Shown.AreShownBelow, Shown.any_new, Shown.type_in, declared.fate.Fate.Fate}
 use Rattle.bind_carry.specs.declared.plan.Carried.{Carried}
 use Rattle.bind_copy.specs.Copies.{is_new_under}
 use Rattle.bind_union.proofs.Lists.{no_true}
@@ -12,8 +10,7 @@ use Rattle.std.proofs.Common.{Bool, List, Option, Some, [], ap, arith, false, if
 use Rattle.std.proofs.lemmas.{Bool.or_left, Bool.or_right, List.length-replicate, Option.slice_get_within}
 use Rattle.std.specs.List.{list_any}
 use Rattle.wit_model.specs.{Lookup.interface_at, Lookup.type_at, Rules.is_id, Uses.item_interface, Valid.IsValid, Valid.as_interface}
-use Rattle.wit_model.specs.declared.model.{Interface.Interface, InterfaceId.InterfaceId, Resolve.Resolve, TypeDef.TypeDef, TypeId.TypeId, World.World}
-use Rattle.wit_model.specs.declared.model.{WorldItem.WorldItem, WorldKey.WorldKey}
+use Rattle.wit_model.specs.declared.model.{Interface.Interface, InterfaceId.InterfaceId, Resolve.Resolve, TypeDef.TypeDef, TypeId.TypeId, World.World, WorldItem.WorldItem, WorldKey.WorldKey}
 use Rattle.bind_carry.specs.declared.fate.Fate.TheVariants as fate
 use Rattle.wit_model.specs.declared.model.TypeOwner.TheVariants as owner
 

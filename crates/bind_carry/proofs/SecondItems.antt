@@ -1,24 +1,20 @@
 -- What the second pass looks at: items that are types, labels, lists, and inline interfaces that are shown once.
 use Rattle.base_lemmas.proofs.{Bools.right_of as second_true, Elements.lookup_stands, Numbers.equal, Numbers.same-number}
-use Rattle.bind_carry.proofs.{CopiesPlaced.by_either, FirstWorlds.sum_least}
+use Rattle.bind_carry.proofs.{CopiesPlaced.by_either, FirstWorlds.sum_least, FirstWorlds.inline_once, FirstWorlds.shown_count, FirstWorlds.sum_two, SecondInitial.is_shown_new}
 use Rattle.bind_meaning.proofs.Listed.{by_option}
-use Rattle.bind_carry.proofs.{FirstWorlds.inline_once, FirstWorlds.shown_count, FirstWorlds.sum_two, SecondInitial.is_shown_new}
 use Rattle.bind_carry.{proofs.FirstWorlds.count, proofs.FirstWorlds.count_front, proofs.WorldEntries.label_new}
-use Rattle.bind_carry.specs.{BoundGains.type_under_key, Marked.is_shown_in, Renumbered.met_under, SecondPass.DoNotClash, Shown.type_in, Which.new_worlds, declared.fate.Fate.Fate}
-use Rattle.bind_carry.specs.{Fates.carries, Fates.copies, First.beside_first, First.flag_under, First.is_named_at, First.second_in, Renumbered.is_matched}
-use Rattle.bind_carry.specs.{Renumbered.second_of, declared.plan.Carried.Carried}
+use Rattle.bind_carry.specs.{BoundGains.type_under_key, Marked.is_shown_in, Renumbered.met_under, SecondPass.DoNotClash, Shown.type_in, Which.new_worlds, declared.fate.Fate.Fate, Fates.carries, Fates.copies, First.beside_first, First.flag_under, First.is_named_at, First.second_in, Renumbered.is_matched, Renumbered.second_of, declared.plan.Carried.Carried}
 use Rattle.bind_copy.specs.Copies.{is_new_under}
 use Rattle.bind_match.specs.Matching.{is_root_world}
 use Rattle.bind_union.proofs.{Lists.no_true, WorldNamesakes.world_type, WorldNamesakes.is_declared, WorldNamesakes.not_declared}
 use Rattle.bind_union.specs.Carried.{IsSameName, Renumbering, carries_owner, copies_owner, owner_under}
-use Rattle.wit_model.specs.{Parts.same_owner, Valid.as_interface, Valid.as_world, Rules.is_id, Rules.item_type, Rules.times_shown}
+use Rattle.wit_model.specs.{Parts.same_owner, Valid.as_interface, Valid.as_world, Rules.is_id, Rules.item_type, Rules.times_shown, Lookup.interface_at, Lookup.key_text, Lookup.world_at, Meaning.Entry, Meaning.InterfaceSense, Meaning.item_sense, Meant.interface_item, Meant.item_meaning, Text.Text, Text.optional_text, Text.text_of, Uses.item_interface, Valid.IsValid, Valid.key_eq}
 use Rattle.wit_model.specs.declared.model.InterfaceId.{InterfaceId}
-use Rattle.wit_model.specs.declared.model.TypeOwner.TheVariants as owner
+use Rattle.wit_model.specs.declared.model.{Interface.Interface, PackageName.PackageName, Resolve.Resolve, TypeId.TypeId, TypeOwner.TypeOwner, World.World, WorldId.WorldId, WorldItem.WorldItem, WorldKey.WorldKey}
 use Rattle.std.proofs.Common.{Bool, List, None, Option, Some, [], ap, arith, cond, false, if◌then◌else◌, is_some, map, not, option_and_then, option_map, refl, rules as std_rules, slice_get, subst, suc, sym, true, unwrap_or, zero, ℕ, ◌&&◌, ◌+◌, ◌||◌, ◌∙◌, ◌∷◌, ◌≡◌, ◌≤◌}
 use Rattle.std.proofs.lemmas.{Bool.or_left, Bool.or_right, Option.slice_get-map}
 use Rattle.std.specs.{List.AllByRecursion, List.Contains, List.IsDistinct, Map.keys_of, Map.lookup, Option.option_map_or, Prelude.String, declared.alloc.Global.Global}
-use Rattle.wit_model.specs.{Lookup.interface_at, Lookup.key_text, Lookup.world_at, Meaning.Entry, Meaning.InterfaceSense, Meaning.item_sense, Meant.interface_item, Meant.item_meaning, Text.Text, Text.optional_text, Text.text_of, Uses.item_interface, Valid.IsValid, Valid.key_eq}
-use Rattle.wit_model.specs.declared.model.{Interface.Interface, PackageName.PackageName, Resolve.Resolve, TypeId.TypeId, TypeOwner.TypeOwner, World.World, WorldId.WorldId, WorldItem.WorldItem, WorldKey.WorldKey}
+use Rattle.wit_model.specs.declared.model.TypeOwner.TheVariants as owner
 use Rattle.wit_model.specs.declared.model.WorldItem.TheVariants as item
 use Rattle.wit_model.specs.declared.model.WorldKey.TheVariants as key
 use Rattle.bind_carry.specs.declared.fate.Fate.TheVariants as fate

@@ -1,12 +1,10 @@
 -- The second pass, over what the bound world gains: it is carried and copied as the laws on unions ask for it, and the bound world stands as it was, with what it gains behind what it had.
-use Rattle.bind_carry.proofs.{CopiesPlaced.by_either, CopiesPlaced.by_test, FirstNumbers.named_of_path, FirstNumbers.names, FirstNumbers.there_of_path}
-use Rattle.bind_meaning.proofs.Listed.{by_option}
-use Rattle.base_lemmas.proofs.{Bools.left_of as first_true, Bools.right_of as second_true, Elements.get-contains, Lists.within_there, Numbers.same-number}
-use Rattle.bind_carry.proofs.{CopiesPlaced.some_same, PassedTypes.carried_within, PassedTypes.copy_holds, PassedTypes.stood_first}
-use Rattle.bind_carry.proofs.{CopiesPlaced.stands_under, CopiesPlaced.uncopied_under, FirstInterfaces.excluded, FirstInterfaces.named_carried as first_named_carried, FirstNumbers.are_matched, FirstNumbers.chosen_so, FirstWorlds.first_is_carried, PartsCarried.has_home, PartsCarried.no_home, PassedTypes.carried_if, Ranges.is_in_range, Ranges.shown_below, Ready.bound_long, Ready.fates_long, Ready.interface_count, Ready.numbers_count, SettledParts.copied_still, SettledParts.stands_still, WorldEntries.IsNumberedSame}
+use Rattle.bind_carry.proofs.{CopiesPlaced.by_either, CopiesPlaced.by_test, FirstNumbers.named_of_path, FirstNumbers.names, FirstNumbers.there_of_path, CopiesPlaced.some_same, PassedTypes.carried_within, PassedTypes.copy_holds, PassedTypes.stood_first, CopiesPlaced.stands_under, CopiesPlaced.uncopied_under, FirstInterfaces.excluded, FirstInterfaces.named_carried as first_named_carried, FirstNumbers.are_matched, FirstNumbers.chosen_so, FirstWorlds.first_is_carried, PartsCarried.has_home, PartsCarried.no_home, PassedTypes.carried_if, Ranges.is_in_range, Ranges.shown_below, Ready.bound_long, Ready.fates_long, Ready.interface_count, Ready.numbers_count, SettledParts.copied_still, SettledParts.stands_still, WorldEntries.IsNumberedSame}
 use Rattle.bind_carry.proofs.SecondInitial.{IsKnown, IsUnified, gained_adds, gained_flag, gained_inline_alone, gained_long, shows_gained, is_shown_new, second_at, second_long, unified_at, unified_long, unified_set}
 use Rattle.bind_carry.proofs.WorldEntries.{any_new_same, any_place, export_keyed, import_keyed, import_range, label_new}
 use Rattle.bind_carry.proofs.SecondItems.{shown_in, beside_stands, second_carries, second_copies, second_stands, type_number, number_type, label_found, label_held, beside_carries, beside_no_copy, interface_meant, is_shown, met_first, named_text, found_some, own_under, unmet_new, one_import, not_both}
+use Rattle.bind_meaning.proofs.Listed.{by_option}
+use Rattle.base_lemmas.proofs.{Bools.left_of as first_true, Bools.right_of as second_true, Elements.get-contains, Lists.within_there, Numbers.same-number}
 use Rattle.bind_carry.specs.{BoundGains.gains_any, BoundGains.type_under_key, BoundGains.unified, Fates.FallBelow, FirstPass.IsFirstPass, InRange.IsInRange, Initial.IsInitial, Marked.AreChosen, Marked.is_inline_at, Marked.is_shown_in, Renumbered.first_of, Renumbered.is_copied, Renumbered.is_matched, Renumbered.met_under, Renumbered.second_of, SecondPass.IsSecondPass, Shown.AreShownBelow, Shown.any_new, Shown.type_in, declared.fate.Fate.Fate, declared.plan.Carried.Carried}
 use Rattle.bind_carry.specs.Fates.{carries, copies, is_carried, settled_from, stood}
 use Rattle.bind_carry.specs.First.{beside_first, first_fates, flag_under, is_named_at, second_from, second_in}

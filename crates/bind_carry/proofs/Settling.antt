@@ -2,9 +2,7 @@
 use Rattle.base_lemmas.proofs.Bools.{left_of as first_true, right_of as second_true}
 use Rattle.bind_carry.specs.{Fates.AreCopied, Fates.AreCopiedSoFar, Fates.MeetsFate, declared.fate.Fate.Fate}
 use Rattle.bind_copy.specs.Copies.{IsTypeUnder, all_below, number_under}
-use Rattle.bind_union.specs.Views.{KindView, alias_view, borrow_view, fixed_list_view, future_view, kind_view, list_view, map_view, option_view}
-use Rattle.bind_union.specs.Views.{optional_numbers, own_view, record_view, renamed, renamed_type, result_view, stream_view, tuple_view, type_numbers}
-use Rattle.bind_union.specs.Views.{variant_view, view_numbers}
+use Rattle.bind_union.specs.Views.{KindView, alias_view, borrow_view, fixed_list_view, future_view, kind_view, list_view, map_view, option_view, optional_numbers, own_view, record_view, renamed, renamed_type, result_view, stream_view, tuple_view, type_numbers, variant_view, view_numbers}
 use Rattle.std.proofs.Common.{List, Option, [], ap, append-nil, append_assoc, arith, length, map, nat_lt, option_map, refl, rules as std_rules, suc, true, zero, ℕ, ◌++◌, ◌<◌, ◌∷◌, ◌≡◌}
 use Rattle.std.proofs.lemmas.{Bool.ltb-true, List.length_push, List.Folds.list_all-append}
 use Rattle.std.specs.List.{flat_map}

@@ -1,13 +1,9 @@
 -- No map of what was merged has a key twice: what is inserted keeps keys apart, and copies have the names of what they are of.
 use Rattle.base_lemmas.proofs.{Bools.left_of as first_true, Elements.zip_at_right as zip_at, Lists.within_there}
 use Rattle.bind_add.specs.{Growth.HasGained, Growth.HasGainedItems, Growth.IsAdded, declared.added.Added.Added, declared.added.Names.Names}
-use Rattle.bind_carry.proofs.{CopiesPlaced.some_same, FirstOfUnion.some_gains, KeysGained.by_path_apart, KeysGained.chosen, KeysGained.exports_behind}
-use Rattle.bind_carry.proofs.{KeysGained.imports_behind, NamesGained.IsGrownOf, NamesGained.IsHome, NamesGained.copied_interface, NamesGained.copied_world}
+use Rattle.bind_carry.proofs.{CopiesPlaced.some_same, FirstOfUnion.some_gains, KeysGained.by_path_apart, KeysGained.chosen, KeysGained.exports_behind, KeysGained.imports_behind, NamesGained.IsGrownOf, NamesGained.IsHome, NamesGained.copied_interface, NamesGained.copied_world}
 use Rattle.bind_carry.proofs.NamesGained.{copies_behind, distinct_along, distinct_by_names, grown_of, home_of, is_fresh, world_of}
-use Rattle.bind_carry.specs.{AddedApart.AreMatchedByName, AddedApart.UnionsAreApart, AddedDistinct.UnionsHaveDistinctKeys, Marked.AreChosen}
-use Rattle.bind_carry.specs.{MatchedSame.AreMatchedAt, MatchedSame.NoneOfPath, Packaged.IsGained, Packaged.IsInterfaceName, Packaged.IsPackageCarried}
-use Rattle.bind_carry.specs.{Packaged.IsWorldName, Packaged.grown_packages, Packaged.is_copied_interface, Packaged.is_copied_world, Union.IsUnionOf}
-use Rattle.bind_carry.specs.{Which.AreMatchedAll, Which.IsNumbered, Whole.IsInterfaceCarried, Whole.IsWorldCarried, Whole.home_under, Whole.kept}
+use Rattle.bind_carry.specs.{AddedApart.AreMatchedByName, AddedApart.UnionsAreApart, AddedDistinct.UnionsHaveDistinctKeys, Marked.AreChosen, MatchedSame.AreMatchedAt, MatchedSame.NoneOfPath, Packaged.IsGained, Packaged.IsInterfaceName, Packaged.IsPackageCarried, Packaged.IsWorldName, Packaged.grown_packages, Packaged.is_copied_interface, Packaged.is_copied_world, Union.IsUnionOf, Which.AreMatchedAll, Which.IsNumbered, Whole.IsInterfaceCarried, Whole.IsWorldCarried, Whole.home_under, Whole.kept}
 use Rattle.bind_carry.specs.declared.plan.Carried.{Carried}
 use Rattle.bind_copy.proofs.{CopiesLemmas.names_alone_under, Gained.same_images}
 use Rattle.bind_copy.specs.Copies.{AreNewCopied, IsEntryUnder, IsFunctionEntry, IsInterfaceUnder, IsKeyUnder, become_one, names_in, type_names}
@@ -18,8 +14,7 @@ use Rattle.std.proofs.lemmas.{List.length-map, Map.Made.IsDistinct-keys_filter, 
 use Rattle.std.specs.{List.AllByRecursion, List.AllZip, List.IsDistinct, List.filter, Map.keys_of, Prelude.String, declared.alloc.Global.Global}
 use Rattle.wit_model.proofs.Distinct.{text_eq_flip}
 use Rattle.wit_model.specs.{Lookup.interface_at, Lookup.package_at, Lookup.world_at, Text.Text, Text.text_of, Valid.IsValid, Valid.key_eq}
-use Rattle.wit_model.specs.declared.model.{Interface.Interface, Package.Package, PackageId.PackageId, Resolve.Resolve, TypeId.TypeId, World.World}
-use Rattle.wit_model.specs.declared.model.{WorldItem.WorldItem, WorldKey.WorldKey}
+use Rattle.wit_model.specs.declared.model.{Interface.Interface, Package.Package, PackageId.PackageId, Resolve.Resolve, TypeId.TypeId, World.World, WorldItem.WorldItem, WorldKey.WorldKey}
 
 -- ---- What a union adds stands under keys that weren't there.
 

@@ -1,13 +1,9 @@
 -- All exports of the other's bound world are added, under the keys that are answered.
 use Rattle.base_lemmas.proofs.{Elements.contains-later, Elements.get-contains, Lists.within_there, Numbers.equal}
-use Rattle.bind_add.specs.{declared.added.Added.Added}
-use Rattle.bind_carry.proofs.{CopiesPlaced.some_same, FirstNumbers.own_path as by_path, FirstOfUnion.set_at, FirstOfUnion.unions_have_the_first}
-use Rattle.bind_carry.proofs.{FirstWorlds.first_is_carried, InsertedBehind.filter_whole, KeysGained.by_path_apart, KeysGained.chosen, KeysGained.export_named}
-use Rattle.bind_carry.proofs.{KeysGained.exports_apart, KeysGained.exports_behind, KeysGained.named_carried, KeysGained.named_number, Ranges.is_in_range}
+use Rattle.bind_add.specs.declared.added.Added.{Added}
+use Rattle.bind_carry.proofs.{CopiesPlaced.some_same, FirstNumbers.own_path as by_path, FirstOfUnion.set_at, FirstOfUnion.unions_have_the_first, FirstWorlds.first_is_carried, InsertedBehind.filter_whole, KeysGained.by_path_apart, KeysGained.chosen, KeysGained.export_named, KeysGained.exports_apart, KeysGained.exports_behind, KeysGained.named_carried, KeysGained.named_number, Ranges.is_in_range}
 use Rattle.bind_carry.proofs.WorldEntries.{IsNumberedSame, IsPlacedIn, any_place, export_keyed}
-use Rattle.bind_carry.specs.{AddedKeys.ExportsAreAdded, AddedKeys.ExportsComeBehind, AddedKeys.KeysKeepTexts, AddedKeys.key_view, First.first_fates}
-use Rattle.bind_carry.specs.{First.flag_under, Listed.IsHomeBelow, MatchedSame.AreMatchedAt, MatchedSame.NoneOfPath, Renumbered.first_of, Renumbered.is_matched}
-use Rattle.bind_carry.specs.{Union.IsUnionOf, Which.AreMatchedAll, declared.plan.Carried.Carried}
+use Rattle.bind_carry.specs.{AddedKeys.ExportsAreAdded, AddedKeys.ExportsComeBehind, AddedKeys.KeysKeepTexts, AddedKeys.key_view, First.first_fates, First.flag_under, Listed.IsHomeBelow, MatchedSame.AreMatchedAt, MatchedSame.NoneOfPath, Renumbered.first_of, Renumbered.is_matched, Union.IsUnionOf, Which.AreMatchedAll, declared.plan.Carried.Carried}
 use Rattle.bind_copy.specs.Copies.{IsEntryUnder, IsKeyUnder, is_key_under, is_new_under, number_under}
 use Rattle.bind_match.specs.declared.matches.Matches.{Matches}
 use Rattle.bind_union.proofs.{Carrying.path_by, Carrying.path_parts, Carrying.same_identity, Lists.no_true}
@@ -18,8 +14,7 @@ use Rattle.std.specs.{List.AllZip, List.Contains, List.list_any, Map.keys_of, Pr
 use Rattle.wit_model.proofs.TextLemmas.{text_same}
 use Rattle.wit_model.specs.Lookup.{identity_of, interface_at, interface_path, key_text, package_at, path_of_interface, world_at}
 use Rattle.wit_model.specs.{Names.path_in, Rules.package_number, Text.Text, Text.optional_text, Text.text_of, Valid.IsValid}
-use Rattle.wit_model.specs.declared.model.{Interface.Interface, InterfaceId.InterfaceId, Package.Package, PackageId.PackageId, Resolve.Resolve, TypeDef.TypeDef}
-use Rattle.wit_model.specs.declared.model.{World.World, WorldItem.WorldItem, WorldKey.WorldKey}
+use Rattle.wit_model.specs.declared.model.{Interface.Interface, InterfaceId.InterfaceId, Package.Package, PackageId.PackageId, Resolve.Resolve, TypeDef.TypeDef, World.World, WorldItem.WorldItem, WorldKey.WorldKey}
 use Rattle.wit_model.specs.declared.model.WorldKey.TheVariants as key
 
 -- ---- copies of one key

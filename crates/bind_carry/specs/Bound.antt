@@ -4,8 +4,7 @@ use Rattle.wit_model.specs.declared.model.{Resolve.Resolve, World.World}
 use Rattle.bind_add.specs.declared.added.Added.{Added}
 use Rattle.bind_copy.specs.Copies.{AreNewCopied}
 use Rattle.bind_carry.specs.{BoundGains.bound_fates, BoundGains.gained_inline, BoundGains.AreInlineCopied, InRange.IsInRange, Numbers.numbers_of}
-use Rattle.bind_carry.specs.Fates.{AreCopied}
-use Rattle.bind_carry.specs.declared.{fate.Fate.Fate, plan.Carried.Carried}
+use Rattle.bind_carry.specs.{Fates.AreCopied, declared.fate.Fate.Fate, declared.plan.Carried.Carried}
 
 -- The two worlds are there, and all interfaces and types of the other have numbers, and types their fates.
 pub record IsBoundReady (own other : Resolve) (world other_world : ℕ) (c : Carried) (fates : List Fate) (types : List ℕ) : Type 0 where

@@ -9,8 +9,7 @@ use Rattle.bind_copy.specs.Copies.{number_under}
 use Rattle.bind_match.specs.Matching.{own_package_of}
 use Rattle.bind_match.specs.declared.matches.Matches.{Matches}
 use Rattle.bind_union.specs.{Carried.IsCarried, Merged.AreCopies, Merged.IsWorldCopy}
-use Rattle.bind_carry.specs.{Fates.AreCopied, First.first_fates, First.flag_under, Packaged.IsPackageCarried, Which.AreMatchedAll, Which.IsNumbered}
-use Rattle.bind_carry.specs.{MatchedSame.AreMatchedAt, MatchedSame.NoneOfPath, Renumbered.first_of, Whole.kept, Whole.IsInterfaceCarried, Whole.IsWorldCarried}
+use Rattle.bind_carry.specs.{Fates.AreCopied, First.first_fates, First.flag_under, Packaged.IsPackageCarried, Which.AreMatchedAll, Which.IsNumbered, MatchedSame.AreMatchedAt, MatchedSame.NoneOfPath, Renumbered.first_of, Whole.kept, Whole.IsInterfaceCarried, Whole.IsWorldCarried}
 use Rattle.bind_carry.specs.Union.{IsUnionOf}
 use Rattle.bind_carry.specs.declared.plan.Carried.{Carried}
 

@@ -7,8 +7,7 @@ use Rattle.bind_add.specs.declared.added.Added.{Added}
 use Rattle.bind_match.specs.Matching.{is_root_world, own_interface_of, own_package_of, own_world_of}
 use Rattle.bind_match.specs.declared.matches.Matches.{Matches}
 use Rattle.bind_union.specs.Merged.{IsMerged}
-use Rattle.bind_carry.specs.{Few.AreFew, First.first_fates, Renumbered.first_of, Union.IsUnionOf}
-use Rattle.bind_carry.specs.{MatchedSame.AreMatchedAt, MatchedSame.NoneOfPath, SecondPass.is_left_out, SecondPass.second_pass_of, SecondPass.DoNotClash}
+use Rattle.bind_carry.specs.{Few.AreFew, First.first_fates, Renumbered.first_of, Union.IsUnionOf, MatchedSame.AreMatchedAt, MatchedSame.NoneOfPath, SecondPass.is_left_out, SecondPass.second_pass_of, SecondPass.DoNotClash}
 
 -- no interface of the other stands at the path of an own world
 abbrev pub NoOwnWorldAtPath : Resolve → Resolve → Type 0

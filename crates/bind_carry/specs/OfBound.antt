@@ -5,8 +5,7 @@ use Rattle.wit_model.specs.declared.model.{Resolve.Resolve, TypeDef.TypeDef, Wor
 use Rattle.bind_add.specs.declared.added.Added.{Added}
 use Rattle.bind_copy.specs.Copies.{AreNewCopied}
 use Rattle.bind_match.specs.declared.matches.Matches.{Matches}
-use Rattle.bind_carry.specs.{Bound.IsBoundOver, BoundGains.bound_fates, Fates.AreCopied, TooLong.copies_of, TooLong.AreTooManyGained, TooLong.IsTooLong}
-use Rattle.bind_carry.specs.{Few.AreFew, Union.IsUnionOf}
+use Rattle.bind_carry.specs.{Bound.IsBoundOver, BoundGains.bound_fates, Fates.AreCopied, TooLong.copies_of, TooLong.AreTooManyGained, TooLong.IsTooLong, Few.AreFew, Union.IsUnionOf}
 use Rattle.bind_carry.specs.declared.{bound.Bound.Bound, bound.First.First, fate.Fate.Fate}
 
 -- it is so of the worlds of these numbers

@@ -5,8 +5,7 @@ use Rattle.wit_model.specs.Lookup.{interface_at, package_at, world_at}
 use Rattle.wit_model.specs.declared.model.{Interface.Interface, Package.Package, Resolve.Resolve, TypeDef.TypeDef, World.World}
 use Rattle.bind_add.specs.declared.added.Added.{Added}
 use Rattle.bind_copy.specs.Copies.{are_names_below, AreEntriesBelow, AreFunctionsBelow}
-use Rattle.bind_carry.specs.{Numbers.copied_count, Listed.are_interfaces_below, Listed.are_worlds_below, Listed.IsHomeBelow}
-use Rattle.bind_carry.specs.{Packaged.grown_packages, Packaged.IsGained, Packaged.IsPackageCarried, Whole.kept, Whole.IsInterfaceCarried, Whole.IsWorldCarried}
+use Rattle.bind_carry.specs.{Numbers.copied_count, Listed.are_interfaces_below, Listed.are_worlds_below, Listed.IsHomeBelow, Packaged.grown_packages, Packaged.IsGained, Packaged.IsPackageCarried, Whole.kept, Whole.IsInterfaceCarried, Whole.IsWorldCarried}
 use Rattle.bind_carry.specs.declared.plan.Carried.{Carried}
 
 -- All numbers of the other have new ones, with so many for types.

@@ -3,8 +3,7 @@ use Rattle.std.specs.Prelude.{◌≡◌, ℕ, length}
 use Rattle.wit_model.specs.declared.model.{Resolve.Resolve, World.World}
 use Rattle.bind_add.specs.declared.added.Added.{Added}
 use Rattle.bind_match.specs.declared.matches.Matches.{Matches}
-use Rattle.bind_carry.specs.{Bound.IsBoundOver, BoundGains.AreKeysUnder, Fates.numbers_by, First.first_fates, Over.IsPlacedOver, TooLong.copies_of}
-use Rattle.bind_carry.specs.{OfBound.OfWorlds, Which.IsNumbered}
+use Rattle.bind_carry.specs.{Bound.IsBoundOver, BoundGains.AreKeysUnder, Fates.numbers_by, First.first_fates, Over.IsPlacedOver, TooLong.copies_of, OfBound.OfWorlds, Which.IsNumbered}
 use Rattle.bind_carry.specs.declared.plan.Planned.{Planned}
 
 -- All else is as a union adds it, behind so many places for interfaces and types.

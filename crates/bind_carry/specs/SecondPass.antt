@@ -10,9 +10,7 @@ use Rattle.bind_copy.specs.Copies.{AreNewCopied}
 use Rattle.bind_match.specs.Matching.{is_root_world, own_package_of}
 use Rattle.bind_match.specs.declared.matches.Matches.{Matches}
 use Rattle.bind_union.specs.{Carried.Renumbering, Joined.IsJoined, Merged.AreCopies, Merged.IsCopyUnder, Merged.IsMerged, Merged.PackageStands}
-use Rattle.bind_carry.specs.{Bound.bound_interfaces, Packaged.grown_packages, Packaged.IsGained, Renumbered.first_of, Renumbered.second_of, Which.AreMatchedAll}
-use Rattle.bind_carry.specs.{BoundGains.bound_fates, BoundGains.gained_inline, BoundGains.AreInlineCopied, MatchedSame.AreMatchedAt, MatchedSame.NoneOfPath}
-use Rattle.bind_carry.specs.{Fates.AreCopied, First.first_fates, FirstPass.IsFirstPass, Union.IsUnionOf}
+use Rattle.bind_carry.specs.{Bound.bound_interfaces, Packaged.grown_packages, Packaged.IsGained, Renumbered.first_of, Renumbered.second_of, Which.AreMatchedAll, BoundGains.bound_fates, BoundGains.gained_inline, BoundGains.AreInlineCopied, MatchedSame.AreMatchedAt, MatchedSame.NoneOfPath, Fates.AreCopied, First.first_fates, FirstPass.IsFirstPass, Union.IsUnionOf}
 use Rattle.bind_carry.specs.declared.plan.Carried.{Carried}
 
 -- The two worlds don't clash: imports of one key have one sense, and no key is exported by both.

@@ -2,8 +2,7 @@
 use Rattle.std.specs.Prelude.{ℕ, ◌+◌, ◌<◌, ◌⊎◌, Bool, List, length, map, is_none}
 use Rattle.wit_model.specs.declared.model.{Resolve.Resolve, World.World}
 use Rattle.bind_match.specs.declared.matches.Matches.{Matches}
-use Rattle.bind_carry.specs.{Bound.bound_interfaces, BoundGains.bound_fates, BoundGains.gained_inline, Which.new_interfaces, Which.new_worlds, Which.IsNumbered}
-use Rattle.bind_carry.specs.{Fates.copies, Fates.numbers_by, First.first_fates, Marked.mark_worlds, Numbers.copied_count}
+use Rattle.bind_carry.specs.{Bound.bound_interfaces, BoundGains.bound_fates, BoundGains.gained_inline, Which.new_interfaces, Which.new_worlds, Which.IsNumbered, Fates.copies, Fates.numbers_by, First.first_fates, Marked.mark_worlds, Numbers.copied_count}
 use Rattle.bind_carry.specs.declared.{fate.Fate.Fate, plan.Carried.Carried}
 
 -- what is carried, and what becomes of types, by names that callers' proofs can use

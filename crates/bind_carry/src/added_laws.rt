@@ -1,7 +1,6 @@
 //! Laws of what a union adds.
 
-ghost use Rattle.bind_carry.specs.{AddedApart.UnionsAreApart, AddedNames.NamesAreMerged};
-ghost use Rattle.bind_carry.specs.{AddedDistinct.UnionsHaveDistinctKeys, AddedKeys.ExportsAreAdded, AddedKeys.ExportsComeBehind, AddedKeys.KeysKeepTexts};
+ghost use Rattle.bind_carry.specs.{AddedApart.UnionsAreApart, AddedNames.NamesAreMerged, AddedDistinct.UnionsHaveDistinctKeys, AddedKeys.ExportsAreAdded, AddedKeys.ExportsComeBehind, AddedKeys.KeysKeepTexts};
 
 /// What a union adds stands under keys that weren't there: names in own packages, and imports and exports of the own bound world, where what is matched has
 /// one name, or one path and one sense.

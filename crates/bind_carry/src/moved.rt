@@ -4,8 +4,7 @@ ghost use Rattle.std.specs.Prelude.{◌≡◌, ◌<◌, ◌≤◌, ◌+◌, ℕ,
 ghost use Rattle.wit_model.specs.declared.{error.Error.TheVariants.Size, model.TypeDef.TypeDef as TypeDefValue};
 ghost use Rattle.bind_copy.specs.Copies.{all_below};
 ghost use Rattle.bind_union.specs.Views.{kind_view, view_numbers};
-ghost use Rattle.bind_carry.specs.{Fates.copied_types, Fates.copies, Fates.numbers_by, Fates.IsCopiedType, Moved.AreMoved, Moved.IsMovedBy, Moved.MeetsPlace};
-ghost use Rattle.bind_carry.specs.{Numbers.IsMemoryOrSize, TooLong.copies_of};
+ghost use Rattle.bind_carry.specs.{Fates.copied_types, Fates.copies, Fates.numbers_by, Fates.IsCopiedType, Moved.AreMoved, Moved.IsMovedBy, Moved.MeetsPlace, Numbers.IsMemoryOrSize, TooLong.copies_of};
 
 use crate::fate::Fate;
 use crate::numbers::{check_length, number_behind};

@@ -5,8 +5,7 @@ ghost use Rattle.std.specs.List.{AllZip};
 ghost use Rattle.wit_model.specs.declared.model.{Interface.Interface as InterfaceValue, World.World as WorldValue};
 ghost use Rattle.wit_model.specs.{Lookup.world_at, Refusals.IsMemory};
 ghost use Rattle.bind_copy.specs.Copies.{AreEntriesBelow};
-ghost use Rattle.bind_carry.specs.{Listed.IsHomeBelow, Listed.IsWhole, Numbers.copied_count};
-ghost use Rattle.bind_carry.specs.{Moved.AreMoved, Moved.IsInterfaceBelow, Whole.home_under, Whole.kept, Whole.IsInterfaceCarried, Whole.IsWorldCarried};
+ghost use Rattle.bind_carry.specs.{Listed.IsHomeBelow, Listed.IsWhole, Numbers.copied_count, Moved.AreMoved, Moved.IsInterfaceBelow, Whole.home_under, Whole.kept, Whole.IsInterfaceCarried, Whole.IsWorldCarried};
 
 use crate::plan::Carried;
 use bind_copy::{Numbers, copy_docs, copy_items, copy_stability, copy_text, move_interface};

@@ -1,11 +1,9 @@
 //! The texts under which the encodings of functions are kept.
 
 ghost use Rattle.std.specs.Prelude.{◌≡◌, ◌++◌, ◌∷◌, false, IfOk, IfErr, IfSome, Some};
-ghost use Rattle.std.specs.{Option.option_copied};
-ghost use Rattle.wit_model.specs.{Lookup.canonical_identity_of, Text.optional_text, Text.text_eq, Text.text_of, Rules.after_prefix as after_prefix_lem};
-ghost use Rattle.wit_model.specs.{Names.path_in, Refusals.IsMemory};
-ghost use Rattle.bind_keys.specs.Cuts.{has_slash};
-ghost use Rattle.bind_keys.specs.Keys.{scope_of, text_under, unversioned, unversioned_key as unversioned_key_lem};
+ghost use Rattle.std.specs.Option.{option_copied};
+ghost use Rattle.wit_model.specs.{Lookup.canonical_identity_of, Text.optional_text, Text.text_eq, Text.text_of, Rules.after_prefix as after_prefix_lem, Names.path_in, Refusals.IsMemory};
+ghost use Rattle.bind_keys.specs.{Cuts.has_slash, Keys.scope_of, Keys.text_under, Keys.unversioned, Keys.unversioned_key as unversioned_key_lem};
 ghost use Rattle.bind_keys.specs.KeyTests.{after_interface as after_interface_lem, after_names as after_names_lem, after_scope as after_scope_lem, is_key_of};
 
 use crate::table::Parts;

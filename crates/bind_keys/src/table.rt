@@ -4,8 +4,7 @@ ghost use Rattle.std.specs.Prelude.{◌≡◌, ◌≤◌, [], ◌∷◌, false, 
 ghost use Rattle.std.specs.FinMap.{empty};
 ghost use Rattle.indexmap.specs.IndexMap.{index_map_len, insert_all, spare, IsUnique};
 ghost use Rattle.wit_model.specs.{Text.Text, Text.optional_text, Text.text_eq, Text.text_of, Refusals.IsMemory};
-ghost use Rattle.bind_keys.specs.{Cuts.has_slash as has_slash_lem, Cuts.IsLastSlash, Cuts.text_under, Keys.function_key};
-ghost use Rattle.bind_keys.specs.{Encodings.encoding_at, Encodings.encoding_under, KeyLists.Puts, Unions.conflict_at, Unions.Gains};
+ghost use Rattle.bind_keys.specs.{Cuts.has_slash as has_slash_lem, Cuts.IsLastSlash, Cuts.text_under, Keys.function_key, Encodings.encoding_at, Encodings.encoding_under, KeyLists.Puts, Unions.conflict_at, Unions.Gains};
 ghost use Rattle.bind_keys.specs.Tables.{all_renumbered, number_for, renumbered as renumbered_lem};
 ghost use Rattle.bind_keys.specs.Places.{makes_key, makes_alike, makes_same};
 ghost use Rattle.bind_clash.specs.Faults.{IsLeastFault};

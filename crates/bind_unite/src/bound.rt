@@ -6,9 +6,8 @@ ghost use Rattle.wit_model.specs.{Lookup.interface_at, Lookup.type_at, Lookup.wo
 ghost use Rattle.wit_model.specs.declared.error.Error.TheVariants.{Size};
 ghost use Rattle.wit_model.specs.declared.model.{Interface.Interface as InterfaceValue, World.World as WorldValue, TypeDef.TypeDef as TypeDefValue};
 ghost use Rattle.bind_copy.specs.Copies.{are_names_below, AreEntriesBelow, AreFunctionsBelow, IsInterfaceUnder};
-ghost use Rattle.bind_carry.specs.{Whole.kept, Fates.FallBelow, First.beside_first, First.is_named_at, First.second_from, First.second_in, First.IsHomeIn};
+ghost use Rattle.bind_carry.specs.{Whole.kept, Fates.FallBelow, First.beside_first, First.is_named_at, First.second_from, First.second_in, First.IsHomeIn, Bound.IsBoundReady, Bound.IsSameButItems, Shown.any_new, Shown.are_keys_below, Shown.type_in, Shown.AreNewShownBelow};
 ghost use Rattle.bind_carry.specs.BoundGains.{are_types_below, gained_inline, gains_any, type_under_key, unified, unify_one as unify_one_lem, AreInlineCopied, AreKeysUnder, AreWorldKeysBelow};
-ghost use Rattle.bind_carry.specs.{Bound.IsBoundReady, Bound.IsSameButItems, Shown.any_new, Shown.are_keys_below, Shown.type_in, Shown.AreNewShownBelow};
 ghost use Rattle.bind_carry.specs.Numbers.{copied_count, numbers_of, IsMemoryOrSize};
 ghost use Rattle.bind_carry.specs.OfBound.{AreExportsBound, AreImportsBound, AreTooManyTypes, AreTypesBound, IsAllBound, IsTooMuchBound, OfBound, StaysFew};
 

@@ -3,9 +3,7 @@
 ghost use Rattle.std.specs.Prelude.{◌≡◌, ◌≤◌, ℕ, length, map, IfErr, IfOk, Some};
 ghost use Rattle.wit_model.specs.declared.{model.TypeDef.TypeDef as TypeDefValue, model.World.World as WorldValue, error.Error.TheVariants.Size};
 ghost use Rattle.wit_model.specs.{Lookup.type_at, Lookup.world_at, Text.optional_text, Text.text_of, Refusals.IsMemory};
-ghost use Rattle.bind_carry.specs.{Shown.AreShownBelow, Numbers.IsMemoryOrSize, Over.IsCarriedReady, Over.IsPlacedOver, TooLong.AreTooManyByPath};
-ghost use Rattle.bind_carry.specs.{Which.IsNumbered, Few.AreFewNumbered};
-ghost use Rattle.bind_carry.specs.{First.fate_named, First.fate_of, First.first_fates, Listed.type_named, Listed.IsOwnerBelow, Listed.IsWhole};
+ghost use Rattle.bind_carry.specs.{Shown.AreShownBelow, Numbers.IsMemoryOrSize, Over.IsCarriedReady, Over.IsPlacedOver, TooLong.AreTooManyByPath, Which.IsNumbered, Few.AreFewNumbered, First.fate_named, First.fate_of, First.first_fates, Listed.type_named, Listed.IsOwnerBelow, Listed.IsWhole};
 
 use bind_add::Added;
 use bind_carry::fate::Fate;

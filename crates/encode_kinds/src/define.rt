@@ -4,16 +4,9 @@ ghost use Rattle.std.specs.Prelude.{◌≡◌, ◌+◌, Err, ◌<◌, ◌&&◌, 
 ghost use Rattle.std.specs.List.{Contains};
 ghost use Rattle.comp_bytes.specs.{RawOf.raw_name, Refusal.IsMemoryOrSize};
 ghost use Rattle.wit_model.specs.declared.error.Error.TheVariants.{Size};
-ghost use Rattle.wit_model.specs.{Rules.is_named_kind, Types.number_tree, Types.tree_of, Types.trees_of, Types.tree_of_definition, Types.declared_by};
-ghost use Rattle.wit_model.specs.{Text.optional_text, Tree.named, Lookup.type_at, Meant.type_meaning};
-ghost use Rattle.encode_types.specs.{Slots.tree, Numbers.PartsReady, Numbers.HoldsKind, Numbers.NewKindLacksRoom, Numbers.NamedLacksRoom, Numbers.kind_count};
-ghost use Rattle.encode_types.specs.{Room.value_type, Room.export_name, Room.import_of, Counts.one_type_more, Counts.is_defined_by_name, Counts.own_name};
-ghost use Rattle.encode_types.specs.{Known.ReachesAround, MetKinds.LearnsKindOf};
-ghost use Rattle.encode_types.specs.{Aliases.ImportsMet, Aliases.MakesMet, Extents.name_extent, Extents.number_extent, Extents.tree_extent, Formed.IsFormed};
+ghost use Rattle.wit_model.specs.{Rules.is_named_kind, Types.number_tree, Types.tree_of, Types.trees_of, Types.tree_of_definition, Types.declared_by, Text.optional_text, Tree.named, Lookup.type_at, Meant.type_meaning};
+ghost use Rattle.encode_types.specs.{Slots.tree, Numbers.PartsReady, Numbers.HoldsKind, Numbers.NewKindLacksRoom, Numbers.NamedLacksRoom, Numbers.kind_count, Room.value_type, Room.export_name, Room.import_of, Counts.one_type_more, Counts.is_defined_by_name, Counts.own_name, Known.ReachesAround, MetKinds.LearnsKindOf, Aliases.ImportsMet, Aliases.MakesMet, Extents.name_extent, Extents.number_extent, Extents.tree_extent, Formed.IsFormed, Kinds.parts_of, Kinds.kind_of, Kinds.kind_tree, Kinds.has_form, Kinds.has_definition, Plan.foreign_owner, Plan.IsLayered, Codes.kind_code, Scope.DeclaresSlot, Scope.DeclaresResource, Scope.IsImportable, Scope.IsDeclared, Scope.exported_name, Maps.IsKnown, Maps.IsReady, Maps.AllReady, Maps.LacksKind, Maps.LearnsOne, Fits.Fits, Fits.FitsScope, Fits.CanEncode};
 ghost use Rattle.encode_types.specs.View.{Agrees, Grows, ImportsOne, ExportsName, HoldsMore, HoldsLearnt, Refuses, Writes, WritesImport, WritesLearnt};
-ghost use Rattle.encode_types.specs.{Kinds.parts_of, Kinds.kind_of, Kinds.kind_tree, Kinds.has_form, Kinds.has_definition, Plan.foreign_owner, Plan.IsLayered};
-ghost use Rattle.encode_types.specs.{Codes.kind_code, Scope.DeclaresSlot, Scope.DeclaresResource, Scope.IsImportable, Scope.IsDeclared, Scope.exported_name};
-ghost use Rattle.encode_types.specs.{Maps.IsKnown, Maps.IsReady, Maps.AllReady, Maps.LacksKind, Maps.LearnsOne, Fits.Fits, Fits.FitsScope, Fits.CanEncode};
 ghost use Rattle.encode_types.specs.Leaves.{Leaves, LearnsFrom, LearnsParts, CountsTypes, DefinesIf, LacksRoom};
 ghost use Rattle.wit_model.specs.declared.model.«Type».TheVariants as ValueType;
 

@@ -14,12 +14,9 @@ ghost use Rattle.std.specs.Prelude.{◌≡◌, ◌∷◌, [], map, option_map, o
 ghost use Rattle.std.specs.List.{AllZip};
 ghost use Rattle.comp_bytes.specs.Refusal.{IsMemoryOrSize};
 ghost use Rattle.wit_model.specs.declared.error.Error.TheVariants.{Size};
-ghost use Rattle.wit_model.specs.{Text.text_of, Lookup.type_at, Meant.signature_of, Parts.function_types};
-ghost use Rattle.wit_model.specs.{Types.type_tree, Types.number_tree, Tree.Tree, Tree.flags_tree, Tree.enum_tree, Tree.future_tree, Tree.stream_tree};
-ghost use Rattle.encode_types.specs.{Known.ReachesAround, Formed.IsFormed};
+ghost use Rattle.wit_model.specs.{Text.text_of, Lookup.type_at, Meant.signature_of, Parts.function_types, Types.type_tree, Types.number_tree, Tree.Tree, Tree.flags_tree, Tree.enum_tree, Tree.future_tree, Tree.stream_tree};
+ghost use Rattle.encode_types.specs.{Known.ReachesAround, Formed.IsFormed, Kinds.parts_of, Kinds.kind_of, Kinds.kind_tree, Kinds.named_tree, Fits.CanEncode, Fits.CanImport, Fits.is_foreign, Maps.IsReady, Maps.AllReady, Counts.one_type_more, Room.value_type, Room.import_of, Aliases.ImportsMet, Aliases.MakesMet};
 ghost use Rattle.encode_types.specs.Slots.{tree, function, StandsFor, StandsForOptional, NamedStands, Follows};
-ghost use Rattle.encode_types.specs.{Kinds.parts_of, Kinds.kind_of, Kinds.kind_tree, Kinds.named_tree, Fits.CanEncode, Fits.CanImport, Fits.is_foreign};
-ghost use Rattle.encode_types.specs.{Maps.IsReady, Maps.AllReady, Counts.one_type_more, Room.value_type, Room.import_of, Aliases.ImportsMet, Aliases.MakesMet};
 ghost use Rattle.encode_types.specs.View.{Agrees, Grows, ImportsOne, HoldsMore, HoldsIf, HoldsLearnt, Refuses, WritesLearnt};
 ghost use Rattle.encode_types.specs.Leaves.{Leaves, LeavesSlots, LearnsFrom, CountsTypes, CanDefine, DefinesKind, DefinesValue, DefinesIf, LacksRoom};
 

@@ -4,9 +4,7 @@ ghost use Rattle.std.specs.Prelude.{◌≡◌, [], Err, IfOk, OnOk, IfErr};
 ghost use Rattle.comp_bytes.specs.Refusal.{IsMemoryOrSize};
 ghost use Rattle.wit_model.specs.declared.error.Error.TheVariants.{Size};
 ghost use Rattle.wit_model.specs.{Meant.signature_of, Parts.function_types};
-ghost use Rattle.encode_types.specs.{Slots.function, Slots.FollowsFunction, Codes.names_of, Codes.IsKeyList, View.Agrees, View.HoldsLearnt, View.WritesLearnt};
-ghost use Rattle.encode_types.specs.{Key.IsKeyOf, Fits.CanEncode};
-ghost use Rattle.encode_types.specs.{Maps.AllReady, Maps.LacksKey, Formed.IsFormedSignature, Extents.signature_extent, Aliases.ImportsMet, Aliases.MakesMet};
+ghost use Rattle.encode_types.specs.{Slots.function, Slots.FollowsFunction, Codes.names_of, Codes.IsKeyList, View.Agrees, View.HoldsLearnt, View.WritesLearnt, Key.IsKeyOf, Fits.CanEncode, Maps.AllReady, Maps.LacksKey, Formed.IsFormedSignature, Extents.signature_extent, Aliases.ImportsMet, Aliases.MakesMet};
 ghost use Rattle.encode_types.specs.Leaves.{Leaves, LearnsFrom, CountsTypes, CountsFunction, DefinesFunctionLast, DefinesLast, LacksRoom, FunctionLacksRoom};
 ghost use Rattle.encode_types.specs.declared.key.FunctionKey.{FunctionKey as KeyValue};
 

@@ -5,11 +5,9 @@ use Rattle.std.specs.{Prelude.is_some, Prelude.IsSome, Prelude.IsPermutation, Li
 use Rattle.wit_model.specs.{Text.Text, Tree.Declaration, Rules.is_named_kind, Types.trees_of, Types.tree_of_declaration, Meaning.Signature}
 use Rattle.wit_model.specs.declared.model.{Resolve.Resolve, TypeDefKind.TypeDefKind, TypeId.TypeId}
 use Rattle.encode_types.specs.declared.{maps.TypeEncodingMaps.TypeEncodingMaps, key.FunctionKey.FunctionKey}
-use Rattle.encode_types.specs.{Codes.kind_code, Codes.names_of, Codes.lists_of, Codes.IsKeyList, Codes.ListKey, Leaves.Leaves, Leaves.LeavesSlots}
-use Rattle.encode_types.specs.{Slots.Pairs, Slots.Standing, Slots.tree, Slots.function, Slots.Keeps, View.View, View.Agrees, View.SameRest, Counts.SameUnits}
+use Rattle.encode_types.specs.{Codes.kind_code, Codes.names_of, Codes.lists_of, Codes.IsKeyList, Codes.ListKey, Leaves.Leaves, Leaves.LeavesSlots, Slots.Pairs, Slots.Standing, Slots.tree, Slots.function, Slots.Keeps, View.View, View.Agrees, View.SameRest, Counts.SameUnits}
 use Rattle.encode_types.specs.Maps.{Known, by_number, by_kind, by_key, by_unit_future, by_unit_stream, Holds, standing_of, IsOnce, IsKindList, IsSomeKeyList, MapsAgree, MapsGrow, IsKnown, LacksList, StandsAsKind, StandsAsKey, SameMaps, AddsNames, LearnsNumber, LearnsList, LearnsKeyList, LearnsOne}
-use Rattle.encode_types.proofs.{Tables.kept-in, Tables.new-in, Tables.entry-more, Tables.pairs-permuted, Tables.key-grow}
-use Rattle.encode_types.proofs.{EqualLists.kinds-of-lists, EqualLists.keys-of-lists, EqualLists.key-shrink, KindLaws.same_tree, KindLaws.same-signature}
+use Rattle.encode_types.proofs.{Tables.kept-in, Tables.new-in, Tables.entry-more, Tables.pairs-permuted, Tables.key-grow, EqualLists.kinds-of-lists, EqualLists.keys-of-lists, EqualLists.key-shrink, KindLaws.same_tree, KindLaws.same-signature}
 
 pub either : {A E : Type 0} (x : Result A E) (P Q : Type 0) → OnOk x P → OnErr x Q → P ⊎ Q
 either x y z p q = search std_rules

@@ -4,9 +4,8 @@ use Rattle.std.proofs.lemmas.List.Elements.{Contains-append_cases, Contains-get_
 use Rattle.wit_model.specs.Lookup.{type_at}
 use Rattle.wit_model.specs.declared.model.{Resolve.Resolve, TypeId.TypeId, TypeDef.TypeDef, InterfaceId.InterfaceId, «Type».«Type» as ValueType}
 use Rattle.encode_types.specs.declared.maps.TypeEncodingMaps.{TypeEncodingMaps}
-use Rattle.encode_types.specs.{Aliases.IsMetElsewhere, Aliases.AliasesMet, Aliases.NumbersMet, Plan.foreign_owner, Plan.itself, Plan.Reaches, Plan.IsOrderOf}
+use Rattle.encode_types.specs.{Aliases.IsMetElsewhere, Aliases.AliasesMet, Aliases.NumbersMet, Plan.foreign_owner, Plan.itself, Plan.Reaches, Plan.IsOrderOf, MetKinds.ReachedFrom, View.ImportsOne}
 use Rattle.encode_types.specs.Known.{Around, Aliased, with_aliases, AreAliases, ReachesAround, as_before, aliased}
-use Rattle.encode_types.specs.{MetKinds.ReachedFrom, View.ImportsOne}
 use Rattle.encode_types.proofs.{Around.with-both, Around.are-both, Encoding.meets-reaches, Lists.none-in, Rooms.reaches-then, Rooms.reached-left, Rooms.reached-right}
 use Rattle.base_lemmas.proofs.Elements.{contains-one, last_of as one-contained}
 use Rattle.wit_model.specs.declared.model.«Type».TheVariants as ty

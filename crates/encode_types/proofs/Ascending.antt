@@ -1,10 +1,8 @@
 -- What a search finds in an ascending list.
 use Rattle.std.proofs.Common.{rules as std_rules, ◌≡◌, sym, subst, ap, ◌∙◌, ℕ, ◌<◌, ◌≤◌, ◌-◌, ◌++◌, length, List, [], ◌∷◌, get_or, Ok, Err, Some, Option, arith, inl, inr, append_assoc}
-use Rattle.std.proofs.lemmas.{Option.get_or_from_slice_get}
-use Rattle.std.proofs.lemmas.{Cmp.ranked, Cmp.nat_cmp_total, List.get_or_default, List.Sorted.IsPermutation-append_comm, List.Sorted.IsPermutation-append_right}
+use Rattle.std.proofs.lemmas.{Option.get_or_from_slice_get, Cmp.ranked, Cmp.nat_cmp_total, List.get_or_default, List.Sorted.IsPermutation-append_comm, List.Sorted.IsPermutation-append_right}
 use Rattle.std.proofs.lemmas.List.{Elements.Contains-append_cases, Elements.Contains-append_right, Elements.Contains-get_or, Quantifiers.all_pairs_push}
-use Rattle.std.specs.{Prelude.IsPermutation, Prelude.IfSome, Prelude.IfNone, List.Contains, List.slice_get, BTreeMap.is_at}
-use Rattle.std.specs.{List.Sorted.IsBinarySearchResult, List.Sorted.IsNonDecreasingBy, Ordering.nat_cmp, Ordering.ordering_index, Ordering.is_eq, Map.lookup}
+use Rattle.std.specs.{Prelude.IsPermutation, Prelude.IfSome, Prelude.IfNone, List.Contains, List.slice_get, BTreeMap.is_at, List.Sorted.IsBinarySearchResult, List.Sorted.IsNonDecreasingBy, Ordering.nat_cmp, Ordering.ordering_index, Ordering.is_eq, Map.lookup}
 use Rattle.encode_types.proofs.Tables.{absent, some-when, none-when, at-some, equal-self, number-found}
 use Rattle.encode_types.specs.NumberMaps.{AreAscending, AreBelow}
 

@@ -1,7 +1,6 @@
 -- What is defined, call by call.
 use Rattle.std.proofs.Common.{rules as std_rules, ◌≡◌, refl, sym, subst, ap, ◌∙◌, ℕ, ◌+◌, inl, inr, append_assoc, append-nil, Bool, true, false, List, [], ◌∷◌, ◌++◌, Result, IfOk, Option, Some, None, length, length-append, arith, map}
-use Rattle.std.proofs.lemmas.List.{map-append, length-map}
-use Rattle.std.proofs.lemmas.List.{Sorted.IsPermutation-refl, Sorted.length_permutation, Elements.Contains-append_cases, Elements.filter_map-append}
+use Rattle.std.proofs.lemmas.List.{map-append, length-map, Sorted.IsPermutation-refl, Sorted.length_permutation, Elements.Contains-append_cases, Elements.filter_map-append}
 use Rattle.wit_model.specs.{Tree.Tree, Types.trees_of, Types.tree_of, Meaning.TypeMeaning, Text.Text, Text.text_of}
 use Rattle.wit_model.specs.declared.model.{Resolve.Resolve, TypeId.TypeId, TypeDefKind.TypeDefKind, «Type».«Type» as ValueType, Param.Param}
 use Rattle.std.specs.{Borrow.Bor, List.AllZip, List.cons_option, Prelude.IsPermutation}
@@ -9,9 +8,8 @@ use Rattle.comp_bytes.specs.Raw.{ExternName}
 use Rattle.comp_bytes.specs.declared.forms.{ComponentValType.ComponentValType, ComponentDefinedType.ComponentDefinedType}
 use Rattle.encode_types.specs.declared.maps.TypeEncodingMaps.{TypeEncodingMaps}
 use Rattle.encode_types.specs.Slots.{Pairs, Standing, tree, Keeps, SlotAdded, StandsFor, StandsForOptional, NamedStands, Follows}
-use Rattle.encode_types.specs.{Kinds.kind_tree, Scope.Scope, Known.GrowsAround}
+use Rattle.encode_types.specs.{Kinds.kind_tree, Scope.Scope, Known.GrowsAround, Definition.FollowsKind, Definition.IsWrittenParam, View.View, View.Agrees, View.Grows, Leaves.Leaves, Leaves.LeavesSlots}
 use Rattle.encode_types.specs.Maps.{Says, Holds, MapsAgree, IsWritten, HasKind, by_kind, LearnsNumber, LearnsList}
-use Rattle.encode_types.specs.{Definition.FollowsKind, Definition.IsWrittenParam, View.View, View.Agrees, View.Grows, Leaves.Leaves, Leaves.LeavesSlots}
 use Rattle.encode_types.specs.Counts.{Definitions, one_type_more, type_more_if, is_defined_by_name, own_name, ExportsOne, Shows, IsTarget, AddsTypes}
 use Rattle.encode_types.proofs.{Lists.none-in, Around.around-same, Around.around-trans, Written.written-stands}
 use Rattle.encode_types.proofs.Marking.{more-then, slots-none, slots-then, slots-kind, slots-number, slots-named}

@@ -9,8 +9,7 @@ use Rattle.wit_model.specs.{Text.text_of, Lookup.type_at, Types.no_tree, Types.n
 use Rattle.wit_model.proofs.TreeTable.{trees_at}
 use Rattle.wit_model.specs.declared.model.{Resolve.Resolve, TypeDef.TypeDef, InterfaceId.InterfaceId, «Type».«Type» as ValueType}
 use Rattle.encode_types.specs.declared.maps.TypeEncodingMaps.{TypeEncodingMaps}
-use Rattle.encode_types.specs.{Kinds.parts_of, Kinds.has_definition, Maps.IsKnown, Maps.AllReady, Maps.MapsGrow, Maps.LearnsOnly, Maps.LearnsOne}
-use Rattle.encode_types.specs.{Scope.Scope, Counts.is_defined_by_name, Counts.is_defined_under_name, Counts.own_name, Counts.name_of_own}
+use Rattle.encode_types.specs.{Kinds.parts_of, Kinds.has_definition, Maps.IsKnown, Maps.AllReady, Maps.MapsGrow, Maps.LearnsOnly, Maps.LearnsOne, Scope.Scope, Counts.is_defined_by_name, Counts.is_defined_under_name, Counts.own_name, Counts.name_of_own}
 use Rattle.encode_types.specs.Plan.{foreign_owner, Reaches, itself, through, Meets, at_once, further, MetFrom, IsLayered, InRange, IsOrdered, IsOrderOf}
 use Rattle.encode_types.proofs.{Agree.known-grow, Planning.part-smaller}
 

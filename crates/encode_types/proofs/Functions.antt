@@ -5,12 +5,9 @@ use Rattle.std.specs.{Prelude.IsPermutation, Borrow.Bor, List.Contains}
 use Rattle.wit_model.specs.{Text.Text, Meant.signature_of, Meaning.Signature, Lookup.is_async}
 use Rattle.wit_model.specs.declared.model.{Resolve.Resolve, Function.Function, «Type».«Type» as ValueType, Param.Param}
 use Rattle.encode_types.specs.declared.{key.FunctionKey.FunctionKey, maps.TypeEncodingMaps.TypeEncodingMaps}
-use Rattle.encode_types.specs.{Key.IsKeyOf, Key.key_signature, Slots.Pairs, Slots.function}
+use Rattle.encode_types.specs.{Key.IsKeyOf, Key.key_signature, Slots.Pairs, Slots.function, Scope.Scope, Codes.names_of, Codes.lists_of, Codes.ListKey, Codes.IsListed, Codes.IsKeyList, Distinct.KnowsKey, Distinct.key_of, Fits.CanEncode, Counts.SameKeys, Counts.Definitions, Counts.one_function_more, Counts.AddsTypes, Counts.AddsFunction}
 use Rattle.encode_types.specs.Maps.{MapsAgree, IsOnce, AddsNames, KeepsKnownNames, HasKey, LacksKey, LearnsKeyList, by_key}
-use Rattle.encode_types.specs.{Scope.Scope, Codes.names_of, Codes.lists_of, Codes.ListKey, Codes.IsListed, Codes.IsKeyList, Distinct.KnowsKey, Distinct.key_of}
-use Rattle.encode_types.specs.{Fits.CanEncode, Counts.SameKeys, Counts.Definitions, Counts.one_function_more, Counts.AddsTypes, Counts.AddsFunction}
-use Rattle.encode_types.proofs.{Agree.adds-holds, Agree.adds-back, Marking.slots-none, Marking.slots-then}
-use Rattle.encode_types.proofs.{Tables.listed-names, Tables.listed-grow, Tables.names-same, Tables.names-then, Defining.shows-none, Defining.shows-trans}
+use Rattle.encode_types.proofs.{Agree.adds-holds, Agree.adds-back, Marking.slots-none, Marking.slots-then, Tables.listed-names, Tables.listed-grow, Tables.names-same, Tables.names-then, Defining.shows-none, Defining.shows-trans}
 
 pub key-signature : (r : Resolve) (key : FunctionKey) (f : Function) → IsKeyOf key f → key_signature r key ≡ signature_of r f
 key-signature r key f k = search std_rules

@@ -2,8 +2,7 @@
 use Rattle.std.proofs.Common.{◌≡◌, refl, sym, ap, true, false, ◌&&◌, rules, List, [], ◌∷◌, map, Option, option_map, Bool, cond, nat_eq}
 use Rattle.std.proofs.lemmas.Bool.{eqb-true}
 use Rattle.wit_model.specs.declared.model.{TypeDefKind.TypeDefKind, «Type».«Type» as ValueType}
-use Rattle.wit_model.specs.{Rules.is_named_kind, Types.declared_by, Types.tree_of}
-use Rattle.wit_model.specs.{Tree.Tree, Tree.type_, Tree.tuple_tree, Text.Text, Text.text_of, Types.trees_of}
+use Rattle.wit_model.specs.{Rules.is_named_kind, Types.declared_by, Types.tree_of, Tree.Tree, Tree.type_, Tree.tuple_tree, Text.Text, Text.text_of, Types.trees_of}
 use Rattle.std.specs.{Prelude.not, Option.option_eq, Cmp.Lexicographic.pointwise}
 use Rattle.encode_types.specs.{Maps.same_kind, Key.same_type, Key.same_param, Key.same_params, Key.same_key, Key.key_signature}
 use Rattle.encode_types.specs.declared.key.FunctionKey.{FunctionKey}

@@ -7,12 +7,10 @@ use Rattle.wit_model.specs.{Lookup.type_at, Parts.function_types, Rules.is_named
 use Rattle.wit_model.specs.declared.model.{Resolve.Resolve, Function.Function, TypeDefKind.TypeDefKind, InterfaceId.InterfaceId, «Type».«Type» as ValueType}
 use Rattle.wit_model.specs.declared.model.TypeDef.{TypeDef}
 use Rattle.encode_types.specs.declared.{key.FunctionKey.FunctionKey, maps.TypeEncodingMaps.TypeEncodingMaps}
-use Rattle.encode_types.specs.{Key.IsKeyOf, Kinds.parts_of, Codes.kind_code, Codes.names_of, Codes.lists_of, Codes.IsKeyList, Codes.ListKey, Plan.foreign_owner}
+use Rattle.encode_types.specs.{Key.IsKeyOf, Kinds.parts_of, Codes.kind_code, Codes.names_of, Codes.lists_of, Codes.IsKeyList, Codes.ListKey, Plan.foreign_owner, Scope.Scope, Counts.Definitions, Counts.SameKeys, Counts.AddsTypes}
 use Rattle.encode_types.specs.Maps.{IsKnown, IsReady, AllReady, HasKind, MapsGrow, AddsNames, LearnsOne, LearnsList, LearnsKeyList, by_kind}
-use Rattle.encode_types.specs.{Scope.Scope, Counts.Definitions, Counts.SameKeys, Counts.AddsTypes}
 use Rattle.encode_types.specs.MetKinds.{IsKnownKind, IsKnownList, IsReadyKey, KeepsNames, IsHeld, key_types, Learns, LearnsMet, LearnsKindOf}
-use Rattle.encode_types.proofs.{Tables.new-in, Tables.entry-more, Tables.key-grow, Encoding.learns-nothing, Encoding.learns-both, Encoding.learns-same}
-use Rattle.encode_types.proofs.{Agree.known-grow, Agree.adds-holds, Lists.none-in, Writing.on-three}
+use Rattle.encode_types.proofs.{Tables.new-in, Tables.entry-more, Tables.key-grow, Encoding.learns-nothing, Encoding.learns-both, Encoding.learns-same, Agree.known-grow, Agree.adds-holds, Lists.none-in, Writing.on-three}
 use Rattle.base_lemmas.proofs.Elements.{last_of as one-contained}
 
 pub ready-grow : (m m' : TypeEncodingMaps) (ts : List ValueType) → MapsGrow m m' → AllReady m ts → AllReady m' ts

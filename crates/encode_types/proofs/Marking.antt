@@ -1,7 +1,6 @@
 -- Which definition is which, call by call.
 use Rattle.std.proofs.Common.{rules as std_rules, ◌≡◌, refl, sym, subst, ap, ◌∙◌, ℕ, ◌+◌, inl, inr, append_assoc, append-nil, Bool, true, false, cond, List, [], ◌∷◌, ◌++◌, length, length-append, arith, count_by, zero-add, map}
-use Rattle.std.proofs.lemmas.List.{map-append}
-use Rattle.std.proofs.lemmas.List.{Sums.sum_by-append, Elements.Contains-append_cases, Elements.Contains-append_left, Elements.filter-append}
+use Rattle.std.proofs.lemmas.List.{map-append, Sums.sum_by-append, Elements.Contains-append_cases, Elements.Contains-append_left, Elements.filter-append}
 use Rattle.std.proofs.lemmas.List.Sorted.{IsPermutation-trans, IsPermutation-append_left, IsPermutation-map, Contains-permutation, sum_by-IsPermutation}
 use Rattle.std.specs.{Prelude.IsPermutation, Prelude.not, Prelude.filter, List.Contains, BTreeMap.BTreeMap}
 use Rattle.wit_model.specs.declared.model.{Resolve.Resolve, TypeId.TypeId}

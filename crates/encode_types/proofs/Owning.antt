@@ -1,9 +1,8 @@
 -- A type of the place, from what fits the scope.
 use Rattle.std.proofs.Common.{rules as std_rules, ◌≡◌, sym, subst, ℕ, true, false, Some, None}
-use Rattle.std.specs.{Prelude.String}
+use Rattle.std.specs.Prelude.{String}
 use Rattle.std.specs.declared.alloc.Global.{Global}
-use Rattle.wit_model.specs.{Text.Text, Text.text_of, Types.number_tree, Types.trees_of, Types.tree_of_definition}
-use Rattle.wit_model.specs.{Tree.Place, Tree.named, Lookup.place_of, Meaning.TypeMeaning, Meant.type_meaning}
+use Rattle.wit_model.specs.{Text.Text, Text.text_of, Types.number_tree, Types.trees_of, Types.tree_of_definition, Tree.Place, Tree.named, Lookup.place_of, Meaning.TypeMeaning, Meant.type_meaning}
 use Rattle.wit_model.specs.declared.model.{Resolve.Resolve, TypeDef.TypeDef, TypeDefKind.TypeDefKind, TypeId.TypeId, «Type».«Type» as ValueType}
 use Rattle.comp_bytes.specs.Raw.{ExternName}
 use Rattle.encode_types.specs.{Kinds.has_definition, Plan.foreign_owner, Scope.Scope, Scope.IsDeclared, Scope.DeclaresResource, Scope.exported_name}

@@ -4,14 +4,12 @@ use Rattle.std.proofs.{lemmas.Bool.eq-eqb, lemmas.Bool.false_from_ne_true, lemma
 use Rattle.std.proofs.lemmas.{Cmp.nat_cmp_total, Cmp.nat_eq_equiv, Map.Lookups.exact_unsigned, Map.Keys.IsDistinct-push, Map.Made.is_member-Decides}
 use Rattle.std.proofs.lemmas.List.Elements.{Contains-append_right, Contains-append_cases, Contains-append_left, Contains-push_cases, Contains-push}
 use Rattle.std.proofs.lemmas.List.{take_more, take_all, take-append-le, take_at, get_or_append_left, take-append-drop, drop-append-le}
-use Rattle.std.specs.{Prelude.slice_index, List.Contains, List.IsDistinct, List.list_any, Ordering.nat_cmp, Ordering.is_eq}
-use Rattle.std.specs.{Option.is_some, Set.is_member, BTreeSet.contains, BTreeMap.is_at}
+use Rattle.std.specs.{Prelude.slice_index, List.Contains, List.IsDistinct, List.list_any, Ordering.nat_cmp, Ordering.is_eq, Option.is_some, Set.is_member, BTreeSet.contains, BTreeMap.is_at}
 use Rattle.encode_types.proofs.{Tables.equal-is, Tables.equal-self, Lists.none-in}
 use Rattle.wit_model.specs.{Lookup.type_at, Parts.kind_numbers, Parts.member_types}
 use Rattle.wit_model.specs.declared.model.{Resolve.Resolve, TypeDef.TypeDef, TypeDefKind.TypeDefKind, InterfaceId.InterfaceId, «Type».«Type» as ValueType}
 use Rattle.wit_model.specs.declared.model.TypeId.{TypeId}
-use Rattle.encode_types.specs.declared.{maps.TypeEncodingMaps.TypeEncodingMaps, plan.Order.Order}
-use Rattle.encode_types.specs.{Kinds.parts_of, Maps.IsKnown}
+use Rattle.encode_types.{specs.declared.maps.TypeEncodingMaps.TypeEncodingMaps, specs.declared.plan.Order.Order, specs.Kinds.parts_of, specs.Maps.IsKnown}
 use Rattle.encode_types.specs.Plan.{foreign_owner, Meets, at_once, further, IsLayered, PartsStand, IsOrdered, AreMet, Stands, IsPlanned, IsOrderOf, rank}
 use Rattle.wit_model.proofs.Elements.{contains-filter_map}
 use Rattle.base_lemmas.proofs.{Elements.all-contained, Elements.contains-one, Elements.last_of as one-contained, Numbers.none-twice}

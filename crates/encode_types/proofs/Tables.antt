@@ -1,12 +1,9 @@
 -- Ordered maps as lists of entries: what is found, what isn't, and what is added.
 use Rattle.std.proofs.Common.{rules as std_rules, ◌≡◌, refl, sym, subst, ap, ◌∙◌, ℕ, zero, suc, ◌+◌, ◌<◌, Bool, true, false, List, [], ◌∷◌, ◌++◌, map, length, get_or, take, Option, Some, None, arith, inl, inr, nat_cmp, length-append, append_assoc, Ordering}
-use Rattle.std.proofs.lemmas.{Cmp.nat_cmp_total, Cmp.nat_list_cmp_total, Map.Lookups.exact_bytes, Map.Lookups.exact_unsigned}
-use Rattle.std.proofs.lemmas.{Bool.cases_Bool, Bool.cond-true, Bool.cond-false, Bool.cases_eq, List.length-map, List.map-append, List.take_more}
+use Rattle.std.proofs.lemmas.{Cmp.nat_cmp_total, Cmp.nat_list_cmp_total, Map.Lookups.exact_bytes, Map.Lookups.exact_unsigned, Bool.cases_Bool, Bool.cond-true, Bool.cond-false, Bool.cases_eq, List.length-map, List.map-append, List.take_more}
 use Rattle.std.proofs.lemmas.List.{Edits.swapped_from_swap, Elements.Contains-append_left, Elements.Contains-push, Elements.Contains-push_cases}
 use Rattle.std.proofs.lemmas.List.Sorted.{IsPermutation-refl, IsPermutation-sym, IsPermutation-cons, IsPermutation-to_front, IsPermutation-trans, IsPermutation-swap, IsPermutation-keeps, length_permutation, Contains-permutation, IsPermutation-map}
-use Rattle.std.specs.{Prelude.IsPermutation, Prelude.AllPairs, Prelude.◌⊎◌, Prelude.IfSome, Prelude.IfNone, Prelude.IsSome, Borrow.Bor}
-use Rattle.std.specs.{Cmp.IsTotalOrder, List.Contains, List.swap, Map.keys_of, Map.lookup, Option.is_some, Option.unwrap_or, Cmp.Lexicographic.slice_cmp}
-use Rattle.std.specs.{Ordering.is_eq, Ordering.match_ordering, Ordering.ordering_reverse, Ordering.ordering_then, BTreeMap.insert_entry, BTreeMap.is_at}
+use Rattle.std.specs.{Prelude.IsPermutation, Prelude.AllPairs, Prelude.◌⊎◌, Prelude.IfSome, Prelude.IfNone, Prelude.IsSome, Borrow.Bor, Cmp.IsTotalOrder, List.Contains, List.swap, Map.keys_of, Map.lookup, Option.is_some, Option.unwrap_or, Cmp.Lexicographic.slice_cmp, Ordering.is_eq, Ordering.match_ordering, Ordering.ordering_reverse, Ordering.ordering_then, BTreeMap.insert_entry, BTreeMap.is_at}
 use Rattle.std.specs.declared.cmp.Ordering.TheVariants.{Less, Equal, Greater}
 use Rattle.wit_model.specs.Text.{Text, text_of}
 use Rattle.wit_model.specs.declared.model.Param.{Param}

@@ -4,8 +4,7 @@ use Rattle.std.proofs.lemmas.List.Elements.{Contains-append_left, Contains-appen
 use Rattle.std.specs.{List.Contains, List.AllZip, Borrow.Bor}
 use Rattle.std.specs.declared.alloc.Global.{Global}
 use Rattle.wit_model.specs.{Text.Text, Text.text_of, Types.trees_of, Types.tree_of, Types.number_tree}
-use Rattle.wit_model.specs.declared.model.{Resolve.Resolve, Record.Record, Variant.Variant, Result_.Result_, TypeId.TypeId, «Type».«Type» as ValueType}
-use Rattle.wit_model.specs.declared.model.{Tuple.Tuple}
+use Rattle.wit_model.specs.declared.model.{Resolve.Resolve, Record.Record, Variant.Variant, Result_.Result_, TypeId.TypeId, «Type».«Type» as ValueType, Tuple.Tuple}
 use Rattle.comp_bytes.specs.declared.forms.ComponentValType.{ComponentValType}
 use Rattle.encode_types.specs.declared.maps.TypeEncodingMaps.{TypeEncodingMaps}
 use Rattle.encode_types.specs.{Slots.StandsFor, Slots.StandsForOptional, Maps.Says, Maps.by_number, Maps.IsWritten, Maps.IsReady, Maps.AllReady}

@@ -1,7 +1,6 @@
 -- Types, unnamed kinds and keys of functions as numbers and lists of numbers, for ordered tables.
 use Rattle.std.specs.Prelude.{ℕ, ◌≡◌, ◌+◌, ◌≤◌, Bool, true, false, List, [], ◌∷◌, ◌++◌, map, length, take, Option, Some, None, Vec}
-use Rattle.std.specs.{Borrow.Bor, BTreeMap.BTreeMap, List.Contains}
-use Rattle.std.specs.declared.{alloc.Global.Global, cmp.Reverse.Reverse}
+use Rattle.std.{specs.Borrow.Bor, specs.BTreeMap.BTreeMap, specs.List.Contains, specs.declared.alloc.Global.Global, specs.declared.cmp.Reverse.Reverse}
 use Rattle.wit_model.specs.Text.{Text, text_of}
 use Rattle.wit_model.specs.declared.model.{Param.Param, TypeDefKind.TypeDefKind, «Type».«Type» as ValueType}
 use Rattle.encode_types.specs.declared.key.FunctionKey.{FunctionKey}

@@ -5,8 +5,7 @@ use Rattle.wit_model.specs.{Text.Text, Text.text_of, Meaning.TypeMeaning, Lookup
 use Rattle.wit_model.specs.declared.model.{Resolve.Resolve, TypeDef.TypeDef, TypeId.TypeId}
 use Rattle.comp_bytes.specs.Raw.{ExternName}
 use Rattle.encode_types.specs.declared.{maps.TypeEncodingMaps.TypeEncodingMaps, key.FunctionKey.FunctionKey}
-use Rattle.encode_types.specs.{Kinds.has_definition, Plan.foreign_owner}
-use Rattle.encode_types.specs.{Codes.IsKeyList, Codes.names_of, Codes.lists_of, Maps.HasKey, Maps.LacksKey, Maps.NamesGrow, Scope.Scope, Scope.exported_name}
+use Rattle.encode_types.specs.{Kinds.has_definition, Plan.foreign_owner, Codes.IsKeyList, Codes.names_of, Codes.lists_of, Maps.HasKey, Maps.LacksKey, Maps.NamesGrow, Scope.Scope, Scope.exported_name}
 use Rattle.wit_model.specs.declared.model.TypeDefKind.TheVariants as kind
 use Rattle.wit_model.specs.declared.model.«Type».TheVariants as ty
 

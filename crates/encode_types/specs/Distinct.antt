@@ -1,17 +1,13 @@
 -- What the declarations of an instance type or a component type define: each function type and each unnamed kind once.
 use Rattle.std.specs.Prelude.{ℕ, ◌≡◌, ◌+◌, ◌&&◌, ◌⊎◌, ◌++◌, ◌∷◌, [], Bool, true, false, cond, nat_eq, List, map, filter, length, count_by, option_to_list, option_map, IsPermutation, Option, Some, None}
-use Rattle.std.specs.{List.IsDistinct, List.Contains, List.AllZip, Option.option_eq, Option.option_map_or, Option.is_some, Option.is_none}
-use Rattle.std.specs.{Set.is_member, Set.distinct_count, Cmp.Lexicographic.pointwise}
+use Rattle.std.specs.{List.IsDistinct, List.Contains, List.AllZip, Option.option_eq, Option.option_map_or, Option.is_some, Option.is_none, Set.is_member, Set.distinct_count, Cmp.Lexicographic.pointwise}
 use mathlib.Core.Bool.{beq}
 use Rattle.comp_bytes.specs.{Raw.Declaration, Raw.Declarations, Raw.from_list, Held.declaration_slots}
 use Rattle.comp_bytes.specs.declared.forms.ComponentTypeRef.{ComponentTypeRef}
 use Rattle.wit_model.specs.{Text.text_of, Meaning.Signature, Types.trees_of, Types.tree_of, Lookup.is_async, Lookup.type_at}
-use Rattle.wit_model.specs.declared.model.{Resolve.Resolve, InterfaceId.InterfaceId, TypeDefKind.TypeDefKind, Function.Function, «Type».«Type» as ValueType}
-use Rattle.wit_model.specs.declared.model.{TypeId.TypeId, Param.Param}
+use Rattle.wit_model.specs.declared.model.{Resolve.Resolve, InterfaceId.InterfaceId, TypeDefKind.TypeDefKind, Function.Function, «Type».«Type» as ValueType, TypeId.TypeId, Param.Param}
 use Rattle.encode_types.specs.declared.{key.FunctionKey.FunctionKey, maps.TypeEncodingMaps.TypeEncodingMaps}
-use Rattle.encode_types.specs.{Codes.IsListed, Codes.names_of, Codes.lists_of, Plan.foreign_owner, Counts.Definitions, Counts.AddsSlots, Counts.key_slots}
-use Rattle.encode_types.specs.{Key.same_type, Key.same_param, Scope.Scope}
-use Rattle.encode_types.specs.{Kinds.has_definition, Kinds.kind_tree, Slots.Pairs, Slots.tree, Slots.function, MetKinds.AreMetKinds, MetKinds.referred}
+use Rattle.encode_types.specs.{Codes.IsListed, Codes.names_of, Codes.lists_of, Plan.foreign_owner, Counts.Definitions, Counts.AddsSlots, Counts.key_slots, Key.same_type, Key.same_param, Scope.Scope, Kinds.has_definition, Kinds.kind_tree, Slots.Pairs, Slots.tree, Slots.function, MetKinds.AreMetKinds, MetKinds.referred}
 use Rattle.comp_bytes.specs.declared.forms.ComponentTypeRef.TheVariants as refs
 
 -- ---- keys of functions

@@ -4,8 +4,7 @@ use Rattle.std.specs.List.{Contains}
 use Rattle.std.specs.declared.alloc.Global.{Global}
 use Rattle.wit_model.specs.{Text.text_of, Lookup.type_at, Lookup.place_of, Meant.type_meaning, Rules.is_named_kind}
 use Rattle.wit_model.specs.declared.model.{Resolve.Resolve, TypeDef.TypeDef, «Type».«Type» as ValueType, InterfaceId.InterfaceId}
-use Rattle.encode_types.specs.{Plan.foreign_owner, Plan.Reaches, Plan.IsLayered, Plan.AllInRange, Scope.Scope, Scope.IsImportable, Scope.IsDeclared}
-use Rattle.encode_types.specs.{Kinds.kind_tree, Kinds.has_definition, Formed.IsFormed}
+use Rattle.encode_types.specs.{Plan.foreign_owner, Plan.Reaches, Plan.IsLayered, Plan.AllInRange, Scope.Scope, Scope.IsImportable, Scope.IsDeclared, Kinds.kind_tree, Kinds.has_definition, Formed.IsFormed}
 
 -- A type of another interface can be imported. A named type of the place is declared there, and what is defined is well formed.
 -- An unnamed type is of no kind that has to be named.

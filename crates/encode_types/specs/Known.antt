@@ -4,8 +4,7 @@ use Rattle.std.specs.Prelude.{ℕ, ◌≡◌, Bool, false, not, ◌&&◌, ◌||�
 use Prim.Native.Nat.{zero, suc}
 use Rattle.std.specs.{List.Contains, List.filter, List.list_all, Map.lookup, BTreeMap.is_at, BTreeMap.insert_entry, Ordering.nat_cmp, Option.option_map_or}
 use Rattle.std.specs.declared.alloc.Global.{Global}
-use Rattle.wit_model.specs.{Text.Text, Text.text_eq, Text.text_of, Lookup.interface_path, Lookup.type_at, Parts.same_owner, Parts.numbered_from}
-use Rattle.wit_model.specs.{Tree.Tree, Tree.named, Types.number_tree, Uses.direct_deps}
+use Rattle.wit_model.specs.{Text.Text, Text.text_eq, Text.text_of, Lookup.interface_path, Lookup.type_at, Parts.same_owner, Parts.numbered_from, Tree.Tree, Tree.named, Types.number_tree, Uses.direct_deps}
 use Rattle.wit_model.specs.declared.model.{Resolve.Resolve, TypeDef.TypeDef, TypeId.TypeId, InterfaceId.InterfaceId}
 use Rattle.comp_bytes.specs.{Raw.Alias, Raw.Declaration, Raw.Declarations, Raw.append, Held.type_slots_of}
 use Rattle.comp_meaning.specs.Same.{same_place}

@@ -2,14 +2,11 @@
 use Rattle.std.specs.Prelude.{ℕ, ◌≡◌, ◌+◌, ◌++◌, ◌⊎◌, Bool, List, [], ◌∷◌, length, Result, Err, IfOk, OnOk, IfErr}
 use Rattle.comp_bytes.specs.Refusal.{IsMemoryOrSize}
 use Rattle.comp_bytes.specs.declared.forms.ComponentValType.{ComponentValType}
-use Rattle.wit_model.specs.declared.{error.Error.Error, model.Resolve.Resolve}
-use Rattle.wit_model.specs.declared.{error.Error.TheVariants.Size, model.TypeDefKind.TypeDefKind, model.«Type».«Type» as ValueType, model.Function.Function}
+use Rattle.wit_model.specs.declared.{error.Error.Error, model.Resolve.Resolve, error.Error.TheVariants.Size, model.TypeDefKind.TypeDefKind, model.«Type».«Type» as ValueType, model.Function.Function}
 use Rattle.wit_model.specs.{Meant.signature_of, Parts.function_types}
 use Rattle.encode_types.specs.declared.key.FunctionKey.{FunctionKey}
-use Rattle.encode_types.specs.{MetKinds.Learns, MetKinds.LearnsMet, View.View, View.Agrees, View.Grows, View.HoldsLearnt, Aliases.ImportsMet, Aliases.MakesMet}
-use Rattle.encode_types.specs.{Maps.MapsGrow, Fits.CanEncode, Formed.IsFormed, Slots.StandsFor, Kinds.parts_of, Kinds.kind_tree}
+use Rattle.encode_types.specs.{MetKinds.Learns, MetKinds.LearnsMet, View.View, View.Agrees, View.Grows, View.HoldsLearnt, Aliases.ImportsMet, Aliases.MakesMet, Maps.MapsGrow, Fits.CanEncode, Formed.IsFormed, Slots.StandsFor, Kinds.parts_of, Kinds.kind_tree, Distinct.KnowsKey, Distinct.key_of, Distinct.AddsFunctions, Room.Request, Room.value_type, Room.function_type, Room.FindsNoRoom}
 use Rattle.encode_types.specs.Counts.{Definitions, SameUnits, one_type_more, type_more_if, AddsTypes, AddsFunction}
-use Rattle.encode_types.specs.{Distinct.KnowsKey, Distinct.key_of, Distinct.AddsFunctions, Room.Request, Room.value_type, Room.function_type, Room.FindsNoRoom}
 use Rattle.comp_bytes.specs.declared.forms.ComponentValType.TheVariants as value
 
 -- The maps agree with the slots and have lost no entry, old slots stand for what they did, and the surroundings are the same.

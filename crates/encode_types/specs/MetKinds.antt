@@ -2,8 +2,7 @@
 use Rattle.std.specs.Prelude.{ℕ, ◌≡◌, ◌⊎◌, true, false, Some, List, [], ◌++◌, map, flat_map, option_to_list, Option, None}
 use Rattle.std.specs.List.{Contains, AllPairs}
 use Rattle.wit_model.specs.{Lookup.type_at, Parts.function_types, Valid.IsValid}
-use Rattle.wit_model.specs.declared.model.{Resolve.Resolve, Function.Function, TypeDefKind.TypeDefKind, InterfaceId.InterfaceId, «Type».«Type» as ValueType}
-use Rattle.wit_model.specs.declared.model.{TypeDef.TypeDef, TypeId.TypeId}
+use Rattle.wit_model.specs.declared.model.{Resolve.Resolve, Function.Function, TypeDefKind.TypeDefKind, InterfaceId.InterfaceId, «Type».«Type» as ValueType, TypeDef.TypeDef, TypeId.TypeId}
 use Rattle.encode_types.specs.declared.{key.FunctionKey.FunctionKey, maps.TypeEncodingMaps.TypeEncodingMaps}
 use Rattle.encode_types.specs.{Codes.kind_code, Codes.IsKeyList, Codes.names_of, Codes.lists_of, Kinds.parts_of, Plan.foreign_owner, Plan.Reaches, Plan.MetFrom}
 use Rattle.encode_types.specs.Maps.{same_kind, IsKnown, AllReady, HasKind, IsOnce, MapsGrow, LearnsOnly}

@@ -3,8 +3,7 @@ use Rattle.std.specs.Prelude.{ℕ, ◌≡◌, ◌⊎◌, cond, Some, None}
 use Rattle.comp_bytes.specs.Raw.{ExternName}
 use Rattle.wit_model.specs.Lookup.{type_at}
 use Rattle.wit_model.specs.declared.model.{Resolve.Resolve, TypeDef.TypeDef, TypeDefKind.TypeDefKind}
-use Rattle.encode_types.specs.{Kinds.parts_of, Kinds.kind_tree, Kinds.has_definition, Maps.AllReady, Maps.LacksKind, View.View, View.HoldsMore, View.Refuses}
-use Rattle.encode_types.specs.{Plan.foreign_owner, Room.value_type, Room.export_name}
+use Rattle.encode_types.specs.{Kinds.parts_of, Kinds.kind_tree, Kinds.has_definition, Maps.AllReady, Maps.LacksKind, View.View, View.HoldsMore, View.Refuses, Plan.foreign_owner, Room.value_type, Room.export_name}
 
 -- the parts of a type number are known, where it isn't of another interface
 abbrev pub PartsReady : Resolve → View → ℕ → Type 0

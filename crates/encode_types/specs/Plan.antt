@@ -4,8 +4,7 @@ use Rattle.std.specs.{List.Contains, List.IsDistinct, List.list_all, BTreeSet.co
 use Rattle.wit_model.specs.{Lookup.type_at, Parts.kind_numbers}
 use Rattle.wit_model.specs.declared.model.{Resolve.Resolve, TypeDef.TypeDef, «Type».«Type» as ValueType, InterfaceId.InterfaceId, TypeOwner.TypeOwner}
 use Rattle.wit_model.specs.declared.model.TypeId.{TypeId}
-use Rattle.encode_types.specs.declared.{maps.TypeEncodingMaps.TypeEncodingMaps, plan.Order.Order}
-use Rattle.encode_types.specs.{Kinds.parts_of, Maps.IsKnown}
+use Rattle.encode_types.{specs.declared.maps.TypeEncodingMaps.TypeEncodingMaps, specs.declared.plan.Order.Order, specs.Kinds.parts_of, specs.Maps.IsKnown}
 use Rattle.wit_model.specs.declared.model.«Type».TheVariants as ty
 use Rattle.wit_model.specs.declared.model.TypeOwner.TheVariants as owner
 

@@ -10,8 +10,7 @@ use Rattle.wit_model.specs.declared.model.{Resolve.Resolve, TypeDefKind.TypeDefK
 use Rattle.wit_model.specs.declared.model.TypeDef.{TypeDef}
 use Rattle.comp_bytes.specs.{Raw.ExternName, Fits.fits_length, Fits.fits_names, Fits.fits_given, Fits.fits_name}
 use Rattle.encode_types.specs.declared.maps.TypeEncodingMaps.{TypeEncodingMaps}
-use Rattle.encode_types.specs.{Kinds.kind_tree, Plan.foreign_owner, MetKinds.ReachedFrom, Scope.exported_name}
-use Rattle.encode_types.specs.{Maps.same_kind, Maps.IsKnown, Maps.HasKind, Maps.LacksKind, Distinct.has_own_definition, Distinct.key_of, Distinct.are_same}
+use Rattle.encode_types.specs.{Kinds.kind_tree, Plan.foreign_owner, MetKinds.ReachedFrom, Scope.exported_name, Maps.same_kind, Maps.IsKnown, Maps.HasKind, Maps.LacksKind, Distinct.has_own_definition, Distinct.key_of, Distinct.are_same}
 
 -- what an encoder is asked to add: a definition of this tree, the type of a function of this signature, an export under this name,
 -- or what stands for a type number of another interface

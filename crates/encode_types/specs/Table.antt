@@ -2,8 +2,7 @@
 use Rattle.std.specs.Prelude.{◌≡◌, Bool, true, false, ◌||◌, ◌&&◌, cond, ℕ, List, [], ◌∷◌, length, flat_map, Option, Some, None, String, is_some, is_none}
 use Rattle.std.specs.{List.Contains, Option.option_map_or}
 use Rattle.std.specs.declared.alloc.Global.{Global}
-use Rattle.wit_model.specs.{Text.Text, Text.text_of, Meaning.TypeMeaning, Lookup.place_of, Lookup.interface_at, Lookup.type_at, Uses.owner_interface}
-use Rattle.wit_model.specs.{Meant.type_meaning, Parts.same_owner, Valid.IsValid}
+use Rattle.wit_model.specs.{Text.Text, Text.text_of, Meaning.TypeMeaning, Lookup.place_of, Lookup.interface_at, Lookup.type_at, Uses.owner_interface, Meant.type_meaning, Parts.same_owner, Valid.IsValid}
 use Rattle.wit_model.specs.declared.model.{Resolve.Resolve, TypeDef.TypeDef, InterfaceId.InterfaceId, «Type».«Type» as ValueType, TypeOwner.TypeOwner}
 use Rattle.wit_model.specs.declared.model.TypeId.{TypeId}
 use Rattle.encode_types.specs.{Kinds.has_definition, Plan.foreign_owner, MetKinds.ReachedFrom, Resources.resource_names}

@@ -6,9 +6,7 @@ use Rattle.comp_bytes.specs.declared.forms.{ComponentDefinedType.ComponentDefine
 use Rattle.comp_bytes.specs.Raw.{ExternName, Declarations}
 use Rattle.encode_types.specs.declared.maps.TypeEncodingMaps.{TypeEncodingMaps}
 use Rattle.encode_types.specs.Slots.{Pairs, Standing, tree, Keeps, SlotAdded, NameAdded, Follows, FollowsFunction}
-use Rattle.encode_types.specs.{Scope.Scope, Maps.MapsAgree}
-use Rattle.encode_types.specs.{Known.Around, Known.GrowsAround, Extents.tree_extent, Extents.signature_extent, Extents.import_extent, Extents.known_extent}
-use Rattle.encode_types.specs.{Counts.Definitions, Counts.ExportsOne, Room.Request, Room.Refusals, Room.HoldsFor, Room.value_type, Room.function_type}
+use Rattle.encode_types.specs.{Scope.Scope, Maps.MapsAgree, Known.Around, Known.GrowsAround, Extents.tree_extent, Extents.signature_extent, Extents.import_extent, Extents.known_extent, Counts.Definitions, Counts.ExportsOne, Room.Request, Room.Refusals, Room.HoldsFor, Room.value_type, Room.function_type}
 
 -- what the user of an encoder may have in mind of it: some numbers, or what had been declared at some time
 pub data Told : Type 0 where

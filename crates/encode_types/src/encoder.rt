@@ -7,8 +7,7 @@ ghost use Rattle.wit_model.specs.{Tree.Tree, Tree.named, Meaning.Signature, Type
 ghost use Rattle.comp_bytes.specs.{RawOf.raw_name, Refusal.IsMemoryOrSize};
 ghost use Rattle.encode_types.specs.Slots.{Standing, tree, Follows, FollowsFunction, Defines, DefinesFunction};
 ghost use Rattle.encode_types.specs.View.{View, Grows, ImportsOne, AddsSlot, AddsName, Exports, ExportsName, SameRest, HoldsMore, Refuses, LacksDefinition, LacksFunctionType, Writes, WritesDefinition, WritesFunctionType, WritesImport};
-ghost use Rattle.encode_types.specs.{Known.ReachesAround, Room.export_name, Room.import_of, Extents.name_extent, Formed.IsFormed, Formed.IsFormedSignature};
-ghost use Rattle.encode_types.specs.{Scope.DeclaresSlot, Scope.DeclaresResource, Scope.IsImportable, Counts.one_type_more, Counts.one_function_more};
+ghost use Rattle.encode_types.specs.{Known.ReachesAround, Room.export_name, Room.import_of, Extents.name_extent, Formed.IsFormed, Formed.IsFormedSignature, Scope.DeclaresSlot, Scope.DeclaresResource, Scope.IsImportable, Counts.one_type_more, Counts.one_function_more};
 ghost use Rattle.encode_types.specs.declared.maps.TypeEncodingMaps.{TypeEncodingMaps as MapsValue};
 
 use crate::maps::TypeEncodingMaps;

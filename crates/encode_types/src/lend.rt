@@ -6,8 +6,7 @@ ghost use Rattle.comp_bytes.specs.Refusal.{IsMemoryOrSize};
 ghost use Rattle.wit_model.specs.declared.error.Error.TheVariants.{Size};
 ghost use Rattle.wit_model.specs.{Types.number_tree, Tree.future_tree, Tree.stream_tree};
 ghost use Rattle.encode_types.specs.Slots.{tree};
-ghost use Rattle.encode_types.specs.{Kinds.kind_of, Kinds.parts_of, Plan.IsLayered, Plan.AllInRange, Plan.IsOrderOf, Leaves.Leaves, Leaves.LeavesSlots};
-ghost use Rattle.encode_types.specs.{Codes.names_of, Codes.lists_of, Codes.IsKeyList, Definition.IsWrittenParam, Definition.FollowsKind, View.Agrees};
+ghost use Rattle.encode_types.specs.{Kinds.kind_of, Kinds.parts_of, Plan.IsLayered, Plan.AllInRange, Plan.IsOrderOf, Leaves.Leaves, Leaves.LeavesSlots, Codes.names_of, Codes.lists_of, Codes.IsKeyList, Definition.IsWrittenParam, Definition.FollowsKind, View.Agrees};
 ghost use Rattle.encode_types.specs.Maps.{IsKnown, LacksList, StandsAsKind, StandsAsKey, IsReady, AllReady, IsWritten, AddsNames, KeepsKnownNames, LearnsNumber, LearnsList, LearnsKeyList};
 
 use crate::codes::ListKey;

@@ -1,36 +1,23 @@
 -- What both passes copy has its own documentation, stability and external ids in what is merged.
 use Rattle.std.proofs.Common.{rules as std_rules, ◌≡◌, refl, sym, ap, subst, ◌∙◌, ◌⊎◌, inl, inr, arith, ℕ, zero, suc, Bool, true, false, not, cond, List, [], ◌∷◌, ◌++◌, map, Option, Some, None, is_none, option_map, option_to_list, String, Contains, ◌+◌, ◌≤◌, length, append-nil, is_some, slice_get}
-use Rattle.std.proofs.lemmas.{List.map-append, List.length-map, Bool.and_from as both, List.Elements.Contains-append_right, Map.Made.IsDistinct-keys_filter}
-use Rattle.std.proofs.lemmas.{Simd.map-map, List.Folds.list_all-append}
-use Rattle.std.proofs.lemmas.{Map.Keys.any_passes_from_place as any_at, Option.same_Some as same-some, Option.slice_get-map, Option.slice_get_within}
+use Rattle.std.proofs.lemmas.{List.map-append, List.length-map, Bool.and_from as both, List.Elements.Contains-append_right, Map.Made.IsDistinct-keys_filter, Simd.map-map, List.Folds.list_all-append, Map.Keys.any_passes_from_place as any_at, Option.same_Some as same-some, Option.slice_get-map, Option.slice_get_within}
 use Rattle.std.specs.Prelude.{if◌then◌else◌, unwrap_or, option_and_then}
 use Rattle.std.specs.{List.filter, List.filter_map, List.list_all, List.AllZip, List.IsDistinct, Map.keys_of, Option.option_map_or}
 use Rattle.std.specs.declared.alloc.Global.{Global}
-use Rattle.wit_model.specs.declared.model.{Function.Function, Resolve.Resolve, TypeDef.TypeDef, WorldKey.WorldKey, TypeOwner.TypeOwner, Package.Package}
-use Rattle.wit_model.specs.declared.model.{Interface.Interface, PackageId.PackageId, «Type».«Type» as ValueType, WorldItem.WorldItem, InterfaceId.InterfaceId}
-use Rattle.wit_model.specs.declared.model.{TypeId.TypeId, World.World}
+use Rattle.wit_model.specs.declared.model.{Function.Function, Resolve.Resolve, TypeDef.TypeDef, WorldKey.WorldKey, TypeOwner.TypeOwner, Package.Package, Interface.Interface, PackageId.PackageId, «Type».«Type» as ValueType, WorldItem.WorldItem, InterfaceId.InterfaceId, TypeId.TypeId, World.World}
 use Rattle.wit_model.specs.Lookup.{interface_at, interface_path, key_text, resource_of, type_at, identity_of, package_at, path_in_package, path_of_interface, path_of_world, world_at}
-use Rattle.wit_model.specs.{Parts.function_types, Parts.kind_numbers, Valid.IsValid, Valid.Keeps, Checks.references}
-use Rattle.wit_model.specs.{Text.Text, Text.optional_text, Text.text_of, Text.text_eq, Types.number_of, Types.declaration_of, Types.number_tree, Names.path_in}
+use Rattle.wit_model.specs.{Parts.function_types, Parts.kind_numbers, Valid.IsValid, Valid.Keeps, Checks.references, Text.Text, Text.optional_text, Text.text_of, Text.text_eq, Types.number_of, Types.declaration_of, Types.number_tree, Names.path_in}
 use Rattle.wit_model.proofs.{Elements.contains-get, VersionLaws.same_text, OnePath.named-path}
 use Rattle.bind_copy.specs.Copies.{is_new_under, number_under, IsEntryUnder, IsFunctionUnder, IsInterfaceUnder, IsItemUnder, IsFunctionEntry as IsFunctionEntryUnder, become_one, IsTypeUnder}
 use Rattle.bind_union.specs.Carried.{EntryBecomes, IsCarried, IsFunctionCopy, IsFunctionEntry, IsInterfaceCopy, ItemBecomes, KeyBecomes, Renumbering}
 use Rattle.bind_union.specs.{Views.renamed_type, Merged.AreCopies, Joined.same_key, Joined.none, Joined.met, Joined.added, Joined.Joined, Joined.IsJoined}
-use Rattle.bind_carry.specs.{ReadyItems.IsKeyReady, BoundGains.bound_fates, FirstPass.IsFirstPass, Fates.is_carried}
-use Rattle.bind_carry.specs.{Marked.AreChosen, Packaged.IsPackageCarried, Renumbered.first_of, Renumbered.is_copied, TooLong.CarriedThings, TooLong.TypeFates}
-use Rattle.bind_carry.specs.{First.first_fates, First.flag_under, Numbers.interface_number, Numbers.numbers_of, Numbers.package_number, Numbers.world_number}
-use Rattle.bind_carry.specs.{SecondPass.second_pass_of, SecondPass.IsSecondPass, Whole.home_under, Whole.IsInterfaceCarried, Whole.IsWorldCarried}
-use Rattle.bind_carry.proofs.{Joined.new_same, FirstNumbers.names, FirstWorlds.first_is_copied, SecondCarried.type_from, SecondCarried.second_is_copied}
-use Rattle.bind_carry.proofs.{UnionKeys.carried_path, CopiesPlaced.copied_home, CopiesPlaced.copy_placed, WorldEntries.export_keyed, WorldEntries.import_keyed}
-use Rattle.bind_carry.proofs.{InsertedBehind.all_behind, InsertedBehind.filter_passes, SecondPass.known as second_known, SecondPass.stood_how as second_stood}
-use Rattle.bind_carry.proofs.{FirstInterfaces.stood_how as first_stood, FirstWorlds.first_worlds_are_copied, KeptPlaced.kept_placed, KeptPlaced.IsKeptAt}
-use Rattle.bind_carry.proofs.{SecondCarried.carried_number, SecondCarried.inline_at, SecondCarried.inline_place, SecondPass.chosen, SecondPass.long}
+use Rattle.bind_carry.specs.{ReadyItems.IsKeyReady, BoundGains.bound_fates, FirstPass.IsFirstPass, Fates.is_carried, Marked.AreChosen, Packaged.IsPackageCarried, Renumbered.first_of, Renumbered.is_copied, TooLong.CarriedThings, TooLong.TypeFates, First.first_fates, First.flag_under, Numbers.interface_number, Numbers.numbers_of, Numbers.package_number, Numbers.world_number, SecondPass.second_pass_of, SecondPass.IsSecondPass, Whole.home_under, Whole.IsInterfaceCarried, Whole.IsWorldCarried}
+use Rattle.bind_carry.proofs.{Joined.new_same, FirstNumbers.names, FirstWorlds.first_is_copied, SecondCarried.type_from, SecondCarried.second_is_copied, UnionKeys.carried_path, CopiesPlaced.copied_home, CopiesPlaced.copy_placed, WorldEntries.export_keyed, WorldEntries.import_keyed, InsertedBehind.all_behind, InsertedBehind.filter_passes, SecondPass.known as second_known, SecondPass.stood_how as second_stood, FirstInterfaces.stood_how as first_stood, FirstWorlds.first_worlds_are_copied, KeptPlaced.kept_placed, KeptPlaced.IsKeptAt, SecondCarried.carried_number, SecondCarried.inline_at, SecondCarried.inline_place, SecondPass.chosen, SecondPass.long}
 use Rattle.bind_union.proofs.{ViewTests.numbers_under, ViewTests.one_given, ViewTests.numbers_same, Images.same_declarations, Lists.no_true}
 use Rattle.bind_union.proofs.Carrying.{carried_types, kind_carried, references_of, refers_below, same_identity, tree_same}
 use Rattle.wit_bind.specs.Brings.{entry_notes, function_notes, function_type_notes, inline_notes, interface_notes, item_notes, type_notes, type_notes_at, unnamed_notes, InterfaceNotes, Notes, key_texts, world_notes, BringsEntries, IsTypeOf}
 use Rattle.wit_bind.specs.Comes.{is_one_of}
-use Rattle.base_lemmas.proofs.{Bools.left_of as first_true, Bools.right_of as second_true, Elements.contains-later, Elements.zip_map, Elements.get-contains}
-use Rattle.base_lemmas.proofs.{Numbers.same-number, Options.nameless as named_none, Options.there as some-of}
+use Rattle.base_lemmas.proofs.{Bools.left_of as first_true, Bools.right_of as second_true, Elements.contains-later, Elements.zip_map, Elements.get-contains, Numbers.same-number, Options.nameless as named_none, Options.there as some-of}
 use Rattle.bind_clash.proofs.PathsMatched.{world-path-of, IsPathOf}
 use Rattle.bind_match.specs.declared.matches.Matches.{Matches}
 use Rattle.wit_model.specs.declared.model.WorldKey.TheVariants as key

@@ -5,11 +5,10 @@ use Rattle.std.specs.{List.Contains, Option.option_map_or, FinMap.empty, FinMap.
 use Rattle.wit_model.specs.declared.model.{Resolve.Resolve, Interface.Interface, StringEncoding.StringEncoding, WorldItem.WorldItem, WorldKey.WorldKey}
 use Rattle.wit_model.specs.{Text.Text, Text.text_cmp, Text.text_of, Lookup.interface_at, Uses.item_interface}
 use Rattle.wit_model.proofs.Elements.{none-in, contains-flat, contains-filter_map}
-use Rattle.bind_keys.specs.{Keys.text_under, Keys.function_key, Keys.unversioned_key}
-use Rattle.wit_bind.specs.{OldKeys.IsFunctionOf, OldKeys.itself, OldKeys.member, OldKeys.CarriesOver}
-use Rattle.bind_keys.specs.Encodings.{Encodings, encoding_at}
+use Rattle.bind_keys.{specs.Keys.text_under, specs.Keys.function_key, specs.Keys.unversioned_key, specs.Encodings.Encodings, specs.Encodings.encoding_at}
 use Rattle.bind_keys.specs.Functions.{Items, IsFunctionKey, of_item, of_interface, MapsFunctions}
 use Rattle.bind_keys.specs.KeyLists.{Choice, Entry, entries_of_item, entries_of_items, entry_of, member_entries, Puts}
+use Rattle.wit_bind.specs.OldKeys.{IsFunctionOf, itself, member, CarriesOver}
 use Rattle.bind_meaning.proofs.Listed.{from-flat, from-given}
 use Rattle.wit_bind.proofs.Putting.{comes, holds}
 use Rattle.base_lemmas.proofs.Elements.{contains-one}

@@ -7,9 +7,7 @@ use Rattle.wit_model.proofs.OnePath.{named-path}
 use Rattle.bind_meaning.specs.{ByNumbers.interfaces_by_path, ByNumbers.worlds_by_path, Clash.carried_worlds, Clash.entry_under, Clash.CanUnite, Roots.root_path}
 use Rattle.bind_meaning.proofs.Maps.{eq_by_text, found_keys, get-without}
 use Rattle.bind_meaning.proofs.WorldBindings.{interface-found, world-found, world-path}
-use Rattle.bind_carry.specs.{MadeOf.Come, Numbers.copied_count, Bound.bound_interfaces, First.first_fates, Union.IsUnionOf}
-use Rattle.bind_carry.specs.{BoundGains.bound_fates, BoundGains.gained_inline, Whole.IsInterfaceCarried, Whole.IsWorldCarried}
-use Rattle.bind_carry.specs.{TooLong.carried_interfaces, TooLong.copies_of, TooLong.gained_fates, TooLong.CarriedThings, TooLong.TypeFates, Shown.AreShownBelow}
+use Rattle.bind_carry.specs.{MadeOf.Come, Numbers.copied_count, Bound.bound_interfaces, First.first_fates, Union.IsUnionOf, BoundGains.bound_fates, BoundGains.gained_inline, Whole.IsInterfaceCarried, Whole.IsWorldCarried, TooLong.carried_interfaces, TooLong.copies_of, TooLong.gained_fates, TooLong.CarriedThings, TooLong.TypeFates, Shown.AreShownBelow}
 use Rattle.bind_carry.proofs.Counting.{length_both, carried_all, carried_few, copied_long, inline_all}
 use Rattle.bind_carry.proofs.{WhatComes.marked_count, Ready.bound_long, Ready.fates_long, Ready.numbers_count, SecondInitial.gained_long}
 use Rattle.wit_bind.specs.declared.bindgen.Bindgen.{Bindgen}

@@ -1,10 +1,8 @@
 -- Bindings that are as they were stand for the same binding.
 use Rattle.std.proofs.Common.{rules as std_rules, ◌≡◌, ◌∙◌, refl, sym, ap, ℕ, zero, suc, List, [], ◌∷◌, map, filter_map, option_map, option_and_then, slice_get, unwrap_or, Option, Some, None}
 use Rattle.std.specs.{List.cons_option, Option.option_map_or, FinMap.from_entries, FinSet.from_list}
-use Rattle.wit_model.specs.declared.model.{Function.Function, Interface.Interface, PackageId.PackageId, «TypeOwner».TypeOwner, World.World, WorldItem.WorldItem}
-use Rattle.wit_model.specs.declared.model.{Resolve.Resolve, TypeDef.TypeDef, WorldKey.WorldKey}
-use Rattle.wit_model.specs.{Text.Text, Text.optional_text, Text.text_of, Names.path_in}
-use Rattle.wit_model.specs.{Tree.named, Types.declared_by, Types.grow, Types.tree_of_declaration, Types.tree_of_definition, Types.trees_of}
+use Rattle.wit_model.specs.declared.model.{Function.Function, Interface.Interface, PackageId.PackageId, «TypeOwner».TypeOwner, World.World, WorldItem.WorldItem, Resolve.Resolve, TypeDef.TypeDef, WorldKey.WorldKey}
+use Rattle.wit_model.specs.{Text.Text, Text.optional_text, Text.text_of, Names.path_in, Tree.named, Types.declared_by, Types.grow, Types.tree_of_declaration, Types.tree_of_definition, Types.trees_of}
 use Rattle.wit_model.specs.Lookup.{identity_of, interface_path, key_text, path_in_package, path_of_interface, path_of_world, place_of, world_at}
 use Rattle.wit_model.specs.Meant.{entries_meaning, entry_meaning, function_meaning, interface_meaning, interface_meaning_at, no_interface, no_type, no_world, signature_of, type_meaning_at, world_meaning, world_meaning_at}
 use Rattle.bind_meaning.specs.Binding.{package_text}

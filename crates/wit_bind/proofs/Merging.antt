@@ -4,9 +4,7 @@ use Rattle.std.proofs.lemmas.{Bool.and_from as both, Bool.cases_lt as either, Li
 use Rattle.std.specs.{List.filter, List.list_all, List.AllZip, List.IsDistinct, Map.keys_of, String.string_eq, Option.option_map_or}
 use Rattle.std.specs.declared.alloc.Global.{Global}
 use Rattle.indexmap.specs.IndexMap.{values, IsUnique}
-use Rattle.wit_model.specs.declared.model.{Docs.Docs, World.World, WorldId.WorldId}
-use Rattle.wit_model.specs.declared.model.{Function.Function, Package.Package, Resolve.Resolve, TypeDef.TypeDef, WorldKey.WorldKey, WorldItem.WorldItem}
-use Rattle.wit_model.specs.declared.model.{Interface.Interface, PackageId.PackageId, Stability.Stability, TypeDefKind.TypeDefKind}
+use Rattle.wit_model.specs.declared.model.{Docs.Docs, World.World, WorldId.WorldId, Function.Function, Package.Package, Resolve.Resolve, TypeDef.TypeDef, WorldKey.WorldKey, WorldItem.WorldItem, Interface.Interface, PackageId.PackageId, Stability.Stability, TypeDefKind.TypeDefKind}
 use Rattle.wit_model.specs.{Lookup.type_at, Lookup.world_at, Lookup.interface_path, Lookup.key_text, Text.Text, Text.optional_text, Valid.key_eq, Valid.IsValid}
 use Rattle.wit_model.proofs.{Elements.contains-get, OnePath.has-path}
 use Rattle.plan_meaning.specs.Built.{is_bare, is_bare_function, is_bare_interface, is_bare_item, is_bare_kind, is_bare_type, is_bare_world, is_undocumented, IsBare}
@@ -16,23 +14,18 @@ use Rattle.bind_copy.specs.Copies.{become_one, is_new_under, member_docs, IsEntr
 use Rattle.bind_match.specs.declared.matches.Matches.{Matches}
 use Rattle.bind_union.specs.Carried.{stability_view}
 use Rattle.bind_union.proofs.{BoundMeanings.bound_means, Valid.merged_is_valid}
-use Rattle.bind_carry.specs.{MatchedSame.AreMatchedAt, MatchedSame.NoneOfPath, SecondPass.is_left_out, SecondPass.second_pass_of, SecondPass.IsSecondPass}
-use Rattle.bind_carry.specs.{Which.AreMatchedAll, TooLong.CarriedThings, AddedKeys.key_view, FirstPass.IsFirstPass, Renumbered.first_of, First.first_fates}
-use Rattle.bind_carry.specs.{Whole.kept, Whole.IsInterfaceCarried, Whole.IsWorldCarried, Packaged.IsPackageCarried, AddedApart.AreMatchedByName, Apart.IsApart}
+use Rattle.bind_carry.specs.{MatchedSame.AreMatchedAt, MatchedSame.NoneOfPath, SecondPass.is_left_out, SecondPass.second_pass_of, SecondPass.IsSecondPass, Which.AreMatchedAll, TooLong.CarriedThings, AddedKeys.key_view, FirstPass.IsFirstPass, Renumbered.first_of, First.first_fates, Whole.kept, Whole.IsInterfaceCarried, Whole.IsWorldCarried, Packaged.IsPackageCarried, AddedApart.AreMatchedByName, Apart.IsApart}
 use Rattle.bind_carry.specs.Union.{IsUnionOf}
 use Rattle.bind_carry.proofs.KeysGained.{by_path_apart, exports_apart, exports_behind, imports_apart, imports_behind}
-use Rattle.bind_carry.proofs.{FirstOfUnion.unions_have_the_second, NamesMerged.names_are_merged, MergedUnion.unions_are_merged}
-use Rattle.bind_carry.proofs.{UnionDistinct.unions_are_apart, UnionDistinct.unions_have_distinct_keys, UnionKeys.exports_come_behind, UnionKeys.keys_keep_texts}
+use Rattle.bind_carry.proofs.{FirstOfUnion.unions_have_the_second, NamesMerged.names_are_merged, MergedUnion.unions_are_merged, UnionDistinct.unions_are_apart, UnionDistinct.unions_have_distinct_keys, UnionKeys.exports_come_behind, UnionKeys.keys_keep_texts}
 use Rattle.wit_bind.specs.Brings.{type_notes, key_texts, BringsEntries, BringsItsOwn, IsTypeOf}
-use Rattle.wit_bind.specs.{Extends.Extends, Extends.listed_names, Extends.merged_names, Merges.export_keys, Merges.IsGrownBy, Merges.IsPlanOf}
-use Rattle.wit_bind.specs.{Bindings.binding_of, Bindings.IsBindgen, MergedLaws.AgreeByNumbers, MergedLaws.IsUnited}
+use Rattle.wit_bind.specs.{Extends.Extends, Extends.listed_names, Extends.merged_names, Merges.export_keys, Merges.IsGrownBy, Merges.IsPlanOf, Bindings.binding_of, Bindings.IsBindgen, MergedLaws.AgreeByNumbers, MergedLaws.IsUnited}
 use Rattle.base_lemmas.proofs.{Bools.left_of as first_true, Bools.right_of as second_true, Lists.front_at, Lists.within_there as element_at}
 use Rattle.base_lemmas.proofs.Elements.{all-contained, all_by_number as all_by, all_get as at_all, contains-later, contains-map, filter_kept as from-filter, joined_well as joined_all}
 use Rattle.bind_match.specs.Matching.{is_root_world}
 use Rattle.bind_meaning.specs.{Clash.CanUnite, Union.union}
 use Rattle.wit_bind.specs.declared.bindgen.Bindgen.{Bindgen}
-use Rattle.wit_bind.proofs.{Extending.grown_extend, MatchedPaths.matches_have_paths, UnionBound.united_are_the_union}
-use Rattle.wit_bind.proofs.{Bringing.new_interface_copied, Bringing.new_package_copied, Bringing.new_world_copied, NumbersAgree.united_agree_by_numbers}
+use Rattle.wit_bind.proofs.{Extending.grown_extend, MatchedPaths.matches_have_paths, UnionBound.united_are_the_union, Bringing.new_interface_copied, Bringing.new_package_copied, Bringing.new_world_copied, NumbersAgree.united_agree_by_numbers}
 use Rattle.wit_bind.proofs.Brought.{bound_brought, interface_brought, package_brought, type_brought, world_brought}
 use Rattle.wit_model.specs.declared.model.TypeDefKind.TheVariants as kind
 

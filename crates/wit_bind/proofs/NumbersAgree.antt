@@ -3,8 +3,7 @@ use Rattle.std.proofs.Common.{rules as std_rules, ◌≡◌, ◌≢◌, refl, sy
 use mathlib.Core.Bool.{true≢false}
 use Rattle.std.specs.{FinMap.get, Ordering.eq_by_cmp, Option.option_map_or}
 use Rattle.wit_model.specs.declared.model.{Interface.Interface, Resolve.Resolve, World.World, WorldItem.WorldItem, WorldKey.WorldKey}
-use Rattle.wit_model.specs.{Text.Text, Text.text_cmp, Lookup.interface_at, Lookup.key_text, Lookup.path_of_interface, Lookup.path_of_world, Lookup.world_at}
-use Rattle.wit_model.specs.{Meaning.Entry, Meaning.InterfaceMeaning, Meaning.WorldMeaning, Meaning.entry_sense, Rules.are_distinct}
+use Rattle.wit_model.specs.{Text.Text, Text.text_cmp, Lookup.interface_at, Lookup.key_text, Lookup.path_of_interface, Lookup.path_of_world, Lookup.world_at, Meaning.Entry, Meaning.InterfaceMeaning, Meaning.WorldMeaning, Meaning.entry_sense, Rules.are_distinct}
 use Rattle.wit_model.specs.Meant.{entries_meaning, entry_meaning, interface_meaning_at, no_world, world_meaning, world_meaning_at}
 use Rattle.bind_match.specs.Matching.{is_root_world}
 use Rattle.bind_meaning.specs.{Clash.CanUnite, Clash.carried_worlds, Clash.entry_under, Roots.root_path}

@@ -3,10 +3,8 @@ use Rattle.std.proofs.Common.{rules as std_rules, ◌≡◌, refl, sym, ap, subs
 use Rattle.std.proofs.lemmas.{List.Elements.Contains-append_left, List.Elements.Contains-append_right, List.append_cancel_right, Option.same_Some as same-some}
 use Rattle.std.specs.{List.Contains, Option.option_map_or}
 use Rattle.std.specs.declared.alloc.Global.{Global}
-use Rattle.wit_model.specs.declared.model.{Resolve.Resolve, Package.Package, Interface.Interface, WorldItem.WorldItem, WorldKey.WorldKey}
-use Rattle.wit_model.specs.declared.model.{PackageId.PackageId, PackageName.PackageName, InterfaceId.InterfaceId, World.World, StringEncoding.StringEncoding}
-use Rattle.wit_model.specs.{Text.Text, Text.text_of, Names.at_version, Names.is_label, Names.path_in, Rules.passes}
-use Rattle.wit_model.specs.{Lookup.canonical_identity_of, Lookup.interface_at, Lookup.package_at, Lookup.world_at, Paths.full_name, Valid.IsValid, Valid.labels}
+use Rattle.wit_model.specs.declared.model.{Resolve.Resolve, Package.Package, Interface.Interface, WorldItem.WorldItem, WorldKey.WorldKey, PackageId.PackageId, PackageName.PackageName, InterfaceId.InterfaceId, World.World, StringEncoding.StringEncoding}
+use Rattle.wit_model.specs.{Text.Text, Text.text_of, Names.at_version, Names.is_label, Names.path_in, Rules.passes, Lookup.canonical_identity_of, Lookup.interface_at, Lookup.package_at, Lookup.world_at, Paths.full_name, Valid.IsValid, Valid.labels}
 use Rattle.wit_model.proofs.{Elements.none-in, NameLaws.label_lacks, OnePath.interface-passes, OnePath.package-name}
 use Rattle.bind_keys.specs.{Keys.function_key, Keys.text_under, Keys.unversioned, Keys.unversioned_key, Encodings.Encodings, Encodings.encoding_at}
 use Rattle.bind_keys.specs.Functions.{Items}

@@ -1,12 +1,10 @@
 -- Where a union would make a list too long, so would what comes.
 use Rattle.std.proofs.Common.{◌≡◌, inl, inr, refl, ap, ◌∙◌, arith, ℕ, ◌+◌, ◌<◌, ◌≤◌, [], length, Some}
-use Rattle.wit_model.specs.declared.{error.Error.Error, model.World.World}
-use Rattle.wit_model.specs.Lookup.{world_at}
+use Rattle.wit_model.specs.{declared.error.Error.Error, declared.model.World.World, Lookup.world_at}
 use Rattle.bind_meaning.specs.Clash.{CanUnite}
 use Rattle.bind_clash.specs.Faults.{IsMatched}
 use Rattle.bind_match.specs.declared.matches.Matches.{Matches}
-use Rattle.bind_carry.specs.{BoundGains.gained_inline, Fates.numbers_by, TooLong.carried_interfaces, TooLong.CarriedThings, TooLong.copies_of, TooLong.gained_fates, TooLong.IsTooLong, Which.IsNumbered}
-use Rattle.bind_carry.specs.{First.first_fates, MadeOf.Come, Numbers.copied_count, Numbers.IsMemoryOrSize}
+use Rattle.bind_carry.specs.{BoundGains.gained_inline, Fates.numbers_by, TooLong.carried_interfaces, TooLong.CarriedThings, TooLong.copies_of, TooLong.gained_fates, TooLong.IsTooLong, Which.IsNumbered, First.first_fates, MadeOf.Come, Numbers.copied_count, Numbers.IsMemoryOrSize}
 use Rattle.bind_carry.proofs.{CopiesPlaced.numbers_by_long, Ready.fates_long}
 use Rattle.wit_bind.specs.declared.bindgen.Bindgen.{Bindgen}
 use Rattle.wit_bind.specs.{Bindings.binding_of, Bindings.IsBindgen, Comes.InlineIsGained, Comes.TypeIsGained, Merges.AreTooMany}

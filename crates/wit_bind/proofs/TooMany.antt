@@ -5,18 +5,15 @@ use Rattle.std.specs.{Prelude.count_by, Prelude.filter_map, Prelude.is_some, Lis
 use Rattle.std.specs.declared.alloc.Global.{Global}
 use Rattle.wit_model.specs.declared.model.{Interface.Interface, Package.Package, PackageName.PackageName, Resolve.Resolve, World.World, WorldId.WorldId}
 use Rattle.wit_model.specs.Lookup.{identity_of, interface_at, package_at, path_of_interface, path_of_world, world_at}
-use Rattle.wit_model.specs.{Meant.interface_meaning, Meant.world_meaning, Names.at_version, Names.is_identity, Text.Text, Text.text_eq, Text.text_of}
-use Rattle.wit_model.specs.{Rules.same_package_name, Valid.IsValid}
-use Rattle.wit_model.proofs.{NameLaws.identity_namespace, NameLaws.label_lacks, NameLaws.identity_name as label-of, TextLemmas.text_same as text-same}
-use Rattle.wit_model.proofs.{Elements.contains-get, OnePath.package-name, VersionLaws.same_name}
+use Rattle.wit_model.specs.{Meant.interface_meaning, Meant.world_meaning, Names.at_version, Names.is_identity, Text.Text, Text.text_eq, Text.text_of, Rules.same_package_name, Valid.IsValid}
+use Rattle.wit_model.proofs.{NameLaws.identity_namespace, NameLaws.label_lacks, NameLaws.identity_name as label-of, TextLemmas.text_same as text-same, Elements.contains-get, OnePath.package-name, VersionLaws.same_name}
 use Rattle.bind_meaning.specs.{Binding.package_text, ByNumbers.interfaces_by_path, ByNumbers.package_texts, ByNumbers.worlds_by_path, Roots.root_path}
 use Rattle.bind_meaning.proofs.Listed.{from-map, given as unpacked, mapped}
 use Rattle.bind_match.specs.declared.matches.Matches.{Matches}
 use Rattle.bind_match.specs.Matching.{interface_in, is_root_world, own_interface_of, own_package_of, own_world_of, package_from}
 use Rattle.bind_clash.specs.Faults.{IsMatched}
 use Rattle.bind_clash.proofs.PathsMatched.{has-root, own-interface-there, world-in-there, world-path-of}
-use Rattle.bind_carry.specs.{First.flag_under, Marked.AreChosen, Shown.AreShownBelow, Which.AreMatchedAll}
-use Rattle.bind_carry.specs.{Listed.given_interface, Numbers.copied_count, Renumbered.is_matched, TooLong.carried_packages, TooLong.carried_worlds}
+use Rattle.bind_carry.specs.{First.flag_under, Marked.AreChosen, Shown.AreShownBelow, Which.AreMatchedAll, Listed.given_interface, Numbers.copied_count, Renumbered.is_matched, TooLong.carried_packages, TooLong.carried_worlds}
 use Rattle.bind_carry.proofs.{CountedCopies.flags_few, CountedCopies.worlds_flagged, NamesGained.new_world_flag as world_flag}
 use Rattle.bind_carry.proofs.Ranges.{is_in_range, shown_below}
 use Rattle.wit_bind.specs.Comes.{is_new_interface, is_new_package, is_new_world, is_one_of}

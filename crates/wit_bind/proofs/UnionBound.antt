@@ -1,19 +1,15 @@
 -- What is merged of two bindings stands for their union.
 use Rattle.std.proofs.Common.{rules as std_rules, ◌≡◌, refl, sym, ap, subst, ◌∙◌, ◌⊎◌, inl, inr, ℕ, ◌<◌, length, Bool, true, false, not, ◌||◌, cond, List, [], ◌∷◌, ◌++◌, map, Option, Some, None, option_and_then, unwrap_or, Contains}
 use mathlib.Core.Bool.{true≢false}
-use Rattle.std.specs.{List.AllByRecursion, List.IsDistinct, List.list_any, Ordering.eq_by_cmp, Option.option_map_or}
-use Rattle.std.specs.{Cmp.Lexicographic.nat_list_cmp_total, FinMap.get, FinMap.same_map, FinMap.nat_cmp-IsAntisymmetric, FinMap.slice_cmp-IsAntisymmetric}
+use Rattle.std.specs.{List.AllByRecursion, List.IsDistinct, List.list_any, Ordering.eq_by_cmp, Option.option_map_or, Cmp.Lexicographic.nat_list_cmp_total, FinMap.get, FinMap.same_map, FinMap.nat_cmp-IsAntisymmetric, FinMap.slice_cmp-IsAntisymmetric}
 use Rattle.std.proofs.lemmas.List.{Folds.list_any-append, Elements.Contains-append_cases, Elements.Contains-append_left, Elements.Contains-append_right}
 use Rattle.std.proofs.lemmas.Option.{slice_get_within, same_Some as same-some}
 use Rattle.wit_model.specs.declared.model.{Package.Package, Resolve.Resolve, StringEncoding.StringEncoding, World.World, WorldItem.WorldItem, WorldKey.WorldKey}
 use Rattle.wit_model.specs.declared.model.WorldId.{WorldId}
-use Rattle.wit_model.specs.{Text.Text, Text.TextMap, Text.text_cmp, Text.text_eq, Meaning.Entry, Meaning.InterfaceMeaning, Meaning.WorldMeaning}
-use Rattle.wit_model.specs.{Lookup.identity_of, Lookup.key_text, Lookup.package_at, Lookup.path_of_world, Lookup.world_at, Valid.IsValid}
-use Rattle.wit_model.specs.{Meant.entries_meaning, Meant.interface_meaning_at, Meant.no_world, Meant.world_meaning, Meant.world_meaning_at, Rules.are_distinct}
+use Rattle.wit_model.specs.{Text.Text, Text.TextMap, Text.text_cmp, Text.text_eq, Meaning.Entry, Meaning.InterfaceMeaning, Meaning.WorldMeaning, Lookup.identity_of, Lookup.key_text, Lookup.package_at, Lookup.path_of_world, Lookup.world_at, Valid.IsValid, Meant.entries_meaning, Meant.interface_meaning_at, Meant.no_world, Meant.world_meaning, Meant.world_meaning_at, Rules.are_distinct}
 use Rattle.wit_model.proofs.Elements.{contains-get}
 use Rattle.bind_match.specs.Matching.{is_root_world}
-use Rattle.bind_meaning.specs.{Binding.Binding, Binding.package_text, Encodings.Encodings, Roots.root_path, Union.joined_world, Union.union, Union.united}
-use Rattle.bind_meaning.specs.{ByNumbers.package_texts, ByNumbers.world_path_at, Clash.Agree, Clash.CanUnite, Clash.itself}
+use Rattle.bind_meaning.specs.{Binding.Binding, Binding.package_text, Encodings.Encodings, Roots.root_path, Union.joined_world, Union.union, Union.united, ByNumbers.package_texts, ByNumbers.world_path_at, Clash.Agree, Clash.CanUnite, Clash.itself}
 use Rattle.bind_meaning.proofs.{Listed.from-map, Listed.same-texts, WorldPaths.path_at}
 use Rattle.bind_meaning.proofs.Maps.{by_tie, first_of_two, get-put, get-united, get-without, itself_ties}
 use Rattle.bind_meaning.proofs.WorldBindings.{exports-distinct, imports-distinct, interface-found, interface-under, world-found, world-path, world-under}
@@ -22,7 +18,7 @@ use Rattle.bind_union.specs.Meanings.{BoundMeans, HaveDistinctTexts, Shows, Show
 use Rattle.bind_union.proofs.{Carrying.same_identity, United.interfaces_are_united, UnitedWorlds.worlds_are_united}
 use Rattle.bind_clash.proofs.PathsMatched.{has-root, root-has, world-path-of}
 use Rattle.wit_bind.specs.declared.bindgen.Bindgen.{Bindgen}
-use Rattle.bind_keys.specs.{Unions.Gains, Unions.or_else}
+use Rattle.bind_keys.specs.Unions.{Gains, or_else}
 use Rattle.wit_bind.specs.{Bindings.binding_of, Bindings.IsBindgen, MergedLaws.IsUnited, MergedLaws.UnitedAreTheUnion}
 use Rattle.base_lemmas.proofs.{Bools.left_of as first_true, Bools.right_of as second_true, Elements.contains-map, Elements.get-contains}
 use Rattle.std.specs.FinSet as set

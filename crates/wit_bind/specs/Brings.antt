@@ -1,8 +1,7 @@
 -- What a merge brings stands here as it stood there: with its documentation, its stability and its external ids, and with functions and types in their order.
 use Rattle.std.specs.Prelude.{◌≡◌, ◌≤◌, ℕ, true, false, is_none, if◌then◌else◌, List, [], length, map, filter_map, Option, Some, None, option_and_then, option_map}
 use Rattle.std.specs.List.{Contains}
-use Rattle.wit_model.specs.declared.model.{Function.Function, Interface.Interface, Package.Package, Resolve.Resolve, WorldItem.WorldItem, WorldKey.WorldKey}
-use Rattle.wit_model.specs.declared.model.{TypeDef.TypeDef, World.World}
+use Rattle.wit_model.specs.declared.model.{Function.Function, Interface.Interface, Package.Package, Resolve.Resolve, WorldItem.WorldItem, WorldKey.WorldKey, TypeDef.TypeDef, World.World}
 use Rattle.wit_model.specs.Lookup.{identity_of, interface_at, key_text, path_of_interface, path_of_world, type_at, world_at}
 use Rattle.wit_model.specs.Parts.{function_types, kind_numbers}
 use Rattle.wit_model.specs.{Text.Text, Text.optional_text, Text.text_of, Types.declaration_of, Types.number_of, Types.number_tree}

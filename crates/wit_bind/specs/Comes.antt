@@ -5,8 +5,7 @@ use Rattle.wit_model.specs.declared.model.{Interface.Interface, Package.Package,
 use Rattle.wit_model.specs.declared.model.World.{World}
 use Rattle.wit_model.specs.Lookup.{identity_of, interface_at, interface_path, key_text, path_of_interface, path_of_world, world_at}
 use Rattle.wit_model.specs.{Rules.item_type, Text.Text, Text.text_eq, Uses.item_interface}
-use Rattle.bind_meaning.specs.{Binding.package_text, Binding.Binding, Roots.root_path}
-use Rattle.bind_meaning.specs.{ByNumbers.interfaces_by_path, ByNumbers.package_texts, ByNumbers.worlds_by_path, Clash.carried_worlds, Clash.entry_under}
+use Rattle.bind_meaning.specs.{Binding.package_text, Binding.Binding, Roots.root_path, ByNumbers.interfaces_by_path, ByNumbers.package_texts, ByNumbers.worlds_by_path, Clash.carried_worlds, Clash.entry_under}
 use Rattle.bind_carry.specs.{MadeOf.Come, MadeOf.IsMadeUp, MadeOf.IsOwnedBy, Marked.is_inline_at}
 use Rattle.wit_bind.specs.declared.bindgen.Bindgen.{Bindgen}
 use Rattle.wit_bind.specs.Bindings.{binding_of}

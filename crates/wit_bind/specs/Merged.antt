@@ -6,8 +6,7 @@ use Rattle.plan_meaning.specs.Built.{IsBare}
 use Rattle.bind_carry.specs.AddedKeys.{key_view}
 use Rattle.bind_meaning.specs.{Clash.CanUnite, Union.union}
 use Rattle.wit_bind.specs.declared.bindgen.Bindgen.{Bindgen}
-use Rattle.wit_bind.specs.{Bindings.IsBindgen, Bindings.binding_of, Brings.BringsItsOwn, Comes.BringsNothing}
-use Rattle.wit_bind.specs.{Extends.Extends, Extends.listed_names, Extends.merged_names, Merges.export_keys, Merges.AddsNothing, Merges.GrowsWithin}
+use Rattle.wit_bind.specs.{Bindings.IsBindgen, Bindings.binding_of, Brings.BringsItsOwn, Comes.BringsNothing, Extends.Extends, Extends.listed_names, Extends.merged_names, Merges.export_keys, Merges.AddsNothing, Merges.GrowsWithin}
 
 -- What the bound world exports is what it exported, followed by what stands under these keys.
 abbrev pub ExportsGrowBy : Bindgen → Bindgen → List WorldKey → Type 0

@@ -2,8 +2,7 @@
 use Rattle.std.specs.Prelude.{◌≡◌, ℕ, Bool, List, Some}
 use Rattle.wit_model.specs.declared.model.{Resolve.Resolve, World.World, WorldKey.WorldKey}
 use Rattle.wit_model.specs.{Lookup.world_at, Valid.HasDistinctKeys}
-use Rattle.bind_carry.specs.{MatchedSame.AreMatchedAt, MatchedSame.NoneOfPath, MergedUnion.NoOwnInterfaceAtPath, MergedUnion.NoOwnWorldAtPath, Union.IsUnionOf}
-use Rattle.bind_carry.specs.{SecondPass.DoNotClash, Which.AreMatchedAll}
+use Rattle.bind_carry.specs.{MatchedSame.AreMatchedAt, MatchedSame.NoneOfPath, MergedUnion.NoOwnInterfaceAtPath, MergedUnion.NoOwnWorldAtPath, Union.IsUnionOf, SecondPass.DoNotClash, Which.AreMatchedAll}
 use Rattle.bind_add.specs.declared.added.Added.{Added}
 use Rattle.bind_clash.specs.Faults.{IsMatched}
 use Rattle.bind_match.specs.Matching.{is_root_world}
@@ -11,8 +10,8 @@ use Rattle.bind_match.specs.declared.matches.Matches.{Matches}
 use Rattle.bind_meaning.specs.{Clash.CanUnite, Union.union}
 use Rattle.bind_union.specs.{Carried.Renumbering, Merged.IsMerged}
 use Rattle.wit_bind.specs.declared.bindgen.Bindgen.{Bindgen}
-use Rattle.bind_keys.specs.{Unions.Gains}
-use Rattle.wit_bind.specs.{Bindings.binding_of, Bindings.IsBindgen}
+use Rattle.bind_keys.specs.Unions.{Gains}
+use Rattle.wit_bind.specs.Bindings.{binding_of, IsBindgen}
 
 -- The other's `Resolve` is merged into the own one, all but its root world; the bound world stays bound, and the encodings are gained. That no map has a key
 -- twice is shown by reading the maps.

@@ -2,8 +2,7 @@
 use Rattle.std.specs.Prelude.{◌≡◌, ℕ, [], Option, Some, String}
 use Rattle.std.specs.{Option.option_map_or, List.Contains}
 use Rattle.std.specs.declared.alloc.Global.{Global}
-use Rattle.wit_model.specs.declared.model.{Resolve.Resolve, World.World}
-use Rattle.wit_model.specs.declared.model.{Interface.Interface, Function.Function, StringEncoding.StringEncoding, WorldItem.WorldItem, WorldKey.WorldKey}
+use Rattle.wit_model.specs.declared.model.{Resolve.Resolve, World.World, Interface.Interface, Function.Function, StringEncoding.StringEncoding, WorldItem.WorldItem, WorldKey.WorldKey}
 use Rattle.wit_model.specs.{Text.Text, Text.text_of, Lookup.interface_at, Lookup.world_at, Uses.item_interface, Valid.IsValid}
 use Rattle.wit_bind.specs.declared.encodings.Side.{Side}
 use Rattle.bind_keys.specs.{Keys.function_key, Keys.unversioned_key, Encodings.Encodings, Encodings.encoding_at, Functions.Items}

@@ -7,9 +7,7 @@ ghost use Rattle.bind_add.specs.Growth.{IsAddable};
 ghost use Rattle.bind_clash.specs.Faults.{HaveNoClash, IsMatched};
 ghost use Rattle.bind_match.specs.Matching.{own_package_of};
 ghost use Rattle.bind_meaning.specs.{Clash.CanUnite, Union.union};
-ghost use Rattle.wit_bind.specs.{Bindings.IsBindgen, Bindings.binding_of, Extends.Extends, Extends.IsKept, Extends.listed_names, Extends.merged_names};
-ghost use Rattle.wit_bind.specs.{Brings.BringsItsOwn, Merges.AddsNothing, Merges.GrowsWithin, Merges.IsGrownBy, Merges.IsMergeRefusal, Merges.export_keys};
-ghost use Rattle.wit_bind.specs.{Merged.ExportsGrowBy, Merged.IsMerge, Roots.IsRoot, Roots.IsRootPackage, Roots.IsRootResolve, Roots.IsRootWorld};
+ghost use Rattle.wit_bind.specs.{Bindings.IsBindgen, Bindings.binding_of, Extends.Extends, Extends.IsKept, Extends.listed_names, Extends.merged_names, Brings.BringsItsOwn, Merges.AddsNothing, Merges.GrowsWithin, Merges.IsGrownBy, Merges.IsMergeRefusal, Merges.export_keys, Merged.ExportsGrowBy, Merged.IsMerge, Roots.IsRoot, Roots.IsRootPackage, Roots.IsRootResolve, Roots.IsRootWorld};
 ghost use Rattle.wit_bind.specs.Comes.{BringsNothing};
 
 use crate::metadata::ModuleMetadata;

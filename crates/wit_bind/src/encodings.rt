@@ -4,9 +4,8 @@ ghost use Rattle.std.specs.Prelude.{◌≡◌, ◌<◌, length, IfErr, IfOk, OnE
 ghost use Rattle.std.specs.FinMap.{empty};
 ghost use Rattle.indexmap.specs.IndexMap.{get_by_text};
 ghost use Rattle.wit_model.specs.{Text.optional_text, Valid.IsValid, Refusals.IsMemory};
-ghost use Rattle.bind_keys.specs.{Keys.function_key};
-ghost use Rattle.wit_bind.specs.{OldKeys.items_of as items_of_lem, OldKeys.items_on, OldKeys.CarriesEach, OldKeys.CarriesOver};
-ghost use Rattle.bind_keys.specs.{Encodings.encoding_under, Unions.Gains};
+ghost use Rattle.bind_keys.specs.{Keys.function_key, Encodings.encoding_under, Unions.Gains};
+ghost use Rattle.wit_bind.specs.OldKeys.{items_of as items_of_lem, items_on, CarriesEach, CarriesOver};
 ghost use Rattle.bind_clash.specs.Faults.{IsLeastFault};
 ghost use Rattle.bind_meaning.specs.Clash.{EncodingFault};
 

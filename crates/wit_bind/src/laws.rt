@@ -1,7 +1,6 @@
 //! Laws about the definitions.
 
-ghost use Rattle.wit_bind.specs.{Apart.GrownExtend, Bindings.BindgensAreBindings, Bindings.RootsAreRoots, KeyLaws.EachHasAKey, OldKeys.OneOldKey};
-ghost use Rattle.wit_bind.specs.{Extends.KeptBindingsAreTheSame, MergedLaws.MatchesHavePaths, MergedLaws.UnitedAgreeByNumbers, MergedLaws.UnitedAreTheUnion};
+ghost use Rattle.wit_bind.specs.{Apart.GrownExtend, Bindings.BindgensAreBindings, Bindings.RootsAreRoots, KeyLaws.EachHasAKey, OldKeys.OneOldKey, Extends.KeptBindingsAreTheSame, MergedLaws.MatchesHavePaths, MergedLaws.UnitedAgreeByNumbers, MergedLaws.UnitedAreTheUnion};
 
 pub use bind_meaning::laws::both_orders;
 use bind_union::laws::{meanings, merged_is_valid};

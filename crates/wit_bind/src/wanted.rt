@@ -1,11 +1,10 @@
 //! The encoding that each function of a world is to have, put under its key.
 
 ghost use Rattle.std.specs.Prelude.{◌≡◌, option_to_list, IfErr, IfOk, OnOk, Some};
-ghost use Rattle.std.specs.{FinMap.empty};
-ghost use Rattle.bind_keys.specs.{Keys.scope_of};
-ghost use Rattle.wit_bind.specs.{Choices.choice_of};
+ghost use Rattle.std.specs.FinMap.{empty};
+ghost use Rattle.bind_keys.{specs.Keys.scope_of, specs.Tables.Keeps, specs.Tables.Stands};
 ghost use Rattle.bind_keys.specs.KeyLists.{entries_of_item, entries_of_items, entry_of, member_entries, own_entries, Puts};
-ghost use Rattle.bind_keys.specs.Tables.{Keeps, Stands};
+ghost use Rattle.wit_bind.specs.Choices.{choice_of};
 ghost use Rattle.wit_model.specs.Refusals.{IsMemory};
 
 use crate::encodings::EncodingMap;

@@ -1,7 +1,6 @@
 -- The beginning of a table is so many different pairs of the walk.
 use Rattle.std.proofs.Common.{rules as std_rules, arith, ◌≡◌, refl, sym, ap, subst, ◌∙◌, ℕ, zero, suc, ◌≤◌, Bool, true, false, ◌&&◌, List, [], ◌∷◌, take, drop, length, nat_eq, Result, OnOk, is_ok}
-use Rattle.std.proofs.lemmas.{List.length-take-le, List.take-append-drop, List.take_all, Bool.eq-eqb}
-use Rattle.std.proofs.lemmas.{List.Elements.Contains-append_left, Map.Keys.IsDistinct-head, Map.Keys.IsDistinct-tail}
+use Rattle.std.proofs.lemmas.{List.length-take-le, List.take-append-drop, List.take_all, Bool.eq-eqb, List.Elements.Contains-append_left, Map.Keys.IsDistinct-head, Map.Keys.IsDistinct-tail}
 use Rattle.std.specs.List.{Contains, IsDistinct, AllByRecursion}
 use Rattle.wit_model.specs.declared.model.{Resolve.Resolve, World.World}
 use Rattle.compat_meaning.specs.Walk.{Pair, AreDifferent, IsCounted, pairs_of_worlds}

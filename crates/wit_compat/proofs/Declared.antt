@@ -4,8 +4,7 @@ use Rattle.std.proofs.{Math.ListN.length-map, lemmas.Option.slice_get_within as 
 use Rattle.std.specs.declared.alloc.{Global.Global, AllocError.AllocError}
 use Rattle.std.specs.List.{Contains}
 use Rattle.wit_model.specs.declared.model.{Resolve.Resolve, TypeDef.TypeDef, TypeId.TypeId, TypeDefKind.TypeDefKind, «Type».«Type» as ValueType}
-use Rattle.wit_model.specs.{Lookup.type_at, Text.optional_text, Valid.IsValid, Valid.named_kinds}
-use Rattle.wit_model.specs.{Meant.type_meaning_at, Rules.is_named_number, Rules.passes, Rules.is_resource_itself}
+use Rattle.wit_model.specs.{Lookup.type_at, Text.optional_text, Valid.IsValid, Valid.named_kinds, Meant.type_meaning_at, Rules.is_named_number, Rules.passes, Rules.is_resource_itself}
 use Rattle.wit_model.specs.Tree.{Tree, Form, Declaration, type_, resource, primitive, named, node, children, child_list}
 use Rattle.wit_model.specs.Types.{number_of, type_tree, tree_of, trees_of, no_tree, declared_by, tree_of_declaration}
 use Rattle.wit_model.proofs.{Entries.each_from_at, Entries.lists_pass, TreeTable.kept_numbers, TreeLemmas.child_list_of_children as children_back}

@@ -3,8 +3,7 @@ use Rattle.std.proofs.Common.{rules as std_rules, ◌≡◌, refl, sym, ap, subs
 use Rattle.std.specs.{List.Contains, Option.option_map_or}
 use Rattle.wit_model.specs.declared.{model.Resolve.Resolve, error.Error.Error}
 use Rattle.compat_meaning.specs.declared.part.Entry.{Entry}
-use Rattle.compat_meaning.specs.{Compatible.IsFaultOf, Compatible.IsIncluded, Flat.Name, Flat.Thing, Flat.Shown, Flat.all_shown, Flat.find_named, Flat.shown}
-use Rattle.compat_meaning.specs.{Parts.named_thing, Parts.EntriesInRange, Parts.FoundInRange, Parts.ThingInRange, Walk.pairs_between, Walk.pairs_shared}
+use Rattle.compat_meaning.specs.{Compatible.IsFaultOf, Compatible.IsIncluded, Flat.Name, Flat.Thing, Flat.Shown, Flat.all_shown, Flat.find_named, Flat.shown, Parts.named_thing, Parts.EntriesInRange, Parts.FoundInRange, Parts.ThingInRange, Walk.pairs_between, Walk.pairs_shared}
 use Rattle.wit_compat.proofs.{Including.found_shown, Transitive.found_stands}
 use Rattle.base_lemmas.proofs.Elements.{contains-map as contains_mapped}
 

@@ -3,8 +3,7 @@ use Rattle.std.proofs.Common.{rules as std_rules, ◌≡◌, ◌↔◌, sym, ap,
 use Rattle.std.proofs.lemmas.Option.{same_Some as same-some}
 use Rattle.std.specs.{Borrow.Bor, List.Contains, List.IsAmong, Option.option_copied}
 use Rattle.wit_model.specs.declared.model.{Resolve.Resolve, Interface.Interface, TypeId.TypeId}
-use Rattle.wit_model.specs.{Lookup.interface_at, Meaning.InterfaceSense, Meaning.TypeMeaning, Meaning.interface_sense}
-use Rattle.wit_model.specs.{Meant.interface_meaning, Meant.interface_meaning_at, Meant.type_meaning_at, Text.Text}
+use Rattle.wit_model.specs.{Lookup.interface_at, Meaning.InterfaceSense, Meaning.TypeMeaning, Meaning.interface_sense, Meant.interface_meaning, Meant.interface_meaning_at, Meant.type_meaning_at, Text.Text}
 use Rattle.compat_meaning.specs.TwoSides.{functions_sense, types_sense}
 use Rattle.compat_meaning.proofs.Sided.{never}
 use Rattle.base_lemmas.proofs.Options.{if_ok}

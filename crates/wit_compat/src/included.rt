@@ -4,10 +4,8 @@ ghost use Rattle.std.specs.Prelude.{◌≡◌, ◌++◌, ◌≤◌, ◌∷◌, [
 ghost use Rattle.std.specs.List.{Contains};
 ghost use Rattle.wit_model.specs.Text.{text_of};
 ghost use Rattle.compat_meaning.specs.Compatible.{differs as differs_lem, missing as missing_lem, spelled_name as spelled_name_lem, IsEntryFault, IsFaultOf, IsIncluded, IsMemoryOr};
-ghost use Rattle.compat_meaning.specs.{Flat.all_shown, Flat.find_named, Flat.shown, Walk.heads_of, Walk.pairs_between, Walk.pairs_of_entry, Walk.pairs_shared};
-ghost use Rattle.compat_meaning.specs.{Table.AreAmong, Table.AreReached, Table.IsLayered, Table.IsSettled};
-ghost use Rattle.wit_compat.specs.{Index.indexed, Index.AllToldFrom, Index.IsToldFrom};
-ghost use Rattle.compat_meaning.specs.{Outline.AreNames, Parts.named_thing, Parts.thing_of, Parts.EntriesInRange, Parts.FoundInRange, Parts.ThingInRange};
+ghost use Rattle.compat_meaning.specs.{Flat.all_shown, Flat.find_named, Flat.shown, Walk.heads_of, Walk.pairs_between, Walk.pairs_of_entry, Walk.pairs_shared, Table.AreAmong, Table.AreReached, Table.IsLayered, Table.IsSettled, Outline.AreNames, Parts.named_thing, Parts.thing_of, Parts.EntriesInRange, Parts.FoundInRange, Parts.ThingInRange};
+ghost use Rattle.wit_compat.specs.Index.{indexed, AllToldFrom, IsToldFrom};
 
 use crate::index::{Index, find};
 use crate::part::same_parts;

@@ -3,8 +3,7 @@
 ghost use Rattle.std.specs.Prelude.{◌≡◌, ◌<◌, ◌↔◌, length, option_map, Some, IfOk, IsTrue};
 ghost use Rattle.std.specs.{HashMap.get_by_text, List.Contains};
 ghost use Rattle.indexmap.specs.IndexMap.{values};
-ghost use Rattle.wit_model.specs.{Meaning.interface_sense, Meant.function_meaning, Meant.interface_meaning, Meant.interface_meaning_at, Meant.type_meaning_at};
-ghost use Rattle.wit_model.specs.{Parts.function_types, Text.text_of};
+ghost use Rattle.wit_model.specs.{Meaning.interface_sense, Meant.function_meaning, Meant.interface_meaning, Meant.interface_meaning_at, Meant.type_meaning_at, Parts.function_types, Text.text_of};
 ghost use Rattle.compat_meaning.specs.TwoSides.{functions_sense, types_sense, AllSame, HasTypesInRange, IsSide};
 ghost use Rattle.compat_meaning.specs.Table.{AllInRange};
 ghost use Rattle.wit_model.specs.declared.model.{TypeId.TypeId as TypeNumber, Function.Function as FunctionModel};

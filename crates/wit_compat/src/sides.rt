@@ -2,9 +2,8 @@
 
 ghost use Rattle.std.specs.Prelude.{◌≡◌, ◌++◌, ◌≤◌, true, length, map, IfOk, OnOk, IfErr};
 ghost use Rattle.wit_model.specs.{Rules.entries_in_range, Valid.IsValid};
-ghost use Rattle.compat_meaning.specs.{Compatible.IsFaultOf, Compatible.IsIncluded, Flat.flat, Flat.things_of, Table.AreAmong, Table.AreReached, Table.IsSettled};
-ghost use Rattle.compat_meaning.specs.{Outline.AreNames, Parts.named_thing, Walk.heads_of, Walk.pairs_shared};
-ghost use Rattle.wit_compat.specs.{Index.AllToldFrom, Index.Indexes};
+ghost use Rattle.compat_meaning.specs.{Compatible.IsFaultOf, Compatible.IsIncluded, Flat.flat, Flat.things_of, Table.AreAmong, Table.AreReached, Table.IsSettled, Outline.AreNames, Parts.named_thing, Walk.heads_of, Walk.pairs_shared};
+ghost use Rattle.wit_compat.specs.Index.{AllToldFrom, Indexes};
 
 use crate::included::included;
 use crate::index::{Index, index};

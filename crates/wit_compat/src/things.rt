@@ -3,8 +3,7 @@
 ghost use Rattle.std.specs.Prelude.{◌≡◌, [], ◌∷◌, ◌++◌, true, length, map, IfOk, OnOk};
 ghost use Rattle.std.specs.Option.{option_copied, option_map_or};
 ghost use Rattle.wit_model.specs.{Lookup.interface_at as interface_at_lem, Rules.entries_in_range};
-ghost use Rattle.compat_meaning.specs.{Flat.function_member, Flat.item_things, Flat.members, Flat.things_of, Flat.type_member, Outline.AreNames};
-ghost use Rattle.compat_meaning.specs.{Numbered.AreNumbered, Numbered.KeepsNumbers, Parts.named_thing, Parts.numbered_thing, Parts.thing_of, Parts.with_number};
+ghost use Rattle.compat_meaning.specs.{Flat.function_member, Flat.item_things, Flat.members, Flat.things_of, Flat.type_member, Outline.AreNames, Numbered.AreNumbered, Numbered.KeepsNumbers, Parts.named_thing, Parts.numbered_thing, Parts.thing_of, Parts.with_number};
 
 use compat_meaning::keys::{Key, Keys, key_of};
 use compat_meaning::names::{Names, key_text};

@@ -1,10 +1,7 @@
 use Rattle.std.proofs.Common.{rules, arith, inl, inr, Some, ◌≡◌, ◌∙◌, ◌+◌, ◌≤◌, [], ap, sym, subst, ℕ, List, length}
-use Rattle.bind_carry.specs.{Bound.IsBoundOver, First.first_fates, Over.IsPlacedOver, Whole.IsWorldCarried}
-use Rattle.bind_carry.specs.{BoundGains.AreKeysUnder, Packaged.IsPackageCarried, TooLong.copies_of, TooLong.AreTooManyGained, TooLong.IsTooLong}
-use Rattle.wit_model.specs.Lookup.{world_at}
-use Rattle.wit_model.specs.declared.{error.Error.TheVariants.Size, model.World.World}
-use Rattle.bind_carry.proofs.{Counting.carried_few, CopiesPlaced.numbers_by_long, Planning.gained_by_count, Moving.numbers_first, Moving.places_first}
-use Rattle.bind_carry.proofs.{Ranges.is_in_range, Ranges.shown_below, Ready.carried_ready, Ready.interface_count, Ready.owners_below, Ready.world_keys_below}
+use Rattle.bind_carry.specs.{Bound.IsBoundOver, First.first_fates, Over.IsPlacedOver, Whole.IsWorldCarried, BoundGains.AreKeysUnder, Packaged.IsPackageCarried, TooLong.copies_of, TooLong.AreTooManyGained, TooLong.IsTooLong}
+use Rattle.wit_model.specs.{Lookup.world_at, declared.error.Error.TheVariants.Size, declared.model.World.World}
+use Rattle.bind_carry.proofs.{Counting.carried_few, CopiesPlaced.numbers_by_long, Planning.gained_by_count, Moving.numbers_first, Moving.places_first, Ranges.is_in_range, Ranges.shown_below, Ready.carried_ready, Ready.interface_count, Ready.owners_below, Ready.world_keys_below}
 use Rattle.base_lemmas.proofs.Options.{passed as err_so}
 use Rattle.bind_unite.proofs.union.planned.Goals as goal
 

@@ -1,8 +1,7 @@
 use Rattle.std.proofs.Common.{◌≡◌, ◌≤◌, ◌+◌, ◌∙◌, refl, sym, ap, subst, ℕ, List, length}
 use Rattle.std.proofs.lemmas.List.{with_items_is}
 use Rattle.wit_model.specs.declared.{error.Error.TheVariants.Size, model.Interface.Interface, model.TypeDef.TypeDef}
-use Rattle.bind_carry.specs.{Fates.copied_types, Fates.IsCopiedType, Moved.AreMoved, TooLong.copies_of, TooLong.TypeFates, Whole.kept, Whole.IsInterfaceCarried}
-use Rattle.bind_carry.specs.{Numbers.copied_count, OfBound.IsTooLongWith}
+use Rattle.bind_carry.specs.{Fates.copied_types, Fates.IsCopiedType, Moved.AreMoved, TooLong.copies_of, TooLong.TypeFates, Whole.kept, Whole.IsInterfaceCarried, Numbers.copied_count, OfBound.IsTooLongWith}
 use Rattle.bind_carry.proofs.{Moving.moved_from, Ranges.is_in_range}
 use Rattle.bind_carry.proofs.Planning.{as_long, fates_there, interfaces_below, places_there, type_places_there, types_as_long, types_below, whole_union}
 use Rattle.base_lemmas.proofs.{Lists.within_there, Options.passed as err_so}

@@ -2,10 +2,9 @@ use Rattle.comp_bytes.specs.RawOf.{raw_name}
 use Rattle.std.proofs.Common.{◌≡◌, ◌∙◌, refl, sym, subst, false, Some, inr, arith, rules}
 use Rattle.encode_types.specs.declared.maps.TypeEncodingMaps.{TypeEncodingMaps}
 use Rattle.encode_types.specs.{Maps.LearnsNumber, Scope.Scope, Counts.Definitions, Counts.ExportsOne, Counts.IsTarget, Kinds.has_definition, Leaves.Leaves}
-use Rattle.encode_types.proofs.{Owning.another-name}
-use Rattle.encode_kinds.proofs.{define.define_named.Given.Over, define.define_named.Goals.In_ok-index, define.define_named.Goals.In_ok-slot}
-use Rattle.encode_types.proofs.{Agree.on_ok, Agree.learnt-one, Defining.counts-named, Defining.leaves-kept, Defining.leaves-beside, Defining.leaves-trans}
+use Rattle.encode_types.proofs.{Owning.another-name, Agree.on_ok, Agree.learnt-one, Defining.counts-named, Defining.leaves-kept, Defining.leaves-beside, Defining.leaves-trans}
 use Rattle.encode_types.proofs.Writing.{written-more, written-on}
+use Rattle.encode_kinds.proofs.{define.define_named.Given.Over, define.define_named.Goals.In_ok-index, define.define_named.Goals.In_ok-slot}
 use Rattle.encode_kinds.proofs.define.define_named.Goals as goal
 
 kept : (g : Over) (c : In_ok-index g) → Leaves c.args.resolve.now (g.E.ValtypeEncoder.view c.args.enc.now) (g.E.ValtypeEncoder.view c.define_kind.new.enc)

@@ -5,12 +5,9 @@ use Rattle.wit_model.specs.Lookup.{type_at}
 use Rattle.wit_model.specs.declared.model.InterfaceId.{InterfaceId}
 use Rattle.encode_types.specs.{Plan.foreign_owner, Maps.IsKnown, Room.unnamed_kind, Room.its_import}
 use Rattle.encode_types.proofs.Learning.{learns-none, learns-call-foreign}
-use Rattle.encode_types.proofs.{Defining.counts-none, Defining.leaves-none, Agree.not-known, Writing.writes-nothing, Writing.writes-number, Writing.foreign-extent, Writing.on-three}
+use Rattle.encode_types.proofs.{Defining.counts-none, Defining.leaves-none, Agree.not-known, Writing.writes-nothing, Writing.writes-number, Writing.foreign-extent, Writing.on-three, Encoding.learns-nothing, Encoding.tabled, Encoding.foreign-undefined, Encoding.foreign-unshown, Aliasing.met-none, Aliasing.met-one, Aliasing.imports-none, Aliasing.imports-one}
 use Rattle.encode_types.proofs.Rooms.{holds-none, holds-number, lacks-number, counts-one, foreign-unkind, none-new, none-has}
-use Rattle.encode_types.proofs.{Encoding.learns-nothing, Encoding.tabled, Encoding.foreign-undefined, Encoding.foreign-unshown}
-use Rattle.encode_kinds.proofs.{define.define_number.Given.Over}
-use Rattle.encode_types.proofs.{Aliasing.met-none, Aliasing.met-one, Aliasing.imports-none, Aliasing.imports-one}
-use Rattle.encode_kinds.proofs.{define.define_number.Goals.After-foreign}
+use Rattle.encode_kinds.proofs.{define.define_number.Given.Over, define.define_number.Goals.After-foreign}
 use Rattle.wit_model.proofs.Elements.{some-from}
 use Rattle.base_lemmas.proofs.Options.{on-both}
 use Rattle.encode_kinds.proofs.define.define_number.Goals as goal

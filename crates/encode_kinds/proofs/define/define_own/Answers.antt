@@ -1,14 +1,11 @@
 use Rattle.std.proofs.Common.{refl, ◌≡◌, ◌∙◌, ap, sym, subst, inl, inr, Some, None, arith}
 use Rattle.comp_bytes.specs.RawOf.{raw_name}
 use Rattle.wit_model.specs.{Text.Text, Text.text_of, Tree.named, Types.number_tree, Meant.type_meaning}
-use Rattle.encode_types.specs.{Kinds.has_definition, Scope.IsDeclared, Scope.exported_name, Counts.is_defined_by_name, Counts.own_name}
-use Rattle.encode_types.specs.{Room.export_name, Room.unnamed_kind, Room.its_definition, Room.its_name, Extents.name_extent, Extents.own_name_extent}
+use Rattle.encode_types.specs.{Kinds.has_definition, Scope.IsDeclared, Scope.exported_name, Counts.is_defined_by_name, Counts.own_name, Room.export_name, Room.unnamed_kind, Room.its_definition, Room.its_name, Extents.name_extent, Extents.own_name_extent}
 use Rattle.encode_types.proofs.Rooms.{on-pair, lacks-number, counts-one, counts-named, named-unkind, none-new, none-has, own-kind, new-kind, holds-unnamed, holds-number}
 use Rattle.encode_types.proofs.Learning.{learns-call-unnamed, learns-call-named}
-use Rattle.encode_types.proofs.{Encoding.named-defined, Encoding.named-shown, Owning.exported-as, Owning.named-tree, Owning.declared-here, Owning.resource-here}
-use Rattle.encode_types.proofs.{Agree.on_ok, Writing.written-most, Writing.own-extent, Writing.name-extent, Writing.on-three}
-use Rattle.encode_kinds.proofs.{define.define_own.Given.Over}
-use Rattle.encode_kinds.proofs.define.define_own.Goals.{In-Some, After-name_of-name}
+use Rattle.encode_types.proofs.{Encoding.named-defined, Encoding.named-shown, Owning.exported-as, Owning.named-tree, Owning.declared-here, Owning.resource-here, Agree.on_ok, Writing.written-most, Writing.own-extent, Writing.name-extent, Writing.on-three}
+use Rattle.encode_kinds.{proofs.define.define_own.Given.Over, proofs.define.define_own.Goals.In-Some, proofs.define.define_own.Goals.After-name_of-name}
 use Rattle.base_lemmas.proofs.Options.{on-both}
 use Rattle.encode_kinds.proofs.define.define_own.Goals as goal
 

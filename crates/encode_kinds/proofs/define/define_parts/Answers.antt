@@ -2,13 +2,10 @@ use Rattle.std.proofs.Common.{refl, ◌≡◌, ◌∙◌, sym, ap, subst, arith,
 use Rattle.std.proofs.lemmas.List.Elements.{Contains-get_or}
 use Rattle.encode_types.specs.{Scope.Scope, Fits.Fits, Plan.IsOrderOf, Plan.foreign_owner}
 use Rattle.encode_types.proofs.Learning.{learns-none, learns-then}
-use Rattle.encode_types.proofs.{Defining.leaves-trans, Defining.leaves-none, Defining.counts-trans, Defining.counts-none, Lists.none-in}
+use Rattle.encode_types.proofs.{Defining.leaves-trans, Defining.leaves-none, Defining.counts-trans, Defining.counts-none, Lists.none-in, Rooms.holds-none, Rooms.holds-then, Rooms.room-after, Rooms.learns-reached, Writing.writes-nothing, Writing.writes-then}
 use Rattle.encode_types.proofs.Encoding.{ready-now, known-more, ready-at-last, reaches-in_range, meets-reaches, learns-more, learns-at-last, learns-nothing}
-use Rattle.encode_types.proofs.{Rooms.holds-none, Rooms.holds-then, Rooms.room-after, Rooms.learns-reached}
-use Rattle.encode_kinds.proofs.{define.define_parts.Given.Over}
-use Rattle.encode_types.proofs.{Writing.writes-nothing, Writing.writes-then}
-use Rattle.encode_kinds.proofs.{define.define_parts.Goals.After-deref-n-items}
 use Rattle.encode_types.proofs.Aliasing.{met-none, met-number, makes-number, imports-none, imports-number}
+use Rattle.encode_kinds.proofs.{define.define_parts.Given.Over, define.define_parts.Goals.After-deref-n-items}
 use Rattle.encode_kinds.proofs.define.define_parts.Goals as goal
 
 ordered : (g : Over) (c : After-deref-n-items g)

@@ -1,5 +1,4 @@
-use Rattle.encode_types.proofs.{Learning.met-nothing, Learning.ready-none, Learning.ready-single, Rooms.holds-none, Aliasing.met-none, Aliasing.imports-none}
-use Rattle.encode_types.proofs.{Defining.counts-none, Writing.writes-nothing}
+use Rattle.encode_types.proofs.{Learning.met-nothing, Learning.ready-none, Learning.ready-single, Rooms.holds-none, Aliasing.met-none, Aliasing.imports-none, Defining.counts-none, Writing.writes-nothing}
 use Rattle.std.proofs.Common.{refl}
 use Rattle.encode_kinds.proofs.encode.encode_optional_valtype.Goals as goal
 

@@ -3,12 +3,10 @@ use Rattle.std.specs.Result.{IsErr}
 use Rattle.wit_model.specs.declared.{error.Error.Error, error.Error.TheVariants.Size, model.Resolve.Resolve, model.TypeDefKind.TypeDefKind}
 use Rattle.comp_bytes.specs.Refusal.{IsMemoryOrSize}
 use Rattle.comp_bytes.specs.declared.forms.ComponentValType.{ComponentValType}
-use Rattle.encode_types.specs.{Kinds.parts_of, Kinds.kind_of, Kinds.kind_tree, View.View, Aliases.ImportsMet, Aliases.MakesMet}
-use Rattle.encode_types.specs.{Scope.Scope, Room.value_type, Leaves.Leaves, Leaves.LearnsFrom, Leaves.KindLacksRoom, Leaves.DefinesKind}
-use Rattle.encode_types.proofs.{Aliasing.met-none, Aliasing.makes-same, Aliasing.imports-none, Aliasing.imports-same, Lists.none-in}
+use Rattle.encode_types.specs.{Kinds.parts_of, Kinds.kind_of, Kinds.kind_tree, View.View, Aliases.ImportsMet, Aliases.MakesMet, Scope.Scope, Room.value_type, Leaves.Leaves, Leaves.LearnsFrom, Leaves.KindLacksRoom, Leaves.DefinesKind}
+use Rattle.encode_types.proofs.{Aliasing.met-none, Aliasing.makes-same, Aliasing.imports-none, Aliasing.imports-same, Lists.none-in, Rooms.room-more, Rooms.room-after, Rooms.only-reached, Rooms.lacks-request, Rooms.holds-same}
 use Rattle.encode_types.proofs.Defining.{leaves-none, leaves-beside}
-use Rattle.encode_types.proofs.{Rooms.room-more, Rooms.room-after, Rooms.only-reached, Rooms.lacks-request, Rooms.holds-same}
-use Rattle.encode_kinds.proofs.{encode.encode_shape.Given.Over}
+use Rattle.encode_kinds.proofs.encode.encode_shape.Given.{Over}
 use Rattle.encode_kinds.proofs.encode.encode_shape.Goals.{After-define_parts, In_ok-define_parts, After-branch-index}
 use Rattle.encode_kinds.proofs.encode.encode_shape.Goals as goal
 

@@ -1,13 +1,8 @@
 use Rattle.std.proofs.Common.{◌≡◌, refl, ◌∙◌, ◌++◌, ◌∷◌, ℕ, List, sym, subst, ap, [], rules, arith, length, ◌≤◌, ◌+◌}
 use Rattle.wit_model.specs.{Parts.function_types, Meaning.Signature, Meant.signature_of}
-use Rattle.encode_types.specs.{Scope.Scope, Maps.LacksList, Maps.LearnsKeyList, Maps.MapsGrow, Codes.names_of, Codes.lists_of, Codes.ListKey, Codes.IsKeyList}
-use Rattle.encode_types.specs.{Counts.Definitions, Room.function_type, Slots.function, View.WritesLearnt, Extents.signature_extent}
-use Rattle.encode_types.proofs.{Rooms.room-more, Rooms.room-after, Rooms.only-reached, Rooms.lacks-request, Rooms.holds-key}
-use Rattle.encode_kinds.proofs.{func_type.define_key.Given.Over}
-use Rattle.encode_types.proofs.{Defining.leaves-kept, Defining.leaves-trans, Defining.lists-longer, Lists.none-in, Writing.writes-beside, Writing.writes-most}
-use Rattle.encode_types.proofs.{Learning.met-key, Functions.key-signature, Functions.key-new, Functions.counts-key, Functions.lacks-same, Functions.list-same}
-use Rattle.encode_types.proofs.{Aliasing.makes-same, Aliasing.imports-same}
-use Rattle.encode_kinds.proofs.{func_type.define_key.Goals.In_ok-index}
+use Rattle.encode_types.specs.{Scope.Scope, Maps.LacksList, Maps.LearnsKeyList, Maps.MapsGrow, Codes.names_of, Codes.lists_of, Codes.ListKey, Codes.IsKeyList, Counts.Definitions, Room.function_type, Slots.function, View.WritesLearnt, Extents.signature_extent}
+use Rattle.encode_types.proofs.{Rooms.room-more, Rooms.room-after, Rooms.only-reached, Rooms.lacks-request, Rooms.holds-key, Defining.leaves-kept, Defining.leaves-trans, Defining.lists-longer, Lists.none-in, Writing.writes-beside, Writing.writes-most, Learning.met-key, Functions.key-signature, Functions.key-new, Functions.counts-key, Functions.lacks-same, Functions.list-same, Aliasing.makes-same, Aliasing.imports-same}
+use Rattle.encode_kinds.proofs.{func_type.define_key.Given.Over, func_type.define_key.Goals.In_ok-index}
 use Rattle.encode_types.specs.declared.maps.TypeEncodingMaps.{TypeEncodingMaps}
 use Rattle.encode_kinds.proofs.func_type.define_key.Goals as goal
 

@@ -1,15 +1,9 @@
 use Rattle.std.proofs.Common.{◌≡◌, ◌∙◌, ◌+◌, ◌++◌, ◌∷◌, inl, inr, refl, sym, subst, ap, [], length, arith}
 use Rattle.std.proofs.lemmas.Result.{IfOk-weaker as ok-map}
 use Rattle.wit_model.specs.{Meant.signature_of, Parts.function_types}
-use Rattle.encode_types.specs.{Counts.Definitions, Extents.signature_extent, Fits.CanEncode, Formed.IsFormedSignature, Maps.LacksKey, View.WritesLearnt}
-use Rattle.encode_types.specs.{Scope.Scope, Room.HoldsFor}
-use Rattle.encode_types.proofs.{Agree.on_ok, Aliasing.met-none, Aliasing.makes-then, Aliasing.imports-none, Aliasing.imports-then, Defining.leaves-trans}
-use Rattle.encode_types.proofs.{Encoding.learns-nothing, Encoding.learns-same, Rooms.holds-shared, Rooms.holds-then, Rooms.room-after}
-use Rattle.encode_types.proofs.{Functions.key-stands, Functions.counts-found, Functions.counts-behind, Functions.knows-more, Tables.at-none, Tables.key-lacking}
-use Rattle.encode_types.proofs.{Learning.met-both, Learning.met-names}
-use Rattle.encode_kinds.proofs.{func_type.encode_func_type.Goals.In_ok-list, func_type.encode_func_type.Goals.In_default}
-use Rattle.encode_types.proofs.{Writing.writes-nothing, Writing.writes-beside, Writing.writes-most, Writing.writes-then}
-use Rattle.encode_kinds.proofs.{func_type.encode_func_type.Given.Over}
+use Rattle.encode_types.specs.{Counts.Definitions, Extents.signature_extent, Fits.CanEncode, Formed.IsFormedSignature, Maps.LacksKey, View.WritesLearnt, Scope.Scope, Room.HoldsFor}
+use Rattle.encode_types.proofs.{Agree.on_ok, Aliasing.met-none, Aliasing.makes-then, Aliasing.imports-none, Aliasing.imports-then, Defining.leaves-trans, Encoding.learns-nothing, Encoding.learns-same, Rooms.holds-shared, Rooms.holds-then, Rooms.room-after, Functions.key-stands, Functions.counts-found, Functions.counts-behind, Functions.knows-more, Tables.at-none, Tables.key-lacking, Learning.met-both, Learning.met-names, Writing.writes-nothing, Writing.writes-beside, Writing.writes-most, Writing.writes-then}
+use Rattle.encode_kinds.proofs.{func_type.encode_func_type.Goals.In_ok-list, func_type.encode_func_type.Goals.In_default, func_type.encode_func_type.Given.Over}
 use Rattle.encode_kinds.proofs.func_type.encode_func_type.Goals as goal
 
 -- ---- names may have been added

@@ -1,8 +1,7 @@
 use Rattle.std.proofs.Common.{◌≡◌, ap, refl, map, length, option_to_list, rules, arith}
 use Rattle.encode_types.specs.{Leaves.LearnsFrom, Slots.NamedStands, Scope.Scope}
 use Rattle.encode_types.proofs.Rooms.{room-more, room-after, holds-then, only-more, only-reached, reached-left, reached-right}
-use Rattle.encode_types.proofs.{Learning.met-both, Learning.ready-both, Aliasing.met-more, Aliasing.makes-both, Aliasing.imports-more, Aliasing.imports-both}
-use Rattle.encode_types.proofs.{Functions.encode-left, Functions.encode-right, Defining.leaves-trans, Defining.counts-trans, Defining.stands-more}
+use Rattle.encode_types.proofs.{Learning.met-both, Learning.ready-both, Aliasing.met-more, Aliasing.makes-both, Aliasing.imports-more, Aliasing.imports-both, Functions.encode-left, Functions.encode-right, Defining.leaves-trans, Defining.counts-trans, Defining.stands-more}
 use Rattle.encode_types.proofs.Writing.{writes-then}
 use Rattle.base_lemmas.proofs.Elements.{zip-kept}
 use Rattle.encode_kinds.proofs.func_type.function_of.Goals as goal

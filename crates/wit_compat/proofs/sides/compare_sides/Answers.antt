@@ -1,11 +1,10 @@
 use Rattle.std.proofs.Common.{◌≡◌, ap, subst, ◌∙◌, ◌++◌, List, map}
 use Rattle.std.proofs.lemmas.Result.{on_ok_weaker as ok_then, IfErr-weaker}
-use Rattle.compat_meaning.specs.{Compatible.IsFaultOf, Compatible.IsIncluded, Flat.all_shown, Flat.things_of, Parts.named_thing, Table.AreAmong, Table.AreReached}
-use Rattle.compat_meaning.specs.{Walk.Pair, Walk.pairs_shared}
-use Rattle.wit_compat.specs.{Index.indexed}
+use Rattle.compat_meaning.specs.{Compatible.IsFaultOf, Compatible.IsIncluded, Flat.all_shown, Flat.things_of, Parts.named_thing, Table.AreAmong, Table.AreReached, Walk.Pair, Walk.pairs_shared}
+use Rattle.wit_compat.specs.Index.{indexed}
 use Rattle.wit_compat.proofs.Matching.{entries_in_range_by, fault_alike, found_in_range, included_alike, pairs_alike}
-use Rattle.compat_meaning.proofs.{Validity.layered, Validity.things_in_range}
-use Rattle.wit_compat.proofs.{Signatures.reached_none}
+use Rattle.wit_compat.proofs.Signatures.{reached_none}
+use Rattle.compat_meaning.proofs.Validity.{layered, things_in_range}
 use Rattle.wit_compat.proofs.sides.compare_sides.Goals as goal
 
 pub included-requires-clause-layered : goal.included-requires-clause-layered
