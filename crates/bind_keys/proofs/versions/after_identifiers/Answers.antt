@@ -7,7 +7,8 @@ use Rattle.bind_keys.proofs.versions.after_identifiers.Goals as goal
 
 pub returns-in_err-rest : goal.returns-in_err-rest
 returns-in_err-rest c =
-    then_none (marked_by (45 ∷ []) (pre_text c.args.version.now.pre)) (marked_by (43 ∷ []) (build_text c.args.version.now.build)) c.args.text.now (option_copied c.from_residual.result) (search rules) (search rules)
+    then_none (marked_by (45 ∷ []) (pre_text c.args.version.now.pre)) (marked_by (43 ∷ []) (build_text c.args.version.now.build))
+    c.args.text.now (option_copied c.from_residual.result) (search rules) (search rules)
 
 pub returns : goal.returns
 returns c = then_some (marked_by (45 ∷ []) (pre_text c.args.version.now.pre)) (marked_by (43 ∷ []) (build_text c.args.version.now.build)) c.args.text.now c.in_ok-rest.rest.now

@@ -5,7 +5,8 @@ use Rattle.bind_keys.proofs.versions.after_numbers.Goals as goal
 
 pub returns-in_err-rest : goal.returns-in_err-rest
 returns-in_err-rest c =
-    then_none ((decimal c.args.version.now.major ++ (46 ∷ [])) ++ (decimal c.args.version.now.minor ++ (46 ∷ []))) (decimal c.args.version.now.patch) c.args.text.now (option_copied c.from_residual.result) (search rules) (search rules)
+    then_none ((decimal c.args.version.now.major ++ (46 ∷ [])) ++ (decimal c.args.version.now.minor ++ (46 ∷ []))) (decimal c.args.version.now.patch)
+    c.args.text.now (option_copied c.from_residual.result) (search rules) (search rules)
 
 pub returns : goal.returns
 returns c = then_some ((decimal c.args.version.now.major ++ (46 ∷ [])) ++ (decimal c.args.version.now.minor ++ (46 ∷ []))) (decimal c.args.version.now.patch) c.args.text.now c.in_ok-rest.rest.now
