@@ -2,14 +2,14 @@
 
 ghost use Rattle.wit_model.specs.Valid.{IsValid};
 
-use crate::answer::{Answer, Reply};
-use crate::asked::{Asked, Marked, OnAny, OnBytes, OnValid, Setting, Validity, asked_by};
-use crate::bindings::{binding, merge};
-use crate::calls;
-use crate::encoder::value_type;
-use crate::encodings::{EncodingWord, UnversionedWords, letters};
-use crate::marks::Marks;
-use crate::names::names;
+use case_calls::answer::{Answer, Reply};
+use case_calls::asked::{Asked, Marked, OnAny, OnBytes, OnValid, Setting, Validity, asked_by};
+use case_calls::bindings::{binding, merge};
+use case_calls::calls;
+use case_calls::encoder::value_type;
+use case_calls::encodings::{EncodingWord, UnversionedWords, letters};
+use case_calls::marks::Marks;
+use case_calls::names::names;
 use case_words::{Bad, Words};
 use std::alloc::Global;
 use std::io;

@@ -1,15 +1,7 @@
 //! Answers a line for each line of standard input: one call of the library, on what earlier lines gave (docs/CASES.md).
 #![tactic(auto)]
 
-mod answer;
-mod asked;
-mod bindings;
-mod calls;
-mod encoder;
-mod encodings;
 mod interpreter;
-mod marks;
-mod names;
 
 use interpreter::Interpreter;
 use std::io::{self, BufRead, BufReader, BufWriter, Write};

@@ -3,7 +3,7 @@
 ghost use Rattle.std.specs.{Prelude.◌≡◌, Prelude.◌<◌, Prelude.true, Prelude.is_none, Prelude.length, List.list_all};
 ghost use Rattle.wit_model.specs.Valid.{IsValid};
 ghost use Rattle.wit_interfaces.specs.InterfaceEncoders.{interface_encoder_view};
-ghost use Rattle.cases.specs.Asked.{CanBeAsked};
+ghost use Rattle.case_calls.specs.Asked.{CanBeAsked};
 
 use crate::answer::Answer;
 use crate::marks::Marks;

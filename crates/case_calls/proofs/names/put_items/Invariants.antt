@@ -1,6 +1,6 @@
 use Rattle.std.proofs.Common.{◌≡◌, true}
 use Rattle.wit_model.specs.Rules.{entries_in_range}
-use Rattle.cases.proofs.names.put_items.Given as goal
+use Rattle.case_calls.proofs.names.put_items.Given as goal
 
 -- those that are left
 abbrev pub invariant-loop-key : goal.invariant-loop-key

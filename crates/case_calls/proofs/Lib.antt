@@ -1,2 +1,2 @@
 -- Where no type has a name, each can be encoded by an encoder of interfaces that hasn't been used. Serves encoder::asked_thrice.
-mod Unnamed
+pub mod Unnamed

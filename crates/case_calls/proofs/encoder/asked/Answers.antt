@@ -1,6 +1,6 @@
 use Rattle.std.proofs.Common.{refl, sym, subst, [], ◌∷◌}
 use Rattle.encode_types.specs.{Fits.CanEncode, Scope.Scope}
-use Rattle.cases.proofs.encoder.asked.Goals as goal
+use Rattle.case_calls.proofs.encoder.asked.Goals as goal
 
 pub encode_valtype-requires : goal.encode_valtype-requires
 encode_valtype-requires c = λ _. ((refl, tt), (c.requires.encodable, c.requires.agree))

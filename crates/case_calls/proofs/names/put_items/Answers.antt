@@ -2,7 +2,7 @@ use Rattle.std.proofs.{Common.◌≡◌, Common.subst, Common.true, Common.◌&&
 use Rattle.std.specs.Map.Iter.{deref_pair}
 use Rattle.wit_model.specs.Rules.{entries_in_range, item_in_range, key_in_range}
 use Rattle.base_lemmas.proofs.Bools.{left_of as first_true, right_of as second_true}
-use Rattle.cases.proofs.names.put_items.Goals as goal
+use Rattle.case_calls.proofs.names.put_items.Goals as goal
 
 pub put_item-requires : goal.put_item-requires
 put_item-requires c =

@@ -7,7 +7,7 @@ use Rattle.encode_types.specs.{Plan.AllInRange, View.Agrees}
 use Rattle.wit_encode.specs.OwnerScope.{IsScopeOf, NamesStand}
 use Rattle.wit_encode.proofs.OwnerScope.{names_encode, table_is_scope}
 use Rattle.wit_interfaces.specs.InterfaceEncoders.{InterfaceEncoder, interface_encoder_view}
-use Rattle.cases.specs.Asked.{CanBeAsked}
+use Rattle.case_calls.specs.Asked.{CanBeAsked}
 use Rattle.base_lemmas.proofs.Elements.{all_get as at-index, last_of as one-contained}
 use Rattle.wit_model.specs.declared.model.TypeOwner.TheVariants as owner
 use Rattle.wit_model.specs.declared.model.«Type».TheVariants as ty
