@@ -45,11 +45,12 @@ class Calls(unittest.TestCase):
 
     def test_worlds(self):
         package = sample("packages/services.wasm")
-        self.assertIsNone(witc.compat(package, "service", b"service-next"))
-        self.refused("DIFFERS", "handle", witc.compat, package, "service", "service-bytes")
+        self.assertIs(witc.compatible(package, "service", b"service-next"), True)
+        self.assertIs(witc.compatible(package, "service", "service-bytes"), False)
+        self.refused("DIFFERS", "handle", witc.require_compatible, package, "service", "service-bytes")
         for prev, new, name in ("nobody", "service", "nobody"), ("service", "caf\u00e9", "caf\u00e9"), ("", "service", ""):
-            self.refused("NO_SUCH_WORLD", name or None, witc.compat, package, prev, new)
-        self.refused("NOT_UTF8", None, witc.compat, package, b"\xff", "service")
+            self.refused("NO_SUCH_WORLD", name or None, witc.require_compatible, package, prev, new)
+        self.refused("NOT_UTF8", None, witc.require_compatible, package, b"\xff", "service")
         self.assertFalse(witc.same_world(package, "service", package, "service-next"))
 
     def test_worlds_by_themselves(self):
@@ -108,7 +109,7 @@ class Calls(unittest.TestCase):
         for given in "text", 7, None, [1]:
             for call in witc.package_text, witc.module_text, witc.module_strip:
                 self.assertRaises(TypeError, call, given)
-        self.assertRaises(TypeError, witc.compat, b"", 7, "a")
+        self.assertRaises(TypeError, witc.require_compatible, b"", 7, "a")
 
     def test_damaged_bytes(self):
         package = sample("packages/files.wasm")
