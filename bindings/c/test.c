@@ -92,6 +92,24 @@ static void arguments(void) {
     for (uint32_t code = 0; code < 30; code++) want(witc_is_no(code) == (code == 13 || code == 14 || code == 15 || code == 16));
 }
 
+/* Of two worlds that differ, the first one's name is the subject; of a world that isn't there, its own name. */
+static void subjects(void) {
+    input package = sample("packages/services.wasm");
+    witc_answer answer = WITC_NO_ANSWER;
+    want(witc_same_world(package.at, package.length, "service", 7, package.at, package.length, "service-next", 12, &answer) == WITC_REFUSED);
+    want(answer.why.code == WITC_DIFFERS && answer.why.subject == 7 && !memcmp(answer.at + answer.length - 7, "service", 7));
+    witc_free(&answer);
+    want(witc_same_world(package.at, package.length, "service-next", 12, package.at, package.length, "service", 7, &answer) == WITC_REFUSED);
+    want(answer.why.code == WITC_DIFFERS && answer.why.subject == 12 && !memcmp(answer.at + answer.length - 12, "service-next", 12));
+    witc_free(&answer);
+    want(witc_same_world(package.at, package.length, "service", 7, package.at, package.length, "nobody", 6, &answer) == WITC_BAD_ARGUMENT);
+    want(answer.why.code == WITC_NO_SUCH_WORLD && answer.why.subject == 6 && !memcmp(answer.at + answer.length - 6, "nobody", 6));
+    witc_free(&answer);
+    want(witc_same_world(package.at, package.length, "service", 7, package.at, package.length, "service", 7, &answer) == WITC_DONE && answer.length == 0);
+    witc_free(&answer);
+    free(package.at);
+}
+
 /* The sections of a module with the worlds of two packages, in order, each as witc_module_section gives it. */
 static void sections(void) {
     input services = sample("packages/services.wasm"), clock = sample("packages/clock.wasm");
@@ -159,6 +177,7 @@ int main(int count, char **words) {
     null_pointers();
     canonical_names();
     arguments();
+    subjects();
     sections();
     sections_of_bytes();
     bounds("packages/files.wit", "packages/files.wasm", witc_package_text_within);

@@ -307,12 +307,15 @@ pub struct Kinds {
     pub module: bool,
 }
 
+/// What `witc_kinds` returns if it isn't known.
+const KIND_UNKNOWN: u8 = 128;
+
 /// What bytes are. `None` if it isn't known: when out of memory, or if a list of bindings would get too long.
 pub fn kinds(bytes: &[u8]) -> Option<Kinds> {
     look_at_interface();
     // SAFETY: the pointer and the length are of one slice, which is borrowed for the call.
     let sum = unsafe { sys::witc_kinds_slice(bytes.as_ptr(), bytes.len()) };
-    (sum != sys::KIND_UNKNOWN).then_some(Kinds {
+    (sum != KIND_UNKNOWN).then_some(Kinds {
         package: sum & 1 != 0,
         world: sum & 2 != 0,
         module: sum & 4 != 0,

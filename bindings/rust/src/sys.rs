@@ -20,7 +20,6 @@ pub const DONE: u8 = 0;
 pub const REFUSED: u8 = 1;
 pub const BAD_ARGUMENT: u8 = 2;
 pub const NO_MEMORY: u8 = 3;
-pub const KIND_UNKNOWN: u8 = 128;
 pub type Within = unsafe extern "C" fn(*const u8, usize, usize, *mut Answer, *mut Why) -> u8;
 pub type Plain = unsafe extern "C" fn(*const u8, usize, *mut Answer, *mut Why) -> u8;
 
