@@ -193,17 +193,17 @@ static inline uint8_t witc_refuse_null(witc_answer *answer) {
 /* Whether a code is the answer no of witc_compat: the worlds are read, and `next` can't replace `prev`. */
 static inline int witc_is_no(uint32_t code) { return code >= WITC_OTHER_PACKAGE && code <= WITC_DIFFERS; }
 
-#define WITC_CALL(name)                                                                              \
-    static inline uint8_t name(const uint8_t *bytes, size_t length, witc_answer *answer) {           \
-        if (witc_lacks(bytes, length)) return witc_refuse_null(answer);                              \
-        return name##_slice(witc_some(bytes), length, answer, &answer->why);                         \
+#define WITC_CALL(name)                                                                                  \
+    static inline uint8_t name(const uint8_t *bytes, size_t length, witc_answer *answer) {               \
+        if (witc_lacks(bytes, length)) return witc_refuse_null(answer);                                  \
+        return name##_slice(witc_some(bytes), length, answer, &answer->why);                             \
     }
 
 /* The same with a bound: a text of more than `most` bytes is refused with WITC_TEXT_TOO_LONG. */
-#define WITC_CALL_WITHIN(name)                                                                       \
-    static inline uint8_t name(const uint8_t *bytes, size_t length, size_t most, witc_answer *answer) { \
-        if (witc_lacks(bytes, length)) return witc_refuse_null(answer);                              \
-        return name##_slice(witc_some(bytes), length, most, answer, &answer->why);                   \
+#define WITC_CALL_WITHIN(name)                                                                           \
+    static inline uint8_t name(const uint8_t *bytes, size_t length, size_t most, witc_answer *answer) {  \
+        if (witc_lacks(bytes, length)) return witc_refuse_null(answer);                                  \
+        return name##_slice(witc_some(bytes), length, most, answer, &answer->why);                       \
     }
 
 /* Prints a package as text. */

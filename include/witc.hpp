@@ -8,7 +8,7 @@
 //
 // A call reads bytes as a string_view, which must stay unchanged during the call. It returns bytes that are freed with the value that owns them. It throws a
 // witc::refusal, or std::bad_alloc when out of memory. Threads may call at the same time. What each call does, witc.h says. Bound the text of bytes from
-// strangers by the calls with `within` in their name, since a text may be a million times as long as the package.
+// strangers by the calls with `within` in their name, since a text may be millions of times as long as the package.
 #ifndef WITC_HPP
 #define WITC_HPP
 
@@ -201,7 +201,9 @@ WITC_CPP_CALL(module_strip)
     return bytes::of([&](witc_answer *a) { return witc_module_sections(detail::at(b), b.size(), a); }).sections();
 }
 [[nodiscard]] inline bytes embed(std::string_view b, std::string_view world, encoding e = encoding::utf8, bool canonical = false) {
-    return bytes::of([&](witc_answer *a) { return witc_embed(detail::at(b), b.size(), world.data(), world.size(), static_cast<std::uint32_t>(e), canonical, a); });
+    return bytes::of([&](witc_answer *a) {
+        return witc_embed(detail::at(b), b.size(), world.data(), world.size(), static_cast<std::uint32_t>(e), canonical, a);
+    });
 }
 [[nodiscard]] inline bytes attach(std::string_view module, std::string_view b, std::string_view world, encoding e = encoding::utf8, bool canonical = false) {
     return bytes::of([&](witc_answer *a) {
@@ -226,7 +228,8 @@ inline void require_compatible(std::string_view b, std::string_view prev, std::s
 [[nodiscard]] inline bool same_world(std::string_view b, std::string_view world, std::string_view other, std::string_view other_world) {
     try {
         static_cast<void>(bytes::of([&](witc_answer *a) {
-            return witc_same_world(detail::at(b), b.size(), world.data(), world.size(), detail::at(other), other.size(), other_world.data(), other_world.size(), a);
+            return witc_same_world(detail::at(b), b.size(), world.data(), world.size(), detail::at(other), other.size(), other_world.data(),
+                                   other_world.size(), a);
         }));
         return true;
     } catch (const refusal &r) {

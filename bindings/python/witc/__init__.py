@@ -5,7 +5,7 @@
 
 A call takes bytes, or what has a buffer, and returns str or bytes. It raises witc.Refusal, or MemoryError when out of memory. Threads may call at the same time.
 
-Bound the text of bytes from strangers by `most`, since a text may be a million times as long as the package.
+Bound the text of bytes from strangers by `most`, since a text may be millions of times as long as the package.
 
 The library is the file that WITC_LIBRARY names, or the one of the same PREFIX as this package, or the one that the system's loader finds.
 """

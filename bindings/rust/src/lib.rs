@@ -26,6 +26,11 @@
 mod refusal;
 mod sys;
 
+/// The example of the crate's page compiles.
+#[cfg(doctest)]
+#[doc = include_str!("../README.md")]
+struct Readme;
+
 pub use refusal::{Cause, ClashKind, Code, Refusal};
 use std::alloc::{Layout, handle_alloc_error};
 use std::sync::Once;
