@@ -42,6 +42,15 @@ def custom_section(name, data):
     return b"\0" + leb(len(contents)) + contents
 
 
+def tower(levels):
+    """A package with a type that is a tuple of two `bool`, or of the type one level below, twice."""
+    tuples = b"".join(b"\x01\x6f\x02" + part * 2 for part in [b"\x7f", *map(leb, range(levels - 1))])
+    members = leb(levels + 1) + tuples + b"\x04\x00\x01t\x03\x00" + leb(levels - 1)
+    interface = b"\x01\x42" + members + b"\x04\x00\x05a:b/i\x05\x00"
+    types = b"\x01\x41\x02" + interface
+    return b"\0asm\x0d\0\x01\0\x07" + leb(len(types)) + types + b"\x0b\x07\x01\x00\x01i\x03\x00\x00"
+
+
 def refusal_of(call, *words, **named):
     """The refusal of a call."""
     try:
@@ -205,14 +214,15 @@ class Calls(unittest.TestCase):
             self.assertNotEqual(refusal_of(call, data[:20], 0).code, "TEXT_TOO_LONG")
 
     def test_text_that_never_ends(self):
-        """A type of 60 tuples, each with the one before twice, is a few bytes and more text than there is room for."""
-        kinds = b"".join(b"\x01\x6f\x02" + bytes([it, it]) for it in range(59))
-        members = b"\x42" + leb(61) + b"\x01\x6f\x02\x7d\x7d" + kinds + b"\x04\x00\x01t\x03\x00" + b"\x3b"
-        interface = b"\x01" + members + b"\x04\x00\x05a:b/i\x05\x00"
-        package = b"\x01\x41\x02" + interface
-        data = b"\0asm\x0d\0\x01\0" + b"\x07" + leb(len(package)) + package + b"\x0b\x07\x01\x00\x01i\x03\x00\x00"
-        self.assertEqual(refusal_of(witc.package_text, data, 100_000).code, "TEXT_TOO_LONG")
-        self.assertLess(len(witc.package_json(data)), 10_000)
+        """The text of a tower doubles with each level: with 22 it has 54 MB, and with 90 no disk could hold it."""
+        for levels in 1, 2, 12:
+            length = len("package a:b;\n\ninterface i {\n  type t = ;\n}\n\n") + (len("tuple<bool, bool>") + len("tuple<, >")) * 2 ** (levels - 1) - len("tuple<, >")
+            self.assertEqual(len(witc.package_text(tower(levels), length)), length)
+            self.assertEqual(refusal_of(witc.package_text, tower(levels), length - 1).code, "TEXT_TOO_LONG")
+        self.assertLess(len(tower(22)), 160)
+        for levels in 22, 90:
+            self.assertEqual(refusal_of(witc.package_text, tower(levels), 100_000).code, "TEXT_TOO_LONG")
+            self.assertLess(len(witc.package_json(tower(levels))), 20_000)
 
     def test_bad_bytes(self):
         package = sample("packages/clock.wasm")
@@ -290,9 +300,11 @@ class Calls(unittest.TestCase):
 
     def test_damaged_bytes(self):
         package = sample("packages/files.wasm")
+        calls = [getattr(witc, f"{kind}_{form}") for kind in ("package", "world", "module") for form in ("text", "json")]
+        calls += [witc.package_bytes, witc.world_package, witc.module_package, witc.module_strip, witc.module_sections]
         for at in range(len(package)):
             for given in package[:at], package[:at] + bytes([package[at] ^ 0x81]) + package[at + 1 :]:
-                for call in witc.package_text, witc.package_json, witc.package_bytes, witc.world_text, witc.world_json, witc.world_package, witc.module_text, witc.module_json, witc.module_package, witc.module_strip:
+                for call in calls:
                     try:
                         self.assertGreater(len(call(given)), 0)
                     except witc.Refusal as refusal:
