@@ -214,13 +214,13 @@ class Calls(unittest.TestCase):
             self.assertNotEqual(refusal_of(call, data[:20], 0).code, "TEXT_TOO_LONG")
 
     def test_text_that_never_ends(self):
-        """The text of a tower doubles with each level: with 22 it has 54 MB, and with 90 no disk could hold it."""
+        """The text of a tower doubles with each level: with 22 it has 54 MB, and with 60 no disk could hold it."""
         for levels in 1, 2, 12:
             length = len("package a:b;\n\ninterface i {\n  type t = ;\n}\n\n") + (len("tuple<bool, bool>") + len("tuple<, >")) * 2 ** (levels - 1) - len("tuple<, >")
             self.assertEqual(len(witc.package_text(tower(levels), length)), length)
             self.assertEqual(refusal_of(witc.package_text, tower(levels), length - 1).code, "TEXT_TOO_LONG")
         self.assertLess(len(tower(22)), 160)
-        for levels in 22, 90:
+        for levels in 22, 60:
             self.assertEqual(refusal_of(witc.package_text, tower(levels), 100_000).code, "TEXT_TOO_LONG")
             self.assertLess(len(witc.package_json(tower(levels))), 20_000)
 
