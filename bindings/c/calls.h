@@ -23,6 +23,12 @@ static uint8_t canonical_bytes(const uint8_t *bytes, size_t length, witc_answer 
 
 static uint8_t first_section(const uint8_t *bytes, size_t length, witc_answer *answer) { return witc_module_section(bytes, length, 0, answer); }
 
+static uint8_t short_package_text(const uint8_t *bytes, size_t length, witc_answer *answer) { return witc_package_text_within(bytes, length, 300, answer); }
+
+static uint8_t short_world_text(const uint8_t *bytes, size_t length, witc_answer *answer) { return witc_world_text_within(bytes, length, 300, answer); }
+
+static uint8_t short_module_text(const uint8_t *bytes, size_t length, witc_answer *answer) { return witc_module_text_within(bytes, length, 300, answer); }
+
 static uint8_t service_embedded(const uint8_t *bytes, size_t length, witc_answer *answer) {
     return witc_embed(bytes, length, "service", 7, WITC_UTF16, 0, answer);
 }
@@ -45,9 +51,10 @@ static uint8_t other_service(const uint8_t *bytes, size_t length, witc_answer *a
 }
 
 static plain_call *const CALLS[] = {
-    witc_package_text, canonical_bytes,  witc_world_text,    witc_world_package,   witc_module_text,   witc_module_package, witc_module_strip, first_section,
-    witc_package_json, witc_world_json,  witc_module_json,
-    service_embedded,  nobody_embedded,  service_attached,   same_service,         other_service,      compat_of_services,  compat_with_nobody, compat_of_no_names,
+    witc_package_text,    witc_package_json,    canonical_bytes,      short_package_text,   witc_world_text,      witc_world_json,
+    witc_world_package,   short_world_text,     witc_module_text,     witc_module_json,     short_module_text,    witc_module_package,
+    witc_module_strip,    first_section,        witc_module_sections, service_embedded,     nobody_embedded,      service_attached,
+    same_service,         other_service,        compat_of_services,   compat_with_nobody,   compat_of_no_names,
 };
 enum { CALLS_COUNT = sizeof CALLS / sizeof *CALLS };
 
@@ -71,5 +78,6 @@ static input read_file(const char *name) {
 
 /* Whether two answers have the same bytes and numbers. */
 static int are_equal(const witc_answer *a, const witc_answer *b) {
-    return a->why.code == b->why.code && a->why.detail == b->why.detail && a->why.offset == b->why.offset && a->why.subject == b->why.subject && a->length == b->length && (a->length == 0 || !memcmp(a->at, b->at, a->length));
+    return a->why.code == b->why.code && a->why.detail == b->why.detail && a->why.offset == b->why.offset && a->why.subject == b->why.subject &&
+           a->length == b->length && (a->length == 0 || !memcmp(a->at, b->at, a->length));
 }

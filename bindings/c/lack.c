@@ -1,7 +1,8 @@
-/* Want of memory at each request of each call: ./lack FILE.. Linked with -Wl,--wrap=malloc,--wrap=realloc and the static archive.
+/* Out of memory at each allocation of each call: ./lack FILE.. Linked with -Wl,--wrap=malloc,--wrap=realloc,--wrap=free and the static archive.
  *
- * The request of number N fails, with all behind it, or alone. A call has to answer WITC_NO_MEMORY and no bytes, or what it answers undisturbed; and after it
- * nothing is left, which a count of blocks says. */
+ * Allocation number N fails, with all after it, or alone. A call must return WITC_NO_MEMORY and no bytes, or what it returns undisturbed. After it no block may be
+ * left, which a count says.
+ */
 #include "calls.h"
 
 void *__real_malloc(size_t size);
@@ -33,7 +34,7 @@ void __wrap_free(void *at) {
     __real_free(at);
 }
 
-/* Makes one call as often as it makes requests, and once more. The answer counts what is wrong. */
+/* Makes one call as often as it allocates, and once more. Returns how much is wrong. */
 static long tried(plain_call *call, input it, long *calls) {
     long wrong = 0;
     witc_answer wanted = WITC_NO_ANSWER;
@@ -46,7 +47,8 @@ static long tried(plain_call *call, input it, long *calls) {
         uint8_t status = call(it.at, it.length, &answer);
         failing = -1;
         reached = requests > n;
-        if (status == WITC_NO_MEMORY ? !reached || answer.why.code != WITC_OUT_OF_MEMORY || answer.length || answer.at || answer.owner : status != said || !are_equal(&answer, &wanted)) wrong++;
+        int is_empty = !answer.length && !answer.at && !answer.owner;
+        if (status == WITC_NO_MEMORY ? !reached || answer.why.code != WITC_OUT_OF_MEMORY || !is_empty : status != said || !are_equal(&answer, &wanted)) wrong++;
         witc_free(&answer);
         witc_free(&answer);
         if (blocks != before || answer.length || answer.at || answer.owner) wrong++;
@@ -65,6 +67,6 @@ int main(int count, char **words) {
             free(it.at);
         }
     }
-    printf("%ld calls with a request refused, %ld wrong\n", calls, wrong);
+    printf("%ld calls with an allocation that fails, %ld wrong\n", calls, wrong);
     return wrong != 0;
 }

@@ -1,4 +1,4 @@
-/* Four threads make all calls on the same inputs, side by side, and each answer has to be that of a call made alone: ./threads ROUNDS FILE.. */
+/* Four threads make all calls on the same inputs at the same time, and each answer must be that of a call made alone: ./threads ROUNDS FILE.. */
 #include <pthread.h>
 
 #include "calls.h"
@@ -9,7 +9,7 @@ static uint8_t statuses[FILES][CALLS_COUNT];
 static witc_answer wanted[FILES][CALLS_COUNT];
 static int files, rounds;
 
-/* The calls of one thread, which begins at a file of its own. The answer counts those that differ. */
+/* The calls of one thread, which begins at a file of its own. Returns how many differ. */
 static void *run(void *number) {
     size_t wrong = 0;
     for (int round = 0; round < rounds; round++) {

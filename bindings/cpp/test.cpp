@@ -6,6 +6,7 @@
 #include <string>
 #include <type_traits>
 #include <utility>
+#include <vector>
 
 #include "witc.hpp"
 
@@ -24,15 +25,15 @@ static void want(bool holds, std::string_view what) {
     std::exit(1);
 }
 
-template <class Call> static std::string refusal_of(std::uint32_t code, Call call) {
+template <class Call> static witc::refusal refusal_of(witc::code code, Call call) {
     try {
-        call();
+        static_cast<void>(call());
     } catch (const witc::refusal &r) {
-        want(r.code() == code, r.what());
-        return r.subject();
+        want(r.code() == code && r.number() == static_cast<std::uint32_t>(code), r.what());
+        return r;
     }
-    want(false, "not refused");
-    return {};
+    std::cerr << "test: not refused\n";
+    std::exit(1);
 }
 
 static void moves() {
@@ -46,6 +47,68 @@ static void moves() {
     want(moved.view() == sample("packages/files.wit"), "a value moved to itself keeps its bytes");
 }
 
+// The worlds of a package, compared.
+static void compared(std::string_view package) {
+    witc::require_compatible(package, "service", "service-next");
+    want(witc::compatible(package, "service", "service-next") && !witc::compatible(package, "service", "service-bytes"), "worlds compared");
+    const auto required = [&](std::string_view prev, std::string_view next) { return [=] { return witc::require_compatible(package, prev, next), 0; }; };
+    const witc::refusal differs = refusal_of(witc::code::differs, required("service", "service-bytes"));
+    want(differs.is_no() && differs.subject() == "handle" && !differs.cause() && !differs.clash() && !differs.has_offset(), "a world that differs");
+    const witc::refusal nobody = refusal_of(witc::code::no_such_world, required("nobody", "service"));
+    want(!nobody.is_no() && nobody.subject() == "nobody", "a world that isn't there");
+    refusal_of(witc::code::no_such_world, [&] { return witc::compatible(package, "service", {}); });
+    refusal_of(witc::code::not_utf8, required("service", "\xff"));
+    refusal_of(witc::code::not_utf8, [&] { return witc::compatible(package, "service", "\xff"); });
+}
+
+// Bytes that are refused, and what they are.
+static void refused(std::string_view package, std::string_view empty) {
+    for (std::string_view bad : {std::string_view(), std::string_view("no package"), empty, package.substr(0, 40)}) {
+        const witc::refusal r = refusal_of(witc::code::no_reading, [&] { return witc::package_text(bad); });
+        want(r.has_offset() && r.offset() <= bad.size() && r.cause() && static_cast<std::uint32_t>(*r.cause()) == r.detail(), "where bytes are bad");
+        want(witc::kinds(bad) == witc::kind_set{false, false, bad == empty}, "what bytes are");
+    }
+    want(refusal_of(witc::code::no_reading, [&] { return witc::package_text(empty); }).cause() == witc::cause::bad_preamble, "a cause");
+    want(witc::kinds(package) == witc::kind_set{true, false, false}, "what a package is");
+    refusal_of(witc::code::not_a_module, [&] { return witc::module_text(package); });
+    refusal_of(witc::code::not_a_module, [&] { return witc::module_strip({}); });
+    refusal_of(witc::code::bad_encoding, [&] { return witc::embed(package, "service", static_cast<witc::encoding>(3)); });
+}
+
+// Texts with a bound of their length, and of one less.
+static void bounded(std::string_view package, std::string_view module, std::string_view world) {
+    const std::string in_package(witc::package_text(package).view()), in_module(witc::module_text(module).view()), in_world(witc::world_text(world).view());
+    want(witc::package_text_within(package, in_package.size()).view() == in_package, "the text of a package, with a bound");
+    want(witc::module_text_within(module, in_module.size()).view() == in_module, "the text of a module, with a bound");
+    want(witc::world_text_within(world, in_world.size()).view() == in_world, "the text of a world, with a bound");
+    refusal_of(witc::code::text_too_long, [&] { return witc::package_text_within(package, in_package.size() - 1); });
+    refusal_of(witc::code::text_too_long, [&] { return witc::module_text_within(module, in_module.size() - 1); });
+    refusal_of(witc::code::text_too_long, [&] { return witc::world_text_within(world, in_world.size() - 1); });
+}
+
+// What a module carries.
+static void carried(std::string_view package, std::string_view empty) {
+    const witc::bytes data = witc::embed(package, "service"), alone = witc::world_package(data), made = witc::attach(empty, package, "service");
+    want(witc::embed(alone, "service").view() == data.view(), "a world, taken out and put in again");
+    want(witc::same_world(package, "service", alone, "service") && !witc::same_world(package, "service", package, "service-next"), "senses of worlds");
+    want(witc::module_section(made, 0).view() == data.view() && witc::module_strip(made).view() == empty, "a section attached");
+    refusal_of(witc::code::no_such_section, [&] { return witc::module_section(made, 1); });
+    const std::string clock = sample("packages/clock.wasm");
+    const witc::bytes both = witc::attach(made, clock, "clock", witc::encoding::utf16);
+    want(witc::module_sections(both) == std::vector<std::string>{std::string(data.view()), witc::embed(clock, "clock", witc::encoding::utf16).view()}, "all sections");
+    want(witc::module_sections(empty).empty(), "no sections");
+    const witc::refusal twice = refusal_of(witc::code::clash, [&] { return witc::attach(made, package, "service"); });
+    want(twice.clash() == witc::clash::export_ && twice.subject() == "handle" && !twice.is_no(), "a world attached twice");
+    // A section that carries a world and has no data.
+    const std::string hollow = std::string(empty) + std::string("\0\x0f\x0e" "component-type", 17);
+    const witc::bytes nothing = witc::module_section(hollow, 0);
+    want(nothing.empty() && nothing.data() == nullptr && nothing.view().empty(), "a section without data");
+    want(witc::package_bytes(witc::module_package(made)).view() == witc::module_package(made).view(), "a package encoded anew");
+    want(witc::world_text(data).view().find("world service {") != std::string::npos, "the text of a world");
+    want(witc::world_json(data).view().find("\"name\":\"service\"") != std::string::npos, "the listing of a world");
+    bounded(package, made, data);
+}
+
 int main(int count, char **words) {
     if (count != 2) return 2;
     folder = words[1];
@@ -56,27 +119,9 @@ int main(int count, char **words) {
     want(witc::module_text(module).view() == sample("modules/service.wit"), "the text of a module");
     want(witc::module_strip(module).view() == stripped, "a module stripped");
     want(witc::module_strip(stripped).view() == stripped && witc::module_strip(empty).view() == empty, "a module that has nothing to strip");
-    witc::require_compatible(package, "service", "service-next");
-    want(refusal_of(WITC_DIFFERS, [&] { witc::require_compatible(package, "service", "service-bytes"); }) == "handle", "a world that differs");
-    want(refusal_of(WITC_NO_SUCH_WORLD, [&] { witc::require_compatible(package, "nobody", "service"); }) == "nobody", "a world that isn't there");
-    refusal_of(WITC_NOT_UTF8, [&] { witc::require_compatible(package, "service", "\xff"); });
-    refusal_of(WITC_NO_SUCH_WORLD, [&] { witc::require_compatible(package, "service", {}); });
-    for (std::string_view bad : {std::string_view(), std::string_view("no package"), std::string_view(empty), std::string_view(package).substr(0, 40)}) {
-        refusal_of(WITC_NO_READING, [&] { witc::package_text(bad); });
-        want(witc::kinds(bad) == (bad == empty ? WITC_IS_MODULE : 0), "what bytes are");
-    }
-    refusal_of(WITC_NOT_A_MODULE, [&] { witc::module_text(package); });
-    refusal_of(WITC_NOT_A_MODULE, [&] { witc::module_strip({}); });
-    witc::bytes data = witc::embed(package, "service");
-    witc::bytes alone = witc::world_package(data);
-    want(witc::embed(alone, "service").view() == data.view(), "a world, taken out and put in again");
-    want(witc::same_world(package, "service", alone, "service") && !witc::same_world(package, "service", package, "service-next"), "senses of worlds");
-    witc::bytes made = witc::attach(empty, package, "service");
-    want(witc::module_section(made, 0).view() == data.view() && witc::module_strip(made).view() == empty, "a section attached");
-    refusal_of(WITC_NO_SUCH_SECTION, [&] { witc::module_section(made, 1); });
-    want(witc::package_bytes(witc::module_package(made)).view() == witc::module_package(made).view(), "a package encoded anew");
-    want(witc::world_text(data).view().find("world service {") != std::string::npos, "the text of a world");
-    want(witc::world_json(data).view().find("\"name\":\"service\"") != std::string::npos, "the listing of a world");
     want(witc::package_json(package).view().find("\"name\":\"service-next\"") != std::string::npos, "the listing of a package");
+    compared(package);
+    refused(package, empty);
+    carried(package, empty);
     std::cout << "c++: passed\n";
 }

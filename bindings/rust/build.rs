@@ -1,5 +1,6 @@
 //! Links libwitc.a, which `./install PREFIX` makes. The folder is `WITC_LIB_DIR`, which is PREFIX/lib, and else that of pkg-config. With `WITC_SHARED`
-//! set, libwitc.so is linked instead, and found again at run time in the same folder by binaries, tests and examples of this package.
+//! set, libwitc.so is linked instead, and found again at run time in the same folder by binaries, tests and examples of this package. With `WITC_DOCS` set,
+//! and on docs.rs, nothing is linked: documentation needs no library.
 
 use std::env;
 use std::path::PathBuf;
@@ -15,8 +16,17 @@ fn of_pkg_config() -> Option<PathBuf> {
 }
 
 fn main() {
-    for word in ["WITC_LIB_DIR", "WITC_SHARED", "PKG_CONFIG_PATH"] {
+    for word in [
+        "WITC_LIB_DIR",
+        "WITC_SHARED",
+        "WITC_DOCS",
+        "DOCS_RS",
+        "PKG_CONFIG_PATH",
+    ] {
         println!("cargo::rerun-if-env-changed={word}");
+    }
+    if env::var_os("DOCS_RS").is_some() || env::var_os("WITC_DOCS").is_some() {
+        return;
     }
     let Some(folder) = env::var_os("WITC_LIB_DIR")
         .map(PathBuf::from)

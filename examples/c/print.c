@@ -65,7 +65,7 @@ int main(int count, char **words) {
         if (answer.length > 0 && fwrite(answer.at, 1, answer.length, stdout) < answer.length) status = WITC_REFUSED;
         if (compares) puts("compatible");
     } else if (status == WITC_NO_MEMORY) {
-        fputs("want of memory\n", stderr);
+        fputs("out of memory\n", stderr);
     } else {
         fprintf(stderr, "%.*s [code %u, detail %u]\n", (int)answer.length, (const char *)answer.at, (unsigned)answer.why.code, (unsigned)answer.why.detail);
     }

@@ -35,10 +35,10 @@ int main(int count, char **given) {
     try {
         answer(words, bytes);
     } catch (const witc::refusal &r) {
-        std::cerr << r.what() << " [code " << r.code() << ", detail " << r.detail() << "]\n";
-        status = r.code() < WITC_NO_SUCH_WORLD ? WITC_REFUSED : WITC_BAD_ARGUMENT;
+        std::cerr << r.what() << " [code " << r.number() << ", detail " << r.detail() << "]\n";
+        status = r.code() == witc::code::no_such_world || r.code() == witc::code::not_utf8 ? WITC_BAD_ARGUMENT : WITC_REFUSED;
     } catch (const std::bad_alloc &) {
-        std::cerr << "want of memory\n";
+        std::cerr << "out of memory\n";
         status = WITC_NO_MEMORY;
     }
     return std::cout.flush() ? status : WITC_REFUSED;

@@ -18,7 +18,7 @@ def told(words, data):
             return witc.module_text(data).encode(), witc.DONE
         if words[0] == "strip":
             return witc.module_strip(data), witc.DONE
-        witc.compat(data, os.fsencode(words[1]), os.fsencode(words[2]))
+        witc.require_compatible(data, os.fsencode(words[1]), os.fsencode(words[2]))
         return b"compatible\n", witc.DONE
     except witc.Refusal as refusal:
         print(refusal, file=sys.stderr)

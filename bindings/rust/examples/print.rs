@@ -34,7 +34,9 @@ fn main() -> ExitCode {
         return ExitCode::FAILURE;
     }
     let answer = match words[..] {
-        [_, prev, next] => witc::compat(&bytes, prev, next).map(|()| b"compatible\n".to_vec()),
+        [_, prev, next] => {
+            witc::require_compatible(&bytes, prev, next).map(|()| b"compatible\n".to_vec())
+        }
         ["module"] => witc::module_text(&bytes).map(String::into_bytes),
         ["strip"] => witc::module_strip(&bytes),
         _ => witc::package_text(&bytes).map(String::into_bytes),

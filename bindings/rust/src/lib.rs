@@ -1,4 +1,4 @@
-//! WIT packages, worlds and core modules as bytes: to text and to bytes.
+//! WIT packages, worlds and core modules of the WebAssembly Component Model, in binary form and as text.
 //!
 //! ```no_run
 //! let module = std::fs::read("plugin.wasm")?;
@@ -9,110 +9,42 @@
 //! # Ok::<(), std::io::Error>(())
 //! ```
 //!
-//! The functions behind are proved (Rattle); this wrapper, and that `sys` declares them as they are, is trusted.
-//! Out of memory, a call ends the program as `Vec` does (`std::alloc::handle_alloc_error`).
+//! Three kinds of bytes are read. [`kinds`] tells which of them bytes are:
+//!
+//! - a *package*: a WIT package as a component, as `wasm-tools component wit --wasm` writes it;
+//! - a *world*: the data of one `component-type` section, as bindings carry it, which is one world with all that it uses;
+//! - a *module*: a core module, with what its `component-type` sections bind together.
+//!
+//! Bound the text of bytes from strangers by a call with `within` in its name: a package of 160 bytes can have a text of 46 MB.
+//!
+//! When out of memory, a call ends the program as `Vec` does (`std::alloc::handle_alloc_error`). The first call panics if the library that is loaded has
+//! another interface than this crate (see [`is_abi_met`]).
+//!
+//! The functions of the library are proved (Rattle). This crate, and that `sys` declares them as they are, is trusted.
+#![deny(missing_docs)]
 
+mod refusal;
 mod sys;
 
+/// The example of the crate's page compiles.
+#[cfg(doctest)]
+#[doc = include_str!("../README.md")]
+struct Readme;
+
+pub use refusal::{Cause, ClashKind, Code, Refusal};
 use std::alloc::{Layout, handle_alloc_error};
-use std::{error, fmt, ptr, slice, str};
+use std::sync::Once;
+use std::{ptr, slice};
 
-/// Which refusal.
-#[derive(Clone, Copy, Debug, PartialEq, Eq)]
-#[non_exhaustive]
-pub enum Code {
-    TooLarge,
-    CanonicalClash,
-    NoReading(Cause),
-    EncodingMissing,
-    EncodingUnknownFormat,
-    EncodingVersion(u8),
-    BadStringEncoding(u8),
-    Historical,
-    NotAModule,
-    BadModule,
-    Clash(ClashKind),
-    OtherPackage,
-    TwiceWithoutVersion,
-    Missing,
-    Differs,
-    NoSuchWorld,
-    NoSuchSection,
-    /// A number that this version of the wrapper doesn't know.
-    Unknown(u32),
-}
-
-macro_rules! numbered {
-    ($(#[$doc:meta])* $name:ident { $($variant:ident = $n:literal),* $(,)? }) => {
-        $(#[$doc])*
-        #[derive(Clone, Copy, Debug, PartialEq, Eq)]
-        #[non_exhaustive]
-        pub enum $name { $($variant,)* Unknown(u32) }
-        impl $name {
-            fn of(n: u32) -> Self { match n { $($n => Self::$variant,)* n => Self::Unknown(n) } }
-        }
-    };
-}
-numbered! {
-    /// Why bytes have no reading.
-    Cause { Truncated = 1, BadNumber = 2, BadUtf8 = 3, BadPreamble = 4, UnknownSection = 5, UnknownForm = 6, OutOfScope = 7, BadName = 8, NotWit = 9, Disagree = 10,
-            TooDeep = 11, Trailing = 12, NoPackage = 13 }
-}
-numbered! {
-    /// What two sections clash in.
-    ClashKind { Interface = 1, World = 2, Import = 3, Export = 4, Encoding = 5 }
-}
-
-impl Code {
-    fn of(code: u32, detail: u32) -> Code {
-        match code {
-            2 => Code::TooLarge,
-            3 => Code::CanonicalClash,
-            4 => Code::NoReading(Cause::of(detail)),
-            5 => Code::EncodingMissing,
-            6 => Code::EncodingUnknownFormat,
-            7 => Code::EncodingVersion(detail as u8),
-            8 => Code::BadStringEncoding(detail as u8),
-            9 => Code::Historical,
-            10 => Code::NotAModule,
-            11 => Code::BadModule,
-            12 => Code::Clash(ClashKind::of(detail)),
-            13 => Code::OtherPackage,
-            14 => Code::TwiceWithoutVersion,
-            15 => Code::Missing,
-            16 => Code::Differs,
-            17 => Code::NoSuchWorld,
-            20 => Code::NoSuchSection,
-            n => Code::Unknown(n),
-        }
-    }
-}
-
-/// Why a call is refused.
-#[derive(Clone, Debug, PartialEq, Eq)]
-pub struct Refusal {
-    pub code: Code,
-    /// Where in the bytes, at most their length.
-    pub offset: Option<usize>,
-    /// The name that the refusal is about.
-    pub subject: Option<String>,
-    message: String,
-}
-
-impl fmt::Display for Refusal {
-    fn fmt(&self, f: &mut fmt::Formatter<'_>) -> fmt::Result {
-        f.write_str(&self.message)
-    }
-}
-
-impl error::Error for Refusal {}
-
-/// How strings pass.
-#[derive(Clone, Copy, Debug, Default, PartialEq, Eq)]
+/// How strings are passed.
+#[derive(Clone, Copy, Debug, Default, PartialEq, Eq, Hash)]
 pub enum Encoding {
+    /// UTF-8.
     #[default]
     Utf8 = 0,
+    /// UTF-16.
     Utf16 = 1,
+    /// Latin-1 or UTF-16, as each string says.
     Latin1Utf16 = 2,
 }
 
@@ -136,7 +68,20 @@ impl Drop for Owned {
     }
 }
 
+static LOOKED: Once = Once::new();
+
+/// Looks at the number of the library's interface, once.
+fn look_at_interface() {
+    LOOKED.call_once(|| {
+        assert!(
+            is_abi_met(),
+            "libwitc has another interface than the crate witc: install both from one version"
+        )
+    });
+}
+
 fn ask(call: impl FnOnce(*mut sys::Answer, *mut sys::Why) -> u8) -> Result<Vec<u8>, Refusal> {
+    look_at_interface();
     let mut answer = Owned(sys::Answer {
         at: ptr::null(),
         length: 0,
@@ -154,16 +99,13 @@ fn ask(call: impl FnOnce(*mut sys::Answer, *mut sys::Why) -> u8) -> Result<Vec<u
         sys::DONE => Ok(bytes.to_vec()),
         sys::NO_MEMORY => handle_alloc_error(Layout::new::<u8>()),
         sys::REFUSED | sys::BAD_ARGUMENT => {
-            let message = String::from_utf8_lossy(bytes).into_owned();
-            let subject = (why.subject > 0)
-                .then(|| String::from_utf8_lossy(&bytes[bytes.len() - why.subject..]).into_owned());
             let offset = (why.offset != usize::MAX).then_some(why.offset);
-            Err(Refusal {
-                code: Code::of(why.code, why.detail),
+            Err(Refusal::of(
+                (why.code, why.detail),
                 offset,
-                subject,
-                message,
-            })
+                bytes,
+                why.subject,
+            ))
         }
         other => unreachable!("the library has no status {other}"),
     }
@@ -174,9 +116,18 @@ fn plain(call: sys::Plain, bytes: &[u8]) -> Result<Vec<u8>, Refusal> {
     ask(|answer, why| unsafe { call(bytes.as_ptr(), bytes.len(), answer, why) })
 }
 
+/// A text of WIT, or a listing. That it is UTF-8 is tested here, not assumed.
+fn as_text(bytes: Vec<u8>) -> String {
+    String::from_utf8(bytes).expect("text is UTF-8")
+}
+
 fn text(call: sys::Plain, bytes: &[u8]) -> Result<String, Refusal> {
-    // Texts of WIT are UTF-8; this is tested, not assumed.
-    plain(call, bytes).map(|bytes| String::from_utf8(bytes).expect("text is UTF-8"))
+    plain(call, bytes).map(as_text)
+}
+
+fn text_within(call: sys::Within, bytes: &[u8], most: usize) -> Result<String, Refusal> {
+    // SAFETY: as in `plain`.
+    ask(|answer, why| unsafe { call(bytes.as_ptr(), bytes.len(), most, answer, why) }).map(as_text)
 }
 
 macro_rules! calls {
@@ -185,26 +136,39 @@ macro_rules! calls {
     (@ plain) => { Vec<u8> };
 }
 calls! {
-    /// A package to its WIT text.
+    /// The WIT text of a package.
     package_text: text = witc_package_text_slice;
-    /// A package to JSON: its packages, worlds, interfaces and types, each by its number.
+    /// A package as JSON: its packages, worlds, interfaces and types, each by its number.
     package_json: text = witc_package_json_slice;
-    /// The data of one `component-type` section to the text of its world.
+    /// The text of the world that the data of one `component-type` section carries, with the packages that it uses nested in it.
     world_text: text = witc_world_text_slice;
-    /// The same to JSON.
+    /// The same world as JSON, with all that it uses.
     world_json: text = witc_world_json_slice;
-    /// The package of that world.
+    /// The package of the same world, as bytes.
     world_package: plain = witc_world_package_slice;
-    /// A core module to the text of what its sections bind together.
+    /// The text of what the sections of a core module bind together.
     module_text: text = witc_module_text_slice;
-    /// The same to JSON, with the string encoding of each function.
+    /// The same as JSON, with the string encoding of each function.
     module_json: text = witc_module_json_slice;
+    /// The same as the bytes of the package `root:root`.
     module_package: plain = witc_module_package_slice;
-    /// A core module without those sections.
+    /// A core module without the sections that carry worlds, or unchanged if it has none.
     module_strip: plain = witc_module_strip_slice;
 }
 
-/// A package encoded anew.
+macro_rules! calls_within {
+    ($($(#[$doc:meta])* $name:ident = $call:ident;)*) => { $($(#[$doc])* pub fn $name(bytes: &[u8], most: usize) -> Result<String, Refusal> { text_within(sys::$call, bytes, most) })* };
+}
+calls_within! {
+    /// The text of a package, as [`package_text`] returns it. A text of more than `most` bytes is refused ([`Code::TextTooLong`]).
+    package_text_within = witc_package_text_within_slice;
+    /// The text of a world, as [`world_text`] returns it, of at most `most` bytes.
+    world_text_within = witc_world_text_within_slice;
+    /// The text of what a module binds, as [`module_text`] returns it, of at most `most` bytes.
+    module_text_within = witc_module_text_within_slice;
+}
+
+/// A package encoded again, with canonical names if you ask for them: bytes that mean the same.
 pub fn package_bytes(package: &[u8], canonical: bool) -> Result<Vec<u8>, Refusal> {
     // SAFETY: as in `plain`; so below, for each slice.
     ask(|answer, why| unsafe {
@@ -218,11 +182,24 @@ pub fn package_bytes(package: &[u8], canonical: bool) -> Result<Vec<u8>, Refusal
     })
 }
 
-/// The data of the section of this number, from 0, among those of a core module that carry worlds.
+/// The data of the section of this number, from 0, among those of a core module that carry worlds. To take all of them, [`module_sections`] is better, since
+/// each call walks the module anew.
 pub fn module_section(module: &[u8], number: usize) -> Result<Vec<u8>, Refusal> {
     ask(|answer, why| unsafe {
         sys::witc_module_section_slice(module.as_ptr(), module.len(), number, answer, why)
     })
+}
+
+/// The data of each section of a core module that carries a world, in order.
+pub fn module_sections(module: &[u8]) -> Result<Vec<Vec<u8>>, Refusal> {
+    let joined = plain(sys::witc_module_sections_slice, module)?;
+    let (mut found, mut rest) = (Vec::new(), joined.as_slice());
+    while let Some((length, behind)) = rest.split_first_chunk() {
+        let (data, others) = behind.split_at(u32::from_le_bytes(*length) as usize);
+        found.push(data.to_vec());
+        rest = others;
+    }
+    Ok(found)
 }
 
 /// The data of a section that carries the package's world of this name.
@@ -246,7 +223,7 @@ pub fn embed(
     })
 }
 
-/// A core module with one more section, which carries that world.
+/// A core module with one more section, at its end, which carries that world.
 pub fn attach(
     module: &[u8],
     package: &[u8],
@@ -270,8 +247,8 @@ pub fn attach(
     })
 }
 
-/// Whether the package's world `next` may take the place of its world `prev`.
-pub fn compat(package: &[u8], prev: &str, next: &str) -> Result<(), Refusal> {
+/// An error if the package's world `next` can't replace its world `prev`. Then [`Refusal::is_no`] holds of it, and its subject is the first item in the way.
+pub fn require_compatible(package: &[u8], prev: &str, next: &str) -> Result<(), Refusal> {
     ask(|answer, why| unsafe {
         sys::witc_compat_slices(
             package.as_ptr(),
@@ -287,7 +264,16 @@ pub fn compat(package: &[u8], prev: &str, next: &str) -> Result<(), Refusal> {
     .map(drop)
 }
 
-/// Whether a world of one package has exactly the sense of a world of another.
+/// Whether the package's world `next` can replace its world `prev`. An error if the bytes are bad, or a world doesn't exist.
+pub fn compatible(package: &[u8], prev: &str, next: &str) -> Result<bool, Refusal> {
+    match require_compatible(package, prev, next) {
+        Ok(()) => Ok(true),
+        Err(refusal) if refusal.is_no() => Ok(false),
+        Err(refusal) => Err(refusal),
+    }
+}
+
+/// Whether a world of one package means exactly what a world of another package does.
 pub fn same_world(
     package: &[u8],
     world: &str,
@@ -315,28 +301,33 @@ pub fn same_world(
     }
 }
 
-/// What bytes are.
-#[derive(Clone, Copy, Debug, PartialEq, Eq)]
+/// What bytes are: none of the three, or one or more of them.
+#[derive(Clone, Copy, Debug, Default, PartialEq, Eq, Hash)]
 pub struct Kinds {
+    /// A WIT package in binary form.
     pub package: bool,
+    /// The data of one `component-type` section.
     pub world: bool,
+    /// A core module whose bindings can be merged.
     pub module: bool,
 }
 
-pub fn kinds(bytes: &[u8]) -> Kinds {
+/// What `witc_kinds` returns if it isn't known.
+const KIND_UNKNOWN: u8 = 128;
+
+/// What bytes are. `None` if it isn't known: when out of memory, or if a list of bindings would get too long.
+pub fn kinds(bytes: &[u8]) -> Option<Kinds> {
+    look_at_interface();
     // SAFETY: the pointer and the length are of one slice, which is borrowed for the call.
     let sum = unsafe { sys::witc_kinds_slice(bytes.as_ptr(), bytes.len()) };
-    if sum == 128 {
-        handle_alloc_error(Layout::new::<u8>());
-    }
-    Kinds {
+    (sum != KIND_UNKNOWN).then_some(Kinds {
         package: sum & 1 != 0,
         world: sum & 2 != 0,
         module: sum & 4 != 0,
-    }
+    })
 }
 
-/// Whether the library that is linked is the one this wrapper was written for. Tested by `tests/samples.rs`; of a static library it is fixed at the link.
+/// Whether the library that is loaded has the interface that this crate was written for. The first call looks at it too, and panics if it hasn't.
 pub fn is_abi_met() -> bool {
     // SAFETY: the function takes nothing.
     unsafe { sys::witc_abi() == sys::ABI }

@@ -20,6 +20,7 @@ pub const DONE: u8 = 0;
 pub const REFUSED: u8 = 1;
 pub const BAD_ARGUMENT: u8 = 2;
 pub const NO_MEMORY: u8 = 3;
+pub type Within = unsafe extern "C" fn(*const u8, usize, usize, *mut Answer, *mut Why) -> u8;
 pub type Plain = unsafe extern "C" fn(*const u8, usize, *mut Answer, *mut Why) -> u8;
 
 unsafe extern "C" {
@@ -28,6 +29,13 @@ unsafe extern "C" {
     pub fn witc_package_text_slice(
         bytes: *const u8,
         length: usize,
+        answer: *mut Answer,
+        why: *mut Why,
+    ) -> u8;
+    pub fn witc_package_text_within_slice(
+        bytes: *const u8,
+        length: usize,
+        most: usize,
         answer: *mut Answer,
         why: *mut Why,
     ) -> u8;
@@ -50,6 +58,13 @@ unsafe extern "C" {
         answer: *mut Answer,
         why: *mut Why,
     ) -> u8;
+    pub fn witc_world_text_within_slice(
+        bytes: *const u8,
+        length: usize,
+        most: usize,
+        answer: *mut Answer,
+        why: *mut Why,
+    ) -> u8;
     pub fn witc_world_json_slice(
         bytes: *const u8,
         length: usize,
@@ -65,6 +80,13 @@ unsafe extern "C" {
     pub fn witc_module_text_slice(
         bytes: *const u8,
         length: usize,
+        answer: *mut Answer,
+        why: *mut Why,
+    ) -> u8;
+    pub fn witc_module_text_within_slice(
+        bytes: *const u8,
+        length: usize,
+        most: usize,
         answer: *mut Answer,
         why: *mut Why,
     ) -> u8;
@@ -90,6 +112,12 @@ unsafe extern "C" {
         bytes: *const u8,
         length: usize,
         number: usize,
+        answer: *mut Answer,
+        why: *mut Why,
+    ) -> u8;
+    pub fn witc_module_sections_slice(
+        bytes: *const u8,
+        length: usize,
         answer: *mut Answer,
         why: *mut Why,
     ) -> u8;

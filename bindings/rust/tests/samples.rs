@@ -3,17 +3,34 @@
 use std::path::Path;
 use std::{fs, thread};
 
-use witc::{Cause, Code, Encoding, compat, module_strip, module_text, package_text};
+use witc::{
+    Cause, ClashKind, Code, Encoding, Kinds, compatible, module_strip, module_text, package_text,
+    require_compatible,
+};
 
 const EMPTY: &[u8] = b"\0asm\x01\0\0\0";
 
 fn sample(name: &str) -> Vec<u8> {
-    fs::read(
-        Path::new(env!("CARGO_MANIFEST_DIR"))
-            .join("../../examples")
-            .join(name),
-    )
-    .unwrap()
+    let data = Path::new(env!("CARGO_MANIFEST_DIR")).join("tests/data");
+    fs::read(data.join(name)).unwrap()
+}
+
+/// The samples here are those of the repository, where this crate stands in it.
+#[test]
+fn samples_are_the_same() {
+    let examples = Path::new(env!("CARGO_MANIFEST_DIR")).join("../../examples");
+    if !examples.exists() {
+        return;
+    }
+    for folder in ["packages", "modules"] {
+        for entry in fs::read_dir(examples.join(folder)).unwrap() {
+            let path = entry.unwrap().path();
+            if path.extension().is_some_and(|it| it != "cases") {
+                let name = path.file_name().unwrap().to_str().unwrap();
+                assert_eq!(fs::read(&path).unwrap(), sample(name), "{name}");
+            }
+        }
+    }
 }
 
 #[test]
@@ -24,8 +41,8 @@ fn library_has_this_interface() {
 #[test]
 fn packages_to_text() {
     for name in ["clock", "files", "services"] {
-        let package = sample(&format!("packages/{name}.wasm"));
-        let text = sample(&format!("packages/{name}.wit"));
+        let package = sample(&format!("{name}.wasm"));
+        let text = sample(&format!("{name}.wit"));
         assert_eq!(package_text(&package).unwrap().as_bytes(), text, "{name}");
         let again = witc::package_bytes(&package, false).unwrap();
         assert_eq!(witc::package_bytes(&again, false).unwrap(), again);
@@ -35,11 +52,11 @@ fn packages_to_text() {
 
 #[test]
 fn modules_to_text_and_stripped() {
-    let module = sample("modules/service.wasm");
-    let stripped = sample("modules/service.stripped.wasm");
+    let module = sample("service.wasm");
+    let stripped = sample("service.stripped.wasm");
     assert_eq!(
         module_text(&module).unwrap().as_bytes(),
-        sample("modules/service.wit")
+        sample("service.wit")
     );
     assert_eq!(module_strip(&module).unwrap(), stripped);
     assert_eq!(module_strip(&stripped).unwrap(), stripped);
@@ -50,30 +67,89 @@ fn modules_to_text_and_stripped() {
 
 #[test]
 fn worlds_compared() {
-    let package = sample("packages/services.wasm");
-    assert_eq!(compat(&package, "service", "service-next"), Ok(()));
-    let refusal = compat(&package, "service", "service-bytes").unwrap_err();
+    let package = sample("services.wasm");
+    assert_eq!(compatible(&package, "service", "service-next"), Ok(true));
+    assert_eq!(compatible(&package, "service", "service-bytes"), Ok(false));
     assert_eq!(
-        (refusal.code, refusal.subject.as_deref()),
-        (Code::Differs, Some("handle"))
+        require_compatible(&package, "service", "service-next"),
+        Ok(())
     );
+    let refusal = require_compatible(&package, "service", "service-bytes").unwrap_err();
+    assert_eq!(
+        (refusal.code, refusal.subject.as_deref(), refusal.is_no()),
+        (Code::Differs, Some("handle"), true)
+    );
+    assert_eq!((refusal.number(), refusal.detail()), (16, 0));
+    assert_eq!(refusal.to_string(), refusal.message());
     for (prev, next, missing) in [
         ("nobody", "service", Some("nobody")),
         ("service", "caf\u{e9}", Some("caf\u{e9}")),
         ("", "service", None),
     ] {
-        let refusal = compat(&package, prev, next).unwrap_err();
+        let refusal = require_compatible(&package, prev, next).unwrap_err();
         assert_eq!(
             (refusal.code, refusal.subject.as_deref()),
             (Code::NoSuchWorld, missing)
         );
+        assert!(!refusal.is_no());
+        assert_eq!(compatible(&package, prev, next), Err(refusal));
     }
     assert!(!witc::same_world(&package, "service", &package, "service-next").unwrap());
 }
 
+/// A bound of as many bytes as the text has is enough, and one less isn't.
+#[test]
+fn texts_with_a_bound() {
+    let package = sample("files.wasm");
+    let text = String::from_utf8(sample("files.wit")).unwrap();
+    let module = sample("service.wasm");
+    let bound = String::from_utf8(sample("service.wit")).unwrap();
+    let world = witc::embed(&package, "browser", Encoding::Utf8, false).unwrap();
+    let alone = witc::world_text(&world).unwrap();
+    for (call, bytes, text) in [
+        (witc::package_text_within as Within, &package, text),
+        (witc::module_text_within, &module, bound),
+        (witc::world_text_within, &world, alone),
+    ] {
+        assert_eq!(call(bytes, text.len()), Ok(text.clone()));
+        assert_eq!(call(bytes, usize::MAX), Ok(text.clone()));
+        for most in [0, text.len() - 1] {
+            let refusal = call(bytes, most).unwrap_err();
+            assert_eq!((refusal.code, refusal.offset), (Code::TextTooLong, None));
+            assert!(refusal.message().contains(&most.to_string()));
+        }
+    }
+}
+
+type Within = fn(&[u8], usize) -> Result<String, witc::Refusal>;
+
+#[test]
+fn sections_of_a_module() {
+    let [services, clock] = ["services", "clock"].map(|name| sample(&format!("{name}.wasm")));
+    let worlds = [
+        witc::embed(&services, "service", Encoding::Utf8, false).unwrap(),
+        witc::embed(&clock, "clock", Encoding::Utf16, true).unwrap(),
+    ];
+    let one = witc::attach(EMPTY, &services, "service", Encoding::Utf8, false).unwrap();
+    let both = witc::attach(&one, &clock, "clock", Encoding::Utf16, true).unwrap();
+    assert_eq!(witc::module_sections(&both).unwrap(), worlds);
+    assert_eq!(witc::module_section(&both, 1).unwrap(), worlds[1]);
+    assert!(witc::module_sections(EMPTY).unwrap().is_empty());
+    assert_eq!(
+        witc::module_sections(&clock).unwrap_err().code,
+        Code::NotAModule
+    );
+    let refusal = witc::attach(&both, &services, "service", Encoding::Utf8, false).unwrap_err();
+    assert_eq!(
+        (refusal.code, refusal.subject.as_deref()),
+        (Code::Clash(ClashKind::Export), Some("handle"))
+    );
+    assert_eq!((refusal.number(), refusal.detail()), (12, 4));
+}
+
 #[test]
 fn worlds_embedded_and_attached() {
-    let package = sample("packages/services.wasm");
+    let package = sample("services.wasm");
     for encoding in [Encoding::Utf8, Encoding::Utf16, Encoding::Latin1Utf16] {
         let data = witc::embed(&package, "service", encoding, false).unwrap();
         let alone = witc::world_package(&data).unwrap();
@@ -83,8 +159,12 @@ fn worlds_embedded_and_attached() {
         );
         assert!(witc::same_world(&package, "service", &alone, "service").unwrap());
         assert!(witc::world_text(&data).unwrap().contains("world service {"));
-        assert!(witc::world_json(&data).unwrap().contains(r#""name":"service""#));
-        assert!(witc::kinds(&data).world && witc::kinds(&alone).package);
+        assert!(
+            witc::world_json(&data)
+                .unwrap()
+                .contains(r#""name":"service""#)
+        );
+        assert!(witc::kinds(&data).unwrap().world && witc::kinds(&alone).unwrap().package);
         let made = witc::attach(EMPTY, &package, "service", encoding, false).unwrap();
         assert_eq!(witc::module_section(&made, 0).unwrap(), data);
         assert_eq!(
@@ -92,7 +172,11 @@ fn worlds_embedded_and_attached() {
             Code::NoSuchSection
         );
         assert_eq!(module_strip(&made).unwrap(), EMPTY);
-        assert!(witc::kinds(&made).module);
+        let module = Kinds {
+            module: true,
+            ..Kinds::default()
+        };
+        assert_eq!(witc::kinds(&made), Some(module));
     }
     let refusal = witc::embed(&package, "nobody", Encoding::Utf8, false).unwrap_err();
     assert_eq!(
@@ -103,7 +187,7 @@ fn worlds_embedded_and_attached() {
 
 #[test]
 fn bad_bytes_are_refused() {
-    let package = sample("packages/clock.wasm");
+    let package = sample("clock.wasm");
     for bytes in [
         &[][..],
         &[0],
@@ -132,7 +216,7 @@ fn bad_bytes_are_refused() {
 /// Each beginning of a package, and a package with each byte changed: an answer or a refusal.
 #[test]
 fn damaged_bytes() {
-    let package = sample("packages/files.wasm");
+    let package = sample("files.wasm");
     for at in 0..package.len() {
         let mut damaged = package.clone();
         damaged[at] ^= 0x81;
@@ -161,8 +245,8 @@ fn damaged_bytes() {
 
 #[test]
 fn calls_side_by_side() {
-    let module = sample("modules/service.wasm");
-    let text = sample("modules/service.wit");
+    let module = sample("service.wasm");
+    let text = sample("service.wit");
     thread::scope(|scope| {
         for _ in 0..4 {
             scope.spawn(|| {
