@@ -4,3 +4,5 @@ mod KindLaws
 mod LikeLaws
 -- Sections of a module, read one after the other. Serves carried::section_data.
 mod WalkLaws
+-- All data of a module, one after the other. Serves carried::sections_data.
+mod AllLaws
