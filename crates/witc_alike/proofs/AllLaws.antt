@@ -1,12 +1,12 @@
 -- All data of a module, one after the other.
-use Rattle.std.proofs.Common.{rules as std_rules, ◌≡◌, ◌∙◌, ◌<◌, ◌+◌, ◌-◌, ◌^◌, refl, sym, ap, subst, arith, ℕ, List, [], ◌∷◌, ◌++◌, append_assoc, append-nil, length, Option, Some, None}
+use Rattle.std.proofs.Common.{◌≡◌, ◌∙◌, ◌<◌, ◌+◌, ◌-◌, ◌^◌, refl, sym, ap, subst, arith, ℕ, List, [], ◌∷◌, ◌++◌, append_assoc, append-nil, length, Option, Some, None}
 use Rattle.std.proofs.lemmas.List.{length-append}
 use Rattle.std.specs.{List.AllByRecursion, List.flat_map, Borrow.Bor}
 use Rattle.comp_bytes.specs.Frames.{IsFrame}
 use Rattle.wit_model.specs.declared.error.Error.{Error}
 use Rattle.wit_metadata.specs.Modules.{CarriesData, Framed, IsFrontData, IsFrontless, IsNoModule, module_preamble}
 use Rattle.wit_component.specs.Bound.{CarryData}
-use Rattle.witc_alike.specs.Carried.{ListsData, RefusesSections, RefusesWalk, counted}
+use Rattle.witc_alike.specs.Carried.{ListsData, RefusesSections, counted}
 use Rattle.witc_alike.proofs.WalkLaws.{Walks, carry-end, further, no-module, other-end, stuck}
 use Rattle.base_lemmas.proofs.Lists.{is-nothing}
 use Rattle.wit_model.specs.declared.error.Error.TheVariants as errors

@@ -3,7 +3,7 @@ use Rattle.std.specs.Prelude.{◌≡◌, ◌≢◌, ◌<◌, ◌≤◌, ◌+◌,
 use Rattle.std.specs.{Int.to_le_bytes, Int.w32, List.AllByRecursion, List.flat_map}
 use Rattle.std.specs.declared.alloc.Global.{Global}
 use Rattle.wit_model.specs.declared.error.Error.{Error}
-use Rattle.wit_component.specs.{Bound.CarryData, Bound.HasSections, Modules.AreSections, Modules.Framed, Modules.IsFrontless, Modules.module_preamble}
+use Rattle.wit_component.specs.{Bound.CarryData, Modules.AreSections, Modules.Framed, Modules.IsFrontless, Modules.module_preamble}
 use Rattle.wit_model.specs.declared.error.Error.TheVariants as errors
 
 -- The bytes begin as a module with these sections, in which worlds are carried by these data; and this is what is left behind them.
