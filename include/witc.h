@@ -71,6 +71,7 @@ extern "C" {
 #define WITC_NOT_UTF8 18
 #define WITC_BAD_ENCODING 19
 #define WITC_NO_SUCH_SECTION 20
+#define WITC_TEXT_TOO_LONG 21
 
 /* The causes of WITC_NO_READING. Take them as advice: it is proved that the bytes mean nothing and that the offset is at most their length, but not that the
  * cause is the right one. */
@@ -135,16 +136,20 @@ uint32_t witc_abi(void);
 
 /* The functions of the library. Here no pointer may be null, even if its length is 0. */
 uint8_t witc_package_text_slice(const uint8_t *bytes, size_t length, witc_answer *answer, witc_why *why);
+uint8_t witc_package_text_within_slice(const uint8_t *bytes, size_t length, size_t most, witc_answer *answer, witc_why *why);
 uint8_t witc_package_bytes_slice(const uint8_t *bytes, size_t length, uint32_t canonical, witc_answer *answer, witc_why *why);
 uint8_t witc_package_json_slice(const uint8_t *bytes, size_t length, witc_answer *answer, witc_why *why);
 uint8_t witc_world_text_slice(const uint8_t *bytes, size_t length, witc_answer *answer, witc_why *why);
+uint8_t witc_world_text_within_slice(const uint8_t *bytes, size_t length, size_t most, witc_answer *answer, witc_why *why);
 uint8_t witc_world_json_slice(const uint8_t *bytes, size_t length, witc_answer *answer, witc_why *why);
 uint8_t witc_world_package_slice(const uint8_t *bytes, size_t length, witc_answer *answer, witc_why *why);
 uint8_t witc_module_text_slice(const uint8_t *bytes, size_t length, witc_answer *answer, witc_why *why);
+uint8_t witc_module_text_within_slice(const uint8_t *bytes, size_t length, size_t most, witc_answer *answer, witc_why *why);
 uint8_t witc_module_json_slice(const uint8_t *bytes, size_t length, witc_answer *answer, witc_why *why);
 uint8_t witc_module_package_slice(const uint8_t *bytes, size_t length, witc_answer *answer, witc_why *why);
 uint8_t witc_module_strip_slice(const uint8_t *bytes, size_t length, witc_answer *answer, witc_why *why);
 uint8_t witc_module_section_slice(const uint8_t *bytes, size_t length, size_t number, witc_answer *answer, witc_why *why);
+uint8_t witc_module_sections_slice(const uint8_t *bytes, size_t length, witc_answer *answer, witc_why *why);
 uint8_t witc_embed_slices(const uint8_t *bytes, size_t length, const uint8_t *name, size_t name_length, uint32_t encoding, uint32_t canonical,
                           witc_answer *answer, witc_why *why);
 uint8_t witc_attach_slices(const uint8_t *module, size_t module_length, const uint8_t *bytes, size_t length, const uint8_t *name, size_t name_length,
