@@ -66,7 +66,7 @@ module-told {T = T} of law bytes b (Err e) bound refused told =
 
 -- ---- what is left open
 
--- a refusal that is passed on is want of memory, or of a list that would get too long
+-- a refusal that is passed on says that memory ran out, or that a list would get too long
 pub open-told : {T : Type 0} (bytes : List ℕ) (x : Result T Error) (e : Error) → TellsRead x (Err e) → IfErr x (λ d. d ≡ errors.Size → OutgrowsLists bytes) → IsUnknown bytes e
 open-told bytes x e told size = search std_rules
 

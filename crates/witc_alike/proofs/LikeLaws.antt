@@ -12,6 +12,6 @@ have-same X b is exact = exact.0 is
 pub have-other : (X : Type 0) (b : Bool) → b ≡ false → (IsTrue b ↔ X) → X → ⊥
 have-other X b is exact x = true≢false (sym (exact.1 x) ∙ is)
 
--- want of memory refuses any bytes
+-- any bytes are refused where memory runs out
 pub memory-refused : (bytes : List ℕ) (e : Error) → IsMemory e → RefusesBytes bytes e
 memory-refused bytes e is = subst (RefusesBytes bytes) (sym is) tt

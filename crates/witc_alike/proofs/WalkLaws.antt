@@ -13,18 +13,18 @@ use Rattle.wit_model.specs.declared.error.Error.TheVariants as errors
 
 -- ---- a section more
 
-carry-end : (fs : List Framed) (ds : List (List ℕ)) → CarryData fs ds → (f : Framed) (d : List ℕ) → CarriesData f d → CarryData (fs ++ f ∷ []) (ds ++ d ∷ [])
+pub carry-end : (fs : List Framed) (ds : List (List ℕ)) → CarryData fs ds → (f : Framed) (d : List ℕ) → CarriesData f d → CarryData (fs ++ f ∷ []) (ds ++ d ∷ [])
 carry-end fs ds CarryData.none f d c = CarryData.carrying f [] (c.name, d) [] c.custom c.named_ c.begins CarryData.none
 carry-end fs ds (CarryData.carrying g gs x es custom is begins carry) f d c = CarryData.carrying g (gs ++ f ∷ []) x (es ++ d ∷ []) custom is begins (carry-end gs es carry f d c)
 carry-end fs ds (CarryData.other g gs es never carry) f d c = CarryData.other g (gs ++ f ∷ []) (es ++ d ∷ []) never (carry-end gs es carry f d c)
 
-other-end : (fs : List Framed) (ds : List (List ℕ)) → CarryData fs ds → (f : Framed) → (Carries f → ⊥) → CarryData (fs ++ f ∷ []) ds
+pub other-end : (fs : List Framed) (ds : List (List ℕ)) → CarryData fs ds → (f : Framed) → (Carries f → ⊥) → CarryData (fs ++ f ∷ []) ds
 other-end fs ds CarryData.none f none = CarryData.other f [] [] none CarryData.none
 other-end fs ds (CarryData.carrying g gs x es custom is begins carry) f none = CarryData.carrying g (gs ++ f ∷ []) x es custom is begins (other-end gs es carry f none)
 other-end fs ds (CarryData.other g gs es never carry) f none = CarryData.other g (gs ++ f ∷ []) es never (other-end gs es carry f none)
 
 module _ (bytes rest behind : List ℕ) (ds : List (List ℕ)) (h : BeginsWith bytes ds rest) (f : Framed) (stands : IsInFront rest f behind) where
-  further : (es : List (List ℕ)) → CarryData (h.sections ++ f ∷ []) es → BeginsWith bytes es behind
+  pub further : (es : List (List ℕ)) → CarryData (h.sections ++ f ∷ []) es → BeginsWith bytes es behind
   further es carry = search (std_rules, append_assoc h.front stands.front behind, sequence-end h.sections h.front h.are.0 f stands.front stands.framed_, named-end h.sections h.are.1 f stands.named_)
 
 -- A section that stands in front takes bytes.
@@ -94,8 +94,12 @@ module _ (bytes : List ℕ) (n : ℕ) (rest : List ℕ) (left : ℕ) (h : Walks 
   none-left empty = (h.data_, subst (λ (t : List ℕ). BeginsWith bytes h.data_ t) (is-nothing rest empty) h.begins, (let counted = h.counted in omega (arith, counted)))
 
   -- no section begins where something is left
-  pub stuck : (offset : ℕ) → offset ≡ length bytes - length rest → IsFrontless rest → (e : Error) → e ≡ errors.BadModule offset → RefusesWalk bytes n e
-  stuck offset at none e is = search (std_rules, within)
+  pub stuck : (offset : ℕ) → offset ≡ length bytes - length rest → (length rest ≡ 0 → ⊥) → IsFrontless rest → (e : Error) → e ≡ errors.BadModule offset → RefusesWalk bytes n e
+  stuck offset at some none e is =
+      let inside = within in
+      let ends : offset + length rest ≡ length bytes = omega (arith, at, inside) in
+      let few : length h.data_ ≤ n = (let counted = h.counted in omega (arith, counted)) in
+      subst (RefusesWalk bytes n) (sym is) (h.data_, rest, h.begins, few, (λ no. some (ap length no)), none, ends)
 
 pub no-module : (bytes : List ℕ) (n : ℕ) → IsNoModule bytes → (e : Error) → e ≡ errors.NotAModule → RefusesWalk bytes n e
 no-module bytes n none e is = subst (RefusesWalk bytes n) (sym is) none

@@ -19,7 +19,7 @@ pub record AreKinds (bytes : List ℕ) (sum : ℕ) : Type 0 where
   pub reads_world : IsTrue world ↔ ((m : WorldPackage) × ReadsWorld bytes m)
   pub binds : IsTrue module_ ↔ ((c : Binding) × IsBound bytes c)
 
--- Memory was wanting; or the bytes are of a module for which a list would get too long.
+-- Memory ran out; or the bytes are of a module for which a list would get too long.
 abbrev pub IsUnknown : List ℕ → Error → Type 0
 IsUnknown bytes errors.Memory = Unit {0}
 IsUnknown bytes errors.Size = OutgrowsLists bytes

@@ -31,7 +31,7 @@ pub data ComparesTwo (bytes name other other_name : List ℕ) : Alike → Type 0
   no_first : HasNoWorld bytes name → ComparesTwo bytes name other other_name alike.NoFirst
   no_second : (r : Resolve) (a : WorldId) → HasWorldNamed bytes name r a → HasNoWorld other other_name → ComparesTwo bytes name other other_name alike.NoSecond
 
--- The first bytes mean no package; or they mean one with a world of this name, and the second mean none. Else memory was wanting, which both say.
+-- The first bytes mean no package; or they mean one with a world of this name, and the second mean none. Else memory ran out, which both say.
 pub data RefusesTwo (bytes name other : List ℕ) : Error → Type 0 where
   first : (e : Error) → RefusesBytes bytes e → RefusesTwo bytes name other e
   second : (r : Resolve) (a : WorldId) (e : Error) → HasWorldNamed bytes name r a → RefusesBytes other e → RefusesTwo bytes name other e

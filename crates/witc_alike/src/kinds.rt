@@ -8,7 +8,7 @@ use std::alloc::Global;
 use wit_component::laws::bound_once;
 use wit_component::{Error, decode, decode_world, metadata};
 
-/// Whether a reading is there. Want of memory is no answer, and neither is what may be read where there is more room.
+/// Whether a reading is there. That memory ran out is no answer, and neither is what may be read where there is more room.
 fn is_read<T: Drop>(reading: Result<T, Error>) -> Result<bool, Error>
     ensures { TellsRead reading result }
 {

@@ -5,6 +5,6 @@ mod carried;
 mod kinds;
 mod likeness;
 
-pub use carried::section_data;
+pub use carried::{section_data, sections_data};
 pub use kinds::kinds_of;
 pub use likeness::{Alike, liken};

@@ -1,15 +1,19 @@
 -- What C is given of what comes of a call.
-use Rattle.std.proofs.Common.{rules as std_rules, ◌≡◌, ◌&&◌, ℕ, List, [], Bool, true, false, refl, sym, subst, Option, Some, None, Result, Ok, Err, IfOk, MatchResult}
+use Rattle.std.proofs.Common.{rules as std_rules, ◌≡◌, ◌≤◌, ◌&&◌, ℕ, length, List, [], Bool, true, false, refl, sym, subst, Option, Some, None, Result, Ok, Err, IfOk, MatchResult}
 use Rattle.std.specs.{Prelude.Vec, Prelude.IfErr, Str.is_utf8}
 use Rattle.std.specs.declared.alloc.{AllocError.AllocError, Global.Global}
 use Rattle.wit_model.specs.declared.error.Error.{Error}
 use Rattle.witc_refusals.specs.{Messages.message_of, Numbers.plain_why, Numbers.why_of}
 use Rattle.witc_refusals.specs.declared.why.Why.{Why}
+use Rattle.witc_within.specs.Within.{TextWithin}
+use Rattle.witc_within.specs.declared.texts.Within.{Within}
+use Rattle.witc_within.specs.declared.texts.Within.TheVariants as within
+use Rattle.witc_ffi.specs.Answers.{AnswersWithin, IsOutcomeWithin, NeverBad, beyond, within_bound}
 use Rattle.witc_ffi.specs.Answers.{Answers, AreAlike, AreTexts, IsCompatible, IsOutcomeIfThere, LacksEither, LacksWorld, RefusesAlike, RefusesWorlds, Tells, bad, done, lacking as answers_lacking, no_such_world, refused, world_why}
 use Rattle.witc_ffi.specs.Outcomes.{HandsOut, IsOutcome, IsOutcomeOf, IsRefusal, handed, lacking}
 use Rattle.witc_ffi.specs.declared.outcome.Outcome.{Outcome}
 
--- no bytes, where memory is wanting
+-- no bytes, where memory runs out
 pub lacks : (outcome : Result Outcome AllocError) (text : List ℕ) (why : Why) → text ≡ [] → why ≡ plain_why 1 → HandsOut outcome 3 text why
 lacks outcome text why is numbers = subst (λ (t : List ℕ). HandsOut outcome 3 t why) (sym is) (subst (HandsOut outcome 3 []) (sym numbers) lacking)
 
@@ -21,7 +25,7 @@ hands (Ok o) status text why is = subst (λ (n : ℕ). HandsOut (Ok o) n text wh
 hands (Err e) status text why is = absurd is
 
 module _ (Done : List ℕ → Type 0) (Refused : Error → Type 0) (Bad : List ℕ → Why → Type 0) where
-  -- what an outcome tells, C is told; and it is told when memory is wanting
+  -- what an outcome tells, C is told; and it is told when memory runs out
   pub passes : (outcome : Result Outcome AllocError) (status : ℕ) (text : List ℕ) (why : Why)
       → IfOk outcome (Tells Done Refused Bad) → HandsOut outcome status text why → Answers Done Refused Bad status text why
   passes outcome status text why tells lacking = answers_lacking
@@ -61,8 +65,33 @@ module _ (Done : List ℕ → Type 0) (Refused : Error → Type 0) (Bad : List �
   if-there name There (Err e) (Ok o) some none ok err is = known 1 (message_of e) (why_of e) o (refused e err is.no_lack) is.is
   if-there name There given (Err lack) some none ok err is = tt
 
+-- what a text up to a bound, or a refusal, tells
+abbrev TellsWithin : (List ℕ → Type 0) → (Error → Type 0) → ℕ → Outcome → Type 0
+TellsWithin Is Refused most o = AnswersWithin Is Refused most o.status o.text.items o.why
+
+module _ (Is : List ℕ → Type 0) (Refused : Error → Type 0) (most : ℕ) where
+  abbrev Short : List ℕ → Type 0
+  Short text = Is text × (length text ≤ most)
+
+  tells-within : (given : Result Within Error) (r : Result Outcome AllocError) → IfOk given (TextWithin Is most) → IfErr given Refused → IfOk r (IsOutcomeWithin most given)
+      → IfOk r (TellsWithin Is Refused most)
+  tells-within (Ok (within.Text text)) (Ok o) ok err is = within_bound (of-done Short Refused NeverBad text.items o ok is)
+  tells-within (Ok within.Beyond) (Ok o) ok err is = beyond ok.0 ok.1 ok.2 is.status_is is.text_is is.why_is
+  tells-within (Err e) (Ok o) ok err is = within_bound (known Short Refused NeverBad 1 (message_of e) (why_of e) o (refused e err is.no_lack) is.is)
+  tells-within given (Err lack) ok err is = tt
+
+  told-within : (outcome : Result Outcome AllocError) (status : ℕ) (text : List ℕ) (why : Why) → IfOk outcome (TellsWithin Is Refused most) → HandsOut outcome status text why
+      → AnswersWithin Is Refused most status text why
+  told-within outcome status text why tells lacking = within_bound answers_lacking
+  told-within outcome status text why tells (handed o is) = search std_rules
+
+  -- C is told it
+  pub passes-within : (given : Result Within Error) (outcome : Result Outcome AllocError) (status : ℕ) (text : List ℕ) (why : Why) → IfOk given (TextWithin Is most) → IfErr given Refused
+      → IfOk outcome (IsOutcomeWithin most given) → HandsOut outcome status text why → AnswersWithin Is Refused most status text why
+  passes-within given outcome status text why ok err is hands = told-within outcome status text why (tells-within given outcome ok err is) hands
+
 -- both of two things that are said of a refusal
-pub both-said : (P Q : Error → Type 0) (given : Result (Vec ℕ Global) Error) → IfErr given P → IfErr given Q → IfErr given (λ e. P e × Q e)
+pub both-said : {X : Type 0} (P Q : Error → Type 0) (given : Result X Error) → IfErr given P → IfErr given Q → IfErr given (λ e. P e × Q e)
 both-said x y z p q = search std_rules
 
 -- texts that are the bytes of names which are UTF-8

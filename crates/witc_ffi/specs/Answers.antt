@@ -1,6 +1,6 @@
 -- What the status of each call, its bytes and its numbers say, of the bytes and names handed in.
-use Rattle.std.specs.Prelude.{◌≡◌, ◌&&◌, ◌++◌, ℕ, nat_eq, nat_lt, Bool, if◌then◌else◌, List, [], codes, length, true, false, Option, Some, None, Result, Ok, Err, Vec, String}
-use Rattle.std.specs.Str.{is_utf8}
+use Rattle.std.specs.Prelude.{◌≡◌, ◌<◌, ◌≤◌, ◌&&◌, ◌++◌, ℕ, nat_eq, nat_lt, Bool, if◌then◌else◌, List, [], codes, length, true, false, Option, Some, None, Result, Ok, Err, Vec, String}
+use Rattle.std.specs.{Fmt.decimal, Str.is_utf8}
 use Rattle.std.specs.declared.alloc.Global.{Global}
 use Rattle.wit_model.specs.declared.{error.Error.Error, error.Error.TheVariants.Size, model.StringEncoding.StringEncoding}
 use Rattle.wit_component.specs.{Bound.RefusesBindings, Reached.OutgrowsLists}
@@ -9,15 +9,17 @@ use Rattle.witc_refusals.specs.declared.why.Why.{Why}
 use Rattle.witc_texts.specs.Worlds.{ComparesBytes, RefusesCompared}
 use Rattle.witc_alike.specs.{Carried.HasNumber, Kinds.AreKinds, Kinds.IsUnknown, Likeness.ComparesTwo, Likeness.RefusesTwo}
 use Rattle.witc_written.specs.Carried.{AttachesWorld, EmbedsWorld, HasNoWorld, RefusesAttached, RefusesEmbedded}
+use Rattle.witc_within.specs.declared.texts.Within.{Within}
 use Rattle.witc_ffi.specs.Outcomes.{IsNoLack, IsOutcome, IsRefusal}
 use Rattle.witc_ffi.specs.declared.outcome.Outcome.{Outcome}
 use Rattle.wit_model.specs.declared.error.Error.TheVariants as errors
 use Rattle.wit_model.specs.declared.model.StringEncoding.TheVariants as encodings
 use Rattle.witc_texts.specs.declared.comparison.Compared.TheVariants as compared
 use Rattle.witc_alike.specs.declared.likeness.Alike.TheVariants as alike
+use Rattle.witc_within.specs.declared.texts.Within.TheVariants as within
 
 -- A call is done, with bytes of which this is true. Or it is refused with an error of which that is true, and the bytes are its message. Or an
--- argument is bad, with this text and these numbers. Or memory was wanting, and there are no bytes.
+-- argument is bad, with this text and these numbers. Or memory ran out, and there are no bytes.
 pub data Answers (Done : List ℕ → Type 0) (Refused : Error → Type 0) (Bad : List ℕ → Why → Type 0) : ℕ → List ℕ → Why → Type 0 where
   done : (text : List ℕ) → Done text → Answers Done Refused Bad 0 text (plain_why 0)
   refused : (e : Error) → Refused e → IsNoLack e → Answers Done Refused Bad 1 (message_of e) (why_of e)
@@ -85,7 +87,7 @@ encoding_of n = if nat_eq n 0 then Some encodings.UTF8 else
     (if nat_eq n 1 then Some encodings.UTF16 else (if nat_eq n 2 then Some encodings.CompactUTF16 else None))
 
 abbrev pub no_encoding : List ℕ
-no_encoding = codes "no string encoding has this number: they are 0 for UTF-8, 1 for UTF-16 and 2 for Latin-1 with UTF-16"
+no_encoding = codes "no string encoding has this number: 0 is UTF-8, 1 is UTF-16, and 2 is Latin-1 with UTF-16"
 
 -- A name isn't UTF-8, or no string encoding has the number; or, where neither is so, the package has no world of this name.
 pub data LacksPart (bytes name : List ℕ) (encoding : ℕ) : List ℕ → Why → Type 0 where
@@ -158,6 +160,24 @@ pub record IsSection (bytes : List ℕ) (n : ℕ) (text : List ℕ) : Type 0 whe
 pub data LacksSection (bytes : List ℕ) (n : ℕ) : List ℕ → Why → Type 0 where
   fewer : HasNumber bytes n None → LacksSection bytes n no_section (plain_why 20)
 
+-- ---- texts up to a bound
+
+abbrev pub too_long : ℕ → List ℕ
+too_long most = codes "the text is longer than " ++ (decimal most ++ codes " bytes")
+
+-- the outcome of a text that has at most so many bytes, or of one that has more, or of a refusal
+abbrev pub IsOutcomeWithin : ℕ → Result Within Error → Outcome → Type 0
+IsOutcomeWithin most (Ok (within.Text text)) o = IsOutcome 0 text.items (plain_why 0) o
+IsOutcomeWithin most (Ok within.Beyond) o = IsOutcome 1 (too_long most) (plain_why 21) o
+IsOutcomeWithin most (Err e) o = IsRefusal e o
+
+-- A call is done, with a text of which this is true, whole, and which has at most so many bytes. Or there is such a text, and it has more. Or the call is
+-- refused with an error of which that is true, or memory ran out.
+pub data AnswersWithin (Is : List ℕ → Type 0) (Refused : Error → Type 0) (most : ℕ) (status : ℕ) (text : List ℕ) (why : Why) : Type 0 where
+  within_bound : Answers (λ whole. Is whole × (length whole ≤ most)) Refused NeverBad status text why → AnswersWithin Is Refused most status text why
+  beyond : (whole : List ℕ) → Is whole → most < length whole → status ≡ 1 → text ≡ too_long most → why ≡ plain_why 21
+      → AnswersWithin Is Refused most status text why
+
 -- ---- two packages
 
 -- The names are UTF-8, and the two worlds have one sense. There are no bytes.
@@ -198,7 +218,7 @@ abbrev pub AnswersAlike : List ℕ → List ℕ → List ℕ → List ℕ → �
 AnswersAlike bytes name other other_name =
     Answers (AreAlike bytes name other other_name) (RefusesAlike bytes name other other_name) (LacksEither bytes name other other_name)
 
--- What the bytes are; or 128, where memory was wanting or a list would get too long.
+-- What the bytes are; or 128, where memory ran out or a list would get too long.
 pub data KindsAnswers (bytes : List ℕ) : ℕ → Type 0 where
   kinds : (sum : ℕ) → AreKinds bytes sum → KindsAnswers bytes sum
   unknown : (e : Error) → IsUnknown bytes e → KindsAnswers bytes 128

@@ -95,7 +95,7 @@ fn no_encoding(alloc: Global) -> Result<Outcome, AllocError>
     bad(
         alloc,
         BAD_ENCODING,
-        "no string encoding has this number: they are 0 for UTF-8, 1 for UTF-16 and 2 for Latin-1 with UTF-16",
+        "no string encoding has this number: 0 is UTF-8, 1 is UTF-16, and 2 is Latin-1 with UTF-16",
     )
 }
 

@@ -5,8 +5,8 @@
 
 ghost use Rattle.std.specs.Prelude.{◌≡◌, []};
 ghost use Rattle.wit_component.specs.{Decoded.RefusesBytes, DecodedWorlds.RefusesWorldBytes};
-ghost use Rattle.witc_alike.specs.Carried.{RefusesWalk};
-ghost use Rattle.witc_ffi.specs.Answers.{Answers, AnswersAlike, AnswersAttached, AnswersCompared, AnswersEmbedded, IsSection, KindsAnswers, LacksSection, NeverBad, RefusesBound, is_asked};
+ghost use Rattle.witc_alike.specs.Carried.{ListsData, RefusesSections, RefusesWalk};
+ghost use Rattle.witc_ffi.specs.Answers.{Answers, AnswersAlike, AnswersAttached, AnswersCompared, AnswersEmbedded, AnswersWithin, IsSection, KindsAnswers, LacksSection, NeverBad, RefusesBound, is_asked};
 ghost use Rattle.witc_listed.specs.Listings.{ListsModule, ListsPackage, ListsWorld};
 ghost use Rattle.witc_texts.specs.{Bindings.PrintsModule, Printed.PrintsBytes, Stripped.StripsBytes};
 ghost use Rattle.witc_written.specs.Worlds.{EncodesWorld, PrintsWorld, RefusesEncodedWorld};
@@ -20,11 +20,13 @@ mod outcome;
 
 use answer::Answer;
 use calls::{attached, compared, embedded, known_kinds, likened, section, stripped};
-use outcome::{hand_out, of_bytes};
+use outcome::{hand_out, of_bytes, of_text_within};
 use std::alloc::Global;
+use witc_alike::sections_data;
 use witc_listed::{module_json, package_json, world_json};
 use witc_refusals::Why;
 use witc_texts::{module_text, print};
+use witc_within::{module_text_within, package_text_within, world_text_within};
 use witc_written::{module_package, package_bytes, world_package, world_text};
 
 /// The text of the package that the bytes mean.
@@ -38,6 +40,25 @@ pub extern "C" fn witc_package_text_slice(
     ensures { Answers (PrintsBytes bytes.now) (RefusesBytes bytes.now) NeverBad result answer.new.text why.new }
 {
     hand_out(alloc, of_bytes(alloc, print(alloc, bytes)), answer, why)
+}
+
+/// The text of the package that the bytes mean, if it has at most so many bytes.
+#[unsafe(no_mangle)]
+pub extern "C" fn witc_package_text_within_slice(
+    alloc: Global,
+    bytes: &[u8],
+    most: usize,
+    answer: &mut Answer,
+    why: &mut Why,
+) -> u8
+    ensures { AnswersWithin (PrintsBytes bytes.now) (RefusesBytes bytes.now) most result answer.new.text why.new }
+{
+    hand_out(
+        alloc,
+        of_text_within(alloc, most, package_text_within(alloc, bytes, most)),
+        answer,
+        why,
+    )
 }
 
 /// The package that the bytes mean, encoded anew, with canonical names where `canonical` isn't 0.
@@ -95,6 +116,25 @@ pub extern "C" fn witc_world_text_slice(
     )
 }
 
+/// The text of the one world that the bytes mean, if it has at most so many bytes.
+#[unsafe(no_mangle)]
+pub extern "C" fn witc_world_text_within_slice(
+    alloc: Global,
+    bytes: &[u8],
+    most: usize,
+    answer: &mut Answer,
+    why: &mut Why,
+) -> u8
+    ensures { AnswersWithin (PrintsWorld bytes.now) (RefusesWorldBytes bytes.now) most result answer.new.text why.new }
+{
+    hand_out(
+        alloc,
+        of_text_within(alloc, most, world_text_within(alloc, bytes, most)),
+        answer,
+        why,
+    )
+}
+
 /// The one world that the bytes mean, as JSON.
 #[unsafe(no_mangle)]
 pub extern "C" fn witc_world_json_slice(
@@ -144,6 +184,25 @@ pub extern "C" fn witc_module_text_slice(
     hand_out(
         alloc,
         of_bytes(alloc, module_text(alloc, bytes)),
+        answer,
+        why,
+    )
+}
+
+/// The text of what the core module binds that the bytes are, if it has at most so many bytes.
+#[unsafe(no_mangle)]
+pub extern "C" fn witc_module_text_within_slice(
+    alloc: Global,
+    bytes: &[u8],
+    most: usize,
+    answer: &mut Answer,
+    why: &mut Why,
+) -> u8
+    ensures { AnswersWithin (PrintsModule bytes.now) (RefusesBound bytes.now) most result answer.new.text why.new }
+{
+    hand_out(
+        alloc,
+        of_text_within(alloc, most, module_text_within(alloc, bytes, most)),
         answer,
         why,
     )
@@ -211,6 +270,24 @@ pub extern "C" fn witc_module_section_slice(
         result answer.new.text why.new }
 {
     hand_out(alloc, section(alloc, bytes, number), answer, why)
+}
+
+/// The data of all sections of a core module that carry worlds, in order, each behind its length in four bytes, the lowest first.
+#[unsafe(no_mangle)]
+pub extern "C" fn witc_module_sections_slice(
+    alloc: Global,
+    bytes: &[u8],
+    answer: &mut Answer,
+    why: &mut Why,
+) -> u8
+    ensures { Answers (ListsData bytes.now []) (RefusesSections bytes.now) NeverBad result answer.new.text why.new }
+{
+    hand_out(
+        alloc,
+        of_bytes(alloc, sections_data(alloc, bytes)),
+        answer,
+        why,
+    )
 }
 
 /// The data of a section that carries the package's world of this name.

@@ -1,7 +1,7 @@
-//! What comes of a call: a status, its bytes and its numbers, or want of memory.
+//! What comes of a call: a status, its bytes and its numbers, unless memory ran out.
 
 ghost use Rattle.std.specs.Prelude.{◌≡◌, MatchResult, IfOk};
-ghost use Rattle.witc_ffi.specs.Answers.{IsOutcomeIfThere, no_such_world, world_why};
+ghost use Rattle.witc_ffi.specs.Answers.{IsOutcomeIfThere, IsOutcomeWithin, no_such_world, too_long as too_long_text, world_why};
 ghost use Rattle.witc_ffi.specs.Outcomes.{HandsOut, IsOutcome, IsOutcomeOf, IsRefusal};
 ghost use Rattle.witc_refusals.specs.{Messages.message_of, Numbers.plain_why, Numbers.why_of as numbers_of};
 
@@ -9,6 +9,7 @@ use crate::answer::Answer;
 use std::alloc::{AllocError, Global};
 use wit_component::Error;
 use witc_refusals::{Why, message, why_of};
+use witc_within::Within;
 
 /// The call is done.
 pub const DONE: u8 = 0;
@@ -16,11 +17,13 @@ pub const DONE: u8 = 0;
 pub const REFUSED: u8 = 1;
 /// A world isn't there, or a name isn't UTF-8.
 pub const BAD_ARGUMENT: u8 = 2;
-/// Memory was wanting.
+/// Out of memory.
 pub const NO_MEMORY: u8 = 3;
 
 /// There is no such world.
 const NO_SUCH_WORLD: u32 = 17;
+/// The text is longer than its bound.
+const TEXT_TOO_LONG: u32 = 21;
 
 /// A status, the bytes that go with it, and the numbers of a refusal.
 #[derive(Drop)]
@@ -41,7 +44,7 @@ pub fn done(text: Vec<u8>) -> Outcome
     }
 }
 
-/// The outcome of a refusal: its message and its numbers. Want of memory has none.
+/// The outcome of a refusal: its message and its numbers. Where memory ran out, there is none.
 pub fn refusal(alloc: Global, error: Error) -> Result<Outcome, AllocError>
     ensures { IfOk result (IsRefusal error) }
 {
@@ -70,6 +73,33 @@ pub fn of_bytes(alloc: Global, given: Result<Vec<u8>, Error>) -> Result<Outcome,
         Ok(text) => Ok(done(text)),
         Err(error) => refusal(alloc, error),
     }
+}
+
+/// The outcome of a text up to a bound, or of a refusal.
+pub fn of_text_within(
+    alloc: Global,
+    most: usize,
+    given: Result<Within, Error>,
+) -> Result<Outcome, AllocError>
+    ensures { IfOk result (IsOutcomeWithin most given) }
+{
+    match given {
+        Ok(Within::Text(text)) => Ok(done(text)),
+        Ok(Within::Beyond) => too_long(alloc, most),
+        Err(error) => refusal(alloc, error),
+    }
+}
+
+/// The outcome where a text has more bytes than that.
+fn too_long(alloc: Global, most: usize) -> Result<Outcome, AllocError>
+    ensures { IfOk result (IsOutcome 1 (too_long_text most) (plain_why 21)) }
+{
+    let text = format!(in alloc; "the text is longer than {most} bytes")?;
+    Ok(Outcome {
+        status: REFUSED,
+        text: text.into_bytes(),
+        why: Why::plain(TEXT_TOO_LONG),
+    })
 }
 
 /// The outcome of bytes, or of a world of this name that isn't there, or of a refusal.
@@ -110,7 +140,7 @@ pub fn bad(alloc: Global, code: u32, text: &str) -> Result<Outcome, AllocError>
     })
 }
 
-/// Gives C the bytes of an outcome and its numbers, and answers its status. Where memory is wanting, there are no bytes.
+/// Gives C the bytes of an outcome and its numbers, and answers its status. Where memory runs out, there are no bytes.
 pub fn hand_out(
     alloc: Global,
     outcome: Result<Outcome, AllocError>,

@@ -1,5 +1,5 @@
 -- Refusals as numbers: each variant of `Error` in its order, from 1 on, and what is in it.
-use Rattle.std.specs.Prelude.{ℕ, List, [], length}
+use Rattle.std.specs.Prelude.{ℕ, length}
 use Rattle.wit_model.specs.declared.error.{Cause.Cause, ClashKind.ClashKind, Error.Error}
 use Rattle.witc_refusals.specs.declared.why.Why.{Why}
 use Rattle.wit_model.specs.declared.error.Cause.TheVariants as causes

@@ -56,10 +56,10 @@ others-there r some = all-there r.packages.items 1 (length r.packages.items - 1)
 
 -- ---- refusals
 
--- want of memory
+-- memory ran out
 pub no-memory : (bytes : List ℕ) (e : Error) → e ≡ Memory → RefusesBindings bytes e
 no-memory bytes e is = subst (RefusesBindings bytes) (sym is) tt
 
--- want of memory is never too large
+-- that memory ran out is never that something is too large
 pub never-too-large : (X : Type 0) (e : Error) → e ≡ Memory → e ≡ Size → X
 never-too-large X e is large = search std_rules

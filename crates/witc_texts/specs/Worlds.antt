@@ -12,7 +12,7 @@ pub data ComparesTo (r : Resolve) (n : ℕ) (prev new : List ℕ) : Compared →
   no_prev : world_named r n prev ≡ None → ComparesTo r n prev new compared.NoPrev
   no_new : (p : World) → world_named r n prev ≡ Some p → world_named r n new ≡ None → ComparesTo r n prev new compared.NoNew
 
--- Why nothing comes of them: want of memory, or both are there, and the first thing that stands in the way of the second world.
+-- Why nothing comes of them: memory ran out, or both are there, and the first thing that stands in the way of the second world.
 pub data RefusesNames (r : Resolve) (n : ℕ) (prev new : List ℕ) : Error → Type 0 where
   memory : RefusesNames r n prev new Memory
   refused : (p q : World) (e : Error) → world_named r n prev ≡ Some p → world_named r n new ≡ Some q → IsRefused r p q e → RefusesNames r n prev new e

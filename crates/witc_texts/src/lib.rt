@@ -10,6 +10,6 @@ mod worlds;
 
 pub use comparison::{Compared, compat};
 pub use lines::{COMPATIBLE, USAGE};
-pub use modules::{module_text, strip};
+pub use modules::{module_text, other_packages, strip};
 pub use packages::{print, text_of_package};
 pub use worlds::world_of;

@@ -12,7 +12,7 @@ use wit_component::metadata::decode;
 use wit_component::{Error, PackageId, Resolve};
 
 /// The numbers of all packages but the first.
-fn other_packages(alloc: Global, resolve: &Resolve) -> Result<Vec<PackageId>, AllocError>
+pub fn other_packages(alloc: Global, resolve: &Resolve) -> Result<Vec<PackageId>, AllocError>
     requires valid { IsValid resolve.now }
     requires some { 0 < length resolve.now.packages.items }
     ensures { IfOk result (λ others. others.items ≡ other_packages_of resolve.now) }

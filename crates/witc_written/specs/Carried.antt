@@ -1,11 +1,13 @@
 -- Worlds of packages, as sections of modules carry them (wit-component README, "Custom Section Format").
-use Rattle.std.specs.Prelude.{◌≡◌, ◌<◌, ◌++◌, ℕ, Bool, true, List, Option, Some, None, Vec, codes, length}
+use Rattle.std.specs.Prelude.{◌≡◌, ◌<◌, ◌++◌, ℕ, Bool, true, List, [], Option, Some, None, Vec, codes, length}
 use Rattle.std.specs.declared.alloc.Global.{Global}
 use Rattle.wit_model.specs.declared.error.Error.{Error}
 use Rattle.wit_model.specs.declared.{error.Error.TheVariants.Size, model.Resolve.Resolve, model.StringEncoding.StringEncoding, model.WorldId.WorldId}
 use Rattle.comp_bytes.specs.Writing.{framed, name_bytes}
-use Rattle.bind_meaning.specs.Binding.{Binding}
-use Rattle.wit_component.specs.{Bound.IsBound, Bound.RefusesBindings, Decoded.IsDecoded, Decoded.RefusesBytes, Order.FollowsBytes, Weight.world_package_weight}
+use Rattle.wit_model.specs.Meaning.{WorldPackage}
+use Rattle.bind_meaning.specs.{Binding.Binding, ByMeaning.binding_of_world, Clash.CanUnite, Union.union}
+use Rattle.wit_component.specs.{Bound.IsBound, Bound.RefusesBindings, Bound.SectionMeans, Steps.IsDataInFront}
+use Rattle.wit_component.specs.{Decoded.IsDecoded, Decoded.RefusesBytes, Order.FollowsBytes, Weight.world_package_weight}
 use Rattle.wit_component.specs.{Carried.CarriesEncoding, Carried.CarriesWorld, Carried.MeansWorld, Packages.HasNoClashAt, Packages.RefusesWorldAt}
 use Rattle.wit_component.specs.Reached.{OutgrowsLists}
 use Rattle.witc_texts.specs.Named.{NamesWorld}
@@ -56,28 +58,45 @@ section_contents name data_ = name_bytes name ++ data_
 abbrev pub with_section : List ℕ → List ℕ → List ℕ → List ℕ
 with_section module_ name data_ = module_ ++ framed 0 (section_contents (section_name name) data_)
 
--- why such a section isn't written: for want of memory, or where the length of what is in it doesn't fit in 32 bits
+-- why such a section isn't written: memory ran out, or the length of what is in it doesn't fit in 32 bits
 abbrev pub RefusesSection : List ℕ → List ℕ → Error → Type 0
 RefusesSection name data_ errors.Memory = Unit {0}
 RefusesSection name data_ errors.Size = 4294967295 < length (section_contents name data_)
 RefusesSection name data_ _ = ⊥
 
--- The bytes are the module with one more section, which carries the package's world of this name; and they are a module that binds something.
+-- this data stands in such a section alone, and is read from it
+abbrev pub IsCarried : List ℕ → List ℕ → Type 0
+IsCarried name data_ = IsDataInFront (framed 0 (section_contents (section_name name) data_)) data_ []
+
+-- the bytes are a module, whole, and bind something
+abbrev pub BindsSomething : List ℕ → Type 0
+BindsSomething module_ = (b : Binding) × IsBound module_ b
+
+-- The module alone binds something. The bytes are that module with one more section, which carries the package's world of this name; and they bind that world,
+-- with the encoding, beside what the module bound.
 pub record AttachesWorld (module_ bytes name : List ℕ) (e : StringEncoding) (canonical : Bool) (out : List ℕ) : Type 0 where
   pub data_ : List ℕ
   pub embeds : EmbedsWorld bytes name e canonical data_
   pub is : out ≡ with_section module_ name data_
-  pub bound : Binding
-  pub binds : IsBound out bound
+  pub before : Binding
+  pub whole : IsBound module_ before
+  pub meant : WorldPackage
+  pub means : SectionMeans data_ meant e
+  pub unites : CanUnite before (binding_of_world meant e)
+  pub binds : IsBound out (union before (binding_of_world meant e))
 
 abbrev pub AttachesIfThere : List ℕ → List ℕ → List ℕ → StringEncoding → Bool → Option (Vec ℕ Global) → Type 0
 AttachesIfThere module_ bytes name e canonical None = HasNoWorld bytes name
 AttachesIfThere module_ bytes name e canonical (Some out) = AttachesWorld module_ bytes name e canonical out.items
 
--- The world is refused; or the section with its data isn't written; or what comes of the module is refused, for size only where a list would get too long.
+-- The world is refused; or the module alone is; or the section with its data isn't written; or what comes of the module is refused. Bindings are refused for
+-- size only where a list would get too long.
 pub data RefusesAttached (module_ bytes name : List ℕ) (e : StringEncoding) (canonical : Bool) : Error → Type 0 where
   unembedded : (error : Error) → RefusesEmbedded bytes name canonical error → RefusesAttached module_ bytes name e canonical error
-  unjoined : (data_ : List ℕ) (error : Error) → EmbedsWorld bytes name e canonical data_ → RefusesSection (section_name name) data_ error
-      → RefusesAttached module_ bytes name e canonical error
-  unbound : (data_ : List ℕ) (error : Error) → EmbedsWorld bytes name e canonical data_ → RefusesBindings (with_section module_ name data_) error
+  broken : (data_ : List ℕ) (error : Error) → EmbedsWorld bytes name e canonical data_ → RefusesBindings module_ error
+      → (error ≡ Size → OutgrowsLists module_) → RefusesAttached module_ bytes name e canonical error
+  unjoined : (data_ : List ℕ) (error : Error) → EmbedsWorld bytes name e canonical data_ → BindsSomething module_
+      → RefusesSection (section_name name) data_ error → RefusesAttached module_ bytes name e canonical error
+  unbound : (data_ : List ℕ) (error : Error) → EmbedsWorld bytes name e canonical data_ → BindsSomething module_
+      → RefusesBindings (with_section module_ name data_) error
       → (error ≡ Size → OutgrowsLists (with_section module_ name data_)) → RefusesAttached module_ bytes name e canonical error

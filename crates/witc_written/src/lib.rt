@@ -8,5 +8,6 @@ mod sections;
 mod worlds;
 
 pub use carried::{attach, embed};
+pub use homes::{home_of, other_packages};
 pub use packages::{module_package, package_bytes};
 pub use worlds::{world_package, world_text};
