@@ -1,0 +1,4 @@
+pub mod AllTell
+pub mod Contents
+pub mod Delivered
+pub mod Readings

@@ -1,0 +1,34 @@
+//! What is read of a file, and what a word answers.
+
+ghost use Rattle.std.specs.Prelude.{◌≡◌};
+
+/// What is read of a file: its bytes; or, where it is no WebAssembly, some of the first ones.
+#[derive(Drop)]
+pub struct Input<'a> {
+    pub name: &'a str,
+    pub bytes: Vec<u8>,
+    /// Whether these are all of its bytes.
+    pub whole: bool,
+}
+
+/// What a word answers: yes or no, and a text or bytes.
+#[derive(Drop)]
+pub struct Answer {
+    pub yes: bool,
+    pub text: Vec<u8>,
+    /// Whether these bytes are no text.
+    pub binary: bool,
+}
+
+impl Answer {
+    /// A text, and yes or no.
+    pub fn told(text: Vec<u8>, fits: bool) -> Answer
+        ensures { (result.yes ≡ fits) × (result.text ≡ text) }
+    {
+        Answer {
+            yes: fits,
+            text,
+            binary: false,
+        }
+    }
+}

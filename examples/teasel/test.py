@@ -1,0 +1,753 @@
+#!/usr/bin/env python3
+"""Tests of the program `teasel`: what each word answers, what it refuses and how, and what becomes of files.
+
+    examples/teasel/test.py [PROGRAM [TEST..]]    PROGRAM is ./teasel unless it is named, TEST as Words.test_json
+
+What is wanted comes from the samples, from the formats (forms.py) and from other tools. The last line counts.
+"""
+
+import json
+import os
+import pty
+import re
+import resource
+import select
+import shutil
+import signal
+import stat
+import subprocess
+import sys
+import tempfile
+import unittest
+from pathlib import Path
+
+import forms
+
+TOP = Path(__file__).resolve().parent.parent
+PROGRAM = os.path.abspath("teasel")
+CLOCK, FILES, SERVICES = (TOP / "packages" / f"{it}.wasm" for it in ("clock", "files", "services"))
+MODULE, STRIPPED = TOP / "modules/service.wasm", TOP / "modules/service.stripped.wasm"
+CHOSEN = "its worlds: service, service-next, service-bytes"
+NO_CORE = "it is no core module"
+WORDS = "text json wasm kind check compat diff embed strip sections completion man help version".split()
+COMPLETE = "check that it is complete"
+
+# The keys of each object that --json lists.
+KEYS = {
+    "kind": ["file", "kind"],
+    "check": ["file", "ok", "message", "hint"],
+    "compat": ["old", "new", "compatible", "difference"],
+    "sections": ["number", "bytes", "world"],
+}
+
+# Each option with a value, a word that takes it, a bad value, and what is said of that.
+VALUES = [
+    ("--encoding", "embed", "ascii", "it is one of utf8|utf16|latin1+utf16"),
+    ("--as", "text", "component", "it is one of package|world|module"),
+    ("--color", "check", "sometimes", "it is one of auto|always|never"),
+    ("--most", "text", "12X", "it is a number of bytes, as 500, 64K, 64M or 2G"),
+    ("--most", "text", "-1", "it is a number of bytes, as 500, 64K, 64M or 2G"),
+    ("--most-read", "json", "much", "it is a number of bytes, as 500, 64K, 64M or 2G"),
+]
+
+
+def closed(*streams):
+    """What a child does first, so that it has none of these streams."""
+    return lambda: [os.close(it) for it in streams]
+
+
+def limited(what, most):
+    """What a child does first, so that it has no more of something."""
+    return lambda: resource.setrlimit(what, (most, most))
+
+
+def as_nobody():
+    """What a child does first, so that permissions hold for it."""
+    if os.getuid() == 0:
+        os.setgroups([])
+        os.setgid(65534)
+        os.setuid(65534)
+
+
+class Room(unittest.TestCase):
+    """A folder for each test, and runs of the program in it."""
+
+    def setUp(self):
+        room = tempfile.TemporaryDirectory()
+        self.addCleanup(room.cleanup)
+        self.room = Path(room.name)
+        self.room.chmod(0o755)
+
+    def run_(self, *words, program=None, environment=None, stdin=b"", **more):
+        given = {"input": stdin} if isinstance(stdin, bytes) else {"stdin": stdin}
+        for stream in "stdout", "stderr":
+            given[stream] = more.pop(stream, subprocess.PIPE)
+        kept = {it: value for it, value in os.environ.items() if it not in ("NO_COLOR", "TERM")}
+        return subprocess.run(
+            [program or PROGRAM, *words], **given, **more, env={**kept, **(environment or {})}, cwd=self.room, timeout=120
+        )
+
+    def answer(self, *words, status=0, **more):
+        done = self.run_(*words, **more)
+        self.assertEqual((done.returncode, done.stderr), (status, b""), words)
+        return done.stdout
+
+    def kept(self):
+        """All that is in the room: each name with its kind and mode, and a file's bytes."""
+        found = {}
+        for path in sorted(self.room.rglob("*")):
+            state = path.lstat()
+            found[path] = (state.st_mode, path.read_bytes() if stat.S_ISREG(state.st_mode) and os.access(path, os.R_OK) else None)
+        return found
+
+    def refused(self, message, hint, *words, **more):
+        """The words are refused by this message, whose place may be given by a pattern, and nothing else comes of them."""
+        before = self.kept()
+        done = self.run_(*words, **more)
+        wanted = f"teasel: {message}\n" + (f"  {hint}\n" if hint else "")
+        self.assertEqual((done.returncode, done.stdout or b"", done.stderr.decode()), (2, b"", wanted), words)
+        self.assertEqual(self.kept(), before, words)
+
+    def refused_at(self, file, pattern, hint, *words, most=None, **more):
+        """The same of a message that names a byte of the file."""
+        before = self.kept()
+        done = self.run_(*words, **more)
+        self.assertEqual((done.returncode, done.stdout), (2, b""), words)
+        found = re.fullmatch(rf"teasel: {re.escape(str(file))}: byte (\d+): {pattern}\n" + (f"  {re.escape(hint)}\n" if hint else ""), done.stderr.decode())
+        self.assertTrue(found, (words, done.stderr))
+        if most is not None:
+            self.assertLessEqual(int(found[1]), most)
+        self.assertEqual(self.kept(), before, words)
+
+    def store(self, file, data):
+        (self.room / file).write_bytes(data)
+        return file
+
+
+class Misuse(Room):
+    def test_no_word(self):
+        self.refused("there is no word", "`teasel help` lists the words")
+
+    def test_wrong_words(self):
+        for word in "frobnicate", "TEXT", "--foo", "", "clock.wasm":
+            self.refused(f"there is no word {word}", "`teasel help` lists the words", word)
+
+    def test_near_words(self):
+        for word, meant in ("tex", "text"), ("compt", "compat"), ("jsno", "json"), ("checkk", "check"), ("dift", "diff"):
+            self.refused(f"there is no word {word}", f"did you mean {meant}?", word)
+
+    def test_options_that_a_word_lacks(self):
+        for word, option in ("text", "--foo"), ("text", "--json"), ("kind", "-o"), ("diff", "--world"), ("text", "-x"), ("help", "--quiet"):
+            self.refused(f"{word} has no option {option}", f"`teasel help {word}` says more", word, option, CLOCK)
+
+    def test_options_without_value(self):
+        for word, option, name, value in (
+            ("text", "-o", "--output", "FILE"),
+            ("text", "--output", "--output", "FILE"),
+            ("embed", "-w", "--world", "NAME"),
+            ("embed", "--encoding", "--encoding", "utf8|utf16|latin1+utf16"),
+            ("text", "--as", "--as", "package|world|module"),
+            ("check", "--color", "--color", "auto|always|never"),
+            ("text", "--most", "--most", "SIZE"),
+            ("text", "--most-read", "--most-read", "SIZE"),
+        ):
+            self.refused(f"{name} needs a value: {value}", "", word, CLOCK, option)
+
+    def test_bad_values(self):
+        for option, word, value, hint in VALUES:
+            self.refused(f"{option} can't be {value}", hint, word, CLOCK, option, value)
+            self.refused(f"{option} can't be {value}", hint, word, f"{option}={value}", CLOCK)
+            self.refused(f"{option} can't be empty", hint, word, f"{option}=", CLOCK)
+
+    def test_values_of_options_that_take_none(self):
+        for option, word in ("--json", "kind"), ("--quiet", "check"), ("--force", "wasm"), ("--help", "text"):
+            self.refused(f"{option} takes no value", "", word, f"{option}=yes", CLOCK)
+
+    def test_numbers_of_files(self):
+        for words, takes, usage in (
+            (["text", CLOCK, CLOCK], "text takes one file at most", "text [FILE]"),
+            (["compat", SERVICES, SERVICES], "compat takes one file", "compat FILE -w OLD=NEW"),
+            (["compat"], "compat takes one file", "compat FILE -w OLD=NEW"),
+            (["diff", CLOCK], "diff takes two files", "diff OLD NEW"),
+            (["diff", CLOCK, CLOCK, CLOCK], "diff takes two files", "diff OLD NEW"),
+            (["embed", MODULE], "embed takes two files", "embed MODULE PACKAGE"),
+            (["kind"], "kind takes one file at least", "kind FILE.."),
+            (["check"], "check takes one file at least", "check FILE.."),
+            (["man", "text"], "man takes no file", "man"),
+            (["version", "text"], "version takes no file", "version"),
+            (["help", "text", "json"], "help takes one word at most", "help [WORD]"),
+            (["completion"], "completion takes the name of a shell", "completion bash|zsh|fish"),
+        ):
+            self.refused(takes, f"usage: teasel {usage}", *words)
+
+    def test_words_behind_help_and_completion(self):
+        self.refused("frob: there is no such word", "`teasel help` lists the words", "help", "frob")
+        self.refused("ksh: no completions are made for this shell", "it is one of bash, zsh and fish", "completion", "ksh")
+
+    def test_what_is_not_utf8(self):
+        for words in ([b"\xff"], ["text", b"caf\xe9.wasm"], ["text", CLOCK, "-o", b"\xff.wit"]):
+            self.refused("a word isn't UTF-8", "a file whose name isn't can be given as standard input", *words)
+
+    def test_empty_names(self):
+        for words in (["text", ""], ["check", CLOCK, ""], ["text", CLOCK, "-o", ""], ["text", CLOCK, "--output="]):
+            self.refused("the name of a file is empty", "", *words)
+
+
+class Inputs(Room):
+    def test_no_such_file(self):
+        for word in "text", "json", "wasm", "strip", "sections":
+            self.refused("nowhere.wasm: there is no such file", "", word, "nowhere.wasm")
+        self.refused("nowhere.wasm: there is no such file", "", "diff", CLOCK, "nowhere.wasm")
+
+    def test_a_folder(self):
+        self.refused(f"{TOP}: it is a folder", "", "text", TOP)
+        folder = os.open(TOP, os.O_RDONLY)
+        self.addCleanup(os.close, folder)
+        self.refused("standard input: it is a folder", "", "text", stdin=folder)
+
+    def test_without_permission(self):
+        program = shutil.copy(PROGRAM, self.room / "program")
+        secret = self.room / "secret.wasm"
+        shutil.copy(CLOCK, secret)
+        secret.chmod(0)
+        self.refused("secret.wasm: permission to read it is denied", "", "text", "secret.wasm", program=program, preexec_fn=as_nobody)
+
+    def test_an_empty_file(self):
+        for word in "text", "json", "wasm", "strip", "sections":
+            self.refused("empty.wasm: the file is empty", "", word, self.store("empty.wasm", b""))
+            self.refused("standard input: the file is empty", "", word)
+
+    def test_what_is_no_webassembly(self):
+        wit, wat = "make it binary by `wasm-tools component wit -w`", "make it binary by `wasm-tools parse`"
+        for data, message, hint in (
+            (CLOCK.with_suffix(".wit").read_bytes(), "it is WIT text, which isn't read yet", wit),
+            (b"\n  // a comment\npackage a:b;\n", "it is WIT text, which isn't read yet", wit),
+            (b"interface i {}\n", "it is WIT text, which isn't read yet", wit),
+            (b"(module)", "it is WAT text", wat),
+            (b"\n(component)\n", "it is WAT text", wat),
+            (b"\x1f\x8b\x08" + bytes(20), "it is compressed (gzip)", "decompress it first"),
+            (b"PK\3\4" + bytes(20), "it is a zip archive", "unpack it first"),
+            (b"\x7fELF\2\1\1", "it is no WebAssembly file", ""),
+            (b"\0\0\0\0", "it is no WebAssembly file", ""),
+        ):
+            file = self.store("given", data)
+            for words in ["text", file], ["json", file], ["wasm", file], ["strip", file], ["sections", file], ["compat", file, "-w", "a"], ["diff", CLOCK, file]:
+                self.refused(f"given: {message}", hint, *words)
+            self.refused(f"given: {message}", hint, "embed", STRIPPED, file)
+            self.assertEqual(self.answer("kind", file, status=1), b"given: unknown\n")
+
+    def test_each_kind_in_the_place_of_another(self):
+        world = self.store("world.wasm", forms.world_in(MODULE.read_bytes(), "component-type:clock"))
+        whole = self.store("whole.wasm", forms.WHOLE)
+        says = "`teasel kind` says what a file is"
+        for file in CLOCK, world, whole:
+            for words in ["strip", file], ["sections", file], ["text", "--as", "module", file], ["json", "--as=module", file]:
+                self.refused(f"{file}: {NO_CORE}", says, *words)
+            self.refused(f"{file}: {NO_CORE}", "the files stand as MODULE PACKAGE", "embed", file, CLOCK)
+        self.refused(f"{MODULE}: it is a core module, and no package", "the files stand as MODULE PACKAGE", "embed", STRIPPED, MODULE)
+        for kind in "package", "world":
+            self.refused(f"{MODULE}: byte 0: it doesn't begin as a component does", "", "text", "--as", kind, MODULE)
+        both = "the component is neither a WIT package nor a single world"
+        self.refused_at(CLOCK, both, "", "text", "--as", "world", CLOCK)
+        self.refused_at(world, both, "", "text", "--as", "package", world)
+        for word in "text", "json", "wasm":
+            self.refused_at(whole, "a section has an id that packages don't use", "it may be a whole component, whose world isn't read yet", word, whole)
+
+    def test_cut_files(self):
+        for path in CLOCK, FILES, SERVICES:
+            data = path.read_bytes()
+            ends = {end for end, _, _ in forms.sections(data)}
+            for at in sorted({1, 2, 3, 4, 5, 7, 9, 11, len(data) - 1, *range(13, len(data), len(data) // 8)} - ends):
+                file = self.store("cut.wasm", data[:at])
+                if at < 8:
+                    self.refused("cut.wasm: the file ends too early", COMPLETE, "text", file)
+                else:
+                    self.refused_at(file, "the file ends too early", COMPLETE, "text", file, most=at)
+        data = MODULE.read_bytes()
+        ends = {end for end, _, _ in forms.sections(data)}
+        for at in sorted({9, 12, len(data) - 1, *range(13, len(data), len(data) // 8)} - ends):
+            file = self.store("cut.wasm", data[:at])
+            for word in "text", "strip", "sections":
+                self.refused_at(file, "no section of a core module begins here", COMPLETE, word, file, most=at)
+
+    def test_endless_input(self):
+        self.refused("/dev/zero: it is no WebAssembly file", "", "text", "/dev/zero")
+        for command, message in (["yes"], "it is no WebAssembly file"), (["sh", "-c", r"printf '\0asm\1\0\0\0'; cat /dev/zero"], None):
+            with subprocess.Popen(command, stdout=subprocess.PIPE, stderr=subprocess.DEVNULL) as endless:
+                hint = "" if message else "--most-read SIZE allows more"
+                self.refused(f"standard input: {message or 'it is longer than what is read'}", hint, "strip", "--most-read=1M", stdin=endless.stdout)
+                endless.stdout.close()
+
+    def test_the_bound_of_what_is_read(self):
+        length = CLOCK.stat().st_size
+        self.assertEqual(self.answer("text", CLOCK, "--most-read", str(length)), CLOCK.with_suffix(".wit").read_bytes())
+        self.refused(f"{CLOCK}: it is longer than what is read", "--most-read SIZE allows more", "text", CLOCK, "--most-read", str(length - 1))
+
+    def test_the_bound_of_what_is_written(self):
+        data, length = forms.tower(6)
+        file = self.store("tower.wasm", data)
+        self.assertEqual(len(self.answer("text", file, "--most", str(length))), length)
+        for words in (["text", file], ["text", file, "-o", "new.wit"], ["diff", file, CLOCK], ["diff", CLOCK, file]):
+            self.refused(f"{file}: its text is longer than {length - 1} bytes", "--most SIZE allows more", *words, "--most", str(length - 1))
+        data, length = forms.tower(22)
+        self.assertTrue(len(data) <= 160 and length > 46_000_000)
+        file = self.store("tower.wasm", data)
+        self.refused(f"{file}: its text is longer than 65536 bytes", "--most SIZE allows more", "text", file, "--most", "64K")
+        for word in "json", "wasm", "kind", "check":
+            self.assertLess(len(self.answer(word, file)), 10_000)
+
+    def test_out_of_memory(self):
+        module = forms.CORE + forms.section(0, forms.name("x") + bytes(50_000_000))
+        self.refused("out of memory", "", "strip", stdin=module, preexec_fn=limited(resource.RLIMIT_AS, 60_000_000))
+
+    def test_worlds_that_are_not_there(self):
+        for name in "nobody", "Service", "":
+            self.refused(f"{SERVICES}: there is no world {name}", CHOSEN, "compat", SERVICES, "--world", f"service={name}")
+            self.refused(f"{SERVICES}: there is no world {name}", CHOSEN, "embed", STRIPPED, SERVICES, "-w", name)
+        self.refused(f"{SERVICES}: choose worlds by --world OLD=NEW", CHOSEN, "compat", SERVICES)
+        self.refused(f"{SERVICES}: the package has several worlds", f"choose one by --world: {CHOSEN[12:]}", "embed", STRIPPED, SERVICES)
+        file = self.store("plain.wasm", forms.functions("f")[0])
+        self.refused(f"{file}: the package has no world", "", "embed", STRIPPED, file)
+        self.refused(f"{file}: there is no world a", "it has none", "compat", file, "-w", "a")
+
+    def test_a_clash(self):
+        removes = "`teasel sections` lists its worlds, and `teasel strip` removes them"
+        self.refused(f"{MODULE}: two sections both export handle", removes, "embed", MODULE, SERVICES, "-w", "service")
+
+    def test_closed_streams(self):
+        self.refused("standard input: it can't be read", "", "text", preexec_fn=closed(0), stdin=None)
+        self.assertEqual(self.run_("text", "nowhere", preexec_fn=closed(2)).returncode, 2)
+        self.assertEqual(self.run_("text", CLOCK, "-o", "new.wit", preexec_fn=closed(0, 1, 2), stdin=None).returncode, 0)
+        self.assertEqual((self.room / "new.wit").read_bytes(), CLOCK.with_suffix(".wit").read_bytes())
+
+    def test_standard_input_named_twice(self):
+        for words in ["diff", "-", "-"], ["check", "-", CLOCK, "-"], ["kind", "-", "-"]:
+            self.refused("standard input is named twice", "name a file in place of one -", *words, stdin=CLOCK.read_bytes())
+
+
+class Outputs(Room):
+    WIT = CLOCK.with_suffix(".wit").read_bytes()
+
+    def mode(self, file):
+        return stat.S_IMODE((self.room / file).stat().st_mode)
+
+    def test_a_new_file(self):
+        for words in ["-o", "new.wit"], ["--output", "new.wit"], ["--output=new.wit"], ["-o=new.wit"]:
+            self.assertEqual(self.answer("text", CLOCK, *words, umask=0o027), b"")
+            self.assertEqual([it.name for it in self.room.iterdir()], ["new.wit"])
+            self.assertEqual(((self.room / "new.wit").read_bytes(), self.mode("new.wit")), (self.WIT, 0o640))
+            (self.room / "new.wit").unlink()
+
+    def test_dash_is_standard_output(self):
+        self.assertEqual(self.answer("text", CLOCK, "-o", "-"), self.WIT)
+
+    def test_the_mode_of_a_file_is_kept(self):
+        for mode in 0o600, 0o644, 0o755:
+            (self.room / self.store("old.wit", b"old")).chmod(mode)
+            self.answer("text", CLOCK, "-o", "old.wit")
+            self.assertEqual(((self.room / "old.wit").read_bytes(), self.mode("old.wit")), (self.WIT, mode))
+
+    def test_links(self):
+        (self.room / "folder").mkdir()
+        self.store("folder/old.wit", b"old")
+        (self.room / "link.wit").symlink_to("folder/old.wit")
+        self.answer("text", CLOCK, "-o", "link.wit")
+        self.assertTrue((self.room / "link.wit").is_symlink())
+        self.assertEqual((self.room / "folder/old.wit").read_bytes(), self.WIT)
+        self.assertEqual(len(list(self.room.rglob("*"))), 3)
+
+    def test_a_pipe_stays_one(self):
+        os.mkfifo(self.room / "pipe")
+        with subprocess.Popen(["cat", "pipe"], stdout=subprocess.PIPE, cwd=self.room) as reader:
+            try:
+                self.answer("text", CLOCK, "-o", "pipe")
+                self.assertEqual(reader.communicate(timeout=60)[0], self.WIT)
+            finally:
+                reader.kill()
+        self.assertEqual([(it.name, it.is_fifo()) for it in self.room.iterdir()], [("pipe", True)])
+
+    def test_a_refusal_leaves_the_file(self):
+        self.store("old.wit", b"old")
+        for words in ["text", "nowhere"], ["text", MODULE, "--as=package"], ["strip", CLOCK], ["text", CLOCK, "--most=9"], ["diff", CLOCK, "nowhere"]:
+            done = self.run_(*words, "-o", "old.wit")
+            self.assertEqual((done.returncode, done.stdout), (2, b""))
+            self.assertEqual({it.name: it.read_bytes() for it in self.room.iterdir()}, {"old.wit": b"old"})
+
+    def test_a_folder_that_is_not_there(self):
+        self.refused("nowhere/new.wit: its folder isn't there", "make it first", "text", CLOCK, "-o", "nowhere/new.wit")
+
+    def test_a_folder_in_place_of_a_file(self):
+        (self.room / "folder").mkdir()
+        for name in "folder", "folder/", ".":
+            self.refused(f"{name}: it is a folder", "", "text", CLOCK, "-o", name)
+
+    def test_a_folder_that_cannot_be_written(self):
+        program = shutil.copy(PROGRAM, self.room / "program")
+        data = shutil.copy(CLOCK, self.room / "clock.wasm")
+        (self.room / "folder").mkdir(mode=0o755)
+        more = {"program": program, "preexec_fn": as_nobody}
+        if os.getuid():
+            (self.room / "folder").chmod(0o555)
+        self.refused("folder/new.wit: permission to write it is denied", "", "text", data, "-o", "folder/new.wit", **more)
+
+    def test_onto_the_input(self):
+        shutil.copy(CLOCK, self.room / "clock.wasm")
+        (self.room / "link.wasm").symlink_to("clock.wasm")
+        (self.room / "again.wasm").hardlink_to(self.room / "clock.wasm")
+        for written in "clock.wasm", "./clock.wasm", "link.wasm", "again.wasm", str(self.room / "clock.wasm"):
+            for read in "clock.wasm", "link.wasm":
+                self.refused(f"{written}: it is the file that is read", "name another file by --output", "wasm", read, "-o", written)
+        self.refused("link.wasm: it is the file that is read", "name another file by --output", "diff", SERVICES, "clock.wasm", "-o", "link.wasm")
+
+    def test_a_full_disk(self):
+        steps = 'mount -t tmpfs -o size=4k none full && cd full && echo old >old.wit || exit 9; "$0" text "$1" -o old.wit; echo $? *; cat old.wit'
+        (self.room / "full").mkdir()
+        done = subprocess.run(["unshare", "-rm", "sh", "-c", steps, PROGRAM, FILES], capture_output=True, cwd=self.room, timeout=120)
+        if done.returncode == 9 or b"unshare failed" in done.stderr:
+            self.skipTest("no file system can be made here")
+        self.assertEqual((done.stdout, done.stderr), (b"2 old.wit\nold\n", b"teasel: old.wit: there is no room left\n"))
+
+    def test_a_bound_of_what_a_process_may_write(self):
+        def bounded():
+            signal.signal(signal.SIGXFSZ, signal.SIG_IGN)
+            limited(resource.RLIMIT_FSIZE, 100)()
+
+        self.store("old.wit", b"old")
+        self.refused("old.wit: it can't be written", "", "text", FILES, "-o", "old.wit", preexec_fn=bounded, restore_signals=False)
+
+    def test_a_pipe_that_nobody_reads(self):
+        for words in ["text", CLOCK], ["help"], ["diff", CLOCK, SERVICES]:
+            end, pipe = os.pipe()
+            os.close(end)
+            done = self.run_(*words, stdout=pipe)
+            os.close(pipe)
+            self.assertEqual((done.returncode, done.stderr), (2, b""))
+
+    def test_standard_output_that_cannot_be_written(self):
+        with open("/dev/full", "wb") as full:
+            self.refused("standard output can't be written: there is no room left", "", "text", CLOCK, stdout=full)
+        self.refused("standard output can't be written", "", "text", CLOCK, preexec_fn=closed(1))
+
+
+class Terminals(Room):
+    """What is said and done at a terminal."""
+
+    def at_terminal(self, *words, typed=None, environment=None):
+        """The words' status, what the terminal shows, and what standard error has. Standard input is the terminal where something is typed."""
+        master, slave = pty.openpty()
+        given = {"stdin": slave if typed else subprocess.DEVNULL, "stdout": slave, "stderr": subprocess.PIPE}
+        environment = {"PATH": os.environ["PATH"], "TERM": "xterm", **(environment or {})}
+        shown = b""
+        with subprocess.Popen([PROGRAM, *words], **given, env=environment, cwd=self.room) as child:
+            os.close(slave)
+            if typed:
+                os.write(master, typed)
+            while select.select([master], [], [], 60)[0]:
+                try:
+                    shown += os.read(master, 65536)
+                except OSError:
+                    break
+            error = child.stderr.read()
+        os.close(master)
+        return child.returncode, shown.replace(b"\r\n", b"\n"), error
+
+    ASKED = (
+        (["check", CLOCK], 0, b"\x1b[32mok\x1b[0m   "),
+        (["compat", SERVICES, "-w", "service"], 0, b"\x1b[32mok\x1b[0m   service\n"),
+        (["compat", SERVICES, "-w", "service=service-bytes"], 1, b"\x1b[31mno\x1b[0m   service -> service-bytes\n"),
+        (["diff", CLOCK, SERVICES], 1, b"\x1b[31m-package example:clock@1.2.0;"),
+    )
+
+    def test_colours(self):
+        for words, status, shown in self.ASKED:
+            plain = re.sub(rb"\x1b\[\d*m", b"", shown)
+            self.assertIn(shown, self.at_terminal(*words)[1])
+            self.assertIn(shown, self.answer(*words, "--color", "always", status=status))
+            self.assertIn(shown, self.answer(*words, "--color=always", status=status, environment={"NO_COLOR": "1"}))
+            for more, environment in ([], {"NO_COLOR": "1"}), ([], {"TERM": "dumb"}), (["--color=never"], {}):
+                at_terminal = self.at_terminal(*words, *more, environment=environment)[1]
+                self.assertNotIn(b"\x1b", at_terminal)
+                self.assertIn(plain, at_terminal)
+            for more in [], ["--color", "auto"], ["--color", "never"]:
+                self.assertNotIn(b"\x1b", self.answer(*words, *more, status=status))
+        self.assertNotIn(b"\x1b", self.at_terminal("compat", "--json", SERVICES, "-w", "service")[1])
+
+    def test_bytes_are_kept_from_a_terminal(self):
+        wanted = STRIPPED.read_bytes()
+        for words in ["strip", MODULE], ["wasm", CLOCK], ["embed", STRIPPED, CLOCK]:
+            status, shown, error = self.at_terminal(*words)
+            self.assertEqual((status, shown), (2, b""))
+            self.assertEqual(error, b"teasel: the answer is bytes, and standard output is a terminal\n  name a file by --output, or say --force\n")
+        status, shown, error = self.at_terminal("strip", MODULE, "--force")
+        self.assertEqual((status, shown, error), (0, wanted.replace(b"\r\n", b"\n"), b""))
+        self.assertEqual(self.at_terminal("strip", MODULE, "-o", "new.wasm"), (0, b"", b""))
+        self.assertEqual((self.room / "new.wasm").read_bytes(), wanted)
+
+    def test_it_says_that_it_waits(self):
+        status, _, error = self.at_terminal("text", typed=b"\x04")
+        self.assertEqual((status, error), (2, b"teasel: reading standard input; end it by Ctrl-D\nteasel: standard input: the file is empty\n"))
+
+
+class Answers(Room):
+    def test_text(self):
+        for path in CLOCK, FILES, SERVICES, MODULE:
+            wanted = path.with_suffix(".wit").read_bytes()
+            self.assertEqual(self.answer("text", path), wanted)
+            for words in ["text"], ["text", "-"], ["text", "--", "-"]:
+                self.assertEqual(self.answer(*words, stdin=path.read_bytes()), wanted)
+        self.assertEqual(self.answer("text", "--as", "package", CLOCK), CLOCK.with_suffix(".wit").read_bytes())
+        self.assertEqual(self.answer("text", "--as", "module", MODULE), MODULE.with_suffix(".wit").read_bytes())
+
+    def test_text_of_a_world(self):
+        data = forms.world_in(MODULE.read_bytes(), "component-type:service")
+        text = self.answer("text", "--as", "world", stdin=data).decode()
+        self.assertIn("world service {\n  import log: func(text: string);\n\n  export handle: func(request: string) -> string;\n}\n", text)
+
+    def test_text_of_packages_made_here(self):
+        for names in ["f"], ["a", "b", "c-d"], [f"p{it}" for it in range(300)]:
+            data, text = forms.functions(*names)
+            self.assertEqual(self.answer("text", stdin=data).decode(), text)
+
+    def test_a_file_whose_name_is_like_an_option(self):
+        shutil.copy(CLOCK, self.room / "-x")
+        self.assertEqual(self.answer("text", "--", "-x"), CLOCK.with_suffix(".wit").read_bytes())
+        self.assertEqual(self.answer("kind", "--", "-x", "-x"), b"-x: package\n-x: package\n")
+        self.refused("text has no option -x", "`teasel help text` says more", "text", "-x")
+        self.refused("--json: there is no such file", "", "text", "--", "--json")
+
+    def test_json(self):
+        listing = json.loads(self.answer("json", CLOCK))
+        package = listing["packages"][listing["package"]]
+        self.assertEqual([package[it] for it in ("namespace", "name", "version")], ["example", "clock", "1.2.0"])
+        [world], [interface], [record] = listing["worlds"], listing["interfaces"], listing["types"]
+        self.assertEqual((world["name"], world["imports"]), ("clock", []))
+        self.assertEqual([it["key"] for it in world["exports"]], ["example:clock/wall-clock@1.2.0"])
+        self.assertEqual([it["name"] for it in interface["functions"]], ["now", "resolution"])
+        fields = [("seconds", "u64"), ("nanoseconds", "u32")]
+        self.assertEqual([(it["name"], it["type"]) for it in record["kind"]["record"]["fields"]], fields)
+        self.assertEqual([it["name"] for it in json.loads(self.answer("json", SERVICES))["worlds"]], ["service", "service-next", "service-bytes"])
+        bound = json.loads(self.answer("json", MODULE))
+        self.assertEqual([(it["namespace"], it["name"]) for it in bound["packages"]], [("root", "root"), ("example", "services"), ("example", "clock")])
+        self.assertEqual(bound["encodings"]["imports"], [{"interface": None, "function": "log", "encoding": "utf8"}])
+
+    def test_wasm_and_back(self):
+        for path in CLOCK, FILES, SERVICES:
+            self.answer("wasm", path, "-o", "again.wasm")
+            self.assertEqual(self.answer("text", "again.wasm"), path.with_suffix(".wit").read_bytes())
+            self.assertEqual(self.answer("diff", path, "again.wasm"), b"")
+
+    def test_embed_and_strip(self):
+        for world in "service", "service-next", "service-bytes":
+            for encoding in [], ["--encoding", "utf16"], ["--encoding=latin1+utf16"]:
+                self.answer("embed", STRIPPED, SERVICES, "-w", world, *encoding, "-o", "new.wasm")
+                [section] = json.loads(self.answer("sections", "new.wasm", "--json"))
+                self.assertEqual(section["world"], world)
+                bound = json.loads(self.answer("json", "new.wasm"))
+                self.assertEqual(bound["encodings"]["imports"][0]["encoding"], (encoding or ["utf8"])[-1].split("=")[-1])
+                self.assertIn(f"  world {world} {{\n", self.answer("text", "new.wasm").decode())
+                self.assertEqual(self.answer("strip", "new.wasm"), STRIPPED.read_bytes())
+        added = self.answer("embed", STRIPPED, CLOCK)
+        self.assertTrue(added.startswith(STRIPPED.read_bytes()))
+        self.assertEqual([identity for _, identity, _ in forms.sections(added)][-1], 0)
+        self.assertEqual(self.answer("strip", STRIPPED), STRIPPED.read_bytes())
+        self.assertEqual(self.answer("sections", STRIPPED), b"")
+
+    def test_sections(self):
+        wanted = [contents for _, identity, contents in forms.sections(MODULE.read_bytes()) if identity == 0]
+        lengths = [len(it) - 1 - it[0] for it in wanted]
+        self.assertEqual([line.split() for line in self.answer("sections", MODULE).decode().splitlines()],
+                         [[str(it), str(length), "bytes", "world", name] for it, (length, name) in enumerate(zip(lengths, ["service", "clock"]))])
+
+    def test_kinds(self):
+        world = self.store("world.wasm", forms.world_in(MODULE.read_bytes(), "component-type:clock"))
+        whole, other = self.store("whole.wasm", forms.WHOLE), self.store("other", b"no such")
+        (self.room / "folder").mkdir()
+        self.assertEqual(self.answer("kind", CLOCK, MODULE, world, whole).decode(), f"{CLOCK}: package\n{MODULE}: module\nworld.wasm: world\nwhole.wasm: component\n")
+        self.assertEqual(self.answer("kind", other, world, status=1), b"other: unknown\nworld.wasm: world\n")
+        self.refused("nowhere: there is no such file", "", "kind", world, "nowhere", whole)
+        self.refused("folder: it is a folder", "", "kind", world, "folder")
+        self.assertEqual(self.answer("kind", "-", stdin=CLOCK.read_bytes()), b"standard input: package\n")
+
+    def test_checks(self):
+        wit = self.store("clock.wit", CLOCK.with_suffix(".wit").read_bytes())
+        shown = self.answer("check", CLOCK, wit, MODULE, status=1).decode().splitlines()
+        self.assertEqual([it[:4] for it in shown], ["ok  ", "no  ", "    ", "ok  "])
+        self.assertIn("worlds: clock", shown[0])
+        self.assertEqual(shown[1:3], ["no   clock.wit: it is WIT text, which isn't read yet", "       make it binary by `wasm-tools component wit -w`"])
+        self.refused("nowhere: there is no such file", "", "check", CLOCK, "nowhere")
+        self.assertEqual(self.answer("check", "-q", CLOCK, wit, status=1), b"")
+        self.assertEqual(self.answer("check", "--quiet", CLOCK), b"")
+
+    def test_lists(self):
+        other = self.store("other", b"no such")
+        for words, status, count in (
+            (["kind", CLOCK, other], 1, 2),
+            (["check", CLOCK, other], 1, 2),
+            (["sections", MODULE], 0, 2),
+            (["sections", STRIPPED], 0, 0),
+            (["compat", SERVICES, "-w", "service", "-w", "service=service-bytes"], 1, 2),
+        ):
+            listed = json.loads(self.answer(*words, "--json", status=status))
+            self.assertEqual([list(it) for it in listed], [KEYS[words[0]]] * count)
+        self.assertEqual([it["kind"] for it in json.loads(self.answer("kind", "--json", CLOCK, MODULE))], ["package", "module"])
+        self.assertEqual([it["ok"] for it in json.loads(self.answer("check", "--json", CLOCK, other, status=1))], [True, False])
+        odd = self.store('a"b\\\u00e9\n.wasm', CLOCK.read_bytes())
+        self.assertEqual([it["file"] for it in json.loads(self.answer("kind", "--json", odd))], [odd])
+
+    def test_compat(self):
+        for pair in "service", "service=service", "service=service-next", "service-bytes":
+            self.assertTrue(self.answer("compat", SERVICES, "--world", pair).startswith(b"ok   "))
+        for pair in "service=service-bytes", "service-next=service", "service-bytes=service":
+            old, new = pair.split("=")
+            shown = self.answer("compat", SERVICES, "-w", pair, status=1).decode().splitlines()
+            self.assertEqual((len(shown), shown[0]), (2, f"no   {old} -> {new}"))
+            self.assertEqual(self.answer("compat", "-q", SERVICES, "-w", pair, status=1), b"")
+        [first, second] = json.loads(self.answer("compat", SERVICES, "-w", "service=service-next", "-w", "service=service-bytes", "--json", status=1))
+        self.assertEqual((first["old"], first["new"], first["compatible"], first["difference"]), ("service", "service-next", True, None))
+        self.assertFalse(second["compatible"])
+        self.assertIn("handle", second["difference"])
+
+
+class Differences(Room):
+    def compared(self, old, new):
+        """What `diff` answers of two packages, its hunks, and what GNU's diff says of their texts without the head."""
+        for file, data in ("old.wasm", old), ("new.wasm", new):
+            self.store(file, data)
+            self.store(file.replace("wasm", "wit"), self.answer("text", file))
+        shown = self.answer("diff", "old.wasm", "new.wasm", status=int(old != new))
+        wanted = subprocess.run(["diff", "-u", "old.wit", "new.wit"], capture_output=True, cwd=self.room)
+        return shown, shown.split(b"\n", 2)[2] if shown else b"", wanted.stdout.split(b"\n", 2)[2] if wanted.stdout else b""
+
+    @unittest.skipUnless(shutil.which("diff"), "no diff")
+    def test_as_diff_has_it(self):
+        plain = [f"p{it}" for it in range(60)]
+        for changed in [], [30], [0], [59], [0, 59], [10, 12, 14], [10, 20, 30, 40], range(60):
+            # Each changed line has one place in either text, so there is one least script.
+            other = [f"q{it}" if it in changed else f"p{it}" for it in range(60)]
+            shown, hunks, wanted = self.compared(forms.functions(*plain)[0], forms.functions(*other)[0])
+            if changed:
+                self.assertTrue(shown.startswith(b"--- old.wasm\n+++ new.wasm\n@@ "))
+            self.assertEqual(len(hunks), len(wanted))
+            if len(changed) < 60:
+                self.assertEqual(hunks, wanted)
+
+    @unittest.skipUnless(shutil.which("patch"), "no patch")
+    def test_it_can_be_applied(self):
+        few, many, even = (forms.functions(*names)[0] for names in (["a", "c", "b"], [f"p{it}" for it in range(40)], [f"p{it}" for it in range(0, 80, 2)]))
+        clock, files, services = (it.read_bytes() for it in (CLOCK, FILES, SERVICES))
+        for old, new in (clock, files), (files, clock), (files, services), (services, clock), (few, many), (many, few), (many, even), (even, many), (few, files):
+            shown, _, _ = self.compared(old, new)
+            # As few lines are removed and added as by GNU's diff with --minimal.
+            least = subprocess.run(["diff", "-u", "--minimal", "old.wit", "new.wit"], capture_output=True, cwd=self.room).stdout
+            self.assertEqual(len(re.findall(rb"(?m)^[-+]", shown)), len(re.findall(rb"(?m)^[-+]", least)))
+            subprocess.run(["patch", "-s", "old.wit"], input=shown, check=True, cwd=self.room)
+            self.assertEqual((self.room / "old.wit").read_bytes(), (self.room / "new.wit").read_bytes())
+
+    def test_its_status(self):
+        self.assertEqual(self.answer("diff", "-q", CLOCK, SERVICES, status=1), b"")
+        self.assertEqual(self.answer("diff", "-q", CLOCK, CLOCK), b"")
+        self.assertEqual(self.answer("diff", CLOCK, CLOCK), b"")
+        self.assertEqual(self.answer("diff", CLOCK, "-", stdin=CLOCK.read_bytes()), b"")
+        self.assertEqual(self.answer("diff", CLOCK, SERVICES, "-o", "new.diff", status=1), b"")
+        self.assertTrue((self.room / "new.diff").read_bytes().startswith(f"--- {CLOCK}\n+++ {SERVICES}\n".encode()))
+
+
+class Helps(Room):
+    def test_version(self):
+        for words in ["--version"], ["-V"], ["version"]:
+            self.assertRegex(self.answer(*words).decode(), r"^teasel \d+\.\d+\.\d+ \(wit-component \d+\.\d+\.\d+\)\n$")
+
+    def test_help(self):
+        every = self.answer("help").decode()
+        for words in ["-h"], ["--help"]:
+            self.assertEqual(self.answer(*words).decode(), every)
+        self.assertEqual([it.split()[0] for it in every.splitlines() if it.startswith("  ")], WORDS)
+        for word in WORDS:
+            page = self.answer("help", word).decode()
+            self.assertRegex(page, rf"^usage: teasel {word}( .*)?\n\n")
+            self.assertIn("  -h, --help\n", page)
+            self.assertNotRegex(page, r"(?m) $")
+            for words in [word, "--help"], [word, "-h"], [word, CLOCK, "nowhere", "-h"]:
+                self.assertEqual(self.answer(*words).decode(), page)
+
+    def test_options_of_each_word(self):
+        """Each option that a word's page names is one that the word takes, and no other is."""
+        options = ["--output", "--world", "--encoding", "--as", "--json", "--quiet", "--color", "--force", "--most", "--most-read", "--help"]
+        for word in WORDS:
+            page = self.answer("help", word).decode()
+            for option in options:
+                error = self.run_(word, option, "--help").stderr.decode()
+                named = re.search(rf"(?m)^  (-\w, )?{option}( |$)", page) is not None
+                self.assertEqual(named, f"{word} has no option" not in error, (word, option))
+
+    def test_manual_page(self):
+        page = self.answer("man")
+        for word in WORDS:
+            self.assertIn(f".B {word}".encode(), page)
+        self.assertNotRegex(page, rb"(?m) $")
+        self.store("teasel.1", page)
+        for command in "groff -man -ww -z teasel.1", "mandoc -T lint -W error teasel.1", "man --warnings -l -Tutf8 -Z teasel.1":
+            command = command.split()
+            if shutil.which(command[0]):
+                done = subprocess.run(command, capture_output=True, cwd=self.room, env={**os.environ, "MANROFFSEQ": ""})
+                self.assertEqual((done.returncode, done.stderr), (0, b""), command)
+
+    def test_completions_of_bash(self):
+        script = self.answer("completion", "bash").decode()
+        self.store("files.wasm", b"")
+        for words, wanted in (
+            (["co"], ["compat", "completion"]),
+            ([""], WORDS),
+            (["text", "--m"], ["--most", "--most-read"]),
+            (["text", "--color", ""], ["auto", "always", "never"]),
+            (["embed", "--encoding", "utf"], ["utf8", "utf16"]),
+            (["completion", ""], ["bash", "zsh", "fish"]),
+            (["help", "st"], ["strip"]),
+            (["text", "fi"], ["files.wasm"]),
+            (["strip", "x", "--"], ["--output", "--force", "--most-read", "--help"]),
+        ):
+            asked = f'\nCOMP_WORDS=(teasel "$@"); COMP_CWORD={len(words)}; _teasel; printf "%s\\n" "${{COMPREPLY[@]}}"'
+            done = subprocess.run(["bash", "-c", script + asked, "bash", *words], capture_output=True, text=True, cwd=self.room)
+            self.assertEqual((done.stdout.split(), done.stderr), (wanted, ""), words)
+
+    @unittest.skipUnless(shutil.which("zsh"), "no zsh")
+    def test_completions_of_zsh(self):
+        # The calls by which a completion answers are put in its place here.
+        script = 'compdef() { : }\ncompadd() { shift; print -l -- "$@" }\n_files() { print files }\n_describe() { print -l -- ${(P)2%%:*} }\n'
+        script += self.answer("completion", "zsh").decode()
+        for words, wanted in (
+            (["te"], WORDS),
+            (["text", "--"], ["--output", "--as", "--most", "--most-read", "--help"]),
+            (["check", "--color", ""], ["auto", "always", "never"]),
+            (["completion", ""], ["bash", "zsh", "fish"]),
+            (["help", ""], WORDS),
+            (["text", "f"], ["files"]),
+        ):
+            asked = f'\nwords=(teasel "$@"); CURRENT={len(words) + 1}; PREFIX="${{words[-1]}}"; _teasel'
+            done = subprocess.run(["zsh", "-f", "-c", script + asked, "zsh", *words], capture_output=True, text=True, cwd=self.room)
+            self.assertEqual((done.stdout.split(), done.stderr), (wanted, ""), words)
+
+    @unittest.skipUnless(shutil.which("fish"), "no fish")
+    def test_completions_of_fish(self):
+        self.store("teasel.fish", self.answer("completion", "fish"))
+        for line, wanted in (
+            ("teasel co", ["compat", "completion"]),
+            ("teasel text --", ["--as", "--help", "--most", "--most-read", "--output"]),
+            ("teasel check --color ", ["always", "auto", "never"]),
+            ("teasel completion ", ["bash", "fish", "zsh"]),
+        ):
+            asked = f"source teasel.fish; complete -C '{line}'"
+            done = subprocess.run(["fish", "--no-config", "-c", asked], capture_output=True, text=True, cwd=self.room, env={**os.environ, "HOME": str(self.room)})
+            self.assertEqual((sorted(it.split("\t")[0] for it in done.stdout.splitlines()), done.stderr), (wanted, ""), line)
+
+
+if __name__ == "__main__":
+    if len(sys.argv) > 1:
+        PROGRAM = os.path.abspath(sys.argv.pop(1))
+    if not os.access(PROGRAM, os.X_OK):
+        sys.exit(f"test: there is no program {PROGRAM}")
+    ran = unittest.main(exit=False).result
+    failed = len({str(test).split(" (")[0] for test, _ in ran.failures + ran.errors})
+    sys.stderr.flush()
+    print(f"{ran.testsRun - len(ran.skipped) - failed} passed, {failed} failed")
+    sys.exit(failed > 0)
