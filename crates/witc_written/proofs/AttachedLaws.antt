@@ -11,7 +11,7 @@ use Rattle.wit_metadata.specs.Modules.{Framed, carrying_name, module_preamble}
 use Rattle.wit_metadata.proofs.ModuleLaws.{one-custom, one-frame}
 use Rattle.bind_sections.specs.{Bound.Binds, Bound.CarryData, Bound.HasSections, Bound.IsBound, Bound.SectionMeans, Steps.IsDataInFront, Steps.IsReadTo}
 use Rattle.bind_sections.specs.BoundLaws.{BoundOnce, SectionsMeanOnce}
-use Rattle.bind_sections.proofs.Steps.{HasMore, all-behind, more-behind, whole}
+use Rattle.bind_sections.proofs.Steps.{HasMore, whole}
 use Rattle.wit_component.specs.Carried.{CarriesEncoding}
 use Rattle.witc_written.specs.Carried.{AttachesWorld, EmbedsWorld, IsCarried, section_contents, section_name, with_section}
 
@@ -44,7 +44,7 @@ no-frame f front rest (contents, tagged, counted) none =
 
 -- bytes are one list of frames
 one-list : (fs gs : List Framed) (bytes : List ℕ) → Sequence IsFrame fs bytes → Sequence IsFrame gs bytes → fs ≡ gs
-one-list [] [] bytes none no = refl
+one-list [] [] bytes none ended = refl
 one-list [] (g ∷ gs) bytes none (front, rest, parts, spelled, others) = absurd (no-frame g front rest spelled (sym none ∙ parts))
 one-list (f ∷ fs) [] bytes (front, rest, parts, spelled, others) none = absurd (no-frame f front rest spelled (sym none ∙ parts))
 one-list (f ∷ fs) (g ∷ gs) bytes (here, rest, parts, spelled, others) (front, behind, halves, written, more) =
@@ -69,6 +69,12 @@ same-bound (f ∷ fs) ds es a c (CarryData.carrying _ _ x xs custom named begins
 same-bound (f ∷ fs) ds es a c (CarryData.carrying _ _ x xs custom named begins rest) (CarryData.other _ _ ys never rest_too) binds = absurd (never (custom, (x, named, begins)))
 same-bound (f ∷ fs) ds es a c (CarryData.other _ _ xs never rest) (CarryData.carrying _ _ y ys custom named begins rest_too) binds = absurd (never (custom, (y, named, begins)))
 same-bound (f ∷ fs) ds es a c (CarryData.other _ _ xs never rest) (CarryData.other _ _ ys never_too rest_too) binds = same-bound fs xs ys a c rest rest_too binds
+
+-- one section more, which carries this data
+carry-more : (fs : List Framed) (ds : List (List ℕ)) → CarryData fs ds → (f : Framed) (d : List ℕ) → CarryData (f ∷ []) (d ∷ []) → CarryData (fs ++ f ∷ []) (ds ++ d ∷ [])
+carry-more fs ds CarryData.none f d more = more
+carry-more fs ds (CarryData.carrying g gs c cs custom is begins carry) f d more = CarryData.carrying g (gs ++ f ∷ []) c (cs ++ d ∷ []) custom is begins (carry-more gs cs carry f d more)
+carry-more fs ds (CarryData.other g gs cs never carry) f d more = CarryData.other g (gs ++ f ∷ []) (cs ++ d ∷ []) never (carry-more gs cs carry f d more)
 
 -- ---- bindings, but for the last
 
@@ -106,18 +112,24 @@ module _ (once : SectionsMeanOnce × BoundOnce) (module_ section d out : List �
     binds = alone.binds;
   }
 
-  ending : HasMore []
-  ending = record { sections = []; left = []; front = []; parts = refl; are = (refl, tt); ends = alone.stand.ends }
+  behind : HasMore section
+  behind = record {
+    sections = x.frame ∷ [];
+    left = [];
+    front = x.front.front;
+    parts = x.front.parts;
+    are = ((x.front.front, [], sym (append-nil x.front.front), x.front.framed_, refl), (x.front.named_, tt));
+    ends = alone.stand.ends;
+  }
 
   stand : HasSections out (alone.sections ++ x.frame ∷ []) []
-  unfolding more-behind
-  stand = whole out section before read-to (more-behind section d [] x ending)
+  unfolding read-to behind
+  stand = whole out section before read-to behind
 
   carry : CarryData (alone.sections ++ x.frame ∷ []) (alone.data_ ++ d ∷ [])
-  unfolding more-behind
-  carry = all-behind out section d [] before read-to x ending [] CarryData.none
+  carry = carry-more alone.sections alone.data_ alone.carry x.frame d x.carry
 
-  last : BindsLast root_binding alone.data_ d after
+  pub last : BindsLast root_binding alone.data_ d after
   last =
       let same = one-module out both.sections (alone.sections ++ x.frame ∷ []) both.stand stand in
       let found : CarryData (alone.sections ++ x.frame ∷ []) both.data_ = subst (λ (fs : List Framed). CarryData fs both.data_) same both.carry in
