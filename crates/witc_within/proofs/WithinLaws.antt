@@ -4,7 +4,7 @@ use Rattle.std.specs.Prelude.{OnErr, OnOk, Vec}
 use Rattle.std.specs.declared.alloc.Global.{Global}
 use Rattle.wit_model.specs.declared.error.Error.{Error}
 use Rattle.wit_model.specs.declared.model.{PackageId.PackageId, Resolve.Resolve}
-use Rattle.print_output.specs.OutputCall.{Begins, Moves, View, after_all}
+use Rattle.print_output.specs.OutputCall.{Begins, Moves, View}
 use Rattle.print_output.specs.Render.{Written, blank, render, writes}
 use Rattle.print_output.proofs.RenderLaws.{Moves-writes}
 use Rattle.print_grammar.specs.{AsRead.file_as_read, Calls.file_calls, Reading.IsOnlyReading}
