@@ -56,7 +56,7 @@ one-list (f ∷ fs) (g ∷ gs) bytes (here, rest, parts, spelled, others) (front
 one-module : (input : List ℕ) (fs gs : List Framed) → HasSections input fs [] → HasSections input gs [] → fs ≡ gs
 one-module input fs gs a b =
     let same : a.front ++ [] ≡ b.front ++ [] =
-        sym (drop-append_seam module_preamble (a.front ++ [])) ∙ (ap (drop (length module_preamble)) (sym a.parts ∙ b.parts) ∙ drop-append_seam module_preamble (b.front ++ [])) in
+    sym (drop-append_seam module_preamble (a.front ++ [])) ∙ (ap (drop (length module_preamble)) (sym a.parts ∙ b.parts) ∙ drop-append_seam module_preamble (b.front ++ [])) in
     let front : b.front ≡ a.front = sym (append-nil b.front) ∙ (sym same ∙ append-nil a.front) in
     one-list fs gs a.front a.sections.0 (subst (Sequence IsFrame gs) front b.sections.0)
 
