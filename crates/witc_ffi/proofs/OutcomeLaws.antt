@@ -80,10 +80,14 @@ module _ (Is : List ℕ → Type 0) (Refused : Error → Type 0) (most : ℕ) wh
   tells-within (Err e) (Ok o) ok err is = within_bound (known Short Refused NeverBad 1 (message_of e) (why_of e) o (refused e err is.no_lack) is.is)
   tells-within given (Err lack) ok err is = tt
 
+  given-told : (outcome : Result Outcome AllocError) (o : Outcome) → MatchResult outcome (λ given. given ≡ o) (λ e. ⊥) → IfOk outcome (TellsWithin Is Refused most) → TellsWithin Is Refused most o
+  given-told (Ok x) o is tells = subst (TellsWithin Is Refused most) is tells
+  given-told (Err e) o is tells = absurd is
+
   told-within : (outcome : Result Outcome AllocError) (status : ℕ) (text : List ℕ) (why : Why) → IfOk outcome (TellsWithin Is Refused most) → HandsOut outcome status text why
       → AnswersWithin Is Refused most status text why
   told-within outcome status text why tells lacking = within_bound answers_lacking
-  told-within outcome status text why tells (handed o is) = search std_rules
+  told-within outcome status text why tells (handed o is) = given-told outcome o is tells
 
   -- C is told it
   pub passes-within : (given : Result Within Error) (outcome : Result Outcome AllocError) (status : ℕ) (text : List ℕ) (why : Why) → IfOk given (TextWithin Is most) → IfErr given Refused

@@ -57,12 +57,19 @@ pub fn refusal(alloc: Global, error: Error) -> Result<Outcome, AllocError>
 fn told(alloc: Global, error: Error) -> Result<Outcome, AllocError>
     ensures { IfOk result (IsOutcome 1 (message_of error) (numbers_of error)) }
 {
-    let text = message(alloc, &error)?.into_bytes();
-    Ok(Outcome {
+    let text = message(alloc, &error)?;
+    Ok(refused(text, why_of(&error)))
+}
+
+/// A refusal's message and its numbers.
+fn refused(text: String, why: Why) -> Outcome
+    ensures { IsOutcome 1 text.bytes.items why result }
+{
+    Outcome {
         status: REFUSED,
-        text,
-        why: why_of(&error),
-    })
+        text: text.into_bytes(),
+        why,
+    }
 }
 
 /// The outcome of bytes, or of a refusal.
@@ -95,11 +102,7 @@ fn too_long(alloc: Global, most: usize) -> Result<Outcome, AllocError>
     ensures { IfOk result (IsOutcome 1 (too_long_text most) (plain_why 21)) }
 {
     let text = format!(in alloc; "the text is longer than {most} bytes")?;
-    Ok(Outcome {
-        status: REFUSED,
-        text: text.into_bytes(),
-        why: Why::plain(TEXT_TOO_LONG),
-    })
+    Ok(refused(text, Why::plain(TEXT_TOO_LONG)))
 }
 
 /// The outcome of bytes, or of a world of this name that isn't there, or of a refusal.
