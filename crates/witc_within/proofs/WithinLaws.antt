@@ -1,8 +1,8 @@
 -- What has been printed when printing ended, against the bound.
 use Rattle.std.proofs.Common.{◌≡◌, ◌≤◌, ◌<◌, ◌∙◌, refl, sym, ap, subst, arith, ℕ, true, List, length, Result, Ok, Err}
-use Rattle.std.specs.{Prelude.IfErr, Prelude.OnErr, Prelude.OnOk, Prelude.Vec, Result.IsErrAnd}
+use Rattle.std.specs.Prelude.{OnErr, OnOk, Vec}
 use Rattle.std.specs.declared.alloc.Global.{Global}
-use Rattle.wit_model.specs.declared.error.{Error.Error, Error.TheVariants.Memory}
+use Rattle.wit_model.specs.declared.error.Error.{Error}
 use Rattle.wit_model.specs.declared.model.{PackageId.PackageId, Resolve.Resolve}
 use Rattle.print_output.specs.OutputCall.{Begins, Moves, View}
 use Rattle.print_output.specs.Render.{Written, blank, render, writes}
@@ -19,11 +19,6 @@ use Rattle.witc_within.proofs.GrowthLaws.{begun-shorter}
 pub lifted : (P Q : List ℕ → Type 0) → ((text : List ℕ) → P text → Q text) → (most : ℕ) (w : Within) → TextWithin P most w → TextWithin Q most w
 lifted P Q all most (within.Text text) h = (all text.items h.0, h.1)
 lifted P Q all most within.Beyond h = (h.0, all h.0 h.1, h.2)
-
--- what is true of a refusal because memory ran out
-pub memory-said : (P : Error → Type 0) → ((e : Error) → e ≡ Memory → P e) → (r : Result Within Error) → IsErrAnd r (λ e. e ≡ Memory) → IfErr r P
-memory-said P holds (Ok w) is = tt
-memory-said P holds (Err e) is = holds e is
 
 module _ (r : Resolve) (id : PackageId) (nested : List PackageId) (old new : View Written) (fresh : old ≡ blank) (most : ℕ) (reads : FileReads true (shown_file r id nested)) where
   rendered : Moves writes old (file_calls true (shown_file r id nested)) new → new.kept.text ≡ render (file_calls true (shown_file r id nested))

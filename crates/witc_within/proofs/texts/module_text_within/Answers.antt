@@ -8,7 +8,7 @@ use Rattle.witc_texts.specs.{Bindings.PrintsModule, Printed.IsTextOf}
 use Rattle.witc_texts.proofs.BindingsLaws.{never-too-large, no-memory, others-there, some-packages}
 use Rattle.base_lemmas.proofs.Options.{err_said as if-err, if_ok as if-ok, passed}
 use Rattle.witc_within.specs.Within.{TextWithin}
-use Rattle.witc_within.proofs.WithinLaws.{lifted, memory-said}
+use Rattle.witc_within.proofs.WithinLaws.{lifted}
 use Rattle.witc_within.proofs.texts.module_text_within.Goals as goal
 
 pub returns-in_err-_module-clause-refused : goal.returns-in_err-_module-clause-refused
@@ -20,13 +20,6 @@ returns-in_err-_module-clause-size c =
 
 pub other_packages-requires-clause-some : goal.other_packages-requires-clause-some
 other_packages-requires-clause-some c = some-packages c.in_ok-_module.bound.resolve c.in_ok-_module.ensures.root
-
-pub returns-in_err-others-clause-refused : goal.returns-in_err-others-clause-refused
-returns-in_err-others-clause-refused c = memory-said (RefusesBindings c.args.bytes.now) (no-memory c.args.bytes.now) c.from_residual-in_err-others.result c.from_residual-in_err-others.ensures.1
-
-pub returns-in_err-others-clause-size : goal.returns-in_err-others-clause-size
-returns-in_err-others-clause-size c =
-    memory-said (λ (e : Error). e ≡ Size → OutgrowsLists c.args.bytes.now) (never-too-large (OutgrowsLists c.args.bytes.now)) c.from_residual-in_err-others.result c.from_residual-in_err-others.ensures.1
 
 pub text_within-requires-clause-in_range : goal.text_within-requires-clause-in_range
 text_within-requires-clause-in_range c = some-packages c.in_ok-_module.bound.resolve c.in_ok-_module.ensures.root
