@@ -1,0 +1,28 @@
+use Rattle.std.proofs.Common.{ap, refl, sym, subst, ◌∙◌, List, ℕ, Vec}
+use Rattle.std.specs.declared.alloc.Global.{Global}
+use Rattle.witc_texts.specs.Stripped.{StripsBytes}
+use Rattle.witc_texts.proofs.StrippedLaws.{part-left, whole-left}
+use Rattle.teasel_answers.proofs.embedded.stripped.Goals as goal
+
+pub returns-in-Ok-Some : goal.returns-in-Ok-Some
+returns-in-Ok-Some c =
+    let bytes = c.args.input.now.bytes.items in
+    let left = part-left c.deref-2.result.now c.in-Ok-Some.field-0 c.in-Ok-Some.text c.in-Ok-Some.field-0-is c.in-Ok-Some.ensures.stripped in
+    record {
+      whole = c.if-not-input.false;
+      yes = c.answered.ensures.0;
+      strips = subst (λ (v : Vec ℕ Global). StripsBytes bytes v.items) (sym c.answered.ensures.1) (subst (λ (xs : List ℕ). StripsBytes xs c.in-Ok-Some.text.items) c.deref-2.ensures.value left);
+    }
+
+pub returns-in_ok-from_slice-in-Ok-None : goal.returns-in_ok-from_slice-in-Ok-None
+returns-in_ok-from_slice-in-Ok-None c =
+    let bytes = c.args.input.now.bytes.items in
+    let copy = c.in_ok-from_slice-in-Ok-None.field-0 in
+    let left = whole-left c.deref-2.result.now c.in-Ok-None.field-0 c.in-Ok-None.field-0-is c.in-Ok-None.ensures.stripped in
+    let same = c.in_ok-from_slice-in-Ok-None.ensures.items ∙ c.deref-in-Ok-None.ensures.value in
+    record {
+      whole = c.if-not-input.false;
+      yes = c.answered-in-Ok-None.ensures.0;
+      strips = subst (λ (v : Vec ℕ Global). StripsBytes bytes v.items) (sym c.answered-in-Ok-None.ensures.1)
+          (subst (λ (ys : List ℕ). StripsBytes bytes ys) (sym same) (subst (λ (xs : List ℕ). StripsBytes xs xs) c.deref-2.ensures.value left));
+    }

@@ -1,0 +1,200 @@
+//! Whether worlds of a package can replace others.
+
+ghost use Rattle.std.specs.Prelude.{◌≡◌, true, false, IfOk, is_none};
+ghost use Rattle.teasel_answers.specs.Answers.{Compares, IsCompared, is_answer_no, pair_of as pair_in, tells_lent, tells_pair};
+ghost use Rattle.teasel_files.specs.AllTell.{AllTell};
+
+use crate::checks::world_names;
+use crate::kinds::{both, told};
+use json::Writer;
+use std::alloc::{AllocError, Global};
+use teasel_files::{Answer, Input};
+use teasel_messages::{Refusal, foreign, of_error, push, push_mark};
+use teasel_words::Asked;
+use wit_component::{Error, decode};
+use wit_json::put_text;
+use witc_refusals::message;
+use witc_texts::{Compared, compat};
+
+/// The names of two worlds: those around a `=`, or one name for both.
+fn pair_of(value: &str) -> (&str, &str)
+    ensures { (result.0.now, result.1.now) ≡ pair_in value.now }
+{
+    match value.split_once('=') {
+        Some(pair) => pair,
+        None => (value, value),
+    }
+}
+
+/// Whether a refusal is the answer no.
+fn is_no(error: &Error) -> bool
+    ensures { result ≡ is_answer_no error.now }
+{
+    match error {
+        Error::OtherPackage => true,
+        Error::TwiceWithoutVersion(_) => true,
+        Error::Missing(_) => true,
+        Error::Differs(_) => true,
+        _ => false,
+    }
+}
+
+/// That a package has no world of this name, and which it has.
+pub fn no_world(alloc: Global, file: &str, bytes: &[u8], name: &str) -> Refusal {
+    match decode(alloc, bytes) {
+        Ok((resolve, id)) => {
+            let names = world_names(alloc, &resolve, id);
+            Refusal::of(
+                format!(in alloc; "{file}: there is no world {name}"),
+                with_names(alloc, names),
+            )
+        }
+        Err(error) => of_error(alloc, file, &error),
+    }
+}
+
+fn with_names(alloc: Global, names: Result<String, AllocError>) -> Result<String, AllocError> {
+    let names = names?;
+    if names.is_empty() {
+        return String::from_str(alloc, "it has none");
+    }
+    format!(in alloc; "its worlds: {names}")
+}
+
+/// That worlds have to be chosen.
+fn no_choice(alloc: Global, file: &str, bytes: &[u8]) -> Refusal {
+    match decode(alloc, bytes) {
+        Ok((resolve, id)) => match world_names(alloc, &resolve, id) {
+            Ok(names) => Refusal::of(
+                format!(in alloc; "{file}: choose worlds by --world OLD=NEW"),
+                with_names(alloc, Ok(names)),
+            ),
+            Err(_) => Refusal::Memory,
+        },
+        Err(error) => of_error(alloc, file, &error),
+    }
+}
+
+/// Why the second world can't replace the first, where that is the answer.
+fn reason(alloc: Global, input: &Input<'_>, error: Error) -> Result<Option<String>, Refusal>
+    ensures { IfOk result (λ why. (is_answer_no error ≡ true) × (is_none why ≡ false)) }
+{
+    if is_no(&error) {
+        Ok(Some(message(alloc, &error)?))
+    } else {
+        Err(of_error(alloc, input.name, &error))
+    }
+}
+
+/// What comes of a pair of worlds: nothing where the second can replace the first, else why it can't.
+fn compare(
+    alloc: Global,
+    input: &Input<'_>,
+    prev: &str,
+    next: &str,
+) -> Result<Option<String>, Refusal>
+    ensures { IfOk result (λ why. IsCompared input.now.bytes.items prev.now next.now (is_none why)) }
+{
+    match compat(alloc, &input.bytes, prev, next) {
+        Ok(Compared::Compatible) => Ok(None),
+        Ok(Compared::NoPrev) => Err(no_world(alloc, input.name, &input.bytes, prev)),
+        Ok(Compared::NoNew) => Err(no_world(alloc, input.name, &input.bytes, next)),
+        Err(error) => reason(alloc, input, error),
+    }
+}
+
+fn push_pair(
+    text: &mut String,
+    prev: &str,
+    next: &str,
+    why: &Option<String>,
+    color: bool,
+) -> Result<(), AllocError> {
+    push_mark(text, why.is_none(), color)?;
+    text.push_str(prev)?;
+    if prev != next {
+        text.push_str(" -> ")?;
+        text.push_str(next)?;
+    }
+    text.push_str("\n")?;
+    if let Some(why) = why {
+        push(text, &["       ", why.as_str(), "\n"])?;
+    }
+    Ok(())
+}
+
+fn put_pair(
+    w: &mut Writer<Global>,
+    prev: &str,
+    next: &str,
+    why: &Option<String>,
+) -> Result<(), AllocError> {
+    w.begin_object()?;
+    put_text(w, "old", prev)?;
+    put_text(w, "new", next)?;
+    w.key("compatible")?;
+    w.boolean(why.is_none())?;
+    w.key("difference")?;
+    match why {
+        Some(why) => w.string(why)?,
+        None => w.null()?,
+    }
+    w.end_object()
+}
+
+/// Whether the second world of each pair can replace the first. The answer is no where one can't.
+pub fn compared(
+    alloc: Global,
+    asked: &Asked<'_>,
+    input: &Input<'_>,
+    color: bool,
+) -> Result<Answer, Refusal>
+    ensures { IfOk result (Compares asked.now.worlds.items input.now) }
+{
+    if !input.whole {
+        return Err(foreign(alloc, input.name, &input.bytes));
+    }
+    if asked.worlds.is_empty() {
+        return Err(no_choice(alloc, input.name, &input.bytes));
+    }
+    all_compared(alloc, &asked.worlds, input, asked.json, color)
+}
+
+/// What comes of a pair of worlds by its value, and what is written of it.
+fn compare_pair(
+    alloc: Global,
+    value: &str,
+    input: &Input<'_>,
+    text: &mut String,
+    w: &mut Writer<Global>,
+    color: bool,
+) -> Result<bool, Refusal>
+    ensures { IfOk result (tells_pair input.now.bytes.items value.now) }
+{
+    let (prev, next) = pair_of(value);
+    let why = compare(alloc, input, prev, next)?;
+    let fits = why.is_none();
+    push_pair(text, prev, next, &why, color)?;
+    put_pair(w, prev, next, &why)?;
+    Ok(fits)
+}
+
+fn all_compared(
+    alloc: Global,
+    pairs: &[&str],
+    input: &Input<'_>,
+    json: bool,
+    color: bool,
+) -> Result<Answer, Refusal>
+    ensures { IfOk result (λ a. AllTell (tells_lent input.now.bytes.items) pairs.now true a.yes) }
+{
+    let mut all_fit = true;
+    let mut text = String::new(alloc);
+    let mut w = Writer::new(Vec::new(alloc));
+    w.begin_array()?;
+    for value in pairs {
+        let fits = compare_pair(alloc, *value, input, &mut text, &mut w, color)?;
+        all_fit = both(all_fit, fits);
+    }
+    told(w, text, json, all_fit)
+}

@@ -1,0 +1,170 @@
+//! Core modules with one more world, and without worlds.
+
+ghost use Rattle.std.specs.Prelude.{◌≡◌, None, true, IfOk};
+ghost use Rattle.teasel_answers.specs.{Answers.Attaches, Answers.Embeds, Answers.Strips, Answers.encoding_of as encoding_by, Forms.Shows};
+ghost use Rattle.teasel_answers.specs.declared.forms.Form.TheVariants.{Wasm};
+ghost use Rattle.teasel_words.specs.Given.{given_of};
+
+use crate::checks::world_names;
+use crate::compared::no_world;
+use crate::forms::{Form, shown};
+use std::alloc::Global;
+use teasel_files::{Answer, Input};
+use teasel_messages::{Refusal, foreign, is_module, of_error, told};
+use teasel_words::{Asked, Encoding};
+use wit_component::{Error, StringEncoding, decode};
+use witc_refusals::message;
+use witc_texts::strip;
+use witc_within::Within;
+use witc_written::attach;
+
+/// Bytes as an answer.
+fn answered(text: Vec<u8>) -> Answer
+    ensures { (result.yes ≡ true) × (result.text ≡ text) }
+{
+    Answer {
+        yes: true,
+        text,
+        binary: true,
+    }
+}
+
+/// The core module without the sections that contain worlds.
+pub fn stripped(alloc: Global, input: &Input<'_>) -> Result<Answer, Refusal>
+    ensures { IfOk result (Strips input.now) }
+{
+    if !input.whole {
+        return Err(foreign(alloc, input.name, &input.bytes));
+    }
+    match strip(alloc, &input.bytes) {
+        Ok(Some(text)) => Ok(answered(text)),
+        Ok(None) => Ok(answered(Vec::from_slice(alloc, &input.bytes)?)),
+        Err(error) => Err(of_error(alloc, input.name, &error)),
+    }
+}
+
+fn encoding_of(encoding: Encoding) -> StringEncoding
+    ensures { result ≡ encoding_by encoding }
+{
+    match encoding {
+        Encoding::Utf8 => StringEncoding::UTF8,
+        Encoding::Utf16 => StringEncoding::UTF16,
+        Encoding::Latin1Utf16 => StringEncoding::CompactUTF16,
+    }
+}
+
+/// The only one of these names, or why there is none.
+fn only(alloc: Global, file: &str, names: String) -> Result<String, Refusal> {
+    if names.is_empty() {
+        return Err(told(alloc, file, "the package has no world", ""));
+    }
+    if names.contains(", ") {
+        return Err(Refusal::of(
+            format!(in alloc; "{file}: the package has several worlds"),
+            format!(in alloc; "choose one by --world: {names}"),
+        ));
+    }
+    Ok(names)
+}
+
+/// The name of the only world of a package, or why there is none.
+fn only_world(alloc: Global, file: &str, bytes: &[u8]) -> Result<String, Refusal> {
+    match decode(alloc, bytes) {
+        Ok((resolve, id)) => only(alloc, file, world_names(alloc, &resolve, id)?),
+        Err(error) => Err(of_error(alloc, file, &error)),
+    }
+}
+
+/// The name of the world that is asked for, or of the only one.
+fn chosen_world(
+    alloc: Global,
+    asked: &Asked<'_>,
+    file: &str,
+    bytes: &[u8],
+) -> Result<String, Refusal> {
+    match asked.worlds.last() {
+        Some(name) => Ok(String::from_str(alloc, *name)?),
+        None => only_world(alloc, file, bytes),
+    }
+}
+
+/// The bytes of a package: of the one that the file's bytes mean, or of the one world.
+fn package_of(alloc: Global, input: &Input<'_>) -> Result<Vec<u8>, Refusal>
+    ensures { IfOk result (Shows Wasm None input.now) }
+{
+    if !input.whole {
+        return Err(foreign(alloc, input.name, &input.bytes));
+    }
+    if is_module(&input.bytes) {
+        return Err(told(
+            alloc,
+            input.name,
+            "it is a core module, and no package",
+            "the files stand as MODULE PACKAGE",
+        ));
+    }
+    match shown(alloc, Form::Wasm, None, &input.bytes) {
+        Ok(Within::Text(bytes)) => Ok(bytes),
+        Ok(Within::Beyond) => Err(Refusal::Memory),
+        Err(error) => Err(of_error(alloc, input.name, &error)),
+    }
+}
+
+/// The refusal of a world in a module.
+fn refused(alloc: Global, file: &str, error: &Error) -> Refusal {
+    match error {
+        Error::Clash(_, _) => match message(alloc, error) {
+            Ok(words) => told(
+                alloc,
+                file,
+                &words,
+                "`teasel sections` lists its worlds, and `teasel strip` removes them",
+            ),
+            Err(_) => Refusal::Memory,
+        },
+        _ => of_error(alloc, file, error),
+    }
+}
+
+/// The module with a world of these bytes of a package as one more section.
+fn attached(
+    alloc: Global,
+    asked: &Asked<'_>,
+    module: &Input<'_>,
+    file: &str,
+    bytes: &[u8],
+) -> Result<Answer, Refusal>
+    ensures { IfOk result (Attaches (given_of asked.now) «module».now bytes.now) }
+{
+    let name = chosen_world(alloc, asked, file, bytes)?;
+    let encoding = encoding_of(asked.encoding);
+    match attach(alloc, &module.bytes, bytes, &name, encoding, false) {
+        Ok(Some(text)) => Ok(answered(text)),
+        Ok(None) => Err(no_world(alloc, file, bytes, &name)),
+        Err(error) => Err(refused(alloc, module.name, &error)),
+    }
+}
+
+/// The module with a world of the package as one more section.
+pub fn embedded(
+    alloc: Global,
+    asked: &Asked<'_>,
+    module: &Input<'_>,
+    package: &Input<'_>,
+) -> Result<Answer, Refusal>
+    ensures { IfOk result (Embeds (given_of asked.now) «module».now «package».now) }
+{
+    if !module.whole {
+        return Err(foreign(alloc, module.name, &module.bytes));
+    }
+    if !is_module(&module.bytes) {
+        return Err(told(
+            alloc,
+            module.name,
+            "it is no core module",
+            "the files stand as MODULE PACKAGE",
+        ));
+    }
+    let bytes = package_of(alloc, package)?;
+    attached(alloc, asked, module, package.name, &bytes)
+}

@@ -1,0 +1,149 @@
+//! The text, the JSON or the bytes of a package, a world or a core module.
+
+ghost use Rattle.std.specs.Prelude.{◌≡◌, true, IfOk};
+ghost use Rattle.wit_component.specs.Decoded.{MeansNothing};
+ghost use Rattle.teasel_answers.specs.Forms.{is_reading_refused, MakesFound, MakesModule, MakesPackage, MakesShown, MakesWorld};
+
+use std::alloc::Global;
+use teasel_messages::is_module;
+use teasel_words::Kind;
+use wit_component::{Error, decode};
+use witc_listed::{module_json, package_json, world_json};
+use witc_within::{Within, module_text_within, package_text_within, world_text_within};
+use witc_written::{module_package, package_bytes, world_package};
+
+/// What is written of a file.
+#[derive(Clone, Copy)]
+pub enum Form {
+    /// Its WIT text, of so many bytes at most.
+    Text(usize),
+    /// The same as JSON.
+    Json,
+    /// A package in binary form.
+    Wasm,
+}
+
+fn of_package(alloc: Global, form: Form, bytes: &[u8]) -> Result<Within, Error>
+    ensures { IfOk result (MakesPackage form bytes.now) }
+{
+    match form {
+        Form::Text(most) => package_text_within(alloc, bytes, most),
+        Form::Json => Ok(Within::Text(package_json(alloc, bytes)?)),
+        Form::Wasm => Ok(Within::Text(package_bytes(alloc, bytes, false)?)),
+    }
+}
+
+fn of_world(alloc: Global, form: Form, bytes: &[u8]) -> Result<Within, Error>
+    ensures { IfOk result (MakesWorld form bytes.now) }
+{
+    match form {
+        Form::Text(most) => world_text_within(alloc, bytes, most),
+        Form::Json => Ok(Within::Text(world_json(alloc, bytes)?)),
+        Form::Wasm => Ok(Within::Text(world_package(alloc, bytes)?)),
+    }
+}
+
+fn of_module(alloc: Global, form: Form, bytes: &[u8]) -> Result<Within, Error>
+    ensures { IfOk result (MakesModule form bytes.now) }
+{
+    match form {
+        Form::Text(most) => module_text_within(alloc, bytes, most),
+        Form::Json => Ok(Within::Text(module_json(alloc, bytes)?)),
+        Form::Wasm => Ok(Within::Text(module_package(alloc, bytes)?)),
+    }
+}
+
+/// The refusal of bytes that mean neither a package nor one world: that of the package.
+pub fn first_refusal(of_package: Error, of_world: Error) -> Error {
+    match of_world {
+        Error::NoReading(_, _) => of_package,
+        other => other,
+    }
+}
+
+/// What is made of the one world that bytes mean which mean no package.
+fn of_world_instead(
+    alloc: Global,
+    form: Form,
+    bytes: &[u8],
+    refusal: Error,
+) -> Result<Within, Error>
+    ensures { IfOk result (MakesWorld form bytes.now) }
+{
+    match of_world(alloc, form, bytes) {
+        Ok(made) => Ok(made),
+        Err(error) => Err(first_refusal(refusal, error)),
+    }
+}
+
+/// Whether bytes are refused since they mean nothing.
+fn is_no_reading(error: &Error) -> bool
+    ensures { result ≡ is_reading_refused error.now }
+{
+    match error {
+        Error::NoReading(_, _) => true,
+        _ => false,
+    }
+}
+
+/// Whether bytes mean no package.
+pub fn means_no_package(alloc: Global, bytes: &[u8]) -> Result<bool, Error>
+    ensures { IfOk result (λ none. none ≡ true → MeansNothing bytes.now) }
+{
+    match decode(alloc, bytes) {
+        Ok(_) => Ok(false),
+        Err(error) => {
+            if is_no_reading(&error) {
+                Ok(true)
+            } else {
+                Err(error)
+            }
+        }
+    }
+}
+
+/// What is made of bytes that no package's reading took: of the one world that they mean, where they mean no package.
+fn of_world_or_refused(
+    alloc: Global,
+    form: Form,
+    bytes: &[u8],
+    refusal: Error,
+) -> Result<Within, Error>
+    ensures { IfOk result (λ made. MeansNothing bytes.now × MakesWorld form bytes.now made) }
+{
+    match means_no_package(alloc, bytes) {
+        Ok(none) => {
+            if none {
+                of_world_instead(alloc, form, bytes, refusal)
+            } else {
+                Err(refusal)
+            }
+        }
+        Err(error) => Err(error),
+    }
+}
+
+/// What is made of what the bytes are: a core module by their beginning, else a package where they mean one, else one world.
+fn of_found(alloc: Global, form: Form, bytes: &[u8]) -> Result<Within, Error>
+    ensures { IfOk result (MakesFound form bytes.now) }
+{
+    if is_module(bytes) {
+        return of_module(alloc, form, bytes);
+    }
+    match of_package(alloc, form, bytes) {
+        Ok(made) => Ok(made),
+        Err(refusal) => of_world_or_refused(alloc, form, bytes, refusal),
+    }
+}
+
+/// What is made of bytes that are of this kind, or of the kind that they are found to be.
+pub fn shown(alloc: Global, form: Form, kind: Option<Kind>, bytes: &[u8]) -> Result<Within, Error>
+    ensures { IfOk result (MakesShown form kind bytes.now) }
+{
+    match kind {
+        Some(Kind::Package) => of_package(alloc, form, bytes),
+        Some(Kind::World) => of_world(alloc, form, bytes),
+        Some(Kind::Module) => of_module(alloc, form, bytes),
+        None => of_found(alloc, form, bytes),
+    }
+}

@@ -1,0 +1,107 @@
+//! What files are.
+
+ghost use Rattle.std.specs.Prelude.{◌≡◌, ◌&&◌, true, IfOk};
+ghost use Rattle.teasel_answers.specs.Kinds.{IsKnown, is_known_by};
+ghost use Rattle.teasel_files.specs.AllTell.{AllTell};
+
+use json::Writer;
+use std::alloc::{AllocError, Global};
+use teasel_files::{Answer, Input};
+use teasel_messages::{Refusal, is_component, is_module, of_error, push};
+use wit_component::Error;
+use wit_json::put_text;
+use witc_alike::kinds_of;
+
+/// Whether something is known of bytes: they are read, or begin as a core module or a component does.
+fn is_known(sum: u8, bytes: &[u8]) -> bool
+    ensures { result ≡ is_known_by sum bytes.now }
+{
+    sum > 0 || is_module(bytes) || is_component(bytes)
+}
+
+/// What bytes are, in a word: by the first of module, package and world that reads them, or else by how they begin.
+fn kind_word(sum: u8, bytes: &[u8]) -> &'static str {
+    if sum & 4 == 4 || is_module(bytes) {
+        "module"
+    } else if sum & 1 == 1 {
+        "package"
+    } else if sum & 2 == 2 {
+        "world"
+    } else if is_component(bytes) {
+        "component"
+    } else {
+        "unknown"
+    }
+}
+
+/// What a file is, and whether that is known.
+fn kind_of(alloc: Global, input: &Input<'_>) -> Result<(&'static str, bool), Error>
+    ensures { IfOk result (λ kind. IsKnown input.now kind.1) }
+{
+    if !input.whole {
+        return Ok(("unknown", false));
+    }
+    let sum = kinds_of(alloc, &input.bytes)?;
+    Ok((kind_word(sum, &input.bytes), is_known(sum, &input.bytes)))
+}
+
+/// Whether both hold.
+pub fn both(one: bool, other: bool) -> bool
+    ensures { result ≡ (one && other) }
+{
+    one && other
+}
+
+fn put_file(w: &mut Writer<Global>, name: &str, kind: &str) -> Result<(), AllocError> {
+    w.begin_object()?;
+    put_text(w, "file", name)?;
+    put_text(w, "kind", kind)?;
+    w.end_object()
+}
+
+/// Appends a file's line, or an object.
+fn add_file(
+    text: &mut String,
+    w: &mut Writer<Global>,
+    name: &str,
+    kind: &str,
+) -> Result<(), AllocError> {
+    text.push_str(name)?;
+    text.push_str(": ")?;
+    text.push_str(kind)?;
+    text.push_str("\n")?;
+    put_file(w, name, kind)
+}
+
+/// The end of a list of JSON, or a text.
+pub fn told(mut w: Writer<Global>, text: String, json: bool, fits: bool) -> Result<Answer, Refusal>
+    ensures { IfOk result (λ a. a.yes ≡ fits) }
+{
+    if !json {
+        return Ok(Answer::told(text.into_bytes(), fits));
+    }
+    w.end_array()?;
+    let mut listing = w.into_inner();
+    listing.push(b'\n')?;
+    Ok(Answer::told(listing, fits))
+}
+
+/// What each file is. The answer is no where one is unknown.
+pub fn kinds(alloc: Global, inputs: &[Input<'_>], json: bool) -> Result<Answer, Refusal>
+    ensures { IfOk result (λ a. AllTell IsKnown inputs.now true a.yes) }
+{
+    let mut all_known = true;
+    let mut text = String::new(alloc);
+    let mut w = Writer::new(Vec::new(alloc));
+    w.begin_array()?;
+    for input in inputs {
+        match kind_of(alloc, input) {
+            Ok((kind, known)) => {
+                all_known = both(all_known, known);
+                add_file(&mut text, &mut w, input.name, kind)?;
+            }
+            Err(error) => return Err(of_error(alloc, input.name, &error)),
+        }
+    }
+    told(w, text, json, all_known)
+}
