@@ -18,6 +18,7 @@ module _ (holds : Text → List ℕ → Type 0) where
       → IsInput (holds (get_or names at d).now) i → js ≡ is ++ i ∷ [] → AreRead holds (take (at + 1) (texts_of names)) js
   one-more names at d is js i below h new grown =
       let step : take (at + 1) (texts_of names) ≡ take at (texts_of names) ++ (get_or names at d).now ∷ [] =
-      take-map _ (at + 1) names ∙ ap texts_of (take_more names at d below) ∙ map-append _ (take at names) (get_or names at d ∷ []) ∙ ap (λ ts. ts ++ (get_or names at d).now ∷ []) (sym (take-map _ at names)) in
+      take-map _ (at + 1) names ∙ ap texts_of (take_more names at d below) ∙ map-append _ (take at names) (get_or names at d ∷ [])
+      ∙ ap (λ ts. ts ++ (get_or names at d).now ∷ []) (sym (take-map _ at names)) in
       subst (λ ts. AreRead holds ts js) (sym step) (subst (λ xs. AreRead holds (take at (texts_of names) ++ (get_or names at d).now ∷ []) xs) (sym grown)
       (snoc (take at (texts_of names)) is _ i h new))

@@ -1,4 +1,4 @@
 -- What is read of one file more. Serves inputs::read_inputs.
 mod InputLaws
--- What is told of a list, from a place on. Serves teasel_answers.
+-- What is told of a list, from a place on. Serves crates above.
 pub mod TellLaws

@@ -25,7 +25,8 @@ rest-at false ts at = refl
 
 module _ (ts : List Text) (at : ℕ) (w : Text) (stands : drop at ts ≡ w ∷ drop (at + 1) ts) (next : Option Text) (is_next : next ≡ head_of (drop (at + 1) ts)) where
   -- a word that is taken
-  pub step-follows : (old between : Given) (both : Bool) → taken w next old ≡ Some (both, between) → (new : Given) → Follows (drop (at + (if both then 2 else 1)) ts) between new → Follows (drop at ts) old new
+  pub step-follows : (old between : Given) (both : Bool) → taken w next old ≡ Some (both, between) → (new : Given) → Follows (drop (at + (if both then 2 else 1)) ts) between new
+      → Follows (drop at ts) old new
   step-follows old between both is new rest = subst (λ ws. Follows ws old new) (sym stands)
       (goes_on (subst (λ n. taken w n old ≡ Some (both, between)) is_next is) (subst (λ ws. Follows ws between new) (sym (rest-at both ts at)) rest))
 

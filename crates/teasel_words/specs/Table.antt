@@ -122,7 +122,8 @@ words_of option.Color = word.Check ∷ word.Compat ∷ word.Diff ∷ []
 words_of option.Force = word.Wasm ∷ word.Embed ∷ word.Strip ∷ []
 words_of option.Most = word.Text ∷ word.Diff ∷ []
 words_of option.MostRead = word.Text ∷ word.Json ∷ word.Wasm ∷ word.Kind ∷ word.Check ∷ word.Compat ∷ word.Diff ∷ word.Embed ∷ word.Strip ∷ word.Sections ∷ []
-words_of option.Help = word.Text ∷ word.Json ∷ word.Wasm ∷ word.Kind ∷ word.Check ∷ word.Compat ∷ word.Diff ∷ word.Embed ∷ word.Strip ∷ word.Sections ∷ word.Completion ∷ word.Man ∷ word.Help ∷ word.Version ∷ []
+words_of option.Help = word.Text ∷ word.Json ∷ word.Wasm ∷ word.Kind ∷ word.Check ∷ word.Compat ∷ word.Diff ∷ word.Embed ∷ word.Strip ∷ word.Sections
+    ∷ word.Completion ∷ word.Man ∷ word.Help ∷ word.Version ∷ []
 
 -- the first word of this name
 abbrev pub first_word : List Word → Text → Option Word
@@ -140,8 +141,10 @@ first_option (o ∷ rest) name = if is_name_of o name then Some o else first_opt
 
 -- all words, in the order in which they are shown
 abbrev pub all_words : List Word
-all_words = word.Text ∷ word.Json ∷ word.Wasm ∷ word.Kind ∷ word.Check ∷ word.Compat ∷ word.Diff ∷ word.Embed ∷ word.Strip ∷ word.Sections ∷ word.Completion ∷ word.Man ∷ word.Help ∷ word.Version ∷ []
+all_words = word.Text ∷ word.Json ∷ word.Wasm ∷ word.Kind ∷ word.Check ∷ word.Compat ∷ word.Diff ∷ word.Embed ∷ word.Strip ∷ word.Sections ∷ word.Completion
+    ∷ word.Man ∷ word.Help ∷ word.Version ∷ []
 
 -- all options
 abbrev pub all_options : List Opt
-all_options = option.Output ∷ option.World ∷ option.Encoding ∷ option.As ∷ option.Json ∷ option.Quiet ∷ option.Color ∷ option.Force ∷ option.Most ∷ option.MostRead ∷ option.Help ∷ []
+all_options = option.Output ∷ option.World ∷ option.Encoding ∷ option.As ∷ option.Json ∷ option.Quiet ∷ option.Color ∷ option.Force ∷ option.Most
+    ∷ option.MostRead ∷ option.Help ∷ []

@@ -190,7 +190,8 @@ impl<'a> Asked<'a> {
         value: Option<&'a str>,
         next: Option<&'a str>,
     ) -> Result<bool, Misuse<'a>>
-        ensures { IsTaken (with_option (first_option all_options name.now) (text_if value.entry) (text_if next.entry) (given_of self.old)) (given_of self.new) result }
+        ensures { IsTaken (with_option (first_option all_options name.now) (text_if value.entry) (text_if next.entry) (given_of self.old))
+            (given_of self.new) result }
     {
         let Some(option) = option_named(name) else {
             return Err(Misuse::NoSuchOption(self.word, name));

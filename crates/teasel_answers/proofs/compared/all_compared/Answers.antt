@@ -12,5 +12,6 @@ loop-value-preserved c = λ all rest. c.loop-value.invariant all
 
 pub returns : goal.returns
 returns c = if-ok (λ (a : Answer). a.yes ≡ c.loop-value.all_fit) (λ (a : Answer). AllTell (tells_lent c.args.input.now.bytes.items) c.args.pairs.now true a.yes)
-    (λ a is. subst (λ (b : Bool). AllTell (tells_lent c.args.input.now.bytes.items) c.args.pairs.now true b) (sym is) (c.loop-value.invariant c.loop-value.all_fit (tell-end (tells_lent c.args.input.now.bytes.items) c.args.pairs.now c.loop-value.value-index c.loop-value-test.false c.loop-value.all_fit)))
+    (λ a is. subst (λ (b : Bool). AllTell (tells_lent c.args.input.now.bytes.items) c.args.pairs.now true b) (sym is)
+    (c.loop-value.invariant c.loop-value.all_fit (tell-end (tells_lent c.args.input.now.bytes.items) c.args.pairs.now c.loop-value.value-index c.loop-value-test.false c.loop-value.all_fit)))
     c.told.result c.told.ensures

@@ -1,6 +1,4 @@
-use Rattle.std.proofs.Common.{sym, subst, List, ℕ, ◌≡◌, ◌↔◌, IsNone, IfSome}
-use Rattle.line_diff.specs.{Script.LeadsTo, Unified.unified_text}
-use Rattle.line_diff.specs.declared.script.Edit.{Edit}
+use Rattle.std.proofs.Common.{subst, List, ℕ}
 use Rattle.teasel_answers.specs.{Answers.IsDifference, Forms.Shows}
 use Rattle.teasel_answers.specs.declared.forms.Form.{Form}
 use Rattle.teasel_words.specs.Given.{given_of}
@@ -19,5 +17,6 @@ returns c =
       new_is = subst (λ (f : Form). Shows f g.kind c.args.new.now n) c.text_form-2.ensures c.in_ok-new_text.ensures;
       difference = subst (λ (xs : List ℕ). IsDifference c.args.old.now.name.now c.args.new.now.name.now xs n.items c.args.color c.difference.result) c.deref.ensures.value
           (subst (λ (ys : List ℕ). IsDifference c.args.old.now.name.now c.args.new.now.name.now c.deref.result.now ys c.args.color c.difference.result) c.deref-2.ensures.value
-          (told-difference c.args.old.now.name.now c.args.new.now.name.now c.deref.result.now c.deref-2.result.now c.args.color c.in_ok-made.made c.difference.result c.in_ok-made.ensures.same c.in_ok-made.ensures.differs c.difference.ensures));
+          (told-difference c.args.old.now.name.now c.args.new.now.name.now c.deref.result.now c.deref-2.result.now c.args.color c.in_ok-made.made c.difference.result c.in_ok-made.ensures.same
+          c.in_ok-made.ensures.differs c.difference.ensures));
     }

@@ -1,7 +1,6 @@
 use Rattle.std.proofs.Common.{subst, List, ℕ}
 use Rattle.base_lemmas.proofs.Options.{if_ok as if-ok}
 use Rattle.teasel_answers.specs.Answers.{Attaches, Embeds}
-use Rattle.teasel_files.specs.declared.answer.Answer.{Answer}
 use Rattle.teasel_words.specs.Given.{given_of}
 use Rattle.teasel_answers.proofs.embedded.embedded.Goals as goal
 

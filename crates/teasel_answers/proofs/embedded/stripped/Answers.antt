@@ -1,4 +1,4 @@
-use Rattle.std.proofs.Common.{ap, refl, sym, subst, ◌∙◌, List, ℕ, Vec}
+use Rattle.std.proofs.Common.{sym, subst, ◌∙◌, List, ℕ, Vec}
 use Rattle.std.specs.declared.alloc.Global.{Global}
 use Rattle.witc_texts.specs.Stripped.{StripsBytes}
 use Rattle.witc_texts.proofs.StrippedLaws.{part-left, whole-left}

@@ -54,7 +54,8 @@ returns-clause-size c =
     if-err (λ (e : Error). e ≡ Memory) (λ (e : Error). e ≡ Size → OutgrowsLists c.args.bytes.now) (never-too-large (OutgrowsLists c.args.bytes.now)) c.text_within.result c.text_within.ensures.memory
 
 pub returns-in_err-others-clause-refused : goal.returns-in_err-others-clause-refused
-returns-in_err-others-clause-refused c = passed (RefusesBindings c.args.bytes.now) c.from_residual-in_err-others.result Memory c.from_residual-in_err-others.ensures.1 (no-memory c.args.bytes.now Memory refl)
+returns-in_err-others-clause-refused c = passed (RefusesBindings c.args.bytes.now) c.from_residual-in_err-others.result Memory c.from_residual-in_err-others.ensures.1
+    (no-memory c.args.bytes.now Memory refl)
 
 pub returns-in_err-others-clause-size : goal.returns-in_err-others-clause-size
 returns-in_err-others-clause-size c = passed (λ (e : Error). e ≡ Size → OutgrowsLists c.args.bytes.now) c.from_residual-in_err-others.result Memory c.from_residual-in_err-others.ensures.1
