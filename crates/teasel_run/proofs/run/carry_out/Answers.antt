@@ -1,0 +1,14 @@
+use Rattle.std.proofs.Common.{refl, subst}
+use Rattle.teasel_files.specs.Delivered.{IsDelivered}
+use Rattle.teasel_words.specs.Given.{given_of}
+use Rattle.teasel_run.proofs.run.carry_out.Goals as goal
+
+pub returns-clause-carries : goal.returns-clause-carries
+returns-clause-carries g c = record {
+  inputs = c.in_ok-inputs.inputs.items;
+  read = c.in_ok-inputs.ensures.read;
+  answer = c.in_ok-answer.answer;
+  is = refl;
+  delivered = subst (λ (s : g.S.Store.State). IsDelivered g.S.Store.puts (given_of c.args.asked.now) c.in_ok-answer.answer.text.items s (g.S.Store.state c.deliver.new.store)
+      (g.W.Write.contents c.args.writer.now) (g.W.Write.contents c.deliver.new.writer)) c.read_inputs.ensures.kept c.in_ok-deliver.ensures.delivered;
+}

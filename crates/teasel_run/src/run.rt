@@ -1,0 +1,159 @@
+//! A run of the program, over any files and streams.
+
+ghost use Rattle.std.specs.Prelude.{◌≡◌, IfOk, OnErr};
+ghost use Rattle.teasel_run.specs.Runs.{Carries, Runs, status_by};
+ghost use Rattle.teasel_words.specs.Given.{given_of, texts_of as texts_in};
+
+use std::alloc::{AllocError, Global};
+use std::io::Write;
+use teasel_answers::answer_of;
+use teasel_files::{Setting, Store, deliver, read_inputs, tell};
+use teasel_messages::{Refusal, of_misuse, plain};
+use teasel_words::{Asked, Color, read_words};
+
+/// The exit status where the work is done, or the answer is yes.
+pub const YES: u8 = 0;
+/// The exit status where the answer is no.
+pub const NO: u8 = 1;
+/// The exit status where words, a file or a result are refused.
+pub const REFUSED: u8 = 2;
+
+/// How many of these names are standard input's.
+fn inputs_among(names: &[&str]) -> usize {
+    let mut count = 0usize;
+    for name in names {
+        if *name == "-" {
+            count = count.saturating_add(1);
+        }
+    }
+    count
+}
+
+/// Whether a file has no name.
+fn is_nameless(asked: &Asked<'_>) -> bool {
+    for name in asked.files.iter() {
+        if name.is_empty() {
+            return true;
+        }
+    }
+    match asked.output {
+        Some(name) => name.is_empty(),
+        None => false,
+    }
+}
+
+/// Refuses a file without a name, and standard input where it is named twice.
+fn check_names(alloc: Global, asked: &Asked<'_>) -> Result<(), Refusal> {
+    if is_nameless(asked) {
+        return Err(plain(alloc, "the name of a file is empty", ""));
+    }
+    if inputs_among(&asked.files) > 1 {
+        return Err(plain(
+            alloc,
+            "standard input is named twice",
+            "name a file in place of one -",
+        ));
+    }
+    Ok(())
+}
+
+/// Whether the answer is coloured.
+fn is_colored(asked: &Asked<'_>, setting: Setting) -> bool {
+    match asked.color {
+        Color::Always => true,
+        Color::Never => false,
+        Color::Auto => setting.color && setting.out_terminal && asked.output.is_none(),
+    }
+}
+
+/// Carries out what is asked for, and returns whether the answer is yes.
+fn carry_out<S: Store, W: Write, E: Write>(
+    alloc: Global,
+    asked: &Asked<'_>,
+    setting: Setting,
+    store: &mut S,
+    writer: &mut W,
+    errors: &mut E,
+) -> Result<bool, Refusal>
+    ensures carries { IfOk result (Carries S.holds S.puts (given_of asked.now) (S.state store.old) (S.state store.new) (W.contents writer.old)
+        (W.contents writer.new)) }
+    ensures kept { OnErr result (S.state store.new ≡ S.state store.old) }
+{
+    check_names(alloc, asked)?;
+    let inputs = read_inputs(alloc, asked, setting, store, errors)?;
+    let answer = answer_of(alloc, asked, &inputs, is_colored(asked, setting))?;
+    deliver(alloc, asked, setting, &answer, store, writer)?;
+    Ok(answer.yes)
+}
+
+/// The words as text, or none where one isn't UTF-8.
+fn texts_of<'a>(alloc: Global, words: &'a [Vec<u8>]) -> Result<Option<Vec<&'a str>>, AllocError> {
+    let mut texts = Vec::new(alloc);
+    for word in words {
+        match str::from_utf8(word) {
+            Ok(text) => texts.push(text)?,
+            Err(_) => return Ok(None),
+        }
+    }
+    Ok(Some(texts))
+}
+
+/// Carries out what words that are text ask for, and returns whether the answer is yes.
+pub fn run_texts<S: Store, W: Write, E: Write>(
+    alloc: Global,
+    words: &[&str],
+    setting: Setting,
+    store: &mut S,
+    writer: &mut W,
+    errors: &mut E,
+) -> Result<bool, Refusal>
+    ensures { Runs S.holds S.puts (texts_in words.now) (S.state store.old) (S.state store.new) (W.contents writer.old) (W.contents writer.new) result }
+{
+    match read_words(alloc, words) {
+        Ok(asked) => carry_out(alloc, &asked, setting, store, writer, errors),
+        Err(misuse) => Err(of_misuse(alloc, misuse)),
+    }
+}
+
+/// The exit status of a run. Why something is refused is told.
+fn status_of<E: Write>(setting: Setting, done: Result<bool, Refusal>, errors: &mut E) -> u8
+    ensures { result ≡ status_by done }
+{
+    match done {
+        Ok(true) => YES,
+        Ok(false) => NO,
+        Err(refusal) => {
+            tell(errors, setting.color && setting.error_terminal, &refusal);
+            REFUSED
+        }
+    }
+}
+
+/// Carries out what the words behind the program's name ask for, and returns the exit status: `YES`, `NO` or `REFUSED`. Answers go to the writer, or to the
+/// file that is named; messages to `errors`.
+///
+/// Words that aren't UTF-8 or ask for nothing are refused before anything is read. Then come the files, in order, the answer, and where it goes.
+pub fn run_words<S: Store, W: Write, E: Write>(
+    alloc: Global,
+    words: &[Vec<u8>],
+    setting: Setting,
+    store: &mut S,
+    writer: &mut W,
+    errors: &mut E,
+) -> u8 {
+    match texts_of(alloc, words) {
+        Ok(Some(texts)) => {
+            let done = run_texts(alloc, &texts, setting, store, writer, errors);
+            status_of(setting, done, errors)
+        }
+        Ok(None) => {
+            let refusal = plain(
+                alloc,
+                "a word isn't UTF-8",
+                "a file whose name isn't can be given as standard input",
+            );
+            status_of(setting, Err(refusal), errors)
+        }
+        Err(_) => status_of(setting, Err(Refusal::Memory), errors),
+    }
+}
