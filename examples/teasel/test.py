@@ -268,7 +268,7 @@ class Inputs(Room):
         for at in sorted({9, 12, len(data) - 1, *range(13, len(data), len(data) // 8)} - ends):
             file = self.store("cut.wasm", data[:at])
             for word in "text", "strip", "sections":
-                self.refused_at(file, "no section of a core module begins here", COMPLETE, word, file, most=at)
+                self.refused_at(file, "no section of a core module begins here", "check that the file is complete", word, file, most=at)
 
     def test_endless_input(self):
         self.refused("/dev/zero: it is no WebAssembly file", "", "text", "/dev/zero")
