@@ -1,17 +1,18 @@
 //! Whether worlds of a package can replace others.
 
 ghost use Rattle.std.specs.Prelude.{◌≡◌, true, false, IfOk, is_none};
-ghost use Rattle.teasel_answers.specs.Answers.{Compares, IsCompared, is_answer_no, pair_of as pair_in, tells_lent, tells_pair};
+ghost use Rattle.teasel_answers.specs.Answers.{Compares, IsCompared, is_answer_no, pair_of as pair_in, tells_pair};
 ghost use Rattle.teasel_files.specs.AllTell.{AllTell};
+ghost use Rattle.teasel_words.specs.Given.{given_of, texts_of};
 
-use crate::checks::world_names;
-use crate::kinds::{both, told};
+use crate::names::{Names, package_names};
+use crate::report::{Report, both};
 use json::Writer;
 use std::alloc::{AllocError, Global};
 use teasel_files::{Answer, Input};
 use teasel_messages::{Refusal, foreign, of_error, push, push_mark};
 use teasel_words::Asked;
-use wit_component::{Error, decode};
+use wit_component::Error;
 use wit_json::put_text;
 use witc_refusals::message;
 use witc_texts::{Compared, compat};
@@ -39,38 +40,32 @@ fn is_no(error: &Error) -> bool
     }
 }
 
+/// The worlds that there are.
+fn its_worlds(alloc: Global, names: &Names) -> Result<String, AllocError> {
+    if names.worlds.is_empty() {
+        return String::from_str(alloc, "it has none");
+    }
+    format!(in alloc; "its worlds: {}", names.worlds)
+}
+
 /// That a package has no world of this name, and which it has.
 pub fn no_world(alloc: Global, file: &str, bytes: &[u8], name: &str) -> Refusal {
-    match decode(alloc, bytes) {
-        Ok((resolve, id)) => {
-            let names = world_names(alloc, &resolve, id);
-            Refusal::of(
-                format!(in alloc; "{file}: there is no world {name}"),
-                with_names(alloc, names),
-            )
-        }
+    match package_names(alloc, bytes) {
+        Ok(names) => Refusal::of(
+            format!(in alloc; "{file}: there is no world {name}"),
+            its_worlds(alloc, &names),
+        ),
         Err(error) => of_error(alloc, file, &error),
     }
 }
 
-fn with_names(alloc: Global, names: Result<String, AllocError>) -> Result<String, AllocError> {
-    let names = names?;
-    if names.is_empty() {
-        return String::from_str(alloc, "it has none");
-    }
-    format!(in alloc; "its worlds: {names}")
-}
-
 /// That worlds have to be chosen.
 fn no_choice(alloc: Global, file: &str, bytes: &[u8]) -> Refusal {
-    match decode(alloc, bytes) {
-        Ok((resolve, id)) => match world_names(alloc, &resolve, id) {
-            Ok(names) => Refusal::of(
-                format!(in alloc; "{file}: choose worlds by --world OLD=NEW"),
-                with_names(alloc, Ok(names)),
-            ),
-            Err(_) => Refusal::Memory,
-        },
+    match package_names(alloc, bytes) {
+        Ok(names) => Refusal::of(
+            format!(in alloc; "{file}: choose worlds by --world OLD=NEW"),
+            its_worlds(alloc, &names),
+        ),
         Err(error) => of_error(alloc, file, &error),
     }
 }
@@ -111,16 +106,15 @@ fn push_pair(
     color: bool,
 ) -> Result<(), AllocError> {
     push_mark(text, why.is_none(), color)?;
-    text.push_str(prev)?;
-    if prev != next {
-        text.push_str(" -> ")?;
-        text.push_str(next)?;
+    if prev == next {
+        push(text, &[prev, "\n"])?;
+    } else {
+        push(text, &[prev, " -> ", next, "\n"])?;
     }
-    text.push_str("\n")?;
-    if let Some(why) = why {
-        push(text, &["       ", why.as_str(), "\n"])?;
+    match why {
+        Some(why) => push(text, &["       ", why.as_str(), "\n"]),
+        None => Ok(()),
     }
-    Ok(())
 }
 
 fn put_pair(
@@ -149,7 +143,7 @@ pub fn compared(
     input: &Input<'_>,
     color: bool,
 ) -> Result<Answer, Refusal>
-    ensures { IfOk result (Compares asked.now.worlds.items input.now) }
+    ensures { IfOk result (Compares (given_of asked.now) input.now) }
 {
     if !input.whole {
         return Err(foreign(alloc, input.name, &input.bytes));
@@ -160,23 +154,34 @@ pub fn compared(
     all_compared(alloc, &asked.worlds, input, asked.json, color)
 }
 
-/// What comes of a pair of worlds by its value, and what is written of it.
+/// Tells of a pair of worlds whether the second can replace the first, or why not.
+fn tell_pair(
+    report: &mut Report,
+    prev: &str,
+    next: &str,
+    why: &Option<String>,
+    color: bool,
+) -> Result<(), AllocError> {
+    match report {
+        Report::Lines(text) => push_pair(text, prev, next, why, color),
+        Report::Listing(w) => put_pair(w, prev, next, why),
+    }
+}
+
+/// What comes of a pair of worlds by its value. It is told.
 fn compare_pair(
     alloc: Global,
     value: &str,
     input: &Input<'_>,
-    text: &mut String,
-    w: &mut Writer<Global>,
+    report: &mut Report,
     color: bool,
 ) -> Result<bool, Refusal>
     ensures { IfOk result (tells_pair input.now.bytes.items value.now) }
 {
     let (prev, next) = pair_of(value);
     let why = compare(alloc, input, prev, next)?;
-    let fits = why.is_none();
-    push_pair(text, prev, next, &why, color)?;
-    put_pair(w, prev, next, &why)?;
-    Ok(fits)
+    tell_pair(report, prev, next, &why, color)?;
+    Ok(why.is_none())
 }
 
 fn all_compared(
@@ -186,15 +191,13 @@ fn all_compared(
     json: bool,
     color: bool,
 ) -> Result<Answer, Refusal>
-    ensures { IfOk result (λ a. AllTell (tells_lent input.now.bytes.items) pairs.now true a.yes) }
+    ensures { IfOk result (λ a. AllTell (tells_pair input.now.bytes.items) (texts_of pairs.now) true a.yes) }
 {
     let mut all_fit = true;
-    let mut text = String::new(alloc);
-    let mut w = Writer::new(Vec::new(alloc));
-    w.begin_array()?;
+    let mut report = Report::begin(alloc, json)?;
     for value in pairs {
-        let fits = compare_pair(alloc, *value, input, &mut text, &mut w, color)?;
+        let fits = compare_pair(alloc, *value, input, &mut report, color)?;
         all_fit = both(all_fit, fits);
     }
-    told(w, text, json, all_fit)
+    report.end(all_fit)
 }

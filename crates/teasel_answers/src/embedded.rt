@@ -5,14 +5,14 @@ ghost use Rattle.teasel_answers.specs.{Answers.Attaches, Answers.Embeds, Answers
 ghost use Rattle.teasel_answers.specs.declared.forms.Form.TheVariants.{Wasm};
 ghost use Rattle.teasel_words.specs.Given.{given_of};
 
-use crate::checks::world_names;
 use crate::compared::no_world;
 use crate::forms::{Form, shown};
+use crate::names::package_names;
 use std::alloc::Global;
 use teasel_files::{Answer, Input};
 use teasel_messages::{Refusal, foreign, is_module, of_error, told};
 use teasel_words::{Asked, Encoding};
-use wit_component::{Error, StringEncoding, decode};
+use wit_component::{Error, StringEncoding};
 use witc_refusals::message;
 use witc_texts::strip;
 use witc_within::Within;
@@ -69,8 +69,8 @@ fn only(alloc: Global, file: &str, names: String) -> Result<String, Refusal> {
 
 /// The name of the only world of a package, or why there is none.
 fn only_world(alloc: Global, file: &str, bytes: &[u8]) -> Result<String, Refusal> {
-    match decode(alloc, bytes) {
-        Ok((resolve, id)) => only(alloc, file, world_names(alloc, &resolve, id)?),
+    match package_names(alloc, bytes) {
+        Ok(names) => only(alloc, file, names.worlds),
         Err(error) => Err(of_error(alloc, file, &error)),
     }
 }

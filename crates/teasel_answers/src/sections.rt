@@ -1,12 +1,16 @@
 //! The sections of a core module that contain worlds.
 
-use crate::checks::world_name;
+ghost use Rattle.std.specs.Prelude.{◌≡◌, true, IfOk};
+ghost use Rattle.teasel_answers.specs.Answers.{IsListed};
+
+use crate::names::world_name;
+use crate::report::Report;
 use json::Writer;
 use std::alloc::{AllocError, Global};
 use teasel_files::{Answer, Input};
 use teasel_messages::{Refusal, foreign, of_error};
 use teasel_words::Asked;
-use wit_component::{Error, decode_world};
+use wit_component::Error;
 use wit_json::put_text;
 use wit_metadata::{carried_in, sections_of};
 
@@ -17,12 +21,23 @@ struct Section {
     world: String,
 }
 
-fn section_of(alloc: Global, data: &[u8]) -> Result<Section, Error> {
-    let (resolve, id) = decode_world(alloc, data)?;
-    Ok(Section {
-        length: data.len(),
-        world: world_name(alloc, &resolve, id)?,
-    })
+/// A refusal of bytes that stand behind so many others.
+fn moved(error: Error, by: usize) -> Error {
+    match error {
+        Error::NoReading(cause, offset) => Error::NoReading(cause, offset.saturating_add(by)),
+        other => other,
+    }
+}
+
+/// A section of these data, which begin at this offset.
+fn section_of(alloc: Global, data: &[u8], offset: usize) -> Result<Section, Error> {
+    match world_name(alloc, data) {
+        Ok(world) => Ok(Section {
+            length: data.len(),
+            world,
+        }),
+        Err(error) => Err(moved(error, offset)),
+    }
 }
 
 /// The sections, in order.
@@ -36,23 +51,13 @@ fn all_sections(alloc: Global, bytes: &[u8]) -> Result<Vec<Section>, Error> {
         let offset = bytes.len().saturating_sub(rest.len());
         let (carried, behind) = carried_in(rest, offset)?;
         if let Some(data) = carried {
-            found.push(section_of(alloc, data)?)?;
+            let length = data.len().saturating_add(behind.len());
+            let offset = bytes.len().saturating_sub(length);
+            found.push(section_of(alloc, data, offset)?)?;
         }
         rest = behind;
     }
     Ok(found)
-}
-
-fn lines(alloc: Global, sections: &[Section]) -> Result<Vec<u8>, AllocError> {
-    let mut text = String::new(alloc);
-    for (number, section) in sections.iter().enumerate() {
-        let line = format!(in alloc;
-            "{number}  {:6} bytes  world {}\n",
-            section.length, section.world
-        )?;
-        text.push_str(&line)?;
-    }
-    Ok(text.into_bytes())
 }
 
 fn put_section(w: &mut Writer<Global>, number: usize, section: &Section) -> Result<(), AllocError> {
@@ -65,32 +70,44 @@ fn put_section(w: &mut Writer<Global>, number: usize, section: &Section) -> Resu
     w.end_object()
 }
 
-fn listing(alloc: Global, sections: &[Section]) -> Result<Vec<u8>, AllocError> {
-    let mut w = Writer::new(Vec::new(alloc));
-    w.begin_array()?;
-    for (number, section) in sections.iter().enumerate() {
-        put_section(&mut w, number, section)?;
+/// Tells of a section.
+fn tell_section(
+    alloc: Global,
+    report: &mut Report,
+    number: usize,
+    section: &Section,
+) -> Result<(), AllocError> {
+    match report {
+        Report::Lines(text) => {
+            let line = format!(in alloc;
+                "{number}  {:6} bytes  world {}\n",
+                section.length, section.world
+            )?;
+            text.push_str(&line)
+        }
+        Report::Listing(w) => put_section(w, number, section),
     }
-    w.end_array()?;
-    let mut text = w.into_inner();
-    text.push(b'\n')?;
-    Ok(text)
+}
+
+fn told(alloc: Global, sections: &[Section], json: bool) -> Result<Answer, Refusal>
+    ensures { IfOk result (λ a. a.yes ≡ true) }
+{
+    let mut report = Report::begin(alloc, json)?;
+    for (number, section) in sections.iter().enumerate() {
+        tell_section(alloc, &mut report, number, section)?;
+    }
+    report.end(true)
 }
 
 /// A list of the sections that contain worlds.
-pub fn sections(alloc: Global, asked: &Asked<'_>, input: &Input<'_>) -> Result<Answer, Refusal> {
+pub fn sections(alloc: Global, asked: &Asked<'_>, input: &Input<'_>) -> Result<Answer, Refusal>
+    ensures { IfOk result (IsListed input.now) }
+{
     if !input.whole {
         return Err(foreign(alloc, input.name, &input.bytes));
     }
     match all_sections(alloc, &input.bytes) {
-        Ok(found) => Ok(Answer::told(
-            if asked.json {
-                listing(alloc, &found)?
-            } else {
-                lines(alloc, &found)?
-            },
-            true,
-        )),
+        Ok(found) => told(alloc, &found, asked.json),
         Err(error) => Err(of_error(alloc, input.name, &error)),
     }
 }
