@@ -561,12 +561,12 @@ class Answers(Room):
     def test_a_damaged_section(self):
         data = bytearray(MODULE.read_bytes())
         starts = [end - len(contents) + 1 + contents[0] for end, identity, contents in forms.sections(bytes(data)) if identity == 0]
-        # an unknown id of the first section of the second world
+        # an unknown id of the first section of the second world: its contents, behind the id and a length of one byte, are refused
         data[starts[1] + 8] = 99
         file = self.store("damaged.wasm", bytes(data))
-        for word in "sections", "text":
+        for word in "sections", "text", "json", "wasm", "strip":
             with self.subTest(word):
-                self.refused(f"{file}: byte {starts[1] + 8}: a section has an id that packages don't use",
+                self.refused(f"{file}: byte {starts[1] + 10}: a section has an id that packages don't use",
                              "it may be a whole component, whose world isn't read yet", word, file)
 
     def test_kinds(self):

@@ -10,10 +10,10 @@ use crate::differences::differences;
 use crate::embedded::{embedded, stripped};
 use crate::forms::{Form, shown};
 use crate::kinds::kinds;
-use crate::sections::sections;
+use crate::sections::{refusal_of, sections};
 use std::alloc::Global;
 use teasel_files::{Answer, Input};
-use teasel_messages::{Refusal, foreign, of_error, plain, told};
+use teasel_messages::{Refusal, foreign, plain, told};
 use teasel_words::{Asked, Word, completion, man, shell_named, usage, usage_of, word_named};
 use witc_within::Within;
 
@@ -41,7 +41,7 @@ pub fn made(
             ),
             String::from_str(alloc, "--most SIZE allows more"),
         )),
-        Err(error) => Err(of_error(alloc, input.name, &error)),
+        Err(error) => Err(refusal_of(alloc, input, error)),
     }
 }
 

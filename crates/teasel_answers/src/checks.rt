@@ -8,13 +8,12 @@ ghost use Rattle.teasel_answers.specs.Checks.{IsChecked, Means, MeansComponent, 
 ghost use Rattle.teasel_files.specs.AllTell.{AllTell};
 
 use crate::names::{Names, package_names, world_name};
-use crate::report::{Report, both};
-use json::Writer;
+use crate::report::{Report, Value, both, put_object};
+use crate::sections::refusal_of;
 use std::alloc::{AllocError, Global};
 use teasel_files::{Answer, Input};
-use teasel_messages::{Refusal, about, foreign, is_module, of_error, push, push_mark};
+use teasel_messages::{Refusal, about, foreign, is_module, push, push_mark};
 use wit_component::Error;
-use wit_json::put_text;
 use witc_texts::strip;
 
 /// What a module is.
@@ -36,7 +35,10 @@ fn package_words(alloc: Global, names: &Names) -> Result<String, AllocError> {
     } else {
         names.worlds.as_str()
     };
-    format!(in alloc; "a package; interfaces: {}; worlds: {worlds}", names.interfaces)
+    format!(in alloc;
+        "a package; interfaces: {}; worlds: {worlds}",
+        names.interfaces
+    )
 }
 
 /// Whether a refusal is for want of memory.
@@ -136,7 +138,7 @@ fn check(alloc: Global, input: &Input<'_>) -> Result<Checked, AllocError>
             if is_memory(&error) {
                 Err(AllocError)
             } else {
-                refused(of_error(alloc, input.name, &error))
+                refused(refusal_of(alloc, input, error))
             }
         }
     }
@@ -151,31 +153,33 @@ fn push_checked(text: &mut String, checked: &Checked, color: bool) -> Result<(),
     Ok(())
 }
 
-fn put_checked(w: &mut Writer<Global>, name: &str, checked: &Checked) -> Result<(), AllocError> {
-    w.begin_object()?;
-    put_text(w, "file", name)?;
-    w.key("ok")?;
-    w.boolean(checked.ok)?;
-    put_text(w, "message", &checked.words)?;
-    w.key("hint")?;
+/// What to do about what is wrong, if that is known.
+fn hint_of(checked: &Checked) -> Value<'_> {
     if checked.hint.is_empty() {
-        w.null()?;
+        Value::Nothing
     } else {
-        w.string(&checked.hint)?;
+        Value::Text(checked.hint.as_str())
     }
-    w.end_object()
 }
 
 /// Tells whether a file can be read.
-fn tell_checked(
+fn tell_checked<'a>(
     report: &mut Report,
-    name: &str,
-    checked: &Checked,
+    name: &'a str,
+    checked: &'a Checked,
     color: bool,
 ) -> Result<(), AllocError> {
     match report {
         Report::Lines(text) => push_checked(text, checked, color),
-        Report::Listing(w) => put_checked(w, name, checked),
+        Report::Listing(w) => put_object(
+            w,
+            &[
+                ("file", Value::Text(name)),
+                ("ok", Value::Truth(checked.ok)),
+                ("message", Value::Text(checked.words.as_str())),
+                ("hint", hint_of(checked)),
+            ],
+        ),
     }
 }
 

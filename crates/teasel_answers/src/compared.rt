@@ -6,14 +6,13 @@ ghost use Rattle.teasel_files.specs.AllTell.{AllTell};
 ghost use Rattle.teasel_words.specs.Given.{given_of, texts_of};
 
 use crate::names::{Names, package_names};
-use crate::report::{Report, both};
-use json::Writer;
+use crate::report::{Report, Value, both, put_object};
+use crate::sections::refusal_of;
 use std::alloc::{AllocError, Global};
 use teasel_files::{Answer, Input};
 use teasel_messages::{Refusal, foreign, of_error, push, push_mark};
 use teasel_words::Asked;
 use wit_component::Error;
-use wit_json::put_text;
 use witc_refusals::message;
 use witc_texts::{Compared, compat};
 
@@ -77,7 +76,7 @@ fn reason(alloc: Global, input: &Input<'_>, error: Error) -> Result<Option<Strin
     if is_no(&error) {
         Ok(Some(message(alloc, &error)?))
     } else {
-        Err(of_error(alloc, input.name, &error))
+        Err(refusal_of(alloc, input, error))
     }
 }
 
@@ -117,23 +116,12 @@ fn push_pair(
     }
 }
 
-fn put_pair(
-    w: &mut Writer<Global>,
-    prev: &str,
-    next: &str,
-    why: &Option<String>,
-) -> Result<(), AllocError> {
-    w.begin_object()?;
-    put_text(w, "old", prev)?;
-    put_text(w, "new", next)?;
-    w.key("compatible")?;
-    w.boolean(why.is_none())?;
-    w.key("difference")?;
+/// Why the second world of a pair can't replace the first, if it can't.
+fn difference_of(why: &Option<String>) -> Value<'_> {
     match why {
-        Some(why) => w.string(why)?,
-        None => w.null()?,
+        Some(why) => Value::Text(why.as_str()),
+        None => Value::Nothing,
     }
-    w.end_object()
 }
 
 /// Whether the second world of each pair can replace the first. The answer is no where one can't.
@@ -155,16 +143,24 @@ pub fn compared(
 }
 
 /// Tells of a pair of worlds whether the second can replace the first, or why not.
-fn tell_pair(
+fn tell_pair<'a>(
     report: &mut Report,
-    prev: &str,
-    next: &str,
-    why: &Option<String>,
+    prev: &'a str,
+    next: &'a str,
+    why: &'a Option<String>,
     color: bool,
 ) -> Result<(), AllocError> {
     match report {
         Report::Lines(text) => push_pair(text, prev, next, why, color),
-        Report::Listing(w) => put_pair(w, prev, next, why),
+        Report::Listing(w) => put_object(
+            w,
+            &[
+                ("old", Value::Text(prev)),
+                ("new", Value::Text(next)),
+                ("compatible", Value::Truth(why.is_none())),
+                ("difference", difference_of(why)),
+            ],
+        ),
     }
 }
 

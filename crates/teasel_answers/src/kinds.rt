@@ -4,13 +4,12 @@ ghost use Rattle.std.specs.Prelude.{◌≡◌, true, IfOk};
 ghost use Rattle.teasel_answers.specs.Kinds.{IsKnown, is_known_by};
 ghost use Rattle.teasel_files.specs.AllTell.{AllTell};
 
-use crate::report::{Report, both};
-use json::Writer;
+use crate::report::{Report, Value, both, put_object};
+use crate::sections::refusal_of;
 use std::alloc::{AllocError, Global};
 use teasel_files::{Answer, Input};
-use teasel_messages::{Refusal, is_component, is_module, of_error, push};
+use teasel_messages::{Refusal, is_component, is_module, push};
 use wit_component::Error;
-use wit_json::put_text;
 use witc_alike::kinds_of;
 
 /// Whether something is known of bytes: they are read, or begin as a core module or a component does.
@@ -46,18 +45,16 @@ fn kind_of(alloc: Global, input: &Input<'_>) -> Result<(&'static str, bool), Err
     Ok((kind_word(sum, &input.bytes), is_known(sum, &input.bytes)))
 }
 
-fn put_file(w: &mut Writer<Global>, name: &str, kind: &str) -> Result<(), AllocError> {
-    w.begin_object()?;
-    put_text(w, "file", name)?;
-    put_text(w, "kind", kind)?;
-    w.end_object()
-}
-
 /// Tells what a file is.
 fn tell_kind(report: &mut Report, name: &str, kind: &str) -> Result<(), AllocError> {
     match report {
         Report::Lines(text) => push(text, &[name, ": ", kind, "\n"]),
-        Report::Listing(w) => put_file(w, name, kind),
+        Report::Listing(w) => {
+            put_object(
+                w,
+                &[("file", Value::Text(name)), ("kind", Value::Text(kind))],
+            )
+        }
     }
 }
 
@@ -73,7 +70,7 @@ pub fn kinds(alloc: Global, inputs: &[Input<'_>], json: bool) -> Result<Answer, 
                 all_known = both(all_known, known);
                 tell_kind(&mut report, input.name, kind)?;
             }
-            Err(error) => return Err(of_error(alloc, input.name, &error)),
+            Err(error) => return Err(refusal_of(alloc, input, error)),
         }
     }
     report.end(all_known)

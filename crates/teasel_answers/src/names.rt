@@ -5,6 +5,7 @@ ghost use Rattle.wit_component.specs.{Decoded.IsDecoded, Decoded.RefusesBytes, D
 ghost use Rattle.wit_model.specs.declared.model.Resolve.{Resolve};
 
 use std::alloc::{AllocError, Global};
+use teasel_messages::push;
 use wit_component::{Error, PackageId, Resolve, WorldId, decode, decode_world};
 
 /// The names of a package's worlds, with a comma between, and how many interfaces it has.
@@ -20,10 +21,8 @@ fn names_in(alloc: Global, resolve: &Resolve, id: PackageId) -> Result<Names, Al
     if let Some(package) = resolve.packages.get(id.0 as usize) {
         interfaces = package.interfaces.len();
         for (name, _) in package.worlds.iter() {
-            if !worlds.is_empty() {
-                worlds.push_str(", ")?;
-            }
-            worlds.push_str(name)?;
+            let comma = if worlds.is_empty() { "" } else { ", " };
+            push(&mut worlds, &[comma, name])?;
         }
     }
     Ok(Names { worlds, interfaces })

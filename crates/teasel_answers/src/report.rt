@@ -41,6 +41,34 @@ impl Report {
     }
 }
 
+/// A value of an object.
+#[derive(Clone, Copy)]
+pub enum Value<'a> {
+    Text(&'a str),
+    Truth(bool),
+    Number(u64),
+    Nothing,
+}
+
+fn put_value(w: &mut Writer<Global>, value: Value<'_>) -> Result<(), AllocError> {
+    match value {
+        Value::Text(text) => w.string(text),
+        Value::Truth(truth) => w.boolean(truth),
+        Value::Number(number) => w.u64(number),
+        Value::Nothing => w.null(),
+    }
+}
+
+/// Appends an object of these members, in this order.
+pub fn put_object(w: &mut Writer<Global>, members: &[(&str, Value<'_>)]) -> Result<(), AllocError> {
+    w.begin_object()?;
+    for (key, value) in members {
+        w.key(key)?;
+        put_value(w, *value)?;
+    }
+    w.end_object()
+}
+
 /// Whether both hold.
 pub fn both(one: bool, other: bool) -> bool
     ensures { result ≡ (one && other) }

@@ -4,14 +4,12 @@ ghost use Rattle.std.specs.Prelude.{◌≡◌, true, IfOk};
 ghost use Rattle.teasel_answers.specs.Answers.{IsListed};
 
 use crate::names::world_name;
-use crate::report::Report;
-use json::Writer;
+use crate::report::{Report, Value, put_object};
 use std::alloc::{AllocError, Global};
 use teasel_files::{Answer, Input};
-use teasel_messages::{Refusal, foreign, of_error};
+use teasel_messages::{Refusal, foreign, is_module, of_error};
 use teasel_words::Asked;
 use wit_component::Error;
-use wit_json::put_text;
 use wit_metadata::{carried_in, sections_of};
 
 /// A section: how many bytes its data are, and the name of its world.
@@ -60,14 +58,24 @@ fn all_sections(alloc: Global, bytes: &[u8]) -> Result<Vec<Section>, Error> {
     Ok(found)
 }
 
-fn put_section(w: &mut Writer<Global>, number: usize, section: &Section) -> Result<(), AllocError> {
-    w.begin_object()?;
-    w.key("number")?;
-    w.u64(number as u64)?;
-    w.key("bytes")?;
-    w.u64(section.length as u64)?;
-    put_text(w, "world", &section.world)?;
-    w.end_object()
+/// A refusal of a module's bytes whose place, if that is in the data of a section, is one of all bytes.
+fn placed(alloc: Global, bytes: &[u8], error: Error) -> Error {
+    match error {
+        Error::NoReading(cause, offset) => match all_sections(alloc, bytes) {
+            Err(Error::NoReading(of_section, place)) => Error::NoReading(of_section, place),
+            _ => Error::NoReading(cause, offset),
+        },
+        other => other,
+    }
+}
+
+/// The refusal of a file's bytes, at its place in the file.
+pub fn refusal_of(alloc: Global, input: &Input<'_>, error: Error) -> Refusal {
+    if is_module(&input.bytes) {
+        of_error(alloc, input.name, &placed(alloc, &input.bytes, error))
+    } else {
+        of_error(alloc, input.name, &error)
+    }
 }
 
 /// Tells of a section.
@@ -85,7 +93,14 @@ fn tell_section(
             )?;
             text.push_str(&line)
         }
-        Report::Listing(w) => put_section(w, number, section),
+        Report::Listing(w) => put_object(
+            w,
+            &[
+                ("number", Value::Number(number as u64)),
+                ("bytes", Value::Number(section.length as u64)),
+                ("world", Value::Text(section.world.as_str())),
+            ],
+        ),
     }
 }
 

@@ -4,11 +4,11 @@ use Rattle.teasel_answers.specs.Checks.{IsChecked, Means, MeansNone, MeansNoneOf
 use Rattle.teasel_answers.specs.declared.checks.Checked.{Checked}
 use Rattle.teasel_answers.proofs.checks.check.Goals as goal
 
-pub returns-in-Ok : goal.returns-in-Ok
-returns-in-Ok c = (c.if-not-input.false, subst (λ (xs : List ℕ). Means xs) c.deref-2.ensures.value c.in-Ok.ensures.means)
+pub returns-in_ok-about-in-Ok : goal.returns-in_ok-about-in-Ok
+returns-in_ok-about-in-Ok c = (c.if-not-input.false, subst (λ (xs : List ℕ). Means xs) c.deref-2.ensures.value c.in-Ok.ensures.means)
 
-pub returns : goal.returns
-returns c =
+pub returns-else-is_memory : goal.returns-else-is_memory
+returns-else-is_memory c =
     let i = c.args.input.now in
     let none = subst (λ (xs : List ℕ). MeansNone xs) c.deref-2.ensures.value (c.in-Err.ensures.none (sym c.is_memory.ensures ∙ c.if-is_memory.false)) in
     if-ok (λ (k : Checked). k.ok ≡ false) (λ (k : Checked). IsChecked i k.ok)
