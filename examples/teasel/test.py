@@ -558,6 +558,17 @@ class Answers(Room):
         self.assertEqual([line.split() for line in self.answer("sections", MODULE).decode().splitlines()],
                          [[str(it), str(length), "bytes", "world", name] for it, (length, name) in enumerate(zip(lengths, ["service", "clock"]))])
 
+    def test_a_damaged_section(self):
+        data = bytearray(MODULE.read_bytes())
+        starts = [end - len(contents) + 1 + contents[0] for end, identity, contents in forms.sections(bytes(data)) if identity == 0]
+        # an unknown id of the first section of the second world: its contents, behind the id and a length of one byte, are refused
+        data[starts[1] + 8] = 99
+        file = self.store("damaged.wasm", bytes(data))
+        for word in "sections", "text", "json", "wasm", "strip":
+            with self.subTest(word):
+                self.refused(f"{file}: byte {starts[1] + 10}: a section has an id that packages don't use",
+                             "it may be a whole component, whose world isn't read yet", word, file)
+
     def test_kinds(self):
         world = self.store("world.wasm", forms.world_in(MODULE.read_bytes(), "component-type:clock"))
         whole, other = self.store("whole.wasm", forms.WHOLE), self.store("other", b"no such")

@@ -1,4 +1,6 @@
 -- What comes of a difference of two texts. Serves differences.
 mod DifferLaws
--- Bytes that mean no package. Serves forms::means_no_package.
+-- What is told of texts that are lent. Serves compared::all_compared.
+mod LentLaws
+-- Bytes that mean nothing. Serves checks, forms.
 mod Nothing

@@ -1,24 +1,45 @@
--- Bytes that mean no package.
+-- Bytes that mean nothing.
 use Rattle.std.proofs.Common.{◌≡◌, true, false, ℕ, List}
-use Rattle.wit_component.specs.Decoded.{MeansNothing, RefusesBytes}
+use Rattle.wit_component.specs.{Decoded.MeansNothing, Decoded.RefusesBytes, DecodedWorlds.MeansNoWorld, DecodedWorlds.RefusesWorldBytes}
 use Rattle.wit_model.specs.declared.error.Error.{Error}
 use Rattle.wit_model.specs.declared.error.Error.TheVariants as errors
-use Rattle.teasel_answers.specs.Forms.{is_reading_refused}
+use Rattle.teasel_answers.specs.Checks.{is_memory}
 
-pub refused-nothing : (bytes : List ℕ) (e : Error) → RefusesBytes bytes e → is_reading_refused e ≡ true → MeansNothing bytes
-refused-nothing bytes (errors.NoReading cause offset) h is = h.1
-refused-nothing bytes errors.Memory h is = let wrong : false ≡ true = is in absurd cc
-refused-nothing bytes errors.Size h is = absurd h
-refused-nothing bytes (errors.CanonicalClash t) h is = absurd h
-refused-nothing bytes errors.EncodingMissing h is = absurd h
-refused-nothing bytes errors.EncodingUnknownFormat h is = absurd h
-refused-nothing bytes (errors.EncodingVersion b) h is = absurd h
-refused-nothing bytes (errors.BadStringEncoding b) h is = absurd h
-refused-nothing bytes errors.Historical h is = absurd h
-refused-nothing bytes errors.NotAModule h is = absurd h
-refused-nothing bytes (errors.BadModule n) h is = absurd h
-refused-nothing bytes (errors.Clash k t) h is = absurd h
-refused-nothing bytes errors.OtherPackage h is = absurd h
-refused-nothing bytes (errors.TwiceWithoutVersion t) h is = absurd h
-refused-nothing bytes (errors.Missing t) h is = absurd h
-refused-nothing bytes (errors.Differs t) h is = absurd h
+module _ (bytes : List ℕ) where
+  -- where a package is refused, and memory isn't wanting
+  pub refused-nothing : (e : Error) → RefusesBytes bytes e → is_memory e ≡ false → MeansNothing bytes
+  refused-nothing (errors.NoReading cause offset) h is = h.1
+  refused-nothing errors.Memory h is = let wrong : true ≡ false = is in absurd cc
+  refused-nothing errors.Size h is = absurd h
+  refused-nothing (errors.CanonicalClash t) h is = absurd h
+  refused-nothing errors.EncodingMissing h is = absurd h
+  refused-nothing errors.EncodingUnknownFormat h is = absurd h
+  refused-nothing (errors.EncodingVersion b) h is = absurd h
+  refused-nothing (errors.BadStringEncoding b) h is = absurd h
+  refused-nothing errors.Historical h is = absurd h
+  refused-nothing errors.NotAModule h is = absurd h
+  refused-nothing (errors.BadModule n) h is = absurd h
+  refused-nothing (errors.Clash k t) h is = absurd h
+  refused-nothing errors.OtherPackage h is = absurd h
+  refused-nothing (errors.TwiceWithoutVersion t) h is = absurd h
+  refused-nothing (errors.Missing t) h is = absurd h
+  refused-nothing (errors.Differs t) h is = absurd h
+
+  -- where a world is refused, and memory isn't wanting
+  pub refused-world : (e : Error) → RefusesWorldBytes bytes e → is_memory e ≡ false → MeansNoWorld bytes
+  refused-world (errors.NoReading cause offset) h is = h.1
+  refused-world errors.Memory h is = let wrong : true ≡ false = is in absurd cc
+  refused-world errors.Size h is = absurd h
+  refused-world (errors.CanonicalClash t) h is = absurd h
+  refused-world errors.EncodingMissing h is = absurd h
+  refused-world errors.EncodingUnknownFormat h is = absurd h
+  refused-world (errors.EncodingVersion b) h is = absurd h
+  refused-world (errors.BadStringEncoding b) h is = absurd h
+  refused-world errors.Historical h is = absurd h
+  refused-world errors.NotAModule h is = absurd h
+  refused-world (errors.BadModule n) h is = absurd h
+  refused-world (errors.Clash k t) h is = absurd h
+  refused-world errors.OtherPackage h is = absurd h
+  refused-world (errors.TwiceWithoutVersion t) h is = absurd h
+  refused-world (errors.Missing t) h is = absurd h
+  refused-world (errors.Differs t) h is = absurd h

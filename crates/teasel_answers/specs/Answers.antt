@@ -1,13 +1,13 @@
 -- What each word answers to its files.
 use Rattle.std.specs.Prelude.{◌≡◌, ◌≢◌, ℕ, Bool, true, false, List, [], ◌∷◌, Option, None, Some, Vec, if◌then◌else◌}
-use Rattle.std.specs.{Borrow.Bor, List.after_first, List.before_first}
+use Rattle.std.specs.List.{after_first, before_first}
 use Rattle.std.specs.declared.alloc.Global.{Global}
 use Rattle.wit_model.specs.declared.{error.Error.Error, model.StringEncoding.StringEncoding}
 use Rattle.wit_model.specs.declared.error.Error.TheVariants as errors
 use Rattle.wit_model.specs.declared.model.StringEncoding.TheVariants as strings
 use Rattle.line_diff.specs.{Script.LeadsTo, Unified.unified_text}
 use Rattle.line_diff.specs.declared.script.Edit.{Edit}
-use Rattle.teasel_answers.specs.Forms.{Shows}
+use Rattle.teasel_answers.specs.{Checks.IsChecked, Forms.Shows, Kinds.IsKnown}
 use Rattle.teasel_answers.specs.declared.forms.Form.{Form}
 use Rattle.teasel_answers.specs.declared.forms.Form.TheVariants as forms
 use Rattle.teasel_files.specs.AllTell.{AllTell}
@@ -15,6 +15,8 @@ use Rattle.teasel_files.specs.declared.answer.{Answer.Answer, Input.Input}
 use Rattle.teasel_words.specs.{Given.Given, Given.has_equals, Given.is_equals, Table.Text}
 use Rattle.teasel_words.specs.declared.choices.Encoding.{Encoding}
 use Rattle.teasel_words.specs.declared.choices.Encoding.TheVariants as encodings
+use Rattle.teasel_words.specs.declared.table.Word.{Word}
+use Rattle.teasel_words.specs.declared.table.Word.TheVariants as words
 use Rattle.witc_texts.specs.{Stripped.StripsBytes, Worlds.ComparesBytes, Worlds.RefusesCompared}
 use Rattle.witc_texts.specs.declared.comparison.Compared.TheVariants as compared
 use Rattle.witc_written.specs.Carried.{AttachesWorld}
@@ -88,11 +90,38 @@ pair_of t = if has_equals t then (before_first is_equals t, after_first is_equal
 abbrev pub tells_pair : List ℕ → Text → Bool → Type 0
 tells_pair bytes t = IsCompared bytes (pair_of t).0 (pair_of t).1
 
--- the same of a text that is lent
-abbrev pub tells_lent : List ℕ → Bor Text → Bool → Type 0
-tells_lent bytes t = tells_pair bytes t.now
-
 -- `compat`: for each pair of worlds in order, whether the second can replace the first; yes where each can
-pub record Compares (worlds : List (Bor Text)) (i : Input) (a : Answer) : Type 0 where
+pub record Compares (g : Given) (i : Input) (a : Answer) : Type 0 where
   pub whole : i.whole ≡ true
-  pub compared_ : AllTell (tells_lent i.bytes.items) worlds true a.yes
+  pub compared_ : AllTell (tells_pair i.bytes.items) g.worlds true a.yes
+
+-- `sections`: yes, of a file that is whole
+abbrev pub IsListed : Input → Answer → Type 0
+IsListed i a = (i.whole ≡ true) × (a.yes ≡ true)
+
+-- what each word answers to the files that it takes: words about no file say yes
+abbrev pub AnswersTo : Word → Given → Bool → List Input → Answer → Type 0
+AnswersTo words.Text g color (i ∷ []) a = Writes (forms.Text g.most) g i a
+AnswersTo words.Json g color (i ∷ []) a = Writes forms.Json g i a
+AnswersTo words.Wasm g color (i ∷ []) a = Writes forms.Wasm g i a
+AnswersTo words.Kind g color is a = AllTell IsKnown is true a.yes
+AnswersTo words.Check g color is a = AllTell IsChecked is true a.yes
+AnswersTo words.Compat g color (i ∷ []) a = Compares g i a
+AnswersTo words.Diff g color (old ∷ new ∷ []) a = Differs g color old new a
+AnswersTo words.Embed g color (m ∷ p ∷ []) a = Embeds g m p a
+AnswersTo words.Strip g color (i ∷ []) a = Strips i a
+AnswersTo words.Sections g color (i ∷ []) a = IsListed i a
+AnswersTo words.Help g color is a = a.yes ≡ true
+AnswersTo words.Completion g color is a = a.yes ≡ true
+AnswersTo words.Man g color is a = a.yes ≡ true
+AnswersTo words.Version g color is a = a.yes ≡ true
+AnswersTo _ g color is a = ⊥
+
+-- the same where the word isn't to be explained, which is yes too
+abbrev pub AnswersUnless : Bool → Given → Bool → List Input → Answer → Type 0
+AnswersUnless true g color is a = a.yes ≡ true
+AnswersUnless false g color is a = AnswersTo g.word_ g color is a
+
+-- what is answered to what is asked for
+abbrev pub Answers : Given → Bool → List Input → Answer → Type 0
+Answers g color is a = AnswersUnless g.help g color is a

@@ -2,8 +2,6 @@
 use Rattle.std.specs.Prelude.{◌≡◌, ℕ, Bool, true, false, List, Option, Some, None, Vec}
 use Rattle.std.specs.declared.alloc.Global.{Global}
 use Rattle.wit_component.specs.Decoded.{MeansNothing}
-use Rattle.wit_model.specs.declared.error.Error.{Error}
-use Rattle.wit_model.specs.declared.error.Error.TheVariants as errors
 use Rattle.teasel_answers.specs.declared.forms.Form.{Form}
 use Rattle.teasel_answers.specs.declared.forms.Form.TheVariants as forms
 use Rattle.teasel_files.specs.declared.answer.Input.{Input}
@@ -16,11 +14,6 @@ use Rattle.witc_within.specs.Within.{TextWithin}
 use Rattle.witc_within.specs.declared.texts.Within.{Within}
 use Rattle.witc_within.specs.declared.texts.Within.TheVariants as within
 use Rattle.witc_written.specs.{Worlds.EncodesWorld, Worlds.PrintsWorld, Written.EncodesModule, Written.EncodesPackage}
-
--- whether a refusal is of bytes that have no reading
-abbrev pub is_reading_refused : Error → Bool
-is_reading_refused (errors.NoReading cause offset) = true
-is_reading_refused _ = false
 
 -- this is made, of which that is true
 abbrev pub IsMade : (List ℕ → Type 0) → Within → Type 0

@@ -1,7 +1,7 @@
 //! What a word answers to the bytes of its files.
 
-ghost use Rattle.std.specs.Prelude.{◌≡◌, true, IfOk};
-ghost use Rattle.teasel_answers.specs.{Answers.Writes, Forms.Shows};
+ghost use Rattle.std.specs.Prelude.{◌≡◌, true, [], ◌∷◌, IfOk};
+ghost use Rattle.teasel_answers.specs.{Answers.Answers, Answers.AnswersTo, Answers.Writes, Forms.Shows};
 ghost use Rattle.teasel_words.specs.Given.{given_of};
 
 use crate::checks::checks;
@@ -10,10 +10,10 @@ use crate::differences::differences;
 use crate::embedded::{embedded, stripped};
 use crate::forms::{Form, shown};
 use crate::kinds::kinds;
-use crate::sections::sections;
+use crate::sections::{refusal_of, sections};
 use std::alloc::Global;
 use teasel_files::{Answer, Input};
-use teasel_messages::{Refusal, foreign, of_error, told};
+use teasel_messages::{Refusal, foreign, plain, told};
 use teasel_words::{Asked, Word, completion, man, shell_named, usage, usage_of, word_named};
 use witc_within::Within;
 
@@ -41,7 +41,7 @@ pub fn made(
             ),
             String::from_str(alloc, "--most SIZE allows more"),
         )),
-        Err(error) => Err(of_error(alloc, input.name, &error)),
+        Err(error) => Err(refusal_of(alloc, input, error)),
     }
 }
 
@@ -79,7 +79,9 @@ fn explain(alloc: Global, word: Option<Word>) -> Result<Answer, Refusal>
     Ok(Answer::told(text.into_bytes(), true))
 }
 
-fn help(alloc: Global, files: &[&str]) -> Result<Answer, Refusal> {
+fn help(alloc: Global, files: &[&str]) -> Result<Answer, Refusal>
+    ensures { IfOk result (λ a. a.yes ≡ true) }
+{
     let Some(name) = files.first() else {
         return explain(alloc, None);
     };
@@ -94,7 +96,9 @@ fn help(alloc: Global, files: &[&str]) -> Result<Answer, Refusal> {
     }
 }
 
-fn completions(alloc: Global, files: &[&str]) -> Result<Answer, Refusal> {
+fn completions(alloc: Global, files: &[&str]) -> Result<Answer, Refusal>
+    ensures { IfOk result (λ a. a.yes ≡ true) }
+{
     let name = files.first().copied().unwrap_or("");
     match shell_named(name) {
         Some(shell) => Ok(Answer::told(completion(alloc, shell)?.into_bytes(), true)),
@@ -107,77 +111,90 @@ fn completions(alloc: Global, files: &[&str]) -> Result<Answer, Refusal> {
     }
 }
 
-/// What is asked for of no file.
-fn of_nothing(alloc: Global, asked: &Asked<'_>) -> Result<Answer, Refusal> {
-    match asked.word {
-        Word::Completion => completions(alloc, &asked.files),
-        Word::Man => Ok(Answer::told(man(alloc, VERSION)?.into_bytes(), true)),
-        Word::Version => Ok(Answer::told(
-            format!(in alloc; "teasel {VERSION}\n")?.into_bytes(),
-            true,
-        )),
-        _ => help(alloc, &asked.files),
+fn man_page(alloc: Global) -> Result<Answer, Refusal>
+    ensures { IfOk result (λ a. a.yes ≡ true) }
+{
+    Ok(Answer::told(man(alloc, VERSION)?.into_bytes(), true))
+}
+
+fn version(alloc: Global) -> Result<Answer, Refusal>
+    ensures { IfOk result (λ a. a.yes ≡ true) }
+{
+    let text = format!(in alloc; "teasel {VERSION}\n")?;
+    Ok(Answer::told(text.into_bytes(), true))
+}
+
+/// The only file.
+fn only<'a, 'b>(alloc: Global, inputs: &'a [Input<'b>]) -> Result<&'a Input<'b>, Refusal>
+    ensures { IfOk result (λ i. inputs.now ≡ i.now ∷ []) }
+{
+    match inputs {
+        [input] => Ok(input),
+        _ => Err(plain(alloc, "one file is wanted", "")),
     }
 }
 
-/// What is asked for of one file.
-fn of_one(
+/// The only two files.
+fn pair<'a, 'b>(
     alloc: Global,
-    asked: &Asked<'_>,
-    input: &Input<'_>,
-    color: bool,
-) -> Result<Answer, Refusal> {
-    match asked.word {
-        Word::Text => show(alloc, text_form(asked), asked, input, false),
-        Word::Json => show(alloc, Form::Json, asked, input, false),
-        Word::Wasm => show(alloc, Form::Wasm, asked, input, true),
-        Word::Compat => compared(alloc, asked, input, color),
-        Word::Strip => stripped(alloc, input),
-        _ => sections(alloc, asked, input),
+    inputs: &'a [Input<'b>],
+) -> Result<(&'a Input<'b>, &'a Input<'b>), Refusal>
+    ensures { IfOk result (λ both. inputs.now ≡ both.0.now ∷ both.1.now ∷ []) }
+{
+    match inputs {
+        [one, other] => Ok((one, other)),
+        _ => Err(plain(alloc, "two files are wanted", "")),
     }
 }
 
-/// What is asked for of two files.
-fn of_two(
-    alloc: Global,
-    asked: &Asked<'_>,
-    first: &Input<'_>,
-    second: &Input<'_>,
-    color: bool,
-) -> Result<Answer, Refusal> {
-    match asked.word {
-        Word::Embed => embedded(alloc, asked, first, second),
-        _ => differences(alloc, asked, first, second, color),
-    }
-}
-
-/// What is asked for of no file, one or two.
-fn of_few(
+/// What a word answers to its files.
+fn answer_to(
     alloc: Global,
     asked: &Asked<'_>,
     inputs: &[Input<'_>],
     color: bool,
-) -> Result<Answer, Refusal> {
-    match inputs {
-        [input] => of_one(alloc, asked, input, color),
-        [first, second] => of_two(alloc, asked, first, second, color),
-        _ => of_nothing(alloc, asked),
+) -> Result<Answer, Refusal>
+    ensures { IfOk result (AnswersTo asked.now.word (given_of asked.now) color inputs.now) }
+{
+    match asked.word {
+        Word::Text => show(alloc, text_form(asked), asked, only(alloc, inputs)?, false),
+        Word::Json => show(alloc, Form::Json, asked, only(alloc, inputs)?, false),
+        Word::Wasm => show(alloc, Form::Wasm, asked, only(alloc, inputs)?, true),
+        Word::Kind => kinds(alloc, inputs, asked.json),
+        Word::Check => checks(alloc, inputs, asked.json, color),
+        Word::Compat => compared(alloc, asked, only(alloc, inputs)?, color),
+        Word::Strip => stripped(alloc, only(alloc, inputs)?),
+        Word::Sections => sections(alloc, asked, only(alloc, inputs)?),
+        Word::Diff => {
+            let (old, new) = pair(alloc, inputs)?;
+            differences(alloc, asked, old, new, color)
+        }
+        Word::Embed => {
+            let (module, package) = pair(alloc, inputs)?;
+            embedded(alloc, asked, module, package)
+        }
+        Word::Help => help(alloc, &asked.files),
+        Word::Completion => completions(alloc, &asked.files),
+        Word::Man => man_page(alloc),
+        Word::Version => version(alloc),
     }
 }
 
-/// What a word answers to its files, which are as many as it takes. `color` says whether the answer is coloured.
+/// What a word answers to its files, which are as many as it takes; or how it is used, where that is asked for. `color` says whether the answer is
+/// coloured.
+///
+/// Refuses what it can't read or make, with the file, the place and the reason; or for want of memory.
 pub fn answer_of(
     alloc: Global,
     asked: &Asked<'_>,
     inputs: &[Input<'_>],
     color: bool,
-) -> Result<Answer, Refusal> {
+) -> Result<Answer, Refusal>
+    ensures { IfOk result (Answers (given_of asked.now) color inputs.now) }
+{
     if asked.help {
-        return explain(alloc, Some(asked.word));
-    }
-    match asked.word {
-        Word::Kind => kinds(alloc, inputs, asked.json),
-        Word::Check => checks(alloc, asked, inputs, color),
-        _ => of_few(alloc, asked, inputs, color),
+        explain(alloc, Some(asked.word))
+    } else {
+        answer_to(alloc, asked, inputs, color)
     }
 }

@@ -1,128 +1,107 @@
 //! Whether files can be read, and what is wrong with those that can't.
 
-ghost use Rattle.std.specs.Prelude.{◌≡◌, ℕ, true, false, IfOk};
+ghost use Rattle.std.specs.Prelude.{◌≡◌, ℕ, true, false, IfErr, IfOk};
 ghost use Rattle.wit_component.specs.{Binding.Binding, Bound.IsBound};
-ghost use Rattle.wit_component.specs.{Decoded.IsDecoded, Decoded.MeansNothing, DecodedWorlds.IsDecodedWorld};
+ghost use Rattle.wit_component.specs.{Decoded.MeansNothing, DecodedWorlds.IsDecodedWorld, DecodedWorlds.MeansNoWorld};
 ghost use Rattle.wit_model.specs.declared.model.Resolve.{Resolve};
-ghost use Rattle.teasel_answers.specs.Checks.{IsChecked, Means};
+ghost use Rattle.teasel_answers.specs.Checks.{IsChecked, Means, MeansComponent, MeansNoneFor, RefusesModule, is_memory as is_want_of_memory};
 ghost use Rattle.teasel_files.specs.AllTell.{AllTell};
 
-use crate::forms::{first_refusal, means_no_package};
-use crate::kinds::{both, told};
-use json::Writer;
+use crate::names::{Names, package_names, world_name};
+use crate::report::{Report, Value, both, put_object};
+use crate::sections::refusal_of;
 use std::alloc::{AllocError, Global};
 use teasel_files::{Answer, Input};
-use teasel_messages::{Refusal, about, foreign, is_module, of_error, push, push_mark};
-use teasel_words::Asked;
-use wit_component::{Error, PackageId, Resolve, WorldId, decode, decode_world, metadata};
-use wit_json::put_text;
+use teasel_messages::{Refusal, about, foreign, is_module, push, push_mark};
+use wit_component::Error;
+use witc_texts::strip;
 
-/// The names of the worlds of a package, with a comma between.
-pub fn world_names(alloc: Global, resolve: &Resolve, id: PackageId) -> Result<String, AllocError> {
-    let mut text = String::new(alloc);
-    if let Some(package) = resolve.packages.get(id.0 as usize) {
-        for (name, _) in package.worlds.iter() {
-            if !text.is_empty() {
-                text.push_str(", ")?;
-            }
-            text.push_str(name)?;
-        }
-    }
-    Ok(text)
-}
-
-/// What a package has.
-fn package_summary(alloc: Global, resolve: &Resolve, id: PackageId) -> Result<String, AllocError> {
-    let names = world_names(alloc, resolve, id)?;
-    let interfaces = match resolve.packages.get(id.0 as usize) {
-        Some(package) => package.interfaces.len(),
-        None => 0,
-    };
-    let worlds = if names.is_empty() {
-        "none"
-    } else {
-        names.as_str()
-    };
-    format!(in alloc; "a package; interfaces: {interfaces}; worlds: {worlds}")
-}
-
-/// The name of a world.
-pub fn world_name(alloc: Global, resolve: &Resolve, id: WorldId) -> Result<String, AllocError> {
-    match resolve.worlds.get(id.0 as usize) {
-        Some(world) => world.name.clone(),
-        None => Ok(String::new(alloc)),
-    }
-}
-
-fn world_summary(alloc: Global, bytes: &[u8]) -> Result<String, Error>
-    ensures { IfOk result (λ s. (r : Resolve) × (w : ℕ) × IsDecodedWorld bytes.now r w) }
+/// What a module is.
+fn module_words(alloc: Global, bytes: &[u8]) -> Result<String, Error>
+    ensures binds { IfOk result (λ words. (b : Binding) × IsBound bytes.now b) }
+    ensures refuses { IfErr result (λ e. is_want_of_memory e ≡ false → RefusesModule bytes.now e) }
 {
-    let (resolve, id) = decode_world(alloc, bytes)?;
-    let name = world_name(alloc, &resolve, id)?;
-    Ok(format!(in alloc; "a world, {name}")?)
-}
-
-fn module_summary(alloc: Global, bytes: &[u8]) -> Result<String, Error>
-    ensures { IfOk result (λ s. (b : Binding) × IsBound bytes.now b) }
-{
-    let (stripped, _bound) = metadata::decode(alloc, bytes)?;
-    Ok(String::from_str(
-        alloc,
-        match stripped {
-            Some(_) => "a core module with worlds",
-            None => "a core module without worlds",
-        },
-    )?)
-}
-
-/// What bytes are and have that mean a package.
-fn whole_summary(alloc: Global, bytes: &[u8]) -> Result<String, Error>
-    ensures { IfOk result (λ s. (r : Resolve) × (n : ℕ) × IsDecoded bytes.now r n) }
-{
-    let (resolve, id) = decode(alloc, bytes)?;
-    Ok(package_summary(alloc, &resolve, id)?)
-}
-
-/// What bytes are that mean one world, or the refusal of a package.
-fn world_summary_instead(alloc: Global, bytes: &[u8], refusal: Error) -> Result<String, Error>
-    ensures { IfOk result (λ s. (r : Resolve) × (w : ℕ) × IsDecodedWorld bytes.now r w) }
-{
-    match world_summary(alloc, bytes) {
-        Ok(words) => Ok(words),
-        Err(error) => Err(first_refusal(refusal, error)),
-    }
-}
-
-/// The same, where they mean no package.
-fn world_summary_or_refused(alloc: Global, bytes: &[u8], refusal: Error) -> Result<String, Error>
-    ensures { IfOk result (λ s. MeansNothing bytes.now × ((r : Resolve) × (w : ℕ) × IsDecodedWorld bytes.now r w)) }
-{
-    match means_no_package(alloc, bytes) {
-        Ok(none) => {
-            if none {
-                world_summary_instead(alloc, bytes, refusal)
-            } else {
-                Err(refusal)
-            }
-        }
+    match strip(alloc, bytes) {
+        Ok(Some(_)) => of_words(String::from_str(alloc, "a core module with worlds")),
+        Ok(None) => of_words(String::from_str(alloc, "a core module without worlds")),
         Err(error) => Err(error),
     }
 }
 
-/// What bytes are and have, where they can be read.
-fn summary(alloc: Global, bytes: &[u8]) -> Result<String, Error>
-    ensures { IfOk result (λ s. Means bytes.now) }
+/// What a package is.
+fn package_words(alloc: Global, names: &Names) -> Result<String, AllocError> {
+    let worlds = if names.worlds.is_empty() {
+        "none"
+    } else {
+        names.worlds.as_str()
+    };
+    format!(in alloc;
+        "a package; interfaces: {}; worlds: {worlds}",
+        names.interfaces
+    )
+}
+
+/// Whether a refusal is for want of memory.
+pub fn is_memory(error: &Error) -> bool
+    ensures { result ≡ is_want_of_memory error.now }
 {
-    if is_module(bytes) {
-        return module_summary(alloc, bytes);
-    }
-    match whole_summary(alloc, bytes) {
-        Ok(words) => Ok(words),
-        Err(refusal) => world_summary_or_refused(alloc, bytes, refusal),
+    match error {
+        Error::Memory => true,
+        _ => false,
     }
 }
 
-/// What comes of one file: what it has, or what is wrong and what to do.
+/// What bytes are that mean one world; where they don't, they are refused as a package was.
+fn world_words(alloc: Global, bytes: &[u8], refusal: Error) -> Result<String, Error>
+    ensures means { IfOk result (λ words. (r : Resolve) × (w : ℕ) × IsDecodedWorld bytes.now r w) }
+    ensures none { IfErr result (λ e. is_want_of_memory e ≡ false → MeansNoWorld bytes.now) }
+{
+    match world_name(alloc, bytes) {
+        Ok(name) => of_words(format!(in alloc; "a world, {name}")),
+        Err(error) => Err(if is_memory(&error) { error } else { refusal }),
+    }
+}
+
+/// Words, or a refusal for want of memory.
+fn of_words(words: Result<String, AllocError>) -> Result<String, Error>
+    ensures { IfErr result (λ e. is_want_of_memory e ≡ true) }
+{
+    match words {
+        Ok(words) => Ok(words),
+        Err(_) => Err(Error::Memory),
+    }
+}
+
+/// What bytes are that mean a package or one world.
+fn component_words(alloc: Global, bytes: &[u8]) -> Result<String, Error>
+    ensures means { IfOk result (λ words. MeansComponent bytes.now) }
+    ensures none { IfErr result (λ e. is_want_of_memory e ≡ false → MeansNothing bytes.now × MeansNoWorld bytes.now) }
+{
+    match package_names(alloc, bytes) {
+        Ok(names) => of_words(package_words(alloc, &names)),
+        Err(refusal) => {
+            if is_memory(&refusal) {
+                Err(refusal)
+            } else {
+                world_words(alloc, bytes, refusal)
+            }
+        }
+    }
+}
+
+/// What bytes are, where they mean something.
+fn summary(alloc: Global, bytes: &[u8]) -> Result<String, Error>
+    ensures means { IfOk result (λ words. Means bytes.now) }
+    ensures none { IfErr result (MeansNoneFor bytes.now) }
+{
+    if is_module(bytes) {
+        module_words(alloc, bytes)
+    } else {
+        component_words(alloc, bytes)
+    }
+}
+
+/// What comes of one file: what it is, or what is wrong and what to do.
 #[derive(Drop)]
 struct Checked {
     ok: bool,
@@ -155,7 +134,13 @@ fn check(alloc: Global, input: &Input<'_>) -> Result<Checked, AllocError>
             words: about(alloc, input.name, &words)?,
             hint: String::new(alloc),
         }),
-        Err(error) => refused(of_error(alloc, input.name, &error)),
+        Err(error) => {
+            if is_memory(&error) {
+                Err(AllocError)
+            } else {
+                refused(refusal_of(alloc, input, error))
+            }
+        }
     }
 }
 
@@ -168,39 +153,51 @@ fn push_checked(text: &mut String, checked: &Checked, color: bool) -> Result<(),
     Ok(())
 }
 
-fn put_checked(w: &mut Writer<Global>, name: &str, checked: &Checked) -> Result<(), AllocError> {
-    w.begin_object()?;
-    put_text(w, "file", name)?;
-    w.key("ok")?;
-    w.boolean(checked.ok)?;
-    put_text(w, "message", &checked.words)?;
-    w.key("hint")?;
+/// What to do about what is wrong, if that is known.
+fn hint_of(checked: &Checked) -> Value<'_> {
     if checked.hint.is_empty() {
-        w.null()?;
+        Value::Nothing
     } else {
-        w.string(&checked.hint)?;
+        Value::Text(checked.hint.as_str())
     }
-    w.end_object()
+}
+
+/// Tells whether a file can be read.
+fn tell_checked<'a>(
+    report: &mut Report,
+    name: &'a str,
+    checked: &'a Checked,
+    color: bool,
+) -> Result<(), AllocError> {
+    match report {
+        Report::Lines(text) => push_checked(text, checked, color),
+        Report::Listing(w) => put_object(
+            w,
+            &[
+                ("file", Value::Text(name)),
+                ("ok", Value::Truth(checked.ok)),
+                ("message", Value::Text(checked.words.as_str())),
+                ("hint", hint_of(checked)),
+            ],
+        ),
+    }
 }
 
 /// Whether each file can be read: a line for each, or a list of them as JSON. The answer is no where one can't.
 pub fn checks(
     alloc: Global,
-    asked: &Asked<'_>,
     inputs: &[Input<'_>],
+    json: bool,
     color: bool,
 ) -> Result<Answer, Refusal>
     ensures { IfOk result (λ a. AllTell IsChecked inputs.now true a.yes) }
 {
     let mut all_read = true;
-    let mut text = String::new(alloc);
-    let mut w = Writer::new(Vec::new(alloc));
-    w.begin_array()?;
+    let mut report = Report::begin(alloc, json)?;
     for input in inputs {
         let checked = check(alloc, input)?;
         all_read = both(all_read, checked.ok);
-        push_checked(&mut text, &checked, color)?;
-        put_checked(&mut w, input.name, &checked)?;
+        tell_checked(&mut report, input.name, &checked, color)?;
     }
-    told(w, text, asked.json, all_read)
+    report.end(all_read)
 }

@@ -1,18 +1,18 @@
 //! Whether worlds of a package can replace others.
 
 ghost use Rattle.std.specs.Prelude.{◌≡◌, true, false, IfOk, is_none};
-ghost use Rattle.teasel_answers.specs.Answers.{Compares, IsCompared, is_answer_no, pair_of as pair_in, tells_lent, tells_pair};
+ghost use Rattle.teasel_answers.specs.Answers.{Compares, IsCompared, is_answer_no, pair_of as pair_in, tells_pair};
 ghost use Rattle.teasel_files.specs.AllTell.{AllTell};
+ghost use Rattle.teasel_words.specs.Given.{given_of, texts_of};
 
-use crate::checks::world_names;
-use crate::kinds::{both, told};
-use json::Writer;
+use crate::names::{Names, package_names};
+use crate::report::{Report, Value, both, put_object};
+use crate::sections::refusal_of;
 use std::alloc::{AllocError, Global};
 use teasel_files::{Answer, Input};
 use teasel_messages::{Refusal, foreign, of_error, push, push_mark};
 use teasel_words::Asked;
-use wit_component::{Error, decode};
-use wit_json::put_text;
+use wit_component::Error;
 use witc_refusals::message;
 use witc_texts::{Compared, compat};
 
@@ -39,38 +39,32 @@ fn is_no(error: &Error) -> bool
     }
 }
 
+/// The worlds that there are.
+fn its_worlds(alloc: Global, names: &Names) -> Result<String, AllocError> {
+    if names.worlds.is_empty() {
+        return String::from_str(alloc, "it has none");
+    }
+    format!(in alloc; "its worlds: {}", names.worlds)
+}
+
 /// That a package has no world of this name, and which it has.
 pub fn no_world(alloc: Global, file: &str, bytes: &[u8], name: &str) -> Refusal {
-    match decode(alloc, bytes) {
-        Ok((resolve, id)) => {
-            let names = world_names(alloc, &resolve, id);
-            Refusal::of(
-                format!(in alloc; "{file}: there is no world {name}"),
-                with_names(alloc, names),
-            )
-        }
+    match package_names(alloc, bytes) {
+        Ok(names) => Refusal::of(
+            format!(in alloc; "{file}: there is no world {name}"),
+            its_worlds(alloc, &names),
+        ),
         Err(error) => of_error(alloc, file, &error),
     }
 }
 
-fn with_names(alloc: Global, names: Result<String, AllocError>) -> Result<String, AllocError> {
-    let names = names?;
-    if names.is_empty() {
-        return String::from_str(alloc, "it has none");
-    }
-    format!(in alloc; "its worlds: {names}")
-}
-
 /// That worlds have to be chosen.
 fn no_choice(alloc: Global, file: &str, bytes: &[u8]) -> Refusal {
-    match decode(alloc, bytes) {
-        Ok((resolve, id)) => match world_names(alloc, &resolve, id) {
-            Ok(names) => Refusal::of(
-                format!(in alloc; "{file}: choose worlds by --world OLD=NEW"),
-                with_names(alloc, Ok(names)),
-            ),
-            Err(_) => Refusal::Memory,
-        },
+    match package_names(alloc, bytes) {
+        Ok(names) => Refusal::of(
+            format!(in alloc; "{file}: choose worlds by --world OLD=NEW"),
+            its_worlds(alloc, &names),
+        ),
         Err(error) => of_error(alloc, file, &error),
     }
 }
@@ -82,7 +76,7 @@ fn reason(alloc: Global, input: &Input<'_>, error: Error) -> Result<Option<Strin
     if is_no(&error) {
         Ok(Some(message(alloc, &error)?))
     } else {
-        Err(of_error(alloc, input.name, &error))
+        Err(refusal_of(alloc, input, error))
     }
 }
 
@@ -111,35 +105,23 @@ fn push_pair(
     color: bool,
 ) -> Result<(), AllocError> {
     push_mark(text, why.is_none(), color)?;
-    text.push_str(prev)?;
-    if prev != next {
-        text.push_str(" -> ")?;
-        text.push_str(next)?;
+    if prev == next {
+        push(text, &[prev, "\n"])?;
+    } else {
+        push(text, &[prev, " -> ", next, "\n"])?;
     }
-    text.push_str("\n")?;
-    if let Some(why) = why {
-        push(text, &["       ", why.as_str(), "\n"])?;
+    match why {
+        Some(why) => push(text, &["       ", why.as_str(), "\n"]),
+        None => Ok(()),
     }
-    Ok(())
 }
 
-fn put_pair(
-    w: &mut Writer<Global>,
-    prev: &str,
-    next: &str,
-    why: &Option<String>,
-) -> Result<(), AllocError> {
-    w.begin_object()?;
-    put_text(w, "old", prev)?;
-    put_text(w, "new", next)?;
-    w.key("compatible")?;
-    w.boolean(why.is_none())?;
-    w.key("difference")?;
+/// Why the second world of a pair can't replace the first, if it can't.
+fn difference_of(why: &Option<String>) -> Value<'_> {
     match why {
-        Some(why) => w.string(why)?,
-        None => w.null()?,
+        Some(why) => Value::Text(why.as_str()),
+        None => Value::Nothing,
     }
-    w.end_object()
 }
 
 /// Whether the second world of each pair can replace the first. The answer is no where one can't.
@@ -149,7 +131,7 @@ pub fn compared(
     input: &Input<'_>,
     color: bool,
 ) -> Result<Answer, Refusal>
-    ensures { IfOk result (Compares asked.now.worlds.items input.now) }
+    ensures { IfOk result (Compares (given_of asked.now) input.now) }
 {
     if !input.whole {
         return Err(foreign(alloc, input.name, &input.bytes));
@@ -160,23 +142,42 @@ pub fn compared(
     all_compared(alloc, &asked.worlds, input, asked.json, color)
 }
 
-/// What comes of a pair of worlds by its value, and what is written of it.
+/// Tells of a pair of worlds whether the second can replace the first, or why not.
+fn tell_pair<'a>(
+    report: &mut Report,
+    prev: &'a str,
+    next: &'a str,
+    why: &'a Option<String>,
+    color: bool,
+) -> Result<(), AllocError> {
+    match report {
+        Report::Lines(text) => push_pair(text, prev, next, why, color),
+        Report::Listing(w) => put_object(
+            w,
+            &[
+                ("old", Value::Text(prev)),
+                ("new", Value::Text(next)),
+                ("compatible", Value::Truth(why.is_none())),
+                ("difference", difference_of(why)),
+            ],
+        ),
+    }
+}
+
+/// What comes of a pair of worlds by its value. It is told.
 fn compare_pair(
     alloc: Global,
     value: &str,
     input: &Input<'_>,
-    text: &mut String,
-    w: &mut Writer<Global>,
+    report: &mut Report,
     color: bool,
 ) -> Result<bool, Refusal>
     ensures { IfOk result (tells_pair input.now.bytes.items value.now) }
 {
     let (prev, next) = pair_of(value);
     let why = compare(alloc, input, prev, next)?;
-    let fits = why.is_none();
-    push_pair(text, prev, next, &why, color)?;
-    put_pair(w, prev, next, &why)?;
-    Ok(fits)
+    tell_pair(report, prev, next, &why, color)?;
+    Ok(why.is_none())
 }
 
 fn all_compared(
@@ -186,15 +187,13 @@ fn all_compared(
     json: bool,
     color: bool,
 ) -> Result<Answer, Refusal>
-    ensures { IfOk result (λ a. AllTell (tells_lent input.now.bytes.items) pairs.now true a.yes) }
+    ensures { IfOk result (λ a. AllTell (tells_pair input.now.bytes.items) (texts_of pairs.now) true a.yes) }
 {
     let mut all_fit = true;
-    let mut text = String::new(alloc);
-    let mut w = Writer::new(Vec::new(alloc));
-    w.begin_array()?;
+    let mut report = Report::begin(alloc, json)?;
     for value in pairs {
-        let fits = compare_pair(alloc, *value, input, &mut text, &mut w, color)?;
+        let fits = compare_pair(alloc, *value, input, &mut report, color)?;
         all_fit = both(all_fit, fits);
     }
-    told(w, text, json, all_fit)
+    report.end(all_fit)
 }

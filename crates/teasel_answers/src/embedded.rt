@@ -5,14 +5,15 @@ ghost use Rattle.teasel_answers.specs.{Answers.Attaches, Answers.Embeds, Answers
 ghost use Rattle.teasel_answers.specs.declared.forms.Form.TheVariants.{Wasm};
 ghost use Rattle.teasel_words.specs.Given.{given_of};
 
-use crate::checks::world_names;
 use crate::compared::no_world;
 use crate::forms::{Form, shown};
+use crate::names::package_names;
+use crate::sections::refusal_of;
 use std::alloc::Global;
 use teasel_files::{Answer, Input};
 use teasel_messages::{Refusal, foreign, is_module, of_error, told};
 use teasel_words::{Asked, Encoding};
-use wit_component::{Error, StringEncoding, decode};
+use wit_component::{Error, StringEncoding};
 use witc_refusals::message;
 use witc_texts::strip;
 use witc_within::Within;
@@ -39,7 +40,7 @@ pub fn stripped(alloc: Global, input: &Input<'_>) -> Result<Answer, Refusal>
     match strip(alloc, &input.bytes) {
         Ok(Some(text)) => Ok(answered(text)),
         Ok(None) => Ok(answered(Vec::from_slice(alloc, &input.bytes)?)),
-        Err(error) => Err(of_error(alloc, input.name, &error)),
+        Err(error) => Err(refusal_of(alloc, input, error)),
     }
 }
 
@@ -69,8 +70,8 @@ fn only(alloc: Global, file: &str, names: String) -> Result<String, Refusal> {
 
 /// The name of the only world of a package, or why there is none.
 fn only_world(alloc: Global, file: &str, bytes: &[u8]) -> Result<String, Refusal> {
-    match decode(alloc, bytes) {
-        Ok((resolve, id)) => only(alloc, file, world_names(alloc, &resolve, id)?),
+    match package_names(alloc, bytes) {
+        Ok(names) => only(alloc, file, names.worlds),
         Err(error) => Err(of_error(alloc, file, &error)),
     }
 }
@@ -106,23 +107,23 @@ fn package_of(alloc: Global, input: &Input<'_>) -> Result<Vec<u8>, Refusal>
     match shown(alloc, Form::Wasm, None, &input.bytes) {
         Ok(Within::Text(bytes)) => Ok(bytes),
         Ok(Within::Beyond) => Err(Refusal::Memory),
-        Err(error) => Err(of_error(alloc, input.name, &error)),
+        Err(error) => Err(refusal_of(alloc, input, error)),
     }
 }
 
 /// The refusal of a world in a module.
-fn refused(alloc: Global, file: &str, error: &Error) -> Refusal {
+fn refused(alloc: Global, module: &Input<'_>, error: Error) -> Refusal {
     match error {
-        Error::Clash(_, _) => match message(alloc, error) {
+        Error::Clash(_, _) => match message(alloc, &error) {
             Ok(words) => told(
                 alloc,
-                file,
+                module.name,
                 &words,
                 "`teasel sections` lists its worlds, and `teasel strip` removes them",
             ),
             Err(_) => Refusal::Memory,
         },
-        _ => of_error(alloc, file, error),
+        _ => refusal_of(alloc, module, error),
     }
 }
 
@@ -141,7 +142,7 @@ fn attached(
     match attach(alloc, &module.bytes, bytes, &name, encoding, false) {
         Ok(Some(text)) => Ok(answered(text)),
         Ok(None) => Err(no_world(alloc, file, bytes, &name)),
-        Err(error) => Err(refused(alloc, module.name, &error)),
+        Err(error) => Err(refused(alloc, module, error)),
     }
 }
 

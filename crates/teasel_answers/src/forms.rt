@@ -2,12 +2,14 @@
 
 ghost use Rattle.std.specs.Prelude.{◌≡◌, true, IfOk};
 ghost use Rattle.wit_component.specs.Decoded.{MeansNothing};
-ghost use Rattle.teasel_answers.specs.Forms.{is_reading_refused, MakesFound, MakesModule, MakesPackage, MakesShown, MakesWorld};
+ghost use Rattle.teasel_answers.specs.Forms.{MakesFound, MakesModule, MakesPackage, MakesShown, MakesWorld};
 
+use crate::checks::is_memory;
+use crate::names::package_names;
 use std::alloc::Global;
 use teasel_messages::is_module;
 use teasel_words::Kind;
-use wit_component::{Error, decode};
+use wit_component::Error;
 use witc_listed::{module_json, package_json, world_json};
 use witc_within::{Within, module_text_within, package_text_within, world_text_within};
 use witc_written::{module_package, package_bytes, world_package};
@@ -54,7 +56,7 @@ fn of_module(alloc: Global, form: Form, bytes: &[u8]) -> Result<Within, Error>
 }
 
 /// The refusal of bytes that mean neither a package nor one world: that of the package.
-pub fn first_refusal(of_package: Error, of_world: Error) -> Error {
+fn first_refusal(of_package: Error, of_world: Error) -> Error {
     match of_world {
         Error::NoReading(_, _) => of_package,
         other => other,
@@ -76,27 +78,17 @@ fn of_world_instead(
     }
 }
 
-/// Whether bytes are refused since they mean nothing.
-fn is_no_reading(error: &Error) -> bool
-    ensures { result ≡ is_reading_refused error.now }
-{
-    match error {
-        Error::NoReading(_, _) => true,
-        _ => false,
-    }
-}
-
 /// Whether bytes mean no package.
-pub fn means_no_package(alloc: Global, bytes: &[u8]) -> Result<bool, Error>
+fn means_no_package(alloc: Global, bytes: &[u8]) -> Result<bool, Error>
     ensures { IfOk result (λ none. none ≡ true → MeansNothing bytes.now) }
 {
-    match decode(alloc, bytes) {
+    match package_names(alloc, bytes) {
         Ok(_) => Ok(false),
         Err(error) => {
-            if is_no_reading(&error) {
-                Ok(true)
-            } else {
+            if is_memory(&error) {
                 Err(error)
+            } else {
+                Ok(true)
             }
         }
     }

@@ -1,15 +1,15 @@
 //! What files are.
 
-ghost use Rattle.std.specs.Prelude.{◌≡◌, ◌&&◌, true, IfOk};
+ghost use Rattle.std.specs.Prelude.{◌≡◌, true, IfOk};
 ghost use Rattle.teasel_answers.specs.Kinds.{IsKnown, is_known_by};
 ghost use Rattle.teasel_files.specs.AllTell.{AllTell};
 
-use json::Writer;
+use crate::report::{Report, Value, both, put_object};
+use crate::sections::refusal_of;
 use std::alloc::{AllocError, Global};
 use teasel_files::{Answer, Input};
-use teasel_messages::{Refusal, is_component, is_module, of_error, push};
+use teasel_messages::{Refusal, is_component, is_module, push};
 use wit_component::Error;
-use wit_json::put_text;
 use witc_alike::kinds_of;
 
 /// Whether something is known of bytes: they are read, or begin as a core module or a component does.
@@ -45,45 +45,17 @@ fn kind_of(alloc: Global, input: &Input<'_>) -> Result<(&'static str, bool), Err
     Ok((kind_word(sum, &input.bytes), is_known(sum, &input.bytes)))
 }
 
-/// Whether both hold.
-pub fn both(one: bool, other: bool) -> bool
-    ensures { result ≡ (one && other) }
-{
-    one && other
-}
-
-fn put_file(w: &mut Writer<Global>, name: &str, kind: &str) -> Result<(), AllocError> {
-    w.begin_object()?;
-    put_text(w, "file", name)?;
-    put_text(w, "kind", kind)?;
-    w.end_object()
-}
-
-/// Appends a file's line, or an object.
-fn add_file(
-    text: &mut String,
-    w: &mut Writer<Global>,
-    name: &str,
-    kind: &str,
-) -> Result<(), AllocError> {
-    text.push_str(name)?;
-    text.push_str(": ")?;
-    text.push_str(kind)?;
-    text.push_str("\n")?;
-    put_file(w, name, kind)
-}
-
-/// The end of a list of JSON, or a text.
-pub fn told(mut w: Writer<Global>, text: String, json: bool, fits: bool) -> Result<Answer, Refusal>
-    ensures { IfOk result (λ a. a.yes ≡ fits) }
-{
-    if !json {
-        return Ok(Answer::told(text.into_bytes(), fits));
+/// Tells what a file is.
+fn tell_kind(report: &mut Report, name: &str, kind: &str) -> Result<(), AllocError> {
+    match report {
+        Report::Lines(text) => push(text, &[name, ": ", kind, "\n"]),
+        Report::Listing(w) => {
+            put_object(
+                w,
+                &[("file", Value::Text(name)), ("kind", Value::Text(kind))],
+            )
+        }
     }
-    w.end_array()?;
-    let mut listing = w.into_inner();
-    listing.push(b'\n')?;
-    Ok(Answer::told(listing, fits))
 }
 
 /// What each file is. The answer is no where one is unknown.
@@ -91,17 +63,15 @@ pub fn kinds(alloc: Global, inputs: &[Input<'_>], json: bool) -> Result<Answer, 
     ensures { IfOk result (λ a. AllTell IsKnown inputs.now true a.yes) }
 {
     let mut all_known = true;
-    let mut text = String::new(alloc);
-    let mut w = Writer::new(Vec::new(alloc));
-    w.begin_array()?;
+    let mut report = Report::begin(alloc, json)?;
     for input in inputs {
         match kind_of(alloc, input) {
             Ok((kind, known)) => {
                 all_known = both(all_known, known);
-                add_file(&mut text, &mut w, input.name, kind)?;
+                tell_kind(&mut report, input.name, kind)?;
             }
-            Err(error) => return Err(of_error(alloc, input.name, &error)),
+            Err(error) => return Err(refusal_of(alloc, input, error)),
         }
     }
-    told(w, text, json, all_known)
+    report.end(all_known)
 }

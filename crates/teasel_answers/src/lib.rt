@@ -8,6 +8,8 @@ mod differences;
 mod embedded;
 mod forms;
 mod kinds;
+mod names;
+mod report;
 mod sections;
 
 pub use answer::{VERSION, answer_of};

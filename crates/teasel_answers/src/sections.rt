@@ -1,13 +1,15 @@
 //! The sections of a core module that contain worlds.
 
-use crate::checks::world_name;
-use json::Writer;
+ghost use Rattle.std.specs.Prelude.{◌≡◌, true, IfOk};
+ghost use Rattle.teasel_answers.specs.Answers.{IsListed};
+
+use crate::names::world_name;
+use crate::report::{Report, Value, put_object};
 use std::alloc::{AllocError, Global};
 use teasel_files::{Answer, Input};
-use teasel_messages::{Refusal, foreign, of_error};
+use teasel_messages::{Refusal, foreign, is_module, of_error};
 use teasel_words::Asked;
-use wit_component::{Error, decode_world};
-use wit_json::put_text;
+use wit_component::Error;
 use wit_metadata::{carried_in, sections_of};
 
 /// A section: how many bytes its data are, and the name of its world.
@@ -17,12 +19,23 @@ struct Section {
     world: String,
 }
 
-fn section_of(alloc: Global, data: &[u8]) -> Result<Section, Error> {
-    let (resolve, id) = decode_world(alloc, data)?;
-    Ok(Section {
-        length: data.len(),
-        world: world_name(alloc, &resolve, id)?,
-    })
+/// A refusal of bytes that stand behind so many others.
+fn moved(error: Error, by: usize) -> Error {
+    match error {
+        Error::NoReading(cause, offset) => Error::NoReading(cause, offset.saturating_add(by)),
+        other => other,
+    }
+}
+
+/// A section of these data, which begin at this offset.
+fn section_of(alloc: Global, data: &[u8], offset: usize) -> Result<Section, Error> {
+    match world_name(alloc, data) {
+        Ok(world) => Ok(Section {
+            length: data.len(),
+            world,
+        }),
+        Err(error) => Err(moved(error, offset)),
+    }
 }
 
 /// The sections, in order.
@@ -36,61 +49,80 @@ fn all_sections(alloc: Global, bytes: &[u8]) -> Result<Vec<Section>, Error> {
         let offset = bytes.len().saturating_sub(rest.len());
         let (carried, behind) = carried_in(rest, offset)?;
         if let Some(data) = carried {
-            found.push(section_of(alloc, data)?)?;
+            let length = data.len().saturating_add(behind.len());
+            let offset = bytes.len().saturating_sub(length);
+            found.push(section_of(alloc, data, offset)?)?;
         }
         rest = behind;
     }
     Ok(found)
 }
 
-fn lines(alloc: Global, sections: &[Section]) -> Result<Vec<u8>, AllocError> {
-    let mut text = String::new(alloc);
-    for (number, section) in sections.iter().enumerate() {
-        let line = format!(in alloc;
-            "{number}  {:6} bytes  world {}\n",
-            section.length, section.world
-        )?;
-        text.push_str(&line)?;
+/// A refusal of a module's bytes whose place, if that is in the data of a section, is one of all bytes.
+fn placed(alloc: Global, bytes: &[u8], error: Error) -> Error {
+    match error {
+        Error::NoReading(cause, offset) => match all_sections(alloc, bytes) {
+            Err(Error::NoReading(of_section, place)) => Error::NoReading(of_section, place),
+            _ => Error::NoReading(cause, offset),
+        },
+        other => other,
     }
-    Ok(text.into_bytes())
 }
 
-fn put_section(w: &mut Writer<Global>, number: usize, section: &Section) -> Result<(), AllocError> {
-    w.begin_object()?;
-    w.key("number")?;
-    w.u64(number as u64)?;
-    w.key("bytes")?;
-    w.u64(section.length as u64)?;
-    put_text(w, "world", &section.world)?;
-    w.end_object()
+/// The refusal of a file's bytes, at its place in the file.
+pub fn refusal_of(alloc: Global, input: &Input<'_>, error: Error) -> Refusal {
+    if is_module(&input.bytes) {
+        of_error(alloc, input.name, &placed(alloc, &input.bytes, error))
+    } else {
+        of_error(alloc, input.name, &error)
+    }
 }
 
-fn listing(alloc: Global, sections: &[Section]) -> Result<Vec<u8>, AllocError> {
-    let mut w = Writer::new(Vec::new(alloc));
-    w.begin_array()?;
-    for (number, section) in sections.iter().enumerate() {
-        put_section(&mut w, number, section)?;
+/// Tells of a section.
+fn tell_section(
+    alloc: Global,
+    report: &mut Report,
+    number: usize,
+    section: &Section,
+) -> Result<(), AllocError> {
+    match report {
+        Report::Lines(text) => {
+            let line = format!(in alloc;
+                "{number}  {:6} bytes  world {}\n",
+                section.length, section.world
+            )?;
+            text.push_str(&line)
+        }
+        Report::Listing(w) => put_object(
+            w,
+            &[
+                ("number", Value::Number(number as u64)),
+                ("bytes", Value::Number(section.length as u64)),
+                ("world", Value::Text(section.world.as_str())),
+            ],
+        ),
     }
-    w.end_array()?;
-    let mut text = w.into_inner();
-    text.push(b'\n')?;
-    Ok(text)
+}
+
+fn told(alloc: Global, sections: &[Section], json: bool) -> Result<Answer, Refusal>
+    ensures { IfOk result (λ a. a.yes ≡ true) }
+{
+    let mut report = Report::begin(alloc, json)?;
+    for (number, section) in sections.iter().enumerate() {
+        tell_section(alloc, &mut report, number, section)?;
+    }
+    report.end(true)
 }
 
 /// A list of the sections that contain worlds.
-pub fn sections(alloc: Global, asked: &Asked<'_>, input: &Input<'_>) -> Result<Answer, Refusal> {
+pub fn sections(alloc: Global, asked: &Asked<'_>, input: &Input<'_>) -> Result<Answer, Refusal>
+    ensures { IfOk result (IsListed input.now) }
+{
     if !input.whole {
         return Err(foreign(alloc, input.name, &input.bytes));
     }
     match all_sections(alloc, &input.bytes) {
-        Ok(found) => Ok(Answer::told(
-            if asked.json {
-                listing(alloc, &found)?
-            } else {
-                lines(alloc, &found)?
-            },
-            true,
-        )),
+        Ok(found) => told(alloc, &found, asked.json),
         Err(error) => Err(of_error(alloc, input.name, &error)),
     }
 }

@@ -1,31 +1,53 @@
 -- What a run answers, writes and returns.
-use Rattle.std.specs.Prelude.{◌≡◌, ℕ, Bool, true, false, List, Option, Result, Ok, Err}
+use Rattle.std.specs.Prelude.{◌≡◌, ℕ, Bool, true, false, ◌&&◌, is_none, List, map, Option, Result, Ok, Err, Vec}
+use Rattle.std.specs.declared.alloc.Global.{Global}
+use Rattle.teasel_answers.specs.Answers.{Answers}
 use Rattle.teasel_files.specs.{Contents.AreRead, Contents.files_of, Delivered.IsDelivered}
-use Rattle.teasel_files.specs.declared.answer.{Answer.Answer, Input.Input}
+use Rattle.teasel_files.specs.declared.{answer.Answer.Answer, answer.Input.Input, setting.Setting.Setting}
 use Rattle.teasel_messages.specs.declared.refusal.Refusal.{Refusal}
 use Rattle.teasel_words.specs.{Given.Given, Spelling.Spells, Table.Text}
+use Rattle.teasel_words.specs.declared.choices.Color.{Color}
+use Rattle.teasel_words.specs.declared.choices.Color.TheVariants as colors
 
 -- 0 for yes, and 1 for no
 abbrev pub status_of : Bool → ℕ
 status_of true = 0
 status_of false = 1
 
--- What is asked for is answered: its files are read, there is an answer, yes or no, and it goes where it is to go.
-pub record Carries {State : Type 0} (holds : State → Text → List ℕ → Type 0) (puts : State → Text → List ℕ → State → Type 0) (g : Given) (old new : State)
-    (before after : Option (List ℕ)) (fits : Bool) : Type 0 where
+-- whether an answer is coloured: as it is said, or where it goes to a terminal that is
+abbrev pub colored_by : Color → Option Text → Setting → Bool
+colored_by colors.Always output s = true
+colored_by colors.Never output s = false
+colored_by colors.Auto output s = s.color && (s.out_terminal && is_none output)
+
+-- What is asked for is answered: its files are read, the word answers to them, yes or no, and the answer goes where it is to go.
+pub record Carries {State : Type 0} (holds : State → Text → List ℕ → Type 0) (puts : State → Text → List ℕ → State → Type 0) (s : Setting) (g : Given)
+    (old new : State) (before after : Option (List ℕ)) (fits : Bool) : Type 0 where
   pub inputs : List Input
   pub read : AreRead (holds old) (files_of g) inputs
   pub answer : Answer
+  pub answers : Answers g (colored_by g.color g.output s) inputs answer
   pub is : answer.yes ≡ fits
   pub delivered : IsDelivered puts g answer.text.items old new before after
 
 -- The words ask for something that is answered so; or something is refused, and all files are as they were.
-abbrev pub Runs : {State : Type 0} → (State → Text → List ℕ → Type 0) → (State → Text → List ℕ → State → Type 0) → List Text → State → State → Option (List ℕ)
-    → Option (List ℕ) → Result Bool Refusal → Type 0
-Runs holds puts words old new before after (Ok fits) = (g : Given) × Spells words g × Carries holds puts g old new before after fits
-Runs holds puts words old new before after (Err refusal) = new ≡ old
+abbrev pub Runs : {State : Type 0} → (State → Text → List ℕ → Type 0) → (State → Text → List ℕ → State → Type 0) → Setting → List Text → State → State
+    → Option (List ℕ) → Option (List ℕ) → Result Bool Refusal → Type 0
+Runs holds puts s words old new before after (Ok fits) = (g : Given) × Spells words g × Carries holds puts s g old new before after fits
+Runs holds puts s words old new before after (Err refusal) = new ≡ old
 
 -- the status of what came of it
 abbrev pub status_by : Result Bool Refusal → ℕ
 status_by (Ok fits) = status_of fits
 status_by (Err refusal) = 2
+
+-- words as texts
+abbrev pub bytes_of : List (Vec ℕ Global) → List Text
+bytes_of words = map (λ w. w.items) words
+
+-- A run of these words ends with this status: 0 or 1 where they ask for something that is answered, yes or no; or 2, where all files are as they were.
+pub data Ends {State : Type 0} (holds : State → Text → List ℕ → Type 0) (puts : State → Text → List ℕ → State → Type 0) (s : Setting) (words : List Text)
+    (old new : State) (before after : Option (List ℕ)) : ℕ → Type 0 where
+  answered : (g : Given) (fits : Bool) → Spells words g → Carries holds puts s g old new before after fits
+      → Ends holds puts s words old new before after (status_of fits)
+  refused : new ≡ old → Ends holds puts s words old new before after 2

@@ -1,8 +1,8 @@
 //! A run of the program, over any files and streams.
 
-ghost use Rattle.std.specs.Prelude.{◌≡◌, IfOk, OnErr};
-ghost use Rattle.teasel_run.specs.Runs.{Carries, Runs, status_by};
-ghost use Rattle.teasel_words.specs.Given.{given_of, texts_of as texts_in};
+ghost use Rattle.std.specs.Prelude.{◌≡◌, IfOk, IfSome, OnErr};
+ghost use Rattle.teasel_run.specs.Runs.{Carries, Ends, Runs, bytes_of, colored_by, status_by};
+ghost use Rattle.teasel_words.specs.Given.{given_of, text_if, texts_of as texts_in};
 
 use std::alloc::{AllocError, Global};
 use std::io::Write;
@@ -58,11 +58,13 @@ fn check_names(alloc: Global, asked: &Asked<'_>) -> Result<(), Refusal> {
 }
 
 /// Whether the answer is coloured.
-fn is_colored(asked: &Asked<'_>, setting: Setting) -> bool {
-    match asked.color {
+fn is_colored(color: Color, output: Option<&str>, setting: Setting) -> bool
+    ensures { result ≡ colored_by color (text_if output.entry) setting }
+{
+    match color {
         Color::Always => true,
         Color::Never => false,
-        Color::Auto => setting.color && setting.out_terminal && asked.output.is_none(),
+        Color::Auto => setting.color && setting.out_terminal && output.is_none(),
     }
 }
 
@@ -75,19 +77,22 @@ fn carry_out<S: Store, W: Write, E: Write>(
     writer: &mut W,
     errors: &mut E,
 ) -> Result<bool, Refusal>
-    ensures carries { IfOk result (Carries S.holds S.puts (given_of asked.now) (S.state store.old) (S.state store.new) (W.contents writer.old)
+    ensures carries { IfOk result (Carries S.holds S.puts setting (given_of asked.now) (S.state store.old) (S.state store.new) (W.contents writer.old)
         (W.contents writer.new)) }
     ensures kept { OnErr result (S.state store.new ≡ S.state store.old) }
 {
     check_names(alloc, asked)?;
     let inputs = read_inputs(alloc, asked, setting, store, errors)?;
-    let answer = answer_of(alloc, asked, &inputs, is_colored(asked, setting))?;
+    let color = is_colored(asked.color, asked.output, setting);
+    let answer = answer_of(alloc, asked, &inputs, color)?;
     deliver(alloc, asked, setting, &answer, store, writer)?;
     Ok(answer.yes)
 }
 
 /// The words as text, or none where one isn't UTF-8.
-fn texts_of<'a>(alloc: Global, words: &'a [Vec<u8>]) -> Result<Option<Vec<&'a str>>, AllocError> {
+fn texts_of<'a>(alloc: Global, words: &'a [Vec<u8>]) -> Result<Option<Vec<&'a str>>, AllocError>
+    ensures { IfOk result (λ found. IfSome found (λ texts. texts_in texts.items ≡ bytes_of words.now)) }
+{
     let mut texts = Vec::new(alloc);
     for word in words {
         match str::from_utf8(word) {
@@ -107,7 +112,7 @@ pub fn run_texts<S: Store, W: Write, E: Write>(
     writer: &mut W,
     errors: &mut E,
 ) -> Result<bool, Refusal>
-    ensures { Runs S.holds S.puts (texts_in words.now) (S.state store.old) (S.state store.new) (W.contents writer.old) (W.contents writer.new) result }
+    ensures { Runs S.holds S.puts setting (texts_in words.now) (S.state store.old) (S.state store.new) (W.contents writer.old) (W.contents writer.new) result }
 {
     match read_words(alloc, words) {
         Ok(asked) => carry_out(alloc, &asked, setting, store, writer, errors),
@@ -140,7 +145,9 @@ pub fn run_words<S: Store, W: Write, E: Write>(
     store: &mut S,
     writer: &mut W,
     errors: &mut E,
-) -> u8 {
+) -> u8
+    ensures { Ends S.holds S.puts setting (bytes_of words.now) (S.state store.old) (S.state store.new) (W.contents writer.old) (W.contents writer.new) result }
+{
     match texts_of(alloc, words) {
         Ok(Some(texts)) => {
             let done = run_texts(alloc, &texts, setting, store, writer, errors);

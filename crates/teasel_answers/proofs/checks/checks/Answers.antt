@@ -15,4 +15,4 @@ pub returns : goal.returns
 returns c = if-ok (λ (a : Answer). a.yes ≡ c.loop-input.all_read) (λ (a : Answer). AllTell IsChecked c.args.inputs.now true a.yes)
     (λ a is. subst (λ (b : Bool). AllTell IsChecked c.args.inputs.now true b) (sym is)
     (c.loop-input.invariant c.loop-input.all_read (tell-end IsChecked c.args.inputs.now c.loop-input.input-index c.loop-input-test.false c.loop-input.all_read)))
-    c.told.result c.told.ensures
+    c.end.result c.end.ensures

@@ -1,5 +1,5 @@
 use Rattle.std.proofs.Common.{Bool, drop, true}
-use Rattle.teasel_answers.specs.Answers.{tells_lent}
+use Rattle.teasel_answers.proofs.LentLaws.{tells_lent}
 use Rattle.teasel_files.specs.AllTell.{AllTell}
 use Rattle.teasel_answers.proofs.compared.all_compared.Given as goal
 

@@ -2,5 +2,5 @@ use Rattle.std.proofs.Common.{sym, ◌∙◌}
 use Rattle.teasel_answers.proofs.Nothing.{refused-nothing}
 use Rattle.teasel_answers.proofs.forms.means_no_package.Goals as goal
 
-pub returns-then-is_no_reading : goal.returns-then-is_no_reading
-returns-then-is_no_reading c = λ _. refused-nothing c.args.bytes.now c.in-Err.error c.in-Err.ensures.refuses (sym c.is_no_reading.ensures ∙ c.if-is_no_reading.true)
+pub returns : goal.returns
+returns c = λ _. refused-nothing c.args.bytes.now c.in-Err.error c.in-Err.ensures.refuses (sym c.is_memory.ensures ∙ c.if-is_memory.false)
