@@ -84,6 +84,7 @@ pub use Rattle.print_calls.specs.Listed
 pub use Rattle.print_output.specs.Expansion
 pub use Rattle.print_output.specs.OutputCall
 pub use Rattle.print_output.specs.Render
+pub use Rattle.wit_print.specs.Documentation
 pub use Rattle.wit_print.specs.Files
 pub use Rattle.wit_print.specs.Given
 pub use Rattle.wit_print.specs.GivenTypes

@@ -20,7 +20,8 @@ pub use wit_encode::laws::{
 pub use wit_interfaces::laws::{definitions_leave_interfaces, interface_scope_is_of_owner};
 pub use wit_model::laws::canonical_paths_join;
 pub use wit_print::laws::{
-    interfaces_can_be_given, kept_text_reads, packages_read, worlds_can_be_given,
+    interfaces_can_be_given, kept_text_reads, packages_read, undocumented_prints_alike,
+    worlds_can_be_given,
 };
 
 /// Bytes may mean exactly what a package of a `Resolve` does, as those do that `encode` answers of a valid package with an interface or
