@@ -11,14 +11,18 @@ pub use bind_sections::laws::{
 pub use comp_read::laws::one_meaning;
 pub use print_grammar::laws::one_reading;
 pub use wit_bind::laws::roots_are_roots;
-pub use wit_compat::laws::{reflexive, semver_check_counted, transitive};
+pub use wit_compat::laws::{reflexive, refusals_are_exact, semver_check_counted, transitive};
 pub use wit_encode::laws::{
     equal_lists, exports_end, functions_encode, imports_grow, imports_stand,
-    interface_uses_dependencies, names_encode, table_scope_is_of_owner, types_encode,
+    interface_uses_dependencies, items_meet_standing, lacking_interfaces_are_heavy, names_encode,
+    table_scope_is_of_owner, types_encode,
 };
 pub use wit_interfaces::laws::{definitions_leave_interfaces, interface_scope_is_of_owner};
 pub use wit_model::laws::canonical_paths_join;
-pub use wit_print::laws::{interfaces_can_be_given, packages_read, worlds_can_be_given};
+pub use wit_print::laws::{
+    interfaces_can_be_given, kept_text_reads, packages_read, undocumented_prints_alike,
+    worlds_can_be_given,
+};
 
 /// Bytes may mean exactly what a package of a `Resolve` does, as those do that `encode` answers of a valid package with an interface or
 /// a world. What `decode` answers of such bytes is valid, without documentation, and means that and nothing else. It refuses them for

@@ -21,21 +21,26 @@ pub data AlikeGates : Stability → Stability → Type 0 where
   unstable : {s t : String Global} {d e : Option Version} → text_of s ≡ text_of t → optional_version_text d ≡ optional_version_text e
       → AlikeGates (stability.Unstable s d) (stability.Unstable t e)
 
+-- parameters with the same name and type
 pub record AlikeParams (a b : Param) : Type 0 where
   pub name : text_of a.name ≡ text_of b.name
   pub ty : a.ty ≡ b.ty
 
+-- fields with the same name and type
 pub record AlikeFields (a b : Field) : Type 0 where
   pub name : text_of a.name ≡ text_of b.name
   pub ty : a.ty ≡ b.ty
 
+-- cases of variants with the same name and type
 pub record AlikeCases (a b : Case) : Type 0 where
   pub name : text_of a.name ≡ text_of b.name
   pub ty : a.ty ≡ b.ty
 
+-- flags with the same name
 abbrev pub AlikeFlags : Flag → Flag → Type 0
 AlikeFlags a b = text_of a.name ≡ text_of b.name
 
+-- cases of enums with the same name
 abbrev pub AlikeEnumCases : EnumCase → EnumCase → Type 0
 AlikeEnumCases a b = text_of a.name ≡ text_of b.name
 
@@ -57,6 +62,7 @@ pub data AlikeKinds : TypeDefKind → TypeDefKind → Type 0 where
   streams : {t : Option ValueType} → AlikeKinds (defined.Stream t) (defined.Stream t)
   aliases : {t : ValueType} → AlikeKinds (defined.Type_ t) (defined.Type_ t)
 
+-- types with the same name, owner, gates and external id, whose kinds are alike
 pub record AlikeTypes (a b : TypeDef) : Type 0 where
   pub name : optional_text a.name ≡ optional_text b.name
   pub kind : AlikeKinds a.kind b.kind
@@ -64,6 +70,7 @@ pub record AlikeTypes (a b : TypeDef) : Type 0 where
   pub gates : AlikeGates a.stability b.stability
   pub external_id : optional_text a.external_id ≡ optional_text b.external_id
 
+-- functions with the same name, kind, result, gates and external id, whose parameters are alike
 pub record AlikeFunctions (a b : Function) : Type 0 where
   pub name : text_of a.name ≡ text_of b.name
   pub kind : a.kind ≡ b.kind
@@ -76,6 +83,7 @@ pub record AlikeFunctions (a b : Function) : Type 0 where
 abbrev pub AlikeEntries : {X : Type 0} → String Global × X → String Global × X → Type 0
 AlikeEntries a b = (text_of a.0 ≡ text_of b.0) × (a.1 ≡ b.1)
 
+-- interfaces with the same name, package, gates and types under the same names, whose functions are alike
 pub record AlikeInterfaces (a b : Interface) : Type 0 where
   pub name : optional_text a.name ≡ optional_text b.name
   pub types : AllZip AlikeEntries a.types.entries b.types.entries
@@ -83,19 +91,23 @@ pub record AlikeInterfaces (a b : Interface) : Type 0 where
   pub gates : AlikeGates a.stability b.stability
   pub in_package : a.«package» ≡ b.«package»
 
+-- the same label, or the same interface
 pub data AlikeKeys : WorldKey → WorldKey → Type 0 where
   labels : {s t : String Global} → text_of s ≡ text_of t → AlikeKeys (key.Name s) (key.Name t)
   interfaces : {id : InterfaceId} → AlikeKeys (key.Interface id) (key.Interface id)
 
+-- the same interface under gates and an external id that are the same, functions that are alike, or the same type
 pub data AlikeItems : WorldItem → WorldItem → Type 0 where
   interface_items : {id : InterfaceId} {s t : Stability} {c d : Docs} {x y : Option (String Global)} → AlikeGates s t → optional_text x ≡ optional_text y
       → AlikeItems (item.Interface id s c x) (item.Interface id t d y)
   function_items : {f g : Function} → AlikeFunctions f g → AlikeItems (item.Function f) (item.Function g)
   type_items : {id : TypeId} → AlikeItems (item.Type_ id) (item.Type_ id)
 
+-- imports, or exports, whose keys and items are alike
 abbrev pub AlikeWorldEntries : WorldKey × WorldItem → WorldKey × WorldItem → Type 0
 AlikeWorldEntries a b = AlikeKeys a.0 b.0 × AlikeItems a.1 b.1
 
+-- worlds with the same name, package and gates, whose imports and exports are alike
 pub record AlikeWorlds (a b : World) : Type 0 where
   pub name : text_of a.name ≡ text_of b.name
   pub imports : AllZip AlikeWorldEntries a.imports.entries b.imports.entries
@@ -103,6 +115,7 @@ pub record AlikeWorlds (a b : World) : Type 0 where
   pub gates : AlikeGates a.stability b.stability
   pub in_package : a.«package» ≡ b.«package»
 
+-- packages with the same name and version, and the same interfaces and worlds under the same names
 pub record AlikePackages (a b : Package) : Type 0 where
   pub namespace : text_of a.name.namespace ≡ text_of b.name.namespace
   pub name : text_of a.name.name ≡ text_of b.name.name

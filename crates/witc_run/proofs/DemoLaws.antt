@@ -1,7 +1,7 @@
 -- What the demo's package means.
-use Rattle.std.proofs.Common.{◌≡◌, ℕ, ap, ◌∙◌, List, [], ◌∷◌, ◌++◌, codes, map, filter, filter_map, flat_map, length, slice_get, None, Some, Option, option_map}
+use Rattle.std.proofs.Common.{◌≡◌, ℕ, ap, ◌∙◌, Bool, true, ◌&&◌, List, [], ◌∷◌, ◌++◌, codes, map, filter, filter_map, flat_map, length, slice_get, None, Some, Option, option_map}
 use Rattle.std.proofs.lemmas.List.Concat.{flat_map-append}
-use Rattle.std.specs.{Prelude.String, FinMap.from_entries, Option.option_map_or}
+use Rattle.std.specs.{Prelude.String, FinMap.from_entries, List.list_all, Option.option_map_or}
 use Rattle.std.specs.declared.alloc.Global.{Global}
 use Rattle.indexmap.specs.IndexMap.{values}
 use Rattle.wit_model.specs.declared.model.{Interface.Interface, InterfaceId.InterfaceId, Package.Package, Resolve.Resolve, World.World, WorldId.WorldId}
@@ -9,6 +9,7 @@ use Rattle.wit_model.specs.{Lookup.identity_of, Lookup.optional_version_text, Lo
 use Rattle.wit_model.specs.Meaning.{Entry, InterfaceMeaning, PackageIdentity, PackageMeaning, WorldMeaning}
 use Rattle.wit_model.specs.Meant.{Meant, by_path, entries_meaning, foreign_meaning, foreign_of, interface_meaning_at, is_foreign, no_world, package_meaning, world_meaning, world_meaning_at}
 use Rattle.wit_model.specs.Uses.{interfaces_of_item, interfaces_of_world, reached, reached_in, worlds_of}
+use Rattle.wit_component.specs.Built.{IsBare, is_bare, is_bare_interface, is_bare_type, is_bare_world, is_undocumented}
 use Rattle.witc_run.specs.Demo.{IsFoo, IsOneFunction, demo, foo, nullary}
 
 -- ---- the world
@@ -19,11 +20,15 @@ same-world a b c d h k = cc
 no-more : (xs ys : List ℕ) → xs ≡ [] → ys ≡ [] → xs ++ ys ≡ []
 no-more xs ys h k = ap (λ (zs : List ℕ). zs ++ ys) h ∙ k
 
-pub foo-world : (w : World) → IsOneFunction (codes "host") w.imports.entries → IsOneFunction (codes "guest") w.exports.entries → IsFoo w
-foo-world w imports exports = record {
+all-three : (a b c : Bool) → a ≡ true → b ≡ true → c ≡ true → a && (b && c) ≡ true
+all-three a b c h k l = cc
+
+pub foo-world : (w : World) → IsOneFunction (codes "host") w.imports.entries → IsOneFunction (codes "guest") w.exports.entries → is_bare w.docs w.stability ≡ true → IsFoo w
+foo-world w imports exports bare = record {
   means = λ r. same-world (entries_meaning r w.imports.entries) ((codes "host", nullary) ∷ []) (entries_meaning r w.exports.entries) ((codes "guest", nullary) ∷ []) (imports.means r)
       (exports.means r);
   alone = λ r. flat_map-append (interfaces_of_item r) (values w.imports) (values w.exports) ∙ no-more _ _ (imports.alone r) (exports.alone r);
+  bare = all-three _ _ _ bare imports.bare exports.bare;
 }
 
 -- ---- the package
@@ -76,3 +81,17 @@ module _ (r : Resolve) (p : Package) (w : World) (name : String Global) (named :
       (ap (map shown-interface) interfaces)
       shown-worlds (ap (by_path r (foreign_meaning r p)) no-foreign) in
       found ∙ ap Some means
+
+-- ---- bare
+
+one-bare : {A : Type 0} (test : A → Bool) (x : A) (xs : List A) → xs ≡ x ∷ [] → test x ≡ true → list_all test xs ≡ true
+one-bare test x xs h k = ap (list_all test) h ∙ ap (λ b. b && true) k
+
+pub bare-demo : (r : Resolve) (p : Package) (w : World) → r.packages.items ≡ p ∷ [] → is_undocumented p.docs ≡ true → r.interfaces.items ≡ [] → r.worlds.items ≡ w ∷ [] → IsFoo w
+    → r.types.items ≡ [] → IsBare r
+bare-demo r p w packages undocumented interfaces worlds is-foo types = record {
+  packages = one-bare (λ q. is_undocumented q.docs) p _ packages undocumented;
+  interfaces = ap (list_all is_bare_interface) interfaces;
+  worlds = one-bare is_bare_world w _ worlds is-foo.bare;
+  types = ap (list_all is_bare_type) types;
+}
