@@ -96,6 +96,30 @@ fn behind_what_it_uses(rt: HostRuntime) -> Result<(), Fail> {
     assert_written(&rt, alloc, &outer, &BYTES)
 }
 
+// `i` has `type t = u32`, `j` uses it, and `k` uses that of `j`.
+const USED_BY_USED: &str =
+    r#"1 "a" "b" - - 3 "i" 0 "j" 1 "k" 2 1 "w" 0 3 "i" - - 0 1 "t" 0 0 "j" - - 0 1 "t" 1 0 "k" - - 0 1 "t" 2 0 1 "w" - - 0 0 0 3 "t" i 0 - - - alias u32 "t" i 1 - - - alias 0 "t" i 2 - - - alias 1"#;
+
+// Both are imported, `i` in front since `j` uses it. The alias for `k` is of the second instance.
+#[test]
+fn behind_two_interfaces(rt: HostRuntime) -> Result<(), Fail> {
+    static BYTES: [u8; 87] = [
+        0x00, 0x61, 0x73, 0x6d, 0x0d, 0x00, 0x01, 0x00, 0x07, 0x4d, 0x01, 0x41, 0x07, 0x01, 0x42,
+        0x02, 0x01, 0x79, 0x04, 0x00, 0x01, 0x74, 0x03, 0x00, 0x00, 0x03, 0x00, 0x05, 0x61, 0x3a,
+        0x62, 0x2f, 0x69, 0x05, 0x00, 0x02, 0x03, 0x00, 0x00, 0x01, 0x74, 0x01, 0x42, 0x02, 0x02,
+        0x03, 0x02, 0x01, 0x01, 0x04, 0x00, 0x01, 0x74, 0x03, 0x00, 0x00, 0x03, 0x00, 0x05, 0x61,
+        0x3a, 0x62, 0x2f, 0x6a, 0x05, 0x02, 0x02, 0x03, 0x00, 0x01, 0x01, 0x74, 0x01, 0x42, 0x02,
+        0x02, 0x03, 0x02, 0x01, 0x03, 0x04, 0x00, 0x01, 0x74, 0x03, 0x00, 0x00,
+    ];
+    let alloc = rt.alloc();
+    let resolve = valid(alloc, USED_BY_USED)?;
+    assert!(rt; resolve.interfaces.len() > 2);
+    let mut encoder = InterfaceEncoder::new(alloc, &resolve);
+    assert!(rt; slot_of(&mut encoder, InterfaceId(2))? == 4);
+    let outer = encoder.finish();
+    assert_written(&rt, alloc, &outer, &BYTES)
+}
+
 // Imports an interface behind those that it uses.
 fn import_behind<'a>(encoder: &mut InterfaceEncoder<'a>, id: InterfaceId) -> Result<(), Error>
     requires can { CanEncodeInterfaces (interface_encoder_view encoder.old) }
