@@ -7,7 +7,7 @@ ghost use Rattle.teasel_words.specs.Given.{given_of, text_if, texts_of as texts_
 use std::alloc::{AllocError, Global};
 use std::io::Write;
 use teasel_answers::answer_of;
-use teasel_files::{Setting, Store, deliver, read_inputs, tell};
+use teasel_files::{Answer, Setting, Store, deliver, note, read_inputs, tell};
 use teasel_messages::{Refusal, of_misuse, plain};
 use teasel_words::{Asked, Color, read_words};
 
@@ -17,6 +17,9 @@ pub const YES: u8 = 0;
 pub const NO: u8 = 1;
 /// The exit status where words, a file or a result are refused.
 pub const REFUSED: u8 = 2;
+
+/// Answers of more bytes than these are said to be made, at a terminal.
+const LARGE: usize = 16_777_216;
 
 /// How many of these names are standard input's.
 fn inputs_among(names: &[&str]) -> usize {
@@ -68,6 +71,13 @@ fn is_colored(color: Color, output: Option<&str>, setting: Setting) -> bool
     }
 }
 
+/// Says at a terminal that a large answer is made.
+fn note_made<E: Write>(errors: &mut E, setting: Setting, answer: &Answer) {
+    if setting.error_terminal && answer.text.len() > LARGE {
+        note(errors, "the answer is made, and is being written");
+    }
+}
+
 /// Carries out what is asked for, and returns whether the answer is yes.
 fn carry_out<S: Store, W: Write, E: Write>(
     alloc: Global,
@@ -85,6 +95,7 @@ fn carry_out<S: Store, W: Write, E: Write>(
     let inputs = read_inputs(alloc, asked, setting, store, errors)?;
     let color = is_colored(asked.color, asked.output, setting);
     let answer = answer_of(alloc, asked, &inputs, color)?;
+    note_made(errors, setting, &answer);
     deliver(alloc, asked, setting, &answer, store, writer)?;
     Ok(answer.yes)
 }
