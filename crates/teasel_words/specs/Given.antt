@@ -83,11 +83,11 @@ abbrev pub has_equals : Text → Bool
 has_equals t = nat_lt (position_or_len is_equals t) (length t)
 
 -- what stands in front of its first `=`
-abbrev pub name_part : Text → Text
+unfoldable pub name_part : Text → Text
 name_part t = if has_equals t then before_first is_equals t else t
 
 -- what stands behind it
-abbrev pub value_part : Text → Option Text
+unfoldable pub value_part : Text → Option Text
 value_part t = if has_equals t then Some (after_first is_equals t) else None
 
 -- whether a dash is the first byte
@@ -96,7 +96,7 @@ begins_with_dash [] = false
 begins_with_dash (c ∷ cs) = nat_eq c 45
 
 -- whether a word is a file, and no option: `-` is standard input
-abbrev pub is_file : Text → Bool
+unfoldable pub is_file : Text → Bool
 is_file t = is_same t (codes "-") || not (begins_with_dash t)
 
 -- ---- options

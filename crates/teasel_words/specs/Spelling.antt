@@ -33,7 +33,7 @@ with_option (Some o) value next g = if is_some (first_word (words_of o) (name_of
     (if has_value o then with_value o value next g else without_value o value g) else None
 
 -- Whether the next word is taken too, and what is given then: a file, which any word is behind `--`; or an option.
-abbrev pub taken : Text → Option Text → Given → Option (Bool × Given)
+unfoldable pub taken : Text → Option Text → Given → Option (Bool × Given)
 taken w next g = if g.plain || is_file w then Some (false, record g { files = g.files ++ w ∷ [] }) else
     (if is_same w (codes "--") then Some (false, record g { plain = true }) else with_option (first_option all_options (name_part w)) (value_part w) next g)
 
@@ -58,12 +58,12 @@ pub data Misses : List Text → Given → Type 0 where
       → Misses (w ∷ ws) old
 
 -- what a first word asks for
-abbrev pub start_named : Text → Option Word
+unfoldable pub start_named : Text → Option Word
 start_named t = if is_same t (codes "-h") || is_same t (codes "--help") then Some words.Help else
     (if is_same t (codes "-V") || is_same t (codes "--version") then Some words.Version else first_word all_words t)
 
 -- whether the word is to be explained, or has as many files as it takes
-abbrev pub fits : Given → Bool
+unfoldable pub fits : Given → Bool
 fits g = g.help || (nat_le (least_of g.word_) (length g.files) && nat_le (length g.files) (most_of g.word_))
 
 -- The words behind the program's name ask for this.

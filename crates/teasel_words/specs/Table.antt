@@ -140,11 +140,11 @@ first_option [] name = None
 first_option (o ∷ rest) name = if is_name_of o name then Some o else first_option rest name
 
 -- all words, in the order in which they are shown
-abbrev pub all_words : List Word
+unfoldable pub all_words : List Word
 all_words = word.Text ∷ word.Json ∷ word.Wasm ∷ word.Kind ∷ word.Check ∷ word.Compat ∷ word.Diff ∷ word.Embed ∷ word.Strip ∷ word.Sections ∷ word.Completion
     ∷ word.Man ∷ word.Help ∷ word.Version ∷ []
 
 -- all options
-abbrev pub all_options : List Opt
+unfoldable pub all_options : List Opt
 all_options = option.Output ∷ option.World ∷ option.Encoding ∷ option.As ∷ option.Json ∷ option.Quiet ∷ option.Color ∷ option.Force ∷ option.Most
     ∷ option.MostRead ∷ option.Help ∷ []

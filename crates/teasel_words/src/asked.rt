@@ -71,6 +71,7 @@ impl<'a, T: Drop> From<AllocFailed<T>> for Misuse<'a> {
 }
 
 /// A word and its value, where it has one behind a `=`.
+#[tactic(auto, unfolding(crate::specs::Given::name_part, crate::specs::Given::value_part))]
 fn cut(word: &str) -> (&str, Option<&str>)
     ensures name { result.0.now ≡ name_part word.now }
     ensures value { text_if result.1 ≡ value_part word.now }
@@ -82,6 +83,7 @@ fn cut(word: &str) -> (&str, Option<&str>)
 }
 
 /// Whether a word is a file, and no option.
+#[tactic(auto, unfolding(crate::specs::Given::is_file))]
 fn is_name_of_file(word: &str) -> bool
     ensures { result ≡ is_file word.now }
 {
@@ -208,6 +210,7 @@ impl<'a> Asked<'a> {
     }
 
     /// Takes a word, and the next one where it is an option's value. Returns whether it is.
+    #[tactic(auto, unfolding(crate::specs::Spelling::taken))]
     fn take(&mut self, word: &'a str, next: Option<&'a str>) -> Result<bool, Misuse<'a>>
         ensures { IsTaken (taken word.now (text_if next.entry) (given_of self.old)) (given_of self.new) result }
     {
@@ -286,6 +289,7 @@ fn follow<'a>(words: &[&'a str], from: usize, asked: &mut Asked<'a>) -> Result<(
 }
 
 /// The word that a first word asks for.
+#[tactic(auto, unfolding(crate::specs::Spelling::start_named))]
 fn start(name: &str) -> Option<Word>
     ensures { result ≡ start_named name.now }
 {
@@ -299,6 +303,7 @@ fn start(name: &str) -> Option<Word>
 }
 
 /// Whether the word is to be explained, or has as many files as it takes.
+#[tactic(auto, unfolding(crate::specs::Spelling::fits))]
 fn is_fit(asked: &Asked<'_>) -> bool
     ensures { result ≡ fits (given_of asked.now) }
 {

@@ -1,6 +1,6 @@
 //! The values of options: kinds of files, string encodings, when to colour, and sizes.
 
-ghost use Rattle.std.specs.Prelude.{◌≡◌, ◌<◌, drop};
+ghost use Rattle.std.specs.Prelude.{◌≡◌, ◌<◌, ◌≤◌, drop, IfSome};
 ghost use Rattle.teasel_words.specs.Choices.{color_named as color_of, encoding_named as encoding_of, kind_named as kind_of, in_units, more_digits, size_from, size_named as size_of, unit_named as unit_of};
 
 /// What a file is said to be.
@@ -28,6 +28,7 @@ pub enum Color {
 }
 
 /// The kind of this name.
+#[tactic(auto, unfolding(crate::specs::Choices::kind_named))]
 pub fn kind_named(name: &str) -> Option<Kind>
     ensures { result ≡ kind_of name.now }
 {
@@ -43,6 +44,7 @@ pub fn kind_named(name: &str) -> Option<Kind>
 }
 
 /// The string encoding of this name.
+#[tactic(auto, unfolding(crate::specs::Choices::encoding_named))]
 pub fn encoding_named(name: &str) -> Option<Encoding>
     ensures { result ≡ encoding_of name.now }
 {
@@ -58,6 +60,7 @@ pub fn encoding_named(name: &str) -> Option<Encoding>
 }
 
 /// When an answer is coloured, by this name.
+#[tactic(auto, unfolding(crate::specs::Choices::color_named))]
 pub fn color_named(name: &str) -> Option<Color>
     ensures { result ≡ color_of name.now }
 {
@@ -73,9 +76,11 @@ pub fn color_named(name: &str) -> Option<Color>
 }
 
 /// The number with one more decimal digit behind it, where it is a digit and no more than 2^33 comes of it.
+#[tactic(auto, unfolding(crate::specs::Choices::more_digits))]
 fn with_digit(number: u64, digit: u8) -> Option<u64>
     requires { number < 8589934592 }
-    ensures { result ≡ more_digits number digit }
+    ensures value { result ≡ more_digits number digit }
+    ensures small { IfSome result (λ next. next < 8589934592) }
 {
     if digit < b'0' || digit > b'9' {
         return None;
@@ -89,8 +94,10 @@ fn with_digit(number: u64, digit: u8) -> Option<u64>
 }
 
 /// How many bytes a unit is.
+#[tactic(auto, unfolding(crate::specs::Choices::unit_named))]
 fn unit_named(unit: u8) -> Option<u64>
-    ensures { result ≡ unit_of unit }
+    ensures value { result ≡ unit_of unit }
+    ensures small { IfSome result (λ bytes. bytes ≤ 1073741824) }
 {
     match unit {
         b'K' | b'k' => Some(1024),
@@ -126,6 +133,7 @@ fn size_of_digits(bytes: &[u8]) -> Option<u64>
 }
 
 /// The size of a number and its unit, where nothing is behind it.
+#[tactic(auto, unfolding(crate::specs::Choices::in_units))]
 fn whole_size(number: u64, unit: u8, left: usize) -> Option<u64>
     requires { number < 8589934592 }
     ensures { result ≡ in_units number unit left }

@@ -319,6 +319,7 @@ impl Opt {
 }
 
 /// The word of this name.
+#[tactic(auto, unfolding(crate::specs::Table::all_words))]
 pub fn word_named(name: &str) -> Option<Word>
     ensures { result ≡ first_word all_words name.now }
 {
@@ -338,6 +339,7 @@ pub fn word_among(words: &[Word], name: &str) -> Option<Word>
 }
 
 /// The option of this name, long or short.
+#[tactic(auto, unfolding(crate::specs::Table::all_options))]
 pub fn option_named(name: &str) -> Option<Opt>
     ensures { result ≡ first_option all_options name.now }
 {
