@@ -1,6 +1,6 @@
 -- Bytes that mean nothing.
 use Rattle.std.proofs.Common.{◌≡◌, true, false, ℕ, List}
-use Rattle.wit_component.specs.{Decoded.MeansNothing, Decoded.RefusesBytes, DecodedWorlds.MeansNoWorld, DecodedWorlds.RefusesWorldBytes}
+use Rattle.wit_component.specs.{Decoded.MeansNothing, Decoded.RefusesBytes}
 use Rattle.wit_model.specs.declared.error.Error.{Error}
 use Rattle.wit_model.specs.declared.error.Error.TheVariants as errors
 use Rattle.teasel_answers.specs.Checks.{is_memory}
@@ -24,22 +24,3 @@ module _ (bytes : List ℕ) where
   refused-nothing (errors.TwiceWithoutVersion t) h is = absurd h
   refused-nothing (errors.Missing t) h is = absurd h
   refused-nothing (errors.Differs t) h is = absurd h
-
-  -- where a world is refused, and memory isn't wanting
-  pub refused-world : (e : Error) → RefusesWorldBytes bytes e → is_memory e ≡ false → MeansNoWorld bytes
-  refused-world (errors.NoReading cause offset) h is = h.1
-  refused-world errors.Memory h is = let wrong : true ≡ false = is in absurd cc
-  refused-world errors.Size h is = absurd h
-  refused-world (errors.CanonicalClash t) h is = absurd h
-  refused-world errors.EncodingMissing h is = absurd h
-  refused-world errors.EncodingUnknownFormat h is = absurd h
-  refused-world (errors.EncodingVersion b) h is = absurd h
-  refused-world (errors.BadStringEncoding b) h is = absurd h
-  refused-world errors.Historical h is = absurd h
-  refused-world errors.NotAModule h is = absurd h
-  refused-world (errors.BadModule n) h is = absurd h
-  refused-world (errors.Clash k t) h is = absurd h
-  refused-world errors.OtherPackage h is = absurd h
-  refused-world (errors.TwiceWithoutVersion t) h is = absurd h
-  refused-world (errors.Missing t) h is = absurd h
-  refused-world (errors.Differs t) h is = absurd h

@@ -2,15 +2,15 @@
 //!
 //! In a template a `%` and a letter stand for:
 //!
-//! - `%n` the name, `%l` the same without its dashes, and `%N` the same as the manual page has it
-//! - `%s` the other name and a comma, `%S` the same as the manual page has it, and `%k` the same as fish has it; or nothing
-//! - `%v` a space and what follows the name, or nothing
-//! - `%p` the same with spaces behind it, up to the column in which usage says what a word does
-//! - `%c` the choices that follow the name, with a space behind each
-//! - `%f` what may follow the name, as fish has it, or nothing
-//! - `%d` what it does, and `%D` the same as the manual page has it
-//! - `%w` the name of the word whose option it is
-//! - `%o` the names of the word's options, with a space behind each
+//! - `%n` the name, `%l` the same without its dashes, and `%N` the same as the manual page has it.
+//! - `%s` the other name and a comma, `%S` the same as the manual page has it, and `%k` the same as fish has it; or nothing.
+//! - `%v` a space and what follows the name, or nothing.
+//! - `%p` the same with spaces behind it, up to the column in which usage says what a word does.
+//! - `%c` the choices that follow the name, with a space behind each.
+//! - `%f` what may follow the name, as fish has it, or nothing.
+//! - `%d` what it does, and `%D` the same as the manual page has it.
+//! - `%w` the name of the word whose option it is.
+//! - `%o` the names of the word's options, with a space behind each.
 
 use crate::table::{OPTIONS, Opt, Word, word_among};
 use std::alloc::AllocError;

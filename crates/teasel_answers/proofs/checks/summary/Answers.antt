@@ -1,4 +1,4 @@
-use Rattle.std.proofs.Common.{◌≡◌, sym, ◌∙◌, false, ℕ, String}
+use Rattle.std.proofs.Common.{◌≡◌, sym, ◌∙◌, false, String}
 use Rattle.std.specs.declared.alloc.Global.{Global}
 use Rattle.base_lemmas.proofs.Options.{err_said as err-said, if_ok as if-ok}
 use Rattle.wit_component.specs.{Binding.Binding, Bound.IsBound, Decoded.MeansNothing, DecodedWorlds.MeansNoWorld}

@@ -1,4 +1,4 @@
-use Rattle.std.proofs.Common.{◌≡◌, ◌∙◌, ap, refl, subst, Err, IfSome, List, Option, ℕ, Bor, Vec}
+use Rattle.std.proofs.Common.{◌≡◌, ◌∙◌, ap, refl, subst, Err, IfSome, List, Option, Bor, Vec}
 use Rattle.std.specs.declared.alloc.Global.{Global}
 use Rattle.teasel_messages.specs.declared.refusal.Refusal.TheVariants as refusals
 use Rattle.teasel_words.specs.{Given.texts_of, Table.Text}
