@@ -1,16 +1,21 @@
 //! Templates, filled with what the table says of a word or an option.
 //!
-//! In a template a `%` and a letter stand for:
+//! In a template a `%` and a letter stand for something.
 //!
-//! - `%n` the name, `%l` the same without its dashes, and `%N` the same as the manual page has it.
-//! - `%s` the other name and a comma, `%S` the same as the manual page has it, and `%k` the same as fish has it; or nothing.
-//! - `%v` a space and what follows the name, or nothing.
-//! - `%p` the same with spaces behind it, up to the column in which usage says what a word does.
-//! - `%c` the choices that follow the name, with a space behind each.
-//! - `%f` what may follow the name, as fish has it, or nothing.
-//! - `%d` what it does, and `%D` the same as the manual page has it.
-//! - `%w` the name of the word whose option it is.
-//! - `%o` the names of the word's options, with a space behind each.
+//! Of the name:
+//! `%n` is the name. `%l` is the name without its dashes. `%N` is the name as the manual page has it.
+//!
+//! Of the other name, or nothing if there is none:
+//! `%s` is that name and a comma. `%S` is the same as the manual page has it. `%k` is the same as fish has it.
+//!
+//! Of what follows the name, or nothing:
+//! `%v` is a space and what follows. `%p` is the same with spaces behind it, up to the column in which usage says what a word does.
+//! `%c` is each choice with a space behind it. `%f` is what may follow, as fish has it.
+//!
+//! Of what it does:
+//! `%d` says it. `%D` says it as the manual page does.
+//!
+//! `%w` is the name of the word whose option it is. `%o` is each of the word's options with a space behind it.
 
 use crate::table::{OPTIONS, Opt, Word, word_among};
 use std::alloc::AllocError;
