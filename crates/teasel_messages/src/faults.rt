@@ -1,5 +1,6 @@
 //! Why files can't be read or written.
 
+use crate::messages::told;
 use crate::refusal::Refusal;
 use std::alloc::{AllocError, Global};
 use std::io::{Error, ErrorKind};
@@ -77,10 +78,7 @@ pub fn unread(alloc: Global, name: &str, fault: ReadFault) -> Refusal {
         ),
         ReadFault::Other => ("it can't be read", ""),
     };
-    Refusal::of(
-        format!(in alloc; "{name}: {words}"),
-        String::from_str(alloc, hint),
-    )
+    told(alloc, name, words, hint)
 }
 
 /// The refusal of a file that can't be written.
@@ -93,8 +91,5 @@ pub fn unwritten(alloc: Global, name: &str, fault: WriteFault) -> Refusal {
         WriteFault::Full => ("there is no room left", ""),
         WriteFault::Other => ("it can't be written", ""),
     };
-    Refusal::of(
-        format!(in alloc; "{name}: {words}"),
-        String::from_str(alloc, hint),
-    )
+    told(alloc, name, words, hint)
 }

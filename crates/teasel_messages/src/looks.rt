@@ -58,16 +58,26 @@ fn leading_space(bytes: &[u8]) -> usize {
     count
 }
 
+/// How WIT text begins.
+const WIT_FRONTS: [&str; 8] = [
+    "package ",
+    "//",
+    "/*",
+    "world ",
+    "interface ",
+    "use ",
+    "@since",
+    "@unstable",
+];
+
 /// Whether a text begins as WIT text does.
 fn is_wit(text: &[u8]) -> bool {
-    text.starts_with(b"package ")
-        || text.starts_with(b"//")
-        || text.starts_with(b"/*")
-        || text.starts_with(b"world ")
-        || text.starts_with(b"interface ")
-        || text.starts_with(b"use ")
-        || text.starts_with(b"@since")
-        || text.starts_with(b"@unstable")
+    for front in WIT_FRONTS {
+        if text.starts_with(front.as_bytes()) {
+            return true;
+        }
+    }
+    false
 }
 
 /// What these first bytes look like.

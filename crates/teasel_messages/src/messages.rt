@@ -40,8 +40,12 @@ fn cause_words(cause: Cause) -> (&'static str, &'static str) {
     }
 }
 
-fn at_byte(alloc: Global, name: &str, offset: usize, words: &str) -> Result<String, AllocError> {
-    format!(in alloc; "{name}: byte {offset}: {words}")
+/// The refusal of what stands at a byte of a file, and what to do.
+fn told_at(alloc: Global, name: &str, offset: usize, words: &str, hint: &str) -> Refusal {
+    Refusal::of(
+        format!(in alloc; "{name}: byte {offset}: {words}"),
+        String::from_str(alloc, hint),
+    )
 }
 
 /// A message about a file, without a place.
@@ -65,10 +69,7 @@ pub fn of_error(alloc: Global, name: &str, error: &Error) -> Refusal {
         Error::Memory => Refusal::Memory,
         Error::NoReading(cause, offset) => {
             let (words, hint) = cause_words(*cause);
-            Refusal::of(
-                at_byte(alloc, name, *offset, words),
-                String::from_str(alloc, hint),
-            )
+            told_at(alloc, name, *offset, words, hint)
         }
         Error::NotAModule => told(
             alloc,
@@ -76,14 +77,12 @@ pub fn of_error(alloc: Global, name: &str, error: &Error) -> Refusal {
             "it is no core module",
             "`teasel kind` says what a file is",
         ),
-        Error::BadModule(offset) => Refusal::of(
-            at_byte(
-                alloc,
-                name,
-                *offset,
-                "no section of a core module begins here",
-            ),
-            String::from_str(alloc, "check that the file is complete"),
+        Error::BadModule(offset) => told_at(
+            alloc,
+            name,
+            *offset,
+            "no section of a core module begins here",
+            "check that the file is complete",
         ),
         _ => Refusal::of(by_message(alloc, name, error), Ok(String::new(alloc))),
     }
