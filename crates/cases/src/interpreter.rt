@@ -12,6 +12,7 @@ use case_calls::marks::Marks;
 use case_calls::names::names;
 use case_words::{Bad, Words};
 use std::alloc::Global;
+use case_calls::no_memory::no_memory;
 use std::io;
 use std::rt::Clock;
 use std::time::Instant;
@@ -433,6 +434,14 @@ impl Interpreter {
     }
 
     fn validity(&self, alloc: Global, call: Validity) -> Answer {
+    fn without_memory(&self, alloc: Global, words: &mut Words<'_>) -> Result<Answer, Answer> {
+        words.end()?;
+        match &self.current {
+            Some(resolve) => no_memory(alloc, self.marks, resolve),
+            None => Err(Answer::Unmet("resolve")),
+        }
+    }
+
         let Some(resolve) = &self.current else {
             return Answer::Unmet("resolve");
         };
@@ -589,6 +598,7 @@ impl Interpreter {
     ) -> io::Result<Reply> {
         let start = Instant::now(clock)?;
         self.marks.begin(alloc)?;
+            Marked::NoMemory => self.without_memory(alloc, words),
         let answer = either(self.without_check(alloc, asked, words));
         self.marks.end(alloc)?;
         let spent = start.elapsed(clock)?;
