@@ -1,6 +1,8 @@
 //! Lines, one after the other, on the `Resolve` that was read last.
 
+ghost use Rattle.std.specs.Prelude.{IfOk};
 ghost use Rattle.wit_model.specs.Valid.{IsValid};
+ghost use Rattle.wit_component.specs.Bindings.{IsBindgen};
 
 use case_calls::answer::{Answer, Reply};
 use case_calls::asked::{Asked, Marked, OnAny, OnBytes, OnValid, Setting, Validity, asked_by};
@@ -10,9 +12,9 @@ use case_calls::encoder::value_type;
 use case_calls::encodings::{EncodingWord, UnversionedWords, letters};
 use case_calls::marks::Marks;
 use case_calls::names::names;
+use case_calls::no_memory::no_memory;
 use case_words::{Bad, Words};
 use std::alloc::Global;
-use case_calls::no_memory::no_memory;
 use std::io;
 use std::rt::Clock;
 use std::time::Instant;
@@ -343,11 +345,27 @@ impl Interpreter {
 
     // ---- bindings
 
-    // What a module without worlds binds.
+    // What a module without worlds binds, or a world and its encoding where they follow.
     fn bind(&mut self, alloc: Global, words: &mut Words<'_>) -> Result<Answer, Answer> {
-        words.end()?;
-        self.bound = Some(Bindgen::default(alloc)?);
+        self.bound = Some(if words.is_at_end() {
+            Bindgen::default(alloc)?
+        } else {
+            self.binding(alloc, words)?
+        });
         Ok(Answer::Yes)
+    }
+
+    // The binding of a world. Gives the `Resolve` up.
+    fn binding(&mut self, alloc: Global, words: &mut Words<'_>) -> Result<Bindgen, Answer>
+        ensures { IfOk result IsBindgen }
+    {
+        let id = words.read();
+        let word: EncodingWord = words.read();
+        words.end()?;
+        let Some(resolve) = self.current.take() else {
+            return Err(Answer::Unmet("resolve"));
+        };
+        binding(alloc, resolve, id, word.encoding)
     }
 
     // What a module binds, or the whole text of the refusal.
@@ -379,13 +397,7 @@ impl Interpreter {
 
     // Gives the `Resolve` up.
     fn merge(&mut self, alloc: Global, words: &mut Words<'_>) -> Result<Answer, Answer> {
-        let id = words.read();
-        let word: EncodingWord = words.read();
-        words.end()?;
-        let Some(resolve) = self.current.take() else {
-            return Err(Answer::Unmet("resolve"));
-        };
-        let other = binding(alloc, resolve, id, word.encoding)?;
+        let other = self.binding(alloc, words)?;
         let Some(own) = self.bound.take() else {
             return Err(Answer::Unmet("bindings"));
         };
@@ -422,6 +434,14 @@ impl Interpreter {
         value_type(alloc, self.marks, resolve, id)
     }
 
+    fn without_memory(&self, alloc: Global, words: &mut Words<'_>) -> Result<Answer, Answer> {
+        words.end()?;
+        match &self.current {
+            Some(resolve) => no_memory(alloc, self.marks, resolve),
+            None => Err(Answer::Unmet("resolve")),
+        }
+    }
+
     // Takes the bindings apart: the number of the bound world.
     fn unbind(&mut self, words: &mut Words<'_>) -> Result<Answer, Answer> {
         words.end()?;
@@ -434,14 +454,6 @@ impl Interpreter {
     }
 
     fn validity(&self, alloc: Global, call: Validity) -> Answer {
-    fn without_memory(&self, alloc: Global, words: &mut Words<'_>) -> Result<Answer, Answer> {
-        words.end()?;
-        match &self.current {
-            Some(resolve) => no_memory(alloc, self.marks, resolve),
-            None => Err(Answer::Unmet("resolve")),
-        }
-    }
-
         let Some(resolve) = &self.current else {
             return Answer::Unmet("resolve");
         };
@@ -586,6 +598,7 @@ impl Interpreter {
             Marked::Get => self.get(alloc, words),
             Marked::Unversioned => self.carry_over(alloc, words),
             Marked::ValueType => self.value_type(alloc, words),
+            Marked::NoMemory => self.without_memory(alloc, words),
         }
     }
 
@@ -598,7 +611,6 @@ impl Interpreter {
     ) -> io::Result<Reply> {
         let start = Instant::now(clock)?;
         self.marks.begin(alloc)?;
-            Marked::NoMemory => self.without_memory(alloc, words),
         let answer = either(self.without_check(alloc, asked, words));
         self.marks.end(alloc)?;
         let spent = start.elapsed(clock)?;
