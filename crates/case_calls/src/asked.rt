@@ -43,6 +43,7 @@ pub enum Marked {
     Get,
     Unversioned,
     ValueType,
+    NoMemory,
 }
 
 /// What lines that follow are asked on.
@@ -80,7 +81,7 @@ pub enum Asked {
     OnAny(OnAny),
 }
 
-static WORDS: [(&[u8], Asked); 39] = [
+static WORDS: [(&[u8], Asked); 40] = [
     (b"encode", Asked::OnValid(OnValid::Encode)),
     (b"world", Asked::OnValid(OnValid::World)),
     (b"metadata", Asked::OnValid(OnValid::Metadata)),
@@ -94,6 +95,7 @@ static WORDS: [(&[u8], Asked); 39] = [
     (b"get", Asked::Marked(Marked::Get)),
     (b"unversioned", Asked::Marked(Marked::Unversioned)),
     (b"valtype", Asked::Marked(Marked::ValueType)),
+    (b"no-memory", Asked::Marked(Marked::NoMemory)),
     (b"check", Asked::Validity(Validity::Check)),
     (b"rule", Asked::Validity(Validity::Rule)),
     (b"valid", Asked::Validity(Validity::Valid)),

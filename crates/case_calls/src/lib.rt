@@ -9,3 +9,4 @@ pub mod encoder;
 pub mod encodings;
 pub mod marks;
 pub mod names;
+pub mod no_memory;

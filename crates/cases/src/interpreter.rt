@@ -1,6 +1,8 @@
 //! Lines, one after the other, on the `Resolve` that was read last.
 
+ghost use Rattle.std.specs.Prelude.{IfOk};
 ghost use Rattle.wit_model.specs.Valid.{IsValid};
+ghost use Rattle.wit_component.specs.Bindings.{IsBindgen};
 
 use case_calls::answer::{Answer, Reply};
 use case_calls::asked::{Asked, Marked, OnAny, OnBytes, OnValid, Setting, Validity, asked_by};
@@ -10,6 +12,7 @@ use case_calls::encoder::value_type;
 use case_calls::encodings::{EncodingWord, UnversionedWords, letters};
 use case_calls::marks::Marks;
 use case_calls::names::names;
+use case_calls::no_memory::no_memory;
 use case_words::{Bad, Words};
 use std::alloc::Global;
 use std::io;
@@ -342,11 +345,27 @@ impl Interpreter {
 
     // ---- bindings
 
-    // What a module without worlds binds.
+    // What a module without worlds binds, or a world and its encoding where they follow.
     fn bind(&mut self, alloc: Global, words: &mut Words<'_>) -> Result<Answer, Answer> {
-        words.end()?;
-        self.bound = Some(Bindgen::default(alloc)?);
+        self.bound = Some(if words.is_at_end() {
+            Bindgen::default(alloc)?
+        } else {
+            self.binding(alloc, words)?
+        });
         Ok(Answer::Yes)
+    }
+
+    // The binding of a world. Gives the `Resolve` up.
+    fn binding(&mut self, alloc: Global, words: &mut Words<'_>) -> Result<Bindgen, Answer>
+        ensures { IfOk result IsBindgen }
+    {
+        let id = words.read();
+        let word: EncodingWord = words.read();
+        words.end()?;
+        let Some(resolve) = self.current.take() else {
+            return Err(Answer::Unmet("resolve"));
+        };
+        binding(alloc, resolve, id, word.encoding)
     }
 
     // What a module binds, or the whole text of the refusal.
@@ -378,13 +397,7 @@ impl Interpreter {
 
     // Gives the `Resolve` up.
     fn merge(&mut self, alloc: Global, words: &mut Words<'_>) -> Result<Answer, Answer> {
-        let id = words.read();
-        let word: EncodingWord = words.read();
-        words.end()?;
-        let Some(resolve) = self.current.take() else {
-            return Err(Answer::Unmet("resolve"));
-        };
-        let other = binding(alloc, resolve, id, word.encoding)?;
+        let other = self.binding(alloc, words)?;
         let Some(own) = self.bound.take() else {
             return Err(Answer::Unmet("bindings"));
         };
@@ -419,6 +432,14 @@ impl Interpreter {
         };
         calls::test_valid(alloc, resolve)?;
         value_type(alloc, self.marks, resolve, id)
+    }
+
+    fn without_memory(&self, alloc: Global, words: &mut Words<'_>) -> Result<Answer, Answer> {
+        words.end()?;
+        match &self.current {
+            Some(resolve) => no_memory(alloc, self.marks, resolve),
+            None => Err(Answer::Unmet("resolve")),
+        }
     }
 
     // Takes the bindings apart: the number of the bound world.
@@ -577,6 +598,7 @@ impl Interpreter {
             Marked::Get => self.get(alloc, words),
             Marked::Unversioned => self.carry_over(alloc, words),
             Marked::ValueType => self.value_type(alloc, words),
+            Marked::NoMemory => self.without_memory(alloc, words),
         }
     }
 
