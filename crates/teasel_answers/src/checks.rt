@@ -58,7 +58,8 @@ fn world_words(alloc: Global, bytes: &[u8], refusal: Error) -> Result<String, Er
 {
     match world_name(alloc, bytes) {
         Ok(name) => of_words(format!(in alloc; "a world, {name}")),
-        Err(error) => Err(if is_memory(&error) { error } else { refusal }),
+        Err(Error::NoReading(_, _)) => Err(refusal),
+        Err(error) => Err(error),
     }
 }
 
