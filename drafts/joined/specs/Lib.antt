@@ -1,0 +1,4 @@
+pub mod Choices
+pub mod Given
+pub mod Spelling
+pub mod Table

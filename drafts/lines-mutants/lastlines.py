@@ -1,0 +1,41 @@
+import sys; sys.path.insert(0,'/work/h/lines-mutants'); sys.dont_write_bytecode=True
+from bytes_by_hand import *
+from jsonwriter import quoted
+G=[]; cur=None; MESSAGES=[]
+def section(name,msg):
+    global cur; cur=[]; G.append((name,cur)); MESSAGES.append(msg)
+def head(t): cur.append(('# '+t,'# '+t))
+def line(l,a='ok'): cur.append((l,a))
+def text(l,t): cur.append((l,'text '+quoted(t)))
+def byt(l,b): cur.append((l,'bytes .'+b.hex()))
+section('# ==== names','Golden tests: an interface without a name under a name of a package')
+head('an interface without a name stands under a name of its package')
+line('resolve 1 "a" "b" - - 1 "k" 0 1 "w" 0 1 - - - 0 0 0 1 "w" - - 0 1 n "k" i 0 - - - 0 0'); line('check','fault 14 Packages 0')
+section('# ==== packages and worlds encoded','Golden tests: an interface that uses two types of another')
+head('an interface that uses two types of another uses it once')
+line('resolve 1 "a" "b" - - 2 "j" 0 "k" 1 0 2 "j" - - 0 2 "t" 0 "u" 1 0 "k" - - 0 2 "t" 2 "u" 3 0 0 4 "t" i 0 - - - alias u8 "u" i 0 - - - alias u8 "t" i 1 - - - alias 0 "u" i 1 - - - alias 1')
+line('names','words "a:b/j" "a:b/j" - [ ] "a:b/k" "a:b/k" - [ 0 ] "a:b/x"')
+section('# ==== packages printed','Golden tests: the order of imports, and unnamed types that resemble each other, encoded')
+head('three interfaces are imported in the order in which they are used')
+line('resolve 4 "a" "b" "1.0.0" - 1 "c" 0 0 "a" "b" "1.1.0" - 1 "c" 1 0 "d" "e" - - 1 "z" 2 0 "x" "y" - - 1 "k" 3 0 4 "c" - - 0 1 "t" 0 0 "c" - - 1 1 "t" 1 0 "z" - - 2 1 "t" 2 0 "k" - - 3 3 "s" 3 "t" 4 "u" 5 0 0 6 "t" i 0 - - - alias u8 "t" i 1 - - - alias u8 "t" i 2 - - - alias u8 "s" i 3 - - - alias 2 "t" i 3 - - - alias 0 "u" i 3 - - - alias 1')
+J=inst(prim('u8'),expT('t',0))
+byt('encode 3 0',package((comp(J,imp('d:e/z',INST,0),J,imp('a:b/c@1.0.0',INST,1),J,imp('a:b/c@1.1.0',INST,2),alias(0,'t'),alias(1,'t'),alias(2,'t'),
+    inst(outer(3),expT('s',0),outer(4),expT('t',2),outer(5),expT('u',4)),exp('x:y/k',INST,6)),'k')))
+head('a result of either side, and maps back and forth: a type each')
+line('resolve 1 "a" "b" - - 1 "i" 0 0 1 "i" - - 0 0 1 "f" "f" f 4 "a" 0 "b" 1 "c" 2 "d" 3 - - - - 0 4 - - - - - result u8 - - - - - - result - u8 - - - - - map u8 u16 - - - - - map u16 u8')
+def mapof(a,b): return b'\x01\x63'+v(a)+v(b)
+byt('encode 0 0',package((interface('a:b/i',result('u8',None),result(None,'u8'),mapof('u8','u16'),mapof('u16','u8'),func([('a',0),('b',1),('c',2),('d',3)]),exp('f',FUNC,4)),'i')))
+section('# ==== bytes decoded','Golden tests: uses of two pre-releases, and names that resemble each other, printed')
+head('uses whose gates differ in the pre-release alone; names of one length that begin alike')
+line('resolve 1 "a" "b" - - 2 "j" 0 "k" 1 0 2 "j" - - 0 2 "ta" 0 "tb" 1 0 "k" - - 0 2 "tb" 2 "tc" 3 0 0 4 "ta" i 0 - - - alias u8 "tb" i 0 - - - alias u8 "tb" i 1 - s "1.0.0-a" - - alias 0 "tc" i 1 - s "1.0.0-b" - - alias 1')
+line('check')
+text('print 0 1 0','package a:b;\n\ninterface j {\n  type ta = u8;\n\n  type tb = u8;\n}\n\ninterface k {\n  @since(version = 1.0.0-a)\n  use j.{ta as tb};\n  @since(version = 1.0.0-b)\n  use j.{tb as tc};\n}\n\n')
+section('# ==== encodings of functions','Golden tests: worlds of two namespaces, and own against borrow, compared')
+head('worlds of packages of one name in two namespaces')
+line('resolve 2 "a" "b" - - 0 1 "w" 0 "c" "b" - - 0 1 "w" 1 0 2 "w" - - 0 0 0 "w" - - 1 0 0 0')
+line('semver 0 1','refused the worlds are in different packages')
+head('an own and a borrow of a resource')
+line('resolve 1 "a" "b" - - 0 2 "v" 0 "w" 1 0 2 "v" - - 0 2 n "r" t 0 n "f" f "f" f 1 "x" 1 - - - - 0 "w" - - 0 2 n "r" t 2 n "f" f "f" f 1 "x" 3 - - - - 0 4 "r" w 0 - - - resource - - - - - own 0 "r" w 1 - - - resource - - - - - borrow 2')
+line('semver 0 1','refused differs: f')
+if __name__=='__main__':
+    open('/tmp/l.in','w').write('\n'.join(l for _,g in G for l,_ in g)+'\n'); open('/tmp/l.out','w').write('\n'.join(a for _,g in G for _,a in g)+'\n')
