@@ -1,9 +1,10 @@
 -- What a search finds in an ascending list.
-use Rattle.std.proofs.Common.{rules as std_rules, ◌≡◌, sym, subst, ap, ◌∙◌, ℕ, ◌<◌, ◌≤◌, ◌-◌, ◌++◌, length, List, [], ◌∷◌, get_or, Ok, Err, Some, Option, arith, inl, inr, append_assoc}
-use Rattle.std.proofs.lemmas.{Option.get_or_from_slice_get, Cmp.ranked, Cmp.nat_cmp_total, List.get_or_default, List.Sorted.IsPermutation-append_comm, List.Sorted.IsPermutation-append_right}
+use Rattle.std.proofs.Common.{rules as std_rules, ◌≡◌, sym, subst, ap, ◌∙◌, ℕ, ◌<◌, ◌≤◌, ◌-◌, ◌++◌, length, List, [], ◌∷◌, get_or, Ok, Err, Some, None, Option, Bool, true, false, refl, nat_eq, arith, inl, inr, append_assoc}
+use Rattle.std.proofs.lemmas.{Option.get_or_from_slice_get, Bool.eqb-true, Bool.eq-eqb, Cmp.ranked, List.get_or_default, List.Sorted.IsPermutation-append_comm, List.Sorted.IsPermutation-append_right}
 use Rattle.std.proofs.lemmas.List.{Elements.Contains-append_cases, Elements.Contains-append_right, Elements.Contains-get_or, Quantifiers.all_pairs_push}
-use Rattle.std.specs.{Prelude.IsPermutation, Prelude.IfSome, Prelude.IfNone, List.Contains, List.slice_get, BTreeMap.is_at, List.Sorted.IsBinarySearchResult, List.Sorted.IsNonDecreasingBy, Ordering.nat_cmp, Ordering.ordering_index, Ordering.is_eq, Map.lookup}
-use Rattle.encode_types.proofs.Tables.{absent, some-when, none-when, at-some, equal-self, number-found}
+use Rattle.std.specs.{Prelude.IsPermutation, Prelude.IfSome, Prelude.IfNone, Prelude.if◌then◌else◌, List.Contains, List.slice_get, List.Sorted.IsBinarySearchResult, List.Sorted.IsNonDecreasingBy, Ordering.nat_cmp, Ordering.ordering_index, Map.lookup}
+use Rattle.encode_types.proofs.Tables.{absent, some-when, none-when, none-or}
+use Rattle.base_lemmas.proofs.Elements.{lookup_stands as found}
 use Rattle.encode_types.specs.NumberMaps.{AreAscending, AreBelow}
 
 module _ (run : List (ℕ × ℕ)) (ascend : AreAscending run) (n : ℕ) where
@@ -48,9 +49,34 @@ pub found-at : (run : List (ℕ × ℕ)) (n at : ℕ) → at < length run → (g
 found-at run n at l is = (at, l, get_or_default run at (n, (get_or run at (0, 0)).1) (0, 0) l ∙ ap (λ m. (m, (get_or run at (0, 0)).1)) is)
 
 -- what a look-up finds in the second of two lists is in both
-pub number-behind : (xs es : List (ℕ × ℕ)) (n : ℕ) (o : Option ℕ) → o ≡ lookup (is_at (nat_cmp n)) es → IfSome o (λ i. Contains (xs ++ es) (n, i))
-number-behind xs es n o q = some-when o _ (λ v e. Contains-append_right xs es (n, v) (at-some o (λ i. Contains es (n, i)) v e (number-found es n o q)))
+pub number-behind : (xs es : List (ℕ × ℕ)) (n : ℕ) (o : Option ℕ) → o ≡ lookup (nat_eq n) es → IfSome o (λ i. Contains (xs ++ es) (n, i))
+number-behind xs es n o q = some-when o _ (λ v e. (let f = found (nat_eq n) es v (sym q ∙ e) in
+    Contains-append_right xs es (n, v) (subst (λ k. Contains es (k, v)) (sym (eqb-true n f.0 f.2)) f.1)))
 
 -- where it finds nothing, and the first has no such number, neither do both
-pub number-nowhere : (xs es : List (ℕ × ℕ)) (n : ℕ) (o : Option ℕ) → o ≡ lookup (is_at (nat_cmp n)) es → ((i : ℕ) → Contains xs (n, i) → ⊥) → IfNone o ((i : ℕ) → Contains (xs ++ es) (n, i) → ⊥)
-number-nowhere xs es n o q none = none-when o _ (λ e. in-either xs es n none (λ i c. absent (is_at (nat_cmp n)) es (sym q ∙ e) n i c (ap is_eq (equal-self nat_cmp_total n))))
+pub number-nowhere : (xs es : List (ℕ × ℕ)) (n : ℕ) (o : Option ℕ) → o ≡ lookup (nat_eq n) es → ((i : ℕ) → Contains xs (n, i) → ⊥) → IfNone o ((i : ℕ) → Contains (xs ++ es) (n, i) → ⊥)
+number-nowhere xs es n o q none = none-when o _ (λ e. in-either xs es n none (λ i c. absent (nat_eq n) es (sym q ∙ e) n i c (eq-eqb n n refl)))
+
+-- a number that a list doesn't have isn't found
+pub number-new : (es : List (ℕ × ℕ)) (n : ℕ) → ((i : ℕ) → Contains es (n, i) → ⊥) → lookup (nat_eq n) es ≡ None
+number-new es n lacks = none-or (lookup (nat_eq n) es) (λ v h. (let f = found (nat_eq n) es v h in lacks v (subst (λ k. Contains es (k, v)) (sym (eqb-true n f.0 f.2)) f.1)))
+
+-- ---- room
+
+-- room in the first of two lists, or in the second
+pub room-first : (past x y : Bool) → past ≡ true → x ≡ true → (if past then x else y) ≡ true
+room-first true x y p h = h
+room-first false x y p h = absurd (let z : ⊥ = cc in z)
+
+pub room-second : (past x y : Bool) → past ≡ false → y ≡ true → (if past then x else y) ≡ true
+room-second true x y p h = absurd (let z : ⊥ = cc in z)
+room-second false x y p h = h
+
+-- and back
+pub first-room : (past x y : Bool) → past ≡ true → (if past then x else y) ≡ true → x ≡ true
+first-room true x y p h = h
+first-room false x y p h = absurd (let z : ⊥ = cc in z)
+
+pub second-room : (past x y : Bool) → past ≡ false → (if past then x else y) ≡ true → y ≡ true
+second-room true x y p h = absurd (let z : ⊥ = cc in z)
+second-room false x y p h = h

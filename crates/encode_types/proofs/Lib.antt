@@ -28,6 +28,8 @@ pub mod Marking
 pub mod Written
 -- What is defined, call by call. Serves Functions; crates above.
 pub mod Defining
+-- What is left where a call is refused. Serves crates above.
+pub mod Stopping
 -- Types of functions by their keys. Serves crates above.
 pub mod Functions
 -- A loop that feeds a hasher parameter by parameter. Serves key::eq, key::hash_params.

@@ -123,7 +123,7 @@ none-when x y f = search std_rules
 pub some-where : {X : Type 0} (o : Option X) (P : X → Type 0) → IfNone o ((x : X) → P x → ⊥) → (x : X) × P x → IsSome o
 some-where x y h k = search std_rules
 
-none-or : {X : Type 0} (o : Option X) → ((v : X) → o ≡ Some v → ⊥) → o ≡ None
+pub none-or : {X : Type 0} (o : Option X) → ((v : X) → o ≡ Some v → ⊥) → o ≡ None
 none-or x f = search std_rules
 
 -- ---- orders

@@ -1,29 +1,35 @@
 //! An ordered map for numbers that mostly come in ascending order.
 
-ghost use Rattle.std.specs.Prelude.{◌≡◌, [], ◌∷◌, ◌++◌, true, ℕ, IfSome, IfNone, OnOk, OnErr, IsPermutation};
+ghost use Rattle.std.specs.Prelude.{◌≡◌, [], ◌∷◌, ◌++◌, true, ℕ, IfSome, IfNone, IsOk, OnOk, OnErr, IsPermutation};
 ghost use Rattle.std.specs.List.{Contains};
-ghost use Rattle.encode_types.specs.NumberMaps.{AreAscending, AreBelow};
+ghost use Rattle.encode_types.specs.NumberMaps.{AreAscending, AreBelow, has_room, is_past, last_of};
 
+use indexmap::IndexMap;
 use std::alloc::{AllocError, Global};
-use std::collections::BTreeMap;
 use std::marker::Model;
 
-/// An ordered map from numbers to numbers, for numbers that mostly come in ascending order.
+/// A map from numbers to numbers, for numbers that mostly come in ascending order.
 ///
 /// An entry whose number is above all in `run` is put behind them, and any other into `rest`. So `run` ascends.
 #[derive(Drop)]
 pub struct NumberMap {
     run: Vec<(u32, u32)>,
-    rest: BTreeMap<u32, u32>,
+    rest: IndexMap<u32, u32>,
 }
 
 impl Model for NumberMap {
-    ghost use Rattle.std.specs.Prelude.{◌++◌};
-    ghost use Rattle.encode_types.specs.NumberMaps.{NumberEntries, AreAscending};
+    ghost use Rattle.std.specs.Prelude.{◌++◌, nat_lt, vec_len, vec_capacity};
+    ghost use Rattle.indexmap.specs.IndexMap.{spare};
+    ghost use Rattle.encode_types.specs.NumberMaps.{NumberEntries, AreAscending, last_of};
 
     ghost Value = { NumberEntries };
 
-    ghost view = { λ m. record { entries = m.run.items ++ m.rest.entries } };
+    ghost view = { λ m. record {
+      entries = m.run.items ++ m.rest.entries;
+      last = last_of m.run.items;
+      room_behind = nat_lt (vec_len m.run) (vec_capacity m.run);
+      room_elsewhere = nat_lt 0 (spare m.rest);
+    } };
 
     ghost invariant = { λ m. AreAscending m.run.items };
 }
@@ -31,7 +37,8 @@ impl Model for NumberMap {
 /// Whether a number is above all of an ascending list.
 fn is_above(run: &[(u32, u32)], number: u32) -> bool
     requires { AreAscending run.now }
-    ensures { result ≡ true → AreBelow run.now number }
+    ensures below { result ≡ true → AreBelow run.now number }
+    ensures past { result ≡ is_past (last_of run.now) number }
 {
     match run.last() {
         Some(last) => last.0 < number,
@@ -85,7 +92,7 @@ impl NumberMap {
     {
         NumberMap {
             run: Vec::new(alloc),
-            rest: BTreeMap::new(alloc),
+            rest: IndexMap::new(alloc),
         }
     }
 
@@ -100,11 +107,24 @@ impl NumberMap {
         }
     }
 
-    /// Puts another number in.
+    /// Makes room for a number, so that it can be put in without memory.
+    pub(crate) fn reserve(&mut self, number: u32) -> Result<(), AllocError>
+        ensures ok { OnOk result (has_room self.new number ≡ true) }
+        ensures same { self.new.entries ≡ self.old.entries }
+    {
+        if is_above(&self.run, number) {
+            self.run.reserve(1)
+        } else {
+            self.rest.reserve(1)
+        }
+    }
+
+    /// Puts another number in. It can't be refused where there is room for it.
     pub(crate) fn insert(&mut self, number: u32, index: u32) -> Result<(), AllocError>
         requires { (i : ℕ) → Contains self.old.entries (number, i) → ⊥ }
         ensures ok { OnOk result (IsPermutation (self.old.entries ++ (number, index) ∷ []) self.new.entries) }
         ensures err { OnErr result (self.new.entries ≡ self.old.entries) }
+        ensures succeeds { has_room self.old number ≡ true → IsOk result }
     {
         if is_above(&self.run, number) {
             self.run.push((number, index))?;
