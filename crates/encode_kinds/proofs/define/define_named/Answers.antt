@@ -1,7 +1,9 @@
+use Rattle.comp_bytes.specs.RawOf.{raw_name}
 use Rattle.std.proofs.Common.{refl, ◌∙◌, rules, arith}
 use Rattle.encode_types.proofs.{Agree.on_ok, Defining.counts-trans, Defining.leaves-trans, Learning.ready-grow}
 use Rattle.std.proofs.lemmas.Result.{on_err_weaker}
 use Rattle.encode_types.proofs.Stopping.{counts-same, learnt-behind, named-behind, part-same, part-then, unknown-same, written-behind}
+use Rattle.base_lemmas.proofs.Options.{at_err}
 use Rattle.encode_kinds.proofs.define.define_named.Goals as goal
 
 pub define_named_in_room-requires : goal.define_named_in_room-requires
@@ -62,12 +64,13 @@ pub returns-clause-written : goal.returns-clause-written
 returns-clause-written g c = on_ok c.define_named_in_room.result _ _ (λ w. written-behind c.reserve_id.ensures.written w) c.define_named_in_room.ensures.written
 
 pub returns-clause-size : goal.returns-clause-size
-returns-clause-size g c = λ h. named-behind _ _ _ _ _ _ c.reserve_id.ensures.held (c.define_named_in_room.ensures.size h)
+returns-clause-size g c = λ h. named-behind c.args.resolve.now c.args.def.now (raw_name c.args.name) (g.E.ValtypeEncoder.view c.args.enc.now) (g.E.ValtypeEncoder.view c.reserve_id.new.enc)
+    (g.E.ValtypeEncoder.view c.define_named_in_room.new.enc) c.reserve_id.ensures.held (c.define_named_in_room.ensures.size h)
 
 -- ---- where there is no memory for it in the maps
 
 pub returns-in_err-reserve_id-clause-stopped : goal.returns-in_err-reserve_id-clause-stopped
-returns-in_err-reserve_id-clause-stopped g c = part-same _ _ _ _ _ _ c.reserve_id.ensures.same c.reserve_id.ensures.counts
+returns-in_err-reserve_id-clause-stopped g c = at_err _ (part-same _ _ _ _ _ _ c.reserve_id.ensures.same c.reserve_id.ensures.counts)
 
 pub returns-in_err-reserve_id-clause-held : goal.returns-in_err-reserve_id-clause-held
 returns-in_err-reserve_id-clause-held g c = (let e = c.reserve_id.ensures.held in omega (arith, e))

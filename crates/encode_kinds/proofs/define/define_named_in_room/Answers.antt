@@ -6,6 +6,7 @@ use Rattle.encode_types.proofs.{Owning.another-name, Agree.on_ok, Agree.learnt-o
 use Rattle.encode_types.proofs.Writing.{written-more, written-on}
 use Rattle.encode_kinds.proofs.{define.define_named_in_room.Given.Over, define.define_named_in_room.Goals.In_ok-index, define.define_named_in_room.Goals.In_ok-slot}
 use Rattle.encode_types.proofs.Stopping.{never-err, one-or-none, part-beside, part-same, same-when}
+use Rattle.base_lemmas.proofs.Options.{at_err}
 use Rattle.encode_kinds.proofs.define.define_named_in_room.Goals as goal
 
 kept : (g : Over) (c : In_ok-index g) → Leaves c.args.resolve.now (g.E.ValtypeEncoder.view c.args.enc.now) (g.E.ValtypeEncoder.view c.define_kind.new.enc)
@@ -52,11 +53,11 @@ returns-in_err-slot-clause-size g c = λ h.
     inr (record { lacks = refused.lacks; held = omega (arith, held, before) })
 
 pub returns-in_err-index-clause-stopped : goal.returns-in_err-index-clause-stopped
-returns-in_err-index-clause-stopped g c = part-same _ _ _ _ _ _ (same-when c.define_kind.ensures.maps_stay) c.in_err-index.ensures.err
+returns-in_err-index-clause-stopped g c = at_err _ (part-same _ _ _ _ _ _ (same-when c.define_kind.ensures.maps_stay) c.in_err-index.ensures.err)
 
 pub returns-in_err-slot-clause-stopped : goal.returns-in_err-slot-clause-stopped
-returns-in_err-slot-clause-stopped g c = part-beside _ _ _ _ _ _ (same-when (c.export.ensures.maps_stay ∙ c.define_kind.ensures.maps_stay))
-    (one-or-none (has_definition c.args.def.now.kind) c.in_ok-index.index _ _ (c.in_err-slot.ensures.err ∙ c.in_ok-index.ensures.counts))
+returns-in_err-slot-clause-stopped g c = at_err _ (part-beside _ _ _ _ _ _ (same-when (c.export.ensures.maps_stay ∙ c.define_kind.ensures.maps_stay))
+    (one-or-none (has_definition c.args.def.now.kind) c.in_ok-index.index _ _ (c.in_err-slot.ensures.err ∙ c.in_ok-index.ensures.counts)))
 
 pub returns-clause-stopped : goal.returns-clause-stopped
 returns-clause-stopped g c = never-err c.remember_id.result _ (c.remember_id.ensures.succeeds (rw (c.export.ensures.maps_stay, c.define_kind.ensures.maps_stay) c.requires.room))

@@ -2,6 +2,7 @@ use Rattle.std.proofs.Common.{refl, ◌∙◌, rules, arith}
 use Rattle.encode_types.proofs.{Agree.on_ok, Defining.counts-trans, Defining.leaves-trans}
 use Rattle.std.proofs.lemmas.Result.{on_err_weaker}
 use Rattle.encode_types.proofs.Stopping.{counts-same, learnt-behind, refuses-behind, part-same, part-then, unknown-same, written-behind}
+use Rattle.base_lemmas.proofs.Options.{at_err}
 use Rattle.encode_kinds.proofs.define.define_resource.Goals as goal
 
 pub define_resource_in_room-requires : goal.define_resource_in_room-requires
@@ -49,7 +50,7 @@ returns-clause-size g c = λ h. refuses-behind c.reserve_id.ensures.held (c.defi
 -- ---- where there is no memory for it in the maps
 
 pub returns-in_err-reserve_id-clause-stopped : goal.returns-in_err-reserve_id-clause-stopped
-returns-in_err-reserve_id-clause-stopped g c = part-same _ _ _ _ _ _ c.reserve_id.ensures.same c.reserve_id.ensures.counts
+returns-in_err-reserve_id-clause-stopped g c = at_err _ (part-same _ _ _ _ _ _ c.reserve_id.ensures.same c.reserve_id.ensures.counts)
 
 pub returns-in_err-reserve_id-clause-held : goal.returns-in_err-reserve_id-clause-held
 returns-in_err-reserve_id-clause-held g c = (let e = c.reserve_id.ensures.held in omega (arith, e))

@@ -4,6 +4,7 @@ use Rattle.encode_types.specs.declared.maps.TypeEncodingMaps.{TypeEncodingMaps}
 use Rattle.encode_types.specs.{Maps.LearnsNumber, Counts.Definitions, Counts.ExportsOne}
 use Rattle.encode_types.proofs.{Agree.on_ok, Agree.learnt-one, Defining.counts-resource, Defining.leaves-before, Writing.written-on}
 use Rattle.encode_types.proofs.Stopping.{never-err, part-same, same-when}
+use Rattle.base_lemmas.proofs.Options.{at_err}
 use Rattle.encode_kinds.proofs.define.define_resource_in_room.Goals as goal
 
 pub returns-clause-ok : goal.returns-clause-ok
@@ -26,7 +27,7 @@ pub returns-clause-written : goal.returns-clause-written
 returns-clause-written g c = on_ok c.remember_id.result _ _ (λ l. written-on c.in_ok-index.ensures.written c.remember_id.ensures.written) c.remember_id.ensures.ok
 
 pub returns-in_err-index-clause-stopped : goal.returns-in_err-index-clause-stopped
-returns-in_err-index-clause-stopped g c = part-same _ _ _ _ _ _ (same-when c.export_resource.ensures.maps_stay) c.in_err-index.ensures.err
+returns-in_err-index-clause-stopped g c = at_err _ (part-same _ _ _ _ _ _ (same-when c.export_resource.ensures.maps_stay) c.in_err-index.ensures.err)
 
 pub returns-clause-stopped : goal.returns-clause-stopped
 returns-clause-stopped g c = never-err c.remember_id.result _ (c.remember_id.ensures.succeeds (rw c.export_resource.ensures.maps_stay c.requires.room))

@@ -2,6 +2,7 @@ use Rattle.std.proofs.Common.{rules, refl, ◌∙◌}
 use Rattle.encode_types.proofs.{Agree.on_ok, Agree.learnt-one, Defining.counts-number, Defining.leaves-before, Writing.written-on}
 use Rattle.std.proofs.lemmas.Result.{on_err_weaker}
 use Rattle.encode_types.proofs.Stopping.{part-same, same-when}
+use Rattle.base_lemmas.proofs.Options.{at_err}
 use Rattle.encode_kinds.proofs.define.import.Goals as goal
 
 pub returns : goal.returns
@@ -21,4 +22,4 @@ returns g c = record {
 }
 
 pub returns-in_err-index-clause-stopped : goal.returns-in_err-index-clause-stopped
-returns-in_err-index-clause-stopped g c = part-same _ _ _ _ _ _ (same-when c.import_type.ensures.maps_stay) c.in_err-index.ensures.err
+returns-in_err-index-clause-stopped g c = at_err _ (part-same _ _ _ _ _ _ (same-when c.import_type.ensures.maps_stay) c.in_err-index.ensures.err)

@@ -6,6 +6,7 @@ use Rattle.encode_kinds.proofs.{func_type.define_key.Given.Over, func_type.defin
 use Rattle.encode_types.specs.declared.maps.TypeEncodingMaps.{TypeEncodingMaps}
 use Rattle.encode_types.specs.Counts.{a_function}
 use Rattle.encode_types.proofs.Stopping.{part-beside, part-same, part-then, same-when}
+use Rattle.base_lemmas.proofs.Options.{at_err}
 use Rattle.encode_kinds.proofs.func_type.define_key.Goals as goal
 
 pub function_of-requires : goal.function_of-requires
@@ -133,10 +134,10 @@ pub returns-in_err-index-clause-imports : goal.returns-in_err-index-clause-impor
 returns-in_err-index-clause-imports g c = imports-same c.define_function_type.ensures.imports_stay c.function_of.ensures.imports
 
 pub returns-in_err-index-clause-stopped : goal.returns-in_err-index-clause-stopped
-returns-in_err-index-clause-stopped g c = part-then c.function_of.ensures.leaves.scope_stays c.in_ok-def.ensures.counts
-    (part-same _ _ _ _ _ _ (same-when c.define_function_type.ensures.maps_stay) c.in_err-index.ensures.err)
+returns-in_err-index-clause-stopped g c = at_err _ (part-then c.function_of.ensures.leaves.scope_stays c.in_ok-def.ensures.counts
+    (part-same _ _ _ _ _ _ (same-when c.define_function_type.ensures.maps_stay) c.in_err-index.ensures.err))
 
 pub returns-in_err-remember_key-clause-stopped : goal.returns-in_err-remember_key-clause-stopped
-returns-in_err-remember_key-clause-stopped g c = part-then c.function_of.ensures.leaves.scope_stays c.in_ok-def.ensures.counts
+returns-in_err-remember_key-clause-stopped g c = at_err _ (part-then c.function_of.ensures.leaves.scope_stays c.in_ok-def.ensures.counts
     (part-beside _ _ _ _ _ _ (rw c.define_function_type.ensures.maps_stay at c.in_err-remember_key.ensures.err)
-    (a_function c.in_ok-index.index (c.remember_key.ensures.counts ∙ c.in_ok-index.ensures.counts)))
+    (a_function c.in_ok-index.index (c.remember_key.ensures.counts ∙ c.in_ok-index.ensures.counts))))

@@ -5,6 +5,7 @@ use Rattle.encode_types.specs.{Counts.Definitions, Extents.signature_extent, Fit
 use Rattle.encode_types.proofs.{Agree.on_ok, Aliasing.met-none, Aliasing.makes-then, Aliasing.imports-none, Aliasing.imports-then, Defining.leaves-trans, Encoding.learns-nothing, Encoding.learns-same, Rooms.holds-shared, Rooms.holds-then, Rooms.room-after, Functions.key-stands, Functions.counts-found, Functions.counts-behind, Functions.knows-more, Tables.at-none, Tables.key-lacking, Learning.met-both, Learning.met-names, Writing.writes-nothing, Writing.writes-beside, Writing.writes-most, Writing.writes-then}
 use Rattle.encode_kinds.proofs.{func_type.encode_func_type.Goals.In_ok-list, func_type.encode_func_type.Goals.In_default, func_type.encode_func_type.Given.Over}
 use Rattle.encode_types.proofs.Stopping.{part-behind, part-names}
+use Rattle.base_lemmas.proofs.Options.{at_err}
 use Rattle.encode_kinds.proofs.func_type.encode_func_type.Goals as goal
 
 -- ---- names may have been added
@@ -146,7 +147,7 @@ returns-clause-last g c = ok-map c.define_key.result _ _ (λ i h. inr (record { 
 -- ---- where it is refused
 
 pub returns-in_err-list-clause-stopped : goal.returns-in_err-list-clause-stopped
-returns-in_err-list-clause-stopped g c = part-names _ _ _ _ _ _ c.list_of_key.ensures.names c.list_of_key.ensures.counts
+returns-in_err-list-clause-stopped g c = at_err _ (part-names _ _ _ _ _ _ c.list_of_key.ensures.names c.list_of_key.ensures.counts)
 
 pub returns-clause-stopped : goal.returns-clause-stopped
 returns-clause-stopped g c = on_err_weaker c.define_key.result (λ a. part-behind _ _ _ _ _ _ _ _ _ c.list_of_key.ensures.leaves.scope_stays c.list_of_key.ensures.names c.list_of_key.ensures.counts a)

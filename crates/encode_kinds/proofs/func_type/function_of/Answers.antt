@@ -5,6 +5,7 @@ use Rattle.encode_types.proofs.{Learning.met-both, Learning.ready-both, Aliasing
 use Rattle.encode_types.proofs.Writing.{writes-then}
 use Rattle.base_lemmas.proofs.Elements.{zip-kept}
 use Rattle.encode_types.proofs.Stopping.{part-then}
+use Rattle.base_lemmas.proofs.Options.{at_err}
 use Rattle.encode_kinds.proofs.func_type.function_of.Goals as goal
 
 pub encode_params-requires : goal.encode_params-requires
@@ -81,4 +82,4 @@ returns-in_err-result-clause-imports g c = imports-both (ap (λ (z : Scope). z.o
     (rw c.deref.ensures.value at c.encode_params.ensures.imports) (rw c.as_ref.ensures.value at c.encode_optional_valtype.ensures.imports)
 
 pub returns-in_err-result-clause-stopped : goal.returns-in_err-result-clause-stopped
-returns-in_err-result-clause-stopped g c = part-then c.encode_params.ensures.leaves.scope_stays c.in_ok-params.ensures.counts c.in_err-result.ensures.stopped
+returns-in_err-result-clause-stopped g c = at_err _ (part-then c.encode_params.ensures.leaves.scope_stays c.in_ok-params.ensures.counts c.in_err-result.ensures.stopped)

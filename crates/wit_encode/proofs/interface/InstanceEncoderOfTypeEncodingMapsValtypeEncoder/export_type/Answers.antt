@@ -6,6 +6,7 @@ use Rattle.wit_encode.specs.Instance.{encoder_scope, around_of, defined_in}
 use Rattle.encode_types.proofs.Around.{slots-grow}
 use Rattle.comp_bytes.specs.declared.forms.ComponentTypeRef.TheVariants as refs
 use Rattle.wit_model.specs.declared.error.Error.TheVariants as errors
+use Rattle.base_lemmas.proofs.Options.{at_err}
 use Rattle.wit_encode.proofs.interface.InstanceEncoderOfTypeEncodingMapsValtypeEncoder.export_type.Goals as goal
 
 pub returns : goal.returns
@@ -34,8 +35,8 @@ returns-in_err-slot-in-Some-clause-scope_stays c = ap (encoder_scope c.args.self
     ((λ i. Some (record c.in-Some.current { declared = c.in_err-slot-in-Some.ensures.err i })) ∙ sym c.in-Some.is)
 
 pub returns-in_err-slot-in-Some-clause-err : goal.returns-in_err-slot-in-Some-clause-err
-returns-in_err-slot-in-Some-clause-err c = ap (defined_in c.args.self.now.resolve.now c.args.self.now.outer)
-    ((λ i. Some (record c.in-Some.current { declared = c.in_err-slot-in-Some.ensures.err i })) ∙ sym c.in-Some.is)
+returns-in_err-slot-in-Some-clause-err c = at_err _ (ap (defined_in c.args.self.now.resolve.now c.args.self.now.outer)
+    ((λ i. Some (record c.in-Some.current { declared = c.in_err-slot-in-Some.ensures.err i })) ∙ sym c.in-Some.is))
 
 pub returns-in_err-slot-in-Some-clause-size : goal.returns-in_err-slot-in-Some-clause-size
 returns-in_err-slot-in-Some-clause-size c = λ h.

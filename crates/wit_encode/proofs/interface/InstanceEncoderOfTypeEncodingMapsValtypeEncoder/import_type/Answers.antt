@@ -7,6 +7,7 @@ use Rattle.wit_encode.specs.declared.interface.OpenInterface.{OpenInterface}
 use Rattle.encode_types.specs.{Scope.IsImportable, Known.Around, Known.GrowsAround, Known.ReachesAround}
 use Rattle.wit_encode.specs.Instance.{defined_in, definitions_with, encoder_scope, scope_with, inner_contents, place_in, around_at, around_of}
 use Rattle.encode_types.proofs.Around.{reaches-grows}
+use Rattle.base_lemmas.proofs.Options.{at_err}
 use Rattle.wit_encode.proofs.interface.InstanceEncoderOfTypeEncodingMapsValtypeEncoder.import_type.Goals as goal
 
 pub reach-requires-clause-in_range : goal.reach-requires-clause-in_range
@@ -65,9 +66,9 @@ returns-in_err-slot-in-Some c = record {
       ∙ ap (encoder_scope c.args.self.now.resolve.now c.args.self.now.outer) (sym c.in-Some.is);
   maps_stay = search rules;
   counts = search rules;
-  err = ap (λ (z : Around). definitions_with (inner_contents (place_in c.args.self.now.resolve.now (Some c.in-Some.current.interface)) z.declared c.in-Some.current.declared))
+  err = at_err _ (ap (λ (z : Around). definitions_with (inner_contents (place_in c.args.self.now.resolve.now (Some c.in-Some.current.interface)) z.declared c.in-Some.current.declared))
       c.in_err-slot-in-Some.ensures.err
-      ∙ ap (defined_in c.args.self.now.resolve.now c.args.self.now.outer) (sym c.in-Some.is);
+      ∙ ap (defined_in c.args.self.now.resolve.now c.args.self.now.outer) (sym c.in-Some.is));
   held = held-inside c.args.self.now.outer c.args.self.now.inner c.in-Some.current c.in-Some.current.declared c.in-Some.is (omega arith);
   written = search rules;
   size = λ h. record {

@@ -5,6 +5,7 @@ use Rattle.wit_encode.specs.Worlds.{world_around, world_definitions}
 use Rattle.wit_encode.proofs.{Refusing.name-outside, Refusing.on-size, Extents.bytes-few, WorldCalls.imports-type, WorldHolding.beside-more, WorldHolding.beside-kept, BytesWritten.one-more}
 use Rattle.wit_model.specs.declared.error.Error.TheVariants as errors
 use Rattle.comp_bytes.specs.declared.forms.ComponentTypeRef.TheVariants as refs
+use Rattle.base_lemmas.proofs.Options.{at_err}
 use Rattle.wit_encode.proofs.world.WorldEncoderOfTypeEncodingMapsValtypeEncoder.export_type.Goals as goal
 
 pub returns : goal.returns
@@ -27,7 +28,7 @@ returns c =
     }
 
 pub returns-in_err-slot-clause-err : goal.returns-in_err-slot-clause-err
-returns-in_err-slot-clause-err c = ap world_definitions c.in_err-slot.ensures.err
+returns-in_err-slot-clause-err c = at_err _ (ap world_definitions c.in_err-slot.ensures.err)
 
 pub returns-in_err-slot-clause-size : goal.returns-in_err-slot-clause-size
 returns-in_err-slot-clause-size c = λ h.
