@@ -76,3 +76,7 @@ pub mod Settling
 pub mod UnionKeys
 -- What is copied of types: those whose owners are, types that new imports are, and types without a name that are made of what is carried. Serves crates above.
 pub mod WhatComes
+-- Which types are needed: marks stay, what is named is marked, and so are parts of what is copied in the end.
+pub mod Needed
+-- Numbers that are marked one list after the other.
+pub mod MarkedNumbers

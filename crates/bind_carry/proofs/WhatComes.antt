@@ -9,6 +9,7 @@ use Rattle.wit_model.proofs.Elements.{contains-get}
 use Rattle.bind_copy.specs.Copies.{is_new_under}
 use Rattle.bind_union.proofs.{Lists.no_true, WorldNamesakes.type_imported, WorldNamesakes.world_type}
 use Rattle.bind_carry.specs.{BoundGains.bound_fates, BoundGains.gains_any, BoundGains.type_under_key, BoundGains.unified, Renumbered.is_matched, Numbers.copied_count, SecondPass.DoNotClash, TooLong.CarriedThings, TooLong.TypeFates}
+use Rattle.bind_carry.specs.{BoundGains.all_bound_fates, BoundGains.gained_marks, First.all_first_fates, First.first_marks, Needs.needed_of, Needs.pruned, Needs.pruned_by}
 use Rattle.bind_carry.specs.Fates.{are_carried, carries, copies, is_carried, settled, settled_from, FallBelow}
 use Rattle.bind_carry.specs.First.{adds_any, beside_first, fate_in, fate_named, fate_of, first_fates, flag_under, is_named_at, second_from, second_in}
 use Rattle.bind_carry.specs.MadeOf.{owned, type_parts, unnamed, IsMadeOf, IsMadeUp, IsOwnedBy}
@@ -28,6 +29,18 @@ marked_count (true ∷ bs) = let r = marked_count bs in let one : count_by (λ b
 marked_count (false ∷ bs) = let r = marked_count bs in let one : count_by (λ b. b) (false ∷ bs) ≡ 0 + count_by (λ b. b) bs = sum_by-cons (λ (b : Bool). cond b 1 0) false bs in omega (arith, r, one)
 
 -- ---- fates in the end
+
+-- what is copied in the end was copied before
+marked_before : (needs : List Bool) (fates : List Fate) (n : ℕ) → slice_get (map copies (pruned_by needs fates)) n ≡ Some true → slice_get (map copies fates) n ≡ Some true
+marked_before needs [] n h = h
+marked_before [] (f ∷ fs) n h = h
+marked_before (b ∷ bs) (f ∷ fs) zero h = ap Some (one f b (some_same (copies (pruned f b)) true h))
+  where
+    one : (f : Fate) (b : Bool) → copies (pruned f b) ≡ true → copies f ≡ true
+    one fate.Left b h = h
+    one (fate.Stands n) b h = h
+    one (fate.Copied home) b h = refl
+marked_before (b ∷ bs) (f ∷ fs) (suc n) h = marked_before bs fs n h
 
 copied_how : (f : Fate) (none may : Bool) → copies (settled f none may) ≡ true → (copies f ≡ true) ⊎ ((none ≡ true) × (may ≡ true))
 copied_how x none may h = search std_rules
@@ -126,11 +139,16 @@ module _ (own other : Resolve) (valid_other : IsValid other) (matched : List (Op
   initial_is : (n : ℕ) (t : TypeDef) (f : Fate) → slice_get other.types.items n ≡ Some t → slice_get initial n ≡ Some f → fate_of own matched c t ≡ f
   initial_is n t f at e = some_same (fate_of own matched c t) f (sym (slice_get-map (fate_of own matched c) other.types.items n ∙ ap (option_map (fate_of own matched c)) at) ∙ e)
 
-  -- a type that is copied with what is carried by path
-  pub first_comes : (n : ℕ) → slice_get (map copies (first_fates own other matched c)) n ≡ Some true → IsOwnedBy other.types.items Copied n ⊎ ((adds_any c ≡ true) × IsMadeUp other.types.items Owner n)
-  first_comes = copied_so (adds_any c) other.types.items initial (is_in_range other valid_other).falls (length-map other.types.items (fate_of own matched c)) Owner
+  -- a type that is copied with what is carried by path, if all are copied that can be
+  all_first_comes : (n : ℕ) → slice_get (map copies (all_first_fates own other matched c)) n ≡ Some true → IsOwnedBy other.types.items Copied n
+      ⊎ ((adds_any c ≡ true) × IsMadeUp other.types.items Owner n)
+  all_first_comes = copied_so (adds_any c) other.types.items initial (is_in_range other valid_other).falls (length-map other.types.items (fate_of own matched c)) Owner
       (λ n t f at e k. begins_carried t.owner (optional_text t.name) (ap carries (initial_is n t f at e) ∙ k)) (IsOwnedBy other.types.items Copied)
       (λ n t f at e k. record { def = t; found = at; owned_so = begins_copied t.owner (optional_text t.name) (ap copies (initial_is n t f at e) ∙ k) })
+
+  -- and in the end
+  pub first_comes : (n : ℕ) → slice_get (map copies (first_fates own other matched c)) n ≡ Some true → IsOwnedBy other.types.items Copied n ⊎ ((adds_any c ≡ true) × IsMadeUp other.types.items Owner n)
+  first_comes n mark = all_first_comes n (marked_before (needed_of (first_marks other c) 0 other.types.items (all_first_fates own other matched c)) (all_first_fates own other matched c) n mark)
 
 -- ---- with what the bound world gains
 
@@ -224,8 +242,15 @@ module _ (own other : Resolve) (valid_own : IsValid own) (valid_other : IsValid 
         subst Owner (sym (ap (λ (d : TypeDef). d.owner) (sym (some_same x.def t (sym x.found ∙ at))) ∙ x.home)) (bound_owner (record { 0 = other_world }) refl)
   ]
 
-  -- a type that is copied with what the bound world gains
+  -- a type that is copied with what the bound world gains, if all are copied that can be
+  abbrev before_end : List Fate
+  before_end = all_bound_fates other world other_world w v copied interfaces before numbers
+
+  all_second_comes : (n : ℕ) → slice_get (map copies before_end) n ≡ Some true → Gained n ⊎ ((gains_any interfaces w v ≡ true) × IsMadeUp types Owner n)
+  all_second_comes = copied_so (gains_any interfaces w v) types at_first (is_in_range other valid_other).falls (unified_long w.imports.entries v.imports.entries behind ∙ long_behind) Owner gained_carried
+      Gained gained_copied
+
+  -- and in the end
   pub second_comes : (n : ℕ) → slice_get (map copies (bound_fates other world other_world w v copied interfaces before numbers)) n ≡ Some true → Gained n
       ⊎ ((gains_any interfaces w v ≡ true) × IsMadeUp types Owner n)
-  second_comes = copied_so (gains_any interfaces w v) types at_first (is_in_range other valid_other).falls (unified_long w.imports.entries v.imports.entries behind ∙ long_behind) Owner gained_carried
-      Gained gained_copied
+  second_comes n mark = all_second_comes n (marked_before (needed_of (gained_marks other copied interfaces w v) 0 types before_end) before_end n mark)
