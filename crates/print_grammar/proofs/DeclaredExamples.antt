@@ -2,7 +2,7 @@
 use Rattle.std.proofs.Common.{◌≡◌, [], ◌∷◌, ◌++◌, List, ℕ, refl, codes, None, Some, true}
 use Rattle.print_grammar.specs.Keyword.Keyword.{PrimitiveWord, Package, Interface, Func, Variant, Flags, Enum, Resource, Async, Type_}
 use Rattle.print_grammar.specs.{Keyword.Keyword, Calls.file_calls, Tree.Gates.Ungated, Grammar.IsId.plain, Reading.IsReading}
-use Rattle.print_grammar.specs.{Keyword.Primitive.U8, Token.Token, Token.Tokens, Grammar.ReadsLabel.label, Grammar.ReadsHead.head, Grammar.ReadsFile.file}
+use Rattle.print_grammar.specs.{Keyword.PrimitiveName.U8, Token.Token, Token.Tokens, Grammar.ReadsLabel.label, Grammar.ReadsHead.head, Grammar.ReadsFile.file}
 use Rattle.print_grammar.specs.{Token.Token.Word, Token.Token.Key, Token.Token.Punctuation, Tree.TypeTree.PrimitiveType, Tree.TypeTree.Name, Tree.TypeTree.Own}
 use Rattle.print_grammar.specs.Token.Mark.{OpenBrace, CloseBrace, OpenParen, CloseParen, Less, Greater, Colon, Semi, Comma, Equals, Arrow}
 use Rattle.print_grammar.specs.{Grammar.ReadsParams.no_params, Grammar.ReadsParams.params}

@@ -4,7 +4,7 @@ use Rattle.std.specs.Fmt.{digits}
 use Rattle.wit_model.specs.Names.{cut}
 use Rattle.print_grammar.specs.Keyword.Keyword.{PrimitiveWord, Package, Interface, World, Func, Record, Tuple, Option_, List_, Map, Underscore}
 use Rattle.print_grammar.specs.{Keyword.Keyword, Grammar.ReadsFile.file, Reading.IsReading}
-use Rattle.print_grammar.specs.Keyword.Primitive.{Bool_, U8, U16, U32, U64, S8, S16, S32, S64, F32, F64, Char, String, ErrorContext}
+use Rattle.print_grammar.specs.Keyword.PrimitiveName.{Bool_, U8, U16, U32, U64, S8, S16, S32, S64, F32, F64, Char, String, ErrorContext}
 use Rattle.print_grammar.specs.{Calls.type_calls, Calls.file_calls, Tree.TypeTrees.NoTypes, Tree.TypeTrees.AndTypes, Tree.Gates.Ungated, Tree.Gates.Unstable}
 use Rattle.print_grammar.specs.{Token.Token, Token.Tokens, Tree.Declared.RecordOf, Grammar.ReadsPrefix.prefix, Grammar.ReadsField.field, Grammar.ReadsHead.head}
 use Rattle.print_grammar.specs.Token.Token.{Word, Escaped, Key, VersionText, Digits, Quoted, Punctuation}
