@@ -2,16 +2,15 @@
 use Rattle.std.proofs.Common.{rules as std_rules, ◌≡◌, refl, sym, subst, ap, ◌∙◌, ℕ, ◌+◌, ◌<◌, zero, suc, Bool, true, false, List, [], ◌∷◌, length, ◌&&◌, ◌||◌, not, ◌==◌, slice_get, Option, Some, None, String, option_map, option_and_then, arith}
 use Rattle.std.proofs.lemmas.{Bool.ltb-true, Bool.lt-ltb, Bool.and_from as both, Option.same_Some as some-same}
 use Rattle.std.specs.declared.alloc.Global.{Global}
-use Rattle.std.specs.{Prelude.is_some, Prelude.is_ok, Option.option_map_or, HashMap.get_by_text}
+use Rattle.std.specs.{Prelude.is_some, Option.option_map_or, HashMap.get_by_text}
 use Rattle.semver.specs.declared.Version.{Version}
 use Rattle.semver.specs.Identifiers.{parts_of}
-use Rattle.semver.proofs.Grammar.{version_parts-complete}
 use Rattle.wit_model.specs.{Text.Text, Text.text_of, Names.is_label, Names.is_identity, Names.is_version, Names.is_optional_version, Names.path_in}
 use Rattle.wit_model.specs.Lookup.{package_at, interface_at, interface_path, path_of_interface, path_in_package, identity_of, optional_version_text}
 use Rattle.wit_model.specs.Rules.{passes, package_number, same_package_name, each_from, is_id, interface_is_listed, is_world_name, in_list}
 use Rattle.wit_model.specs.Valid.{IsValid, Rule, Keeps, package_names, places, labels, numbers_in_range, is_place}
 use Rattle.wit_model.specs.declared.model.{Resolve.Resolve, Package.Package, PackageId.PackageId, Interface.Interface}
-use Rattle.wit_model.proofs.{Entries.each_from_at, Entries.lists_pass, NameLaws.one_path, VersionLaws.valid_parts, VersionLaws.same_name}
+use Rattle.wit_model.proofs.{Entries.each_from_at, Entries.lists_pass, NameLaws.one_path, VersionLaws.valid_parts, VersionLaws.same_name, VersionTexts.parts_text_reads}
 use Rattle.base_lemmas.proofs.{Bools.left_of as first_true, Bools.right_of as second_true, Numbers.equal as equal-numbers, Options.there as some-of}
 
 pub package-passes : (rule : Rule) (r : Resolve) → Keeps rule r → (n : ℕ) (p : Package) → package_at r n ≡ Some p → rule.package_ r n p ≡ true
@@ -22,7 +21,7 @@ interface-passes rule r k n i at = search (std_rules, each_from_at, lists_pass)
 
 version-is : (v : Option Version) → passes is_version v ≡ true → is_optional_version (optional_version_text v) ≡ true
 version-is None h = refl
-version-is (Some v) h = ap is_ok (version_parts-complete (parts_of v) (valid_parts v h))
+version-is (Some v) h = parts_text_reads (parts_of v) (valid_parts v h)
 
 -- a name that a package may have
 pub record IsPackageName (p : Package) : Type 0 where
