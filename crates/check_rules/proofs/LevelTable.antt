@@ -6,7 +6,7 @@ use Rattle.wit_model.specs.declared.model.{Resolve.Resolve, TypeDef.TypeDef, Typ
 use Rattle.wit_model.specs.declared.model.{Handle.Handle, Field.Field}
 use Rattle.wit_model.specs.{Text.Text, Text.text_of, Parts.kind_numbers, Parts.function_types, Rules.is_shallow, Valid.Keeps}
 use Rattle.wit_model.specs.{Lookup.type_at, Lookup.place_of, Checks.references, Checks.highest, Checks.levels_above, Checks.capped_levels, Checks.all_values}
-use Rattle.wit_model.specs.Tree.{Tree, levels, deepest, children, given, named}
+use Rattle.wit_model.specs.Tree.{Tree, levels, deepest, children, given_trees, named}
 use Rattle.wit_model.specs.Types.{number_of, no_tree, tree_at, tree_of, declared_by, tree_of_declaration, tree_of_definition, trees_of, number_tree}
 use Rattle.wit_model.proofs.{Tables.grow_keeps, TreeTable.trees_at, Checks.below_at, Functions.types_test, Functions.functions_test}
 use Rattle.base_lemmas.proofs.{Bools.left_of as first_true, Bools.right_of as second_true}
@@ -32,20 +32,21 @@ module _ (trees : List Tree) where
   of_fields (f ∷ fs) = type_head f.ty _ (filter_map number_of (map (λ f. f.ty) fs)) (of_fields fs)
 
   -- a type that may be left out, at the front of a list
-  option_head : (o : Option ValueType) (os : List (Option Tree)) (ts : List ValueType) → deepest (given os) ≡ highest of_number (filter_map number_of ts)
-      → deepest (given (option_map (tree_of trees) o ∷ os)) ≡ highest of_number (filter_map number_of (cons_option o ts))
+  option_head : (o : Option ValueType) (os : List (Option Tree)) (ts : List ValueType) → deepest (given_trees os) ≡ highest of_number (filter_map number_of ts)
+      → deepest (given_trees (option_map (tree_of trees) o ∷ os)) ≡ highest of_number (filter_map number_of (cons_option o ts))
   option_head x os ts e = search std_rules
 
   of_cases : (cs : List Case)
-      → deepest (given (map (λ (c : Text × Option Tree). c.1) (map (λ c. (text_of c.name, option_map (tree_of trees) c.ty)) cs))) ≡ highest of_number (filter_map number_of (filter_map (λ c. c.ty) cs))
+      → deepest (given_trees (map (λ (c : Text × Option Tree). c.1) (map (λ c. (text_of c.name, option_map (tree_of trees) c.ty)) cs)))
+      ≡ highest of_number (filter_map number_of (filter_map (λ c. c.ty) cs))
   of_cases [] = refl
   of_cases (c ∷ cs) = option_head c.ty _ (filter_map (λ c. c.ty) cs) (of_cases cs)
 
-  one_option : (o : Option ValueType) → deepest (given (option_map (tree_of trees) o ∷ [])) ≡ highest of_number (filter_map number_of (option_to_list o))
+  one_option : (o : Option ValueType) → deepest (given_trees (option_map (tree_of trees) o ∷ [])) ≡ highest of_number (filter_map number_of (option_to_list o))
   one_option x = search std_rules
 
   two_options : (a b : Option ValueType)
-      → deepest (given (option_map (tree_of trees) a ∷ option_map (tree_of trees) b ∷ [])) ≡ highest of_number (filter_map number_of (option_to_list a ++ option_to_list b))
+      → deepest (given_trees (option_map (tree_of trees) a ∷ option_map (tree_of trees) b ∷ [])) ≡ highest of_number (filter_map number_of (option_to_list a ++ option_to_list b))
   two_options x b = search std_rules
 
   -- without a handle and an alias

@@ -1,7 +1,7 @@
 //! Lists of named members: each name is a label, and none stands twice.
 
 ghost use Rattle.std.specs.Prelude.{◌≡◌, map, IfOk};
-ghost use Rattle.wit_model.specs.Rules.{are_distinct as are_distinct_lem, are_labels as are_labels_lem, are_member_labels as are_member_labels_lem};
+ghost use Rattle.wit_model.specs.Rules.{are_distinct as are_distinct_lem, each_is_label as are_labels_lem, are_member_labels as are_member_labels_lem};
 ghost use Rattle.wit_model.specs.Text.{Text, text_of};
 
 use indexmap::IndexSet;

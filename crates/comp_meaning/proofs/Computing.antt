@@ -2,10 +2,9 @@
 use Rattle.std.proofs.Common.{ℕ, zero, suc, ◌+◌, ◌/◌, ◌%◌, nat_lt, cond, List, [], ◌∷◌, ◌++◌, length, Option, None, false, Bool}
 use Rattle.std.specs.{Prelude.codes, Str.is_utf8, Str.chars, FinMap.from_entries}
 use Rattle.comp_bytes.specs.Reading.{◌>>=◌, unsigned_at, u32_at, last_byte_of, type_index_at, just_at, as_at, pair_at, choose, tagged_at, tag_at, closed_at, byte_at, optional_at, sequence_at, vector_at, counted_at, name_at, value_type_at, field_at, case_at, result_list_at, alias_at, with_attributes, attributed_at, extern_name_at, description_at, declaration_at, body_at, importless_at, component_and, instance_and, plain_and, declarations_at, type_at, top_export_at, section_of, frame_at, sections_of, component_of}
-use Rattle.semver.specs.Parse.{digits_from}
-use Rattle.wit_model.specs.{Names.PackageIdentity, Tree.Tree, Tree.Place, Tree.Declaration as TreeDeclaration}
+use Rattle.wit_model.specs.{Names.PackageIdentity, Names.is_version_text, Tree.Tree, Tree.Place, Tree.TypeDeclaration as TreeDeclaration}
 use Rattle.wit_model.specs.Meaning.{Signature, FunctionMeaning, TypeMeaning, Item, Entry, InterfaceMeaning, WorldMeaning, PackageMeaning, WorldPackage}
-use Rattle.comp_meaning.specs.Reads.{package_meaning, world_package}
+use Rattle.comp_meaning.specs.Reads.{package_of_sections, world_of_sections}
 use lib.Utf8.{encode}
 use Prim.Native.String.{String}
 
@@ -55,16 +54,16 @@ world_of count declared = preamble ++ world_section count declared ++ exported_a
 unfoldable pub computes : ℕ
 unfolding unsigned_at u32_at last_byte_of type_index_at just_at as_at pair_at choose tagged_at tag_at closed_at byte_at optional_at sequence_at vector_at counted_at name_at value_type_at field_at
     case_at result_list_at alias_at with_attributes attributed_at extern_name_at description_at declaration_at body_at importless_at component_and instance_and plain_and declarations_at type_at
-    top_export_at section_of frame_at sections_of component_of is_utf8 chars encode one_world digits_from lists_of index_bytes text preamble
+    top_export_at section_of frame_at sections_of component_of is_utf8 chars encode one_world is_version_text lists_of index_bytes text preamble
     exported_as type_t interface_j world_section world_of
 computes = 0
 
 -- what bytes mean as a package, and as a world
 unfoldable pub meaning : List ℕ → Option PackageMeaning
-meaning bytes = component_of bytes >>= package_meaning
+meaning bytes = component_of bytes >>= package_of_sections
 
 unfoldable pub world_meaning_of : List ℕ → Option WorldPackage
-world_meaning_of bytes = component_of bytes >>= world_package
+world_meaning_of bytes = component_of bytes >>= world_of_sections
 
 unfoldable pub unit_function : Signature
 unit_function = record { is_async = false; params = []; result = None }

@@ -8,7 +8,7 @@ use Rattle.comp_bytes.specs.{Raw.ExternName, Raw.Declaration, Raw.Declarations, 
 use Rattle.comp_bytes.specs.Levels.{plain, holds, PartType, wraps, shows, Piece, raw_part, raw_piece, levels_of}
 use Rattle.comp_bytes.proofs.{Readers.bind_some, Readers.when_some, PieceLaws.levels_are_sections}
 use Rattle.comp_meaning.specs.{Follow.each, Follow.Scope, Follow.component_scope, Rules.distinct}
-use Rattle.comp_meaning.specs.Reads.{steps, is_bare, top_type, top_section, exported_types, wrapped, world_part, interface_part, part_of, Part, Member, member, package_of_members, world_of_members}
+use Rattle.comp_meaning.specs.Reads.{steps, is_bare_name, top_type, top_section, exported_types, wrapped, world_part, interface_part, part_of, Part, Member, member, package_of_members, world_of_members}
 use Rattle.comp_meaning.specs.ByLevels.{member_by_levels, exported_parts, package_of_pieces, world_of_pieces, PackageByLevels, WorldByLevels}
 use Rattle.comp_meaning.proofs.Marks.{all_taken, Counted, one_mark_more, one_number_more, exact, taken_at, true_mark, all_marked}
 use Rattle.comp_meaning.proofs.{EntryLaws.steps_keep, EntryLaws.scope_is, EntryLaws.followed_only, TopLaws.labelled, TopLaws.raw_found, TopLaws.parts_along}
@@ -72,8 +72,8 @@ kept_export : (top next : reads.Top) (x : TopExport) → reads.top_export top x 
 kept_export top next x e k =
     let b = bind_some (slice_get top.slots x.type_index) _ next e in
     let after : reads.Top = record { types = top.types; slots = top.slots ++ b.0 ∷ []; exported = top.exported ++ (x.exported_as.text, b.0) ∷ [] } in
-    let w = when_some (is_bare x.exported_as && (is_label x.exported_as.text && not (list_any (λ y. eqb y.1 b.0) top.exported))) (Some after) next b.2 in
-    let named = and_parts (is_bare x.exported_as) (is_label x.exported_as.text && not (list_any (λ y. eqb y.1 b.0) top.exported)) w.0 in
+    let w = when_some (is_bare_name x.exported_as && (is_label x.exported_as.text && not (list_any (λ y. eqb y.1 b.0) top.exported))) (Some after) next b.2 in
+    let named = and_parts (is_bare_name x.exported_as) (is_label x.exported_as.text && not (list_any (λ y. eqb y.1 b.0) top.exported)) w.0 in
     let new = and_parts (is_label x.exported_as.text) (not (list_any (λ y. eqb y.1 b.0) top.exported)) named.1 in
     let low = k.within x.type_index b.0 b.1 in
     subst IsKept (some_is after next w.1) (record {

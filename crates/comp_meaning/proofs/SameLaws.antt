@@ -2,7 +2,7 @@
 use Rattle.std.proofs.Common.{rules as std_rules, ◌≡◌, refl, sym, ap, subst, ◌∙◌, ℕ, Bool, true, ◌&&◌, eqb, List, [], ◌∷◌, map, Option, Some}
 use Rattle.std.proofs.lemmas.{Bool.and_from, Bool.Decides.Decides-and, Bool.Decides.Decides-eqb, Slice.Eq.bytes_eq-Decides, Slice.Eq.slice_eq-Decides}
 use Rattle.std.specs.{Prelude.slice_get, Prelude.unwrap_or, Bool.Decides, Cmp.Lexicographic.pointwise, Cmp.Derive.Mapped.pointwise-map}
-use Rattle.wit_model.specs.{Text.Text, Text.text_eq, Tree.Primitive, Tree.Form, Tree.Tree, Tree.Trees, Tree.Declaration}
+use Rattle.wit_model.specs.{Text.Text, Text.text_eq, Tree.Primitive, Tree.Form, Tree.Tree, Tree.Trees, Tree.TypeDeclaration}
 use Rattle.comp_meaning.specs.Same.{same_option, same_bool, primitive_number, same_place, same_form, same_tree, same_trees, same_declaration, same_type, same_signature, same_function, same_identity}
 use Rattle.comp_meaning.specs.{Reads.same_shown, SameLaws.DecidesEquality, SameLaws.SameTypesAreEqual, SameLaws.named_meaning}
 use Rattle.base_lemmas.proofs.Bools.{left_of as first_true, right_of as second_true}
@@ -101,7 +101,8 @@ trees_decide t u = (tree_is t u, λ e. subst (λ (x : Tree). same_tree t x ≡ t
 -- ---- declarations, types and functions
 
 pub declarations_decide : DecidesEquality same_declaration
-declarations_decide (Declaration.type_ t) (Declaration.type_ u) = (λ e. ap Declaration.type_ ((trees_decide t u).0 e), λ e. (trees_decide t u).1 (let same_tree_there : t ≡ u = cc in same_tree_there))
+declarations_decide (TypeDeclaration.type_ t) (TypeDeclaration.type_ u) =
+    (λ e. ap TypeDeclaration.type_ ((trees_decide t u).0 e), λ e. (trees_decide t u).1 (let same_tree_there : t ≡ u = cc in same_tree_there))
 declarations_decide _ _ = search std_rules
 
 pub types_decide : DecidesEquality same_type

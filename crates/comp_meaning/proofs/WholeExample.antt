@@ -2,7 +2,7 @@
 use Rattle.std.proofs.Common.{◌≡◌, ℕ, List, [], ◌∷◌, ◌++◌, Some, None, false, true, refl}
 use Rattle.std.specs.{Prelude.codes, FinMap.from_entries}
 use Rattle.wit_model.specs.{Names.cut as cut_at, Meaning.Item, Meaning.InterfaceMeaning, Meaning.WorldMeaning, Meaning.PackageMeaning}
-use Rattle.wit_model.specs.Tree.{Tree, Primitive, Place, Declaration as TreeDeclaration, list_tree, own_tree, borrow_tree, result_tree}
+use Rattle.wit_model.specs.Tree.{Tree, Primitive, Place, TypeDeclaration as TreeDeclaration, list_tree, own_tree, borrow_tree, result_tree}
 use Rattle.comp_meaning.proofs.Computing.{computes, meaning, world_meaning_of, a_b, in_interface, t_is, taking, plain, interface_under, entry, text, preamble, exported_as, world_section, world_of}
 
 -- Two packages: uses across them, a resource, an inline interface, a world's type, an interface under a label, an external id.

@@ -7,7 +7,7 @@ use Rattle.comp_bytes.specs.{Raw.ExternName, Raw.TopExport, Reading.◌>>=◌, R
 use Rattle.comp_bytes.specs.Levels.{Entry, plain, holds, PartType, wraps, shows, Piece, declarations_of, levels_of}
 use Rattle.comp_meaning.specs.Follow.{each, when, provided, complete_path, Slot, Scope, new_scope, in_scope, component_step, component_scope}
 use Rattle.comp_meaning.specs.Rules.{distinct, is_world}
-use Rattle.comp_meaning.specs.Reads.{steps, is_bare, exported_view, imported_view, are_reached, labelled_path, Part, Member, package_of_members, world_of_members, package_meaning, world_package}
+use Rattle.comp_meaning.specs.Reads.{steps, is_bare_name, exported_view, imported_view, are_reached, labelled_path, Part, Member, package_of_members, world_of_members, package_of_sections, world_of_sections}
 use Rattle.comp_bytes.specs.Levels as levels
 
 -- ---- the type of a world or an interface
@@ -67,7 +67,7 @@ top_part top p = Some (record { types = top.types ++ p ∷ []; slots = top.slots
 abbrev pub top_export : Top → TopExport → Option Top
 top_export top e =
     slice_get top.slots e.type_index >>= λ n.
-    provided (is_bare e.exported_as && (is_label e.exported_as.text && not (list_any (λ x. x.1 == n) top.exported)))
+    provided (is_bare_name e.exported_as && (is_label e.exported_as.text && not (list_any (λ x. x.1 == n) top.exported)))
     (record { types = top.types; slots = top.slots ++ n ∷ []; exported = top.exported ++ (e.exported_as.text, n) ∷ [] })
 
 -- what stands in a section
@@ -98,7 +98,7 @@ ScopesByLevels = (es : List Entry) → entry_scope es ≡ component_scope (decla
 
 -- What is read by levels means what the component means, and bytes mean nothing exactly where they mean nothing so.
 abbrev pub PackageByLevels : Type 0
-PackageByLevels = (bytes : List ℕ) → (levels_of bytes >>= package_of_pieces) ≡ (component_of bytes >>= package_meaning)
+PackageByLevels = (bytes : List ℕ) → (levels_of bytes >>= package_of_pieces) ≡ (component_of bytes >>= package_of_sections)
 
 abbrev pub WorldByLevels : Type 0
-WorldByLevels = (bytes : List ℕ) → (levels_of bytes >>= world_of_pieces) ≡ (component_of bytes >>= world_package)
+WorldByLevels = (bytes : List ℕ) → (levels_of bytes >>= world_of_pieces) ≡ (component_of bytes >>= world_of_sections)

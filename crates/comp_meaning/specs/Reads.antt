@@ -27,14 +27,14 @@ top_type top (TopType.component ds) = Some (record { types = top.types ++ ds ∷
 top_type top _ = None
 
 -- whether a name has no attribute
-abbrev pub is_bare : ExternName → Bool
-is_bare name = is_none name.implements && (is_none name.version_suffix && is_none name.external_id)
+abbrev pub is_bare_name : ExternName → Bool
+is_bare_name name = is_none name.implements && (is_none name.version_suffix && is_none name.external_id)
 
 -- an export at the top: it has a label, and exports a type that none before it has exported
 abbrev pub top_export : Top → TopExport → Option Top
 top_export top e =
     slice_get top.slots e.type_index >>= λ n.
-    provided (is_bare e.exported_as && (is_label e.exported_as.text && not (list_any (λ x. x.1 == n) top.exported)))
+    provided (is_bare_name e.exported_as && (is_label e.exported_as.text && not (list_any (λ x. x.1 == n) top.exported)))
     (record { types = top.types; slots = top.slots ++ n ∷ []; exported = top.exported ++ (e.exported_as.text, n) ∷ [] })
 
 -- follows a list one element at a time, and stops where a step fails
@@ -186,18 +186,18 @@ functions_of path [] = []
 functions_of path (s ∷ rest) = if text_eq path s.path && s.whole then s.view.functions else functions_of path rest
 
 -- the meaning of an interface by a view of it, with these functions
-abbrev pub interface_meaning : View → List (Text × FunctionMeaning) → InterfaceMeaning
-interface_meaning view functions = record { types = map (λ t. (t.name, t.meaning)) view.types; functions = from_entries functions }
+abbrev pub meaning_of_view : View → List (Text × FunctionMeaning) → InterfaceMeaning
+meaning_of_view view functions = record { types = map (λ t. (t.name, t.meaning)) view.types; functions = from_entries functions }
 
 -- the meaning of an interface that is seen, with the functions of the views that show them
 abbrev pub seen_meaning : List Sight → Sight → Text × InterfaceMeaning
-seen_meaning all s = (s.path, interface_meaning s.view (functions_of s.path all))
+seen_meaning all s = (s.path, meaning_of_view s.view (functions_of s.path all))
 
 -- what an import or an export means
 abbrev pub item_of : Shown → Item InterfaceMeaning
 item_of (Shown.instance (Key.path path) view) = Item.interface path
 item_of (Shown.instance (Key.implementing label path) view) = Item.interface path
-item_of (Shown.instance (Key.label label) view) = Item.inline (interface_meaning view view.functions)
+item_of (Shown.instance (Key.label label) view) = Item.inline (meaning_of_view view view.functions)
 item_of (Shown.function f) = Item.function f
 item_of (Shown.declares d) = Item.declares d
 
@@ -206,15 +206,15 @@ abbrev pub entry : Seen → Text × Entry InterfaceMeaning
 entry seen = (seen.key, record { item = item_of seen.shown; external_id = seen.external_id })
 
 -- what a world means by what it shows: its imports and exports, in order
-abbrev pub world_meaning : Scope → WorldMeaning
-world_meaning scope = record { imports = map entry scope.imports; exports = map entry scope.exports }
+abbrev pub meaning_of_scope : Scope → WorldMeaning
+meaning_of_scope scope = record { imports = map entry scope.imports; exports = map entry scope.exports }
 
 -- the world that a part is, under its label, if it is one
-abbrev pub worlds_of : Member → List (Text × WorldMeaning)
-worlds_of m = of_part m.part
+abbrev pub worlds_of_member : Member → List (Text × WorldMeaning)
+worlds_of_member m = of_part m.part
   where
     of_part : Part → List (Text × WorldMeaning)
-    of_part (world scope) = (m.label, world_meaning scope) ∷ []
+    of_part (world scope) = (m.label, meaning_of_scope scope) ∷ []
     of_part (interface exported imports) = []
 
 -- the interface that a part is, under its label, if it is one
@@ -223,7 +223,7 @@ interfaces_of m = of_part m.part
   where
     of_part : Part → List (Text × InterfaceMeaning)
     of_part (world scope) = []
-    of_part (interface exported imports) = (m.label, interface_meaning exported exported.functions) ∷ []
+    of_part (interface exported imports) = (m.label, meaning_of_view exported exported.functions) ∷ []
 
 -- whether a part is an interface
 abbrev pub is_interface_part : Part → Bool
@@ -254,7 +254,7 @@ package_with package_ members =
     (record {
       identity = package_;
       interfaces = flat_map interfaces_of members;
-      worlds = flat_map worlds_of members;
+      worlds = flat_map worlds_of_member members;
       foreign = from_entries (map (seen_meaning seen) (filter (λ s. not (is_of package_ s.path)) seen));
     })
 
@@ -264,15 +264,15 @@ package_of_members [] = None
 package_of_members (m ∷ ms) = package_with m.package_ (m ∷ ms)
 
 -- what the sections of a component mean as a package, if they are one
-abbrev pub package_meaning : List Section → Option PackageMeaning
-package_meaning sections = exported_types sections >>= λ types. each member types >>= λ members. package_of_members members
+abbrev pub package_of_sections : List Section → Option PackageMeaning
+package_of_sections sections = exported_types sections >>= λ types. each member types >>= λ members. package_of_members members
 
 -- The one world of a component, with the interfaces that it shows. None of them has its path.
 abbrev pub world_with : PackageIdentity → Text → Scope → Option WorldPackage
 world_with package_ name scope =
     let seen = flat_map of_instance scope.instances in
     provided (all_agree seen && (are_interfaces seen && not (list_any (λ s. text_eq s.path (path_in package_ name)) seen)))
-    (record { identity = package_; name = name; world = world_meaning scope; shown = from_entries (map (seen_meaning seen) seen) })
+    (record { identity = package_; name = name; world = meaning_of_scope scope; shown = from_entries (map (seen_meaning seen) seen) })
 
 -- what one part means as a world by itself
 abbrev pub world_of_members : List Member → Option WorldPackage
@@ -284,17 +284,17 @@ world_of_members (m ∷ []) = of_part m.part
 world_of_members _ = None
 
 -- what the sections of a component mean as one world
-abbrev pub world_package : List Section → Option WorldPackage
-world_package sections = exported_types sections >>= λ types. each member types >>= λ members. world_of_members members
+abbrev pub world_of_sections : List Section → Option WorldPackage
+world_of_sections sections = exported_types sections >>= λ types. each member types >>= λ members. world_of_members members
 
 -- The bytes mean the package m.
 pub record Reads (bytes : List ℕ) (m : PackageMeaning) : Type 0 where
   pub sections : List Section
   pub spelled : IsComponent sections bytes
-  pub means : package_meaning sections ≡ Some m
+  pub means : package_of_sections sections ≡ Some m
 
 -- The bytes mean the world m.
 pub record ReadsWorld (bytes : List ℕ) (m : WorldPackage) : Type 0 where
   pub sections : List Section
   pub spelled : IsComponent sections bytes
-  pub means : world_package sections ≡ Some m
+  pub means : world_of_sections sections ≡ Some m

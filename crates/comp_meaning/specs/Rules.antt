@@ -2,9 +2,9 @@
 use Rattle.std.specs.Prelude.{ℕ, Bool, true, false, not, ◌&&◌, ◌||◌, nat_le, if◌then◌else◌, List, [], ◌∷◌, ◌++◌, length, map, drop, Option, Some, None, codes, nat_eq}
 use Rattle.std.specs.List.{list_all, list_any, flat_map, starts_with}
 use Rattle.wit_model.specs.{Text.Text, Text.text_eq, Names.is_label, Names.constructor_name, Names.method_name, Names.static_name, Meaning.Signature}
-use Rattle.wit_model.specs.Tree.{Place, Form, Tree, Trees, Declaration, levels, deepest}
+use Rattle.wit_model.specs.Tree.{Place, Form, Tree, Trees, TypeDeclaration, levels, deepest}
 use Rattle.comp_meaning.specs.Same.{same_place, same_tree}
-use Rattle.comp_meaning.specs.Follow.{View, ShownType, Seen, Shown, Key, Scope, place_of, interface_of}
+use Rattle.comp_meaning.specs.Follow.{View, ShownType, Seen, Shown, Key, Scope, instance_place, interface_of}
 use Rattle.wit_model.specs.Tree as tree
 
 -- ---- names
@@ -53,11 +53,11 @@ abbrev pub most_levels : ℕ
 most_levels = 100
 
 -- Whether a name may be declared so: as a resource, a primitive, another name, also of another interface, or a form.
-abbrev pub is_declared : Place → Declaration → Bool
-is_declared place Declaration.resource = true
-is_declared place (Declaration.type_ (Tree.primitive p)) = true
-is_declared place (Declaration.type_ (Tree.named q name)) = true
-is_declared place (Declaration.type_ (Tree.node form ts)) = are_labels (form_labels form) && are_parts place ts && nat_le (deepest ts) most_levels
+abbrev pub is_declared : Place → TypeDeclaration → Bool
+is_declared place TypeDeclaration.resource = true
+is_declared place (TypeDeclaration.type_ (Tree.primitive p)) = true
+is_declared place (TypeDeclaration.type_ (Tree.named q name)) = true
+is_declared place (TypeDeclaration.type_ (Tree.node form ts)) = are_labels (form_labels form) && are_parts place ts && nat_le (deepest ts) most_levels
 
 -- ---- functions
 
@@ -76,8 +76,8 @@ is_signature place f =
     are_labels (map (λ p. p.0) f.params) && list_all (λ p. is_parameter_type place p.1) f.params && is_result_type place f.result
 
 -- an own of the resource of this name
-abbrev pub own_name : Place → Text → Tree
-own_name place name = tree.own_tree (Tree.named place name)
+abbrev pub own_of_name : Place → Text → Tree
+own_of_name place name = tree.own_tree (Tree.named place name)
 
 -- a borrow of the resource of this name
 abbrev pub borrow_name : Place → Text → Tree
@@ -93,15 +93,15 @@ begins_with_self self [] = false
 begins_with_self self (p ∷ ps) = text_eq p.0 (codes "self") && same_tree p.1 self
 
 -- whether a constructor may answer this: an own of the resource, or a result whose ok is one
-abbrev pub constructs : Tree → Option Tree → Bool
-constructs own None = false
-constructs own (Some (Tree.node (Form.result_of true err) (Trees.child t ts))) = same_tree t own
-constructs own (Some t) = same_tree t own
+abbrev pub may_construct : Tree → Option Tree → Bool
+may_construct own None = false
+may_construct own (Some (Tree.node (Form.result_of true err) (Trees.child t ts))) = same_tree t own
+may_construct own (Some t) = same_tree t own
 
 -- Whether a function is one of the resource: `[constructor]r`, which is not asynchronous, `[method]r.f` or `[static]r.f`, with a label f.
 abbrev pub is_function_of : Place → Text → Signature → Text → Bool
 is_function_of place name f resource =
-    (text_eq name (constructor_name resource) && not f.is_async && constructs (own_name place resource) f.result)
+    (text_eq name (constructor_name resource) && not f.is_async && may_construct (own_of_name place resource) f.result)
     || (is_label_behind (method_name resource []) name && begins_with_self (borrow_name place resource) f.params)
     || is_label_behind (static_name resource []) name
 
@@ -112,14 +112,14 @@ is_function place resources name f = is_signature place f && (is_label name || l
 -- ---- interfaces
 
 -- whether a name is declared as a resource
-abbrev pub is_resource : Declaration → Bool
-is_resource Declaration.resource = true
-is_resource (Declaration.type_ t) = false
+abbrev pub declares_a_resource : TypeDeclaration → Bool
+declares_a_resource TypeDeclaration.resource = true
+declares_a_resource (TypeDeclaration.type_ t) = false
 
 -- the names of the resources among the types of an interface
 abbrev pub resources_of : List ShownType → List Text
 resources_of [] = []
-resources_of (t ∷ ts) = if is_resource t.meaning.declaration then t.name ∷ resources_of ts else resources_of ts
+resources_of (t ∷ ts) = if declares_a_resource t.meaning.declaration then t.name ∷ resources_of ts else resources_of ts
 
 -- whether the types and the functions of a view are well-formed, and their names are of this place and differ
 abbrev pub is_interface : Place → View → Bool
@@ -131,8 +131,8 @@ is_interface place view =
 -- ---- what uses what
 
 -- the path of the interface whose type a declaration aliases
-abbrev pub used_by : Declaration → List Text
-used_by (Declaration.type_ (Tree.named (Place.of_interface path) name)) = path ∷ []
+abbrev pub used_by : TypeDeclaration → List Text
+used_by (TypeDeclaration.type_ (Tree.named (Place.of_interface path) name)) = path ∷ []
 used_by _ = []
 
 -- the paths of the interfaces whose types the types of a view alias
@@ -173,12 +173,12 @@ resources_seen [] = []
 resources_seen (s ∷ rest) = if is_resource_seen s.shown then s.key ∷ resources_seen rest else resources_seen rest
   where
     is_resource_seen : Shown → Bool
-    is_resource_seen (Shown.declares d) = is_resource d
+    is_resource_seen (Shown.declares d) = declares_a_resource d
     is_resource_seen _ = false
 
 -- whether an import or an export of a world is well-formed, where these resources were imported before it
 abbrev pub is_item : List Text → Text → Shown → Bool
-is_item resources key (Shown.instance k view) = is_interface (place_of (interface_of k)) view
+is_item resources key (Shown.instance k view) = is_interface (instance_place (interface_of k)) view
 is_item resources key (Shown.function f) = is_function Place.here resources key f
 is_item resources key (Shown.declares d) = is_label key && is_declared Place.here d
 

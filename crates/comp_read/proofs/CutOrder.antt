@@ -16,7 +16,7 @@ use Rattle.plan_laws.specs.ShownNames.{DeclaresName}
 use Rattle.comp_read.specs.{Cuts.StandsBefore, Cuts.StandsBehind, Cuts.IsCut, Order.imports_in, Order.once_by_path, ReadInput.IsReadInput, ReadInput.ViewsObey}
 use Rattle.base_lemmas.proofs.Elements.{all_at_too, zip_at_right, contains-map, map_from}
 use Rattle.base_lemmas.proofs.Lists.{mapped_get, none_there, length_of_map, get_back}
-use Rattle.comp_meaning.specs.Reads.{worlds_of}
+use Rattle.comp_meaning.specs.Reads.{worlds_of_member}
 use Rattle.plan_type_laws.specs.ShownMarks.{has_no_path}
 use Rattle.plan_laws.proofs.OwnPlaces.{once_first}
 use Rattle.read_exports.specs.Members.{numbered_member, numbered_members}
@@ -179,11 +179,11 @@ module _ (t : Tables) (tables : AreTables t) where
 
 -- as many worlds as are exported
 pub many_worlds : (t : Tables) (h : Homes) (ms : List Member) (members : List reads.Member) → AllZip (IsMember t h) (numbered_members ms) members → (m : ℕ)
-    → worlds_before ms m ≡ length (flat_map worlds_of (take m members))
+    → worlds_before ms m ≡ length (flat_map worlds_of_member (take m members))
 many_worlds t h ms members zip m =
     let shorter = subst (λ ks. AllZip (IsMember t h) ks (take m members)) (take-map numbered_member m ms) (zip_take (IsMember t h) m (numbered_members ms) members zip) in
     sym (length_of_map (λ (w : Text × Scope). w.0) (worlds_in (take m ms)))
-    ∙ (ap (λ (ts : List Text). length ts) (worlds_meant t h (take m ms) (take m members) shorter) ∙ length_of_map (λ (w : Text × WorldMeaning). w.0) (flat_map worlds_of (take m members)))
+    ∙ (ap (λ (ts : List Text). length ts) (worlds_meant t h (take m ms) (take m members) shorter) ∙ length_of_map (λ (w : Text × WorldMeaning). w.0) (flat_map worlds_of_member (take m members)))
 
 -- the imports that count are those of a world
 pub counts_of : (t : Tables) (h : Homes) (ms : List Member) (m : ℕ) (k : Member) (at : slice_get ms m ≡ Some k) (y : reads.Member) → IsMember t h (numbered_member k) y → (scope : follow.Scope)

@@ -2,13 +2,13 @@
 use Rattle.std.proofs.Common.{rules as std_rules, ◌≡◌, sym, ap, subst, ◌∙◌, ℕ, Bool, true, ◌&&◌, ◌==◌, List, [], ◌∷◌, ◌++◌, length, map, Option, Some, slice_get, arith, ◌⊎◌, inl, inr, false, not, None, is_some, ◌≤◌, refl}
 use Rattle.std.proofs.lemmas.Option.{same_Some as same-some, slice_get_within}
 use Rattle.std.specs.List.{AllByRecursion, AllZip, list_any, Contains, flat_map}
-use Rattle.wit_model.specs.{Names.is_label, Names.read_path, Text.Text, Tree.Place, Tree.Declaration}
+use Rattle.wit_model.specs.{Names.is_label, Names.read_path, Text.Text, Tree.Place, Tree.TypeDeclaration}
 use Rattle.comp_bytes.specs.{Levels.PartType, Levels.Piece, Levels.Entry, Levels.levels_of, Levels.shows, Raw.TopExport, Raw.Alias, Raw.ExternName}
 use Rattle.comp_bytes.specs.Reading.{◌>>=◌}
 use Rattle.comp_bytes.proofs.Readers.{bind_some, when_some, chosen}
 use Rattle.comp_meaning.specs.ByLevels.{Top, exported_parts, top_export, top_part, top_piece, entry_scope, entry_step}
 use Rattle.comp_meaning.specs.{Reads.steps, Rules.distinct}
-use Rattle.comp_meaning.specs.Follow.{each, when, Slot, View, Instance, Seen, Shown, Key, Scope as FollowedScope, Direction, import_, export_, complete_path, component_step, in_scope, interface_of, is_simple, key_of, key_text, named_type, new_scope, place_of, plain_key, provided, see, see_described, see_function, see_instance, see_type, used_view}
+use Rattle.comp_meaning.specs.Follow.{each, when, Slot, View, Instance, Seen, Shown, Key, Scope as FollowedScope, Direction, import_, export_, complete_path, component_step, in_scope, interface_of, is_simple, key_of, text_of_key, named_type, new_scope, instance_place, plain_key, provided, see, see_described, see_function, see_instance, see_type, used_view}
 use Rattle.comp_meaning.proofs.EntryLaws.{steps_keep}
 use Rattle.read_parts.specs.{Followed.PartScope, Followed.labelled_scope, Followed.scopes_of, Input.IsFollowed, Members.scope_of}
 use Rattle.read_parts.specs.declared.{following.Followed.Followed, members.FollowedPart.FollowedPart, members.Member.Member as FollowedMember}
@@ -176,17 +176,17 @@ function_seen direction name n scope next e h = search (std_rules, bind_some, wh
 
 type_seen : (name : ExternName) (described : ComponentTypeRef) (scope next : FollowedScope) → see_type name described scope ≡ Some next → HaveLabels scope → HaveLabels next
 type_seen name described scope next e h =
-    let seen : Declaration × Slot → Seen = λ found. record { key = name.text; shown = Shown.declares found.0; external_id = name.external_id } in
+    let seen : TypeDeclaration × Slot → Seen = λ found. record { key = name.text; shown = Shown.declares found.0; external_id = name.external_id } in
     let b = bind_some (named_type scope.slots Place.here name.text described) (λ found. provided (is_simple name) (see import_ (seen found) (in_scope found.1 scope))) next e in
     let w = when_some (is_simple name) (Some (see import_ (seen b.0) (in_scope b.0.1 scope))) next b.2 in
     subst HaveLabels (same-some (see import_ (seen b.0) (in_scope b.0.1 scope)) next w.1) (one_seen import_ (seen b.0) (in_scope b.0.1 scope) tt (in_slot scope b.0.1 h))
 
 instance_seen : (direction : Direction) (name : ExternName) (n : ℕ) (scope next : FollowedScope) → see_instance direction name n scope ≡ Some next → HaveLabels scope → HaveLabels next
 instance_seen direction name n scope next e h =
-    let seen : Key → View → Seen = λ key view. record { key = key_text key; shown = Shown.instance key view; external_id = name.external_id } in
+    let seen : Key → View → Seen = λ key view. record { key = text_of_key key; shown = Shown.instance key view; external_id = name.external_id } in
     let new : Key → View → Instance = λ key view. record { interface = interface_of key; view = view } in
     let used : Key → View → FollowedScope = λ key view. record scope { instances = scope.instances ++ new key view ∷ []; used = scope.used ++ n ∷ [] } in
-    let of_key : Key → Option View = λ key. when (not (list_any (λ m. m == n) scope.used)) (used_view scope.slots (place_of (interface_of key)) (slice_get scope.slots n)) in
+    let of_key : Key → Option View = λ key. when (not (list_any (λ m. m == n) scope.used)) (used_view scope.slots (instance_place (interface_of key)) (slice_get scope.slots n)) in
     let k = bind_some (key_of name) (λ key. of_key key >>= λ view. Some (see direction (seen key view) (used key view))) next e in
     let v = bind_some (of_key k.0) (λ view. Some (see direction (seen k.0 view) (used k.0 view))) next k.2 in
     subst HaveLabels {x = see direction (seen k.0 v.0) (used k.0 v.0)} (same-some (see direction (seen k.0 v.0) (used k.0 v.0)) next v.2)

@@ -358,7 +358,7 @@ module _ (pieces : List Piece) (x : Followed) (h : Homes) (ms : List Member) (me
         of_part : (a : Part) → b.0.part ≡ a → distinct (names_of i.view.types) ≡ true
         of_part (parts.World w) e =
             let read = world_read b.0 (get-contains _ m _ b.1.at) w e in
-            tree_names t (follow.place_of (path_at t i.place)) i.view (instances_obey read.scope read.stands (instance_of t i)
+            tree_names t (follow.instance_place (path_at t i.place)) i.view (instances_obey read.scope read.stands (instance_of t i)
             (subst (λ is. Contains is (instance_of t i)) (sym read.shows.instances)
             (contains-map _ _ i (get-contains _ j i (ap (λ (z : NumberedScope). slice_get z.instances j) ((world_scope m b.0 b.1 w e).shows ∙ b.2) ∙ there.instance_at)))))
         of_part (parts.Interface p v imports) e =

@@ -8,7 +8,7 @@ use Rattle.wit_model.specs.{Text.Text, Text.text_of, Uses.has, Uses.once}
 use Rattle.wit_model.specs.{Lookup.interface_at, Lookup.path_of_interface, Lookup.world_at, Rules.interface_type_numbers, Rules.world_type_numbers}
 use Rattle.wit_model.specs.{Parts.met_by, Parts.numbered_from, Parts.met_of, Tree.Form, Tree.Tree, Tree.children, Types.number_tree, Types.trees_of}
 use Rattle.wit_model.proofs.{Chains.has_once, Elements.contains-has, Elements.none-in, Elements.contains-flat, Owners.numbered_at, Tables.grow_at}
-use Rattle.comp_meaning.specs.Follow.{Instance, place_of}
+use Rattle.comp_meaning.specs.Follow.{Instance, instance_place}
 use Rattle.plan_meaning.specs.FollowedNumbers.{AreMembersIn, IsPartIn, IsViewIn}
 use Rattle.plan_meaning.specs.{GatheredPlan.functions_seen, GatheredPlan.Becomes, Renumbering.IsPart, Renumbering.a_primitive, Renumbering.a_shape}
 use Rattle.plan_meaning.specs.{Built.IsBuilt, Built.planned_function, Built.planned_interface, Built.planned_world, Built.planned_type, NumberedRules.Fact}
@@ -280,7 +280,7 @@ module _ (t : Tables) (h : Homes) (known : ℕ → Fact) (n : ℕ) (ms : List Me
 -- ---- worlds
 
 part_worlds : (t : Tables) (h : Homes) (m : NumberedMember) (x : reads.Member) → x.label ≡ m.label → (label : Text) → label ≡ m.label → (a : Part) (b : reads.Part)
-    → ShowsPart t h m (numbered_part a) b → map (λ w. w.0) (world_in_part label a) ≡ map (λ w. w.0) (reads.worlds_of (record { label = x.label; package_ = x.package_; part = b }))
+    → ShowsPart t h m (numbered_part a) b → map (λ w. w.0) (world_in_part label a) ≡ map (λ w. w.0) (reads.worlds_of_member (record { label = x.label; package_ = x.package_; part = b }))
 part_worlds t h m x under label same y z is = search std_rules
 
 pub worlds_meant : (t : Tables) (h : Homes) (ms : List Member) (members : List reads.Member) → AllZip (IsMember t h) (numbered_members ms) members
@@ -528,7 +528,7 @@ same_below (suc n) = ap (λ (ns : List ℕ). ns ++ n ∷ []) (same_below n)
 
 -- ---- types over names of interfaces with a path
 
-path_there : (o : Option Text) (name : Text) → is_pathed (Tree.named (place_of o) name) ≡ true → (path : Text) × (o ≡ Some path)
+path_there : (o : Option Text) (name : Text) → is_pathed (Tree.named (instance_place o) name) ≡ true → (path : Text) × (o ≡ Some path)
 path_there x name e = search std_rules
 
 pathed_child : (ts : List Tree) (t : Tree) → are_pathed (children ts) ≡ true → Contains ts t → is_pathed t ≡ true
@@ -549,7 +549,7 @@ module _ (t : Tables) (tables : AreTables t) where
       let whole : tree_at t k ≡ Tree.node form (children (map (part_tree trees) parts)) = ap (tree_at t) is ∙ (tree_there n (node_shape form parts) at ∙ node_tree (place_at t) trees form parts) in
       pathed_outside m (pathed_child (map (part_tree trees) parts) (tree_at t m) (sym (ap is_pathed whole) ∙ pathed) (contains-map (part_tree trees) parts m among)) p deeper
 
-  same_place : (o u : Option Text) (x y : Text) → o ≡ Some x → u ≡ Some y → place_of o ≡ place_of u → o ≡ u
+  same_place : (o u : Option Text) (x y : Text) → o ≡ Some x → u ≡ Some y → instance_place o ≡ instance_place u → o ≡ u
   same_place o u x y eo eu h = search std_rules
 
   -- such a type stands once

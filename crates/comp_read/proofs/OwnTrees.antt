@@ -4,7 +4,7 @@ use Rattle.std.proofs.lemmas.Option.{slice_get_within, same_Some as same-some}
 use Rattle.std.specs.List.{AllZip, Contains}
 use Rattle.wit_model.specs.{Names.PackageIdentity, Names.path_in, Text.Text, Tree.Place}
 use Rattle.wit_model.proofs.Elements.{contains-get}
-use Rattle.comp_meaning.specs.Follow.{Instance, place_of}
+use Rattle.comp_meaning.specs.Follow.{Instance, instance_place}
 use Rattle.read_shown.specs.{Kinds.MemberHasKinds, Kinds.NamesHaveKinds, Kinds.ViewHasKinds, Views.IsMetInView, Views.ViewStands, Views.inside, Views.outside}
 use Rattle.read_shown.specs.{Parts.MemberStands, Parts.PartStands, Parts.instances_of, Parts.named_instance, Scopes.IsShownBefore, Trees.AllAt}
 use Rattle.read_shown.proofs.{Lists.front_more, ScopeWider.shown_wider, Views.view_wider}
@@ -85,14 +85,15 @@ module _ (t : Tables) (tables : AreTables t) (h : Homes) (stand : HomesStand t h
       ordered : (j k : ℕ) → j ≤ j + k
       ordered j k = omega arith
 
-      view_stands : (j k : ℕ) → j ≤ k → (x : Instance) → ViewStands (IsShownBefore scope.instances j) (place_of x.interface) x.view → ViewStands (IsShownBefore all k) (place_of x.interface) x.view
+      view_stands : (j k : ℕ) → j ≤ k → (x : Instance) → ViewStands (IsShownBefore scope.instances j) (instance_place x.interface) x.view
+          → ViewStands (IsShownBefore all k) (instance_place x.interface) x.view
       view_stands j k le x is = search (std_rules, view_wider, shown_wider, front_more)
 
-      views_stand : AllAt (λ k (x : Instance). ViewStands (IsShownBefore all k) (place_of x.interface) x.view) all
+      views_stand : AllAt (λ k (x : Instance). ViewStands (IsShownBefore all k) (instance_place x.interface) x.view) all
       views_stand k x e = by (split_at scope.instances (all_instances trees) k x e)
         where
           by : (slice_get scope.instances k ≡ Some x) ⊎ ((j : ℕ) × (k ≡ length scope.instances + j) × (slice_get (all_instances trees) j ≡ Some x))
-              → ViewStands (IsShownBefore all k) (place_of x.interface) x.view
+              → ViewStands (IsShownBefore all k) (instance_place x.interface) x.view
           by (inl here) = view_stands k k (omega arith) x (stands.views k x here)
           by (inr later) =
               let at = contains-get scope.instances x (own_instance x (get-contains (all_instances trees) later.0 x later.2)) in
@@ -119,8 +120,8 @@ module _ (t : Tables) (tables : AreTables t) (h : Homes) (stand : HomesStand t h
       kinds_alone : (k : NumberedMember) (v : NumberedView) (j : ℕ) → ViewHasKinds kinds scope.instances j (named k v) → ViewHasKinds kinds (named k v ∷ []) 0 (named k v)
       kinds_alone k v j is = record { own = is.own; shown = is.shown; met = λ i place name b met. is.met i place name b (wider i place name b met); types = is.types; functions = is.functions }
         where
-          wider : (i : ℕ) (place : Place) (name : Text) (b : Bool) → IsMetInView (IsShownBefore (named k v ∷ []) 0) (place_of (named k v).interface) (named k v).view i place name b
-              → IsMetInView (IsShownBefore scope.instances j) (place_of (named k v).interface) (named k v).view i place name b
+          wider : (i : ℕ) (place : Place) (name : Text) (b : Bool) → IsMetInView (IsShownBefore (named k v ∷ []) 0) (instance_place (named k v).interface) (named k v).view i place name b
+              → IsMetInView (IsShownBefore scope.instances j) (instance_place (named k v).interface) (named k v).view i place name b
           wider i place name b (inside here shown) = inside here shown
           wider i place name b (outside before) = absurd (let below = before.below in omega (arith, below))
 

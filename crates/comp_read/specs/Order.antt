@@ -9,7 +9,7 @@ use Rattle.wit_model.specs.Text.{Text, text_eq, text_of}
 use Rattle.comp_bytes.specs.{Levels.Entry, Levels.PartType, Levels.Piece, Levels.levels_of, Raw.Section, Reading.◌>>=◌, Spelling.IsComponent}
 use Rattle.comp_meaning.specs.{ByLevels.entry_step, ByLevels.exported_parts, ByLevels.member_by_levels, Follow.Scope, Follow.each, Follow.new_scope}
 use Rattle.comp_meaning.specs.Same.{same_identity}
-use Rattle.comp_meaning.specs.Reads.{Member, Part, exported_types, functions_of, interface, member, sights, steps, world, worlds_of}
+use Rattle.comp_meaning.specs.Reads.{Member, Part, exported_types, functions_of, interface, member, sights, steps, world, worlds_of_member}
 use Rattle.plan_meaning.specs.Plan.{Plan, PlannedPackage, numbers_of}
 use Rattle.read_parts.specs.Members.{declared_trees, entries_of}
 use Rattle.comp_read.specs.TypeOrder.{NumbersFollow}
@@ -85,7 +85,7 @@ functions_shown members path = map (λ f. f.0) (functions_of path (flat_map sigh
 
 -- the labels of the worlds that are exported
 abbrev pub worlds_shown : List Member → List Text
-worlds_shown members = map (λ w. w.0) (flat_map worlds_of members)
+worlds_shown members = map (λ w. w.0) (flat_map worlds_of_member members)
 
 -- the names of an interface's functions, in their order
 abbrev pub function_names : Interface → List Text
@@ -146,7 +146,7 @@ imports_in (Part.interface exported imports) scope = 0
 abbrev pub shown_until : List Member → ℕ → Part → Scope → HowMuch
 shown_until members m part scope = record {
   interfaces = length (once_by_path (flat_map shown_under (take m members) ++ map (λ i. i.interface) scope.instances));
-  worlds = length (flat_map worlds_of (take m members));
+  worlds = length (flat_map worlds_of_member (take m members));
   imports = imports_in part scope;
 }
 

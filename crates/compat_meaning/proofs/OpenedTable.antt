@@ -3,7 +3,7 @@ use Rattle.std.proofs.Common.{rules as std_rules, ◌≡◌, refl, sym, ap, ◌�
 use Rattle.std.specs.List.{list_all}
 use Rattle.wit_model.specs.declared.model.{Resolve.Resolve, TypeDef.TypeDef, TypeDefKind.TypeDefKind, «Type».«Type» as ValueType}
 use Rattle.wit_model.specs.{Text.Text, Text.text_of, Lookup.type_at, Parts.kind_numbers, Types.tree_at, Types.tree_of, Types.no_tree}
-use Rattle.wit_model.specs.Tree.{Tree, Trees, Form, node, child, children, given, is_given, record_tree, variant_tree, record_of, variant_of, result_of, future_of, stream_of}
+use Rattle.wit_model.specs.Tree.{Tree, Trees, Form, node, child, children, given_trees, is_given, record_tree, variant_tree, record_of, variant_of, result_of, future_of, stream_of}
 use Rattle.wit_model.proofs.{Tables.grow_at, TreeTable.declared_same}
 use Rattle.compat_meaning.specs.Opened.{opened_kind, opened_definition, opened_of, places_of, form_of, is_there}
 use Rattle.compat_meaning.specs.Table.{IsLayered, is_alias}
@@ -28,13 +28,13 @@ built leaf None ts = leaf
 built leaf (Some f) ts = node f ts
 
 module _ (trees : List Tree) where
-  given_one : (o : Option ValueType) → given (option_map (tree_of trees) o ∷ []) ≡ children (map (tree_of trees) (option_to_list o))
+  given_one : (o : Option ValueType) → given_trees (option_map (tree_of trees) o ∷ []) ≡ children (map (tree_of trees) (option_to_list o))
   given_one x = search std_rules
 
   there : (o : Option ValueType) → is_given (option_map (tree_of trees) o) ≡ is_there o
   there x = search std_rules
 
-  given_two : (o p : Option ValueType) → given (option_map (tree_of trees) o ∷ option_map (tree_of trees) p ∷ []) ≡ children (map (tree_of trees) (option_to_list o ++ option_to_list p))
+  given_two : (o p : Option ValueType) → given_trees (option_map (tree_of trees) o ∷ option_map (tree_of trees) p ∷ []) ≡ children (map (tree_of trees) (option_to_list o ++ option_to_list p))
   given_two x y = search std_rules
 
   module _ {C : Type 0} (name : C → Text) where
@@ -51,12 +51,12 @@ module _ (trees : List Tree) where
       abbrev opt : C → Option Tree
       opt c = option_map (tree_of trees) (ty_of c)
 
-      one_more : (c : C) (cs : List C) (o : Option ValueType) → ty_of c ≡ o → given (map opt cs) ≡ children (map (tree_of trees) (filter_map ty_of cs))
-          → given (map opt (c ∷ cs)) ≡ children (map (tree_of trees) (filter_map ty_of (c ∷ cs)))
+      one_more : (c : C) (cs : List C) (o : Option ValueType) → ty_of c ≡ o → given_trees (map opt cs) ≡ children (map (tree_of trees) (filter_map ty_of cs))
+          → given_trees (map opt (c ∷ cs)) ≡ children (map (tree_of trees) (filter_map ty_of (c ∷ cs)))
       one_more c cs None e h = rw e h
       one_more c cs (Some t) e h = rw e (ap (child (tree_of trees t)) h)
 
-      given_all : (cs : List C) → given (map opt cs) ≡ children (map (tree_of trees) (filter_map ty_of cs))
+      given_all : (cs : List C) → given_trees (map opt cs) ≡ children (map (tree_of trees) (filter_map ty_of cs))
       given_all [] = refl
       given_all (c ∷ cs) = one_more c cs (ty_of c) refl (given_all cs)
 
@@ -76,7 +76,7 @@ module _ (trees : List Tree) where
           let first : Text × Option Tree → Text × Bool = λ c. (c.0, is_given c.1) in
           let second : Text × Option Tree → Option Tree = λ c. c.1 in
           let heads_agree : map first (map case_ cs) ≡ map with_there cs = map_twice first case_ cs ∙ there_all cs in
-          let trees_agree : given (map second (map case_ cs)) ≡ children (map (tree_of trees) (filter_map ty_of cs)) = ap given (map_twice second case_ cs) ∙ given_all cs in
+          let trees_agree : given_trees (map second (map case_ cs)) ≡ children (map (tree_of trees) (filter_map ty_of cs)) = ap given_trees (map_twice second case_ cs) ∙ given_all cs in
           λ i. node (variant_of (heads_agree i)) (trees_agree i)
 
   pub opened_built : (leaf : Tree) (k : TypeDefKind) → is_alias k ≡ false → opened_kind leaf trees k ≡ built leaf (form_of k) (children (map (tree_of trees) (places_of k)))

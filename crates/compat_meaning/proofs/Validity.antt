@@ -9,7 +9,7 @@ use Rattle.wit_model.specs.{Lookup.interface_at, Lookup.type_at, Lookup.world_at
 use Rattle.wit_model.specs.Rules.{entries_in_range, function_in_range, in_list, item_in_range, key_in_range, owner_in_range, package_number, passes}
 use Rattle.wit_model.proofs.{Entries.each_from_at, Entries.lists_pass, Lists.list_all_filter_map, TreeTable.kept_numbers}
 use Rattle.compat_meaning.specs.{Compatible.HasItemsInRange, Opened.bare_key, Parts.ThingInRange, Table.AllInRange, Table.IsLayered}
-use Rattle.compat_meaning.specs.Flat.{Name, Thing, interface, entry_things, item_things, members, things_of}
+use Rattle.compat_meaning.specs.Flat.{FlatName, Thing, interface, entry_things, item_things, members, things_of}
 use Rattle.base_lemmas.proofs.{Bools.left_of as first_true, Bools.right_of as second_true, Lists.within_there, Numbers.false_true}
 use Rattle.compat_meaning.proofs.{Either.flat_from, Either.of_first, Keyed.of_members}
 use Rattle.base_lemmas.proofs.Elements.{all-contained as all_contained, contains-map as contains_mapped, last_of as contains_one, none_in}
@@ -61,23 +61,23 @@ module _ (r : Resolve) where
     pub layered : IsLayered r
     layered = record { smaller = kept_numbers r v.rules; owners = λ n def at id is. is_below id.0 (length r.interfaces.items) (ap (owner_in_range r) (sym is) ∙ type_numbers n def at) }
 
-    members_in_range : (k : Text) (i : Interface) (n : ℕ) → interface_at r n ≡ Some i → (x : Name × Thing) → Contains (members k i) x → ThingInRange r x.1
+    members_in_range : (k : Text) (i : Interface) (n : ℕ) → interface_at r n ≡ Some i → (x : FlatName × Thing) → Contains (members k i) x → ThingInRange r x.1
     members_in_range k i n at x c = of_members (λ y. ThingInRange r y.1) k i
         (λ e d. number_in_range e.1 (all_contained (λ id. in_list r.types.items id.0) (values i.types) e.1 (interface_numbers n i at).0 (contains_mapped (λ e. e.1) i.types.entries e d)))
         (λ e d. function_types_in_range e.1 (all_contained (function_in_range r) (values i.functions) e.1 (interface_numbers n i at).1 (contains_mapped (λ e. e.1) i.functions.entries e d))) x c
 
-    optional_in_range : (k : Text) (n : ℕ) (o : Option Interface) → interface_at r n ≡ o → (x : Name × Thing) → Contains (option_map_or (members k) o []) x → ThingInRange r x.1
+    optional_in_range : (k : Text) (n : ℕ) (o : Option Interface) → interface_at r n ≡ o → (x : FlatName × Thing) → Contains (option_map_or (members k) o []) x → ThingInRange r x.1
     optional_in_range k n None at x c = absurd (none_in x c)
     optional_in_range k n (Some i) at x c = members_in_range k i n at x c
 
-    item_things_in_range : (k : Text) (i : WorldItem) → item_in_range r i ≡ true → (x : Name × Thing) → Contains (item_things r k i) x → ThingInRange r x.1
-    item_things_in_range k (item.Function f) h x c = subst (λ (y : Name × Thing). ThingInRange r y.1) (contains_one _ x c) (function_types_in_range f h)
-    item_things_in_range k (item.Type_ id) h x c = subst (λ (y : Name × Thing). ThingInRange r y.1) (contains_one _ x c) (number_in_range id h)
+    item_things_in_range : (k : Text) (i : WorldItem) → item_in_range r i ≡ true → (x : FlatName × Thing) → Contains (item_things r k i) x → ThingInRange r x.1
+    item_things_in_range k (item.Function f) h x c = subst (λ (y : FlatName × Thing). ThingInRange r y.1) (contains_one _ x c) (function_types_in_range f h)
+    item_things_in_range k (item.Type_ id) h x c = subst (λ (y : FlatName × Thing). ThingInRange r y.1) (contains_one _ x c) (number_in_range id h)
     item_things_in_range k (item.Interface id stability docs external_id) h x c =
-        of_first ((k, []), interface) (option_map_or (members k) (interface_at r id.0) []) x (λ e. subst (λ (y : Name × Thing). ThingInRange r y.1) e tt)
+        of_first ((k, []), interface) (option_map_or (members k) (interface_at r id.0) []) x (λ e. subst (λ (y : FlatName × Thing). ThingInRange r y.1) e tt)
         (optional_in_range k id.0 (interface_at r id.0) refl x) c
 
-    pub things_in_range : (es : List (WorldKey × WorldItem)) → entries_in_range r es ≡ true → (x : Name × Thing) → Contains (things_of r es) x → ThingInRange r x.1
+    pub things_in_range : (es : List (WorldKey × WorldItem)) → entries_in_range r es ≡ true → (x : FlatName × Thing) → Contains (things_of r es) x → ThingInRange r x.1
     things_in_range es h x c =
         let w = flat_from (entry_things r) es x c in
         item_things_in_range (bare_key r w.0.0) w.0.1 (second_true (key_in_range r w.0.0) (item_in_range r w.0.1) (all_contained (λ e. key_in_range r e.0 && item_in_range r e.1) es w.0 h w.1)) x w.2

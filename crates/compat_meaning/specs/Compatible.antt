@@ -4,14 +4,14 @@ use Rattle.std.specs.{Borrow.Bor, List.Contains, List.IsDistinct}
 use Rattle.wit_model.specs.declared.model.{Resolve.Resolve, World.World, WorldId.WorldId, WorldKey.WorldKey, WorldItem.WorldItem}
 use Rattle.wit_model.specs.declared.error.Error.{Error}
 use Rattle.wit_model.specs.{Text.Text, Text.text_of, Text.text_eq, Names.PackageIdentity, Rules.entries_in_range, Lookup.world_at, Meant.package_of_world}
-use Rattle.compat_meaning.specs.{Opened.bare_identity, Opened.bare_key, Flat.Name, Flat.Shown, Flat.find_named, Flat.flat_imports, Flat.flat_exports}
+use Rattle.compat_meaning.specs.{Opened.bare_identity, Opened.bare_key, Flat.FlatName, Flat.FlatShown, Flat.find_named, Flat.flat_imports, Flat.flat_exports}
 use Rattle.wit_model.specs.declared.error.Error.TheVariants as error
 
 -- ---- compatible worlds
 
 -- each entry of the first map stands in the second
-abbrev pub IsIncluded : List (Name × Shown) → List (Name × Shown) → Type 0
-IsIncluded small large = (e : Name × Shown) → Contains small e → find_named e.0 large ≡ Some e.1
+abbrev pub IsIncluded : List (FlatName × FlatShown) → List (FlatName × FlatShown) → Type 0
+IsIncluded small large = (e : FlatName × FlatShown) → Contains small e → find_named e.0 large ≡ Some e.1
 
 -- What prev imports new imports too, and what new exports prev exports too.
 pub record Compatible (r : Resolve) (prev new : World) : Type 0 where
@@ -82,22 +82,22 @@ pub data Refusal : Type 0 where
   differs : Text → Refusal
 
 -- `key`, or `key/name`
-abbrev pub spelled_name : Name → Text
+abbrev pub spelled_name : FlatName → Text
 spelled_name (k, []) = k
 spelled_name (k, b ∷ bs) = k ++ (47 ∷ (b ∷ bs))
 
 -- what is wrong with an entry, where the other map has this under its name
-pub data IsFault (name : Name) (s : Shown) : Option Shown → Refusal → Type 0 where
+pub data IsFault (name : FlatName) (s : FlatShown) : Option FlatShown → Refusal → Type 0 where
   is_missing : IsFault name s None (missing (spelled_name name))
-  is_other : (o : Shown) → (o ≡ s → ⊥) → IsFault name s (Some o) (differs (spelled_name name))
+  is_other : (o : FlatShown) → (o ≡ s → ⊥) → IsFault name s (Some o) (differs (spelled_name name))
 
 -- the first entry of the small map that doesn't stand in the large one
-pub record IsFirstFault (small large : List (Name × Shown)) (f : Refusal) : Type 0 where
-  pub front : List (Name × Shown)
-  pub entry : Name × Shown
-  pub rest : List (Name × Shown)
+pub record IsFirstFault (small large : List (FlatName × FlatShown)) (f : Refusal) : Type 0 where
+  pub front : List (FlatName × FlatShown)
+  pub entry : FlatName × FlatShown
+  pub rest : List (FlatName × FlatShown)
   pub split : small ≡ front ++ (entry ∷ rest)
-  pub before : (e : Name × Shown) → Contains front e → find_named e.0 large ≡ Some e.1
+  pub before : (e : FlatName × FlatShown) → Contains front e → find_named e.0 large ≡ Some e.1
   pub wrong : IsFault entry.0 entry.1 (find_named entry.0 large) f
 
 -- Each refusal, where no earlier one stands.
@@ -126,11 +126,11 @@ abbrev pub IsMemoryOr : Refusal → Error → Type 0
 IsMemoryOr f e = (e ≡ error.Memory) ⊎ (refusal_of e ≡ Some f)
 
 -- want of memory, or what is wrong with an entry
-abbrev pub IsEntryFault : List (Name × Shown) → Name × Shown → Error → Type 0
+abbrev pub IsEntryFault : List (FlatName × FlatShown) → FlatName × FlatShown → Error → Type 0
 IsEntryFault large x e = (e ≡ error.Memory) ⊎ ((f : Refusal) × (refusal_of e ≡ Some f) × IsFault x.0 x.1 (find_named x.0 large) f)
 
 -- want of memory, or the first fault of an inclusion
-abbrev pub IsFaultOf : List (Name × Shown) → List (Name × Shown) → Error → Type 0
+abbrev pub IsFaultOf : List (FlatName × FlatShown) → List (FlatName × FlatShown) → Error → Type 0
 IsFaultOf small large e = (e ≡ error.Memory) ⊎ ((f : Refusal) × (refusal_of e ≡ Some f) × IsFirstFault small large f)
 
 -- want of memory, or the first key that is twice without version

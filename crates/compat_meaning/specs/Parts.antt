@@ -4,7 +4,7 @@ use Rattle.std.specs.List.{Contains}
 use Rattle.wit_model.specs.declared.model.Resolve.{Resolve}
 use Rattle.wit_model.specs.Parts.{function_types}
 use Rattle.compat_meaning.specs.declared.part.{Part.Part, Entry.Entry}
-use Rattle.compat_meaning.specs.Flat.{Name, Thing, interface, of_type, of_function, find_named}
+use Rattle.compat_meaning.specs.Flat.{FlatName, Thing, interface, of_type, of_function, find_named}
 use Rattle.compat_meaning.specs.Table.{AllInRange}
 use Rattle.compat_meaning.specs.declared.part.Part.TheVariants as part
 
@@ -13,14 +13,14 @@ thing_of part.Interface = interface
 thing_of (part.Type_ t) = of_type t
 thing_of (part.Function f) = of_function f.now
 
-abbrev pub named_thing : Entry → Name × Thing
+abbrev pub named_thing : Entry → FlatName × Thing
 named_thing e = ((e.key.text.now, e.name.now), thing_of e.part)
 
 -- a thing with the number of its key
-abbrev pub with_number : ℕ → Name × Thing → ℕ × (Name × Thing)
+abbrev pub with_number : ℕ → FlatName × Thing → ℕ × (FlatName × Thing)
 with_number n x = (n, x)
 
-abbrev pub numbered_thing : Entry → ℕ × (Name × Thing)
+abbrev pub numbered_thing : Entry → ℕ × (FlatName × Thing)
 numbered_thing e = with_number e.key.number (named_thing e)
 
 -- the types in a thing are in range
@@ -33,5 +33,5 @@ abbrev pub EntriesInRange : Resolve → List Entry → Type 0
 EntriesInRange r es = (e : Entry) → Contains es e → ThingInRange r (thing_of e.part)
 
 -- what is found under a name is in range
-abbrev pub FoundInRange : Resolve → List (Name × Thing) → Type 0
-FoundInRange r xs = (name : Name) (t : Thing) → find_named name xs ≡ Some t → ThingInRange r t
+abbrev pub FoundInRange : Resolve → List (FlatName × Thing) → Type 0
+FoundInRange r xs = (name : FlatName) (t : Thing) → find_named name xs ≡ Some t → ThingInRange r t

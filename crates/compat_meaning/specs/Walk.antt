@@ -5,7 +5,7 @@ use Rattle.wit_model.specs.declared.model.{Resolve.Resolve, TypeDef.TypeDef, Typ
 use Rattle.wit_model.specs.declared.model.World.{World}
 use Rattle.wit_model.specs.{Text.text_of, Lookup.type_at, Lookup.is_async, Types.grow, Types.number_of}
 use Rattle.compat_meaning.specs.Opened.{places_of}
-use Rattle.compat_meaning.specs.Flat.{Name, Thing, of_type, of_function, find_named, things_of}
+use Rattle.compat_meaning.specs.Flat.{FlatName, Thing, of_type, of_function, find_named, things_of}
 use Rattle.wit_model.specs.declared.model.TypeDefKind.TheVariants as kind
 use Rattle.wit_model.specs.declared.model.«Type».TheVariants as ty
 
@@ -73,11 +73,11 @@ abbrev pub pairs_between : Resolve → Bool → Thing → Thing → List Pair
 pairs_between r back small large = if back then pairs_of_things r large small else pairs_of_things r small large
 
 -- the pairs of a thing of the small list and the one of that name in the large list, if there is one
-abbrev pub pairs_of_entry : Resolve → Bool → List (Name × Thing) → Name × Thing → List Pair
+abbrev pub pairs_of_entry : Resolve → Bool → List (FlatName × Thing) → FlatName × Thing → List Pair
 pairs_of_entry r back large e = option_map_or (pairs_between r back e.1) (find_named e.0 large) []
 
 -- the pairs at equal places of the things that both lists have
-abbrev pub pairs_shared : Resolve → Bool → List (Name × Thing) → List (Name × Thing) → List Pair
+abbrev pub pairs_shared : Resolve → Bool → List (FlatName × Thing) → List (FlatName × Thing) → List Pair
 pairs_shared r back small large = flat_map (pairs_of_entry r back large) small
 
 -- The pairs at equal places of the items that both worlds have. Imports are looked up in new, and exports in prev.

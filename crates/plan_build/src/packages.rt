@@ -27,6 +27,7 @@ fn refusal_of(error: semver::Error) -> Error
 }
 
 /// A version (Semantic Versioning 2.0.0).
+#[tactic(auto, using(wit_model::proofs::VersionTexts::version_text_reads))]
 fn version_of(alloc: Global, text: &str) -> Result<Version, Error>
     ensures version { IfOk result (λ v. is_version v ≡ true) }
     ensures text { IfOk result (λ v. version_text v ≡ text.now) }

@@ -4,8 +4,8 @@ use Rattle.std.proofs.lemmas.{Option.slice_get_within, Option.same_Some as same-
 use Rattle.std.proofs.lemmas.Slice.Eq.{bytes_eq-Decides}
 use Rattle.std.specs.List.{list_any, AllByRecursion, AllZip, Contains, cons_option, flat_map}
 use Rattle.wit_model.specs.declared.model.{FunctionKind.FunctionKind, TypeId.TypeId, TypeOwner.TypeOwner}
-use Rattle.wit_model.specs.{Lookup.is_async, Text.Text, Text.text_eq, Tree.Tree, Tree.levels, Tree.Declaration}
-use Rattle.comp_meaning.specs.{Rules.are_labels, Rules.are_parts, Rules.form_labels, Rules.distinct, Follow.place_of}
+use Rattle.wit_model.specs.{Lookup.is_async, Text.Text, Text.text_eq, Tree.Tree, Tree.levels, Tree.TypeDeclaration}
+use Rattle.comp_meaning.specs.{Rules.are_labels, Rules.are_parts, Rules.form_labels, Rules.distinct, Follow.instance_place}
 use Rattle.plan_meaning.specs.FollowedNumbers.{IsMetFrom, IsCalledIn, IsNameOf, IsShownIn, IsViewIn}
 use Rattle.plan_meaning.specs.Plan.{Plan, PlannedFunction, PlannedKind, PlannedItem, PlannedKey, PlannedWorld, item_function, items_of}
 use Rattle.plan_meaning.specs.{ReadFunctions.Beside, ReadFunctions.IsReadFunction, NumberedWorlds.seen_of, NumberedWorlds.shown_of, PlanRules.world_functions}
@@ -228,7 +228,7 @@ module _ (t : Tables) (h : Homes) (ms : List Member) (members : List reads.Membe
           let same : seen_of t (numbered_seen from.0) ≡ among.seen = ap (seen_of t) from.2 ∙ outer.2 in
           by from.0 from.1 from.0.shown refl (ap (λ (s : follow.Seen). s.shown) same ∙ among.shown) (ap (λ (s : follow.Seen). s.key) same ∙ sym among.named)
         where
-          by : (s : Seen) → Contains w.imports.now s → (x : Shown) → s.shown ≡ x → shown_of t (numbered_shown x) ≡ follow.Shown.declares Declaration.resource → s.key.now ≡ r → (id : TypeId)
+          by : (s : Seen) → Contains w.imports.now s → (x : Shown) → s.shown ≡ x → shown_of t (numbered_shown x) ≡ follow.Shown.declares TypeDeclaration.resource → s.key.now ≡ r → (id : TypeId)
               × (find r ≡ Some id)
           by s in_it (shown.Declares part None) e is name =
               let x : NumberedType = record { name = s.key.now; declared = None; external_id = given_text s.external_id; slot = value part } in
@@ -247,7 +247,7 @@ module _ (t : Tables) (h : Homes) (ms : List Member) (members : List reads.Membe
         resource_own r id found = subst (λ (os : ℕ → TypeOwner). IsResource t (told_of t w.home) planned.kept p (os w.home) w.home r id.0) (sym owned) (resource_is r id found)
 
         rule : rules.is_function (place_at t w.home) item.resources s.key.now (signature_at t f) ≡ true
-        rule = ap (λ place. rules.is_function place item.resources s.key.now (signature_at t f)) (ap place_of is.good.home) ∙ item.is
+        rule = ap (λ place. rules.is_function place item.resources s.key.now (signature_at t f)) (ap instance_place is.good.home) ∙ item.is
 
         function_read : PartsOf (λ k. b.marks k ≡ false) (function_at t f) → IsReadFunction t planned.kept p b (b.owners w.home) g
         function_read values = read_function t h ms members ruled.input main p planned b w.home find item.resources (λ r any. resource_found r (item.from r any)) resource_own
@@ -323,7 +323,7 @@ resource_listed t (x ∷ xs) r any = by x.declared refl any (λ more. let found 
     which false e none h later = later h
 
     by : (d : Option ℕ) → x.declared ≡ d
-        → list_any (text_eq r) (cond (rules.is_resource (declaration_of t d)) (x.name ∷ rules.resources_of (map (shown_type t) xs)) (rules.resources_of (map (shown_type t) xs))) ≡ true
+        → list_any (text_eq r) (cond (rules.declares_a_resource (declaration_of t d)) (x.name ∷ rules.resources_of (map (shown_type t) xs)) (rules.resources_of (map (shown_type t) xs))) ≡ true
         → (list_any (text_eq r) (rules.resources_of (map (shown_type t) xs)) ≡ true → (z : NumberedType) × Contains (x ∷ xs) z × (z.declared ≡ None) × (r ≡ z.name)) → (z : NumberedType)
         × Contains (x ∷ xs) z × (z.declared ≡ None) × (r ≡ z.name)
     by None e h later = which (text_eq r x.name) refl e h later

@@ -128,7 +128,7 @@ module _ (t : Tables) (tables : AreTables t) (Met : Place → Text → Bool → 
 
   -- ---- what is declared, and functions
 
-  declared_view : (k : ℕ) → View k → IsPart t k → IsIn t.shapes k n → (b : Bool) → DeclarationStands Met (tree.Declaration.type_ (tree_at t k)) b → IsMet
+  declared_view : (k : ℕ) → View k → IsPart t k → IsIn t.shapes k n → (b : Bool) → DeclarationStands Met (tree.TypeDeclaration.type_ (tree_at t k)) b → IsMet
   declared_view k y range found b stands = search (std_rules, no_low, met_here, in_part)
 
   pub in_declared : (k : ℕ) → IsPart t k → IsIn t.shapes k n → (b : Bool) → DeclarationStands Met (declaration_of t (Some k)) b → IsMet

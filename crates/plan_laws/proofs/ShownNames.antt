@@ -2,10 +2,10 @@
 use Rattle.std.proofs.Common.{rules as std_rules, ◌≡◌, refl, sym, ap, subst, ◌∙◌, ℕ, suc, zero, ◌+◌, ◌⊎◌, inl, inr, arith, Bool, true, false, if◌then◌else◌, List, [], ◌∷◌, length, map, Option, Some, None, slice_get, ◌&&◌, ◌==◌, ◌++◌}
 use Rattle.std.proofs.lemmas.{Bool.eqb-true, List.append-nil, List.Elements.Contains-append_cases}
 use Rattle.std.specs.List.{Contains, list_all, AllByRecursion, AllZip, flat_map}
-use Rattle.wit_model.specs.{Text.Text, Tree.Place, Tree.Declaration, Meaning.FunctionMeaning, Names.is_label}
+use Rattle.wit_model.specs.{Text.Text, Tree.Place, Tree.TypeDeclaration, Meaning.FunctionMeaning, Names.is_label}
 use Rattle.wit_model.proofs.Elements.{contains-get, none-in, contains-has}
-use Rattle.comp_meaning.specs.Follow.{Instance, ShownType, place_of}
-use Rattle.comp_meaning.specs.{Rules.distinct, Rules.is_declared, Rules.is_function, Rules.is_resource, Rules.resources_of, Reads.Part as MeantPart}
+use Rattle.comp_meaning.specs.Follow.{Instance, ShownType, instance_place}
+use Rattle.comp_meaning.specs.{Rules.distinct, Rules.is_declared, Rules.is_function, Rules.declares_a_resource, Rules.resources_of, Reads.Part as MeantPart}
 use Rattle.read_shown.specs.Scopes.{IsShownBefore, IsDeclared, IsImported, IsMetInScope, ScopeStands, a_resource, a_value, name_of_instance, own_name}
 use Rattle.read_shown.specs.{Trees.DeclarationStands, Trees.SignatureStands, Parts.instances_of, Parts.named_instance}
 use Rattle.read_shown.specs.Views.{IsMetInView, ShowsName, ViewStands, inside as met_inside, outside as met_outside}
@@ -62,7 +62,7 @@ abbrev pub text_of_place : Place → Option Text
 text_of_place Place.here = None
 text_of_place (Place.of_interface path) = Some path
 
-pub path_back : (o : Option Text) → text_of_place (place_of o) ≡ o
+pub path_back : (o : Option Text) → text_of_place (instance_place o) ≡ o
 path_back x = search std_rules
 
 module _ (t : Tables) (tables : AreTables t) where
@@ -154,7 +154,7 @@ module _ (t : Tables) (place : Place) where
   same_resources (x ∷ xs) (y ∷ ys) e =
       let one : told x ≡ told y = cc in
       let later = same_resources xs ys cc in
-      λ i. if is_resource (declaration_of t ((ap (λ (z : Text × (Option ℕ × Option Text)). z.1.0) one) i)) then (ap (λ (z : Text × (Option ℕ × Option Text)). z.0) one) i ∷ later i else later i
+      λ i. if declares_a_resource (declaration_of t ((ap (λ (z : Text × (Option ℕ × Option Text)). z.1.0) one) i)) then (ap (λ (z : Text × (Option ℕ × Option Text)). z.0) one) i ∷ later i else later i
   same_resources _ _ e = let wrong : ⊥ = cc in absurd wrong
 
   same_names : (xs ys : List NumberedType) → map told xs ≡ map told ys → map (λ (x : ShownType). x.name) (map (shown_type t) xs) ≡ map (λ (x : ShownType). x.name) (map (shown_type t) ys)
@@ -294,17 +294,17 @@ module _ (t : Tables) (tables : AreTables t) (h : Homes) (stand : HomesStand t h
 
       -- ---- what is met
 
-      imported : {count : ℕ} {x : Text} {b : Bool} → IsDeclared scope.instances scope.imports count x b → (m : ℕ) × (d : Declaration) × IsImported scope.imports m x d
-      imported {count = count} (a_resource by) = (count, Declaration.resource, by)
-      imported {count = count} (a_value tree none by) = (count, Declaration.type_ tree, by)
+      imported : {count : ℕ} {x : Text} {b : Bool} → IsDeclared scope.instances scope.imports count x b → (m : ℕ) × (d : TypeDeclaration) × IsImported scope.imports m x d
+      imported {count = count} (a_resource by) = (count, TypeDeclaration.resource, by)
+      imported {count = count} (a_value tree none by) = (count, TypeDeclaration.type_ tree, by)
       imported {count = count} (own_name other by deeper) = (count, _, by)
       imported {count = count} (name_of_instance path other by before) = (count, _, by)
 
-      declares_only : (x : Shown) (d : Declaration) → shown_of t (numbered_shown x) ≡ follow.Shown.declares d → (part : ℕ) × (o : Option ℕ) × (x ≡ shown.Declares part o)
+      declares_only : (x : Shown) (d : TypeDeclaration) → shown_of t (numbered_shown x) ≡ follow.Shown.declares d → (part : ℕ) × (o : Option ℕ) × (x ≡ shown.Declares part o)
       declares_only (shown.Declares part o) d e = (part, o, refl)
       declares_only _ d e = let wrong : ⊥ = cc in absurd wrong
 
-      import_shows : (m : ℕ) (d : Declaration) → IsImported scope.imports m name d → q ≡ w.home → Goal
+      import_shows : (m : ℕ) (d : TypeDeclaration) → IsImported scope.imports m name d → q ≡ w.home → Goal
       import_shows m d by home =
           let outer = unmapped_get (seen_of t) (map numbered_seen w.imports.now) by.number by.seen (subst (λ ss. slice_get ss by.number ≡ Some by.seen) shows.imports by.at) in
           let from = unmapped_get numbered_seen w.imports.now by.number outer.0 outer.1 in
@@ -321,7 +321,7 @@ module _ (t : Tables) (tables : AreTables t) (h : Homes) (stand : HomesStand t h
       world_met count b own (scopes.by_instance before) = inl (within_all (outside_shows t tables (map whole_view (map numbered_instance w.instances.now)) (view_in t (parts.World w) good) n q name at
           scope.instances (shows.instances ∙ sym (map_of_map (instance_tree t tables) whole_view (map numbered_instance w.instances.now))) (length scope.instances) b before))
       world_met count b (inl home) (scopes.by_import here declared) = let found = imported declared in import_shows found.0 found.1 found.2 home
-      world_met count b (inr path) (scopes.by_import here declared) = absurd (let wrong : Place.of_interface path.0 ≡ Place.here = sym (ap place_of path.1) ∙ here in cc)
+      world_met count b (inr path) (scopes.by_import here declared) = absurd (let wrong : Place.of_interface path.0 ≡ Place.here = sym (ap instance_place path.1) ∙ here in cc)
 
       -- ---- what is shown
 

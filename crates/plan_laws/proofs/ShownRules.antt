@@ -3,7 +3,7 @@ use Rattle.plan_type_laws.proofs.{PartPlaces.slot_number, PartPlaces.parts_weake
 use Rattle.std.proofs.Common.{◌≡◌, subst, ℕ, ◌+◌, inl, List, Option, rules as std_rules, refl, sym, ap, ◌∙◌, zero, suc, ◌⊎◌, inr, arith, Bool, true, false, ◌&&◌, ◌||◌, [], ◌∷◌, ◌++◌, map}
 use Rattle.std.proofs.lemmas.{Slice.Eq.bytes_eq-Decides, List.Elements.Contains-append_cases}
 use Rattle.std.specs.List.{Contains, AllByRecursion, list_all, list_any}
-use Rattle.wit_model.specs.{Text.Text, Text.text_eq, Names.is_label, Meaning.FunctionMeaning, Meaning.Signature, Tree.Place, Tree.Declaration}
+use Rattle.wit_model.specs.{Text.Text, Text.text_eq, Names.is_label, Meaning.FunctionMeaning, Meaning.Signature, Tree.Place, Tree.TypeDeclaration}
 use Rattle.plan_meaning.specs.FollowedNumbers.{IsNameOf, IsPartIn, IsShownIn, IsMetFrom, IsViewIn}
 use Rattle.plan_meaning.specs.NumberedViews.{AreTables, Tables, IsPart, NumberedFunction, NumberedSight, NumberedType, declaration_of, function_at, place_at, shown_function, shown_type, signature_at, view_of}
 use Rattle.plan_meaning.specs.NumberedMembers.{Homes, IsKnownSight, NumberedMember, are_interfaces, sights_of_members, sights_of_part}
@@ -20,7 +20,7 @@ use Rattle.plan_laws.proofs.MetNames.{flat_cases}
 use Rattle.base_lemmas.proofs.Elements.{all_at, all-contained, contains-later, contains-map, last_of as one-contained, map_from as from_map}
 use Rattle.base_lemmas.proofs.Bools.{left_of as first_true, right_of as second_true}
 use Rattle.wit_model.proofs.Elements.{none-in}
-use Rattle.comp_meaning.specs.{Follow.Direction, Follow.Instance, Follow.export_, Follow.import_, Follow.interface_of, Follow.place_of, Rules.distinct}
+use Rattle.comp_meaning.specs.{Follow.Direction, Follow.Instance, Follow.export_, Follow.import_, Follow.interface_of, Follow.instance_place, Rules.distinct}
 use Rattle.read_shown.specs.{Instances.going, Instances.instances_in, Parts.WorldStands}
 use Rattle.plan_meaning.proofs.NumberedRules.{interface_same}
 use Rattle.read_rules.specs.{Scopes.numbered_instance, Scopes.numbered_seen, Scopes.numbered_shown, Tables.given_text}
@@ -75,7 +75,7 @@ module _ (t : Tables) (tables : AreTables t) where
 pub record IsResourceIn (ss : List follow.Seen) (r : Text) : Type 0 where
   pub seen : follow.Seen
   pub among : Contains ss seen
-  pub shown : seen.shown ≡ follow.Shown.declares Declaration.resource
+  pub shown : seen.shown ≡ follow.Shown.declares TypeDeclaration.resource
   pub named : r ≡ seen.key
 
 resource_in : (r : Text) (ss : List follow.Seen) → list_any (text_eq r) (rules.resources_seen ss) ≡ true → IsResourceIn ss r
@@ -83,14 +83,14 @@ resource_in r [] any = let wrong : false ≡ true = any in absurd cc
 resource_in r (s ∷ ss) any = by s.shown refl any (λ more. let is = resource_in r ss more in
     record { seen = is.seen; among = contains-later s ss is.seen is.among; shown = is.shown; named = is.named })
   where
-    which : (b : Bool) → text_eq r s.key ≡ b → s.shown ≡ follow.Shown.declares Declaration.resource → (b || list_any (text_eq r) (rules.resources_seen ss)) ≡ true
+    which : (b : Bool) → text_eq r s.key ≡ b → s.shown ≡ follow.Shown.declares TypeDeclaration.resource → (b || list_any (text_eq r) (rules.resources_seen ss)) ≡ true
         → (list_any (text_eq r) (rules.resources_seen ss) ≡ true → IsResourceIn (s ∷ ss) r) → IsResourceIn (s ∷ ss) r
     which true e is any more = record { seen = s; among = (zero, omega arith, refl); shown = is; named = (bytes_eq-Decides r s.key).0 e }
     which false e is any more = more any
 
     by : (k : follow.Shown) → s.shown ≡ k → list_any (text_eq r) (rules.resources_seen (record { key = s.key; shown = k; external_id = s.external_id } ∷ ss)) ≡ true
         → (list_any (text_eq r) (rules.resources_seen ss) ≡ true → IsResourceIn (s ∷ ss) r) → IsResourceIn (s ∷ ss) r
-    by (follow.Shown.declares Declaration.resource) e any more = which (text_eq r s.key) refl e any more
+    by (follow.Shown.declares TypeDeclaration.resource) e any more = which (text_eq r s.key) refl e any more
     by _ e any more = more any
 
 -- An import or an export that may stand behind resources among these.
@@ -128,7 +128,7 @@ exports_are_items all ss h = all_of (SeenIsItem all) ss (λ s c. record { resour
 
 -- the view of the instance is what an interface may have
 abbrev pub InstanceObeys : Instance → Type 0
-InstanceObeys x = rules.is_interface (place_of x.interface) x.view ≡ true
+InstanceObeys x = rules.is_interface (instance_place x.interface) x.view ≡ true
 
 instance_obeys : (all ss : List follow.Seen) → AllByRecursion (SeenIsItem all) ss → (x : Instance) → Contains (instances_in ss) x → InstanceObeys x
 instance_obeys all ss items x c = let from = flat_cases (λ (s : follow.Seen). shown_instances.instance_of s.shown) ss x c in let item = all_at (SeenIsItem all) ss items from.0 from.1 in
@@ -244,7 +244,7 @@ module _ (t : Tables) (tables : AreTables t) where
           part = named.1;
           is = named.2;
           label = first_true (is_label s.key.now) declared item.is;
-          obeys = ap (λ place. rules.is_declared place (declaration_of t d)) (ap place_of of.good.home) ∙ second_true (is_label s.key.now) declared item.is;
+          obeys = ap (λ place. rules.is_declared place (declaration_of t d)) (ap instance_place of.good.home) ∙ second_true (is_label s.key.now) declared item.is;
         }
 
     world_signature : (s : Seen) → Side w s → (f : ℕ) → s.shown ≡ shown.Function f → SignatureObeys t f

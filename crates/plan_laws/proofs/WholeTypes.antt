@@ -10,7 +10,7 @@ use Rattle.std.specs.{Borrow.Bor, List.Contains, List.list_any, List.list_all, L
 use Rattle.wit_model.specs.{Text.Text, Text.text_eq, Names.PackageIdentity, Names.is_label, Names.path_in, Valid.as_interface, Valid.as_world}
 use Rattle.wit_model.specs.Lookup.{place_of_path}
 use Rattle.wit_model.proofs.{Elements.contains-flat, Elements.none-in, Elements.contains-filter_map, Elements.contains-get, NameLaws.read_path_is_spelled}
-use Rattle.comp_meaning.specs.{Rules.distinct, Follow.place_of}
+use Rattle.comp_meaning.specs.{Rules.distinct, Follow.instance_place}
 use Rattle.plan_meaning.specs.{PlanRules.names_of, PlanRules.functions_of, ReadFunctions.Beside, ReadFunctions.FunctionsAreRead, ReadFunctions.IsReadFunction}
 use Rattle.plan_meaning.specs.{NumberedWorlds.HasPath, NumberedWorlds.NumberedInstance, NumberedRules.Fact, FollowedNumbers.IsPartIn, FollowedNumbers.IsViewIn}
 use Rattle.plan_meaning.specs.NumberedMembers.{Homes, NumberedMember, are_interfaces, home_at, sights_of_members, stands_at_top, is_interface_of, is_of_package}
@@ -188,7 +188,7 @@ module _ (t : Tables) (h : Homes) (ms : List Member) (members : List reads.Membe
       by (Some m) e met = interface_place m q e
       by None e (inl among) = let given = number_given places q among in let wrong : ◌≡◌ {A = Option ℕ} None (Some given.0) = sym e ∙ given.1 in absurd cc
       by None e (inr among) = ap (λ o. place_in p (option_map_or as_world o (as_interface (length places + q)))) (number_given (homes_in ms) q among).1
-          ∙ sym (ap place_of (home_alone t h ms members ruled.input q among))
+          ∙ sym (ap instance_place (home_alone t h ms members ruled.input q among))
 
   -- ---- names
 

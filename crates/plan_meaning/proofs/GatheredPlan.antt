@@ -4,7 +4,7 @@ use Rattle.std.proofs.lemmas.List.Elements.{Contains-append_right}
 use Rattle.std.specs.{Prelude.option_and_then, Option.option_map_or, FinMap.from_entries}
 use Rattle.std.specs.List.{AllByRecursion, AllZip, Contains, filter, flat_map}
 use Rattle.wit_model.specs.Text.{Text, TextMap, text_eq}
-use Rattle.wit_model.specs.{Tree.Form, Tree.Tree, Tree.Declaration, Tree.children, Meant.no_type, Meant.no_interface, Meant.no_world}
+use Rattle.wit_model.specs.{Tree.Form, Tree.Tree, Tree.TypeDeclaration, Tree.children, Meant.no_type, Meant.no_interface, Meant.no_world}
 use Rattle.wit_model.specs.{Meaning.FunctionMeaning, Meaning.TypeMeaning, Meaning.InterfaceMeaning, Meaning.WorldMeaning, Meaning.Item}
 use Rattle.wit_model.proofs.Elements.{contains-flat}
 use Rattle.comp_meaning.specs.{Follow.Scope, Follow.View, Follow.provided, SameLaws.named_meaning}
@@ -45,7 +45,7 @@ module _ (t : Tables) (tables : AreTables t) (kept : List ℕ) (p : Plan) (keeps
 
   declared_kept : (d : Option ℕ) (kind : PlannedKind) → DeclaresKind t kept p d kind → declared_as (trees_in p) kind ≡ declaration_of t d
   declared_kept d kind (a_resource e k) = ap (declared_as (trees_in p)) k ∙ sym (ap (declaration_of t) e)
-  declared_kept d kind (a_name old new e no_form b k) = ap (declared_as (trees_in p)) k ∙ (ap Declaration.type_ (part_kept old new b) ∙ sym (ap (declaration_of t) e))
+  declared_kept d kind (a_name old new e no_form b k) = ap (declared_as (trees_in p)) k ∙ (ap TypeDeclaration.type_ (part_kept old new b) ∙ sym (ap (declaration_of t) e))
   declared_kept d kind (a_form old n form olds news e is there z k) = search (std_rules, parts_kept, form_tree)
 
   type_kept : (d : Option ℕ) (id : Option Text) (n : ℕ) → TypeBecomes t kept p d id n → type_meaning_in p n ≡ record { declaration = declaration_of t d; external_id = id }
@@ -71,7 +71,7 @@ module _ (t : Tables) (tables : AreTables t) (kept : List ℕ) (p : Plan) (keeps
   function_kept f id g b = λ i. record { signature = signature_kept f id g b i; external_id = b.same_id i }
 
   interface_kept : (v : NumberedView) (fs : List (Text × NumberedFunction)) (x : PlannedInterface) → InterfaceBecomes t kept p v fs x
-      → planned.interface_meaning p x ≡ reads.interface_meaning (view_of t v) (map (shown_function t) fs)
+      → planned.interface_meaning p x ≡ reads.meaning_of_view (view_of t v) (map (shown_function t) fs)
   interface_kept v fs x b =
       let functions = zip_map (FunctionListed t kept p) (shown_function t) (λ e. (e.0, function_meaning p e.1))
       (λ f e h i. (h.0 i, function_kept (function_at t f.1.signature) f.1.external_id e.1 h.1 i)) fs x.functions b.functions in
@@ -81,7 +81,7 @@ module _ (t : Tables) (tables : AreTables t) (kept : List ℕ) (p : Plan) (keeps
       }
 
   interface_there : (v : NumberedView) (fs : List (Text × NumberedFunction)) (n : ℕ) → InterfaceAt t kept p v fs n
-      → interface_meaning_in p n ≡ reads.interface_meaning (view_of t v) (map (shown_function t) fs)
+      → interface_meaning_in p n ≡ reads.meaning_of_view (view_of t v) (map (shown_function t) fs)
   interface_there v fs n b = ap (λ o. option_map_or (planned.interface_meaning p) o no_interface) b.stands ∙ interface_kept v fs b.interface b.becomes
 
   -- ---- worlds
@@ -102,7 +102,7 @@ module _ (t : Tables) (tables : AreTables t) (kept : List ℕ) (p : Plan) (keeps
   entries_kept (s ∷ ss) (e ∷ es) z = search (std_rules, item_kept, id_kept, entries_kept ss es z.1)
   entries_kept _ _ z = absurd z
 
-  world_kept : (w : NumberedScope) (x : PlannedWorld) → WorldBecomes t kept p w x → (scope : Scope) → Shows t w scope → planned.world_meaning p x ≡ reads.world_meaning scope
+  world_kept : (w : NumberedScope) (x : PlannedWorld) → WorldBecomes t kept p w x → (scope : Scope) → Shows t w scope → planned.world_meaning p x ≡ reads.meaning_of_scope scope
   world_kept w x b scope shows = search (std_rules, entries_kept)
 
   -- ---- interfaces that are seen
@@ -122,7 +122,7 @@ module _ (t : Tables) (tables : AreTables t) (kept : List ℕ) (p : Plan) (keeps
   -- the interface of a view that shows functions
   whole_kept : (seen : List NumberedSight) → AllByRecursion (IsSight t) seen → reads.all_agree (map (sight_of t) seen) ≡ true → reads.are_interfaces (map (sight_of t) seen) ≡ true
       → (s : NumberedSight) → Contains seen s → s.whole ≡ true
-      → (n : ℕ) → InterfaceAt t kept p s.view (functions_seen s.place seen) n → interface_meaning_in p n ≡ reads.interface_meaning (view_of t s.view) (view_of t s.view).functions
+      → (n : ℕ) → InterfaceAt t kept p s.view (functions_seen s.place seen) n → interface_meaning_in p n ≡ reads.meaning_of_view (view_of t s.view) (view_of t s.view).functions
   whole_kept seen all agrees obey s c whole n b =
       let is = all_at (IsSight t) seen all s c in
       let functions : ◌≡◌ {A = TextMap FunctionMeaning} (from_entries (map (shown_function t) (functions_seen s.place seen))) (from_entries (view_of t s.view).functions) =
@@ -158,21 +158,21 @@ module _ (t : Tables) (tables : AreTables t) (kept : List ℕ) (p : Plan) (keeps
               λ i. (
                 (listed.0.name ∙ sym z.0.label) i,
                 (whole_kept seen sights agrees obey s (own s (Contains-append_right (map (λ (i : ℕ × NumberedView). record { place = i.0; view = i.1; whole = false }) imports) (s ∷ []) s
-                    (contains-one s))) refl e.1 listed.0.there ∙ ap (λ (y : View). reads.interface_meaning y y.functions) (sym is.shown)) i,
+                    (contains-one s))) refl e.1 listed.0.there ∙ ap (λ (y : View). reads.meaning_of_view y y.functions) (sym is.shown)) i,
               ) ∷ more es listed.1 i
           by _ _ is own es listed more = absurd is
       interfaces_kept _ among _ z es listed = absurd z
 
     worlds_kept : (ms : List NumberedMember) (members : List Member) → AllZip (IsMember t h) ms members → (es : List (Text × ℕ)) → AllZip (WorldsListed t kept p) (worlds_listed ms) es
-        → map world_entry es ≡ flat_map reads.worlds_of members
+        → map world_entry es ≡ flat_map reads.worlds_of_member members
     worlds_kept [] [] z [] listed = refl
     worlds_kept [] [] z (e ∷ es) listed = absurd listed
     worlds_kept (m ∷ ms) (x ∷ members) z es listed = by m.part x.part z.0.part es listed (worlds_kept ms members z.1)
       where
         by : (a : NumberedPart) (b : Part) → ShowsPart t h m a b → (es : List (Text × ℕ))
             → AllZip (WorldsListed t kept p) (worlds_listed (record { label = m.label; package_ = m.package_; part = a } ∷ ms)) es
-            → ((fs : List (Text × ℕ)) → AllZip (WorldsListed t kept p) (worlds_listed ms) fs → map world_entry fs ≡ flat_map reads.worlds_of members)
-            → map world_entry es ≡ reads.worlds_of (record { label = x.label; package_ = x.package_; part = b }) ++ flat_map reads.worlds_of members
+            → ((fs : List (Text × ℕ)) → AllZip (WorldsListed t kept p) (worlds_listed ms) fs → map world_entry fs ≡ flat_map reads.worlds_of_member members)
+            → map world_entry es ≡ reads.worlds_of_member (record { label = x.label; package_ = x.package_; part = b }) ++ flat_map reads.worlds_of_member members
         by (interface q v imports) (Part.interface view views) is es listed more = more es listed
         by (world w) (Part.world scope) is [] listed more = absurd listed
         by (world w) (Part.world scope) is (e ∷ es) listed more =
@@ -192,7 +192,7 @@ module _ (t : Tables) (tables : AreTables t) (kept : List ℕ) (p : Plan) (keeps
 
     sight_kept : (s : NumberedSight) → IsSight t s → (x : Text × PlannedInterface) → SightBecomes t kept p seen s x → entry_of x ≡ seen_meaning seen_all (sight_of t s)
     sight_kept s is x b =
-        λ i. (sym b.0 i, (interface_kept s.view (functions_seen s.place seen) x.1 b.1 ∙ ap (reads.interface_meaning (view_of t s.view)) (sym (functions_alike s.place (is.path, is.home) seen all))) i)
+        λ i. (sym b.0 i, (interface_kept s.view (functions_seen s.place seen) x.1 b.1 ∙ ap (reads.meaning_of_view (view_of t s.view)) (sym (functions_alike s.place (is.path, is.home) seen all))) i)
 
     chosen_kept : (chosen : List NumberedSight) → ((s : NumberedSight) → Contains chosen s → Contains seen s) → (xs : List (Text × PlannedInterface)) → AllZip (SightBecomes t kept p seen) chosen xs
         → map entry_of xs ≡ map (seen_meaning seen_all) (map (sight_of t) chosen)

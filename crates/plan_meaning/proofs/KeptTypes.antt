@@ -4,7 +4,7 @@ use Rattle.std.proofs.lemmas.{Bool.lt-ltb, Bool.le-leb, Bool.leb-true, Bool.and_
 use Rattle.std.proofs.lemmas.List.Folds.{list_all-map}
 use Rattle.std.specs.{Prelude.nat_le, Prelude.nat_lt, List.AllByRecursion, List.AllZip, List.list_all, Option.option_map_or}
 use Rattle.wit_model.specs.{Text.Text, Names.is_label, Rules.each_from, Rules.are_member_labels, Rules.has_items, Rules.passes}
-use Rattle.wit_model.specs.Tree.{Place, Form, Tree, Declaration, children, deepest, levels}
+use Rattle.wit_model.specs.Tree.{Place, Form, Tree, TypeDeclaration, children, deepest, levels}
 use Rattle.comp_meaning.specs.{Rules.are_labels, Rules.are_parts, Rules.form_labels, Rules.is_named_form, Rules.most_levels, Follow.is_key_primitive}
 use Rattle.plan_meaning.specs.Shapes.{Shape, node_shape, named_shape, part_tree, primitives}
 use Rattle.plan_meaning.specs.Plan.{Plan, PlannedKind, PlannedType, part_number, kind_numbers, alias_number, trees_in}
@@ -113,7 +113,7 @@ module _ (t : Tables) (tables : AreTables t) (kept : List ℕ) (p : Plan) (are :
   module _ (old n : ℕ) (form : Form) (olds : List ℕ) (is : old ≡ 14 + n) (there : slice_get t.shapes n ≡ Some (node_shape form olds)) (place : Place) (d : Option ℕ) (e : d ≡ Some old)
       (obeys : rules.is_declared place (declaration_of t d) ≡ true) where
     pub form_obeys : (are_labels (form_labels form) && are_parts place (children (map (tree_at t) olds)) && nat_le (deepest (children (map (tree_at t) olds))) most_levels) ≡ true
-    form_obeys = sym (ap (λ x. rules.is_declared place (declaration_of t x)) e ∙ ap (λ x. rules.is_declared place (Declaration.type_ x))
+    form_obeys = sym (ap (λ x. rules.is_declared place (declaration_of t x)) e ∙ ap (λ x. rules.is_declared place (TypeDeclaration.type_ x))
         (form_tree t tables kept p keeps old n form olds is there)) ∙ obeys
 
     form_has_labels : are_labels (form_labels form) ≡ true

@@ -3,9 +3,9 @@ use Rattle.std.proofs.Common.{◌≡◌, refl, sym, ap, ◌∙◌, ℕ, ◌+◌,
 use Rattle.std.proofs.lemmas.Bool.{eqb-true, eq-eqb, lt-ltb}
 use Rattle.std.specs.{Prelude.option_and_then, Prelude.nat_le, List.AllByRecursion, List.Contains, List.list_any, Option.option_map_or}
 use Rattle.wit_model.specs.{Text.Text, Text.text_eq, Names.is_label}
-use Rattle.wit_model.specs.Tree.{Place, Form, Tree, Trees, Declaration, children, deepest, levels, Primitive}
+use Rattle.wit_model.specs.Tree.{Place, Form, Tree, Trees, TypeDeclaration, children, deepest, levels, Primitive}
 use Rattle.comp_meaning.specs.{Same.same_place, Same.same_tree, Same.same_trees, Same.same_form}
-use Rattle.comp_meaning.specs.Rules.{are_labels, form_labels, most_levels, are_parts, own_name, borrow_name}
+use Rattle.comp_meaning.specs.Rules.{are_labels, form_labels, most_levels, are_parts, own_of_name, borrow_name}
 use Rattle.comp_meaning.proofs.SameLaws.{places_decide}
 use Rattle.plan_meaning.specs.Shapes.{Shape, form_code, first_label, named_shape, node_shape, IsTable}
 use Rattle.plan_meaning.specs.NumberedViews.{FunctionShape, Tables, place_at, tree_at, signature_over, IsPart, AllOf, PartsOf, itself, inside, NumberedType, NumberedView, view_of, declaration_of, shown_type, ViewPasses}
@@ -76,7 +76,8 @@ module _ (t : Tables) (table : IsTable t.shapes) (known : ℕ → Fact) (p : ℕ
 
   pub declared_same : (d : Option ℕ) → AllOf Known d → rules.is_declared here (declaration_of t d) ≡ is_declared t known p d
   declared_same None h = refl
-  declared_same (Some k) h = by_shape t table (λ x. rules.is_declared here (Declaration.type_ x)) (λ o. not (option_map_or (λ s. not (s.sort == 0)) o false) || is_declared_form p (known k)) k h.part
+  declared_same (Some k) h = by_shape t table (λ x. rules.is_declared here (TypeDeclaration.type_ x))
+      (λ o. not (option_map_or (λ s. not (s.sort == 0)) o false) || is_declared_form p (known k)) k h.part
       (λ q e. refl) (λ n q name is there e. refl) (λ n form ks is there e ranges. form_same form (children (map (tree_at t) ks)) k h e
       ∙ sym (ap (λ b. not (not b) || is_declared_form p (known k)) (no_name form)))
 
@@ -124,7 +125,7 @@ module _ (t : Tables) (table : IsTable t.shapes) (known : ℕ → Fact) (p : ℕ
           (λ n form ks is there e ranges. handle_cases (same_form form handle) ((form_code form).sort == sort) (same_trees (children (map (tree_at t) ks)) (Trees.child itself_named Trees.no_children))
           (only_of ks) (by_sort form) (only_same ks ranges (λ m c q h. seen q (inside k n m q form ks is there c h))))
 
-    own_same : (k : ℕ) → IsPart t k → IsSeenFrom t p k → same_tree (tree_at t k) (own_name here resource) ≡ is_handle t known p own_sort resource k
+    own_same : (k : ℕ) → IsPart t k → IsSeenFrom t p k → same_tree (tree_at t k) (own_of_name here resource) ≡ is_handle t known p own_sort resource k
     own_same k part seen = handle_same Form.own_of own_sort own_by_sort refl k part seen
 
     begins_same : (ps : List (Text × ℕ)) → AllByRecursion (λ (x : Text × ℕ). Known x.1) ps
@@ -134,23 +135,24 @@ module _ (t : Tables) (table : IsTable t.shapes) (known : ℕ → Fact) (p : ℕ
 
     -- ---- constructors
 
-    ok_same : (form : Form) (ks : List ℕ) (whole : Bool) → ((m : ℕ) → Contains ks m → same_tree (tree_at t m) (own_name here resource) ≡ is_handle t known p own_sort resource m)
-        → same_tree (Tree.node form (children (map (tree_at t) ks))) (own_name here resource) ≡ whole
-        → rules.constructs (own_name here resource) (Some (Tree.node form (children (map (tree_at t) ks)))) ≡ option_map_or (is_handle t known p own_sort resource) (ok_in (node_shape form ks)) whole
+    ok_same : (form : Form) (ks : List ℕ) (whole : Bool) → ((m : ℕ) → Contains ks m → same_tree (tree_at t m) (own_of_name here resource) ≡ is_handle t known p own_sort resource m)
+        → same_tree (Tree.node form (children (map (tree_at t) ks))) (own_of_name here resource) ≡ whole
+        → rules.may_construct (own_of_name here resource) (Some (Tree.node form (children (map (tree_at t) ks))))
+        ≡ option_map_or (is_handle t known p own_sort resource) (ok_in (node_shape form ks)) whole
     ok_same (Form.result_of true true) (m ∷ ks) whole each e = each m (get-contains (m ∷ ks) 0 m refl)
     ok_same (Form.result_of true false) (m ∷ ks) whole each e = each m (get-contains (m ∷ ks) 0 m refl)
     ok_same (Form.result_of false false) ks whole each e = e
     ok_same _ ks whole each e = e
 
-    constructs_same : (r : Option ℕ) → AllOf Known r → rules.constructs (own_name here resource) (option_map (tree_at t) r) ≡ constructs t known p resource r
+    constructs_same : (r : Option ℕ) → AllOf Known r → rules.may_construct (own_of_name here resource) (option_map (tree_at t) r) ≡ constructs t known p resource r
     constructs_same None h = refl
-    constructs_same (Some k) h = by_shape t table (λ x. rules.constructs (own_name here resource) (Some x))
+    constructs_same (Some k) h = by_shape t table (λ x. rules.may_construct (own_of_name here resource) (Some x))
         (λ o. option_map_or (is_handle t known p own_sort resource) (option_and_then ok_in o) (is_handle t known p own_sort resource k)) k h.part (λ q e. itself_same e)
         (λ n q name is there e. itself_same e) (λ n form ks is there e ranges. ok_same form ks (is_handle t known p own_sort resource k)
         (λ m c. own_same m (all_at (IsPart t) ks ranges m c) (λ q x. h.seen q (inside k n m q form ks is there c x))) (itself_same e))
       where
-        itself_same : {x : Tree} → tree_at t k ≡ x → same_tree x (own_name here resource) ≡ is_handle t known p own_sort resource k
-        itself_same e = sym (ap (λ x. same_tree x (own_name here resource)) e) ∙ own_same k h.part h.seen
+        itself_same : {x : Tree} → tree_at t k ≡ x → same_tree x (own_of_name here resource) ≡ is_handle t known p own_sort resource k
+        itself_same e = sym (ap (λ x. same_tree x (own_of_name here resource)) e) ∙ own_same k h.part h.seen
 
     function_of_same : (name : Text) (f : FunctionShape) → PartsOf Known f → rules.is_function_of here name (signature_over (tree_at t) f) resource ≡ is_function_of t known p name f resource
     function_of_same name f h = search (std_rules, constructs_same, begins_same)

@@ -3,7 +3,7 @@ use Rattle.std.proofs.Common.{rules as std_rules, arith, ◌≡◌, refl, sym, a
 use Rattle.std.proofs.lemmas.Bool.{eqb-true, eq-eqb}
 use Rattle.std.specs.{List.AllByRecursion, List.list_any, List.find, Option.option_map_or, Cmp.Lexicographic.pointwise}
 use Rattle.wit_model.specs.{Text.Text, Text.text_eq, Tree.Tree, Meaning.Signature}
-use Rattle.comp_meaning.specs.{Follow.place_of, Agreement.agree_with_first}
+use Rattle.comp_meaning.specs.{Follow.instance_place, Agreement.agree_with_first}
 use Rattle.comp_meaning.specs.{Same.same_tree, Same.same_declaration, Same.same_signature, Same.stand_in, Reads.Sight, Reads.all_agree}
 use Rattle.comp_meaning.proofs.SameLaws.{trees_decide, signatures_decide}
 use Rattle.plan_meaning.specs.NumberedViews.{FunctionShape, Tables, path_text, place_at, tree_at, signature_over, function_at, no_function, signature_at, IsPart, AllOf, PartsOf, AreTables, AreApart, IsOutside, NumberedType, NumberedFunction, declaration_of, shown_type, shown_function, NumberedSight, sight_of, same_number, same_shown, same_function, same_functions, same_types, same_whole, agree, agree_in_numbers, agrees_with_first, agree_with_first_in_numbers, TypePasses, FunctionPasses, IsOutsidePart, IsSight, NumbersTell, EachNumberTells, ViewsAgreeInNumbers, FirstViewsAgreeInNumbers}
@@ -14,7 +14,7 @@ use Rattle.comp_meaning.specs.Same as same
 use Rattle.comp_meaning.specs.Reads as reads
 use Rattle.comp_meaning.specs.Agreement as agreement
 
-path_is : (o p : Option Text) (x y : Text) → o ≡ Some x → p ≡ Some y → place_of o ≡ place_of p → o ≡ p
+path_is : (o p : Option Text) (x y : Text) → o ≡ Some x → p ≡ Some y → instance_place o ≡ instance_place p → o ≡ p
 path_is o p x y eo ep h = search rules
 
 both_parts : (P Q : ℕ → Type 0) (f : FunctionShape) → PartsOf P f → PartsOf Q f → PartsOf (λ k. P k × Q k) f

@@ -2,8 +2,8 @@
 use Rattle.std.proofs.Common.{◌≡◌, refl, sym, ap, ◌∙◌, ℕ, true, not, ◌&&◌, ◌||◌, ◌==◌, cond, List, [], ◌∷◌, ◌++◌, map, Option, Some, None, unwrap_or, rules as std_rules}
 use Rattle.std.proofs.lemmas.Bool.{eqb-true}
 use Rattle.std.specs.{Prelude.option_and_then, List.AllByRecursion, List.flat_map, List.list_all, List.list_any, Option.option_map_or}
-use Rattle.wit_model.specs.{Text.Text, Text.text_eq, Tree.Place, Tree.Declaration, Uses.has}
-use Rattle.comp_meaning.specs.{Follow.View, Follow.Seen, Follow.interface_of, Follow.place_of, Rules.distinct}
+use Rattle.wit_model.specs.{Text.Text, Text.text_eq, Tree.Place, Tree.TypeDeclaration, Uses.has}
+use Rattle.comp_meaning.specs.{Follow.View, Follow.Seen, Follow.interface_of, Follow.instance_place, Rules.distinct}
 use Rattle.plan_meaning.specs.{Shapes.form_code, Shapes.first_label, NumberedRules.Fact, NumberedRules.name_in, NumberedRules.IsKnown}
 use Rattle.plan_meaning.specs.NumberedViews.{Tables, path_at, path_text, place_at, IsPart, AllOf, AreTables, NumberedType, NumberedView, view_of, declaration_of, shown_type, sight_of}
 use Rattle.plan_meaning.specs.NumberedWorlds.{NumberedKey, path, place_of_key, key_of, NumberedShown, instance, function, declares, NumberedSeen, shown_of, seen_of, NumberedInstance, instance_of, sights_of_instance, if_outside, used_by, used_by_view, others_than, uses_of, path_seen, stand_earlier, are_reached, are_once, resources_seen, is_item, are_imports, HasPath, KeyStands, ItemStands, DeclaresParts, UsesInNumbers, ReachedInNumbers, PathsInNumbers, WorldsInNumbers, SightsInNumbers}
@@ -40,7 +40,7 @@ module _ (t : Tables) (tables : AreTables t) where
 
   used_same : (d : Option ℕ) → AllOf (IsPart t) d → rules.used_by (declaration_of t d) ≡ map (path_text t) (used_by t d)
   used_same None h = refl
-  used_same (Some k) h = by_shape t tables.shapes (λ x. rules.used_by (Declaration.type_ x)) (λ o. map (path_text t) (places_named (option_and_then name_in o))) k h (λ q e. refl)
+  used_same (Some k) h = by_shape t tables.shapes (λ x. rules.used_by (TypeDeclaration.type_ x)) (λ o. map (path_text t) (places_named (option_and_then name_in o))) k h (λ q e. refl)
       (λ n q name is there e. (search std_rules))
       (λ n form ks is there e ranges. sym (ap (λ b. map (path_text t) (places_named (cond b (Some ((form_code form).number, first_label (form_code form).labels)) None))) (no_name form)))
 
@@ -130,11 +130,11 @@ resources_same t [] = refl
 resources_same t (s ∷ ss) = search (std_rules, resources_same t ss)
 
 module _ (t : Tables) (tables : AreTables t) (known : ℕ → Fact) (home : ℕ) (alone : path_at t home ≡ None) where
-  key_place : (key : NumberedKey) → KeyStands t key → place_of (interface_of (key_of t key)) ≡ place_at t (place_of_key key)
+  key_place : (key : NumberedKey) → KeyStands t key → instance_place (interface_of (key_of t key)) ≡ place_at t (place_of_key key)
   key_place x h = search std_rules
 
   home_is : Place.here ≡ place_at t home
-  home_is = sym (ap place_of alone)
+  home_is = sym (ap instance_place alone)
 
   item_same : (resources : List Text) (key : Text) (x : NumberedShown) → ItemStands t known home x → rules.is_item resources key (shown_of t x) ≡ is_item t known home resources key x
   item_same resources key x h = search (std_rules, key_place, interface_same, home_is, function_same, declared_same)

@@ -7,7 +7,7 @@ use Rattle.wit_model.specs.declared.model.{Resolve.Resolve, TypeDef.TypeDef, Fun
 use Rattle.wit_model.specs.declared.model.{Interface.Interface, TypeDefKind.TypeDefKind, TypeOwner.TypeOwner, «Type».«Type» as ValueType}
 use Rattle.wit_model.specs.{Text.Text, Text.text_of, Text.optional_text, Parts.met_by, Parts.met_of, Parts.met_inside, Parts.same_owner, Parts.function_types}
 use Rattle.wit_model.specs.{Uses.alias_target, Uses.owner_interface, Uses.used_interface, Uses.direct_deps}
-use Rattle.wit_model.specs.Tree.{Tree, Place, Declaration, children, child, given, named, is_given}
+use Rattle.wit_model.specs.Tree.{Tree, Place, TypeDeclaration, children, child, given_trees, named, is_given}
 use Rattle.wit_model.specs.Types.{number_of, tree_of, declared_by, tree_of_declaration, tree_of_definition, trees_of}
 use Rattle.wit_model.specs.Lookup.{path_of_interface, interface_path, place_of, resource_of}
 use Rattle.plan_meaning.specs.{Shapes.part_tree, PlanRules.direct_uses}
@@ -92,7 +92,7 @@ module _ (T : List Tree) where
   trees_same : (ts : List ValueType) → map (part_tree T) (map part_of ts) ≡ map (tree_of T) ts
   trees_same ts = map_of_map (part_tree T) part_of ts ∙ same_map (λ t. part_tree T (part_of t)) (tree_of T) (part_tree_is T) ts
 
-  given_same : (os : List (Option ValueType)) → children (map (part_tree T) (given_parts os)) ≡ given (map (option_map (tree_of T)) os)
+  given_same : (os : List (Option ValueType)) → children (map (part_tree T) (given_parts os)) ≡ given_trees (map (option_map (tree_of T)) os)
   given_same [] = refl
   given_same (None ∷ os) = given_same os
   given_same (Some t ∷ os) = λ i. child (part_tree_is T t i) (given_same os i)
@@ -118,7 +118,7 @@ module _ (r : Resolve) (m : ℕ) where
   pub place_is : (o : TypeOwner) → place_in P o ≡ place_of r o
   place_is x = search (std_rules, path_is)
 
-  tree_by : (name : Option (String Global)) (a b : Place) (d e : Declaration) → a ≡ b → d ≡ e →
+  tree_by : (name : Option (String Global)) (a b : Place) (d e : TypeDeclaration) → a ≡ b → d ≡ e →
       option_map_or (λ t. named a t) (optional_text name) (tree_of_declaration d) ≡ option_map_or (λ s. named b (text_of s)) name (tree_of_declaration e)
   tree_by y a b d e p q = search std_rules
 

@@ -4,7 +4,7 @@ use Rattle.std.specs.List.{AllByRecursion, AllZip, flat_map, filter, list_all, l
 use Rattle.std.specs.{Option.option_map_or, FinMap.from_entries}
 use Rattle.wit_model.specs.{Text.Text, Text.text_eq, Names.PackageIdentity, Names.path_in, Names.read_path, Meaning.PackageMeaning, Meaning.WorldPackage}
 use Rattle.comp_meaning.specs.Follow.{Scope, View, each, is_filled, provided}
-use Rattle.comp_meaning.specs.Reads.{Part, Member, of_instance, seen_meaning, is_of, world_meaning, package_with, world_with}
+use Rattle.comp_meaning.specs.Reads.{Part, Member, of_instance, seen_meaning, is_of, meaning_of_scope, package_with, world_with}
 use Rattle.plan_meaning.specs.NumberedViews.{Tables, path_at, path_text, AreTables, NumberedView, view_of, NumberedSight, ViewPasses, IsSight, agree_in_numbers}
 use Rattle.plan_meaning.specs.NumberedRules.{Fact, is_interface, IsKnown}
 use Rattle.plan_meaning.specs.NumberedWorlds.{NumberedShown, instance, path, NumberedSeen, NumberedScope, Shows, sights_of_scope, HasPath}
@@ -137,14 +137,14 @@ package_shown identity members =
     record {
       identity = identity;
       interfaces = flat_map reads.interfaces_of members;
-      worlds = flat_map reads.worlds_of members;
+      worlds = flat_map reads.worlds_of_member members;
       foreign = from_entries (map (seen_meaning seen) (filter (λ s. not (is_of identity s.path)) seen));
     }
 
 abbrev pub world_shown : PackageIdentity → Text → Scope → WorldPackage
 world_shown identity name scope =
     let seen = flat_map of_instance scope.instances in
-    record { identity = identity; name = name; world = world_meaning scope; shown = from_entries (map (seen_meaning seen) seen) }
+    record { identity = identity; name = name; world = meaning_of_scope scope; shown = from_entries (map (seen_meaning seen) seen) }
 
 -- ---- laws
 

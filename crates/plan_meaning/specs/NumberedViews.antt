@@ -3,8 +3,8 @@
 -- number of a path.
 use Rattle.std.specs.Prelude.{◌≡◌, ℕ, ◌<◌, ◌+◌, Bool, true, false, not, ◌&&◌, ◌||◌, ◌==◌, List, [], ◌∷◌, ◌++◌, length, map, Option, Some, None, option_map, unwrap_or, slice_get}
 use Rattle.std.specs.{List.AllByRecursion, List.Contains, List.list_all, List.find, Option.option_map_or, Cmp.Lexicographic.pointwise}
-use Rattle.wit_model.specs.{Text.Text, Text.text_eq, Tree.Place, Tree.Form, Tree.Tree, Tree.Declaration, Meaning.Signature, Meaning.FunctionMeaning}
-use Rattle.comp_meaning.specs.Follow.{Slot, View, ShownType, place_of}
+use Rattle.wit_model.specs.{Text.Text, Text.text_eq, Tree.Place, Tree.Form, Tree.Tree, Tree.TypeDeclaration, Meaning.Signature, Meaning.FunctionMeaning}
+use Rattle.comp_meaning.specs.Follow.{Slot, View, ShownType, instance_place}
 use Rattle.comp_meaning.specs.{Same.same_option, Same.same_tree, Same.same_signature, Same.stand_in, Reads.Sight, Reads.all_agree, Agreement.agree_with_first}
 use Rattle.plan_meaning.specs.Shapes.{Shape, node_shape, named_shape, part_tree, shape_trees, IsTable}
 
@@ -30,7 +30,7 @@ abbrev pub path_text : Tables → ℕ → Text
 path_text t p = unwrap_or (path_at t p) []
 
 abbrev pub place_at : Tables → ℕ → Place
-place_at t p = place_of (path_at t p)
+place_at t p = instance_place (path_at t p)
 
 -- the tree of a part
 abbrev pub tree_at : Tables → ℕ → Tree
@@ -113,9 +113,9 @@ abbrev pub slot_of : Tables → NumberedSlot → Slot
 slot_of t (value k) = Slot.value (tree_at t k)
 slot_of t (resource k) = resource_slot (tree_at t k)
 
-abbrev pub declaration_of : Tables → Option ℕ → Declaration
-declaration_of t None = Declaration.resource
-declaration_of t (Some k) = Declaration.type_ (tree_at t k)
+abbrev pub declaration_of : Tables → Option ℕ → TypeDeclaration
+declaration_of t None = TypeDeclaration.resource
+declaration_of t (Some k) = TypeDeclaration.type_ (tree_at t k)
 
 abbrev pub shown_type : Tables → NumberedType → ShownType
 shown_type t x = record { name = x.name; meaning = record { declaration = declaration_of t x.declared; external_id = x.external_id }; slot = slot_of t x.slot }

@@ -5,7 +5,7 @@ use Rattle.std.specs.{Option.option_map_or, Map.lookup}
 use Rattle.wit_model.specs.declared.model.{TypeOwner.TypeOwner, FunctionKind.FunctionKind}
 use Rattle.wit_model.specs.{Text.Text, Text.text_eq, Types.grow, Types.tree_of_declaration, Uses.owner_interface}
 use Rattle.wit_model.specs.{Names.PackageIdentity, Names.path_in, Lookup.place_of_path, Lookup.resource_of, Parts.met_by, Parts.numbered_from, Parts.same_owner}
-use Rattle.wit_model.specs.Tree.{Form, Tree, Place, here, Declaration, type_, children, named}
+use Rattle.wit_model.specs.Tree.{Form, Tree, Place, here, TypeDeclaration, type_, children, named}
 use Rattle.plan_meaning.specs.Shapes.{part_tree}
 use Rattle.wit_model.specs.declared.model.TypeOwner.TheVariants as owner
 use Rattle.wit_model.specs.Tree as tree
@@ -160,7 +160,7 @@ is_resource p n = unwrap_or (slice_get (resource_marks p) n) false
 -- ---- trees
 
 -- what a kind declares
-abbrev pub declared_as : List Tree → PlannedKind → Declaration
+abbrev pub declared_as : List Tree → PlannedKind → TypeDeclaration
 declared_as trees resource = tree.resource
 declared_as trees (alias k) = type_ (part_tree trees k)
 declared_as trees (formed form ks) = type_ (tree.node form (children (map (part_tree trees) ks)))

@@ -4,7 +4,7 @@ use Rattle.std.proofs.Common.{rules as std_rules, ◌≡◌, refl, sym, ap, subs
 use Rattle.std.proofs.lemmas.List.{Folds.find-append, Elements.Contains-append_left, Elements.Contains-append_right, Elements.Contains-append_cases}
 use Rattle.std.proofs.lemmas.Bool.{and_from, eqb-true, eq-eqb}
 use Rattle.std.specs.{List.Contains, List.find, List.list_all, List.list_any, Option.option_map_or, Option.option_or, Cmp.Lexicographic.pointwise}
-use Rattle.wit_model.specs.{Text.Text, Text.text_eq, Tree.Form, Tree.Tree, Tree.Trees, Tree.Declaration, Meaning.FunctionMeaning}
+use Rattle.wit_model.specs.{Text.Text, Text.text_eq, Tree.Form, Tree.Tree, Tree.Trees, Tree.TypeDeclaration, Meaning.FunctionMeaning}
 use Rattle.comp_meaning.specs.{Follow.ShownType, Follow.Slot, Rules.distinct, Same.same_option}
 use Rattle.comp_meaning.proofs.{SameLaws.shown_types_decide, FunctionLists.functions_make_one_map, AgreementLaws.found_contains, AgreementLaws.distinct_behind}
 use Rattle.plan_meaning.specs.{NumberedMembers.are_interfaces, NumberedRules.Fact, NumberedRules.is_interface}
@@ -19,9 +19,9 @@ use Rattle.comp_meaning.specs.Reads as reads
 abbrev tree_of : ℕ → Tree
 tree_of n = Tree.node (Form.fixed_list_of n) Trees.no_children
 
-abbrev as_declared : Option ℕ → Declaration
-as_declared None = Declaration.resource
-as_declared (Some k) = Declaration.type_ (tree_of k)
+abbrev as_declared : Option ℕ → TypeDeclaration
+as_declared None = TypeDeclaration.resource
+as_declared (Some k) = TypeDeclaration.type_ (tree_of k)
 
 abbrev as_type : NumberedType → ShownType
 as_type x = record { name = x.name; meaning = record { declaration = as_declared x.declared; external_id = x.external_id }; slot = Slot.instance [] 0 }

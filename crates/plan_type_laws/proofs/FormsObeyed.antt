@@ -4,9 +4,9 @@ use Rattle.std.proofs.lemmas.{Bool.lt-ltb, Bool.and_from as both, List.Elements.
 use Rattle.std.proofs.{ByRecursion.All-map as all_mapped, lemmas.Option.slice_get-map as get_of_map}
 use Rattle.std.specs.{List.AllByRecursion, List.AllZip, List.Contains, List.flat_map, Option.option_map_or}
 use Rattle.wit_model.specs.{Text.Text, Types.no_tree}
-use Rattle.wit_model.specs.{Tree.Declaration, Tree.Form, Tree.Place, Tree.Tree, Meaning.FunctionMeaning, Names.PackageIdentity, Names.path_in, Rules.has_items}
+use Rattle.wit_model.specs.{Tree.TypeDeclaration, Tree.Form, Tree.Place, Tree.Tree, Meaning.FunctionMeaning, Names.PackageIdentity, Names.path_in, Rules.has_items}
 use Rattle.wit_model.proofs.{Elements.contains-get, TreeLemmas.child_list_of_children as child_list_back}
-use Rattle.comp_meaning.specs.Follow.{Instance, Scope, Seen, interface_of, is_filled, is_key, is_key_primitive, place_of}
+use Rattle.comp_meaning.specs.Follow.{Instance, Scope, Seen, interface_of, is_filled, is_key, is_key_primitive, instance_place}
 use Rattle.read_shown.specs.{Parts.PartStands, Parts.instances_of, Parts.named_instance, Scopes.IsMetInScope, Scopes.IsShownBefore, Scopes.ShownStands}
 use Rattle.read_shown.specs.Trees.{AllAt, DeclarationStands, SignatureStands, TreeStands, is_formed}
 use Rattle.read_shown.specs.Views.{IsMetInView, TypeStands, ViewStands}
@@ -69,7 +69,7 @@ module _ (t : Tables) (tables : AreTables t) (Obeys : Form → List ℕ → Type
   declared_obeys Met b None stands = tt
   declared_obeys Met b (Some k) stands = by (tree_at t k) refl stands
     where
-      by : (x : Tree) → tree_at t k ≡ x → DeclarationStands Met (Declaration.type_ x) b → EachForm t Obeys k
+      by : (x : Tree) → tree_at t k ≡ x → DeclarationStands Met (TypeDeclaration.type_ x) b → EachForm t Obeys k
       by (Tree.primitive p) e stands = part_obeys Met k (subst (TreeStands Met) (sym e) tt)
       by (Tree.named place name) e stands = part_obeys (λ p n r. Unit {0}) k (subst (TreeStands (λ p n r. Unit {0})) (sym e) tt)
       by (Tree.node form ts) e stands = part_obeys Met k (subst (TreeStands Met) (sym e) stands.1)
@@ -107,8 +107,8 @@ module _ (t : Tables) (tables : AreTables t) (Obeys : Form → List ℕ → Type
     seen_obeys n (shown.Instance key v) external_id is =
         let x : Instance = record { interface = interface_of (key_of t (numbered_key key)); view = view_of t (numbered_view v) } in
         let view = stands.instances is.0 x is.1 in (
-          view_types (IsShownBefore scope.instances is.0) (place_of x.interface) (numbered_view v) view,
-          view_functions (IsShownBefore scope.instances is.0) (place_of x.interface) (numbered_view v) view,
+          view_types (IsShownBefore scope.instances is.0) (instance_place x.interface) (numbered_view v) view,
+          view_functions (IsShownBefore scope.instances is.0) (instance_place x.interface) (numbered_view v) view,
         )
     seen_obeys n (shown.Function m) external_id is = (tt, (signature_obeys (IsMetInScope scope.instances scope.imports n) m is, tt))
     seen_obeys n (shown.Declares part d) external_id is = ((declared_obeys (IsMetInScope scope.instances scope.imports n) is.0 d is.1, tt), tt)
@@ -124,7 +124,7 @@ module _ (t : Tables) (tables : AreTables t) (Obeys : Form → List ℕ → Type
 
   -- an instance whose view is well-formed behind some of these
   abbrev StandsAmong : List Instance → Instance → Type 0
-  StandsAmong all x = (n : ℕ) × ViewStands (IsShownBefore all n) (place_of x.interface) x.view
+  StandsAmong all x = (n : ℕ) × ViewStands (IsShownBefore all n) (instance_place x.interface) x.view
 
   module _ (h : Homes) (all : List Instance) (m : Member) (label : Text) (identity : PackageIdentity) where
     part_obeys_all : (part : Part) (y : reads.Part) → ShowsPart t h (numbered_member m) (numbered_part part) y
@@ -142,17 +142,17 @@ module _ (t : Tables) (tables : AreTables t) (Obeys : Form → List ℕ → Type
         let last : Instance = named_instance (path_in identity label, view) in
         let V = λ (n : ℕ) (x : Instance). StandsAmong all x in
         let own = each_stands last (Contains-append_right front (last ∷ []) last (contains-one last)) in
-        let own_view = subst (ViewStands (IsShownBefore all own.0) (place_of last.interface)) is.shown own.1 in
+        let own_view = subst (ViewStands (IsShownBefore all own.0) (instance_place last.interface)) is.shown own.1 in
         let each : AllByRecursion (λ (i : ImportedView). AllByRecursion ShowingStands (showings_of_import i)) imports.now =
         at_each (λ (i : ImportedView). named_instance (path_text t i.place, view_of t (numbered_view i.view))) V (λ i. Unit {0})
         (λ (i : ImportedView). AllByRecursion ShowingStands (showings_of_import i)) imports.now
-        (λ n i any is. view_types (IsShownBefore all is.0) (place_of (Some (path_text t i.place))) (numbered_view i.view) is.1) (all_any imports.now)
+        (λ n i any is. view_types (IsShownBefore all is.0) (instance_place (Some (path_text t i.place))) (numbered_view i.view) is.1) (all_any imports.now)
         (subst (AllAt V) (ap (map named_instance) is.imported ∙ (map_of_map named_instance (λ (i : ℕ × NumberedView). (path_text t i.0, view_of t i.1)) (map numbered_import imports.now)
         ∙ map_of_map (λ (i : ℕ × NumberedView). named_instance (path_text t i.0, view_of t i.1)) numbered_import imports.now))
         (λ n x e. each_stands x (Contains-append_left front (last ∷ []) x (get-contains front n x e)))) in (
           all_both ShowingStands (flat_map showings_of_import imports.now) (showings_of_view (numbered_view v)) (all_flat ShowingStands showings_of_import imports.now each)
-              (view_types (IsShownBefore all own.0) (place_of last.interface) (numbered_view v) own_view),
-          view_functions (IsShownBefore all own.0) (place_of last.interface) (numbered_view v) own_view,
+              (view_types (IsShownBefore all own.0) (instance_place last.interface) (numbered_view v) own_view),
+          view_functions (IsShownBefore all own.0) (instance_place last.interface) (numbered_view v) own_view,
         )
     part_obeys_all _ _ is each_stands stands = absurd is
 

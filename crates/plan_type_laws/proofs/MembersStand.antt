@@ -3,7 +3,7 @@ use Rattle.std.proofs.Common.{rules as std_rules, ◌≡◌, sym, subst, ℕ, su
 use Rattle.std.proofs.ByRecursion.{All-weaker as recursion_weaker}
 use Rattle.std.specs.List.{AllByRecursion}
 use Rattle.wit_model.specs.{Text.Text, Tree.Place}
-use Rattle.comp_meaning.specs.Follow.{Instance, place_of}
+use Rattle.comp_meaning.specs.Follow.{Instance, instance_place}
 use Rattle.read_shown.specs.{Parts.MemberStands, Parts.PartStands, Parts.instances_of, Scopes.IsShownBefore, Trees.AllAt, Views.ViewStands}
 use Rattle.read_shown.proofs.Views.{view_wider}
 use Rattle.plan_type_laws.specs.MembersStand.{MembersStandTogether, all_instances}
@@ -26,7 +26,7 @@ shown_behind count some all stand n place name b s = search std_rules
 
 module _ (all : List Instance) where
   views_behind : (count : ℕ) (members : List reads.Member) → StandBehind count (all_instances members) all → AllByRecursion MemberStands members
-      → AllAt (λ n (x : Instance). ViewStands (IsShownBefore all (count + n)) (place_of x.interface) x.view) (all_instances members)
+      → AllAt (λ n (x : Instance). ViewStands (IsShownBefore all (count + n)) (instance_place x.interface) x.view) (all_instances members)
   views_behind count [] stand each n x e = absurd cc
   views_behind count (m ∷ members) stand each n x e = by (views_behind (count + length (instances_of m)) members (λ k y f.
       let found = behind_at (instances_of m) (all_instances members) k y f in
@@ -35,16 +35,16 @@ module _ (all : List Instance) where
       here : StandBehind count (instances_of m) all
       here k y f = stand k y (at_front (instances_of m) (all_instances members) k y f)
 
-      by : AllAt (λ k (y : Instance). ViewStands (IsShownBefore all (count + length (instances_of m) + k)) (place_of y.interface) y.view) (all_instances members)
+      by : AllAt (λ k (y : Instance). ViewStands (IsShownBefore all (count + length (instances_of m) + k)) (instance_place y.interface) y.view) (all_instances members)
           → (slice_get (instances_of m) n ≡ Some x) ⊎ ((k : ℕ) × (n ≡ length (instances_of m) + k) × (slice_get (all_instances members) k ≡ Some x))
-          → ViewStands (IsShownBefore all (count + n)) (place_of x.interface) x.view
-      by rest (inl own) = view_wider (IsShownBefore (instances_of m) n) (IsShownBefore all (count + n)) (shown_behind count (instances_of m) all here n) (place_of x.interface) x.view
+          → ViewStands (IsShownBefore all (count + n)) (instance_place x.interface) x.view
+      by rest (inl own) = view_wider (IsShownBefore (instances_of m) n) (IsShownBefore all (count + n)) (shown_behind count (instances_of m) all here n) (instance_place x.interface) x.view
           (each.0.views n x own)
-      by rest (inr behind) = subst (λ i. ViewStands (IsShownBefore all i) (place_of x.interface) x.view) (omega (arith, behind.1)) (rest behind.0 x behind.2)
+      by rest (inr behind) = subst (λ i. ViewStands (IsShownBefore all i) (instance_place x.interface) x.view) (omega (arith, behind.1)) (rest behind.0 x behind.2)
 
 pub members_stand_together : MembersStandTogether
 members_stand_together members each = record {
-  views = λ n x e. subst (λ i. ViewStands (IsShownBefore (all_instances members) i) (place_of x.interface) x.view) (from_start n)
+  views = λ n x e. subst (λ i. ViewStands (IsShownBefore (all_instances members) i) (instance_place x.interface) x.view) (from_start n)
       (views_behind (all_instances members) 0 members (λ k y f. subst (λ i. slice_get (all_instances members) i ≡ Some y) (sym (from_start k)) f) each n x e);
   parts = recursion_weaker MemberStands (λ (m : reads.Member). PartStands m.part) (λ m is. is.part) members each;
 }

@@ -2,7 +2,7 @@
 use Rattle.std.proofs.Common.{◌≡◌, sym, ap, subst, ◌∙◌, ℕ, Bool, false, List, [], ◌∷◌, ◌++◌, map, length, Option, Some, None, slice_get}
 use Rattle.std.specs.List.{AllByRecursion, AllZip}
 use Rattle.wit_model.specs.{Meaning.FunctionMeaning, Names.PackageIdentity, Names.path_in, Text.Text}
-use Rattle.comp_meaning.specs.Follow.{Instance, Scope, Seen, ShownType, interface_of, place_of}
+use Rattle.comp_meaning.specs.Follow.{Instance, Scope, Seen, ShownType, interface_of, instance_place}
 use Rattle.read_shown.specs.Kinds.{MemberHasKinds, OfKind, ShownHasKind, ViewHasKinds, WorldHasKinds, kind_at}
 use Rattle.read_shown.specs.{Parts.PartStands, Parts.named_instance, Scopes.ShownStands, Trees.AllAt, Trees.DeclarationStands, Trees.SignatureStands}
 use Rattle.plan_meaning.specs.FollowedNumbers.{AreMembersIn, IsCalledIn, IsMetFrom, IsPartIn, IsScopeIn, IsSeenIn, IsShownIn, IsViewIn}
@@ -63,11 +63,11 @@ module _ (t : Tables) (kinds : Text → Text → Bool) where
 
   -- ---- views
 
-  view_kinds : (instances : List Instance) (n : ℕ) (interface : Option Text) (p : ℕ) → place_of interface ≡ place_at t p → (v : NumberedView) → IsViewIn t p v
+  view_kinds : (instances : List Instance) (n : ℕ) (interface : Option Text) (p : ℕ) → instance_place interface ≡ place_at t p → (v : NumberedView) → IsViewIn t p v
       → ViewHasKinds kinds instances n (record { interface = interface; view = view_of t v }) → ViewKinds p v
   view_kinds instances n interface p e v within h = record {
     own = h.own;
-    types = at_each (shown_type t) (λ n (x : ShownType). DeclarationStands (OfKind (kind_at kinds h.own)) x.meaning.declaration (kind_at kinds h.own (place_of interface) x.name)) (IsShownIn t p)
+    types = at_each (shown_type t) (λ n (x : ShownType). DeclarationStands (OfKind (kind_at kinds h.own)) x.meaning.declaration (kind_at kinds h.own (instance_place interface) x.name)) (IsShownIn t p)
         (λ (x : NumberedType). IsShownIn t p x × DeclarationStands (OfKind (kind_at kinds h.own)) (declaration_of t x.declared) (kind_at kinds h.own (place_at t p) x.name)) v.types
         (λ n x is d. (is, subst (λ place. DeclarationStands (OfKind (kind_at kinds h.own)) (declaration_of t x.declared) (kind_at kinds h.own place x.name)) e d)) within.types h.types;
     functions = at_each (shown_function t) (λ n (f : Text × FunctionMeaning). SignatureStands (OfKind (kind_at kinds h.own)) f.1.signature)
@@ -89,7 +89,7 @@ module _ (t : Tables) (kinds : Text → Text → Bool) where
     shown_kinds n (shown.Declares part d) key external_id within named is kind = record {
       is = name_there t part named.0 home key named.1 named.2;
       met = within.1.met;
-      kind = subst (λ place. DeclarationStands (OfKind (kind_at kinds own)) (declaration_of t d) (kind_at kinds own place key)) (sym (ap place_of no_path)) kind;
+      kind = subst (λ place. DeclarationStands (OfKind (kind_at kinds own)) (declaration_of t d) (kind_at kinds own place key)) (sym (ap instance_place no_path)) kind;
     }
 
     seen_kinds : (count : ℕ → ℕ) (ss : List NumberSeen) → AllByRecursion (IsSeenIn t home) (map numbered_seen ss) → AllByRecursion (NamesSeen t home) ss

@@ -8,7 +8,7 @@ use Rattle.std.proofs.{ByRecursion.All-weaker as recursion_weaker, lemmas.Option
 use Rattle.std.specs.List.{AllByRecursion}
 use Rattle.wit_model.specs.{Names.PackageIdentity, Names.path_in, Text.Text}
 use Rattle.wit_model.proofs.NameLaws.{read_path_is_spelled}
-use Rattle.comp_meaning.specs.Follow.{Seen, interface_of, place_of}
+use Rattle.comp_meaning.specs.Follow.{Seen, interface_of, instance_place}
 use Rattle.read_shown.specs.Trees.{AllAt}
 use Rattle.read_rules.specs.declared.scopes.{Seen.Seen as NumberSeen, Shown.Shown as NumberShown}
 use Rattle.read_rules.specs.Scopes.{numbered_seen, numbered_shown}
@@ -27,11 +27,11 @@ pub slot_number : (t : Tables) (s : NumberedSlot) (n : ℕ) → IsSlotOf t s n �
 slot_number t x n e = search std_rules
 
 module _ (t : Tables) where
-  pub path_place : (p : ℕ) → HasPath t p → place_of (Some (path_text t p)) ≡ place_at t p
-  path_place p x = ap (λ o. place_of (Some (unwrap_or o []))) x.1 ∙ sym (ap place_of x.1)
+  pub path_place : (p : ℕ) → HasPath t p → instance_place (Some (path_text t p)) ≡ place_at t p
+  path_place p x = ap (λ o. instance_place (Some (unwrap_or o []))) x.1 ∙ sym (ap instance_place x.1)
 
   -- the place of an instance
-  pub key_place : (k : NumberedKey) → KeyStands t k → place_of (interface_of (key_of t k)) ≡ place_at t (place_of_key k)
+  pub key_place : (k : NumberedKey) → KeyStands t k → instance_place (interface_of (key_of t k)) ≡ place_at t (place_of_key k)
   key_place y x = search std_rules
 
   -- no type is exported
@@ -44,10 +44,10 @@ module _ (t : Tables) where
 
   -- the place of an interface that is exported, by its package and its name
   pub exported_place : (h : Homes) → HomesStand t h → (m : Member) (identity : PackageIdentity) → slice_get h.packages m.package_number ≡ Some identity → (name : Text) → name ≡ m.label.now
-      → (p : ℕ) → HasPath t p → home_at h p ≡ Some (m.package_number, m.label.now) → place_of (Some (path_in identity name)) ≡ place_at t p
+      → (p : ℕ) → HasPath t p → home_at h p ≡ Some (m.package_number, m.label.now) → instance_place (Some (path_in identity name)) ≡ place_at t p
   exported_place h stand m identity there name under p x at =
       let home = stand.homes p x.0 x.1 in
       let pair : ◌≡◌ {A = ℕ × Text} (home.package_, home.name) (m.package_number, m.label.now) = same-some (home.package_, home.name) (m.package_number, m.label.now) (sym home.home ∙ at) in
       let same : home.identity ≡ identity = same-some home.identity identity (sym home.stands ∙ (ap (λ (y : ℕ × Text). slice_get h.packages y.0) pair ∙ there)) in
       let called : home.name ≡ name = ap (λ (y : ℕ × Text). y.1) pair ∙ sym under in
-      ap (λ o. place_of (Some o)) (sym ((read_path_is_spelled x.0 home.identity home.name home.reads).spelled ∙ (λ i. path_in (same i) (called i)))) ∙ sym (ap place_of x.1)
+      ap (λ o. instance_place (Some o)) (sym ((read_path_is_spelled x.0 home.identity home.name home.reads).spelled ∙ (λ i. path_in (same i) (called i)))) ∙ sym (ap instance_place x.1)

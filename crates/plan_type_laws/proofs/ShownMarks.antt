@@ -6,8 +6,8 @@ use Rattle.std.proofs.Common.{rules as std_rules, ◌≡◌, ◌⊎◌, inl, inr
 use Rattle.std.proofs.ByRecursion.{All-map as all_mapped, All-weaker as recursion_weaker}
 use Rattle.std.proofs.lemmas.Bool.{and_from as both, eqb-true, not-true}
 use Rattle.std.specs.{List.AllByRecursion, List.Contains, List.list_all, List.flat_map, Option.option_map_or}
-use Rattle.wit_model.specs.{Text.Text, Tree.Declaration, Tree.Form, Tree.Place, Tree.Tree, Tree.children, Uses.has}
-use Rattle.comp_meaning.specs.Follow.{place_of}
+use Rattle.wit_model.specs.{Text.Text, Tree.TypeDeclaration, Tree.Form, Tree.Place, Tree.Tree, Tree.children, Uses.has}
+use Rattle.comp_meaning.specs.Follow.{instance_place}
 use Rattle.read_shown.specs.{Kinds.OfKind, Kinds.kind_at, Trees.DeclarationStands, Trees.PartsStand, Trees.SignatureStands, Trees.TreeStands, Trees.is_handle}
 use Rattle.plan_meaning.proofs.{Lists.no_true, ShapeLaws.PartView, ShapeLaws.is_name, ShapeLaws.is_node, ShapeLaws.is_primitive}
 use Rattle.plan_meaning.proofs.NumberedRules.{no_shape, shape_there}
@@ -73,7 +73,7 @@ module _ (t : Tables) (tables : AreTables t) (kinds : Text → Text → Bool) (o
   HasOwn p own = (name : Text) → kind_at kinds own (place_at t p) name ≡ kind_of (p, name)
 
   pub own_by_path : (p : ℕ) (own : Text → Bool) → HasPath t p → HasOwn p own
-  own_by_path p own x name = ap (λ o. kind_at kinds own (place_of o) name) x.1 ∙ sym (ap (λ o. kind_at kinds (own_at p) (place_of o) name) x.1)
+  own_by_path p own x name = ap (λ o. kind_at kinds own (instance_place o) name) x.1 ∙ sym (ap (λ o. kind_at kinds (own_at p) (instance_place o) name) x.1)
 
   module _ (p : ℕ) (own : Text → Bool) (has : HasOwn p own) where
     abbrev Kind : Place → Text → Bool → Type 0
@@ -169,13 +169,13 @@ module _ (t : Tables) (tables : AreTables t) (kinds : Text → Text → Bool) (o
       where
         by : PartView (place_at t) t.shapes tables.shapes old (tree_at t old) → DeclaredIsMarked b (Some old)
         by (is_primitive x small is number) =
-            record { tells = λ k e. e ∙ (subst (λ y. DeclarationStands Kind (Declaration.type_ y) b) is stands ∙ sym (mark_of_primitive old small)); inner = no_form old small }
+            record { tells = λ k e. e ∙ (subst (λ y. DeclarationStands Kind (TypeDeclaration.type_ y) b) is stands ∙ sym (mark_of_primitive old small)); inner = no_form old small }
         by (is_name n q name en at is) = record {
-          tells = λ k e. e ∙ (subst (λ y. DeclarationStands Kind (Declaration.type_ y) b) is stands ∙ name_mark old n q name en at met.names);
+          tells = λ k e. e ∙ (subst (λ y. DeclarationStands Kind (TypeDeclaration.type_ y) b) is stands ∙ name_mark old n q name en at met.names);
           inner = record { holds = λ m form parts within there. name_alone t tables old m (place_at t q) name form parts is within there };
         }
         by (is_node n form parts en at is low) =
-            let kind = subst (λ y. DeclarationStands Kind (Declaration.type_ y) b) is stands in
+            let kind = subst (λ y. DeclarationStands Kind (TypeDeclaration.type_ y) b) is stands in
             record { tells = λ k e. e ∙ (kind.0 ∙ sym (ap marks en ∙ mark_of_form n form parts at)); inner = part_marked old met.names (subst (TreeStands Kind) (sym is) kind.1) }
 
     -- ---- functions

@@ -27,7 +27,7 @@ use Rattle.plan_type_laws.specs.ShownForms.{EachForm, FindsShown, FormsHold, its
 use Rattle.plan_type_laws.specs.{ShownMarks.NamesSeen, ShownMarks.NamesShown, ShownMarks.PartNames, UsedParts.ShowingObeys, UsedParts.SignatureObeys}
 use Rattle.plan_type_laws.specs.ShownRules.{NamesObeyRules, ShowingIsName, ShownObeysRules}
 use Rattle.base_lemmas.proofs.{Elements.all_at, Elements.zip_at_right as zip_get, Elements.all_both, Bools.left_of as first_true, Bools.right_of as second_true}
-use Rattle.comp_meaning.specs.{Follow.Scope, Follow.Seen, Follow.ShownType, Follow.View, Follow.interface_of, Follow.place_of, Reads.Sight}
+use Rattle.comp_meaning.specs.{Follow.Scope, Follow.Seen, Follow.ShownType, Follow.View, Follow.interface_of, Follow.instance_place, Reads.Sight}
 use Rattle.read_shown.specs.{Parts.PartStands, Trees.AllAt}
 use Rattle.read_rules.specs.declared.{reached.ImportedView.ImportedView, scopes.Scope.Scope as NumberScope, scopes.Shown.Shown as NumberShown}
 use Rattle.read_rules.specs.declared.scopes.Seen.{Seen as NumberSeen}
@@ -194,13 +194,13 @@ module _ (t : Tables) (tables : AreTables t) where
       there = named.2;
       behind = subst (λ n. AllOf (λ k. k < 14 + n) d) (tables.shapes.apart within.0 named.0 (named_shape home key) within.1.named named.2) within.1.behind;
       label = first_true (is_label key) (rules.is_declared Place.here (declaration_of t d)) h;
-      obeys = ap (λ o. rules.is_declared (place_of o) (declaration_of t d)) no_path ∙ second_true (is_label key) (rules.is_declared Place.here (declaration_of t d)) h;
+      obeys = ap (λ o. rules.is_declared (instance_place o) (declaration_of t d)) no_path ∙ second_true (is_label key) (rules.is_declared Place.here (declaration_of t d)) h;
     }
 
     item_obeys : (resources : List Text) (key : Text) (s : NumberShown) (external_id : Option Text) → IsSeenIn t home (record { key = key; shown = numbered_shown s; external_id = external_id })
         → NamesShown t home key s → rules.is_item resources key (shown_of t (numbered_shown s)) ≡ true → Hold (showings_of_shown s external_id) (signatures_of_shown s)
     item_obeys resources key (shown.Instance k v) external_id within named h =
-        view_obeys (place_of_key (numbered_key k)) (numbered_view v) within.1 (place_of (interface_of (key_of t (numbered_key k)))) (key_place t (numbered_key k) within.0) h
+        view_obeys (place_of_key (numbered_key k)) (numbered_view v) within.1 (instance_place (interface_of (key_of t (numbered_key k)))) (key_place t (numbered_key k) within.0) h
     item_obeys resources key (shown.Function n) external_id within named h = (tt, (call_obeys home n Place.here within (function_signature Place.here resources key (signature_at t n) h), tt))
     item_obeys resources key (shown.Declares part d) external_id within named h = ((name_obeys key part d external_id named within h, tt), tt)
 

@@ -4,7 +4,7 @@ use Rattle.plan_meaning.proofs.ShapeLaws.{PartView, is_name, is_node, is_primiti
 use Rattle.std.proofs.Common.{rules as std_rules, ◌≡◌, refl, sym, ap, subst, ◌∙◌, ℕ, ◌+◌, ◌-◌, ◌≤◌, arith, Bool, true, false, not, ◌==◌, if◌then◌else◌, List, [], ◌∷◌, map, Option, Some, None, option_and_then, option_map, option_to_list, slice_get}
 use Rattle.std.proofs.lemmas.{Bool.le-leb, Bool.leb-true, Option.slice_get_within, Option.same_Some as same-some}
 use Rattle.std.specs.{List.AllByRecursion, List.flat_map, List.list_all, Option.option_map_or}
-use Rattle.wit_model.specs.{Text.Text, Uses.has, Tree.Declaration, Tree.Form, Tree.Place, Tree.Tree, Tree.children, Tree.deepest, Tree.levels}
+use Rattle.wit_model.specs.{Text.Text, Uses.has, Tree.TypeDeclaration, Tree.Form, Tree.Place, Tree.Tree, Tree.children, Tree.deepest, Tree.levels}
 use Rattle.comp_meaning.specs.Rules.{are_parts, most_levels}
 use Rattle.plan_meaning.specs.NumberedRules.{is_form, name_at, name_in}
 use Rattle.plan_meaning.specs.NumberedViews.{AllOf, AreTables, IsPart, Tables, declaration_of, function_at, place_at, tree_at}
@@ -65,7 +65,7 @@ module _ (t : Tables) (tables : AreTables t) where
         by (is_name m q x is at stands) = let wrong : false ≡ true = sym (ap (is_form t) is
             ∙ ap (λ o. option_map_or (λ (s : Shape). not (s.sort == 0)) o false) (shape_there t (14 + m) m (named_shape q x) refl at)) ∙ form in absurd cc
         by (is_node m f ks is at stands parts) =
-            let rule = sym (ap (λ x. rules.is_declared place (Declaration.type_ x)) stands) ∙ obeys in
+            let rule = sym (ap (λ x. rules.is_declared place (TypeDeclaration.type_ x)) stands) ∙ obeys in
             among_parts place ks (second_true _ _ (first_true _ _ rule)) (leb-true _ _ (second_true _ _ rule)) (14 + n)
             (sym (ap (λ l. has l (14 + n)) (ap (form_parts t) is ∙ ap (λ o. option_map_or (λ (s : Shape). s.parts) o []) (shape_there t (14 + m) m (node_shape f ks) refl at))) ∙ there)
 

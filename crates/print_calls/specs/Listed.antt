@@ -1,6 +1,6 @@
 -- What a list of calls shows.
 use Rattle.std.specs.{Prelude.List, Prelude.[], Prelude.map, Prelude.false, String.string_bytes}
-use Rattle.print_output.specs.OutputCall.{OutputCall, View}
+use Rattle.print_output.specs.OutputCall.{OutputCall, OutputView}
 use Rattle.print_calls.specs.declared.{call.Call.Call, call_list.CallList.CallList}
 use Rattle.print_calls.specs.declared.call.Call.TheVariants as call
 
@@ -27,9 +27,9 @@ abbrev pub calls_of : List Call → List OutputCall
 calls_of calls = map call_of calls
 
 -- whether a line has just begun, and the calls in order
-abbrev pub listed : CallList → View (List OutputCall)
+abbrev pub listed : CallList → OutputView (List OutputCall)
 listed it = record { line_begun = it.line_begun; kept = calls_of it.calls.items }
 
 -- no call yet, and no line begun
-abbrev pub no_calls : View (List OutputCall)
+abbrev pub no_calls : OutputView (List OutputCall)
 no_calls = record { line_begun = false; kept = [] }

@@ -2,7 +2,7 @@
 use Rattle.std.proofs.Common.{◌≡◌, [], ◌∷◌, ◌++◌, List, ℕ, refl, codes, None, Some, true}
 use Rattle.print_grammar.specs.Keyword.Keyword.{PrimitiveWord, Package, Interface, Func, Variant, Flags, Enum, Resource, Async, Type_}
 use Rattle.print_grammar.specs.{Keyword.Keyword, Calls.file_calls, Tree.Gates.Ungated, Grammar.IsId.plain, Reading.IsReading}
-use Rattle.print_grammar.specs.{Keyword.Primitive.U8, Token.Token, Token.Tokens, Grammar.ReadsLabel.label, Grammar.ReadsHead.head, Grammar.ReadsFile.file}
+use Rattle.print_grammar.specs.{Keyword.PrimitiveName.U8, Token.Token, Token.Tokens, Grammar.ReadsLabel.label, Grammar.ReadsHead.head, Grammar.ReadsFile.file}
 use Rattle.print_grammar.specs.{Token.Token.Word, Token.Token.Key, Token.Token.Punctuation, Tree.TypeTree.PrimitiveType, Tree.TypeTree.Name, Tree.TypeTree.Own}
 use Rattle.print_grammar.specs.Token.Mark.{OpenBrace, CloseBrace, OpenParen, CloseParen, Less, Greater, Colon, Semi, Comma, Equals, Arrow}
 use Rattle.print_grammar.specs.{Grammar.ReadsParams.no_params, Grammar.ReadsParams.params}
@@ -10,7 +10,7 @@ use Rattle.print_grammar.specs.{Tree.ResourceMember, Tree.FileTree, Grammar.Read
 use Rattle.print_grammar.specs.Tree.{Declared.VariantOf, Declared.FlagsOf, Declared.EnumOf, Declared.AliasOf, Declared.ResourceOf, ItemTree.InterfaceItem}
 use Rattle.print_grammar.specs.{Tree.MemberTree.TypeMember, Grammar.ReadsGates.no_gates, Grammar.ReadsPrefix.prefix, Grammar.ReadsMember.member_type}
 use Rattle.print_grammar.specs.Grammar.{Repeated.closed, Repeated.again, ReadsCase.case_alone, ReadsCase.case_of, ReadsItems.no_items, ReadsItems.next_item}
-use Rattle.print_grammar.specs.Grammar.{Listed.last, Listed.last_with_comma, Listed.next, ReadsType.primitive, ReadsType.named, ReadsType.own, ReadsParam.param}
+use Rattle.print_grammar.specs.Grammar.{CommaList.last, CommaList.last_with_comma, CommaList.next, ReadsType.primitive, ReadsType.named, ReadsType.own, ReadsParam.param}
 use Rattle.print_grammar.specs.Grammar.{ReadsResult.no_result, ReadsResult.with_result, ReadsSignature.func, ReadsSignature.async_func, ReadsVersion.no_version}
 use Rattle.print_grammar.specs.Grammar.{ReadsResourceMember.constructor_, ReadsResourceMember.method, ReadsResourceMember.static, ReadsAllNested.nested_end}
 use Rattle.print_grammar.specs.Grammar.ReadsDeclared.{variant, flags, enum, alias, resource_with}

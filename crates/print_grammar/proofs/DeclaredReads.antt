@@ -9,7 +9,7 @@ use Rattle.print_grammar.specs.Tree.{TypeTree, Prefix, FieldTree, CaseTree, Labe
 use Rattle.print_grammar.specs.Tree.TypeTree.{ListOf, FixedListOf, MapOf, Future, FutureOf, Stream, StreamOf}
 use Rattle.print_grammar.specs.Tree.Declared.{RecordOf, VariantOf, FlagsOf, EnumOf, AliasOf, ResourceOf}
 use Rattle.print_grammar.specs.AsRead.{type_as_read, bare_prefix, bare_field, bare_case, bare_label, bare_signature, bare_resource_member, bare_declared}
-use Rattle.print_grammar.specs.Grammar.{ReadsSignature, ReadsType, ReadsField, ReadsCase, ReadsLabel, ReadsResourceMember, ReadsDeclared, ReadsPrefix, Listed, Repeated, Listed.last_with_comma, Listed.next, Repeated.closed, Repeated.again}
+use Rattle.print_grammar.specs.Grammar.{ReadsSignature, ReadsType, ReadsField, ReadsCase, ReadsLabel, ReadsResourceMember, ReadsDeclared, ReadsPrefix, CommaList, Repeated, CommaList.last_with_comma, CommaList.next, Repeated.closed, Repeated.again}
 use Rattle.print_grammar.specs.WellNamed.{is_well_type, is_well_param, is_well_signature, is_well_prefix, is_well_field, is_well_case, is_well_label, is_well_resource_member, is_well_declared, are_well_some}
 use Rattle.print_output.specs.OutputCall.{OutputCall, is_one_line}
 use Rattle.print_output.specs.OutputCall.OutputCall.{Keyword, Ty, Param, Case, Str, Semicolon, IndentStart, IndentEnd, Newline}
@@ -67,12 +67,12 @@ block_reads {word} k name of_kind body more letter s h inside make = relist (
 pub lines_read : {X : Type 0} (calls : X → List OutputCall) (well : X → Bool) (read : X → X) (Reads : List Token → X → List Token → Type 0)
     → ((x : X) → well x ≡ true → (more : List OutputCall) (ts : List Token) → Follows true more ts → Printed true (calls x ++ more) (λ before. Reads before (read x) (Punctuation Comma ∷ ts)))
     → (xs : List X) → are_well_some well xs ≡ true → {more : List OutputCall} {after : List Token} → Follows true more after
-    → Printed true (flat_map calls xs ++ (IndentEnd ∷ more)) (λ before. Listed Reads (Punctuation CloseBrace) before (map read xs) after)
+    → Printed true (flat_map calls xs ++ (IndentEnd ∷ more)) (λ before. CommaList Reads (Punctuation CloseBrace) before (map read xs) after)
 lines_read {X} calls well read Reads each [] h f = absurd cc
 lines_read {X} calls well read Reads each (x ∷ xs) h {more} {after} f = go x xs (right_of (nat_lt 0 (length (x ∷ xs))) _ h)
   where
     go : (y : X) (ys : List X) → list_all well (y ∷ ys) ≡ true
-        → Printed true (flat_map calls (y ∷ ys) ++ (IndentEnd ∷ more)) (λ before. Listed Reads (Punctuation CloseBrace) before (map read (y ∷ ys)) after)
+        → Printed true (flat_map calls (y ∷ ys) ++ (IndentEnd ∷ more)) (λ before. CommaList Reads (Punctuation CloseBrace) before (map read (y ∷ ys)) after)
     go y [] g = let i = each y (left_of _ _ g) _ _ (end_call f) in simp append-nil (i.0, i.1, last_with_comma i.2)
     go y (z ∷ zs) g = let r = go z zs (right_of (well y) _ g) in let i = each y (left_of _ _ g) _ _ r.1 in relist (i.0, i.1, next i.2 r.2) (simp append_assoc)
 

@@ -3,8 +3,8 @@ use Rattle.std.proofs.Common.{rules as std_rules, ◌≡◌, List, [], ◌∷◌
 use Rattle.print_grammar.specs.{Token.Token, Tree.TypeTree, Tree.ParamTree, Tree.SignatureTree, Grammar.ReadsParams.no_params, Grammar.ReadsParams.params}
 use Rattle.print_grammar.specs.{Token.Token.Punctuation, Token.Token.Key, Grammar.Repeated.closed, Grammar.Repeated.again}
 use Rattle.print_grammar.specs.{Token.Mark.Comma, Token.Mark.CloseParen}
-use Rattle.print_grammar.specs.Grammar.{IsId, Listed, Repeated, ReadsParam, ReadsParams, ReadsResult, ReadsSignature}
-use Rattle.print_grammar.specs.Grammar.{Listed.last, Listed.last_with_comma, Listed.next, ReadsParam.param, ReadsResult.no_result, ReadsResult.with_result}
+use Rattle.print_grammar.specs.Grammar.{IsId, CommaList, Repeated, ReadsParam, ReadsParams, ReadsResult, ReadsSignature}
+use Rattle.print_grammar.specs.Grammar.{CommaList.last, CommaList.last_with_comma, CommaList.next, ReadsParam.param, ReadsResult.no_result, ReadsResult.with_result}
 use Rattle.print_grammar.proofs.TypeTokens.{id-unique, tail_same, type-unique, stops, no_less}
 
 -- the same tree, and the same tokens after it
@@ -26,11 +26,11 @@ head_same e = cc
 abbrev pub Never : {X : Type 0} → (List Token → X → List Token → Type 0) → Token → Type 0
 Never {X} Reads t = (after : List Token) (x : X) (rest : List Token) → Reads (t ∷ after) x rest → ⊥
 
-never_listed : {X : Type 0} {Reads : List Token → X → List Token → Type 0} {close t : Token} {after rest : List Token} {xs : List X} → Never Reads t → Listed Reads close (t ∷ after) xs rest → ⊥
+never_listed : {X : Type 0} {Reads : List Token → X → List Token → Type 0} {close t : Token} {after rest : List Token} {xs : List X} → Never Reads t → CommaList Reads close (t ∷ after) xs rest → ⊥
 never_listed never x = search std_rules
 
 pub listed-unique : {X : Type 0} {Reads : List Token → X → List Token → Type 0} {close : Token} → UniqueBefore Reads → ((ts : List Token) → stops (close ∷ ts) ≡ true) → (close ≡ Punctuation Comma → ⊥)
-    → Never Reads close → {before after rest : List Token} {xs ys : List X} → Listed Reads close before xs after → Listed Reads close before ys rest → Same xs ys after rest
+    → Never Reads close → {before after rest : List Token} {xs ys : List X} → CommaList Reads close before xs after → CommaList Reads close before ys rest → Same xs ys after rest
 listed-unique one stop other never (last a) (last b) = let h = one _ _ _ _ _ (stop _) (stop _) a b in (ap (λ x. x ∷ []) h.0, tail_same h.1)
 listed-unique one stop other never (last a) (last_with_comma b) = let h = one _ _ _ _ _ (stop _) refl a b in absurd (other (head_same h.1))
 listed-unique one stop other never (last a) (next b m) = let h = one _ _ _ _ _ (stop _) refl a b in absurd (other (head_same h.1))

@@ -5,7 +5,7 @@ use Rattle.print_grammar.specs.{Keyword.escaped, Token.Token, WellNamed.is_well_
 use Rattle.print_grammar.specs.{Keyword.Keyword.As, Keyword.Keyword.Use, Token.Token.Punctuation, Token.Token.Key, Token.Token.VersionText}
 use Rattle.print_grammar.specs.Calls.{path_calls, version_calls, used_name_calls, own_name_calls, separated, space as space_call}
 use Rattle.print_grammar.specs.Token.Mark.{Colon, Slash, At, Dot, OpenBrace, CloseBrace, Semi}
-use Rattle.print_grammar.specs.{Tree.PathTree, Tree.UsedName, Grammar.Listed, Grammar.ReadsPath, Grammar.ReadsVersion, Grammar.ReadsUsedName, Grammar.ReadsUse}
+use Rattle.print_grammar.specs.{Tree.PathTree, Tree.UsedName, Grammar.CommaList, Grammar.ReadsPath, Grammar.ReadsVersion, Grammar.ReadsUsedName, Grammar.ReadsUse}
 use Rattle.print_grammar.specs.Tree.PathTree.{Local, Full}
 use Rattle.print_output.specs.OutputCall.{OutputCall}
 use Rattle.print_output.specs.OutputCall.OutputCall.{Keyword, Ty, Str, Semicolon}
@@ -70,13 +70,13 @@ used_reads used h more ts e = go used.own (right_of (is_label used.other) _ h)
 -- the names of a use, and its end
 names_read : (names : List UsedName) → are_well_some is_well_used names ≡ true → {more : List OutputCall} {ts : List Token} → Follows true more ts
     → Printed false (separated (Str (codes ", ")) (map used_name_calls names) ++ (Str (codes "}") ∷ Semicolon ∷ more))
-    (λ before. Listed ReadsUsedName (Punctuation CloseBrace) before names (Punctuation Semi ∷ ts))
+    (λ before. CommaList ReadsUsedName (Punctuation CloseBrace) before names (Punctuation Semi ∷ ts))
 names_read [] h f = absurd cc
 names_read (n ∷ ns) h {more} {ts} f =
     let close : Ended (Str (codes "}") ∷ Semicolon ∷ more) (Punctuation CloseBrace ∷ Punctuation Semi ∷ ts) =
     record { follows = record { at = λ level. mark CloseBrace refl (mark Semi refl (line_feed (f.at level))) }; word = λ level. refl } in
     let i = listed_reads used_name_calls is_well_used (λ x. x) ReadsUsedName CloseBrace used_reads n ns (right_of (nat_lt 0 (length (n ∷ ns))) _ h) close in
-    (i.0, i.1, subst (λ xs. Listed ReadsUsedName (Punctuation CloseBrace) i.0 xs (Punctuation Semi ∷ ts)) (identity (n ∷ ns)) i.2)
+    (i.0, i.1, subst (λ xs. CommaList ReadsUsedName (Punctuation CloseBrace) i.0 xs (Punctuation Semi ∷ ts)) (identity (n ∷ ns)) i.2)
 
 -- What is printed of a use, behind what stands in front of it, is read as it.
 pub use_reads : (path : PathTree) (names : List UsedName) → is_well_use path names ≡ true → {more : List OutputCall} {ts : List Token} → Follows true more ts

@@ -1,7 +1,7 @@
 -- Worked examples: the tokens and the tree of short texts.
 use Rattle.std.proofs.Common.{◌≡◌, length, [], ◌∷◌, ◌++◌, List, ℕ, refl, codes, None, Some, false, true}
 use Rattle.print_grammar.specs.Keyword.Keyword.{Package, World, Import, Export, Func, Map}
-use Rattle.print_grammar.specs.{Keyword.Primitive.U32, Keyword.Primitive.Bool_, Tree.ExternTree.NamedFunction, Grammar.Repeated.closed, Grammar.Repeated.again}
+use Rattle.print_grammar.specs.{Keyword.PrimitiveName.U32, Keyword.PrimitiveName.Bool_, Tree.ExternTree.NamedFunction, Grammar.Repeated.closed, Grammar.Repeated.again}
 use Rattle.print_grammar.specs.{Calls.file_calls, Token.Token, Token.Tokens, Token.front_of_text, Tree.FileTree, Grammar.ReadsVersion.no_version}
 use Rattle.print_grammar.specs.{Tree.TypeTree.PrimitiveType, Grammar.ReadsItem.world_item, Grammar.ReadsGates.no_gates, Grammar.ReadsSignature.func}
 use Rattle.print_grammar.specs.Token.Token.{Word, Escaped, Key, VersionText, Digits, Quoted, Punctuation}

@@ -2,10 +2,10 @@
 use Rattle.std.proofs.Common.{◌≡◌, refl, Bool, true, false, List, [], ◌∷◌, ◌++◌, append-nil, append_assoc, codes, Option, Some, None, map}
 use Rattle.std.specs.{List.list_all, Prelude.option_map}
 use Rattle.wit_model.specs.{Names.is_label, Rules.passes}
-use Rattle.print_grammar.specs.{Keyword.Keyword.Func, Keyword.Keyword.Async, AsRead.type_as_read, AsRead.bare_param, AsRead.bare_signature, Token.Token, Token.Mark, Grammar.ReadsParam, Grammar.ReadsParams, Grammar.ReadsResult, Grammar.ReadsSignature, Grammar.Listed, Tree.TypeTree, Tree.ParamTree, Tree.SignatureTree, WellNamed.is_well_type, WellNamed.is_well_param, WellNamed.is_well_signature}
+use Rattle.print_grammar.specs.{Keyword.Keyword.Func, Keyword.Keyword.Async, AsRead.type_as_read, AsRead.bare_param, AsRead.bare_signature, Token.Token, Token.Mark, Grammar.ReadsParam, Grammar.ReadsParams, Grammar.ReadsResult, Grammar.ReadsSignature, Grammar.CommaList, Tree.TypeTree, Tree.ParamTree, Tree.SignatureTree, WellNamed.is_well_type, WellNamed.is_well_param, WellNamed.is_well_signature}
 use Rattle.print_grammar.specs.Calls.{type_calls, param_calls, params_calls, result_calls, signature_calls, separated, space as space_call}
 use Rattle.print_grammar.specs.Token.{Token.Punctuation, Token.Key, Mark.Colon, Mark.CloseParen, Mark.Arrow}
-use Rattle.print_grammar.specs.Grammar.Listed.{last, next}
+use Rattle.print_grammar.specs.Grammar.CommaList.{last, next}
 use Rattle.print_output.specs.{OutputCall.OutputCall, OutputCall.OutputCall.Str}
 use Rattle.print_grammar.proofs.{TokenFacts.id_token, TokenFacts.id_is, Printing.Prints.by_keyword, Printing.Prints.by_param, TypeTokens.type_reads}
 use Rattle.print_grammar.proofs.TextOf.{text_of}
@@ -24,7 +24,7 @@ space_before f = record { at = λ level. space (f.at level) }
 pub listed_reads : {X : Type 0} (calls : X → List OutputCall) (well : X → Bool) (read : X → X) (Reads : List Token → X → List Token → Type 0) (close : Mark)
     → ((x : X) → well x ≡ true → (more : List OutputCall) (ts : List Token) → Ended more ts → Printed false (calls x ++ more) (λ before. Reads before (read x) ts))
     → (x : X) (xs : List X) → list_all well (x ∷ xs) ≡ true → {more : List OutputCall} {after : List Token} → Ended more (Punctuation close ∷ after)
-    → Printed false (separated (Str (codes ", ")) (map calls (x ∷ xs)) ++ more) (λ before. Listed Reads (Punctuation close) before (map read (x ∷ xs)) after)
+    → Printed false (separated (Str (codes ", ")) (map calls (x ∷ xs)) ++ more) (λ before. CommaList Reads (Punctuation close) before (map read (x ∷ xs)) after)
 listed_reads calls well read Reads close each x [] h e = let i = each x (left_of _ _ h) _ _ e in simp append-nil (i.0, i.1, last i.2)
 listed_reads calls well read Reads close each x (y ∷ ys) h e =
     let r = listed_reads calls well read Reads close each y ys (right_of (well x) _ h) e in

@@ -4,7 +4,7 @@ use Rattle.std.specs.Fmt.{digits}
 use Rattle.wit_model.specs.Names.{cut}
 use Rattle.print_grammar.specs.Keyword.Keyword.{PrimitiveWord, Package, Interface, World, Func, Record, Tuple, Option_, List_, Map, Underscore}
 use Rattle.print_grammar.specs.{Keyword.Keyword, Grammar.ReadsFile.file, Reading.IsReading}
-use Rattle.print_grammar.specs.Keyword.Primitive.{Bool_, U8, U16, U32, U64, S8, S16, S32, S64, F32, F64, Char, String, ErrorContext}
+use Rattle.print_grammar.specs.Keyword.PrimitiveName.{Bool_, U8, U16, U32, U64, S8, S16, S32, S64, F32, F64, Char, String, ErrorContext}
 use Rattle.print_grammar.specs.{Calls.type_calls, Calls.file_calls, Tree.TypeTrees.NoTypes, Tree.TypeTrees.AndTypes, Tree.Gates.Ungated, Tree.Gates.Unstable}
 use Rattle.print_grammar.specs.{Token.Token, Token.Tokens, Tree.Declared.RecordOf, Grammar.ReadsPrefix.prefix, Grammar.ReadsField.field, Grammar.ReadsHead.head}
 use Rattle.print_grammar.specs.Token.Token.{Word, Escaped, Key, VersionText, Digits, Quoted, Punctuation}
@@ -13,7 +13,7 @@ use Rattle.print_grammar.specs.{Token.Tokens.no_tokens, Token.Tokens.skip, Token
 use Rattle.print_grammar.specs.Tree.TypeTree.{PrimitiveType, Name, Own, Borrow, TupleOf, OptionOf, ListOf, FixedListOf, MapOf, Result, ResultOk, ResultErr, ResultOf, Future, FutureOf, Stream, StreamOf}
 use Rattle.print_grammar.specs.{Tree.MemberTree.TypeMember, Tree.MemberTree.FunctionMember, Grammar.ReadsFile, Grammar.ReadsType, Grammar.ReadsSignature}
 use Rattle.print_grammar.specs.{Tree.ItemTree.InterfaceItem, Grammar.ReadsResult.no_result, Grammar.ReadsSignature.func, Grammar.ReadsDeclared.record_}
-use Rattle.print_grammar.specs.Grammar.{IsId.plain, IsId.with_percent, Listed.last_with_comma, Listed.next, ReadsGates.no_gates, ReadsGates.unstable}
+use Rattle.print_grammar.specs.Grammar.{IsId.plain, IsId.with_percent, CommaList.last_with_comma, CommaList.next, ReadsGates.no_gates, ReadsGates.unstable}
 use Rattle.print_grammar.specs.Grammar.{Repeated.closed, Repeated.again, ReadsTypes.last_type, ReadsTypes.next_type, ReadsItems.no_items, ReadsItems.next_item}
 use Rattle.print_grammar.specs.Grammar.ReadsType.{primitive, named, named_with_percent, own, borrow, tuple, option, map, list, fixed_list, future, future_of, stream, stream_of, result, result_ok, result_of, result_err}
 use Rattle.print_grammar.specs.Grammar.{ReadsParams.no_params, ReadsDeprecated.not_deprecated, ReadsItem.interface_item, ReadsNested.nested_package}

@@ -1,6 +1,6 @@
 -- The text that calls append, from the front on.
 use Rattle.std.proofs.Common.{◌≡◌, sym, ◌∙◌, ℕ, ◌+◌, ◌-◌, Bool, true, false, List, [], ◌∷◌, ◌++◌, append-nil, append_assoc}
-use Rattle.print_output.specs.OutputCall.{OutputCall, View, after, after_all}
+use Rattle.print_output.specs.OutputCall.{OutputCall, OutputView, after, after_all}
 use Rattle.print_output.specs.OutputCall.OutputCall.{PushStr, IndentIfNeeded, IndentStart, IndentEnd, Newline, IndentAndPrint, Keyword, Ty, Param, Case, GenericArgsStart, GenericArgsEnd, Doc, Semicolon, Str}
 use Rattle.print_output.specs.Render.{Written, writes, front_of, doc_text, render}
 
@@ -24,12 +24,12 @@ text_of begun level (Semicolon ∷ calls) = front_of begun level ++ (59 ∷ 10 �
 text_of begun level (Str text ∷ calls) = front_of begun level ++ (text ++ text_of false level calls)
 
 -- one call and what follows it
-one_call : (view : View Written) (call : OutputCall) (calls : List OutputCall) → let next = after writes view call in
+one_call : (view : OutputView Written) (call : OutputCall) (calls : List OutputCall) → let next = after writes view call in
     next.kept.text ++ text_of next.line_begun next.kept.level calls ≡ view.kept.text ++ text_of view.line_begun view.kept.level (call ∷ calls)
 one_call v (PushStr text) calls = simp append_assoc
 one_call v _ calls = simp append_assoc
 
-pub text_after : (view : View Written) (calls : List OutputCall) → (after_all writes view calls).kept.text ≡ view.kept.text ++ text_of view.line_begun view.kept.level calls
+pub text_after : (view : OutputView Written) (calls : List OutputCall) → (after_all writes view calls).kept.text ≡ view.kept.text ++ text_of view.line_begun view.kept.level calls
 text_after v [] = sym (append-nil v.kept.text)
 text_after v (call ∷ calls) = text_after (after writes v call) calls ∙ one_call v call calls
 

@@ -6,7 +6,8 @@ use Rattle.wit_model.specs.Names.{is_label, is_fragment, is_lower_byte, is_upper
 use Rattle.print_grammar.specs.{Keyword.Keyword, Keyword.keyword_of, Keyword.escaped, Grammar.IsId.plain, Grammar.IsId.with_percent, Token.Front.Found}
 use Rattle.print_grammar.specs.{Grammar.IsId, Token.Mark.Slash, Token.Tokens.skip, Token.Tokens.token}
 use Rattle.print_grammar.specs.Token.{Token, Tokens, spelled, longest, found, front_of_text, is_blank, begins_comment, begins_with_slash}
-use Rattle.print_grammar.proofs.ByteTests.{all_but_one, parts_pass}
+use Rattle.wit_model.proofs.VersionTexts.{parts_pass}
+use Rattle.print_grammar.proofs.ByteTests.{all_but_one}
 use Rattle.base_lemmas.proofs.{Bools.left_of, Bools.right_of, Elements.all_weaker as weaker_all}
 
 -- no token begins with this text

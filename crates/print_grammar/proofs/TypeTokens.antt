@@ -2,8 +2,8 @@
 use Rattle.std.proofs.Common.{rules as std_rules, ◌≡◌, refl, ap, ℕ, true, false, nat_lt, List, [], ◌∷◌, ◌++◌, append-nil, append_assoc, codes, Some, ◌^◌, Bool}
 use Rattle.std.proofs.lemmas.Bool.{ltb-true}
 use Rattle.wit_model.specs.Names.{is_label, begins_with_letter}
-use Rattle.print_grammar.specs.{Keyword.Keyword, Keyword.Primitive, Keyword.primitive_text, Keyword.escaped, WellNamed.is_well_type, WellNamed.are_well_types}
-use Rattle.print_grammar.specs.{Keyword.Primitive.Bool_, Tree.TypeTrees.NoTypes, Tree.TypeTrees.AndTypes, Grammar.ReadsType, Grammar.ReadsTypes, Grammar.IsId}
+use Rattle.print_grammar.specs.{Keyword.Keyword, Keyword.PrimitiveName, Keyword.primitive_text, Keyword.escaped, WellNamed.is_well_type, WellNamed.are_well_types}
+use Rattle.print_grammar.specs.{Keyword.PrimitiveName.Bool_, Tree.TypeTrees.NoTypes, Tree.TypeTrees.AndTypes, Grammar.ReadsType, Grammar.ReadsTypes, Grammar.IsId}
 use Rattle.print_grammar.specs.{Calls.type_calls, Calls.types_calls, AsRead.type_as_read, AsRead.types_as_read, Tree.TypeTree, Tree.TypeTrees}
 use Rattle.print_grammar.specs.{Token.Token, Token.spelled, Token.Mark, Token.Token.Punctuation, Token.Token.Key, Token.Token.Digits}
 use Rattle.print_grammar.specs.{Grammar.ReadsTypes.last_type, Grammar.ReadsTypes.next_type, Grammar.ReadsTypes.last_type_with_comma, Grammar.IsId.plain, Grammar.IsId.with_percent}
@@ -20,11 +20,11 @@ use Rattle.base_lemmas.proofs.Bools.{left_of, right_of}
 
 -- ---- What is printed of a type is read as it.
 
-primitive_spelled : (p : Primitive) → spelled (primitive_text p) ≡ Some (Key (Keyword.PrimitiveWord p))
+primitive_spelled : (p : PrimitiveName) → spelled (primitive_text p) ≡ Some (Key (Keyword.PrimitiveWord p))
 primitive_spelled Bool_ = refl
 primitive_spelled _ = refl
 
-primitive_letter : (p : Primitive) → begins_with_letter (primitive_text p) ≡ true
+primitive_letter : (p : PrimitiveName) → begins_with_letter (primitive_text p) ≡ true
 primitive_letter Bool_ = refl
 primitive_letter _ = refl
 

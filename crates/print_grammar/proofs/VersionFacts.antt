@@ -1,37 +1,18 @@
 -- The text of a version is one token.
-use Rattle.std.proofs.Common.{rules as std_rules, ◌≡◌, refl, sym, ap, ◌∙◌, subst, ℕ, ◌<◌, ◌^◌, Bool, true, false, ◌&&◌, ◌||◌, ◌==◌, not, List, [], ◌∷◌, ◌++◌, length, Option, Some, None, append-nil, append_assoc, inl, inr, arith, suc, get_or, Ok, Err, Result, nat_lt}
-use Rattle.std.proofs.lemmas.Bool.{cases_Bool, eqb-true, lt-ltb, and_from as both, and_right as and_false, false_from_ne_true as refuted, not-true as not_true, or_left}
-use Rattle.std.proofs.lemmas.{Bool.Decides.nat_tests, List.Folds.list_all-append}
-use Rattle.std.proofs.lemmas.{Fmt.decimal_is_IsNumeral, Fmt.decimal_nonempty, Fmt.first_decimal, Fmt.decimal_digit, List.Sums.AllPass-from_list_all}
-use Rattle.std.proofs.lemmas.List.Splits.{slice_split_none, slice_split_at, slice_split-cons_yes, slice_split-cons_no}
-use Rattle.std.specs.{Option.option_map, Option.option_map_or, Prelude.is_ok, Fmt.decimal}
-use Rattle.std.specs.{Char.is_ascii_alphabetic, Char.is_ascii_digit, Char.digit_value, List.list_all, List.onto_first, List.All, Str.Parse.AllDigits}
-use Rattle.semver.specs.Grammar.{IsValid, has_leading_zero, is_pre_release, is_build, is_identifier_byte, is_build_identifier, is_pre_identifier}
-use Rattle.semver.specs.{Identifiers.parts_text, Identifiers.marked, Order.is_numeric, Order.parts, Parse.Parts, Parse.version_parts}
-use Rattle.semver.specs.declared.error.Error.{Error}
-use Rattle.semver.proofs.Grammar.{version_parts-sound}
-use Rattle.wit_model.specs.Names.{cut, is_version_text}
-use Rattle.print_grammar.specs.Token.{Token, Tokens, spelled, is_blank, is_numeral, are_three_numerals, is_version_core, is_given, is_version_number, is_semantic_version, number_token}
-use Rattle.print_grammar.proofs.ByteTests.{all_but_one, parts_pass}
+use Rattle.std.proofs.Common.{rules as std_rules, ◌≡◌, refl, sym, ap, ◌∙◌, subst, ℕ, ◌<◌, ◌^◌, Bool, true, false, ◌&&◌, ◌||◌, ◌==◌, not, List, [], ◌∷◌, ◌++◌, length, Option, Some, None, inl, inr, arith, nat_lt}
+use Rattle.std.proofs.lemmas.Bool.{cases_Bool, eqb-true, and_from as both, and_right as and_false, false_from_ne_true as refuted, not-true as not_true, or_left}
+use Rattle.std.proofs.lemmas.{Bool.Decides.nat_tests, Fmt.decimal_is_IsNumeral, List.Folds.list_all-append}
+use Rattle.std.proofs.lemmas.List.Splits.{slice_split-cons_yes, slice_split-cons_no}
+use Rattle.std.specs.{Option.option_map, Option.option_map_or, Fmt.decimal}
+use Rattle.std.specs.{Char.is_ascii_alphabetic, Char.is_ascii_digit, List.list_all, List.onto_first}
+use Rattle.semver.specs.Grammar.{IsValid, is_pre_release, is_build, is_identifier_byte, is_build_identifier, is_pre_identifier}
+use Rattle.semver.specs.{Identifiers.parts_text, Order.is_numeric, Order.parts, Parse.Parts}
+use Rattle.wit_model.specs.Names.{cut, is_marked_part, is_numeral, is_version_core, is_version_number, is_version_of, is_version_text}
+use Rattle.wit_model.proofs.VersionTexts.{build_part, cut-sound, decimal_digits, decimal_numeral, identifiers_pass, parts_are_version, parts_pass, pre_release_part, version_spells}
+use Rattle.print_grammar.specs.Token.{Token, Tokens, spelled, is_blank, number_token}
+use Rattle.print_grammar.proofs.ByteTests.{all_but_one}
 use Rattle.print_grammar.proofs.TokenFacts.{NoToken, EndsToken, ends_by, ends_by_two, token_at, no_comment}
 use Rattle.base_lemmas.proofs.{Bools.left_of, Bools.right_of, Elements.all_weaker as weaker_all}
-
--- ---- what stands before and after a byte
-
-cut-none : (c : ℕ) (xs : List ℕ) → list_all (λ b. not (b == c)) xs ≡ true → cut c xs ≡ None
-unfolding cut
-cut-none c [] h = refl
-cut-none c (x ∷ xs) h = search (std_rules, not_true, left_of, right_of, cut-none c xs (right_of (not (x == c)) _ h))
-
-cut-at : (c : ℕ) (xs ys : List ℕ) → (c == c) ≡ true → list_all (λ b. not (b == c)) xs ≡ true → cut c (xs ++ c ∷ ys) ≡ Some (xs, ys)
-unfolding cut
-cut-at c [] ys same h = rw same refl
-cut-at c (x ∷ xs) ys same h = search (std_rules, not_true, left_of, right_of, cut-at c xs ys same (right_of (not (x == c)) _ h))
-
-cut-sound : (c : ℕ) (text : List ℕ) (p : List ℕ × List ℕ) → cut c text ≡ Some p → text ≡ p.0 ++ c ∷ p.1
-unfolding cut
-cut-sound c [] p e = cc e
-cut-sound c (x ∷ xs) p e = search (std_rules, cases_Bool, eqb-true, cut-sound c xs)
 
 -- ---- the bytes of a version
 
@@ -45,17 +26,6 @@ digit_byte b h = grind (arith, nat_tests)
 identifier_version : (b : ℕ) → (is_identifier_byte b || (b == 46)) ≡ true → is_version_byte b ≡ true
 identifier_version b h = or_left _ _ (or_left _ _ h)
 
--- what the bytes of identifiers and the dots between them pass
-identifiers_pass : (Q : ℕ → Bool) (P : List ℕ → Bool) → ((b : ℕ) → (is_identifier_byte b || (b == 46)) ≡ true → Q b ≡ true)
-    → ((part : List ℕ) → P part ≡ true → list_all is_identifier_byte part ≡ true) → (text : List ℕ) → list_all P (parts text) ≡ true → list_all Q text ≡ true
-identifiers_pass Q P on_byte on_part text h = weaker_all _ Q on_byte text (parts_pass is_identifier_byte 46 text (weaker_all P _ on_part (parts text) h))
-
-build_part : (part : List ℕ) → is_build_identifier part ≡ true → list_all is_identifier_byte part ≡ true
-build_part part h = right_of (nat_lt 0 (length part)) _ h
-
-pre_release_part : (part : List ℕ) → is_pre_identifier part ≡ true → list_all is_identifier_byte part ≡ true
-pre_release_part part h = build_part part (left_of _ _ h)
-
 build_bytes : (text : List ℕ) → is_build text ≡ true → list_all is_version_byte text ≡ true
 build_bytes [] h = refl
 build_bytes (b ∷ bs) h = identifiers_pass _ is_build_identifier identifier_version build_part (b ∷ bs) h
@@ -67,110 +37,29 @@ pre_release_bytes (b ∷ bs) h = identifiers_pass _ is_pre_identifier identifier
 numeral_bytes : (text : List ℕ) → is_numeral text ≡ true → list_all is_identifier_byte text ≡ true
 numeral_bytes text h = weaker_all is_ascii_digit _ digit_byte text (left_of (is_numeric text) _ (right_of (nat_lt 0 (length text)) _ h))
 
-numerals_bytes : (texts : List (List ℕ)) → are_three_numerals texts ≡ true → list_all (list_all is_identifier_byte) texts ≡ true
-numerals_bytes x h = grind (arith, both, numeral_bytes, left_of, right_of)
+numerals_bytes : (texts : List (List ℕ)) → (length texts == 3 && list_all is_numeral texts) ≡ true → list_all (list_all is_identifier_byte) texts ≡ true
+numerals_bytes texts h = weaker_all is_numeral _ numeral_bytes texts (right_of (length texts == 3) _ h)
 
-core_bytes : (text : List ℕ) → is_version_core text ≡ true → list_all is_version_byte text ≡ true
+core_bytes : (text : List ℕ) → is_version_core is_numeral text ≡ true → list_all is_version_byte text ≡ true
 core_bytes text h = weaker_all _ is_version_byte identifier_version text (parts_pass is_identifier_byte 46 text (numerals_bytes (parts text) h))
 
 -- the bytes of a text that may be cut, by those of its parts
 cut_bytes : (c : ℕ) (front back : List ℕ → Bool) → is_version_byte c ≡ true → ((t : List ℕ) → front t ≡ true → list_all is_version_byte t ≡ true)
     → ((t : List ℕ) → back t ≡ true → list_all is_version_byte t ≡ true) → (text : List ℕ) (o : Option (List ℕ × List ℕ)) → cut c text ≡ o
-    → option_map_or (λ (p : List ℕ × List ℕ). front p.0 && is_given back p.1) o (front text) ≡ true → list_all is_version_byte text ≡ true
+    → option_map_or (λ (p : List ℕ × List ℕ). front p.0 && is_marked_part back p.1) o (front text) ≡ true → list_all is_version_byte text ≡ true
 cut_bytes c front back here on_front on_back text None e h = on_front text h
 cut_bytes c front back here on_front on_back text (Some p) e h = ap (list_all is_version_byte) (cut-sound c text p e) ∙ (list_all-append is_version_byte p.0 (c ∷ p.1)
     ∙ both _ _ (on_front p.0 (left_of _ _ h)) (both _ _ here (on_back p.1 (right_of (nat_lt 0 (length p.1)) _ (right_of (front p.0) _ h)))))
 
-number_bytes : (text : List ℕ) → is_version_number text ≡ true → list_all is_version_byte text ≡ true
-number_bytes text h = cut_bytes 45 is_version_core is_pre_release refl core_bytes pre_release_bytes text (cut 45 text) refl h
+number_bytes : (text : List ℕ) → is_version_number is_numeral text ≡ true → list_all is_version_byte text ≡ true
+number_bytes text h = cut_bytes 45 (is_version_core is_numeral) is_pre_release refl core_bytes pre_release_bytes text (cut 45 text) refl h
+
+-- a version, of numbers of any size
+abbrev is_semantic_version : List ℕ → Bool
+is_semantic_version text = is_version_of is_numeral text
 
 version_bytes : (text : List ℕ) → is_semantic_version text ≡ true → list_all is_version_byte text ≡ true
-version_bytes text h = cut_bytes 43 is_version_number is_build refl number_bytes build_bytes text (cut 43 text) refl h
-
--- ---- the text of a version's parts
-
-glyph_digit : (c : ℕ) → digit_value c < 10 → is_ascii_digit c ≡ true
-glyph_digit c h = grind (arith, nat_tests)
-
-all_digits : (text : List ℕ) → AllDigits 10 text → is_numeric text ≡ true
-all_digits [] h = refl
-all_digits (c ∷ cs) h = both _ _ (glyph_digit c h.0) (all_digits cs h.1)
-
-decimal_digits : (n : ℕ) → n < 2 ^ 64 → is_numeric (decimal n) ≡ true
-decimal_digits n h = all_digits (decimal n) (decimal_is_IsNumeral n h).0.1
-
-no_zero_first : (text : List ℕ) → 48 < get_or text 0 0 → has_leading_zero text ≡ false
-no_zero_first x h = search std_rules
-
-no_leading_zero : (n : ℕ) → n < 2 ^ 64 → has_leading_zero (decimal n) ≡ false
-no_leading_zero x h = search (std_rules, decimal_digit, no_zero_first, first_decimal)
-
-decimal_numeral : (n : ℕ) → n < 2 ^ 64 → is_numeral (decimal n) ≡ true
-decimal_numeral n h = search (std_rules, lt-ltb, decimal_nonempty, both, decimal_digits, no_leading_zero)
-
-none_is : (c : ℕ) (p : ℕ → Bool) → ((b : ℕ) → p b ≡ true → (b == c) ≡ false) → (text : List ℕ) → list_all p text ≡ true → All (λ b. (b == c) ≡ false) text
-none_is c p apart text h = λ k d below. apart _ (AllPass-from_list_all p text h k d below)
-
-digit_no_dot : (b : ℕ) → is_ascii_digit b ≡ true → (b == 46) ≡ false
-digit_no_dot b h = grind (arith, nat_tests)
-
--- the three numbers of a version
-abbrev core_text : Parts → List ℕ
-core_text p = decimal p.0 ++ (46 ∷ (decimal p.1 ++ (46 ∷ decimal p.2)))
-
-core_parts : (p : Parts) → IsValid p → parts (core_text p) ≡ decimal p.0 ∷ decimal p.1 ∷ decimal p.2 ∷ []
-core_parts p v = search (std_rules, slice_split_at, none_is, digit_no_dot, decimal_digits, slice_split_none)
-
-core_is_core : (p : Parts) → IsValid p → is_version_core (core_text p) ≡ true
-core_is_core p v = search (std_rules, core_parts, both, decimal_numeral)
-
-digit_no_mark : (b : ℕ) → is_ascii_digit b ≡ true → (not (b == 45) && not (b == 43)) ≡ true
-digit_no_mark b h = grind (arith, nat_tests)
-
--- neither `-` nor `+`
-abbrev is_unmarked : ℕ → Bool
-is_unmarked b = not (b == 45) && not (b == 43)
-
-core_unmarked : (p : Parts) → IsValid p → list_all is_unmarked (core_text p) ≡ true
-core_unmarked p v =
-    let digits : (n : ℕ) → n < 2 ^ 64 → list_all is_unmarked (decimal n) ≡ true = λ n h. weaker_all is_ascii_digit is_unmarked digit_no_mark (decimal n) (decimal_digits n h) in
-    list_all-append is_unmarked (decimal p.0) (46 ∷ (decimal p.1 ++ (46 ∷ decimal p.2)))
-    ∙ both _ _ (digits p.0 v.0) (list_all-append is_unmarked (decimal p.1) (46 ∷ decimal p.2) ∙ both _ _ (digits p.1 v.1) (digits p.2 v.2))
-
-identifier_no_plus : (b : ℕ) → (is_identifier_byte b || (b == 46)) ≡ true → not (b == 43) ≡ true
-identifier_no_plus b h = grind (arith, nat_tests)
-
-pre_release_no_plus : (text : List ℕ) → is_pre_release text ≡ true → list_all (λ b. not (b == 43)) text ≡ true
-pre_release_no_plus [] h = refl
-pre_release_no_plus (b ∷ bs) h = identifiers_pass (λ x. not (x == 43)) is_pre_identifier identifier_no_plus pre_release_part (b ∷ bs) h
-
--- the text before the build metadata
-abbrev number_text : Parts → List ℕ
-number_text p = core_text p ++ marked 45 p.3
-
-number_no_plus : (p : Parts) → IsValid p → list_all (λ b. not (b == 43)) (number_text p) ≡ true
-number_no_plus p v = list_all-append (λ b. not (b == 43)) (core_text p) (marked 45 p.3)
-    ∙ both _ _ (weaker_all is_unmarked _ (λ b h. right_of (not (b == 45)) _ h) (core_text p) (core_unmarked p v)) (mark p.3 v.3)
-  where
-    mark : (text : List ℕ) → is_pre_release text ≡ true → list_all (λ b. not (b == 43)) (marked 45 text) ≡ true
-    mark [] h = refl
-    mark (b ∷ bs) h = pre_release_no_plus (b ∷ bs) h
-
--- a text that passes one test, and behind a mark, if there is more, a text that passes another
-marked_passes : (c : ℕ) (front back : List ℕ → Bool) → (c == c) ≡ true → (text more : List ℕ) → list_all (λ b. not (b == c)) text ≡ true → front text ≡ true → back more ≡ true
-    → option_map_or (λ (p : List ℕ × List ℕ). front p.0 && is_given back p.1) (cut c (text ++ marked c more)) (front (text ++ marked c more)) ≡ true
-marked_passes c front back same text [] unmarked f b = rw (append-nil text, cut-none c text unmarked) f
-marked_passes c front back same text (x ∷ xs) unmarked f b = rw (cut-at c text (x ∷ xs) same unmarked) (both _ _ f (both _ _ (lt-ltb 0 (suc (length xs)) (omega arith)) b))
-
-number_is_number : (p : Parts) → IsValid p → is_version_number (number_text p) ≡ true
-number_is_number p v = marked_passes 45 is_version_core is_pre_release refl (core_text p) p.3 (weaker_all is_unmarked _ (λ b h. left_of _ _ h) (core_text p) (core_unmarked p v)) (core_is_core p v) v.3
-
-parts_joined : (p : Parts) → parts_text p ≡ number_text p ++ marked 43 p.4
-parts_joined p = simp append_assoc
-
--- The text of the parts of a version is a version.
-pub parts_are_version : (p : Parts) → IsValid p → is_semantic_version (parts_text p) ≡ true
-parts_are_version p v = ap is_semantic_version (parts_joined p) ∙ marked_passes 43 is_version_number is_build refl (number_text p) p.4 (number_no_plus p v) (number_is_number p v) v.4
+version_bytes text h = cut_bytes 43 (is_version_number is_numeral) is_build refl number_bytes build_bytes text (cut 43 text) refl h
 
 -- ---- the token
 
@@ -226,10 +115,10 @@ last_part P (x ∷ xs) h = elim (cases_Bool (x == 46)) [
 no_empty_last : (P : List ℕ → Bool) (text : List ℕ) → P [] ≡ false → list_all P (parts (text ++ 46 ∷ [])) ≡ true → ⊥
 no_empty_last P text e h = let f = last_part P text (fewer_parts P (parts (text ++ 46 ∷ [])) h) in cc
 
-three_pass : (texts : List (List ℕ)) → are_three_numerals texts ≡ true → list_all is_numeral texts ≡ true
-three_pass x h = search std_rules
+three_pass : (texts : List (List ℕ)) → (length texts == 3 && list_all is_numeral texts) ≡ true → list_all is_numeral texts ≡ true
+three_pass texts h = right_of (length texts == 3) _ h
 
-core_no_dot : (text : List ℕ) → is_version_core (text ++ 46 ∷ []) ≡ false
+core_no_dot : (text : List ℕ) → is_version_core is_numeral (text ++ 46 ∷ []) ≡ false
 core_no_dot text = refuted _ (λ h. no_empty_last is_numeral text refl (three_pass (parts (text ++ 46 ∷ [])) h))
 
 pre_release_no_dot : (text : List ℕ) → is_pre_release (text ++ 46 ∷ []) ≡ false
@@ -254,7 +143,7 @@ unfolding cut with_dot
 cut_dot c [] e = rw e refl
 cut_dot c (x ∷ xs) e = search (std_rules, cases_Bool, moved_in, cut_dot c xs e)
 
-number_no_dot : (text : List ℕ) → is_version_number (text ++ 46 ∷ []) ≡ false
+number_no_dot : (text : List ℕ) → is_version_number is_numeral (text ++ 46 ∷ []) ≡ false
 unfolding with_dot
 number_no_dot text = search (std_rules, cut_dot, with_dot, core_no_dot, and_false, pre_release_no_dot)
 
@@ -320,18 +209,15 @@ numeral_first x h = search std_rules
 digits_at : (text rest : List ℕ) (t : Token) {ts : List Token} → begins_with_digit text ≡ true → number_token text ≡ Some t → ends_version rest ≡ true → Tokens rest ts → Tokens (text ++ rest) (t ∷ ts)
 digits_at x rest t digit e ends more = search (std_rules, token_at, digit_no_blank, no_comment, digit_no_slash, number_spelled, number_ends)
 
+parts_are_semantic : (p : Parts) → IsValid p → is_semantic_version (parts_text p) ≡ true
+parts_are_semantic p v = parts_are_version is_numeral decimal_numeral p v
+
 parts_at : (p : Parts) (rest : List ℕ) {ts : List Token} → IsValid p → ends_version rest ≡ true → Tokens rest ts → Tokens (parts_text p ++ rest) (Token.VersionText (parts_text p) ∷ ts)
-parts_at p rest v ends more = search (std_rules, digits_at, version_token, digits_first, decimal_numeral, dot_no_digit, parts_are_version)
+parts_at p rest v ends more = search (std_rules, digits_at, version_token, digits_first, decimal_numeral, dot_no_digit, parts_are_semantic)
 
 -- The text of a version, with what is no part of a version behind it, is one token.
 pub version_at : (text rest : List ℕ) {ts : List Token} → is_version_text text ≡ true → ends_version rest ≡ true → Tokens rest ts → Tokens (text ++ rest) (Token.VersionText text ∷ ts)
-version_at text rest {ts} h ends more = go (version_parts text) refl h
-  where
-    go : (r : Result Parts Error) → version_parts text ≡ r → is_ok r ≡ true → Tokens (text ++ rest) (Token.VersionText text ∷ ts)
-    go (Err e) f g = absurd cc
-    go (Ok p) f g =
-        let s = version_parts-sound text p f in
-        subst (λ x. Tokens (x ++ rest) (Token.VersionText x ∷ ts)) s.0 (parts_at p rest s.1 ends more)
+version_at text rest {ts} h ends more = let s = version_spells text h in subst (λ x. Tokens (x ++ rest) (Token.VersionText x ∷ ts)) s.spelled (parts_at s.read rest s.valid ends more)
 
 number_value : (n : ℕ) → n < 2 ^ 64 → number_token (decimal n) ≡ Some (Token.Digits n)
 number_value n h = rw (decimal_digits n h, number_token) (ap (λ d. Some (Token.Digits d)) (decimal_is_IsNumeral n h).1)

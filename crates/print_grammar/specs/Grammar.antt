@@ -1,7 +1,7 @@
 -- The grammar of WIT text (WIT.md, Package declaration to Item: type), one case for each alternative.
 -- Each relation says which tree stands at the front of a list of tokens, and which tokens follow it: `ReadsType before tree after`.
 use Rattle.std.specs.Prelude.{◌≡◌, true, false, List, [], ◌∷◌, ℕ, Option, None, Some, codes}
-use Rattle.print_grammar.specs.{Keyword.Keyword, Keyword.Primitive, Tree.TypeTrees.NoTypes, Tree.TypeTrees.AndTypes}
+use Rattle.print_grammar.specs.{Keyword.Keyword, Keyword.PrimitiveName, Tree.TypeTrees.NoTypes, Tree.TypeTrees.AndTypes}
 use Rattle.print_grammar.specs.{Token.Token, Tree.WorldMember.WorldUse, Tree.WorldMember.WorldType, Tree.WorldMember.WorldImport, Tree.WorldMember.WorldExport}
 use Rattle.print_grammar.specs.Token.Mark.{OpenBrace, CloseBrace, OpenParen, CloseParen, Less, Greater, Colon, Semi, Comma, Dot, Equals, Slash, At, Arrow}
 use Rattle.print_grammar.specs.Token.Token.{Word, Escaped, Key, VersionText, Digits, Quoted, Punctuation}
@@ -23,16 +23,16 @@ pub data Repeated {X : Type 0} (Reads : List Token → X → List Token → Type
       → Repeated Reads close before (x ∷ xs) after
 
 -- things with commas between, at least one, and a comma more allowed, up to a closing token
-pub data Listed {X : Type 0} (Reads : List Token → X → List Token → Type 0) (close : Token) : List Token → List X → List Token → Type 0 where
-  last : {before after : List Token} {x : X} → Reads before x (close ∷ after) → Listed Reads close before (x ∷ []) after
-  last_with_comma : {before after : List Token} {x : X} → Reads before x (Punctuation Comma ∷ close ∷ after) → Listed Reads close before (x ∷ []) after
-  next : {before between after : List Token} {x : X} {xs : List X} → Reads before x (Punctuation Comma ∷ between) → Listed Reads close between xs after
-      → Listed Reads close before (x ∷ xs) after
+pub data CommaList {X : Type 0} (Reads : List Token → X → List Token → Type 0) (close : Token) : List Token → List X → List Token → Type 0 where
+  last : {before after : List Token} {x : X} → Reads before x (close ∷ after) → CommaList Reads close before (x ∷ []) after
+  last_with_comma : {before after : List Token} {x : X} → Reads before x (Punctuation Comma ∷ close ∷ after) → CommaList Reads close before (x ∷ []) after
+  next : {before between after : List Token} {x : X} {xs : List X} → Reads before x (Punctuation Comma ∷ between) → CommaList Reads close between xs after
+      → CommaList Reads close before (x ∷ xs) after
 
 mutual
   -- a type where it is used (ty)
   pub data ReadsType : List Token → TypeTree → List Token → Type 0 where
-    primitive : {p : Primitive} {after : List Token} → ReadsType (Key (Keyword.PrimitiveWord p) ∷ after) (TypeTree.PrimitiveType p) after
+    primitive : {p : PrimitiveName} {after : List Token} → ReadsType (Key (Keyword.PrimitiveWord p) ∷ after) (TypeTree.PrimitiveType p) after
     named : {label : List ℕ} {after : List Token} → ReadsType (Word label ∷ after) (TypeTree.Name label) after
     named_with_percent : {label : List ℕ} {after : List Token} → ReadsType (Escaped label ∷ after) (TypeTree.Name label) after
     own : {t : Token} {label : List ℕ} {after : List Token} → IsId t label
@@ -79,7 +79,7 @@ pub data ReadsParam : List Token → ParamTree → List Token → Type 0 where
 -- parameters in parentheses (param-list)
 pub data ReadsParams : List Token → List ParamTree → List Token → Type 0 where
   no_params : {after : List Token} → ReadsParams (Punctuation OpenParen ∷ Punctuation CloseParen ∷ after) [] after
-  params : {before after : List Token} {params : List ParamTree} → Listed ReadsParam (Punctuation CloseParen) before params after
+  params : {before after : List Token} {params : List ParamTree} → CommaList ReadsParam (Punctuation CloseParen) before params after
       → ReadsParams (Punctuation OpenParen ∷ before) params after
 
 -- an arrow and a type, or nothing (result-list)
@@ -150,7 +150,7 @@ pub data ReadsUsedName : List Token → UsedName → List Token → Type 0 where
 pub data ReadsUse : List Token → PathTree → List UsedName → List Token → Type 0 where
   use_names : {before between after : List Token} {path : PathTree} {names : List UsedName}
       → ReadsPath before path (Punctuation Dot ∷ Punctuation OpenBrace ∷ between)
-      → Listed ReadsUsedName (Punctuation CloseBrace) between names (Punctuation Semi ∷ after) → ReadsUse (Key Keyword.Use ∷ before) path names after
+      → CommaList ReadsUsedName (Punctuation CloseBrace) between names (Punctuation Semi ∷ after) → ReadsUse (Key Keyword.Use ∷ before) path names after
 
 -- a record's field: a name, a colon and a type (record-field)
 pub data ReadsField : List Token → FieldTree → List Token → Type 0 where
@@ -183,16 +183,16 @@ pub data ReadsResourceMember : List Token → ResourceMember → List Token → 
 -- a declared type (typedef-item)
 pub data ReadsDeclared : List Token → Declared → List Token → Type 0 where
   record_ : {t : Token} {label : List ℕ} {before after : List Token} {fields : List FieldTree} → IsId t label
-      → Listed ReadsField (Punctuation CloseBrace) before fields after
+      → CommaList ReadsField (Punctuation CloseBrace) before fields after
       → ReadsDeclared (Key Keyword.Record ∷ t ∷ Punctuation OpenBrace ∷ before) (RecordOf label fields) after
   variant : {t : Token} {label : List ℕ} {before after : List Token} {cases : List CaseTree} → IsId t label
-      → Listed ReadsCase (Punctuation CloseBrace) before cases after
+      → CommaList ReadsCase (Punctuation CloseBrace) before cases after
       → ReadsDeclared (Key Keyword.Variant ∷ t ∷ Punctuation OpenBrace ∷ before) (VariantOf label cases) after
   flags : {t : Token} {label : List ℕ} {before after : List Token} {flags : List LabelTree} → IsId t label
-      → Listed ReadsLabel (Punctuation CloseBrace) before flags after
+      → CommaList ReadsLabel (Punctuation CloseBrace) before flags after
       → ReadsDeclared (Key Keyword.Flags ∷ t ∷ Punctuation OpenBrace ∷ before) (FlagsOf label flags) after
   enum : {t : Token} {label : List ℕ} {before after : List Token} {cases : List LabelTree} → IsId t label
-      → Listed ReadsLabel (Punctuation CloseBrace) before cases after
+      → CommaList ReadsLabel (Punctuation CloseBrace) before cases after
       → ReadsDeclared (Key Keyword.Enum ∷ t ∷ Punctuation OpenBrace ∷ before) (EnumOf label cases) after
   alias : {t : Token} {label : List ℕ} {before after : List Token} {ty : TypeTree} → IsId t label → ReadsType before ty (Punctuation Semi ∷ after)
       → ReadsDeclared (Key Keyword.Type_ ∷ t ∷ Punctuation Equals ∷ before) (AliasOf label ty) after

@@ -3,11 +3,11 @@ use Rattle.std.specs.Prelude.{Bool, List, [], ◌∷◌, Option, None, Some, cod
 use Rattle.wit_model.specs.Text.{Text, text_eq}
 
 -- The primitive types (WIT.md, Types).
-pub data Primitive : Type 0 where
-  Bool_ U8 U16 U32 U64 S8 S16 S32 S64 F32 F64 Char String ErrorContext : Primitive
+pub data PrimitiveName : Type 0 where
+  Bool_ U8 U16 U32 U64 S8 S16 S32 S64 F32 F64 Char String ErrorContext : PrimitiveName
 
 -- how a primitive type is written
-abbrev pub primitive_text : Primitive → Text
+abbrev pub primitive_text : PrimitiveName → Text
 primitive_text Bool_ = codes "bool"
 primitive_text U8 = codes "u8"
 primitive_text U16 = codes "u16"
@@ -25,7 +25,7 @@ primitive_text ErrorContext = codes "error-context"
 
 -- A keyword: a primitive type's, or another.
 pub data Keyword : Type 0 where
-  PrimitiveWord : Primitive → Keyword
+  PrimitiveWord : PrimitiveName → Keyword
   Use Type_ Func Float32 Float64 Resource Record Flags Variant Enum Option_ Result Future Stream List_ Own Borrow Underscore As From Static Interface Tuple
       World Import Export Package With Include Constructor Async Map : Keyword
 

@@ -2,8 +2,8 @@
 use Rattle.std.specs.Prelude.{◌≡◌, Bool, true, false, List, [], ◌∷◌, ◌++◌, ◌==◌, ◌&&◌, ◌||◌, ◌+◌, ◌-◌, ◌*◌, nat_le, nat_lt, ℕ, Option, None, Some, codes, length, not, if◌then◌else◌}
 use Rattle.std.specs.{Char.is_ascii_alphabetic, Char.is_ascii_digit, Option.option_map, Option.option_map_or, Str.Parse.digits_value}
 use lib.Utf8.{scalar}
-use Rattle.semver.specs.{Grammar.has_leading_zero, Grammar.is_pre_release, Grammar.is_build, Order.is_numeric, Order.parts}
-use Rattle.wit_model.specs.{Text.text_eq, Names.is_label, Names.cut}
+use Rattle.semver.specs.Order.{is_numeric}
+use Rattle.wit_model.specs.{Text.text_eq, Names.is_label, Names.is_numeral, Names.is_version_of}
 use Rattle.print_grammar.specs.{Keyword.Keyword, Keyword.keyword_of, Keyword.Keyword.Underscore, Calls.is_plain}
 
 -- The punctuation of WIT text.
@@ -22,34 +22,6 @@ pub data Token : Type 0 where
   -- a string, by its characters
   Quoted : List ℕ → Token
   Punctuation : Mark → Token
-
--- ---- versions
-
--- whether a text is digits, with no zero in front of others
-abbrev pub is_numeral : List ℕ → Bool
-is_numeral text = nat_lt 0 (length text) && (is_numeric text && not (has_leading_zero text))
-
--- whether these are a version core: three numerals
-abbrev pub are_three_numerals : List (List ℕ) → Bool
-are_three_numerals (major ∷ minor ∷ patch ∷ []) = is_numeral major && (is_numeral minor && is_numeral patch)
-are_three_numerals texts = false
-
--- whether a text is a version core: three numerals with dots between
-abbrev pub is_version_core : List ℕ → Bool
-is_version_core text = are_three_numerals (parts text)
-
--- whether a text isn't empty, and passes a test
-abbrev pub is_given : (List ℕ → Bool) → List ℕ → Bool
-is_given test text = nat_lt 0 (length text) && test text
-
--- whether a text is a version core, and a pre-release after its first `-` if it has one
-abbrev pub is_version_number : List ℕ → Bool
-is_version_number text = option_map_or (λ p. is_version_core p.0 && is_given is_pre_release p.1) (cut 45 text) (is_version_core text)
-
--- A version of Semantic Versioning 2.0.0, with numbers of any size (its grammar, `<valid semver>`): what stands before the first `+`,
--- and build metadata after it where there is one.
-abbrev pub is_semantic_version : List ℕ → Bool
-is_semantic_version text = option_map_or (λ p. is_version_number p.0 && is_given is_build p.1) (cut 43 text) (is_version_number text)
 
 -- ---- strings
 
@@ -136,7 +108,7 @@ abbrev pub number_token : List ℕ → Option Token
 number_token text =
     elim (is_numeric text) [
       | true ↦ Some (Digits (digits_value 10 text))
-      | false ↦ (if is_semantic_version text then Some (VersionText text) else None)
+      | false ↦ (if is_version_of is_numeral text then Some (VersionText text) else None)
     ]
 
 -- The token that a text is, if it is one.

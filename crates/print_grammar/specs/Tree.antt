@@ -2,12 +2,12 @@
 -- Documentation is a comment, so a reader finds none: the trees that are read have empty `docs`, and no `Handle`.
 use Rattle.std.specs.Prelude.{Bool, List, ℕ, Option}
 use Rattle.wit_model.specs.Text.{Text}
-use Rattle.print_grammar.specs.Keyword.{Primitive}
+use Rattle.print_grammar.specs.Keyword.{PrimitiveName}
 
 mutual
   -- A type where it is used.
   pub data TypeTree : Type 0 where
-    PrimitiveType : Primitive → TypeTree
+    PrimitiveType : PrimitiveName → TypeTree
     -- a declared type
     Name : Text → TypeTree
     -- an owned resource whose handle has no name: it is written, and read again, as the resource's name

@@ -3,7 +3,7 @@ use Rattle.std.proofs.Common.{rules as std_rules, ◌≡◌, refl, sym, ◌<◌,
 use Rattle.std.proofs.lemmas.{List.Sums.AllPass-from_list_all, Simd.map-map, Bool.and_from as both_true}
 use Rattle.std.specs.{List.list_all, List.slice_split, List.onto_first, Str.Lines.lines, Str.Lines.lines_of_parts}
 use Rattle.wit_model.specs.Text.{Text}
-use Rattle.print_output.specs.OutputCall.{OutputCall, View, is_one_line}
+use Rattle.print_output.specs.OutputCall.{OutputCall, OutputView, is_one_line}
 use Rattle.print_items.specs.declared.driver.Driver.{Driver}
 use Rattle.print_items.specs.Drives.{Drives}
 use Rattle.print_items.proofs.Driven.{driven_as}
@@ -38,6 +38,6 @@ pub line_one_line : (text : Text) (i : ℕ) (line : Text) → i < length (lines 
 line_one_line text i line within e = search (std_rules, AllPass-from_list_all, lines_one_line, parts_one_line)
 
 -- the lines that were printed are all
-pub lines_driven : {O Kept : Type 0} {view : O → View Kept} {keeps : View Kept → OutputCall → Kept} {a b : Driver O} (printed : List (Bor Text)) (all : List Text)
+pub lines_driven : {O Kept : Type 0} {view : O → OutputView Kept} {keeps : OutputView Kept → OutputCall → Kept} {a b : Driver O} (printed : List (Bor Text)) (all : List Text)
     → Drives view keeps a (map (λ line. OutputCall.Doc line.now) printed) b → map (λ line. line.now) printed ≡ all → Drives view keeps a (map OutputCall.Doc all) b
 lines_driven printed all d e = driven_as d (sym (map-map OutputCall.Doc (λ line. line.now) printed) ∙ ap (map OutputCall.Doc) e)

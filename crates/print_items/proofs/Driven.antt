@@ -3,38 +3,39 @@ use Rattle.std.proofs.Common.{rules as std_rules, Result, Ok, Err, OnOk, OnErr, 
 use Rattle.std.proofs.lemmas.{Bool.true≢false, Result.on_err_weaker as on_err, Result.on_ok_weaker as on_ok, Grind.flat_map-append, List.map-append}
 use Rattle.std.proofs.lemmas.List.{take-append-drop, Folds.flat_map-map}
 use Rattle.std.specs.{Prelude.is_err, List.flat_map}
-use Rattle.print_output.specs.OutputCall.{OutputCall, View, after, lines_begun_after, Counts, Reaches, Moves, Begins, body_calls}
+use Rattle.print_output.specs.OutputCall.{OutputCall, OutputView, after, lines_begun_after, Counts, Reaches, Moves, Begins, body_calls}
 use Rattle.print_output.specs.OutputCall.{Moves.nothing_moved, Moves.then_moved, Begins.nothing_begun, Begins.begun_in, OutputCall.IndentEnd}
 use Rattle.print_items.specs.declared.driver.Driver.{Driver}
 use Rattle.print_items.specs.{Drives.Runs, Drives.Drives, Drives.LineIs, Drives.Runs.all_made, Drives.Runs.one_refused, Drives.Runs.none_made}
 use Rattle.print_items.proofs.{Runs.flat_map-take_next, Moves.Moves-append, Moves.Begins-append, Moves.Begins-more, Moves.one_moved, Moves.Counts-line}
 
-module _ {Kept : Type 0} {keeps : View Kept → OutputCall → Kept} where
-  runs_append : {a b c : Bool} {u v w : View Kept} {calls more : List OutputCall} → Runs keeps a u calls b v → Runs keeps b v more c w → Runs keeps a u (calls ++ more) c w
+module _ {Kept : Type 0} {keeps : OutputView Kept → OutputCall → Kept} where
+  runs_append : {a b c : Bool} {u v w : OutputView Kept} {calls more : List OutputCall} → Runs keeps a u calls b v → Runs keeps b v more c w → Runs keeps a u (calls ++ more) c w
   runs_append (all_made d) (all_made e) = all_made (Moves-append keeps d e)
   runs_append (all_made d) (one_refused e) = one_refused (Begins-append keeps d e)
   runs_append {u = u} {calls = calls} {more = more} (one_refused d) (none_made e) = one_refused (subst (λ x. Begins keeps u (calls ++ more) x) (sym e) (Begins-more keeps more d))
   runs_append (none_made d) (none_made e) = none_made (e ∙ d)
 
-  runs_none : (a : Bool) (u : View Kept) → Runs keeps a u [] a u
+  runs_none : (a : Bool) (u : OutputView Kept) → Runs keeps a u [] a u
   runs_none true u = none_made refl
   runs_none false u = all_made (nothing_moved refl)
 
-  by_result : {T E : Type 0} (r : Result T E) (u v : View Kept) (calls : List OutputCall) → OnOk r (Moves keeps u calls v) → OnErr r (Begins keeps u calls v) → Runs keeps false u calls (is_err r) v
+  by_result : {T E : Type 0} (r : Result T E) (u v : OutputView Kept) (calls : List OutputCall) → OnOk r (Moves keeps u calls v) → OnErr r (Begins keeps u calls v)
+      → Runs keeps false u calls (is_err r) v
   by_result (Ok x) u v calls h k = all_made h
   by_result (Err e) u v calls h k = one_refused k
 
-  runs_by : {T E : Type 0} (refused now : Bool) (r : Result T E) (u v : View Kept) (calls : List OutputCall) → refused ≡ false → now ≡ is_err r → OnOk r (Moves keeps u calls v)
+  runs_by : {T E : Type 0} (refused now : Bool) (r : Result T E) (u v : OutputView Kept) (calls : List OutputCall) → refused ≡ false → now ≡ is_err r → OnOk r (Moves keeps u calls v)
       → OnErr r (Begins keeps u calls v) → Runs keeps refused u calls now v
   runs_by refused now r u v calls f n h k = subst (λ b. Runs keeps b u calls now v) (sym f) (subst (λ b. Runs keeps false u calls b v) (sym n) (by_result r u v calls h k))
 
-  runs_moved : {a b : Bool} {u v : View Kept} {calls : List OutputCall} → Runs keeps a u calls b v → a ≡ false → b ≡ false → Moves keeps u calls v
+  runs_moved : {a b : Bool} {u v : OutputView Kept} {calls : List OutputCall} → Runs keeps a u calls b v → a ≡ false → b ≡ false → Moves keeps u calls v
   runs_moved x f n = search std_rules
 
-  runs_begun : {a b : Bool} {u v : View Kept} {calls : List OutputCall} → Runs keeps a u calls b v → a ≡ false → b ≡ true → Begins keeps u calls v
+  runs_begun : {a b : Bool} {u v : OutputView Kept} {calls : List OutputCall} → Runs keeps a u calls b v → a ≡ false → b ≡ true → Begins keeps u calls v
   runs_begun x f n = search std_rules
 
-module _ {O Kept : Type 0} {view : O → View Kept} {keeps : View Kept → OutputCall → Kept} where
+module _ {O Kept : Type 0} {view : O → OutputView Kept} {keeps : OutputView Kept → OutputCall → Kept} where
   -- some calls and then more
   pub driven : {a b c : Driver O} {calls more : List OutputCall} → Drives view keeps a calls b → Drives view keeps b more c → Drives view keeps a (calls ++ more) c
   driven d e = record { same = e.same ∙ d.same; runs = runs_append d.runs e.runs }
@@ -117,18 +118,18 @@ module _ {O Kept : Type 0} {view : O → View Kept} {keeps : View Kept → Outpu
 
 -- ---- whether a line has just begun
 
-module _ {Kept : Type 0} {keeps : View Kept → OutputCall → Kept} where
-  moves_line : {u v : View Kept} {calls : List OutputCall} → Moves keeps u calls v → v.line_begun ≡ lines_begun_after u.line_begun calls
+module _ {Kept : Type 0} {keeps : OutputView Kept → OutputCall → Kept} where
+  moves_line : {u v : OutputView Kept} {calls : List OutputCall} → Moves keeps u calls v → v.line_begun ≡ lines_begun_after u.line_begun calls
   moves_line (nothing_moved e) = ap (λ x. x.line_begun) e
   moves_line {u = u} (then_moved {between = w} {call = call} {calls = calls} h r) = moves_line r ∙ ap (λ b. lines_begun_after b calls) (Counts-line keeps u call w h)
 
-  runs_line : {a b : Bool} {u v : View Kept} {calls : List OutputCall} → Runs keeps a u calls b v → b ≡ false → v.line_begun ≡ lines_begun_after u.line_begun calls
+  runs_line : {a b : Bool} {u v : OutputView Kept} {calls : List OutputCall} → Runs keeps a u calls b v → b ≡ false → v.line_begun ≡ lines_begun_after u.line_begun calls
   runs_line x n = search (std_rules, moves_line, true≢false)
 
-  runs_free : {a b : Bool} {u v : View Kept} {calls : List OutputCall} → Runs keeps a u calls b v → b ≡ false → a ≡ false
+  runs_free : {a b : Bool} {u v : OutputView Kept} {calls : List OutputCall} → Runs keeps a u calls b v → b ≡ false → a ≡ false
   runs_free x n = search std_rules
 
-module _ {O Kept : Type 0} {view : O → View Kept} {keeps : View Kept → OutputCall → Kept} where
+module _ {O Kept : Type 0} {view : O → OutputView Kept} {keeps : OutputView Kept → OutputCall → Kept} where
   -- whether a line has just begun after calls of which none was refused
   pub line_driven : {a b : Driver O} {calls : List OutputCall} → Drives view keeps a calls b → b.refused ≡ false
       → (view b.output.now).line_begun ≡ lines_begun_after (view a.output.now).line_begun calls
@@ -141,12 +142,12 @@ module _ {O Kept : Type 0} {view : O → View Kept} {keeps : View Kept → Outpu
 -- ---- calls before calls
 
 -- Some calls ran, and with those that are left they are these.
-pub record Driving {O Kept : Type 0} (view : O → View Kept) (keeps : View Kept → OutputCall → Kept) (left all : List OutputCall) (old now : Driver O) : Type 0 where
+pub record Driving {O Kept : Type 0} (view : O → OutputView Kept) (keeps : OutputView Kept → OutputCall → Kept) (left all : List OutputCall) (old now : Driver O) : Type 0 where
   pub made : List OutputCall
   pub driven : Drives view keeps old made now
   pub whole : made ++ left ≡ all
 
-module _ {O Kept : Type 0} {view : O → View Kept} {keeps : View Kept → OutputCall → Kept} where
+module _ {O Kept : Type 0} {view : O → OutputView Kept} {keeps : OutputView Kept → OutputCall → Kept} where
   -- the first of them ran
   pub driving_first : (run rest : List OutputCall) {all : List OutputCall} {old now : Driver O} → Drives view keeps old run now → run ++ rest ≡ all → Driving view keeps rest all old now
   driving_first run rest d e = record { made = run; driven = d; whole = e }
@@ -162,7 +163,7 @@ module _ {O Kept : Type 0} {view : O → View Kept} {keeps : View Kept → Outpu
 
 -- ---- after a refusal: a driver that has refused a call stays as it is, and calls may be left out
 
-module _ {O Kept : Type 0} {view : O → View Kept} {keeps : View Kept → OutputCall → Kept} where
+module _ {O Kept : Type 0} {view : O → OutputView Kept} {keeps : OutputView Kept → OutputCall → Kept} where
   -- the others of these calls
   pub driven_cut : {a b : Driver O} {made all : List OutputCall} (others : List OutputCall) → Drives view keeps a made b → b.refused ≡ true → made ++ others ≡ all → Drives view keeps a all b
   driven_cut others d r e = driven_on d (call_passed _ others r) e
@@ -181,13 +182,13 @@ module _ {O Kept : Type 0} {view : O → View Kept} {keeps : View Kept → Outpu
   driving_cut {left = left} g r = driven_cut left g.driven r g.whole
 
 -- what is said of a line unless a call was refused
-pub line_refused : {O Kept : Type 0} (view : O → View Kept) (begun : Bool) (a : Driver O) → a.refused ≡ true → LineIs view begun a
+pub line_refused : {O Kept : Type 0} (view : O → OutputView Kept) (begun : Bool) (a : Driver O) → a.refused ≡ true → LineIs view begun a
 line_refused view begun a r free = absurd (true≢false (sym r ∙ free))
 
 -- ---- blocks
 
 -- members in turn, which are these, as they are shown
-pub block_driven : {O Kept : Type 0} {view : O → View Kept} {keeps : View Kept → OutputCall → Kept} {X Y : Type 0} (start : List OutputCall) (run : Y → List OutputCall) (show : X → Y)
+pub block_driven : {O Kept : Type 0} {view : O → OutputView Kept} {keeps : OutputView Kept → OutputCall → Kept} {X Y : Type 0} (start : List OutputCall) (run : Y → List OutputCall) (show : X → Y)
     (members all : List X) {a b c d : Driver O} → Drives view keeps a start b → Drives view keeps b (flat_map (λ x. run (show x)) members) c → Drives view keeps c (IndentEnd ∷ []) d → members ≡ all
     → Drives view keeps a (start ++ (flat_map run (map show all) ++ (IndentEnd ∷ []))) d
 block_driven start run show members all p q r e = search (std_rules, driven3, flat_map-map)

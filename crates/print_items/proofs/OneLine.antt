@@ -1,11 +1,10 @@
 -- Labels and versions have no line end in them, and begin with no space.
-use Rattle.std.proofs.Common.{rules as std_rules, ◌≡◌, refl, subst, ℕ, Bool, true, false, IsTrue, ◌&&◌, not, ◌==◌, List, [], ◌∷◌, ◌++◌, if◌then◌else◌, arith, zero, suc, ◌/◌, ◌%◌, Result, Ok, Err}
+use Rattle.std.proofs.Common.{rules as std_rules, ◌≡◌, refl, subst, ℕ, Bool, true, false, IsTrue, ◌&&◌, not, ◌==◌, List, [], ◌∷◌, ◌++◌, if◌then◌else◌, arith, zero, suc, ◌/◌, ◌%◌}
 use Rattle.std.proofs.lemmas.{Bool.Decides.nat_tests, List.Splits.join_with_byte-slice_split, Bool.and_from as both_true, Bool.or_cases as either_true}
-use Rattle.std.specs.{Prelude.is_ok, List.list_all, List.slice_split, List.join_with_byte, Fmt.decimal, Fmt.digits, Fmt.digits_onto, Fmt.digit_glyph}
-use Rattle.semver.specs.{Identifiers.marked, Identifiers.parts_text, Parse.Parts, Parse.version_parts, Order.parts}
+use Rattle.std.specs.{List.list_all, List.slice_split, List.join_with_byte, Fmt.decimal, Fmt.digits, Fmt.digits_onto, Fmt.digit_glyph}
+use Rattle.semver.specs.{Identifiers.marked, Identifiers.parts_text, Parse.Parts, Order.parts}
 use Rattle.semver.specs.Grammar.{is_identifier_byte, is_build_identifier, is_pre_identifier, is_pre_release, is_build, IsValid as IsValidVersion}
-use Rattle.semver.specs.declared.error.Error.{Error}
-use Rattle.semver.proofs.Grammar.{version_parts-sound}
+use Rattle.wit_model.proofs.VersionTexts.{version_spells}
 use Rattle.wit_model.specs.{Text.Text, Names.is_fragment, Names.begins_with_letter, Names.is_label, Names.is_version_text}
 use Rattle.print_grammar.specs.Keyword.{escaped, is_keyword}
 use Rattle.print_output.specs.OutputCall.{is_one_line, has_no_space_first, may_begin}
@@ -102,16 +101,12 @@ marked_build : (text : Text) → is_build text ≡ true → is_one_line (marked 
 marked_build [] h = refl
 marked_build (b ∷ bs) h = points_one_line is_build_identifier build_bytes (b ∷ bs) h
 
--- the text of a version, of which `version_parts` reads these parts
+-- the text of the parts of a version
 parts_text_one_line : (p : Parts) → IsValidVersion p → is_one_line (parts_text p) ≡ true
 parts_text_one_line p h = search (std_rules, one_line_append, decimal_one_line, marked_pre, marked_build)
 
 version_one_line : (text : Text) → is_version_text text ≡ true → is_one_line text ≡ true
-version_one_line text h = go (version_parts text) refl h
-  where
-    go : (r : Result Parts Error) → version_parts text ≡ r → is_ok r ≡ true → is_one_line text ≡ true
-    go (Ok p) e k = let sound = version_parts-sound text p e in subst (λ t. is_one_line t ≡ true) sound.0 (parts_text_one_line p sound.1)
-    go (Err e) q k = absurd cc
+version_one_line text h = let s = version_spells text h in subst (λ t. is_one_line t ≡ true) s.spelled (parts_text_one_line s.read s.valid)
 
 marked_may_begin : (begun : Bool) (text : Text) → may_begin begun (64 ∷ text) ≡ true
 marked_may_begin x text = search std_rules

@@ -1,6 +1,6 @@
 -- What is shown in front of an item of a valid package is well named.
 use Rattle.std.proofs.Common.{rules as std_rules, ◌≡◌, refl, ℕ, suc, ◌<◌, Bool, true, List, [], ◌∷◌, length, get_or, Option, arith}
-use Rattle.std.proofs.{lemmas.Str.scalars-chars, lemmas.Str.IsUtf8-string_bytes, lemmas.Bool.ltb-true, lemmas.Bool.and_from as both}
+use Rattle.std.proofs.{lemmas.Str.scalars-chars, lemmas.Str.IsUtf8-string_bytes, lemmas.Bool.and_from as both}
 use Rattle.std.specs.{Prelude.String, Prelude.is_some, List.list_all, Str.Lines.lines}
 use Rattle.std.specs.declared.alloc.Global.{Global}
 use lib.Utf8.{scalar, scalars}
@@ -8,8 +8,8 @@ use Rattle.wit_model.specs.declared.model.{Docs.Docs, Stability.Stability}
 use Rattle.wit_model.specs.Text.{Text, text_of}
 use Rattle.wit_model.specs.{Names.is_label, Names.is_version, Names.is_version_text, Rules.is_stability, Rules.passes, Lookup.optional_version_text}
 use Rattle.semver.specs.declared.Version.{Version}
-use Rattle.semver.specs.Identifiers.{version_text}
-use Rattle.semver.proofs.Grammar.{version_parts-complete}
+use Rattle.semver.specs.Identifiers.{parts_of, version_text}
+use Rattle.wit_model.proofs.{VersionLaws.valid_parts, VersionTexts.parts_text_reads}
 use Rattle.print_output.specs.OutputCall.{is_one_line}
 use Rattle.print_items.specs.Shown.{present_name, shown_docs, shown_gates, shown_external_id, shown_prefix}
 use Rattle.print_grammar.specs.WellNamed.{is_well_gates, is_well_prefix}
@@ -19,7 +19,7 @@ use Rattle.base_lemmas.proofs.Bools.{left_of, right_of}
 -- ---- versions
 
 pub version_is_text : (v : Version) → is_version v ≡ true → is_version_text (version_text v) ≡ true
-version_is_text v h = search (std_rules, version_parts-complete, right_of, ltb-true, left_of)
+version_is_text v h = parts_text_reads (parts_of v) (valid_parts v h)
 
 pub optional_version : (v : Option Version) → passes is_version v ≡ true → passes is_version_text (optional_version_text v) ≡ true
 optional_version x h = search (std_rules, version_is_text)

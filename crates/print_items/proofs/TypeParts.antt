@@ -12,7 +12,7 @@ use Rattle.print_output.specs.OutputCall.{OutputCall, lines_begun_after, line_be
 use Rattle.print_grammar.specs.{Tree.TypeTree, Tree.TypeTrees, WellNamed.is_well_type}
 use Rattle.print_grammar.specs.Tree.TypeTree.{Name, TupleOf, OptionOf, ListOf, FixedListOf, MapOf, ResultOk, ResultErr, ResultOf, FutureOf, StreamOf}
 use Rattle.print_grammar.specs.{Tree.TypeTrees.NoTypes, Tree.TypeTrees.AndTypes, Keyword.escaped, Calls.type_calls, Calls.types_calls, Calls.more_types_calls}
-use Rattle.print_items.specs.Shown.{shown_type, type_name, used_type, used_types, future_tree, stream_tree, result_tree, kind_tree, def_tree, trees_from, type_trees}
+use Rattle.print_items.specs.Shown.{shown_type, type_name, used_type, used_type_trees, future_type_tree, stream_type_tree, result_type_tree, kind_tree, def_tree, trees_from, type_trees}
 use Rattle.print_items.specs.TypeParts.{kind_start, kind_end, result_start, result_end, carrier_end, types_from, comma_calls, handles_label, may_be_unnamed, kind_calls}
 use Rattle.print_output.specs.declared.type_kind.TypeKind.TheVariants.{Other}
 use Rattle.print_items.proofs.{Runs.drop_next, TypesWell.is_below, TypesWell.below_of_numbers, TypesWell.IsShownType, TypesWell.type_is_shown, TypesWell.trees_count}
@@ -33,7 +33,7 @@ module _ (n : ℕ) (trees : List TypeTree) where
   used_same (value.Id id) h = ap (λ o. unwrap_or o (Name [])) (slice_get-take trees n id.0 (ltb-true id.0 n h))
   used_same _ h = refl
 
-  all_same : (ts : List ValueType) → list_all (is_below n) ts ≡ true → used_types (take n trees) ts ≡ used_types trees ts
+  all_same : (ts : List ValueType) → list_all (is_below n) ts ≡ true → used_type_trees (take n trees) ts ≡ used_type_trees trees ts
   all_same [] h = refl
   all_same (t ∷ ts) h = λ i. AndTypes (used_same t (left_of _ _ h) i) (all_same ts (right_of (is_below n t) _ h) i)
 
@@ -47,10 +47,10 @@ module _ (n : ℕ) (trees : List TypeTree) where
   payload_same (Some t) h = ap Some (used_same t (left_of _ _ h))
 
   two_same : (a b : Option ValueType) → list_all (is_below n) (option_to_list a ++ option_to_list b) ≡ true
-      → result_tree (option_map (used_type (take n trees)) a) (option_map (used_type (take n trees)) b) ≡ result_tree (option_map (used_type trees) a) (option_map (used_type trees) b)
+      → result_type_tree (option_map (used_type (take n trees)) a) (option_map (used_type (take n trees)) b) ≡ result_type_tree (option_map (used_type trees) a) (option_map (used_type trees) b)
   two_same a b h =
       let first = one_same a (option_to_list b) h in
-      λ i. result_tree (first.0 i) (payload_same b first.1 i)
+      λ i. result_type_tree (first.0 i) (payload_same b first.1 i)
 
   -- a kind whose numbers are smaller hangs on the trees of these alone
   kind_same : (r : Resolve) (k : TypeDefKind) → is_named_kind k ≡ false → list_all (is_below n) (member_types k) ≡ true → kind_tree r (take n trees) k ≡ kind_tree r trees k
@@ -62,8 +62,8 @@ module _ (n : ℕ) (trees : List TypeTree) where
   kind_same r (defined.List t) u h = ap ListOf (used_same t (left_of _ _ h))
   kind_same r (defined.Map k v) u h = λ i. MapOf (used_same k (left_of _ _ h) i) (used_same v (left_of _ _ (right_of (is_below n k) _ h)) i)
   kind_same r (defined.FixedLengthList t m) u h = ap (λ x. FixedListOf x m) (used_same t (left_of _ _ h))
-  kind_same r (defined.Future o) u h = ap future_tree (payload_same o h)
-  kind_same r (defined.Stream o) u h = ap stream_tree (payload_same o h)
+  kind_same r (defined.Future o) u h = ap future_type_tree (payload_same o h)
+  kind_same r (defined.Stream o) u h = ap stream_type_tree (payload_same o h)
   kind_same r _ u h = absurd cc
 
 -- ---- the calls for a kind
@@ -107,17 +107,17 @@ two_parts start calls comma more end = append_assoc start (calls ++ (comma ∷ (
     ∙ ap (λ x. start ++ x) (append_assoc calls (comma ∷ (more ++ [])) end ∙ ap (λ x. calls ++ (comma ∷ (x ++ end))) (append-nil more))
 
 module _ (r : Resolve) (trees : List TypeTree) where
-  more_whole : (n : ℕ) (ts : List ValueType) → types_from trees (suc n) ts ≡ more_types_calls (used_types trees ts)
+  more_whole : (n : ℕ) (ts : List ValueType) → types_from trees (suc n) ts ≡ more_types_calls (used_type_trees trees ts)
   more_whole n [] = refl
   more_whole n (t ∷ ts) = ap (λ x. OutputCall.Str (codes ", ") ∷ (type_calls (used_type trees t) ++ x)) (more_whole (suc n) ts)
 
-  types_whole : (ts : List ValueType) → types_from trees 0 ts ≡ types_calls (used_types trees ts)
+  types_whole : (ts : List ValueType) → types_from trees 0 ts ≡ types_calls (used_type_trees trees ts)
   types_whole [] = refl
   types_whole (t ∷ ts) = ap (λ x. type_calls (used_type trees t) ++ x) (more_whole 0 ts)
 
   result_whole : (ok err : Option ValueType)
       → (result_start ok err ++ types_from trees 0 (option_to_list ok ++ option_to_list err)) ++ result_end ok err ≡ type_calls
-      (result_tree (option_map (used_type trees) ok) (option_map (used_type trees) err))
+      (result_type_tree (option_map (used_type trees) ok) (option_map (used_type trees) err))
   result_whole None None = refl
   result_whole None (Some u) = one_part (result_start None (Some u)) (type_calls (used_type trees u)) (result_end None (Some u))
   result_whole (Some t) None = one_part (result_start (Some t) None) (type_calls (used_type trees t)) (result_end (Some t) None)

@@ -9,7 +9,7 @@ use Rattle.wit_model.specs.Parts.{kind_numbers, member_types, handled, is_resour
 use Rattle.wit_model.specs.Valid.{IsValid, Rule, Keeps, is_place, numbers_in_range, labels, order_of_types, shapes, named_kinds, handles}
 use Rattle.wit_model.proofs.Entries.{each_from_at, lists_pass}
 use Rattle.print_grammar.specs.{Tree.TypeTree, Tree.TypeTree.Name, WellNamed.is_well_type, WellNamed.are_well_types, WellNamed.are_well_more}
-use Rattle.print_items.specs.Shown.{present_name, shown_type, type_name, used_type, used_types, future_tree, stream_tree, result_tree, kind_tree, def_tree, trees_from, type_trees}
+use Rattle.print_items.specs.Shown.{present_name, shown_type, type_name, used_type, used_type_trees, future_type_tree, stream_type_tree, result_type_tree, kind_tree, def_tree, trees_from, type_trees}
 use Rattle.print_items.proofs.ShownWell.{given_label}
 use Rattle.base_lemmas.proofs.{Bools.left_of, Bools.right_of, Bools.unnamed_kind, Bools.given-not, Elements.all_get, Lists.within_there as one_there}
 use Rattle.wit_model.specs.declared.model.TypeDefKind.TheVariants as defined
@@ -41,21 +41,21 @@ module _ (trees : List TypeTree) (well : list_all is_well_type trees ≡ true) w
   pub used_well : (t : ValueType) → is_below (length trees) t ≡ true → is_well_type (used_type trees t) ≡ true
   used_well x h = search (std_rules, number_well)
 
-  more_well : (ts : List ValueType) → list_all (is_below (length trees)) ts ≡ true → are_well_more (used_types trees ts) ≡ true
+  more_well : (ts : List ValueType) → list_all (is_below (length trees)) ts ≡ true → are_well_more (used_type_trees trees ts) ≡ true
   more_well [] h = refl
   more_well (t ∷ ts) h = both (is_well_type (used_type trees t)) _ (used_well t (left_of _ _ h)) (more_well ts (right_of (is_below (length trees) t) _ h))
 
-  some_well : (ts : List ValueType) → has_items ts ≡ true → list_all (is_below (length trees)) ts ≡ true → are_well_types (used_types trees ts) ≡ true
+  some_well : (ts : List ValueType) → has_items ts ≡ true → list_all (is_below (length trees)) ts ≡ true → are_well_types (used_type_trees trees ts) ≡ true
   some_well x some h = search (std_rules, both, used_well, left_of, more_well, right_of)
 
-  future_well : (o : Option ValueType) → list_all (is_below (length trees)) (option_to_list o) ≡ true → is_well_type (future_tree (option_map (used_type trees) o)) ≡ true
+  future_well : (o : Option ValueType) → list_all (is_below (length trees)) (option_to_list o) ≡ true → is_well_type (future_type_tree (option_map (used_type trees) o)) ≡ true
   future_well x h = search (std_rules, used_well, left_of)
 
-  stream_well : (o : Option ValueType) → list_all (is_below (length trees)) (option_to_list o) ≡ true → is_well_type (stream_tree (option_map (used_type trees) o)) ≡ true
+  stream_well : (o : Option ValueType) → list_all (is_below (length trees)) (option_to_list o) ≡ true → is_well_type (stream_type_tree (option_map (used_type trees) o)) ≡ true
   stream_well x h = search (std_rules, used_well, left_of)
 
   result_well : (ok err : Option ValueType) → list_all (is_below (length trees)) (option_to_list ok ++ option_to_list err) ≡ true
-      → is_well_type (result_tree (option_map (used_type trees) ok) (option_map (used_type trees) err)) ≡ true
+      → is_well_type (result_type_tree (option_map (used_type trees) ok) (option_map (used_type trees) err)) ≡ true
   result_well x y h = search (std_rules, used_well, left_of, both, right_of)
 
   -- A kind without a name of its own, whose parts stand before it, is shown well.

@@ -11,7 +11,7 @@ use Rattle.wit_model.specs.declared.model.{Flag.Flag, Docs.Docs}
 use Rattle.wit_model.specs.{Text.Text, Text.text_of, Text.text_eq, Parts.same_owner, Rules.is_freestanding, Rules.is_own_of, Valid.item_function}
 use Rattle.wit_model.specs.Lookup.{package_at, interface_at, world_at, type_at, optional_version_text, is_async, resource_of}
 use Rattle.wit_model.specs.Calls.{item_name}
-use Rattle.print_grammar.specs.{Keyword.Primitive, Tree.TypeTrees.NoTypes, Tree.TypeTrees.AndTypes}
+use Rattle.print_grammar.specs.{Keyword.PrimitiveName, Tree.TypeTrees.NoTypes, Tree.TypeTrees.AndTypes}
 use Rattle.print_grammar.specs.Tree.{TypeTree, TypeTrees, Gates, Prefix, ParamTree, FieldTree, CaseTree, LabelTree, SignatureTree, ResourceMember, Declared, PathTree, UsedName, MemberTree, ExternTree, WorldMember, ItemTree, PackageHead, PackageTree, FileTree}
 use Rattle.print_grammar.specs.Tree.TypeTree.{PrimitiveType, Name, Handle, Own, Borrow, TupleOf, OptionOf, ListOf, FixedListOf, MapOf, Result, ResultOk, ResultErr, ResultOf, Future, FutureOf, Stream, StreamOf}
 use Rattle.print_grammar.specs.Tree.{Gates.Ungated, Gates.Since, Gates.Unstable, ResourceMember.Constructor, ResourceMember.Method, ResourceMember.Static}
@@ -60,56 +60,56 @@ type_name resolve id = option_map_or (λ def. present_name def.name) (type_at re
 
 -- A type where it is used, by the trees of the type numbers.
 abbrev pub used_type : List TypeTree → ValueType → TypeTree
-used_type trees value.Bool = PrimitiveType Primitive.Bool_
-used_type trees value.U8 = PrimitiveType Primitive.U8
-used_type trees value.U16 = PrimitiveType Primitive.U16
-used_type trees value.U32 = PrimitiveType Primitive.U32
-used_type trees value.U64 = PrimitiveType Primitive.U64
-used_type trees value.S8 = PrimitiveType Primitive.S8
-used_type trees value.S16 = PrimitiveType Primitive.S16
-used_type trees value.S32 = PrimitiveType Primitive.S32
-used_type trees value.S64 = PrimitiveType Primitive.S64
-used_type trees value.F32 = PrimitiveType Primitive.F32
-used_type trees value.F64 = PrimitiveType Primitive.F64
-used_type trees value.Char = PrimitiveType Primitive.Char
-used_type trees value.String = PrimitiveType Primitive.String
-used_type trees value.ErrorContext = PrimitiveType Primitive.ErrorContext
+used_type trees value.Bool = PrimitiveType PrimitiveName.Bool_
+used_type trees value.U8 = PrimitiveType PrimitiveName.U8
+used_type trees value.U16 = PrimitiveType PrimitiveName.U16
+used_type trees value.U32 = PrimitiveType PrimitiveName.U32
+used_type trees value.U64 = PrimitiveType PrimitiveName.U64
+used_type trees value.S8 = PrimitiveType PrimitiveName.S8
+used_type trees value.S16 = PrimitiveType PrimitiveName.S16
+used_type trees value.S32 = PrimitiveType PrimitiveName.S32
+used_type trees value.S64 = PrimitiveType PrimitiveName.S64
+used_type trees value.F32 = PrimitiveType PrimitiveName.F32
+used_type trees value.F64 = PrimitiveType PrimitiveName.F64
+used_type trees value.Char = PrimitiveType PrimitiveName.Char
+used_type trees value.String = PrimitiveType PrimitiveName.String
+used_type trees value.ErrorContext = PrimitiveType PrimitiveName.ErrorContext
 used_type trees (value.Id id) = unwrap_or (slice_get trees id.0) (Name [])
 
 -- types where they are used, as those of a tuple
-abbrev pub used_types : List TypeTree → List ValueType → TypeTrees
-used_types trees [] = NoTypes
-used_types trees (ty ∷ types) = AndTypes (used_type trees ty) (used_types trees types)
+abbrev pub used_type_trees : List TypeTree → List ValueType → TypeTrees
+used_type_trees trees [] = NoTypes
+used_type_trees trees (ty ∷ types) = AndTypes (used_type trees ty) (used_type_trees trees types)
 
 -- a future, with its element where it has one
-abbrev pub future_tree : Option TypeTree → TypeTree
-future_tree None = Future
-future_tree (Some ty) = FutureOf ty
+abbrev pub future_type_tree : Option TypeTree → TypeTree
+future_type_tree None = Future
+future_type_tree (Some ty) = FutureOf ty
 
 -- a stream, with its element where it has one
-abbrev pub stream_tree : Option TypeTree → TypeTree
-stream_tree None = Stream
-stream_tree (Some ty) = StreamOf ty
+abbrev pub stream_type_tree : Option TypeTree → TypeTree
+stream_type_tree None = Stream
+stream_type_tree (Some ty) = StreamOf ty
 
 -- a result, with its ok and its err where it has them
-abbrev pub result_tree : Option TypeTree → Option TypeTree → TypeTree
-result_tree None None = Result
-result_tree (Some ok) None = ResultOk ok
-result_tree None (Some err) = ResultErr err
-result_tree (Some ok) (Some err) = ResultOf ok err
+abbrev pub result_type_tree : Option TypeTree → Option TypeTree → TypeTree
+result_type_tree None None = Result
+result_type_tree (Some ok) None = ResultOk ok
+result_type_tree None (Some err) = ResultErr err
+result_type_tree (Some ok) (Some err) = ResultOf ok err
 
 -- A kind without a name of its own, where it is used. An owned handle has its resource's name.
 abbrev pub kind_tree : Resolve → List TypeTree → TypeDefKind → TypeTree
 kind_tree resolve trees (defined.Handle (handle.Own id)) = Handle (type_name resolve id)
 kind_tree resolve trees (defined.Handle (handle.Borrow id)) = Borrow (type_name resolve id)
-kind_tree resolve trees (defined.Tuple tuple) = TupleOf (used_types trees tuple.types.items)
+kind_tree resolve trees (defined.Tuple tuple) = TupleOf (used_type_trees trees tuple.types.items)
 kind_tree resolve trees (defined.Option ty) = OptionOf (used_type trees ty)
-kind_tree resolve trees (defined.Result result) = result_tree (option_map (used_type trees) result.ok) (option_map (used_type trees) result.err)
+kind_tree resolve trees (defined.Result result) = result_type_tree (option_map (used_type trees) result.ok) (option_map (used_type trees) result.err)
 kind_tree resolve trees (defined.List ty) = ListOf (used_type trees ty)
 kind_tree resolve trees (defined.Map k v) = MapOf (used_type trees k) (used_type trees v)
 kind_tree resolve trees (defined.FixedLengthList ty length) = FixedListOf (used_type trees ty) length
-kind_tree resolve trees (defined.Future ty) = future_tree (option_map (used_type trees) ty)
-kind_tree resolve trees (defined.Stream ty) = stream_tree (option_map (used_type trees) ty)
+kind_tree resolve trees (defined.Future ty) = future_type_tree (option_map (used_type trees) ty)
+kind_tree resolve trees (defined.Stream ty) = stream_type_tree (option_map (used_type trees) ty)
 kind_tree resolve trees (defined.Type_ ty) = used_type trees ty
 -- records, flags, variants, enums and resources have names
 kind_tree resolve trees kind = Name []
@@ -388,15 +388,15 @@ extern_prefix resolve k (item.Function f) = function_prefix f
 extern_prefix resolve k (item.Type_ id) = record { docs = []; gates = Ungated; external_id = None }
 
 -- an entry of a world
-abbrev pub Entry : Type 0
-Entry = WorldKey × Item
+abbrev pub WorldEntry : Type 0
+WorldEntry = WorldKey × Item
 
 -- an import of a world
-abbrev pub shown_import : Resolve → PackageId → Entry → WorldMember
+abbrev pub shown_import : Resolve → PackageId → WorldEntry → WorldMember
 shown_import resolve here entry = WorldImport (extern_prefix resolve entry.0 entry.1) (shown_extern resolve here entry.0 entry.1)
 
 -- an export of a world
-abbrev pub shown_export : Resolve → PackageId → Entry → WorldMember
+abbrev pub shown_export : Resolve → PackageId → WorldEntry → WorldMember
 shown_export resolve here entry = WorldExport (extern_prefix resolve entry.0 entry.1) (shown_extern resolve here entry.0 entry.1)
 
 -- whether an item is an interface

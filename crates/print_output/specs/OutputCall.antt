@@ -89,38 +89,40 @@ may_follow begun [] = true
 may_follow begun (call ∷ calls) = may_stand begun call && may_follow (line_begun_after call begun) calls
 
 -- What is seen of an output: whether a line has just begun, and what it keeps of the calls so far, as their list or as what came of them.
-pub record View (Kept : Type 0) : Type 0 where
+pub record OutputView (Kept : Type 0) : Type 0 where
   pub line_begun : Bool
   pub kept : Kept
 
-module _ {Kept : Type 0} (keeps : View Kept → OutputCall → Kept) where
+module _ {Kept : Type 0} (keeps : OutputView Kept → OutputCall → Kept) where
   -- the view after a call
-  abbrev pub after : View Kept → OutputCall → View Kept
+  abbrev pub after : OutputView Kept → OutputCall → OutputView Kept
   after view call = record { line_begun = line_begun_after call view.line_begun; kept = keeps view call }
 
   -- the view after calls in turn
-  abbrev pub after_all : View Kept → List OutputCall → View Kept
+  abbrev pub after_all : OutputView Kept → List OutputCall → OutputView Kept
   after_all view [] = view
   after_all view (call ∷ calls) = after_all (after view call) calls
 
   -- One call moved the view: it counts as itself, or as the calls that its body makes.
-  abbrev pub Counts : View Kept → OutputCall → View Kept → Type 0
+  abbrev pub Counts : OutputView Kept → OutputCall → OutputView Kept → Type 0
   Counts old call new = (new ≡ after old call) ⊎ (new ≡ after_all old (body_calls call))
 
   -- A beginning of the calls, none or more, moved the view, each counted as itself.
-  abbrev pub Reaches : View Kept → List OutputCall → View Kept → Type 0
+  abbrev pub Reaches : OutputView Kept → List OutputCall → OutputView Kept → Type 0
   Reaches old [] new = new ≡ old
   Reaches old (call ∷ calls) new = (new ≡ old) ⊎ Reaches (after old call) calls new
 
 -- The calls moved the view, in order.
-pub data Moves {Kept : Type 0} (keeps : View Kept → OutputCall → Kept) : View Kept → List OutputCall → View Kept → Type 0 where
-  nothing_moved : {old new : View Kept} → new ≡ old → Moves keeps old [] new
-  then_moved : {old between new : View Kept} {call : OutputCall} {calls : List OutputCall} → Counts keeps old call between → Moves keeps between calls new
+pub data Moves {Kept : Type 0} (keeps : OutputView Kept → OutputCall → Kept) : OutputView Kept → List OutputCall → OutputView Kept → Type 0 where
+  nothing_moved : {old new : OutputView Kept} → new ≡ old → Moves keeps old [] new
+  then_moved : {old between new : OutputView Kept} {call : OutputCall} {calls : List OutputCall} → Counts keeps old call between → Moves keeps between calls new
       → Moves keeps old (call ∷ calls) new
 
 -- A beginning of the calls moved the view: some calls in order, and then a beginning of the calls that the body of the next one makes.
-pub data Begins {Kept : Type 0} (keeps : View Kept → OutputCall → Kept) : View Kept → List OutputCall → View Kept → Type 0 where
-  nothing_begun : {old new : View Kept} {calls : List OutputCall} → new ≡ old → Begins keeps old calls new
-  begun_in : {old new : View Kept} {call : OutputCall} {calls : List OutputCall} → Reaches keeps old (body_calls call) new → Begins keeps old (call ∷ calls) new
-  then_begun : {old between new : View Kept} {call : OutputCall} {calls : List OutputCall} → Counts keeps old call between → Begins keeps between calls new
+pub data Begins {Kept : Type 0} (keeps : OutputView Kept → OutputCall → Kept) : OutputView Kept → List OutputCall → OutputView Kept → Type 0 where
+  nothing_begun : {old new : OutputView Kept} {calls : List OutputCall} → new ≡ old → Begins keeps old calls new
+  begun_in : {old new : OutputView Kept} {call : OutputCall} {calls : List OutputCall} → Reaches keeps old (body_calls call) new
+      → Begins keeps old (call ∷ calls) new
+  then_begun : {old between new : OutputView Kept} {call : OutputCall} {calls : List OutputCall} → Counts keeps old call between
+      → Begins keeps between calls new
       → Begins keeps old (call ∷ calls) new

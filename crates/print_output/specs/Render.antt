@@ -1,6 +1,6 @@
 -- The text that comes of calls, for an output that keeps a text.
 use Rattle.std.specs.Prelude.{◌+◌, ◌-◌, ◌*◌, Bool, true, false, List, [], ◌∷◌, ◌++◌, ℕ, codes, replicate}
-use Rattle.print_output.specs.OutputCall.{OutputCall, View, after_all}
+use Rattle.print_output.specs.OutputCall.{OutputCall, OutputView, after_all}
 use Rattle.print_output.specs.OutputCall.OutputCall.{PushStr, IndentIfNeeded, IndentStart, IndentEnd, Newline, IndentAndPrint, Keyword, Ty, Param, Case, GenericArgsStart, GenericArgsEnd, Doc, Semicolon, Str}
 
 -- a text, and how many levels its next line is indented by
@@ -18,11 +18,11 @@ front_of true level = indentation level
 front_of false level = []
 
 -- the text with this at its end, as it stands
-abbrev pub pushed : View Written → List ℕ → Written
+abbrev pub pushed : OutputView Written → List ℕ → Written
 pushed view text = record { text = view.kept.text ++ text; level = view.kept.level }
 
 -- the text with this at its end, and the indentation before it where a line has just begun
-abbrev pub printed : View Written → List ℕ → Written
+abbrev pub printed : OutputView Written → List ℕ → Written
 printed view text = record { text = (view.kept.text ++ front_of view.line_begun view.kept.level) ++ text; level = view.kept.level }
 
 -- a line of documentation, with its line end
@@ -31,7 +31,7 @@ doc_text [] = codes "///" ++ (10 ∷ [])
 doc_text (c ∷ cs) = (codes "/// " ++ (c ∷ cs)) ++ (10 ∷ [])
 
 -- What is written after a call. A block's end is indented as the block's start is.
-abbrev pub writes : View Written → OutputCall → Written
+abbrev pub writes : OutputView Written → OutputCall → Written
 writes view (PushStr text) = pushed view text
 writes view IndentIfNeeded = printed view []
 writes view IndentStart = record { text = view.kept.text ++ (codes " {" ++ (10 ∷ [])); level = view.kept.level + 1 }
@@ -53,7 +53,7 @@ writes view Semicolon = printed view (codes ";" ++ (10 ∷ []))
 writes view (Str text) = printed view text
 
 -- nothing written yet, and no line begun
-abbrev pub blank : View Written
+abbrev pub blank : OutputView Written
 blank = record { line_begun = false; kept = record { text = []; level = 0 } }
 
 -- the text that comes of calls, from the start

@@ -2,7 +2,7 @@
 
 ghost use Rattle.std.specs.Prelude.{◌≡◌, IsTrue, false, OnOk, OnErr, IfOk, IfErr};
 ghost use Rattle.wit_model.specs.Refusals.{IsMemory};
-ghost use Rattle.print_output.specs.OutputCall.{OutputCall, View, after, Counts, Reaches, body_calls, is_one_line, may_begin};
+ghost use Rattle.print_output.specs.OutputCall.{OutputCall, OutputView, after, Counts, Reaches, body_calls, is_one_line, may_begin};
 ghost use Rattle.print_output.specs.OutputCall.OutputCall.{PushStr, IndentIfNeeded, IndentStart, IndentEnd, Newline, IndentAndPrint, Keyword, Ty, Param, Case, GenericArgsStart, GenericArgsEnd, Doc, Semicolon, Str};
 
 use crate::type_kind::TypeKind;
@@ -14,10 +14,10 @@ pub trait Output {
     ghost Kept: { Type 0 };
 
     /// What is kept after one more call.
-    ghost keeps: { View Kept → OutputCall → Kept };
+    ghost keeps: { OutputView Kept → OutputCall → Kept };
 
     /// What is kept, and whether a line has just begun.
-    ghost view: { Self → View Kept };
+    ghost view: { Self → OutputView Kept };
 
     /// Text as it stands.
     fn push_str(&mut self, src: &str) -> Result<(), Error>

@@ -5,7 +5,7 @@ use Rattle.std.specs.{Borrow.Bor, List.list_all, Map.lookup, Option.option_map_o
 use Rattle.std.specs.declared.alloc.Global.{Global}
 use Rattle.wit_model.specs.declared.model.{Resolve.Resolve, Function.Function, TypeId.TypeId, TypeOwner.TypeOwner}
 use Rattle.wit_model.specs.Text.{Text}
-use Rattle.print_output.specs.OutputCall.{OutputCall, View, Moves, Begins}
+use Rattle.print_output.specs.OutputCall.{OutputCall, OutputView, Moves, Begins}
 use Rattle.print_grammar.specs.{Tree.MemberTree, Calls.members_calls, Calls.printed_after}
 use Rattle.print_items.specs.Shown.{Listed}
 use Rattle.print_packages.specs.GivenTypes.{Functions, are_functions_of, behind, functions_under, given_declarations}
@@ -40,7 +40,7 @@ module _ (ts : List (Bor Text × TypeId)) (i : ℕ) (d : Bor Text × TypeId) (wi
   calls_next : (emits : Bool) → members_calls emits has (given_declarations r o entries (listed_of (drop i ts))) ≡ members_calls emits has one ++ members_calls emits (printed_after has one) rest
   calls_next emits = ap (members_calls emits has) given_next ∙ members_append emits has one rest
 
-  pub given_made : {Kept : Type 0} {keeps : View Kept → OutputCall → Kept} {all : List OutputCall} {old now new : View Kept} (fs : List Function) (emits printed : Bool)
+  pub given_made : {Kept : Type 0} {keeps : OutputView Kept → OutputCall → Kept} {all : List OutputCall} {old now new : OutputView Kept} (fs : List Function) (emits printed : Bool)
       → fs ≡ functions_under entries (get_or ts i d).1 → Going keeps (members_calls emits has (given_declarations r o entries (listed_of (drop i ts)))) all old now
       → printed ≡ printed_after has (listed_declaration r o fs here) → Moves keeps now (members_calls emits has (listed_declaration r o fs here)) new
       → Going keeps (members_calls emits printed rest) all old new
@@ -48,7 +48,7 @@ module _ (ts : List (Bor Text × TypeId)) (i : ℕ) (d : Bor Text × TypeId) (wi
       (calls_next emits ∙ ap (λ b. members_calls emits has one ++ members_calls emits b rest) (sym (e ∙ ap (λ gs. printed_after has (listed_declaration r o gs here)) same)))
       (subst (λ gs. Moves keeps now (members_calls emits has (listed_declaration r o gs here)) new) same m)
 
-  pub given_refused : {Kept : Type 0} {keeps : View Kept → OutputCall → Kept} {all : List OutputCall} {old now new : View Kept} (fs : List Function) (emits : Bool)
+  pub given_refused : {Kept : Type 0} {keeps : OutputView Kept → OutputCall → Kept} {all : List OutputCall} {old now new : OutputView Kept} (fs : List Function) (emits : Bool)
       → fs ≡ functions_under entries (get_or ts i d).1 → Going keeps (members_calls emits has (given_declarations r o entries (listed_of (drop i ts)))) all old now
       → Begins keeps now (members_calls emits has (listed_declaration r o fs here)) new → Begins keeps old all new
   given_refused {keeps = keeps} {now = now} {new = new} fs emits same g b = refused_in (members_calls emits has one) (members_calls emits (printed_after has one) rest) g (calls_next emits)

@@ -15,41 +15,41 @@ use Rattle.print_grammar.specs.Calls.{members_calls, printed_after, world_member
 use Rattle.print_uses.specs.UseGroups.{declared_members, use_members}
 use Rattle.print_uses.specs.Printable.{imports_interfaces, printed_imports, is_printable_interface, is_printable_world, IsPrintableWorld, entry_calls, interface_entry_calls, world_body_calls, world_calls, is_printable_listed, listed_calls, listed_interface_calls, listed_package_calls, next_package_calls}
 use Rattle.print_uses.proofs.Declarations.{after_printed, members_append, printed_append}
-use Rattle.print_items.specs.Shown.{DeclaredWith, Entry, Used, listed_imports, shown_declarations, shown_path, shown_uses, is_interface_item, is_freestanding_item, imported_functions, shown_import, shown_export, shown_interface, shown_world, shown_world_in, shown_world_item, shown_interface_item, shown_docs, shown_gates, shown_package, shown_package_of}
+use Rattle.print_items.specs.Shown.{DeclaredWith, WorldEntry, Used, listed_imports, shown_declarations, shown_path, shown_uses, is_interface_item, is_freestanding_item, imported_functions, shown_import, shown_export, shown_interface, shown_world, shown_world_in, shown_world_item, shown_interface_item, shown_docs, shown_gates, shown_package, shown_package_of}
 use Rattle.base_lemmas.proofs.Bools.{left_of as first_true, right_of as second_true}
 use Rattle.wit_model.specs.declared.model.TypeOwner.TheVariants as owner
 
 -- ---- the calls for what a world without types has
 
 -- whether a block has printed something after these, too
-abbrev shown_after : Bool → List Entry → Bool
+abbrev shown_after : Bool → List WorldEntry → Bool
 shown_after printed [] = printed
 shown_after printed (x ∷ xs) = true
 
-after_true : (xs : List Entry) → shown_after true xs ≡ true
+after_true : (xs : List WorldEntry) → shown_after true xs ≡ true
 after_true x = search std_rules
 
 module _ (emits : Bool) (r : Resolve) (here : PackageId) where
-  entries_calls : (printed : Bool) (xs : List Entry) (rest : List WorldMember)
+  entries_calls : (printed : Bool) (xs : List WorldEntry) (rest : List WorldMember)
       → world_members_calls emits printed false (map (shown_import r here) xs ++ rest) ≡ flat_map (entry_calls emits r here (codes "import")) xs ++ world_members_calls emits
       (shown_after printed xs) false rest
   entries_calls printed [] rest = refl
   entries_calls printed (x ∷ xs) rest = search (std_rules, after_true, append_assoc, entries_calls true xs rest)
 
-  more_exports : (ys : List Entry) → world_members_calls emits true true (map (shown_export r here) ys) ≡ flat_map (entry_calls emits r here (codes "export")) ys
+  more_exports : (ys : List WorldEntry) → world_members_calls emits true true (map (shown_export r here) ys) ≡ flat_map (entry_calls emits r here (codes "export")) ys
   more_exports [] = refl
   more_exports (y ∷ ys) = ap (λ calls. entry_calls emits r here (codes "export") y ++ calls) (more_exports ys)
 
-  exports_after : (printed : Bool) (ys : List Entry)
+  exports_after : (printed : Bool) (ys : List WorldEntry)
       → world_members_calls emits printed false (map (shown_export r here) ys) ≡ line_after_calls (printed && has_items ys) ++ flat_map (entry_calls emits r here (codes "export")) ys
   exports_after x z = search (std_rules, more_exports)
 
   -- those that pass a test make the runs of all, where the others make none
-  kept_runs : (run : Entry → List OutputCall) (test : Entry → Bool) (xs : List Entry) → flat_map run (filter test xs) ≡ flat_map (λ e. if test e then run e else []) xs
+  kept_runs : (run : WorldEntry → List OutputCall) (test : WorldEntry → Bool) (xs : List WorldEntry) → flat_map run (filter test xs) ≡ flat_map (λ e. if test e then run e else []) xs
   kept_runs run test [] = refl
   kept_runs run test (x ∷ xs) = search (std_rules, kept_runs run test xs)
 
-  shown_after_is : (printed : Bool) (xs : List Entry) → shown_after printed xs ≡ (printed || has_items xs)
+  shown_after_is : (printed : Bool) (xs : List WorldEntry) → shown_after printed xs ≡ (printed || has_items xs)
   shown_after_is printed x = search std_rules
 
   -- uses and declared types of a world are those of an interface
@@ -74,8 +74,8 @@ members_shown : (emits : Bool) (r : Resolve) (id : WorldId) (w : World) (here : 
 members_shown emits r id w here =
     let run = entry_calls emits r here (codes "import") in
     let xs = w.imports.entries in
-    let interfaces = filter (λ (e : Entry). is_interface_item e.1) xs in
-    let functions = filter (λ (e : Entry). is_freestanding_item e.1) xs in
+    let interfaces = filter (λ (e : WorldEntry). is_interface_item e.1) xs in
+    let functions = filter (λ (e : WorldEntry). is_freestanding_item e.1) xs in
     let us = shown_uses r (owner.World id) (listed_imports w) in
     let ds = shown_declarations r (owner.World id) (imported_functions w) (listed_imports w) in
     let uses = use_members r here (owner.World id) (listed_imports w) in

@@ -7,7 +7,7 @@ use Rattle.wit_model.specs.declared.model.{Resolve.Resolve, Package.Package, Pac
 use Rattle.wit_model.specs.declared.model.World.{World}
 use Rattle.wit_model.specs.{Text.Text, Text.text_of, Text.text_eq, Names.is_label, Rules.in_list, Rules.passes, Rules.is_stability, Rules.text_is, Lookup.package_at, Lookup.interface_at, Lookup.world_at, Valid.IsValid, Valid.package_names, Valid.labels, Valid.names_in_packages}
 use Rattle.wit_model.proofs.{OnePath.package-passes, OnePath.interface-passes, TextLemmas.text_same}
-use Rattle.print_output.specs.{OutputCall.View, OutputCall.Moves, OutputCall.is_one_line, Render.Written, Render.render, Render.writes, Render.blank}
+use Rattle.print_output.specs.{OutputCall.OutputView, OutputCall.Moves, OutputCall.is_one_line, Render.Written, Render.render, Render.writes, Render.blank}
 use Rattle.print_grammar.specs.{Calls.file_calls, AsRead.file_as_read, Tree.ItemTree.InterfaceItem, Tree.ItemTree.WorldItem, Reading.IsOnlyReading, WellNamed.is_well_gates, WellNamed.is_well_item, WellNamed.is_well_package, WellNamed.is_well_file}
 use Rattle.print_items.specs.Shown.{shown_docs, shown_gates, shown_interface, shown_interface_item, shown_world, shown_world_item, shown_package_of, no_package, shown_package, shown_file}
 use Rattle.print_uses.proofs.{WellLists.each_well, WellLists.given_well, Valid.world_rule, Valid.interface_well}
@@ -86,7 +86,7 @@ packages_read emits_docs r main nested valid below others = file_reads_only emit
 
 -- So is what an output holds that kept the text of these calls from the start.
 pub kept_text_reads : (emits_docs : Bool) (r : Resolve) (main : PackageId) (nested : List PackageId) → IsValid r → main.0 < length r.packages.items
-    → list_all (λ id. in_list r.packages.items id.0) nested ≡ true → (new : View Written) → Moves writes blank (file_calls emits_docs (shown_file r main nested)) new
+    → list_all (λ id. in_list r.packages.items id.0) nested ≡ true → (new : OutputView Written) → Moves writes blank (file_calls emits_docs (shown_file r main nested)) new
     → IsOnlyReading new.kept.text (file_as_read (shown_file r main nested))
 kept_text_reads emits_docs r main nested valid below others new moved =
     subst (λ t. IsOnlyReading t (file_as_read (shown_file r main nested))) (sym (ap (λ v. v.kept.text) (Moves-writes moved))) (packages_read emits_docs r main nested valid below others)

@@ -10,7 +10,7 @@ use Rattle.wit_model.specs.Valid.{IsValid, is_place, item_function, numbers_in_r
 use Rattle.print_output.specs.OutputCall.{is_one_line}
 use Rattle.print_grammar.specs.Tree.{ExternTree.NamedPath, ExternTree.NamedInterface, WorldMember.WorldUse, WorldMember.WorldType, WorldMember}
 use Rattle.print_grammar.specs.WellNamed.{is_well_prefix, is_well_extern, is_well_world_member}
-use Rattle.print_items.specs.Shown.{Entry, Used, shown_path, shown_uses, shown_declarations, shown_interface, extern_docs, extern_prefix, shown_extern, shown_import, shown_export, is_interface_item, is_freestanding_item, type_of_entry, listed_imports, imported_functions, shown_world_in, shown_world}
+use Rattle.print_items.specs.Shown.{WorldEntry, Used, shown_path, shown_uses, shown_declarations, shown_interface, extern_docs, extern_prefix, shown_extern, shown_import, shown_export, is_interface_item, is_freestanding_item, type_of_entry, listed_imports, imported_functions, shown_world_in, shown_world}
 use Rattle.print_uses.proofs.WellLists.{all_both, each_well, kept_well, given_well}
 use Rattle.print_uses.proofs.FunctionsWell.{signature_well, function_prefix_well}
 use Rattle.print_uses.proofs.Valid.{is_known_function, is_named_interface, is_known_listed, world_rule}
@@ -27,11 +27,11 @@ stands_under r (key.Interface id) i = is_interface_key r id.0 i
 stands_under r (key.Name s) i = true
 
 -- a function of an entry has its key's name and belongs to what it is a member of
-abbrev is_own_entry : Resolve → ℕ → Entry → Bool
+abbrev is_own_entry : Resolve → ℕ → WorldEntry → Bool
 is_own_entry r n e = passes (λ f. is_name_key (text_of f.name) e.0 && is_member r (owner.World (record { 0 = n })) f) (item_function e.1)
 
 -- an entry of the world of this number, in range, under a label or an interface
-abbrev pub is_known_entry : Resolve → ℕ → Entry → Bool
+abbrev pub is_known_entry : Resolve → ℕ → WorldEntry → Bool
 is_known_entry r n e = (key_in_range r e.0 && item_in_range r e.1) && ((key_label e.0 e.1 && item_labels e.1) && (is_own_entry r n e && stands_under r e.0 e.1))
 
 -- a function of such an entry belongs to a resource of the world, or to none
@@ -92,7 +92,7 @@ module _ (r : Resolve) (valid : IsValid r) where
   pub entry_function_known : (n : ℕ) (k : WorldKey) (i : Item) → is_known_entry r n (k, i) ≡ true → passes (is_known_function r (owner.World (record { 0 = n }))) (item_function i) ≡ true
   entry_function_known n k x known = search std_rules
 
-  listed_imports_known : (o : TypeOwner) (es : List Entry) → entries_labels es ≡ true → list_all (is_named_of r o) (filter_map item_type (values_of es)) ≡ true
+  listed_imports_known : (o : TypeOwner) (es : List WorldEntry) → entries_labels es ≡ true → list_all (is_named_of r o) (filter_map item_type (values_of es)) ≡ true
       → list_all (is_known_listed r o) (filter_map (λ e. type_of_entry e.0 e.1) es) ≡ true
   listed_imports_known o [] named own = refl
   listed_imports_known o (e ∷ es) named own = go e.0 e.1 (left_of _ _ named) own (listed_imports_known o es (right_of (key_label e.0 e.1 && item_labels e.1) _ named))
@@ -113,7 +113,7 @@ module _ (r : Resolve) (valid : IsValid r) where
     pub exports : list_all (λ e. is_known_entry r n e && is_export_item e.1) w.exports.entries ≡ true
     pub types : list_all (is_known_listed r (owner.World (record { 0 = n }))) (listed_imports w) ≡ true
 
-  entries_known : (n : ℕ) (es : List Entry) → entries_in_range r es ≡ true → entries_labels es ≡ true → list_all (is_own_entry r n) es ≡ true → list_all (λ e. stands_under r e.0 e.1) es ≡ true
+  entries_known : (n : ℕ) (es : List WorldEntry) → entries_in_range r es ≡ true → entries_labels es ≡ true → list_all (is_own_entry r n) es ≡ true → list_all (λ e. stands_under r e.0 e.1) es ≡ true
       → list_all (is_known_entry r n) es ≡ true
   entries_known n es range named own under = search (std_rules, all_both)
 

@@ -6,7 +6,7 @@ use Rattle.wit_model.specs.declared.model.{Resolve.Resolve, TypeDef.TypeDef, Typ
 use Rattle.wit_model.specs.declared.model.{InterfaceId.InterfaceId, PackageId.PackageId, Function.Function, TypeOwner.TypeOwner}
 use Rattle.wit_model.specs.{Names.is_label, Parts.same_owner, Text.Text, Text.text_of}
 use Rattle.wit_model.specs.{Lookup.type_at, Rules.has_items, Rules.in_list, Rules.is_stability, Rules.passes, Valid.IsValid, Valid.labels}
-use Rattle.print_output.specs.OutputCall.{OutputCall, View, Moves, Begins}
+use Rattle.print_output.specs.OutputCall.{OutputCall, OutputView, Moves, Begins}
 use Rattle.print_grammar.specs.{Tree.MemberTree, Tree.PathTree, Tree.MemberTree.TypeMember, Calls.members_calls, Calls.printed_after}
 use Rattle.print_grammar.specs.WellNamed.{are_well_some, is_well_declared, is_well_gates, is_well_prefix, is_well_used}
 use Rattle.print_items.specs.Shown.{DeclaredWith, Listed, Used, declared_with, shown_declarations, shown_declared, shown_gates, shown_path, shown_prefix, used_of}
@@ -133,14 +133,14 @@ module _ (ts : List (Bor Text × TypeId)) (i : ℕ) (d : Bor Text × TypeId) (wi
           ++ uses_calls path (use_after before (listed_use r o (entry (get_or ts i d)))) (filter_map (listed_use r o) (listed_of (drop (i + 1) ts)))
       uses_next = ap (λ ls. uses_calls path before (filter_map (listed_use r o) ls)) at_place ∙ next_listed_use r o path before (entry (get_or ts i d)) (listed_of (drop (i + 1) ts))
 
-      pub use_made : {Kept : Type 0} {keeps : View Kept → OutputCall → Kept} {all : List OutputCall} {old now new : View Kept} (after : Option Used)
+      pub use_made : {Kept : Type 0} {keeps : OutputView Kept → OutputCall → Kept} {all : List OutputCall} {old now new : OutputView Kept} (after : Option Used)
           → Going keeps (uses_calls path before (filter_map (listed_use r o) (listed_of (drop i ts)))) all old now → after ≡ use_after before (listed_use r o (entry (get_or ts i d)))
           → Moves keeps now (listed_use_calls path before (listed_use r o (entry (get_or ts i d)))) new
           → Going keeps (uses_calls path after (filter_map (listed_use r o) (listed_of (drop (i + 1) ts)))) all old new
       use_made after g e m = made_on (listed_use_calls path before (listed_use r o (entry (get_or ts i d)))) (uses_calls path after (filter_map (listed_use r o) (listed_of (drop (i + 1) ts)))) g
           (uses_next ∙ ap (λ b. listed_use_calls path before (listed_use r o (entry (get_or ts i d))) ++ uses_calls path b (filter_map (listed_use r o) (listed_of (drop (i + 1) ts)))) (sym e)) m
 
-      pub use_refused : {Kept : Type 0} {keeps : View Kept → OutputCall → Kept} {all : List OutputCall} {old now new : View Kept}
+      pub use_refused : {Kept : Type 0} {keeps : OutputView Kept → OutputCall → Kept} {all : List OutputCall} {old now new : OutputView Kept}
           → Going keeps (uses_calls path before (filter_map (listed_use r o) (listed_of (drop i ts)))) all old now
           → Begins keeps now (listed_use_calls path before (listed_use r o (entry (get_or ts i d)))) new → Begins keeps old all new
       use_refused g b = refused_in (listed_use_calls path before (listed_use r o (entry (get_or ts i d))))

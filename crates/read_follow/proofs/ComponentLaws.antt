@@ -264,10 +264,10 @@ module _ (old : World) (st : IsWorld old) where
 -- ---- all entries
 
 abbrev pub place_in : List (Option Text) → ℕ → Place
-place_in paths n = follow.place_of (unwrap_or (slice_get paths n) None)
+place_in paths n = follow.instance_place (unwrap_or (slice_get paths n) None)
 
 pub places_are : (paths : List (Option Text)) → ArePlacesOf paths (place_in paths)
-places_are paths n o e = ap (λ x. follow.place_of (unwrap_or x None)) e
+places_are paths n o e = ap (λ x. follow.instance_place (unwrap_or x None)) e
 
 pub places_before : (paths more : List (Option Text)) → Grows paths more → (place : ℕ → Place) → ArePlacesOf more place → ArePlacesOf paths place
 places_before paths more g place of n o e = of n o (ap (λ (ps : List (Option Text)). slice_get ps n) g.is ∙ (slice_front paths g.more n (found_below paths n o e) ∙ e))

@@ -109,7 +109,7 @@ module _ (m : ℕ) (shapes more : List Shape) (fs more_fs : List FunctionShape) 
 
     pub declared_stays : (o : Option ℕ) → IfSome o (λ k. k < 14 + length shapes) → declared_in U o ≡ declared_in T o
     declared_stays None h = refl
-    declared_stays (Some k) h = ap tree.Declaration.type_ (part_stays k h)
+    declared_stays (Some k) h = ap tree.TypeDeclaration.type_ (part_stays k h)
 
     type_stays : (t : ShownType) → IsShownIn shapes fs t → shown_type U (functions_in U more_fs) t ≡ shown_type T (functions_in T fs) t
     type_stays t h = λ i. record {

@@ -6,7 +6,7 @@ use Rattle.wit_model.specs.{Meaning.Signature, Text.Text, Tree.Place, Tree.Tree,
 use Rattle.comp_bytes.specs.declared.forms.{ComponentValType.ComponentValType, ComponentTypeRef.ComponentTypeRef}
 use Rattle.comp_bytes.specs.{Raw.Labeled, Raw.DefinedType, Raw.FunctionType, Reading.◌>>=◌}
 use Rattle.comp_bytes.proofs.Readers.{bind_some, when_some}
-use Rattle.comp_meaning.specs.Follow.{Slot as Meant, resource, each, given, provided, is_filled, is_key, primitive_of_type, value_in, resource_in, value_type, field_type, case_type, declared_by, definition, function_signature, named_like, named_type}
+use Rattle.comp_meaning.specs.Follow.{Slot as Meant, resource, each, given, provided, is_filled, is_key, primitive_of_type, value_in, resource_in, value_type, field_type, case_type, declared_by_slot, definition, function_signature, named_like, named_type}
 use Rattle.read_follow.specs.{Facts.places, Facts.places_in, Placed.DeclarationOver, Placed.SignatureOver, Placed.SlotOver, Placed.TreeOver}
 use Rattle.read_follow.proofs.DefiningLaws.{all_at}
 use Rattle.base_lemmas.proofs.{Elements.none_in, Elements.seconds, Options.some_is}
@@ -38,10 +38,10 @@ module _ (P : Place → Type 0) where
   parts_over [] all x c = absurd (none_in x c)
   parts_over (t ∷ ts) all x c = elim (Contains-append_cases (places t) (places_in (children ts)) x c) [ inl h ↦ all.0 x h | inr h ↦ parts_over ts all.1 x h ]
 
-  given_parts : (os : List (Option Tree)) → AllByRecursion (λ o. IfSome o (TreeOver P)) os → (x : Place) → Contains (places_in (tree.given os)) x → P x
+  given_parts : (os : List (Option Tree)) → AllByRecursion (λ o. IfSome o (TreeOver P)) os → (x : Place) → Contains (places_in (tree.given_trees os)) x → P x
   given_parts [] all x c = absurd (none_in x c)
   given_parts (None ∷ os) all x c = given_parts os all.1 x c
-  given_parts (Some t ∷ os) all x c = elim (Contains-append_cases (places t) (places_in (tree.given os)) x c) [ inl h ↦ all.0 x h | inr h ↦ given_parts os all.1 x h ]
+  given_parts (Some t ∷ os) all x c = elim (Contains-append_cases (places t) (places_in (tree.given_trees os)) x c) [ inl h ↦ all.0 x h | inr h ↦ given_parts os all.1 x h ]
 
   -- ---- indexes
 
@@ -132,13 +132,13 @@ module _ (P : Place → Type 0) where
 
     -- ---- imports and exports of types
 
-    pub named_over : (place : Place) (name : Text) (kind : ComponentTypeRef) (found : tree.Declaration × Meant) → named_type slots place name kind ≡ Some found → DeclarationOver P found.0
+    pub named_over : (place : Place) (name : Text) (kind : ComponentTypeRef) (found : tree.TypeDeclaration × Meant) → named_type slots place name kind ≡ Some found → DeclarationOver P found.0
     named_over place name (refs.TypeEq n) found e = by (slice_get slots n) refl e
       where
-        first : (d : tree.Declaration) (slot : Meant) → DeclarationOver P d → Some (d, slot) ≡ Some found → DeclarationOver P found.0
-        first d slot h same = subst (λ (x : tree.Declaration × Meant). DeclarationOver P x.0) (some_is (d, slot) found same) h
+        first : (d : tree.TypeDeclaration) (slot : Meant) → DeclarationOver P d → Some (d, slot) ≡ Some found → DeclarationOver P found.0
+        first d slot h same = subst (λ (x : tree.TypeDeclaration × Meant). DeclarationOver P x.0) (some_is (d, slot) found same) h
 
-        by : (o : Option Meant) → slice_get slots n ≡ o → (o >>= λ slot. declared_by slot >>= λ d. Some (d, named_like slot place name)) ≡ Some found → DeclarationOver P found.0
+        by : (o : Option Meant) → slice_get slots n ≡ o → (o >>= λ slot. declared_by_slot slot >>= λ d. Some (d, named_like slot place name)) ≡ Some found → DeclarationOver P found.0
         by x at h = search (std_rules, first, all_at, name_over)
-    named_over place name refs.SubResource found e = subst (λ (x : tree.Declaration × Meant). DeclarationOver P x.0) (some_is (tree.Declaration.resource, resource place name) found e) tt
+    named_over place name refs.SubResource found e = subst (λ (x : tree.TypeDeclaration × Meant). DeclarationOver P x.0) (some_is (tree.TypeDeclaration.resource, resource place name) found e) tt
     named_over place name _ found e = absurd cc

@@ -26,7 +26,7 @@ module _ (P Q : Place → Type 0) (weaker : (x : Place) → P x → Q x) where
   signature_weaker : (f : Signature) → SignatureOver P f → SignatureOver Q f
   signature_weaker f h = (each_so (λ (p : Text × Tree). TreeOver P p.1) (λ (p : Text × Tree). TreeOver Q p.1) (λ p t x c. weaker x (t x c)) f.params h.0, (search std_rules))
 
-  declaration_weaker : (d : tree.Declaration) → DeclarationOver P d → DeclarationOver Q d
+  declaration_weaker : (d : tree.TypeDeclaration) → DeclarationOver P d → DeclarationOver Q d
   declaration_weaker y h = search std_rules
 
   slot_weaker : (s : Meant) → SlotOver P s → SlotOver Q s

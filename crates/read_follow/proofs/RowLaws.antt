@@ -4,7 +4,7 @@ use Rattle.std.proofs.{Math.ListN.drop_of_length-le, lemmas.List.drop-map, lemma
 use Rattle.std.proofs.lemmas.{Bool.false≢true, Grind.flat_map-append}
 use Rattle.std.specs.{Borrow.Bor, List.flat_map, List.AllByRecursion}
 use Rattle.wit_model.specs.{Rules.has_items, Text.Text, Meaning.Signature}
-use Rattle.wit_model.specs.Tree.{Form, Tree, children, given, is_given, record_tree, tuple_tree, variant_tree}
+use Rattle.wit_model.specs.Tree.{Form, Tree, children, given_trees, is_given, record_tree, tuple_tree, variant_tree}
 use Rattle.comp_bytes.specs.declared.forms.ComponentValType.{ComponentValType}
 use Rattle.comp_bytes.specs.{Raw.DefinedType, Raw.Labeled, RawOf.labeled, Reading.◌>>=◌}
 use Rattle.comp_meaning.specs.Follow.{given as payload, case_type, definition, each, field_type, is_filled, provided, value_type}
@@ -53,10 +53,10 @@ field_names : (ys : List (Text × Tree)) → map (λ f. f.0) ys ≡ map (λ l. l
 field_names [] = refl
 field_names (y ∷ ys) = ap (λ rest. y.0 ∷ rest) (field_names ys)
 
-payload_first : (o : Option Tree) (rest : List (Option Tree)) (ts : List Tree) → given rest ≡ children ts → given (o ∷ rest) ≡ children (option_to_list o ++ ts)
+payload_first : (o : Option Tree) (rest : List (Option Tree)) (ts : List Tree) → given_trees rest ≡ children ts → given_trees (o ∷ rest) ≡ children (option_to_list o ++ ts)
 payload_first x rest ts e = search std_rules
 
-payloads : (ys : List (Text × Option Tree)) → given (map (λ c. c.1) ys) ≡ children (flat_map case_trees ys)
+payloads : (ys : List (Text × Option Tree)) → given_trees (map (λ c. c.1) ys) ≡ children (flat_map case_trees ys)
 payloads [] = refl
 payloads (y ∷ ys) = payload_first y.1 (map (λ c. c.1) ys) (flat_map case_trees ys) (payloads ys)
 
@@ -107,7 +107,7 @@ module _ (ss : List Slot) (ks : List ℕ) (ranges : (n : ℕ) → AreInRange n s
     found = λ T F named apart.
         let r = rows T F in
         let names : map (λ c. (c.0, is_given c.1)) r.ys ≡ labels = sym (flat_map_single (λ c. (c.0, is_given c.1)) r.ys) ∙ r.labels_are in
-        let ts : given (map (λ c. c.1) r.ys) ≡ children (map (part_tree T) ks) = payloads r.ys ∙ ap children r.trees_are in
+        let ts : given_trees (map (λ c. c.1) r.ys) ≡ children (map (part_tree T) ks) = payloads r.ys ∙ ap children r.trees_are in
         ap (λ o. o >>= λ cs. provided (is_filled cases) (variant_tree cs)) r.found ∙ (ap (λ b. provided b (variant_tree r.ys)) filled ∙ (λ i. Some (Tree.node (Form.variant_of (names i)) (ts i))));
   }
 

@@ -119,7 +119,7 @@ pub base_state : (w : World) → IsWorld w → IsState (length (map has_path w.p
 base_state w st = subst (λ (n : ℕ). IsState n (base w)) (sym (length-map w.paths has_path)) (record { tables = st.tables; slots = st.slots; types = tt; functions = tt })
 
 module _ (old : World) (st : IsWorld old) (name : ExternName) (kind : ComponentTypeRef) where
-  abbrev type_found : MeantScope → Option (tree.Declaration × Meant) → Option MeantScope
+  abbrev type_found : MeantScope → Option (tree.TypeDeclaration × Meant) → Option MeantScope
   type_found m o = o >>= λ found. provided (is_simple (raw_name name)) (see (direction true)
       (record { key = name.text.now; shown = follow.Shown.declares found.0; external_id = (raw_name name).external_id }) (in_scope found.1 m))
 

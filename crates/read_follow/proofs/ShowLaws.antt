@@ -27,19 +27,19 @@ use Rattle.read_follow.specs.declared.slots.Slot.TheVariants as slots
 
 -- ---- what an export of a type declares
 
-abbrev pub by_slot : Place → Text → Option Meant → Option (tree.Declaration × Meant)
-by_slot place name o = o >>= λ slot. follow.declared_by slot >>= λ d. Some (d, follow.named_like slot place name)
+abbrev pub by_slot : Place → Text → Option Meant → Option (tree.TypeDeclaration × Meant)
+by_slot place name o = o >>= λ slot. follow.declared_by_slot slot >>= λ d. Some (d, follow.named_like slot place name)
 
-named_by_resource : (place : Place) (name : Text) (t : Tree) → IsName t → by_slot place name (Some (resource_slot t)) ≡ Some (tree.Declaration.type_ t, follow.resource place name)
+named_by_resource : (place : Place) (name : Text) (t : Tree) → IsName t → by_slot place name (Some (resource_slot t)) ≡ Some (tree.TypeDeclaration.type_ t, follow.resource place name)
 named_by_resource place name x h = search std_rules
 
 module _ (ss : List Slot) (n : ℕ) (T : List Tree) (F : List Signature) (place : Place) (name : Text) where
   pub equal_to_value : (part : ℕ) → slice_get ss n ≡ Some (slots.Value part)
-      → named_type (slots_in T F ss) place name (refs.TypeEq n) ≡ Some (tree.Declaration.type_ (part_tree T part), follow.value (Tree.named place name))
+      → named_type (slots_in T F ss) place name (refs.TypeEq n) ≡ Some (tree.TypeDeclaration.type_ (part_tree T part), follow.value (Tree.named place name))
   equal_to_value part e = ap (by_slot place name) (at_slot ss n T F (slots.Value part) e)
 
   pub equal_to_resource : (part : ℕ) → slice_get ss n ≡ Some (slots.Resource part) → AreNames T ss
-      → named_type (slots_in T F ss) place name (refs.TypeEq n) ≡ Some (tree.Declaration.type_ (part_tree T part), follow.resource place name)
+      → named_type (slots_in T F ss) place name (refs.TypeEq n) ≡ Some (tree.TypeDeclaration.type_ (part_tree T part), follow.resource place name)
   equal_to_resource part e named = ap (by_slot place name) (at_slot ss n T F (slots.Resource part) e) ∙ named_by_resource place name (part_tree T part) (name_at T ss n part e named)
 
   pub equal_to_none : (s : Slot) → slice_get ss n ≡ Some s → by_slot place name (Some (slot_in T F s)) ≡ None → named_type (slots_in T F ss) place name (refs.TypeEq n) ≡ None
@@ -109,7 +109,7 @@ module _ (marks : List Bool) (old : State) (st : IsState (length marks) old) (na
   -- ---- a type more
 
   module _ (here : ℕ) (kind : ComponentTypeRef) where
-    abbrev with_named : MeantScope → Option (tree.Declaration × Meant) → Option MeantScope
+    abbrev with_named : MeantScope → Option (tree.TypeDeclaration × Meant) → Option MeantScope
     with_named scope o = o >>= λ found. Some (record {
       slots = scope.slots ++ found.1 ∷ [];
       shown = record {

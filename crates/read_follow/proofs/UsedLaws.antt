@@ -4,7 +4,7 @@ use Rattle.std.proofs.{Math.ListN.length-map, lemmas.Bool.cases_lt, lemmas.List.
 use Rattle.std.specs.List.{list_any}
 use Rattle.wit_model.specs.{Meaning.Signature, Text.Text, Tree.Place, Tree.Tree}
 use Rattle.comp_bytes.specs.Reading.{◌>>=◌}
-use Rattle.comp_meaning.specs.Follow.{Scope as MeantScope, Seen as MeantSeen, Key, Slot as Meant, View as MeantView, interface_of, key_text, see, see_instance, used_view, when}
+use Rattle.comp_meaning.specs.Follow.{Scope as MeantScope, Seen as MeantSeen, Key, Slot as Meant, View as MeantView, interface_of, text_of_key, see, see_instance, used_view, when}
 use Rattle.read_follow.specs.declared.{bodies.Body.Body, scopes.Seen.Seen, slots.Slot.Slot, views.View.View}
 use Rattle.read_follow.specs.declared.{instance_keys.InstanceKey.InstanceKey, names.ExternName.ExternName, refusal.Refusal.Refusal, scopes.Instance.Instance}
 use Rattle.read_follow.specs.{Bodies.held_declaration_at, Bodies.items_in, Slots.resource_slot, Slots.slot_in, Slots.slots_in}
@@ -98,19 +98,19 @@ module _ (paths : List (Option Text)) (place : ℕ → Place) (of : ArePlacesOf 
   interface_is : (key : InstanceKey) → IsKeyIn paths key → interface_of (key_at place key) ≡ path_of (place (place_number key))
   interface_is x h = search std_rules
 
-  place_back : (q : Place) → follow.place_of (path_of q) ≡ q
+  place_back : (q : Place) → follow.instance_place (path_of q) ≡ q
   place_back x = search std_rules
 
-  place_is : (key : InstanceKey) → IsKeyIn paths key → follow.place_of (interface_of (key_at place key)) ≡ place (place_number key)
-  place_is key h = ap follow.place_of (interface_is key h) ∙ place_back (place (place_number key))
+  place_is : (key : InstanceKey) → IsKeyIn paths key → follow.instance_place (interface_of (key_at place key)) ≡ place (place_number key)
+  place_is key h = ap follow.instance_place (interface_is key h) ∙ place_back (place (place_number key))
 
 module _ (old : World) (st : IsWorld old) (b : Bool) (name : ExternName) (n : ℕ) (paths : List (Option Text)) (key : InstanceKey) (is_key : IsKeyOf (follow.key_of (raw_name name)) paths key) where
   abbrev under_key : MeantScope → Key → Option MeantView → Option MeantScope
-  under_key m k o = o >>= λ view. Some (see (direction b) (record { key = key_text k; shown = follow.Shown.instance k view; external_id = (raw_name name).external_id })
+  under_key m k o = o >>= λ view. Some (see (direction b) (record { key = text_of_key k; shown = follow.Shown.instance k view; external_id = (raw_name name).external_id })
       (record m { instances = m.instances ++ record { interface = interface_of k; view = view } ∷ []; used = m.used ++ n ∷ [] }))
 
   abbrev view_asked : MeantScope → Key → Option MeantView
-  view_asked m k = when (not (list_any (λ i. i == n) m.used)) (used_view m.slots (follow.place_of (interface_of k)) (slice_get m.slots n))
+  view_asked m k = when (not (list_any (λ i. i == n) m.used)) (used_view m.slots (follow.instance_place (interface_of k)) (slice_get m.slots n))
 
   keyed : (place : ℕ → Place) → ArePlacesOf paths place → see_instance (direction b) (raw_name name) n (meant_at place old) ≡ under_key (meant_at place old) (key_at place key)
       (when (not (list_any (λ i. i == n) old.used)) (used_view (slots_at place (tables_of old.shapes old.signatures) old.slots) (place (place_number key))
@@ -142,7 +142,7 @@ module _ (old : World) (st : IsWorld old) (b : Bool) (name : ExternName) (n : �
       let around = ap (slots_in U G) (append-nil old.slots) ∙ slots_stay (length old.paths) old.shapes more old.signatures more_fs st.tables u.view.shapes_grow u.view.signatures_grow place
       old.slots st.slots in
       let scope = Some (length old.instances) in
-      append-nil (all_in scope (instance_trees (slots_in U G (old.slots ++ [])) (follow.place_of (path_of here)) (slice_get (slots_in U G (old.slots ++ [])) n)))
+      append-nil (all_in scope (instance_trees (slots_in U G (old.slots ++ [])) (follow.instance_place (path_of here)) (slice_get (slots_in U G (old.slots ++ [])) n)))
       ∙ (ap (all_in scope) ((λ i. instance_trees (around i) ((place_back paths place of here) i) (slice_get (around i) n))
       ∙ (ap (instance_trees (slots_in T F old.slots) here) (at_slot old.slots n T F (slots.Instance u.body u.around) u.slot)
       ∙ (ap (λ xs. held_trees (follow.instance_steps here xs follow.new_instance (items_in held_declaration_at u.body))) (take-map (slot_in T F) u.around old.slots)
@@ -275,11 +275,11 @@ module _ (old : World) (st : IsWorld old) (b : Bool) (name : ExternName) (n : �
       let G = functions_in U more_fs in
       let m = meant_at place old in
       let k = key_at place key in
-      let meant : MeantSeen = record { key = key_text k; shown = follow.Shown.instance k (view_in U G v); external_id = (raw_name name).external_id } in
+      let meant : MeantSeen = record { key = text_of_key k; shown = follow.Shown.instance k (view_in U G v); external_id = (raw_name name).external_id } in
       keyed place of ∙ (ap (λ w. under_key m k (when (not w) (used_view (slots_at place (tables_of old.shapes old.signatures) old.slots) (place (place_number key))
       (slice_get (slots_at place (tables_of old.shapes old.signatures) old.slots) n)))) u.unused
       ∙ (ap (under_key m k) (used_is (map has_path paths) (place_number key) (tables_of old.shapes old.signatures) old.slots old.used n place u.body u.around u.slot
       ∙ u.view.shows place (marked_paths paths place of)) ∙ ap Some (plus_instance b m (record { interface = interface_of k; view = view_in U G v }) meant n
       ∙ ((λ i. plus m [] (record { interface = interface_is paths place of key is_key.stands i; view = view_in U G v } ∷ []) (imported b meant) (exported b meant) (n ∷ []))
       ∙ seen_plus b (seen_in place U G (old.instances ++ x ∷ [])) m [] (instance_in place U G x ∷ []) (n ∷ []) s meant
-      (λ i. record { key = key_text k; shown = follow.Shown.instance k (viewed U G (at_last old.instances x i)); external_id = (raw_name name).external_id }))))))
+      (λ i. record { key = text_of_key k; shown = follow.Shown.instance k (viewed U G (at_last old.instances x i)); external_id = (raw_name name).external_id }))))))

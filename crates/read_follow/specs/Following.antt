@@ -17,9 +17,9 @@ use Rattle.read_follow.specs.declared.slots.Slot.TheVariants as slots
 -- ---- what was kept, as what it stands for
 
 -- what a name is declared as: a part, or a resource of its own
-abbrev pub declared_in : List Tree → Option ℕ → tree.Declaration
-declared_in T None = tree.Declaration.resource
-declared_in T (Some k) = tree.Declaration.type_ (part_tree T k)
+abbrev pub declared_in : List Tree → Option ℕ → tree.TypeDeclaration
+declared_in T None = tree.TypeDeclaration.resource
+declared_in T (Some k) = tree.TypeDeclaration.type_ (part_tree T k)
 
 abbrev pub shown_type : List Tree → List Signature → ShownType → MeantType
 shown_type T F s = record {

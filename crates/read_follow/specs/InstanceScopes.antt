@@ -43,7 +43,7 @@ name_meant true place name = follow.resource place name
 name_meant false place name = follow.value (Tree.named place name)
 
 -- what is declared, and what the index of its name stands for
-abbrev pub named_by : List Tree → Place → Text → NewName → tree.Declaration × Meant
+abbrev pub named_by : List Tree → Place → Text → NewName → tree.TypeDeclaration × Meant
 named_by T place name x = (declared_in T x.declared, name_meant x.is_resource place name)
 
 abbrev pub name_slot : Bool → ℕ → Slot

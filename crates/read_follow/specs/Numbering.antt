@@ -4,7 +4,7 @@ use Rattle.std.specs.{List.flat_map, Option.option_map_or}
 use Rattle.wit_model.specs.Tree.{Place, Tree}
 use Rattle.comp_bytes.specs.Levels.{Entry}
 use Rattle.comp_meaning.specs.ByLevels.{entry_step}
-use Rattle.comp_meaning.specs.Follow.{Instance as MeantInstance, InstanceScope as MeantInstanceScope, Scope as MeantScope, Slot as Meant, value, resource, function, instance, instance_steps, new_instance, place_of}
+use Rattle.comp_meaning.specs.Follow.{Instance as MeantInstance, InstanceScope as MeantInstanceScope, Scope as MeantScope, Slot as Meant, value, resource, function, instance, instance_steps, new_instance, instance_place}
 use Rattle.read_follow.specs.declared.slots.Slot.{Slot}
 use Rattle.plan_meaning.specs.Shapes.{part_tree}
 use Rattle.read_follow.specs.declared.slots.Slot.TheVariants as slots
@@ -38,7 +38,7 @@ abbrev pub used_trees : List Meant → ℕ → List MeantInstance → List ℕ �
 used_trees around j [] ns = []
 used_trees around j (i ∷ is) [] = []
 used_trees around j (i ∷ is) (n ∷ ns) =
-    all_in (Some j) (instance_trees around (place_of i.interface) (slice_get around n)) ++ used_trees around (suc j) is ns
+    all_in (Some j) (instance_trees around (instance_place i.interface) (slice_get around n)) ++ used_trees around (suc j) is ns
 
 -- The types that a component type has declared in the second of these scopes and hadn't in the first, and those that its new instances declare. Each has its
 -- scope: none of the instances, or the number of the instance.

@@ -24,9 +24,9 @@ module _ (P : Place → Type 0) where
   abbrev pub SignatureOver : Signature → Type 0
   SignatureOver f = AllByRecursion (λ (p : Text × Tree). TreeOver p.1) f.params × IfSome f.result TreeOver
 
-  abbrev pub DeclarationOver : tree.Declaration → Type 0
-  DeclarationOver tree.Declaration.resource = Unit {0}
-  DeclarationOver (tree.Declaration.type_ t) = TreeOver t
+  abbrev pub DeclarationOver : tree.TypeDeclaration → Type 0
+  DeclarationOver tree.TypeDeclaration.resource = Unit {0}
+  DeclarationOver (tree.TypeDeclaration.type_ t) = TreeOver t
 
   abbrev pub SlotOver : Meant → Type 0
   SlotOver (value t) = TreeOver t

@@ -3,7 +3,7 @@ use Rattle.std.specs.Prelude.{◌≡◌, ◌⊎◌, ◌<◌, ◌≤◌, ℕ, ◌
 use Rattle.std.specs.Borrow.{Bor}
 use Rattle.wit_model.specs.{Text.Text, Text.text_of, Names.is_label, Names.known_path, Names.read_path, Names.versioned, Tree.Place}
 use Rattle.comp_bytes.specs.Reading.{◌>>=◌}
-use Rattle.comp_meaning.specs.Follow.{Key, complete_path, place_of, provided}
+use Rattle.comp_meaning.specs.Follow.{Key, complete_path, instance_place, provided}
 use Rattle.read_follow.specs.declared.{instance_keys.InstanceKey.InstanceKey, places.PlaceKey.PlaceKey}
 use Rattle.read_follow.specs.Functions.{AreApart}
 use Rattle.read_follow.specs.declared.instance_keys.InstanceKey.TheVariants as keys
@@ -50,7 +50,7 @@ pub record ArePlaces (shapes : List (Text × ℕ)) (marks : List Bool) : Type 0 
 
 -- each place of these numbers is that of its path, or else of the scope itself
 abbrev pub ArePlacesOf : List (Option Text) → (ℕ → Place) → Type 0
-ArePlacesOf paths place = (n : ℕ) (o : Option Text) → slice_get paths n ≡ Some o → place n ≡ place_of o
+ArePlacesOf paths place = (n : ℕ) (o : Option Text) → slice_get paths n ≡ Some o → place n ≡ instance_place o
 
 -- ---- keys of instances
 

@@ -5,7 +5,7 @@ use Rattle.wit_model.specs.{Meaning.Signature, Text.Text, Text.text_eq, Tree.For
 use Rattle.comp_bytes.specs.{Levels.Entry as RawEntry, Levels.plain, Levels.holds, Levels.entry_at, RawOf.text_of, Reading.◌>>=◌, Reading.sequence_at}
 use Rattle.comp_bytes.specs.Raw.{Alias}
 use Rattle.comp_meaning.specs.{ByLevels.entry_scope, ByLevels.entry_step, Reads.steps}
-use Rattle.comp_meaning.specs.Follow.{Scope as MeantScope, Seen as MeantSeen, Shown as MeantShown, Instance as MeantInstance, View as MeantView, Direction, key_text, provided, used_view, when, new_scope}
+use Rattle.comp_meaning.specs.Follow.{Scope as MeantScope, Seen as MeantSeen, Shown as MeantShown, Instance as MeantInstance, View as MeantView, Direction, text_of_key, provided, used_view, when, new_scope}
 use Rattle.read_follow.specs.declared.{bodies.Body.Body, scopes.Scope.Scope, scopes.Seen.Seen, scopes.Shown.Shown, slots.Slot.Slot, views.View.View}
 use Rattle.read_follow.specs.declared.{instance_keys.InstanceKey.InstanceKey, refusal.Refusal.Refusal, scopes.Instance.Instance, views.ShownType.ShownType}
 use Rattle.read_follow.specs.{Bodies.items_in, Numbering.bare_parts, Numbering.scoped_trees, Numbering.trees_along, Numbering.trees_since, Numbering.CountUp}
@@ -35,7 +35,7 @@ viewed T F None = record { types = []; functions = [] }
 viewed T F (Some i) = view_in T F i.view
 
 abbrev pub shown_text : (ℕ → Place) → Shown → Text
-shown_text place (shown.Instance key n) = key_text (key_at place key)
+shown_text place (shown.Instance key n) = text_of_key (key_at place key)
 shown_text place (shown.Function name f) = name.now
 shown_text place (shown.Type name part d) = name.now
 

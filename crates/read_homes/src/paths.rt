@@ -37,6 +37,7 @@ fn is_memory(error: semver::Error) -> bool
 }
 
 /// Whether a text is a version (Semantic Versioning 2.0.0).
+#[tactic(auto, using(wit_model::proofs::VersionTexts::version_text_reads))]
 fn is_version_text(alloc: Global, text: &str) -> Result<bool, AllocError>
     ensures { IfOk result (λ b. b ≡ is_version_text_lem text.now) }
 {

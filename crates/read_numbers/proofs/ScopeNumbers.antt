@@ -3,7 +3,7 @@ use Rattle.std.proofs.Common.{rules as std_rules, ◌≡◌, refl, sym, ap, ◌�
 use Rattle.std.specs.List.{AllByRecursion}
 use Rattle.wit_model.specs.{Text.Text, Meaning.Signature, Tree.Tree}
 use Rattle.comp_bytes.specs.RawOf.{text_of}
-use Rattle.comp_meaning.specs.Follow.{place_of, Shown as MeantShown}
+use Rattle.comp_meaning.specs.Follow.{instance_place, Shown as MeantShown}
 use Rattle.plan_meaning.specs.NumberedViews.{declaration_of, path_at, place_at, slot_of, view_of, Tables}
 use Rattle.plan_meaning.specs.NumberedWorlds.{key_of, instance_of, seen_of, shown_of}
 use Rattle.plan_meaning.specs.Shapes.{Shape, shape_trees}
@@ -22,7 +22,7 @@ use Rattle.read_follow.specs.declared.scopes.Shown.TheVariants as shown
 
 -- ---- places
 
-pub path_back : (o : Option Text) → path_of (place_of o) ≡ o
+pub path_back : (o : Option Text) → path_of (instance_place o) ≡ o
 path_back x = search std_rules
 
 -- ---- resources
@@ -80,7 +80,7 @@ module _ (shapes : List Shape) (fs : List FunctionShape) (paths : List (Option T
   key_same : (key : InstanceKey) → key_at (place_at t) key ≡ key_of t (numbered_key key)
   key_same x = search std_rules
 
-  key_text_same : (key : InstanceKey) → follow.key_text (key_at (place_at t) key) ≡ text_in paths key
+  key_text_same : (key : InstanceKey) → follow.text_of_key (key_at (place_at t) key) ≡ text_in paths key
   key_text_same x = search std_rules
 
   module _ (is : List Instance) (inside : AllByRecursion (IsInstanceIn shapes fs paths) is) where

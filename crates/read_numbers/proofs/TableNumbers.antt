@@ -1,7 +1,7 @@
 -- Tables and places in numbers.
 use Rattle.std.proofs.Common.{rules as std_rules, ◌≡◌, sym, ap, ◌∙◌, subst, ℕ, zero, suc, ◌+◌, ◌<◌, List, [], ◌∷◌, map, length, Option, Some, None, IfSome, slice_get, unwrap_or}
 use Rattle.wit_model.specs.Text.{Text}
-use Rattle.comp_meaning.specs.Follow.{place_of}
+use Rattle.comp_meaning.specs.Follow.{instance_place}
 use Rattle.plan_meaning.specs.{NumberedViews.AllOf, NumberedViews.IsPart, NumberedViews.PartsOf, NumberedViews.Tables, Shapes.Shape}
 use Rattle.read_follow.specs.Functions.{AreApart, AreFunctionsIn, FunctionShape, IsFunctionIn}
 use Rattle.read_follow.proofs.DefiningLaws.{all_at}
@@ -46,4 +46,4 @@ tables_in_numbers shapes fs paths tables apart paths_apart = record {
 }
 
 pub places_in_numbers : PlacesInNumbers
-places_in_numbers shapes fs paths n o e = ap (λ x. place_of (unwrap_or x None)) e
+places_in_numbers shapes fs paths n o e = ap (λ x. instance_place (unwrap_or x None)) e

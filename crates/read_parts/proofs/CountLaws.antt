@@ -8,7 +8,7 @@ use Rattle.comp_bytes.specs.{Raw.Declaration, Raw.TopExport, Raw.TopType, Form.S
 use Rattle.comp_bytes.specs.Reading.{◌>>=◌}
 use Rattle.comp_bytes.proofs.{ComponentLaws.component_takes, LevelLaws.part_out, PieceLaws.levels_are_sections}
 use Rattle.comp_meaning.specs.{ByLevels.Top, ByLevels.top_export, ByLevels.top_part, ByLevels.top_piece, Follow.each, Follow.provided, Follow.when}
-use Rattle.comp_meaning.specs.{Reads.is_bare, Reads.steps, Rules.distinct}
+use Rattle.comp_meaning.specs.{Reads.is_bare_name, Reads.steps, Rules.distinct}
 use Rattle.read_follow.specs.Scopes.{weight, weights}
 use Rattle.read_parts.specs.{Counts.types_weight, Counts.pieces_weight, Counts.PartsFit, Exported.part_under, Members.part_weight, Members.parts_weight}
 use Rattle.read_parts.specs.Tops.{empty_top}
@@ -121,11 +121,11 @@ along_export top next many x a e = by (slice_get top.slots x.type_index) e
     last true false c t h = absurd cc
     last false b c t h = absurd cc
 
-    by : (o : Option ℕ) → (o >>= λ n. provided (is_bare x.exported_as && (is_label x.exported_as.text && not (list_any (λ (y : Text × ℕ). y.1 == n) top.exported)))
+    by : (o : Option ℕ) → (o >>= λ n. provided (is_bare_name x.exported_as && (is_label x.exported_as.text && not (list_any (λ (y : Text × ℕ). y.1 == n) top.exported)))
         (record { types = top.types; slots = top.slots ++ n ∷ []; exported = top.exported ++ (x.exported_as.text, n) ∷ [] })) ≡ Some next → IsAlong next many
     by None h = absurd cc
     by (Some n) h =
-        let r = last (is_bare x.exported_as) (is_label x.exported_as.text) (list_any (λ (y : Text × ℕ). y.1 == n) top.exported)
+        let r = last (is_bare_name x.exported_as) (is_label x.exported_as.text) (list_any (λ (y : Text × ℕ). y.1 == n) top.exported)
         (record { types = top.types; slots = top.slots ++ n ∷ []; exported = top.exported ++ (x.exported_as.text, n) ∷ [] }) h in
         subst (λ (t : Top). IsAlong t many) r.0 (record { all = a.all; once = fresh_end [] top.exported (x.exported_as.text, n) a.once (any_number n top.exported ∙ r.1) })
 

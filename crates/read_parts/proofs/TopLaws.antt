@@ -4,7 +4,7 @@ use Rattle.std.proofs.{Math.Dec.eqb, lemmas.List.map-append}
 use Rattle.std.specs.List.{AllByRecursion, list_any}
 use Rattle.wit_model.specs.{Text.Text, Names.is_label}
 use Rattle.comp_bytes.specs.{Levels.PartType, Reading.◌>>=◌}
-use Rattle.comp_meaning.specs.{ByLevels.Top, ByLevels.top_export, Follow.each, Follow.provided, Follow.when, Reads.is_bare, Rules.distinct}
+use Rattle.comp_meaning.specs.{ByLevels.Top, ByLevels.top_export, Follow.each, Follow.provided, Follow.when, Reads.is_bare_name, Rules.distinct}
 use Rattle.read_follow.specs.declared.{refusal.Refusal.Refusal, sections.TopExport.TopExport}
 use Rattle.read_follow.specs.{ExternNames.raw_name, Found.Refuses, PartTypes.raw_part_type, PartTypes.IsWholePart, Pieces.raw_export}
 use Rattle.read_follow.proofs.{Refusing.refused, SlotLaws.mapped_none}
@@ -48,8 +48,8 @@ module _ (old : Tops) (st : AreTops old) (e : TopExport) where
   abbrev with_export : ℕ → Top
   with_export n = record { types = (top_of old).types; slots = old.slots.items ++ n ∷ []; exported = map label_and_number old.exported.items ++ (e.name.text.now, n) ∷ [] }
 
-  same_test : (n : ℕ) → (is_bare (raw_name e.name) && (is_label e.name.text.now && not (list_any (λ (x : Text × ℕ). x.1 == n) (map label_and_number old.exported.items)))) ≡ may_export old e n
-  same_test n = ap (λ b. is_bare (raw_name e.name) && (is_label e.name.text.now && not b)) (any_number n old.exported.items ∙ ap (list_any (λ m. m == n)) (sym st.numbers))
+  same_test : (n : ℕ) → (is_bare_name (raw_name e.name) && (is_label e.name.text.now && not (list_any (λ (x : Text × ℕ). x.1 == n) (map label_and_number old.exported.items)))) ≡ may_export old e n
+  same_test n = ap (λ b. is_bare_name (raw_name e.name) && (is_label e.name.text.now && not b)) (any_number n old.exported.items ∙ ap (list_any (λ m. m == n)) (sym st.numbers))
 
   guarded : {A B : Type 0} (b : Bool) (x : A) (g : A → B) → provided b (g x) ≡ (provided b x >>= λ y. Some (g y))
   guarded x y g = search std_rules

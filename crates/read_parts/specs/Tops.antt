@@ -3,7 +3,7 @@ use Rattle.std.specs.Prelude.{◌≡◌, ℕ, Bool, not, ◌&&◌, ◌==◌, Lis
 use Rattle.std.specs.{Borrow.Bor, List.AllByRecursion, List.list_any}
 use Rattle.wit_model.specs.{Text.Text, Names.is_label}
 use Rattle.comp_bytes.specs.Reading.{◌>>=◌}
-use Rattle.comp_meaning.specs.{ByLevels.Top, Follow.provided, Reads.is_bare}
+use Rattle.comp_meaning.specs.{ByLevels.Top, Follow.provided, Reads.is_bare_name}
 use Rattle.read_follow.specs.declared.sections.TopExport.{TopExport}
 use Rattle.read_follow.specs.{ExternNames.raw_name, PartTypes.raw_part_type, PartTypes.IsWholePart}
 use Rattle.read_parts.specs.declared.tops.{Exported.Exported, TopType.TopType, Tops.Tops}
@@ -20,7 +20,7 @@ top_of t = record { types = map (λ (x : TopType). raw_part_type x.part) t.types
 
 -- An export is of a type that none has exported, under a label without attributes.
 abbrev pub may_export : Tops → TopExport → ℕ → Bool
-may_export t e n = is_bare (raw_name e.name) && (is_label e.name.text.now && not (list_any (λ m. m == n) t.numbers.keys))
+may_export t e n = is_bare_name (raw_name e.name) && (is_label e.name.text.now && not (list_any (λ m. m == n) t.numbers.keys))
 
 -- the number of the type that an export exports
 abbrev pub number_found : Tops → TopExport → Option ℕ

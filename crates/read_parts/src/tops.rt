@@ -2,7 +2,7 @@
 
 ghost use Rattle.std.specs.List.{AllByRecursion, list_any};
 ghost use Rattle.std.specs.Prelude.{◌≡◌, ◌==◌, false, map, IfErr, IfOk, IsOkUnless, OnOk, Some};
-ghost use Rattle.comp_meaning.specs.{ByLevels.top_export, ByLevels.top_part, ByLevels.top_piece, Reads.is_bare as is_bare_lem, Reads.steps};
+ghost use Rattle.comp_meaning.specs.{ByLevels.top_export, ByLevels.top_part, ByLevels.top_piece, Reads.is_bare_name as is_bare_lem, Reads.steps};
 ghost use Rattle.read_follow.specs.{ExternNames.raw_name, Found.Gives, Found.Refuses};
 ghost use Rattle.read_follow.specs.{PartTypes.raw_part_type, PartTypes.IsWholePart, Pieces.raw_export, Pieces.raw_piece, Pieces.IsWholePiece};
 ghost use Rattle.read_parts.specs.Tops.{empty_top, may_export as may_export_lem, number_found, top_of, AreTops, IsExportAdded};

@@ -24,7 +24,7 @@ fields_counted : (fs : List (Text × Tree)) → length (child_list (children (ma
 fields_counted fs = ap (λ ts. length ts) (listed (map (λ f. f.1) fs)) ∙ (length-map fs (λ f. f.1) ∙ sym (length-map fs (λ f. f.0)))
 
 -- as many parts as are given
-given_counted : (os : List (Option Tree)) → length (child_list (tree.given os)) ≡ count_true (map is_given os)
+given_counted : (os : List (Option Tree)) → length (child_list (tree.given_trees os)) ≡ count_true (map is_given os)
 given_counted [] = refl
 given_counted (None ∷ os) = given_counted os
 given_counted (Some t ∷ os) = ap suc (given_counted os)
@@ -39,7 +39,7 @@ module _ (Met : Place → Text → Bool → Type 0) where
   parts_of [] all = tt
   parts_of (t ∷ ts) all = (all.0, parts_of ts all.1)
 
-  parts_given : (os : List (Option Tree)) → AllByRecursion (λ o. IfSome o (TreeStands Met)) os → PartsStand Met false (tree.given os)
+  parts_given : (os : List (Option Tree)) → AllByRecursion (λ o. IfSome o (TreeStands Met)) os → PartsStand Met false (tree.given_trees os)
   parts_given [] all = tt
   parts_given (None ∷ os) all = parts_given os all.1
   parts_given (Some t ∷ os) all = (all.0, parts_given os all.1)

@@ -2,7 +2,7 @@
 use Rattle.std.proofs.Common.{rules as std_rules, ◌≡◌, refl, sym, ap, subst, ◌∙◌, ℕ, zero, suc, Bool, true, false, cond, List, [], ◌∷◌, length, Option, Some, None, option_map, slice_get, unwrap_or}
 use Rattle.wit_model.specs.{Text.Text, Text.text_eq, Tree.Place, Meaning.FunctionMeaning}
 use Rattle.wit_model.proofs.{VersionLaws.same_text, TextLemmas.text_same}
-use Rattle.comp_meaning.specs.Follow.{Slot, View, ShownType, Instance, find_type, place_of}
+use Rattle.comp_meaning.specs.Follow.{Slot, View, ShownType, Instance, find_type, instance_place}
 use Rattle.read_shown.specs.{Views.named_slot, Views.ShowsName, Views.IsMetInView, Views.inside, Views.outside, Kinds.kind_at, Kinds.OfKind, Kinds.ViewHasKinds}
 use Rattle.read_shown.specs.{Scopes.IsShownBefore, Trees.DeclarationStands, Trees.SignatureStands}
 use Rattle.read_shown.proofs.{Views.shows_at, Wider.declaration_wider, Wider.signature_wider, Scopes.type_found}
@@ -67,11 +67,11 @@ module _ (parts : List (List Instance)) (stand : AllStand parts)
       → (k : ℕ) (t : ShownType) → slice_get x.view.types k ≡ Some t → t.name ≡ name → slot_kind t.slot ≡ c → IsShownSomewhere parts path name c
   found_at path name c m xs there n x at of_path k t e named kind =
       let st = (stand m xs there n x at).types k t e in
-      let same : st.is_resource ≡ c = sym (kind_of_named (place_of x.interface) t.name st.is_resource) ∙ (ap slot_kind (sym st.slot) ∙ kind) in
+      let same : st.is_resource ≡ c = sym (kind_of_named (instance_place x.interface) t.name st.is_resource) ∙ (ap slot_kind (sym st.slot) ∙ kind) in
       record {
         instance_ = x;
         there = record { part = m; instances = xs; part_at = there; number = n; at = at; of_path = of_path };
-        shows = shows_at (Place.of_interface path) x.view k t e name c named (st.slot ∙ (λ i. named_slot (place_of (of_path i)) (named i) (same i)));
+        shows = shows_at (Place.of_interface path) x.view k t e name c named (st.slot ∙ (λ i. named_slot (instance_place (of_path i)) (named i) (same i)));
       }
 
   found_somewhere : (path name : Text) (c : Bool) → first_some (first_some (kind_shown path name)) parts ≡ Some c → IsShownSomewhere parts path name c
@@ -96,35 +96,39 @@ module _ (parts : List (List Instance)) (stand : AllStand parts)
   pub view_kinds : (m : ℕ) (xs : List Instance) → slice_get parts m ≡ Some xs → (n : ℕ) (x : Instance) → slice_get xs n ≡ Some x → NamesDiffer x.view → ViewHasKinds kinds xs n x
   view_kinds m xs there n x at apart = record { own = own_kind x.view; shown = shown; met = met; types = types; functions = functions }
     where
-      inside_is : (o : Option Text) → x.interface ≡ o → (count : ℕ) (name : Text) (b : Bool) → ShowsName (place_of x.interface) x.view count name b
-          → b ≡ kind_at kinds (own_kind x.view) (place_of o) name
-      inside_is None is count name b s = own_is (place_of x.interface) x.view apart count name b s
+      inside_is : (o : Option Text) → x.interface ≡ o → (count : ℕ) (name : Text) (b : Bool) → ShowsName (instance_place x.interface) x.view count name b
+          → b ≡ kind_at kinds (own_kind x.view) (instance_place o) name
+      inside_is None is count name b s = own_is (instance_place x.interface) x.view apart count name b s
       inside_is (Some path) is count name b s = kinds_are path name b (record {
         instance_ = x;
         there = record { part = m; instances = xs; part_at = there; number = n; at = at; of_path = is };
-        shows = shows_at (Place.of_interface path) x.view s.number s.shown s.at name b s.named (s.slot ∙ ap (λ o. named_slot (place_of o) name b) is);
+        shows = shows_at (Place.of_interface path) x.view s.number s.shown s.at name b s.named (s.slot ∙ ap (λ o. named_slot (instance_place o) name b) is);
       })
 
-      met : (count : ℕ) (place : Place) (name : Text) (b : Bool) → IsMetInView (IsShownBefore xs n) (place_of x.interface) x.view count place name b → b ≡ kind_at kinds (own_kind x.view) place name
+      met : (count : ℕ) (place : Place) (name : Text) (b : Bool) → IsMetInView (IsShownBefore xs n) (instance_place x.interface) x.view count place name b
+          → b ≡ kind_at kinds (own_kind x.view) place name
       met count place name b (inside here s) = inside_is x.interface refl count name b s ∙ ap (λ p. kind_at kinds (own_kind x.view) p name) (sym here)
       met count place name b (outside s) = kinds_are s.path name b (before_somewhere parts m xs there n place name b s) ∙ ap (λ p. kind_at kinds (own_kind x.view) p name) (sym s.stands)
 
       -- a type that is shown has the kind of its name
       kind_shown_at : (k : ℕ) (t : ShownType) (e : slice_get x.view.types k ≡ Some t)
-          → ((stand m xs there n x at).types k t e).is_resource ≡ kind_at kinds (own_kind x.view) (place_of x.interface) t.name
-      kind_shown_at k t e = met (length x.view.types) (place_of x.interface) t.name ((stand m xs there n x at).types k t e).is_resource (inside refl
-          (shows_at (place_of x.interface) x.view k t e t.name ((stand m xs there n x at).types k t e).is_resource refl ((stand m xs there n x at).types k t e).slot))
+          → ((stand m xs there n x at).types k t e).is_resource ≡ kind_at kinds (own_kind x.view) (instance_place x.interface) t.name
+      kind_shown_at k t e = met (length x.view.types) (instance_place x.interface) t.name ((stand m xs there n x at).types k t e).is_resource (inside refl
+          (shows_at (instance_place x.interface) x.view k t e t.name ((stand m xs there n x at).types k t e).is_resource refl ((stand m xs there n x at).types k t e).slot))
 
-      shown : (k : ℕ) (t : ShownType) → slice_get x.view.types k ≡ Some t → t.slot ≡ named_slot (place_of x.interface) t.name (kind_at kinds (own_kind x.view) (place_of x.interface) t.name)
-      shown k t e = ((stand m xs there n x at).types k t e).slot ∙ ap (named_slot (place_of x.interface) t.name) (kind_shown_at k t e)
+      shown : (k : ℕ) (t : ShownType) → slice_get x.view.types k ≡ Some t
+          → t.slot ≡ named_slot (instance_place x.interface) t.name (kind_at kinds (own_kind x.view) (instance_place x.interface) t.name)
+      shown k t e = ((stand m xs there n x at).types k t e).slot ∙ ap (named_slot (instance_place x.interface) t.name) (kind_shown_at k t e)
 
       types : (k : ℕ) (t : ShownType) → slice_get x.view.types k ≡ Some t
-          → DeclarationStands (OfKind (kind_at kinds (own_kind x.view))) t.meaning.declaration (kind_at kinds (own_kind x.view) (place_of x.interface) t.name)
+          → DeclarationStands (OfKind (kind_at kinds (own_kind x.view))) t.meaning.declaration (kind_at kinds (own_kind x.view) (instance_place x.interface) t.name)
       types k t e =
           let st = (stand m xs there n x at).types k t e in
           subst (DeclarationStands (OfKind (kind_at kinds (own_kind x.view))) t.meaning.declaration) (kind_shown_at k t e)
-          (declaration_wider (IsMetInView (IsShownBefore xs n) (place_of x.interface) x.view k) (OfKind (kind_at kinds (own_kind x.view))) (met k) t.meaning.declaration st.is_resource st.declared)
+          (declaration_wider (IsMetInView (IsShownBefore xs n) (instance_place x.interface) x.view k) (OfKind (kind_at kinds (own_kind x.view))) (met k) t.meaning.declaration st.is_resource
+          st.declared)
 
       functions : (k : ℕ) (f : Text × FunctionMeaning) → slice_get x.view.functions k ≡ Some f → SignatureStands (OfKind (kind_at kinds (own_kind x.view))) f.1.signature
-      functions k f e = signature_wider (IsMetInView (IsShownBefore xs n) (place_of x.interface) x.view (length x.view.types)) (OfKind (kind_at kinds (own_kind x.view))) (met (length x.view.types))
+      functions k f e = signature_wider (IsMetInView (IsShownBefore xs n) (instance_place x.interface) x.view (length x.view.types)) (OfKind (kind_at kinds (own_kind x.view)))
+          (met (length x.view.types))
           f.1.signature ((stand m xs there n x at).functions k f e)

@@ -4,7 +4,7 @@ use Rattle.std.proofs.lemmas.List.Elements.{Contains-append_cases as in_either}
 use Rattle.std.specs.List.{AllByRecursion, Contains, list_all}
 use Rattle.wit_model.specs.{Text.Text, Names.PackageIdentity, Names.path_in, Tree.Place}
 use Rattle.wit_model.proofs.Elements.{none-in}
-use Rattle.comp_meaning.specs.Follow.{each, Instance, Seen, Shown, Scope, Direction, import_, export_, place_of}
+use Rattle.comp_meaning.specs.Follow.{each, Instance, Seen, Shown, Scope, Direction, import_, export_, instance_place}
 use Rattle.comp_meaning.specs.Rules.{are_imports, distinct, is_interface, is_item, is_world, resources_seen}
 use Rattle.comp_meaning.specs.Reads.{Part, Member, all_agree, are_interfaces, sights}
 use Rattle.read_shown.specs.{Trees.AllAt, Views.ViewStands}
@@ -19,7 +19,7 @@ use Rattle.base_lemmas.proofs.{Lists.get_back as unmapped_get, Lists.mapped_get,
 -- ---- the views of a world obey the rules on interfaces
 
 abbrev Obeys : Instance → Type 0
-Obeys x = is_interface (place_of x.interface) x.view ≡ true
+Obeys x = is_interface (instance_place x.interface) x.view ≡ true
 
 -- what an import or an export is, in whichever order
 shown_obeys : (resources : List Text) (key : Text) (s : Shown) → is_item resources key s ≡ true → (x : Instance) → Contains (instance_of s) x → Obeys x
@@ -63,7 +63,7 @@ module _ (members : List Member) (stand : AllByRecursion MemberStands members) (
   all_stand : AllStand parts
   all_stand k xs at =
       let m = unmapped_get instances_of members k xs at in
-      subst (λ (ys : List Instance). AllAt (λ n (x : Instance). ViewStands (IsShownBefore ys n) (place_of x.interface) x.view) ys) m.2 (member_at k m.0 m.1).views
+      subst (λ (ys : List Instance). AllAt (λ n (x : Instance). ViewStands (IsShownBefore ys n) (instance_place x.interface) x.view) ys) m.2 (member_at k m.0 m.1).views
 
   -- an instance with a path is seen
   seen_there : (path : Text) (x : Instance) → IsOfPath parts path x → IsSeenIn (flat_map sights members) path x.view
@@ -87,7 +87,7 @@ module _ (members : List Member) (stand : AllByRecursion MemberStands members) (
         -- an instance without a path is one of a world
         inline : (label : Text) (package_ : PackageIdentity) (p : Part) → PartStands p → slice_get (instances_of (record { label = label; package_ = package_; part = p })) n ≡ Some x
             → x.interface ≡ None → NamesDiffer x.view
-        inline label package_ (Part.world scope) w e none = names_differ (place_of x.interface) x.view (search (std_rules, world_parts, one_way, imports_obey, exports_obey))
+        inline label package_ (Part.world scope) w e none = names_differ (instance_place x.interface) x.view (search (std_rules, world_parts, one_way, imports_obey, exports_obey))
         inline label package_ (Part.interface exported imports) w e none = elim (at_end (map named_instance imports) (named_instance (path_in package_ label, exported)) x n e) [
           | inl before ↦ (let i = unmapped_get named_instance imports n x before in let wrong : Some i.0.0 ≡ None = ap (λ (y : Instance). y.interface) i.2 ∙ none in absurd cc)
           | inr end ↦ (let wrong : Some (path_in package_ label) ≡ None = ap (λ (y : Instance). y.interface) end.1 ∙ none in absurd cc)

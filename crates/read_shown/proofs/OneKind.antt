@@ -1,8 +1,8 @@
 -- A name of an interface is a resource in every view that shows it, or in none.
 use Rattle.std.proofs.Common.{rules as std_rules, ◌≡◌, sym, ap, subst, ◌∙◌, ℕ, zero, suc, ◌<◌, ◌≤◌, arith, Bool, true, false, List, length, Some, slice_get}
 use Rattle.std.proofs.lemmas.Option.{slice_get_within}
-use Rattle.wit_model.specs.{Text.Text, Tree.Place, Tree.Declaration}
-use Rattle.comp_meaning.specs.Follow.{Slot, ShownType, Instance, place_of}
+use Rattle.wit_model.specs.{Text.Text, Tree.Place, Tree.TypeDeclaration}
+use Rattle.comp_meaning.specs.Follow.{Slot, ShownType, Instance, instance_place}
 use Rattle.read_shown.specs.{Trees.AllAt, Trees.DeclarationStands, Scopes.IsShownBefore}
 use Rattle.read_shown.specs.Views.{named_slot, ShowsName, IsMetInView, inside, outside, ViewStands}
 use Rattle.read_shown.proofs.{Agreement.alike_at, Agreement.one_number, Agreement.Alike, Agreement.NamesDiffer, Views.shows_wider, Lists.front_same}
@@ -19,13 +19,13 @@ pub one_slot : (place other : Place) (name more : Text) (b c : Bool) → named_s
 one_slot place other name more b c e = sym (kind_of_named place name b) ∙ (ap slot_kind e ∙ kind_of_named other more c)
 
 -- two kinds of one declaration
-declared_once : (Met More : Place → Text → Bool → Type 0) (d : Declaration) (b c : Bool) → DeclarationStands Met d b → DeclarationStands More d c
+declared_once : (Met More : Place → Text → Bool → Type 0) (d : TypeDeclaration) (b c : Bool) → DeclarationStands Met d b → DeclarationStands More d c
     → ((place : Place) (name : Text) → Met place name b → More place name c → b ≡ c) → b ≡ c
 declared_once x y z b c h k met = search std_rules
 
 -- The instances of some parts, each view of which is well-formed behind those before it.
 abbrev pub AllStand : List (List Instance) → Type 0
-AllStand parts = AllAt (λ m (xs : List Instance). AllAt (λ n (x : Instance). ViewStands (IsShownBefore xs n) (place_of x.interface) x.view) xs) parts
+AllStand parts = AllAt (λ m (xs : List Instance). AllAt (λ n (x : Instance). ViewStands (IsShownBefore xs n) (instance_place x.interface) x.view) xs) parts
 
 -- an instance of the interface of this path
 pub record IsOfPath (parts : List (List Instance)) (path : Text) (x : Instance) : Type 0 where
@@ -51,7 +51,7 @@ module _ (parts : List (List Instance)) (stand : AllStand parts)
     (once : (path : Text) (x : Instance) → IsOfPath parts path x → NamesDiffer x.view) where
   -- a name that is met in a view of the path, where its place is that of an interface
   met_somewhere : (path : Text) (x : Instance) (o : IsOfPath parts path x) (count : ℕ) → count ≤ length x.view.types → (q name : Text) (b : Bool)
-      → IsMetInView (IsShownBefore o.instances o.number) (place_of x.interface) x.view count (Place.of_interface q) name b → IsShownSomewhere parts q name b
+      → IsMetInView (IsShownBefore o.instances o.number) (instance_place x.interface) x.view count (Place.of_interface q) name b → IsShownSomewhere parts q name b
   met_somewhere path x o count le q name b (inside here s) = search std_rules
   met_somewhere path x o count le q name b (outside s) = search std_rules
 
@@ -65,16 +65,16 @@ module _ (parts : List (List Instance)) (stand : AllStand parts)
     settle n k earlier before x at path of_path name b s c w =
         let t = (stand m xs there n x at).types s.number s.shown s.at in
         let u = (stand w.there.part w.there.instances w.there.part_at w.there.number w.instance_ w.there.at).types w.shows.number w.shows.shown w.shows.at in
-        sym (one_slot (place_of x.interface) (Place.of_interface path) s.shown.name name t.is_resource b (sym t.slot ∙ s.slot))
+        sym (one_slot (instance_place x.interface) (Place.of_interface path) s.shown.name name t.is_resource b (sym t.slot ∙ s.slot))
         ∙ (declared_once (MetHere s.number) MetThere s.shown.meaning.declaration t.is_resource u.is_resource t.declared
         (subst (λ d. DeclarationStands MetThere d u.is_resource) one_declaration u.declared) (meet s.number (let below = s.below in omega (arith, below)) t.is_resource u.is_resource)
-        ∙ (one_slot (place_of w.instance_.interface) (Place.of_interface path) w.shows.shown.name name u.is_resource c (sym u.slot ∙ w.shows.slot)))
+        ∙ (one_slot (instance_place w.instance_.interface) (Place.of_interface path) w.shows.shown.name name u.is_resource c (sym u.slot ∙ w.shows.slot)))
       where
         MetHere : ℕ → Place → Text → Bool → Type 0
-        MetHere count = IsMetInView (IsShownBefore xs n) (place_of x.interface) x.view count
+        MetHere count = IsMetInView (IsShownBefore xs n) (instance_place x.interface) x.view count
 
         MetThere : Place → Text → Bool → Type 0
-        MetThere = IsMetInView (IsShownBefore w.there.instances w.there.number) (place_of w.instance_.interface) w.instance_.view w.shows.number
+        MetThere = IsMetInView (IsShownBefore w.there.instances w.there.number) (instance_place w.instance_.interface) w.instance_.view w.shows.number
 
         -- the other view declares the same under the name
         one_declaration : w.shows.shown.meaning.declaration ≡ s.shown.meaning.declaration
@@ -91,8 +91,8 @@ module _ (parts : List (List Instance)) (stand : AllStand parts)
 
         meet : (count : ℕ) → count ≤ k → (d e : Bool) (place : Place) (more : Text) → MetHere count place more d → MetThere place more e → d ≡ e
         meet count low d e place more (inside here v) h =
-            let own : place_of x.interface ≡ Place.of_interface path = ap place_of of_path in
-            before x at path of_path more d (subst (λ p. ShowsName p x.view k more d) own (shows_wider (place_of x.interface) x.view x.view (front_same x.view.types) count k low more d v)) e
+            let own : instance_place x.interface ≡ Place.of_interface path = ap instance_place of_path in
+            before x at path of_path more d (subst (λ p. ShowsName p x.view k more d) own (shows_wider (instance_place x.interface) x.view x.view (front_same x.view.types) count k low more d v)) e
             (other path more e (subst (λ p. MetThere p more e) (here ∙ own) h))
         meet count low d e place more (outside v) h = earlier v.number v.below (length v.shown.view.types) v.shown v.at v.path v.of_path more d
             (subst (λ p. ShowsName p v.shown.view (length v.shown.view.types) more d) v.stands v.shows) e (other v.path more e (subst (λ p. MetThere p more e) v.stands h))

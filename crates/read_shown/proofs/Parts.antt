@@ -6,7 +6,7 @@ use Rattle.wit_model.specs.{Text.Text, Text.text_eq, Names.PackageIdentity, Name
 use Rattle.wit_model.proofs.{NameLaws.read_path_is_spelled, TextLemmas.text_same, TextLemmas.text_there}
 use Rattle.comp_bytes.specs.Raw.{ExternName, Declarations}
 use Rattle.comp_bytes.proofs.Readers.{bind_some, when_some}
-use Rattle.comp_meaning.specs.Follow.{each, View, Instance, Seen, Shown, Scope, Direction, import_, export_, complete_path, component_scope, place_of, provided, when}
+use Rattle.comp_meaning.specs.Follow.{each, View, Instance, Seen, Shown, Scope, Direction, import_, export_, complete_path, component_scope, instance_place, provided, when}
 use Rattle.comp_meaning.specs.Rules.{distinct, is_world, used_by_view}
 use Rattle.comp_meaning.specs.Reads.{Part, Member, are_reached, exported_view, imported_view, interface_part, labelled_path, member, part_of, world_part, wrapped}
 use Rattle.read_shown.specs.{Trees.AllAt, Views.ViewStands, Instances.instance_of, Instances.instances_in, Instances.going, Instances.InstancesAreSeen}
@@ -132,7 +132,7 @@ interface_read label ds p scope follows exported out imports in_ package_ path e
     let w = when_some _ _ p e in
     let st = scope_stands ds scope follows in
     subst (λ (q : PackageIdentity × Part). MemberStands (member_of label q)) (some_is _ p w.1) (record {
-      views = subst (λ (xs : List Instance). AllAt (λ n (x : Instance). ViewStands (IsShownBefore xs n) (place_of x.interface) x.view) xs)
+      views = subst (λ (xs : List Instance). AllAt (λ n (x : Instance). ViewStands (IsShownBefore xs n) (instance_place x.interface) x.view) xs)
           (interface_shows label scope st (instances_seen ds scope follows) exported out imports in_ package_ path (first_true _ _ w.0) (second_true _ _ w.0)) st.instances;
       part = tt;
     })

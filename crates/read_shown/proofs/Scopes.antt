@@ -1,11 +1,11 @@
 -- What component types show is well-formed.
 use Rattle.std.proofs.Common.{rules as std_rules, ◌≡◌, refl, sym, ap, subst, ◌∙◌, ℕ, zero, suc, ◌==◌, arith, Bool, true, false, cond, List, [], ◌∷◌, ◌++◌, length, take, Option, Some, None, slice_get, is_some}
 use Rattle.std.proofs.lemmas.Option.{slice_get_within}
-use Rattle.wit_model.specs.{Text.Text, Text.text_eq, Tree.Place, Tree.Tree, Tree.Declaration}
+use Rattle.wit_model.specs.{Text.Text, Text.text_eq, Tree.Place, Tree.Tree, Tree.TypeDeclaration}
 use Rattle.comp_bytes.specs.declared.forms.ComponentTypeRef.{ComponentTypeRef}
 use Rattle.comp_bytes.specs.Raw.{ExternName, Declarations}
 use Rattle.comp_bytes.proofs.Readers.{bind_some, when_some}
-use Rattle.comp_meaning.specs.Follow.{Slot, View, ShownType, Instance, Seen, Shown, Scope, Direction, import_, export_, component_scope, component_step, component_steps, exported_slot, find_type, flat, in_scope, instance_types, interface_of, is_foreign_name, named_type, new_scope, place_of, see, used_view}
+use Rattle.comp_meaning.specs.Follow.{Slot, View, ShownType, Instance, Seen, Shown, Scope, Direction, import_, export_, component_scope, component_step, component_steps, exported_slot, find_type, flat, in_scope, instance_types, interface_of, is_foreign_name, named_type, new_scope, instance_place, see, used_view}
 use Rattle.comp_meaning.proofs.StepLaws.{StepOf, defines, signs, aliases, sees_function, sees_type, sees_instance, seen_under, seen_instance, with_instance, step_of}
 use Rattle.read_shown.specs.{Trees.DeclarationStands, Trees.SlotStands, Views.named_slot, Views.ViewStands}
 use Rattle.read_shown.specs.Scopes.{is_type, IsShownBefore, IsImported, IsDeclared, a_resource, a_value, own_name, name_of_instance, IsMetInScope, by_import, by_instance, ShownStands, ScopeStands}
@@ -24,7 +24,7 @@ abbrev SlotIn : List Instance → List Seen → ℕ → Slot → Type 0
 SlotIn instances imports n s = SlotStands (IsMetInScope instances imports (length imports)) s
 
 abbrev InstanceIn : List Instance → ℕ → Instance → Type 0
-InstanceIn instances n x = ViewStands (IsShownBefore instances n) (place_of x.interface) x.view
+InstanceIn instances n x = ViewStands (IsShownBefore instances n) (instance_place x.interface) x.view
 
 abbrev ImportIn : List Instance → List Seen → ℕ → Seen → Type 0
 ImportIn instances imports n s = ShownStands instances imports n s.shown
@@ -61,27 +61,36 @@ seen_stands export_ seen scope st h plain = search (std_rules, all_more)
 
 -- ---- a type that is imported
 
-abbrev pub imported_at : (imports : List Seen) (n : ℕ) (s : Seen) → slice_get imports n ≡ Some s → (name : Text) (d : Declaration) → s.key ≡ name → s.shown ≡ Shown.declares d
+abbrev pub imported_at : (imports : List Seen) (n : ℕ) (s : Seen) → slice_get imports n ≡ Some s → (name : Text) (d : TypeDeclaration) → s.key ≡ name → s.shown ≡ Shown.declares d
     → IsImported imports (length imports) name d
 imported_at imports n s at name d key shown = record { number = n; below = slice_get_within imports n s at; seen = s; at = at; key = key; shown = shown }
 
 -- what an import declares, over names that stand before it, is declared by it
-pub declared_last : (instances : List Instance) (imports : List Seen) (count : ℕ) (name : Text) (d : Declaration) (b : Bool) (by : IsImported imports count name d)
+pub declared_last : (instances : List Instance) (imports : List Seen) (count : ℕ) (name : Text) (d : TypeDeclaration) (b : Bool) (by : IsImported imports count name d)
     → DeclarationStands (IsMetInScope instances imports by.number) d b → IsDeclared instances imports count name b
-declared_last instances imports count name Declaration.resource b by h = subst (IsDeclared instances imports count name) (sym h) (a_resource by)
-declared_last instances imports count name (Declaration.type_ (Tree.primitive p)) b by h = subst (IsDeclared instances imports count name) (sym h) (a_value (Tree.primitive p) refl by)
-declared_last instances imports count name (Declaration.type_ (Tree.node form ts)) b by h = subst (IsDeclared instances imports count name) (sym h.0) (a_value (Tree.node form ts) refl by)
-declared_last instances imports count name (Declaration.type_ (Tree.named place other)) b by h = of h
+declared_last instances imports count name TypeDeclaration.resource b by h = subst (IsDeclared instances imports count name) (sym h) (a_resource by)
+declared_last instances imports count name (TypeDeclaration.type_ (Tree.primitive p)) b by h = subst (IsDeclared instances imports count name) (sym h) (a_value (Tree.primitive p) refl by)
+declared_last instances imports count name (TypeDeclaration.type_ (Tree.node form ts)) b by h = subst (IsDeclared instances imports count name) (sym h.0) (a_value (Tree.node form ts) refl by)
+declared_last instances imports count name (TypeDeclaration.type_ (Tree.named place other)) b by h = of h
   where
     -- under the place that it stands in
-    at_place : (p : Place) → place ≡ p → IsImported imports count name (Declaration.type_ (Tree.named p other))
-    at_place p is = record { number = by.number; below = by.below; seen = by.seen; at = by.at; key = by.key; shown = by.shown ∙ ap (λ q. Shown.declares (Declaration.type_ (Tree.named q other))) is }
+    at_place : (p : Place) → place ≡ p → IsImported imports count name (TypeDeclaration.type_ (Tree.named p other))
+    at_place p is = record {
+      number = by.number;
+      below = by.below;
+      seen = by.seen;
+      at = by.at;
+      key = by.key;
+      shown =
+          by.shown ∙ ap (λ q. Shown.declares (TypeDeclaration.type_ (Tree.named q other))) is;
+    }
 
     of : IsMetInScope instances imports by.number place other b → IsDeclared instances imports count name b
     of (by_import here d) = own_name other (at_place Place.here here) d
     of (by_instance s) = name_of_instance s.path other (at_place (Place.of_interface s.path) s.stands) (subst (λ p. IsShownBefore instances (length instances) p other b) s.stands s)
 
-type_stands : (name : ExternName) (described : ComponentTypeRef) (scope : Scope) (found : Declaration × Slot) → named_type scope.slots Place.here name.text described ≡ Some found → ScopeStands scope
+type_stands : (name : ExternName) (described : ComponentTypeRef) (scope : Scope) (found : TypeDeclaration × Slot) → named_type scope.slots Place.here name.text described ≡ Some found
+    → ScopeStands scope
     → ScopeStands (see import_ (seen_under name (Shown.declares found.0)) (in_scope found.1 scope))
 type_stands name described scope found e st =
     let seen : Seen = seen_under name (Shown.declares found.0) in
@@ -115,7 +124,7 @@ used_stands : (scope : Scope) → ScopeStands scope → (place : Place) (o : Opt
 used_stands scope st place (Some (Slot.instance ds n)) view e = view_stands (IsShownBefore scope.instances (length scope.instances)) place (take n scope.slots) (around_stands scope st n) ds view e
 used_stands scope st place _ view e = absurd cc
 
-instance_stands : (x : Instance) (used : List ℕ) (scope : Scope) → ScopeStands scope → ViewStands (IsShownBefore scope.instances (length scope.instances)) (place_of x.interface) x.view
+instance_stands : (x : Instance) (used : List ℕ) (scope : Scope) → ScopeStands scope → ViewStands (IsShownBefore scope.instances (length scope.instances)) (instance_place x.interface) x.view
     → ScopeStands (record scope { instances = scope.instances ++ x ∷ []; used = used })
 instance_stands x used scope st h =
     let more : List Instance = scope.instances ++ x ∷ [] in
@@ -125,7 +134,7 @@ instance_stands x used scope st h =
       slots = slots_wider scope.instances more scope.imports scope.imports fi fm scope.slots st.slots;
       instances = all_more (InstanceIn more) scope.instances x (instances_wider scope.instances more scope.imports scope.imports fi fm scope.instances st.instances)
           (view_wider (IsShownBefore scope.instances (length scope.instances)) (IsShownBefore more (length scope.instances))
-          (shown_wider scope.instances more fi (length scope.instances) (length scope.instances) (omega arith)) (place_of x.interface) x.view h);
+          (shown_wider scope.instances more fi (length scope.instances) (length scope.instances) (omega arith)) (instance_place x.interface) x.view h);
       imports = imports_wider scope.instances more scope.imports scope.imports fi fm scope.imports st.imports;
       exports = exports_wider scope.instances more scope.imports scope.imports fi fm scope.exports st.exports;
       no_types = st.no_types;
@@ -152,7 +161,7 @@ exported_stands scope st m name slot e = by (slice_get scope.instances m) refl e
     of_path x at n t there is None path some = absurd cc
     of_path x at n t there is (Some path) path_is some =
         let h = (st.instances m x at).types n t there in
-        let named : t.slot ≡ named_slot (Place.of_interface path) t.name h.is_resource = h.slot ∙ ap (λ p. named_slot p t.name h.is_resource) (ap place_of path_is) in
+        let named : t.slot ≡ named_slot (Place.of_interface path) t.name h.is_resource = h.slot ∙ ap (λ p. named_slot p t.name h.is_resource) (ap instance_place path_is) in
         let shows = shows_at (Place.of_interface path) x.view n t there t.name h.is_resource refl named in
         subst (SlotStands (Met scope)) (sym named ∙ is) (named_stands (Met scope) (Place.of_interface path) t.name h.is_resource (by_instance
         (record { number = m; below = slice_get_within scope.instances m x at; shown = x; at = at; path = path; of_path = path_is; stands = refl; shows = shows })))
@@ -173,7 +182,7 @@ step_stands scope _ (sees_function direction name n f e) st = search (std_rules,
 step_stands scope _ (sees_type name described found e) st = type_stands name described scope found e st
 step_stands scope _ (sees_instance direction name n key view new e) st =
     let x : Instance = record { interface = interface_of key; view = view } in
-    let more = instance_stands x (scope.used ++ n ∷ []) scope st (used_stands scope st (place_of (interface_of key)) (slice_get scope.slots n) view e) in
+    let more = instance_stands x (scope.used ++ n ∷ []) scope st (used_stands scope st (instance_place (interface_of key)) (slice_get scope.slots n) view e) in
     seen_stands direction (seen_instance name key view) (with_instance scope n key view) more (length scope.instances, get_last scope.instances x) refl
 
 -- ---- all of them

@@ -5,7 +5,7 @@ use Rattle.wit_model.specs.{Text.Text, Tree.Place, Meaning.Signature, Meaning.Fu
 use Rattle.comp_bytes.specs.declared.forms.ComponentTypeRef.{ComponentTypeRef}
 use Rattle.comp_bytes.specs.Raw.{Alias, ExternName, Declaration}
 use Rattle.comp_bytes.proofs.Readers.{bind_some, when_some}
-use Rattle.comp_meaning.specs.Follow.{Slot, View, ShownType, InstanceScope, declared_by, function_in, in_instance, instance_step, instance_steps, instance_view, is_foreign_name, is_simple, named_like, named_type, new_instance, show, show_function, show_type}
+use Rattle.comp_meaning.specs.Follow.{Slot, View, ShownType, InstanceScope, declared_by_slot, function_in, in_instance, instance_step, instance_steps, instance_view, is_foreign_name, is_simple, named_like, named_type, new_instance, show, show_function, show_type}
 use Rattle.read_shown.specs.Trees.{AllAt, DeclarationStands, SignatureStands, SlotStands}
 use Rattle.read_shown.specs.Views.{named_slot, ShowsName, IsMetInView, inside, outside, TypeStands, ViewStands, InstanceScopeStands}
 use Rattle.read_shown.proofs.Definitions.{definition_stands, function_stands, signature_stands}
@@ -21,19 +21,19 @@ module _ (Met : Place → Text → Bool → Type 0) where
   pub named_stands : (place : Place) (name : Text) (b : Bool) → Met place name b → SlotStands Met (named_slot place name b)
   named_stands place name x h = search std_rules
 
-  declared_stands : (place : Place) (name : Text) (slot : Slot) → SlotStands Met slot → (d : tree.Declaration) → declared_by slot ≡ Some d
+  declared_stands : (place : Place) (name : Text) (slot : Slot) → SlotStands Met slot → (d : tree.TypeDeclaration) → declared_by_slot slot ≡ Some d
       → (b : Bool) × (named_like slot place name ≡ named_slot place name b) × DeclarationStands Met d b
   declared_stands place name y h d e = search std_rules
 
   -- what an import or an export of a type declares, and what its index stands for
-  pub named_type_stands : (slots : List Slot) → AllAt (λ n (s : Slot). SlotStands Met s) slots → (place : Place) (name : Text) (described : ComponentTypeRef) (found : tree.Declaration × Slot)
+  pub named_type_stands : (slots : List Slot) → AllAt (λ n (s : Slot). SlotStands Met s) slots → (place : Place) (name : Text) (described : ComponentTypeRef) (found : tree.TypeDeclaration × Slot)
       → named_type slots place name described ≡ Some found → (b : Bool) × (found.1 ≡ named_slot place name b) × DeclarationStands Met found.0 b
   named_type_stands slots all place name (refs.TypeEq n) found e =
       let s = bind_some (slice_get slots n) _ found e in
-      let d = bind_some (declared_by s.0) _ found s.2 in
+      let d = bind_some (declared_by_slot s.0) _ found s.2 in
       let is : (d.0, named_like s.0 place name) ≡ found = some_is (d.0, named_like s.0 place name) found d.2 in
       let h = declared_stands place name s.0 (all n s.0 s.1) d.0 d.1 in
-      (h.0, ap (λ (x : tree.Declaration × Slot). x.1) (sym is) ∙ h.1, subst (λ (x : tree.Declaration × Slot). DeclarationStands Met x.0 h.0) is h.2)
+      (h.0, ap (λ (x : tree.TypeDeclaration × Slot). x.1) (sym is) ∙ h.1, subst (λ (x : tree.TypeDeclaration × Slot). DeclarationStands Met x.0 h.0) is h.2)
   named_type_stands slots all place name refs.SubResource found e = search std_rules
   named_type_stands slots all place name _ found e = absurd cc
 
@@ -99,8 +99,8 @@ module _ (Outside : Place → Text → Bool → Type 0) (own : Place) where
   type_shown : (name : ExternName) (described : ComponentTypeRef) (scope next : InstanceScope) → show_type own name described scope ≡ Some next → InstanceScopeStands Outside own scope
       → InstanceScopeStands Outside own next
   type_shown name described scope next e st =
-      let type_of : tree.Declaration × Slot → ShownType = λ found. record { name = name.text; meaning = record { declaration = found.0; external_id = name.external_id }; slot = found.1 } in
-      let after : tree.Declaration × Slot → InstanceScope = λ found. record {
+      let type_of : tree.TypeDeclaration × Slot → ShownType = λ found. record { name = name.text; meaning = record { declaration = found.0; external_id = name.external_id }; slot = found.1 } in
+      let after : tree.TypeDeclaration × Slot → InstanceScope = λ found. record {
         slots = scope.slots ++ found.1 ∷ [];
         shown = record { types = scope.shown.types ++ type_of found ∷ []; functions = scope.shown.functions };
       } in

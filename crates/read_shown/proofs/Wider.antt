@@ -21,9 +21,9 @@ module _ (Met More : Place → Text → Bool → Type 0) (wider : (place : Place
   pub signature_wider : (f : Signature) → SignatureStands Met f → SignatureStands More f
   signature_wider f h = search (std_rules, recursion_weaker, tree_wider, some_weaker)
 
-  pub declaration_wider : (d : tree.Declaration) (b : Bool) → DeclarationStands Met d b → DeclarationStands More d b
-  declaration_wider (tree.Declaration.type_ (Tree.named place name)) b h = wider place name b h
-  declaration_wider (tree.Declaration.type_ (Tree.node form ts)) b h = (h.0, tree_wider (Tree.node form ts) h.1)
+  pub declaration_wider : (d : tree.TypeDeclaration) (b : Bool) → DeclarationStands Met d b → DeclarationStands More d b
+  declaration_wider (tree.TypeDeclaration.type_ (Tree.named place name)) b h = wider place name b h
+  declaration_wider (tree.TypeDeclaration.type_ (Tree.node form ts)) b h = (h.0, tree_wider (Tree.node form ts) h.1)
   declaration_wider _ b h = h
 
   pub slot_wider : (s : Slot) → SlotStands Met s → SlotStands More s

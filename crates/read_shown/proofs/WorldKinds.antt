@@ -1,6 +1,6 @@
 -- The kind of each name that a world declares: its imports have keys that differ.
 use Rattle.std.proofs.Common.{◌≡◌, refl, sym, ap, subst, ◌∙◌, ℕ, zero, suc, Bool, true, false, cond, List, [], ◌∷◌, map, length, Option, Some, None, slice_get, unwrap_or}
-use Rattle.wit_model.specs.{Text.Text, Text.text_eq, Tree.Place, Tree.Tree, Tree.Declaration}
+use Rattle.wit_model.specs.{Text.Text, Text.text_eq, Tree.Place, Tree.Tree, Tree.TypeDeclaration}
 use Rattle.wit_model.proofs.{VersionLaws.same_text, TextLemmas.text_same}
 use Rattle.comp_meaning.specs.{Follow.Instance, Follow.Seen, Follow.Shown, Rules.distinct}
 use Rattle.read_shown.specs.{Trees.AllAt, Trees.DeclarationStands, Kinds.kind_at, Kinds.OfKind, Kinds.ShownHasKind}
@@ -8,27 +8,27 @@ use Rattle.read_shown.specs.Scopes.{is_name, is_type, IsShownBefore, IsImported,
 use Rattle.read_shown.proofs.{Lists.one_place, Scopes.declared_last, Scopes.imported_at, Wider.declaration_wider, Wider.signature_wider}
 use Rattle.base_lemmas.proofs.{Lists.mapped_get, Options.some_is}
 
-declared_is : (d e : Declaration) → Shown.declares d ≡ Shown.declares e → d ≡ e
+declared_is : (d e : TypeDeclaration) → Shown.declares d ≡ Shown.declares e → d ≡ e
 declared_is d e h = cc
 
 module _ (instances : List Instance) (imports : List Seen) (apart : distinct (map (λ (s : Seen). s.key) imports) ≡ true)
     (kinds : Text → Text → Bool) (are : (path name : Text) (b : Bool) → IsShownBefore instances (length instances) (Place.of_interface path) name b → b ≡ kinds path name) where
   -- one name, one declaration
-  imported_once : (m n : ℕ) (x y : Text) (d e : Declaration) → x ≡ y → IsImported imports m x d → IsImported imports n y e → d ≡ e
+  imported_once : (m n : ℕ) (x y : Text) (d e : TypeDeclaration) → x ≡ y → IsImported imports m x d → IsImported imports n y e → d ≡ e
   imported_once m n x y d e same i j = declared_is d e (sym i.shown ∙ (ap (λ (z : Seen). z.shown) (some_is _ _
       (sym i.at ∙ (ap (λ k. slice_get imports k) (one_place (map (λ (z : Seen). z.key) imports) apart i.number j.number y
       (mapped_get (λ (z : Seen). z.key) imports i.number i.seen i.at ∙ ap Some (i.key ∙ same)) (mapped_get (λ (z : Seen). z.key) imports j.number j.seen j.at ∙ ap Some j.key)) ∙ j.at))) ∙ j.shown))
 
   -- what the import of a name declares
-  declaration_of : {m : ℕ} {x : Text} {b : Bool} → IsDeclared instances imports m x b → (d : Declaration) × IsImported imports m x d
-  declaration_of (a_resource i) = (Declaration.resource, i)
-  declaration_of (a_value t plain i) = (Declaration.type_ t, i)
-  declaration_of (own_name o i d) = (Declaration.type_ (Tree.named Place.here o), i)
-  declaration_of (name_of_instance p o i s) = (Declaration.type_ (Tree.named (Place.of_interface p) o), i)
+  declaration_of : {m : ℕ} {x : Text} {b : Bool} → IsDeclared instances imports m x b → (d : TypeDeclaration) × IsImported imports m x d
+  declaration_of (a_resource i) = (TypeDeclaration.resource, i)
+  declaration_of (a_value t plain i) = (TypeDeclaration.type_ t, i)
+  declaration_of (own_name o i d) = (TypeDeclaration.type_ (Tree.named Place.here o), i)
+  declaration_of (name_of_instance p o i s) = (TypeDeclaration.type_ (Tree.named (Place.of_interface p) o), i)
 
-  abbrev names_another : Declaration → Bool
-  names_another Declaration.resource = false
-  names_another (Declaration.type_ t) = is_name t
+  abbrev names_another : TypeDeclaration → Bool
+  names_another TypeDeclaration.resource = false
+  names_another (TypeDeclaration.type_ t) = is_name t
 
   declared_alike : {m n : ℕ} {x y : Text} {b c : Bool} (i : IsDeclared instances imports m x b) (j : IsDeclared instances imports n y c) → (declaration_of i).0 ≡ (declaration_of j).0
       → names_another (declaration_of i).0 ≡ names_another (declaration_of j).0 → b ≡ c
@@ -54,12 +54,12 @@ module _ (instances : List Instance) (imports : List Seen) (apart : distinct (ma
   kind_shown n (Shown.function f) h = None
   kind_shown n (Shown.declares d) h = Some h.0
 
-  kind_shown_is : (n : ℕ) (s : Shown) (h : ShownStands instances imports n s) (d : Declaration) → s ≡ Shown.declares d → (b : Bool) × (kind_shown n s h ≡ Some b)
+  kind_shown_is : (n : ℕ) (s : Shown) (h : ShownStands instances imports n s) (d : TypeDeclaration) → s ≡ Shown.declares d → (b : Bool) × (kind_shown n s h ≡ Some b)
       × DeclarationStands (IsMetInScope instances imports n) d b
   unfolding kind_shown
   kind_shown_is n (Shown.instance key view) h d e = absurd cc
   kind_shown_is n (Shown.function f) h d e = absurd cc
-  kind_shown_is n (Shown.declares c) h d e = (h.0, refl, subst (λ (x : Declaration). DeclarationStands (IsMetInScope instances imports n) x h.0) (declared_is c d e) h.1)
+  kind_shown_is n (Shown.declares c) h d e = (h.0, refl, subst (λ (x : TypeDeclaration). DeclarationStands (IsMetInScope instances imports n) x h.0) (declared_is c d e) h.1)
 
   -- what is found for the first import of a key
   keyed : (xs : List Seen) → ((n : ℕ) (s : Seen) → slice_get xs n ≡ Some s → Option Bool) → Text → Option Bool
@@ -88,7 +88,7 @@ module _ (instances : List Instance) (imports : List Seen) (apart : distinct (ma
     unfolding own_kind
     own_is {n} {name} {b} d = by (declaration_of d).0 (declaration_of d).1
       where
-        by : (e : Declaration) → IsImported imports n name e → b ≡ own_kind name
+        by : (e : TypeDeclaration) → IsImported imports n name e → b ≡ own_kind name
         by e i =
             let first = keyed_is imports (λ k s h. kind_shown k s.shown (stand k s h)) name i.number i.seen i.at i.key in
             let shown : first.1.shown ≡ Shown.declares e = ap (λ (z : Seen). z.shown)

@@ -3,7 +3,7 @@ use Rattle.std.specs.Prelude.{◌≡◌, ◌⊎◌, ℕ, true, List, Some}
 use Rattle.std.specs.List.{AllByRecursion, Contains, flat_map}
 use Rattle.wit_model.specs.{Text.Text, Meaning.PackageMeaning, Meaning.WorldPackage, Tree.Place}
 use Rattle.comp_bytes.specs.{Raw.Declaration, Raw.Declarations, Levels.Entry, Levels.PartType}
-use Rattle.comp_meaning.specs.Follow.{each, Slot, Instance, InstanceScope, Scope, component_scope, instance_steps, is_foreign_name, new_instance, place_of}
+use Rattle.comp_meaning.specs.Follow.{each, Slot, Instance, InstanceScope, Scope, component_scope, instance_steps, is_foreign_name, new_instance, instance_place}
 use Rattle.comp_meaning.specs.{Rules.used_by_view, ByLevels.entry_scope, ByLevels.member_by_levels}
 use Rattle.comp_meaning.specs.Reads.{Member, all_agree, are_interfaces, member, package_of_members, sights, world_of_members}
 use Rattle.read_shown.specs.{Trees.AllAt, Trees.SlotStands, Instances.InstancesAreSeen, Kinds.NamesHaveKinds}
@@ -26,7 +26,7 @@ EachInstanceScopeStands = (instances : List Instance) (count : ℕ) (own : Place
 
 -- Each interface that a well-formed view uses is its own, or that of an instance before it.
 abbrev pub EachUseStandsBefore : Type 0
-EachUseStandsBefore = (instances : List Instance) (count : ℕ) (x : Instance) → ViewStands (IsShownBefore instances count) (place_of x.interface) x.view
+EachUseStandsBefore = (instances : List Instance) (count : ℕ) (x : Instance) → ViewStands (IsShownBefore instances count) (instance_place x.interface) x.view
     → (path : Text) → Contains (used_by_view x.view) path → (x.interface ≡ Some path) ⊎ IsInstanceBefore instances count path
 
 -- Each part at the top is well-formed.

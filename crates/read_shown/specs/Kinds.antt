@@ -1,7 +1,7 @@
 -- Each name is a resource wherever it is met, or nowhere (Explainer.md, "Type Definitions"; WIT.md, "Interfaces: use").
 use Rattle.std.specs.{Prelude.◌≡◌, Prelude.ℕ, Prelude.Bool, Prelude.List, List.AllByRecursion}
 use Rattle.wit_model.specs.{Text.Text, Tree.Place, Meaning.FunctionMeaning}
-use Rattle.comp_meaning.specs.Follow.{Instance, ShownType, Seen, Shown, Scope, place_of}
+use Rattle.comp_meaning.specs.Follow.{Instance, ShownType, Seen, Shown, Scope, instance_place}
 use Rattle.comp_meaning.specs.Reads.{Part, Member}
 use Rattle.read_shown.specs.{Trees.AllAt, Trees.DeclarationStands, Trees.SignatureStands, Scopes.IsShownBefore, Scopes.IsMetInScope, Parts.instances_of}
 use Rattle.read_shown.specs.Views.{named_slot, IsMetInView}
@@ -22,10 +22,11 @@ AreOfKind Met kind = (place : Place) (name : Text) (is_resource : Bool) → Met 
 -- A view behind as many instances of a part: its types are shown, declared and used by their kinds.
 pub record ViewHasKinds (kinds : Text → Text → Bool) (instances : List Instance) (count : ℕ) (x : Instance) : Type 0 where
   pub own : Text → Bool
-  pub shown : AllAt (λ n (t : ShownType). t.slot ≡ named_slot (place_of x.interface) t.name (kind_at kinds own (place_of x.interface) t.name)) x.view.types
-  pub met : (n : ℕ) → AreOfKind (IsMetInView (IsShownBefore instances count) (place_of x.interface) x.view n) (kind_at kinds own)
+  pub shown : AllAt (λ n (t : ShownType). t.slot ≡ named_slot (instance_place x.interface) t.name (kind_at kinds own (instance_place x.interface) t.name))
+      x.view.types
+  pub met : (n : ℕ) → AreOfKind (IsMetInView (IsShownBefore instances count) (instance_place x.interface) x.view n) (kind_at kinds own)
   pub types : AllAt (λ n (t : ShownType). DeclarationStands (OfKind (kind_at kinds own)) t.meaning.declaration
-      (kind_at kinds own (place_of x.interface) t.name)) x.view.types
+      (kind_at kinds own (instance_place x.interface) t.name)) x.view.types
   pub functions : AllAt (λ n (f : Text × FunctionMeaning). SignatureStands (OfKind (kind_at kinds own)) f.1.signature) x.view.functions
 
 -- what an import or an export of this key is

@@ -1,7 +1,7 @@
 -- Parts at the top that are well-formed, by the instances that they show (WIT.md, "Package Format").
 use Rattle.std.specs.Prelude.{◌≡◌, true, List, [], ◌∷◌, ◌++◌, map, Some}
 use Rattle.wit_model.specs.{Text.Text, Names.path_in}
-use Rattle.comp_meaning.specs.{Follow.View, Follow.Instance, Follow.Scope, Follow.place_of, Rules.is_world, Reads.Part, Reads.Member}
+use Rattle.comp_meaning.specs.{Follow.View, Follow.Instance, Follow.Scope, Follow.instance_place, Rules.is_world, Reads.Part, Reads.Member}
 use Rattle.read_shown.specs.{Trees.AllAt, Views.ViewStands, Scopes.IsShownBefore, Scopes.ScopeStands, Instances.InstancesAreSeen}
 
 abbrev pub named_instance : Text × View → Instance
@@ -27,5 +27,5 @@ PartStands (Part.interface exported imports) = Unit
 
 -- each view is well-formed behind those before it, and a world is
 pub record MemberStands (m : Member) : Type 0 where
-  pub views : AllAt (λ n (x : Instance). ViewStands (IsShownBefore (instances_of m) n) (place_of x.interface) x.view) (instances_of m)
+  pub views : AllAt (λ n (x : Instance). ViewStands (IsShownBefore (instances_of m) n) (instance_place x.interface) x.view) (instances_of m)
   pub part : PartStands m.part

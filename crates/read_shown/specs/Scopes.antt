@@ -1,8 +1,8 @@
 -- Scopes of component types that are well-formed: each name that is met was shown before, by an instance or by an import of a type
 -- (Binary.md, "Import and Export Definitions"; WIT.md, "Worlds").
 use Rattle.std.specs.Prelude.{◌≡◌, ◌<◌, ℕ, Bool, true, false, List, length, slice_get, Some}
-use Rattle.wit_model.specs.{Text.Text, Tree.Place, Tree.Tree, Tree.Declaration}
-use Rattle.comp_meaning.specs.Follow.{Slot, Instance, Seen, Shown, Scope, place_of, interface_of}
+use Rattle.wit_model.specs.{Text.Text, Tree.Place, Tree.Tree, Tree.TypeDeclaration}
+use Rattle.comp_meaning.specs.Follow.{Slot, Instance, Seen, Shown, Scope, instance_place, interface_of}
 use Rattle.read_shown.specs.{Trees.AllAt, Trees.DeclarationStands, Trees.SignatureStands, Trees.SlotStands, Views.ShowsName, Views.ViewStands}
 
 -- An instance of the interface of this path shows the name so, among as many instances from the first on.
@@ -25,7 +25,7 @@ pub record IsInstanceBefore (instances : List Instance) (count : ℕ) (path : Te
   pub of_path : shown.interface ≡ Some path
 
 -- An import declares the name so, among as many imports from the first on.
-pub record IsImported (imports : List Seen) (count : ℕ) (name : Text) (declared : Declaration) : Type 0 where
+pub record IsImported (imports : List Seen) (count : ℕ) (name : Text) (declared : TypeDeclaration) : Type 0 where
   pub number : ℕ
   pub below : number < count
   pub seen : Seen
@@ -39,14 +39,14 @@ is_name _ = false
 
 -- The name is declared by one of so many imports, as a resource or as a type of values: another name is of the kind of what it names.
 pub data IsDeclared (instances : List Instance) (imports : List Seen) : ℕ → Text → Bool → Type 0 where
-  a_resource : {count : ℕ} {name : Text} → IsImported imports count name Declaration.resource → IsDeclared instances imports count name true
-  a_value : {count : ℕ} {name : Text} (t : Tree) → is_name t ≡ false → IsImported imports count name (Declaration.type_ t)
+  a_resource : {count : ℕ} {name : Text} → IsImported imports count name TypeDeclaration.resource → IsDeclared instances imports count name true
+  a_value : {count : ℕ} {name : Text} (t : Tree) → is_name t ≡ false → IsImported imports count name (TypeDeclaration.type_ t)
       → IsDeclared instances imports count name false
   own_name : {count : ℕ} {name : Text} {is_resource : Bool} (other : Text)
-      (by : IsImported imports count name (Declaration.type_ (Tree.named Place.here other)))
+      (by : IsImported imports count name (TypeDeclaration.type_ (Tree.named Place.here other)))
       → IsDeclared instances imports by.number other is_resource → IsDeclared instances imports count name is_resource
   name_of_instance : {count : ℕ} {name : Text} {is_resource : Bool} (path other : Text)
-      → IsImported imports count name (Declaration.type_ (Tree.named (Place.of_interface path) other))
+      → IsImported imports count name (TypeDeclaration.type_ (Tree.named (Place.of_interface path) other))
       → IsShownBefore instances (length instances) (Place.of_interface path) other is_resource → IsDeclared instances imports count name is_resource
 
 -- A name that is met in a scope, behind as many of its imports: one of these declares it, or an instance shows it.
@@ -69,7 +69,7 @@ is_type _ = false
 -- What each index stands for, each instance, each import and each export is well-formed. No type is exported.
 pub record ScopeStands (scope : Scope) : Type 0 where
   pub slots : AllAt (λ n (s : Slot). SlotStands (IsMetInScope scope.instances scope.imports (length scope.imports)) s) scope.slots
-  pub instances : AllAt (λ n (x : Instance). ViewStands (IsShownBefore scope.instances n) (place_of x.interface) x.view) scope.instances
+  pub instances : AllAt (λ n (x : Instance). ViewStands (IsShownBefore scope.instances n) (instance_place x.interface) x.view) scope.instances
   pub imports : AllAt (λ n (s : Seen). ShownStands scope.instances scope.imports n s.shown) scope.imports
   pub exports : AllAt (λ n (s : Seen). ShownStands scope.instances scope.imports (length scope.imports) s.shown) scope.exports
   pub no_types : AllAt (λ n (s : Seen). is_type s.shown ≡ false) scope.exports

@@ -63,11 +63,11 @@ module _ (Met : Place → Text → Bool → Type 0) where
   SignatureStands f = AllByRecursion (λ p. TreeStands p.1) f.params × IfSome f.result TreeStands
 
   -- what a name is declared as, where it is a resource, or none: another name is of the kind of what it names
-  abbrev pub DeclarationStands : tree.Declaration → Bool → Type 0
-  DeclarationStands tree.Declaration.resource is_resource = is_resource ≡ true
-  DeclarationStands (tree.Declaration.type_ (Tree.primitive p)) is_resource = is_resource ≡ false
-  DeclarationStands (tree.Declaration.type_ (Tree.named place name)) is_resource = Met place name is_resource
-  DeclarationStands (tree.Declaration.type_ (Tree.node form ts)) is_resource = (is_resource ≡ false) × TreeStands (Tree.node form ts)
+  abbrev pub DeclarationStands : tree.TypeDeclaration → Bool → Type 0
+  DeclarationStands tree.TypeDeclaration.resource is_resource = is_resource ≡ true
+  DeclarationStands (tree.TypeDeclaration.type_ (Tree.primitive p)) is_resource = is_resource ≡ false
+  DeclarationStands (tree.TypeDeclaration.type_ (Tree.named place name)) is_resource = Met place name is_resource
+  DeclarationStands (tree.TypeDeclaration.type_ (Tree.node form ts)) is_resource = (is_resource ≡ false) × TreeStands (Tree.node form ts)
 
   -- what an index stands for
   abbrev pub SlotStands : Slot → Type 0

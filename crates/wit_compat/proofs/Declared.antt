@@ -5,7 +5,7 @@ use Rattle.std.specs.declared.alloc.{Global.Global, AllocError.AllocError}
 use Rattle.std.specs.List.{Contains}
 use Rattle.wit_model.specs.declared.model.{Resolve.Resolve, TypeDef.TypeDef, TypeId.TypeId, TypeDefKind.TypeDefKind, «Type».«Type» as ValueType}
 use Rattle.wit_model.specs.{Lookup.type_at, Text.optional_text, Valid.IsValid, Valid.named_kinds, Meant.type_meaning_at, Rules.is_named_number, Rules.passes, Rules.is_resource_itself}
-use Rattle.wit_model.specs.Tree.{Tree, Form, Declaration, type_, resource, primitive, named, node, children, child_list}
+use Rattle.wit_model.specs.Tree.{Tree, Form, TypeDeclaration, type_, resource, primitive, named, node, children, child_list}
 use Rattle.wit_model.specs.Types.{number_of, type_tree, tree_of, trees_of, no_tree, declared_by, tree_of_declaration}
 use Rattle.wit_model.proofs.{Entries.each_from_at, Entries.lists_pass, TreeTable.kept_numbers, TreeLemmas.child_list_of_children as children_back}
 use Rattle.compat_meaning.specs.declared.look.Look.{Look}
@@ -25,7 +25,7 @@ true_false e = let wrong : ⊥ = cc in absurd wrong
 -- ---- what a declaration is
 
 -- whether it is something of its own, and not another name
-abbrev is_own : Declaration → Bool
+abbrev is_own : TypeDeclaration → Bool
 is_own resource = true
 is_own (type_ (primitive p)) = false
 is_own (type_ (named place name)) = false

@@ -6,7 +6,7 @@ use Rattle.std.specs.List.{Contains}
 use Rattle.wit_model.specs.declared.{model.Resolve.Resolve, error.Error.Error}
 use Rattle.compat_meaning.specs.declared.part.Entry.{Entry}
 use Rattle.compat_meaning.specs.Compatible.{IsFault, is_missing, is_other, missing, differs, spelled_name, IsMemoryOr, IsEntryFault, IsFaultOf, IsIncluded}
-use Rattle.compat_meaning.specs.Flat.{Name, Thing, Shown, all_shown, find_named, shown}
+use Rattle.compat_meaning.specs.Flat.{FlatName, Thing, FlatShown, all_shown, find_named, shown}
 use Rattle.compat_meaning.specs.{Parts.named_thing, Parts.thing_of, Walk.Pair, Walk.pairs_of_entry, Walk.pairs_shared, Table.AreAmong, Table.AreReached}
 use Rattle.compat_meaning.proofs.{Either.flat_from}
 use Rattle.wit_compat.proofs.{Settling.reached_join}
@@ -18,40 +18,41 @@ use Rattle.base_lemmas.proofs.{Elements.contains-map as contains_mapped, Element
 chosen : {X Y : Type 0} (f : X → Y) (b : Bool) (x : X) (o : Option X) → option_map f (cond b (Some x) o) ≡ cond b (Some (f x)) (option_map f o)
 chosen f x y o = search std_rules
 
-pub found_shown : (r : Resolve) (name : Name) (xs : List (Name × Thing)) → find_named name (all_shown r xs) ≡ option_map (shown r) (find_named name xs)
+pub found_shown : (r : Resolve) (name : FlatName) (xs : List (FlatName × Thing)) → find_named name (all_shown r xs) ≡ option_map (shown r) (find_named name xs)
 found_shown r name [] = refl
 found_shown r name (x ∷ xs) = search (std_rules, chosen, found_shown r name xs)
 
 -- ---- what is wrong with an entry
 
-pub entry_missing : (large : List (Name × Shown)) (x : Name × Shown) (e : Error) → find_named x.0 large ≡ None → IsMemoryOr (missing (spelled_name x.0)) e → IsEntryFault large x e
+pub entry_missing : (large : List (FlatName × FlatShown)) (x : FlatName × FlatShown) (e : Error) → find_named x.0 large ≡ None → IsMemoryOr (missing (spelled_name x.0)) e → IsEntryFault large x e
 entry_missing large x e none (inl m) = inl m
 entry_missing large x e none (inr q) = inr (missing (spelled_name x.0), q, subst (λ o. IsFault x.0 x.1 o (missing (spelled_name x.0))) (sym none) is_missing)
 
-pub entry_differs : (large : List (Name × Shown)) (x : Name × Shown) (o : Shown) (e : Error) → find_named x.0 large ≡ Some o → (o ≡ x.1 → ⊥) → IsMemoryOr (differs (spelled_name x.0)) e
+pub entry_differs : (large : List (FlatName × FlatShown)) (x : FlatName × FlatShown) (o : FlatShown) (e : Error) → find_named x.0 large ≡ Some o → (o ≡ x.1 → ⊥)
+    → IsMemoryOr (differs (spelled_name x.0)) e
     → IsEntryFault large x e
 entry_differs large x o e found other (inl m) = inl m
 entry_differs large x o e found other (inr q) = inr (differs (spelled_name x.0), q, subst (λ p. IsFault x.0 x.1 p (differs (spelled_name x.0))) (sym found) (is_other o other))
 
 -- ---- a list of entries
 
-abbrev pub shown_entry : Resolve → Entry → Name × Shown
+abbrev pub shown_entry : Resolve → Entry → FlatName × FlatShown
 shown_entry r e = ((named_thing e).0, shown r (thing_of e.part))
 
 shown_all : (r : Resolve) (es : List Entry) → all_shown r (map named_thing es) ≡ map (shown_entry r) es
-shown_all r es = map_of_map (λ (x : Name × Thing). (x.0, shown r x.1)) named_thing es
+shown_all r es = map_of_map (λ (x : FlatName × Thing). (x.0, shown r x.1)) named_thing es
 
 -- each entry stands in the large list, and the pairs of the two stand in the table
-abbrev pub Stands : Resolve → Bool → List (Name × Thing) → List Pair → Entry → Type 0
+abbrev pub Stands : Resolve → Bool → List (FlatName × Thing) → List Pair → Entry → Type 0
 Stands r back large keys e = (find_named (named_thing e).0 (all_shown r large) ≡ Some (shown r (thing_of e.part))) × AreAmong (pairs_of_entry r back large (named_thing e)) keys
 
-abbrev pub AllStand : Resolve → Bool → List (Name × Thing) → List Pair → List Entry → Type 0
+abbrev pub AllStand : Resolve → Bool → List (FlatName × Thing) → List Pair → List Entry → Type 0
 AllStand r back large keys es = (e : Entry) → Contains es e → Stands r back large keys e
 
 split_at : {X : Type 0} (xs : List X) (i : ℕ) (x : X) → i < length xs → x ≡ get_or xs i x → xs ≡ take i xs ++ x ∷ drop (i + 1) xs
 split_at xs i x lt is = sym (take-append-drop i xs) ∙ ap (λ ys. take i xs ++ ys) (drop_more xs i x lt ∙ ap (λ y. y ∷ drop (i + 1) xs) (sym is))
 
-module _ (r : Resolve) (back : Bool) (large : List (Name × Thing)) where
+module _ (r : Resolve) (back : Bool) (large : List (FlatName × Thing)) where
   pub all_included : (keys : List Pair) (es : List Entry) → AllStand r back large keys es → IsIncluded (all_shown r (map named_thing es)) (all_shown r large)
   all_included keys es h x c = search (std_rules, contains_map (shown_entry r) es x (subst (λ xs. Contains xs x) (shown_all r es) c), shown_all r es)
 

@@ -6,7 +6,7 @@ use Rattle.base_lemmas.proofs.Elements.{contains-later, first-contained, last_of
 use Rattle.std.specs.{Borrow.Bor, List.Contains, Map.lookup, Option.is_none, Option.option_copied}
 use Rattle.wit_model.specs.Text.{text_eq}
 use Rattle.compat_meaning.specs.declared.part.Entry.{Entry}
-use Rattle.compat_meaning.specs.{Flat.Name, Flat.Thing, Flat.find_named, Flat.same_name, Parts.thing_of, Parts.named_thing, Numbered.AllNumbersTell}
+use Rattle.compat_meaning.specs.{Flat.FlatName, Flat.Thing, Flat.find_named, Flat.same_name, Parts.thing_of, Parts.named_thing, Numbered.AllNumbersTell}
 use Rattle.wit_compat.specs.Index.{NumberedName, indexed, AllToldFrom, ComeFrom, Indexes, IsToldFrom}
 
 abbrev thing_in : Entry → Thing
@@ -37,7 +37,7 @@ or_last None b x = cond b (Some x) None
 cond_last : {X : Type 0} (b c : Bool) (y x : X) (o : Option X) (f : Option X) → f ≡ or_last o c x → cond b (Some y) f ≡ or_last (cond b (Some y) o) c x
 cond_last x c y z o f h = search std_rules
 
-find_last : {X : Type 0} (q : Name) (es : List (Name × X)) (e : Name × X) → find_named q (es ++ e ∷ []) ≡ or_last (find_named q es) (same_name q e.0) e.1
+find_last : {X : Type 0} (q : FlatName) (es : List (FlatName × X)) (e : FlatName × X) → find_named q (es ++ e ∷ []) ≡ or_last (find_named q es) (same_name q e.0) e.1
 find_last q [] e = refl
 find_last q (d ∷ ds) e = cond_last (same_name q d.0) (same_name q e.0) d.1 e.1 (find_named q ds) (find_named q (ds ++ e ∷ [])) (find_last q ds e)
 
@@ -45,11 +45,11 @@ indexed-push : (es : List (NumberedName × Entry)) (e : NumberedName × Entry) �
 indexed-push [] e = refl
 indexed-push (d ∷ ds) e = ap (λ xs. ((d.1.key.text.now, d.0.1.now), thing_of d.1.part) ∷ xs) (indexed-push ds e)
 
-pub same_name_is : (a b : Name) → same_name a b ≡ true → a ≡ b
+pub same_name_is : (a b : FlatName) → same_name a b ≡ true → a ≡ b
 same_name_is a b h = search std_rules
 
 -- a name that is there already stays as it is
-stays : {X : Type 0} (q : Name) (es : List (Name × X)) (n : Name) (y x : X) → find_named n es ≡ Some y → or_last (find_named q es) (same_name q n) x ≡ find_named q es
+stays : {X : Type 0} (q : FlatName) (es : List (FlatName × X)) (n : FlatName) (y x : X) → find_named n es ≡ Some y → or_last (find_named q es) (same_name q n) x ≡ find_named q es
 stays q es n y x h = search std_rules
 
 module _ (es : List Entry) (i : ℕ) (e : Entry) (old : List (NumberedName × Entry)) (lt : i < length es) (is : e ≡ get_or es i e) (h : Indexes old (map named_thing (take i es))) where

@@ -11,7 +11,7 @@ use Rattle.wit_model.specs.Valid.{IsValid, as_interface, functions_of_interface,
 use Rattle.wit_model.proofs.Entries.{each_from_all, each_from_at, lists_pass, none_breaks}
 use Rattle.wit_model.proofs.Listings.{interface_fits, misnamed_in_interface_breaks}
 use Rattle.compat_meaning.specs.{Compatible.Accepts, Compatible.HasKeysOnce, Compatible.IsIncluded, Compatible.bare_keys, Opened.bare_key}
-use Rattle.compat_meaning.specs.Flat.{Name, Shown, Thing, interface, of_type, of_function, entry_things, find_named, flat, function_member, members, same_name, shown, things_of, type_member}
+use Rattle.compat_meaning.specs.Flat.{FlatName, FlatShown, Thing, interface, of_type, of_function, entry_things, find_named, flat_form, function_member, members, same_name, shown, things_of, type_member}
 use Rattle.compat_meaning.proofs.{Keyed.item_key, Keyed.of_members, Validity.interface_numbers}
 use Rattle.wit_compat.proofs.{Including.found_shown, Indexing.same_name_is}
 use Rattle.compat_meaning.proofs.Either.{flat_from, of_first, of_two}
@@ -22,24 +22,24 @@ use Rattle.wit_model.specs.declared.model.«Type».TheVariants as ty
 
 -- ---- names that are all different
 
-abbrev AreApart : {X : Type 0} → List (Name × X) → Type 0
+abbrev AreApart : {X : Type 0} → List (FlatName × X) → Type 0
 AreApart [] = Unit {0}
-AreApart {X} (x ∷ xs) = ((y : Name × X) → Contains xs y → x.0 ≡ y.0 → ⊥) × AreApart xs
+AreApart {X} (x ∷ xs) = ((y : FlatName × X) → Contains xs y → x.0 ≡ y.0 → ⊥) × AreApart xs
 
-same_itself : (n : Name) → same_name n n ≡ true
+same_itself : (n : FlatName) → same_name n n ≡ true
 same_itself n = λ i. nat_list_eq_equiv.refl n.0 i && nat_list_eq_equiv.refl n.1 i
 
 -- under its name each stands
-stands_once : {X : Type 0} (xs : List (Name × X)) → AreApart xs → (e : Name × X) → Contains xs e → find_named e.0 xs ≡ Some e.1
+stands_once : {X : Type 0} (xs : List (FlatName × X)) → AreApart xs → (e : FlatName × X) → Contains xs e → find_named e.0 xs ≡ Some e.1
 stands_once [] h e c = absurd (none_contained e c)
-stands_once {X} (x ∷ xs) h e c = of_first x xs e (λ q. subst (λ (z : Name × X). find_named z.0 (x ∷ xs) ≡ Some z.1) q (ap (λ b. cond b (Some x.1) (find_named x.0 xs)) (same_itself x.0)))
+stands_once {X} (x ∷ xs) h e c = of_first x xs e (λ q. subst (λ (z : FlatName × X). find_named z.0 (x ∷ xs) ≡ Some z.1) q (ap (λ b. cond b (Some x.1) (find_named x.0 xs)) (same_itself x.0)))
     (λ d. by d (stands_once xs h.1 e d) (same_name e.0 x.0) refl) c
   where
     by : Contains xs e → find_named e.0 xs ≡ Some e.1 → (b : Bool) → same_name e.0 x.0 ≡ b → cond b (Some x.1) (find_named e.0 xs) ≡ Some e.1
     by d later true s = absurd (h.0 e d (sym (same_name_is e.0 x.0 s)))
     by d later false s = later
 
-apart_two : {X : Type 0} (xs ys : List (Name × X)) → AreApart xs → AreApart ys → ((x y : Name × X) → Contains xs x → Contains ys y → x.0 ≡ y.0 → ⊥) → AreApart (xs ++ ys)
+apart_two : {X : Type 0} (xs ys : List (FlatName × X)) → AreApart xs → AreApart ys → ((x y : FlatName × X) → Contains xs x → Contains ys y → x.0 ≡ y.0 → ⊥) → AreApart (xs ++ ys)
 apart_two [] ys h k other = k
 apart_two (x ∷ xs) ys h k other = (λ y c e. of_two xs ys y (λ d. h.0 y d e) (λ d. other x y (first-contained x xs) d e) c, apart_two xs ys h.1 k (λ a b c d. other a b (contains-later x xs a c) d))
 
@@ -49,11 +49,11 @@ each_one : {X Y : Type 0} (p : Y → Type 0) (f : X → Y) (xs : List X) → All
 each_one p f xs h x c = all_at p (map f xs) h (f x) (contains_mapped f xs x c)
 
 module _ {V : Type 0} (k : Text) (of : V → Thing) where
-  abbrev member : String Global × V → Name × Thing
+  abbrev member : String Global × V → FlatName × Thing
   member e = ((k, text_of e.0), of e.1)
 
   -- the name in the interface
-  abbrev inner : Name × Thing → Text
+  abbrev inner : FlatName × Thing → Text
   inner x = x.0.1
 
   members_apart : (es : List (String Global × V)) → IsDistinct string_eq (map (λ e. e.0) es) → AreApart (map member es)
@@ -61,10 +61,10 @@ module _ {V : Type 0} (k : Text) (of : V → Thing) where
   members_apart [] d = tt
   members_apart (e ∷ es) d = (first, members_apart es d.1)
     where
-      first : (y : Name × Thing) → Contains (map member es) y → (k, text_of e.0) ≡ y.0 → ⊥
+      first : (y : FlatName × Thing) → Contains (map member es) y → (k, text_of e.0) ≡ y.0 → ⊥
       first y c q =
           let w = contains_map member es y c in
-          let texts : text_of e.0 ≡ text_of w.0.0 = ap (λ (n : Name). n.1) q ∙ sym (ap inner w.2) in
+          let texts : text_of e.0 ≡ text_of w.0.0 = ap (λ (n : FlatName). n.1) q ∙ sym (ap inner w.2) in
           let differ : text_eq (text_of e.0) (text_of w.0.0) ≡ false = each_one (λ s. string_eq e.0 s ≡ false) (λ (x : String Global × V). x.0) es d.0 w.0 w.1 in
           let same : text_eq (text_of e.0) (text_of w.0.0) ≡ true = (bytes_eq-Decides (text_of e.0) (text_of w.0.0)).1 texts in
           let wrong : true ≡ false = sym same ∙ differ in
@@ -136,11 +136,11 @@ module _ (r : Resolve) (v : IsValid r) where
         (are_member_labels (map (λ p. text_of p.name) e.1.params.items) && is_stability e.1.stability) label) (sym ((bytes_eq-Decides (text_of e.0) (text_of e.1.name)).0 same) ∙ q)
 
     module _ (k : Text) where
-      types_and_functions : (x y : Name × Thing) → Contains (map (type_member k) i.types.entries) x → Contains (map (function_member k) i.functions.entries) y → x.0 ≡ y.0 → ⊥
+      types_and_functions : (x y : FlatName × Thing) → Contains (map (type_member k) i.types.entries) x → Contains (map (function_member k) i.functions.entries) y → x.0 ≡ y.0 → ⊥
       types_and_functions x y c d q =
           let a = contains_map (type_member k) i.types.entries x c in
           let b = contains_map (function_member k) i.functions.entries y d in
-          let texts : text_of a.0.0 ≡ text_of b.0.0 = ap (λ (z : Name × Thing). z.0.1) a.2 ∙ ap (λ (m : Name). m.1) q ∙ sym (ap (λ (z : Name × Thing). z.0.1) b.2) in
+          let texts : text_of a.0.0 ≡ text_of b.0.0 = ap (λ (z : FlatName × Thing). z.0.1) a.2 ∙ ap (λ (m : FlatName). m.1) q ∙ sym (ap (λ (z : FlatName × Thing). z.0.1) b.2) in
           let none = all_contained (λ name. not (list_any (λ other. text_eq (text_of name) (text_of other)) (keys i.functions))) (keys i.types) a.0.0 labelled.1
           (contains_mapped (λ (z : String Global × TypeId). z.0) i.types.entries a.0 a.1) in
           let wrong : false ≡ true = ap not (sym (any_contained (λ other. text_eq (text_of a.0.0) (text_of other)) (keys i.functions) b.0.0
@@ -152,19 +152,19 @@ module _ (r : Resolve) (v : IsValid r) where
           (members_apart k (λ (id : TypeId). of_type (ty.Id id)) i.types.entries (v.distinct_keys.interfaces n i at).0)
           (members_apart k of_function i.functions.entries (v.distinct_keys.interfaces n i at).1) types_and_functions
 
-      members_not_empty : (y : Name × Thing) → Contains (members k i) y → (k, []) ≡ y.0 → ⊥
-      members_not_empty y c q = of_members (λ z. z.0.1 ≡ [] → ⊥) k i type_not_empty function_key_not_empty y c (sym (ap (λ (m : Name). m.1) q))
+      members_not_empty : (y : FlatName × Thing) → Contains (members k i) y → (k, []) ≡ y.0 → ⊥
+      members_not_empty y c q = of_members (λ z. z.0.1 ≡ [] → ⊥) k i type_not_empty function_key_not_empty y c (sym (ap (λ (m : FlatName). m.1) q))
 
   -- ---- what an item shows
 
-  one_apart : (x : Name × Thing) → AreApart (x ∷ [])
+  one_apart : (x : FlatName × Thing) → AreApart (x ∷ [])
   one_apart x = ((λ y c e. none_contained y c), tt)
 
   optional_apart : (k : Text) (n : ℕ) (o : Option Interface) → interface_at r n ≡ o → AreApart (((k, []), interface) ∷ option_map_or (members k) o [])
   optional_apart k n None at = one_apart ((k, []), interface)
   optional_apart k n (Some i) at = (members_not_empty n i at k, interface_members_apart n i at k)
 
-  entry_key : (es : List (WorldKey × WorldItem)) (x : Name × Thing) → Contains (things_of r es) x → (e : WorldKey × WorldItem) × Contains es e × (x.0.0 ≡ bare_key r e.0)
+  entry_key : (es : List (WorldKey × WorldItem)) (x : FlatName × Thing) → Contains (things_of r es) x → (e : WorldKey × WorldItem) × Contains es e × (x.0.0 ≡ bare_key r e.0)
   entry_key es x c = let w = flat_from (entry_things r) es x c in (w.0, w.1, item_key r (bare_key r w.0.0) w.0.1 x w.2)
 
   -- ---- what a world shows
@@ -174,18 +174,18 @@ module _ (r : Resolve) (v : IsValid r) where
   things_apart [] d = tt
   things_apart (e ∷ es) d = apart_two (entry_things r e) (things_of r es) (search (std_rules, one_apart, optional_apart)) (things_apart es d.1) across
     where
-      across : (x y : Name × Thing) → Contains (entry_things r e) x → Contains (things_of r es) y → x.0 ≡ y.0 → ⊥
+      across : (x y : FlatName × Thing) → Contains (entry_things r e) x → Contains (things_of r es) y → x.0 ≡ y.0 → ⊥
       across x y a b q =
           let w = entry_key es y b in
-          let texts : bare_key r e.0 ≡ bare_key r w.0.0 = sym (item_key r (bare_key r e.0) e.1 x a) ∙ ap (λ (m : Name). m.0) q ∙ w.2 in
+          let texts : bare_key r e.0 ≡ bare_key r w.0.0 = sym (item_key r (bare_key r e.0) e.1 x a) ∙ ap (λ (m : FlatName). m.0) q ∙ w.2 in
           let differ : text_eq (bare_key r e.0) (bare_key r w.0.0) ≡ false = each_one (λ t. text_eq (bare_key r e.0) t ≡ false) (λ (z : WorldKey × WorldItem). bare_key r z.0) es d.0 w.0 w.1 in
           let wrong : true ≡ false = sym ((bytes_eq-Decides (bare_key r e.0) (bare_key r w.0.0)).1 texts) ∙ differ in
           cc
 
-  included_in_itself : (es : List (WorldKey × WorldItem)) → IsDistinct text_eq (bare_keys r es) → IsIncluded (flat r es) (flat r es)
+  included_in_itself : (es : List (WorldKey × WorldItem)) → IsDistinct text_eq (bare_keys r es) → IsIncluded (flat_form r es) (flat_form r es)
   included_in_itself es d e c =
-      let w = contains_map (λ (x : Name × Thing). (x.0, shown r x.1)) (things_of r es) e c in
-      subst (λ (x : Name × Shown). find_named x.0 (flat r es) ≡ Some x.1) w.2
+      let w = contains_map (λ (x : FlatName × Thing). (x.0, shown r x.1)) (things_of r es) e c in
+      subst (λ (x : FlatName × FlatShown). find_named x.0 (flat_form r es) ≡ Some x.1) w.2
       (found_shown r w.0.0 (things_of r es) ∙ ap (option_map (shown r)) (stands_once (things_of r es) (things_apart es d) w.0 w.1))
 
   pub accepts_itself : (w : World) → HasKeysOnce r w → Accepts r w w

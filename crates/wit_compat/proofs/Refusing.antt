@@ -5,16 +5,16 @@ use Rattle.base_lemmas.proofs.Elements.{first-contained}
 use Rattle.std.specs.List.{Contains}
 use Rattle.wit_model.specs.declared.{model.Resolve.Resolve, model.World.World, error.Error.Error}
 use Rattle.compat_meaning.specs.Compatible.{Accepts, IsFault, is_missing, is_other, IsFirstFault, IsIncluded, IsMismatch, IsRefused, memory, refused, IsRepeated, Refusal, Refuses, package_name, packages, keys, imports, exports, HasKeysOnce, keys_of_world}
-use Rattle.compat_meaning.specs.Flat.{Name, Shown, find_named}
+use Rattle.compat_meaning.specs.Flat.{FlatName, FlatShown, find_named}
 use Rattle.compat_meaning.proofs.Repeating.{both_once, repeated_excludes}
 
-no_fault : (name : Name) (s : Shown) (o : Option Shown) (f : Refusal) → IsFault name s o f → o ≡ Some s → ⊥
+no_fault : (name : FlatName) (s : FlatShown) (o : Option FlatShown) (f : Refusal) → IsFault name s o f → o ≡ Some s → ⊥
 no_fault name s _ _ is_missing e = let z : ⊥ = cc in z
 no_fault name s _ _ (is_other o other) e = other (ap (λ p. unwrap_or p s) e)
 
-fault_excludes : (small large : List (Name × Shown)) (f : Refusal) → IsFirstFault small large f → IsIncluded small large → ⊥
+fault_excludes : (small large : List (FlatName × FlatShown)) (f : Refusal) → IsFirstFault small large f → IsIncluded small large → ⊥
 fault_excludes small large f w i = no_fault w.entry.0 w.entry.1 (find_named w.entry.0 large) f w.wrong
-    (i w.entry (subst (λ (xs : List (Name × Shown)). Contains xs w.entry) (sym w.split) (Contains-append_right w.front (w.entry ∷ w.rest) w.entry (first-contained w.entry w.rest))))
+    (i w.entry (subst (λ (xs : List (FlatName × FlatShown)). Contains xs w.entry) (sym w.split) (Contains-append_right w.front (w.entry ∷ w.rest) w.entry (first-contained w.entry w.rest))))
 
 pub refused_not_accepted : (r : Resolve) (a b : World) (f : Refusal) → Refuses r a b f → Accepts r a b → ⊥
 refused_not_accepted r a b _ (packages other) h = other h.comparable.packages

@@ -2,7 +2,7 @@
 
 ghost use Rattle.std.specs.Prelude.{◌≡◌, ◌++◌, ◌≤◌, true, length, map, IfOk, OnOk, IfErr};
 ghost use Rattle.wit_model.specs.{Rules.entries_in_range, Valid.IsValid};
-ghost use Rattle.compat_meaning.specs.{Compatible.IsFaultOf, Compatible.IsIncluded, Flat.flat, Flat.things_of, Table.AreAmong, Table.AreReached, Table.IsSettled, Outline.AreNames, Parts.named_thing, Walk.heads_of, Walk.pairs_shared};
+ghost use Rattle.compat_meaning.specs.{Compatible.IsFaultOf, Compatible.IsIncluded, Flat.flat_form, Flat.things_of, Table.AreAmong, Table.AreReached, Table.IsSettled, Outline.AreNames, Parts.named_thing, Walk.heads_of, Walk.pairs_shared};
 ghost use Rattle.wit_compat.specs.Index.{AllToldFrom, Indexes};
 
 use crate::included::included;
@@ -59,8 +59,8 @@ pub(crate) fn compare_sides(
     requires small { entries_in_range resolve.now small.now.entries ≡ true }
     requires large { entries_in_range resolve.now large.now.entries ≡ true }
     requires settled { IsSettled resolve.now pairs.old.keys steps.old.count }
-    ensures includes { OnOk result (IsIncluded (flat resolve.now small.now.entries) (flat resolve.now large.now.entries)) }
-    ensures refuses { IfErr result (λ e. IsFaultOf (flat resolve.now small.now.entries) (flat resolve.now large.now.entries) e) }
+    ensures includes { OnOk result (IsIncluded (flat_form resolve.now small.now.entries) (flat_form resolve.now large.now.entries)) }
+    ensures refuses { IfErr result (λ e. IsFaultOf (flat_form resolve.now small.now.entries) (flat_form resolve.now large.now.entries) e) }
     ensures settled { OnOk result (IsSettled resolve.now pairs.new.keys steps.new.count) }
     ensures holds { OnOk result (AreAmong (pairs_shared resolve.now back (things_of resolve.now small.now.entries) (things_of resolve.now large.now.entries))
         pairs.new.keys) }

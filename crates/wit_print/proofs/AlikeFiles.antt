@@ -14,7 +14,7 @@ use Rattle.print_grammar.specs.{Tree.PathTree.Local, Tree.ExternTree.Path, Tree.
 use Rattle.print_grammar.specs.{Tree.MemberTree.UseMember, Tree.MemberTree.TypeMember, Tree.MemberTree.FunctionMember, Tree.ItemTree.InterfaceItem, Tree.ItemTree.WorldItem}
 use Rattle.print_grammar.specs.Tree.WorldMember.{WorldUse, WorldType, WorldImport, WorldExport}
 use Rattle.print_grammar.specs.AsRead.{bare_prefix, bare_signature, bare_declared, bare_member, bare_extern, bare_world_member, bare_item, bare_package, bare_file}
-use Rattle.print_items.specs.Shown.{shown_docs, shown_prefix, shown_gates, full_path, path_from, shown_path, own_name, used_of, grouped, Listed, shown_uses, DeclaredWith, shown_declared, declared_with, shown_declarations, path_from_owner, listed_types, listed_functions, shown_function, shown_interface, shown_extern, extern_prefix, Entry, shown_import, shown_export, is_interface_item, is_freestanding_item, type_of_entry, listed_imports, imported_functions, shown_world_in, shown_world, shown_interface_item, shown_world_item, shown_package_of, no_package, shown_package, shown_file}
+use Rattle.print_items.specs.Shown.{shown_docs, shown_prefix, shown_gates, full_path, path_from, shown_path, own_name, used_of, grouped, Listed, shown_uses, DeclaredWith, shown_declared, declared_with, shown_declarations, path_from_owner, listed_types, listed_functions, shown_function, shown_interface, shown_extern, extern_prefix, WorldEntry, shown_import, shown_export, is_interface_item, is_freestanding_item, type_of_entry, listed_imports, imported_functions, shown_world_in, shown_world, shown_interface_item, shown_world_item, shown_package_of, no_package, shown_package, shown_file}
 use Rattle.wit_print.proofs.AlikeTypes.{same, Both, at_both, or_alike, then_alike, map_alike, bare_map_alike, filter_alike, name_alike, external_id_alike, gates_alike, types_at, signature_alike, function_prefix_alike, declared_alike}
 use Rattle.wit_print.proofs.UndocumentedCalls.{undocumented_calls}
 use Rattle.base_lemmas.proofs.Lists.{append_of_map as map_joined}
@@ -73,7 +73,7 @@ listed_alike k l x y (labels q) (interface_items g e) = refl
 listed_alike k l x y (labels q) (function_items h) = refl
 listed_alike k l x y (labels q) (type_items {id = id}) = λ i. Some (record { name = q i; id = id })
 
-imported_alike : (es fs : List Entry) → AllZip AlikeWorldEntries es fs → AllZip AlikeFunctions (filter_map (λ e. item_function e.1) es) (filter_map (λ e. item_function e.1) fs)
+imported_alike : (es fs : List WorldEntry) → AllZip AlikeWorldEntries es fs → AllZip AlikeFunctions (filter_map (λ e. item_function e.1) es) (filter_map (λ e. item_function e.1) fs)
 imported_alike [] [] h = tt
 imported_alike [] (f ∷ fs) h = absurd h
 imported_alike (e ∷ es) [] h = absurd h
@@ -265,10 +265,10 @@ module _ (a b : Resolve) (alike : DifferInDocumentation a b) where
   prefix_alike k l (item.Function f) (item.Function g) (function_items h) = function_prefix_alike a b alike f g h
   prefix_alike k l x y type_items = refl
 
-  import_alike : (here : PackageId) (d e : Entry) → AlikeWorldEntries d e → bare_world_member same (shown_import a here d) ≡ bare_world_member same (shown_import b here e)
+  import_alike : (here : PackageId) (d e : WorldEntry) → AlikeWorldEntries d e → bare_world_member same (shown_import a here d) ≡ bare_world_member same (shown_import b here e)
   import_alike here d e h = λ i. WorldImport (prefix_alike d.0 e.0 d.1 e.1 h.1 i) (extern_alike here d.0 e.0 d.1 e.1 h.0 h.1 i)
 
-  export_alike : (here : PackageId) (d e : Entry) → AlikeWorldEntries d e → bare_world_member same (shown_export a here d) ≡ bare_world_member same (shown_export b here e)
+  export_alike : (here : PackageId) (d e : WorldEntry) → AlikeWorldEntries d e → bare_world_member same (shown_export a here d) ≡ bare_world_member same (shown_export b here e)
   export_alike here d e h = λ i. WorldExport (prefix_alike d.0 e.0 d.1 e.1 h.1 i) (extern_alike here d.0 e.0 d.1 e.1 h.0 h.1 i)
 
   -- ---- worlds
@@ -291,7 +291,7 @@ module _ (a b : Resolve) (alike : DifferInDocumentation a b) where
       (imports (λ e. is_freestanding_item e.1) (λ d e k. freestanding_item_alike d.1 e.1 k.1)))
       (bare_map_alike AlikeWorldEntries (bare_world_member same) (shown_export a here) (shown_export b here) (export_alike here) x.exports.entries y.exports.entries h.exports)
     where
-      imports : (p : Entry → Bool) → ((d e : Entry) → AlikeWorldEntries d e → p d ≡ p e)
+      imports : (p : WorldEntry → Bool) → ((d e : WorldEntry) → AlikeWorldEntries d e → p d ≡ p e)
           → map (bare_world_member same) (map (shown_import a here) (filter p x.imports.entries)) ≡ map (bare_world_member same) (map (shown_import b here) (filter p y.imports.entries))
       imports p each = bare_map_alike AlikeWorldEntries (bare_world_member same) (shown_import a here) (shown_import b here) (import_alike here) (filter p x.imports.entries)
           (filter p y.imports.entries) (filter_alike AlikeWorldEntries p each x.imports.entries y.imports.entries h.imports)

@@ -11,7 +11,7 @@ use Rattle.wit_print.specs.Documentation.AlikeKinds.{records, resources, handles
 use Rattle.print_grammar.specs.{Tree.TypeTree, Tree.Gates.Since, Tree.Gates.Unstable, Tree.TypeTree.TupleOf}
 use Rattle.print_grammar.specs.Tree.Declared.{RecordOf, VariantOf, FlagsOf, EnumOf, AliasOf, ResourceOf}
 use Rattle.print_grammar.specs.AsRead.{bare_prefix, bare_field, bare_case, bare_label, bare_resource_member, bare_declared}
-use Rattle.print_items.specs.Shown.{present_name, shown_gates, shown_external_id, type_name, used_type, used_types, result_tree, kind_tree, def_tree, trees_from, type_trees, shown_type, shown_field, shown_case, shown_flag, shown_enum_case, belongs_to, shown_param, shown_params, shown_signature, constructor_result, function_prefix, shown_resource_member, shown_declared}
+use Rattle.print_items.specs.Shown.{present_name, shown_gates, shown_external_id, type_name, used_type, used_type_trees, result_type_tree, kind_tree, def_tree, trees_from, type_trees, shown_type, shown_field, shown_case, shown_flag, shown_enum_case, belongs_to, shown_param, shown_params, shown_signature, constructor_result, function_prefix, shown_resource_member, shown_declared}
 use Rattle.wit_model.specs.declared.model.TypeDefKind.TheVariants as defined
 use Rattle.wit_model.specs.declared.model.Handle.TheVariants as handle
 use Rattle.wit_model.specs.declared.model.«Type».TheVariants as value
@@ -95,8 +95,8 @@ module _ (a b : Resolve) (alike : DifferInDocumentation a b) where
   kind_alike : (trees : List TypeTree) (k l : TypeDefKind) → AlikeKinds k l → kind_tree a trees k ≡ kind_tree b trees l
   kind_alike trees k l (handles {h = handle.Own id}) = ap TypeTree.Handle (type_name_alike id)
   kind_alike trees k l (handles {h = handle.Borrow id}) = ap TypeTree.Borrow (type_name_alike id)
-  kind_alike trees k l (tuples h) = ap (λ types. TupleOf (used_types trees types)) h
-  kind_alike trees k l (results h g) = λ i. result_tree (option_map (used_type trees) (h i)) (option_map (used_type trees) (g i))
+  kind_alike trees k l (tuples h) = ap (λ types. TupleOf (used_type_trees trees types)) h
+  kind_alike trees k l (results h g) = λ i. result_type_tree (option_map (used_type trees) (h i)) (option_map (used_type trees) (g i))
   kind_alike trees k l _ = refl
 
   def_alike : (trees : List TypeTree) (d e : TypeDef) → AlikeTypes d e → def_tree a trees d ≡ def_tree b trees e

@@ -3,7 +3,7 @@ use Rattle.std.specs.Prelude.{◌≡◌, ◌<◌, Bool, false, true, List, lengt
 use Rattle.std.specs.List.{list_all}
 use Rattle.wit_model.specs.{Rules.in_list, Valid.IsValid}
 use Rattle.wit_model.specs.declared.model.{PackageId.PackageId, Resolve.Resolve}
-use Rattle.print_output.specs.{OutputCall.Moves, OutputCall.View, Render.Written, Render.blank, Render.render, Render.writes}
+use Rattle.print_output.specs.{OutputCall.Moves, OutputCall.OutputView, Render.Written, Render.blank, Render.render, Render.writes}
 use Rattle.print_grammar.specs.{AsRead.file_as_read, Calls.file_calls, Reading.IsOnlyReading, Tree.FileTree}
 use Rattle.print_items.specs.Shown.{shown_file}
 
@@ -23,7 +23,8 @@ FileReads emits_docs file = IsOnlyReading (render (file_calls emits_docs file)) 
 
 -- so is the text of an output that kept it from the start
 abbrev pub KeptTextReads : Bool → FileTree → Type 0
-KeptTextReads emits_docs file = (new : View Written) → Moves writes blank (file_calls emits_docs file) new → IsOnlyReading new.kept.text (file_as_read file)
+KeptTextReads emits_docs file = (new : OutputView Written) → Moves writes blank (file_calls emits_docs file) new
+    → IsOnlyReading new.kept.text (file_as_read file)
 
 -- without documentation each file of the one makes the same calls as that of the other
 abbrev pub PrintAlike : Resolve → Resolve → Type 0

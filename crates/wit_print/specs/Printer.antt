@@ -2,7 +2,7 @@
 use Rattle.std.specs.{Prelude.◌≡◌, Prelude.Bool, Prelude.true, Prelude.List, Borrow.Bor, List.list_all}
 use Rattle.wit_model.specs.Text.{Text}
 use Rattle.wit_model.specs.declared.model.{Resolve.Resolve, TypeId.TypeId, TypeOwner.TypeOwner}
-use Rattle.print_output.specs.OutputCall.{Begins, Moves, OutputCall, View}
+use Rattle.print_output.specs.OutputCall.{Begins, Moves, OutputCall, OutputView}
 use Rattle.print_grammar.specs.{Calls.members_calls, Calls.printed_after, Tree.MemberTree}
 use Rattle.print_items.specs.Shown.{Listed}
 use Rattle.print_uses.specs.UseGroups.{is_listed_type, listed_of}
@@ -19,11 +19,12 @@ block_has_printed p = p.has_printed
 -- ---- what has been printed
 
 -- the printer has made these calls of its output, in order
-abbrev pub Prints : {O Kept : Type 0} → (View Kept → OutputCall → Kept) → (O → View Kept) → WitPrinter O → List OutputCall → WitPrinter O → Type 0
+abbrev pub Prints : {O Kept : Type 0} → (OutputView Kept → OutputCall → Kept) → (O → OutputView Kept) → WitPrinter O → List OutputCall → WitPrinter O → Type 0
 Prints keeps view p calls p' = Moves keeps (view p.output) calls (view p'.output)
 
 -- the printer has made a beginning of these calls
-abbrev pub PrintsInPart : {O Kept : Type 0} → (View Kept → OutputCall → Kept) → (O → View Kept) → WitPrinter O → List OutputCall → WitPrinter O → Type 0
+abbrev pub PrintsInPart : {O Kept : Type 0} → (OutputView Kept → OutputCall → Kept) → (O → OutputView Kept) → WitPrinter O → List OutputCall
+    → WitPrinter O → Type 0
 PrintsInPart keeps view p calls p' = Begins keeps (view p.output) calls (view p'.output)
 
 -- the calls for members in the outer block that the printer goes on with
@@ -42,7 +43,8 @@ AreTypesOf r o given = (xs : GivenTypes) → given xs → list_all (is_listed_ty
 
 -- What is given has been printed, each type as these members, in the block that the printer goes on with, which has printed something from then on
 -- where there are members.
-pub record PrintsTypes {O Kept : Type 0} (keeps : View Kept → OutputCall → Kept) (view : O → View Kept) (p : WitPrinter O) (given : GivenTypes → Type 0)
+pub record PrintsTypes {O Kept : Type 0} (keeps : OutputView Kept → OutputCall → Kept) (view : O → OutputView Kept) (p : WitPrinter O)
+    (given : GivenTypes → Type 0)
     (members : List Listed → List MemberTree) (p' : WitPrinter O) : Type 0 where
   pub types : GivenTypes
   pub are : given types
@@ -50,7 +52,8 @@ pub record PrintsTypes {O Kept : Type 0} (keeps : View Kept → OutputCall → K
   pub printed : block_has_printed p' ≡ printed_after (block_has_printed p) (members (listed_of types))
 
 -- Nothing has been printed, or a beginning of what is given.
-pub data PrintsTypesInPart {O Kept : Type 0} (keeps : View Kept → OutputCall → Kept) (view : O → View Kept) (p : WitPrinter O) (given : GivenTypes → Type 0)
+pub data PrintsTypesInPart {O Kept : Type 0} (keeps : OutputView Kept → OutputCall → Kept) (view : O → OutputView Kept) (p : WitPrinter O)
+    (given : GivenTypes → Type 0)
     (members : List Listed → List MemberTree) (p' : WitPrinter O) : Type 0 where
   nothing : view p'.output ≡ view p.output → PrintsTypesInPart keeps view p given members p'
   some : (types : GivenTypes) → given types → PrintsInPart keeps view p (next_calls p (members (listed_of types))) p'
