@@ -1,4 +1,4 @@
--- At most as many are copied as pass a test that each of these passes.
+-- As many are copied as pass a test, where each of these passes it, and each that passes it is copied.
 use Rattle.std.proofs.Common.{rules as std_rules, ◌≡◌, refl, ap, ◌∙◌, ℕ, zero, suc, ◌+◌, ◌≤◌, Bool, true, false, cond, arith, List, [], ◌∷◌, length, Option, Some, slice_get}
 use Rattle.std.proofs.lemmas.List.Sums.{sum_by-cons}
 use Rattle.std.specs.Prelude.{count_by}
@@ -32,6 +32,27 @@ flags_few p (false ∷ bs) (x ∷ xs) long h = omega (
   arith,
   (sum_least 0 (copied_count bs) (cond (p x) 1 0) (count_by p xs) (count_by p (x ∷ xs)) (count_more p x xs)
       (flags_few p bs xs (omega (arith, long)) (λ n y at. h (suc n) y at)) (one_passes false (p x) (λ e. no_true e))),
+)
+
+module _ (a n : ℕ) where
+  sum_most : (b k w : ℕ) → w ≡ b + k → k ≤ n → b ≤ a → w ≤ a + n
+  sum_most b k w e l m = omega (arith, e, l, m)
+
+-- and at least as many, where each that passes has its flag
+pub flags_many : {X : Type 0} (p : X → Bool) (bs : List Bool) (xs : List X) → length bs ≡ length xs → ((n : ℕ) (x : X) → slice_get xs n ≡ Some x → p x ≡ true → flag_under bs n ≡ true)
+    → count_by p xs ≤ copied_count bs
+flags_many p [] [] long h = omega arith
+flags_many p [] (x ∷ xs) long h = absurd (omega (arith, long))
+flags_many p (b ∷ bs) [] long h = absurd (omega (arith, long))
+flags_many p (true ∷ bs) (x ∷ xs) long h = omega (
+  arith,
+  (sum_most 1 (copied_count bs) (cond (p x) 1 0) (count_by p xs) (count_by p (x ∷ xs)) (count_more p x xs)
+      (flags_many p bs xs (omega (arith, long)) (λ n y at. h (suc n) y at)) (one_passes (p x) true (λ e. refl))),
+)
+flags_many p (false ∷ bs) (x ∷ xs) long h = omega (
+  arith,
+  (sum_most 0 (copied_count bs) (cond (p x) 1 0) (count_by p xs) (count_by p (x ∷ xs)) (count_more p x xs)
+      (flags_many p bs xs (omega (arith, long)) (λ n y at. h (suc n) y at)) (one_passes (p x) false (λ e. h zero x refl e))),
 )
 
 -- ---- flags of what is carried by path

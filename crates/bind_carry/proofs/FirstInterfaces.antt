@@ -1,9 +1,16 @@
 -- What is copied of interfaces: each stands under its new number, with its types and its functions.
 use Rattle.bind_meaning.proofs.Listed.{by_option}
 use Rattle.bind_carry.proofs.{CopiesPlaced.by_either, CopiesPlaced.by_test, SettledParts.copied_still, SettledParts.settled_long, SettledParts.stands_still, CopiesPlaced.some_same, Joined.function_copy, PartsCarried.has_home, PartsCarried.no_home}
-use Rattle.bind_carry.proofs.PassedTypes.{carried_if, carried_within, copy_holds, parts_hold, stood_first}
+use Rattle.bind_carry.proofs.PassedTypes.{carried_if, carried_within, copy_holds, fates_many, functions_hold, items_hold, parts_hold, stood_first}
+use Rattle.bind_carry.proofs.Needed.{copied_kept, first_interface_marked, first_many, first_world_marked, function_marked, is_home, item_marked, stands_kept}
+use Rattle.bind_union.proofs.WorldRules.{by_entries}
+use Rattle.wit_model.specs.{Lookup.world_at, Valid.as_world, Valid.functions_of_interface, Valid.item_function, declared.model.World.World, declared.model.WorldItem.WorldItem, declared.model.WorldKey.WorldKey}
+use Rattle.std.proofs.Common.{option_to_list, ◌<◌, ◌&&◌}
+use Rattle.std.proofs.lemmas.Bool.{and_from as both}
+use Rattle.base_lemmas.proofs.Bools.{left_of as first_true, right_of as second_true}
+use Rattle.bind_carry.specs.{First.all_first_fates, First.first_marks, Needs.needed_of}
 use Rattle.base_lemmas.proofs.{Bools.left_of as first_true, Bools.right_of as second_true, Lists.within_there, Numbers.equal, Numbers.same-number}
-use Rattle.bind_carry.specs.{CarriedParts.PartsOfOwners, CarriedParts.is_function_carried, Fates.AreCopied, Fates.FallBelow, Fates.carries, Fates.copies, Fates.is_carried, Fates.stood, First.adds_any, First.fate_beside, First.fate_in, First.fate_named, First.fate_of, First.first_fates, First.flag_under, Initial.IsInitial, Listed.type_named, Marked.AreChosen, Renumbered.first_of, Renumbered.is_copied, Renumbered.is_matched, Whole.home_under, declared.fate.Fate.Fate}
+use Rattle.bind_carry.specs.{CarriedParts.PartsOfOwners, CarriedParts.is_function_carried, Fates.AreCopied, Fates.FallBelow, Fates.carries, Fates.copies, Fates.is_carried, First.adds_any, First.fate_beside, First.fate_in, First.fate_named, First.fate_of, First.first_fates, First.flag_under, Initial.IsInitial, Listed.type_named, Marked.AreChosen, Renumbered.first_of, Renumbered.is_copied, Renumbered.is_matched, Whole.home_under, declared.fate.Fate.Fate}
 use Rattle.bind_carry.specs.declared.plan.Carried.{Carried}
 use Rattle.bind_copy.specs.Copies.{IsFunctionEntry as IsEntryUnderNumbers, IsInterfaceUnder, number_under, type_names, type_names_under}
 use Rattle.bind_union.proofs.{Carrying.references_of, Carrying.refers_below, Images.numbers_of_view, Lists.no_true}
@@ -63,6 +70,12 @@ module _ (own other : Resolve) (valid : IsValid other) (matched : List (Option I
   abbrev f : Renumbering
   f = first_of matched c fates numbers
 
+  abbrev marks : List Bool
+  marks = first_marks other c
+
+  abbrev needs : List Bool
+  needs = needed_of marks 0 other.types.items (all_first_fates own other matched c)
+
   falls : FallBelow other.types.items
   falls n def at = ap (list_all (λ m. nat_lt m n)) (numbers_of_view def.kind) ∙ refers_below other (references_of other valid.rules) n def at
 
@@ -74,8 +87,8 @@ module _ (own other : Resolve) (valid : IsValid other) (matched : List (Option I
     fate_by : (o : TypeOwner) → def.owner ≡ o → fate_of own matched c def ≡ fate_in own matched c o (optional_text def.name)
     fate_by o e = ap (λ x. fate_in own matched c x (optional_text def.name)) e
 
-    copied_if : (home : TypeOwner) → fate_of own matched c def ≡ fate.Copied home → slice_get fates n ≡ Some (fate.Copied home)
-    copied_if home e = copied_still (adds_any c) other.types.items initial falls n def at home (initial_at ∙ ap Some e)
+    copied_if : (home : TypeOwner) → is_home home ≡ true → fate_of own matched c def ≡ fate.Copied home → slice_get fates n ≡ Some (fate.Copied home)
+    copied_if home owned e = copied_kept needs (all_first_fates own other matched c) n home owned (copied_still (adds_any c) other.types.items initial falls n def at home (initial_at ∙ ap Some e))
 
     -- the home of a copy of a world's type, and of an interface's
     world_home : (id : WorldId) → def.owner ≡ owner.World id → flag_under c.copied_worlds.items id.0 ≡ true → fate_of own matched c def ≡ fate.Copied (owner_under f (owner.World id))
@@ -92,16 +105,16 @@ module _ (own other : Resolve) (valid : IsValid other) (matched : List (Option I
     -- a type of a matched interface stands for the own one of its name
     pub final_stands : (a : ℕ) → def.owner ≡ as_interface a → flag_under c.copied_interfaces.items a ≡ false → (s : String Global) → def.name ≡ Some s → (id : TypeId)
         → type_named own matched a (text_of s) ≡ Some id → slice_get fates n ≡ Some (fate.Stands id.0)
-    final_stands a e k s q id there = stands_still (adds_any c) other.types.items initial falls n def at id.0
-        (initial_at ∙ ap Some (other_home (record { 0 = a }) e k ∙ (ap (λ y. fate_named own matched a (optional_text y)) q ∙ ap fate_beside there)))
+    final_stands a e k s q id there = stands_kept needs (all_first_fates own other matched c) n id.0 (stands_still (adds_any c) other.types.items initial falls n def at id.0
+        (initial_at ∙ ap Some (other_home (record { 0 = a }) e k ∙ (ap (λ y. fate_named own matched a (optional_text y)) q ∙ ap fate_beside there))))
 
     -- a type of an interface that is copied is copied
     pub owned_copied : (a : ℕ) → def.owner ≡ as_interface a → flag_under c.copied_interfaces.items a ≡ true → is_copied fates n ≡ true
-    owned_copied a e k = ap (λ o. option_map_or copies o false) (copied_if (owner_under f (owner.Interface (record { 0 = a }))) (interface_home (record { 0 = a }) e k))
+    owned_copied a e k = ap (λ o. option_map_or copies o false) (copied_if (owner_under f (owner.Interface (record { 0 = a }))) refl (interface_home (record { 0 = a }) e k))
 
     -- a type of a world that is copied is copied
     pub world_owned_copied : (id : WorldId) → def.owner ≡ owner.World id → flag_under c.copied_worlds.items id.0 ≡ true → is_copied fates n ≡ true
-    world_owned_copied id e k = ap (λ o. option_map_or copies o false) (copied_if (owner_under f (owner.World id)) (world_home id e k))
+    world_owned_copied id e k = ap (λ o. option_map_or copies o false) (copied_if (owner_under f (owner.World id)) refl (world_home id e k))
 
   -- ---- named types of what is carried
 
@@ -139,10 +152,48 @@ module _ (own other : Resolve) (valid : IsValid other) (matched : List (Option I
     }
 
     pub named_carried : (n : ℕ) (def : TypeDef) → type_at other n ≡ Some def → is_some def.name ≡ true → carries_owner f def.owner ≡ true → is_carried fates n ≡ true
-    named_carried n def at named h = let g = named_first n def at named h in carried_if other valid f (adds_any c) initial starts n def g.0 at g.1 g.2
+    named_carried n def at named h = let g = named_first n def at named h in carried_if other valid f (adds_any c) initial starts marks (first_many other c) n def g.0 at named g.1 g.2
 
-    pub parts_of : adds_any c ≡ true → PartsOfOwners other (is_carried fates) (carries_owner f)
-    parts_of = parts_hold other valid f (adds_any c) initial starts
+    abbrev pub all : List Fate
+    all = all_first_fates own other matched c
+
+    pub parts_of : adds_any c ≡ true → PartsOfOwners other (is_carried all) (carries_owner f)
+    parts_of = parts_hold other valid f (adds_any c) initial starts marks (first_many other c)
+
+    pub all_within : (n : ℕ) → is_carried all n ≡ true → n < length other.types.items
+    all_within n h =
+        let less = carried_within all n h in
+        let same = settled_long (adds_any c) other.types.items initial (length-map other.types.items (fate_of own matched c)) in
+        omega (arith, less, same)
+
+    -- functions whose types are marked
+    pub functions_of : (gs : List Function) → list_all (is_function_carried (is_carried all)) gs ≡ true → list_all (function_marked marks) gs ≡ true
+        → list_all (is_function_carried (is_carried fates)) gs ≡ true
+    functions_of = functions_hold other valid f (adds_any c) initial starts marks (first_many other c)
+
+    -- those of an interface that is copied
+    pub interface_functions : (n : ℕ) (i : Interface) → interface_at other n ≡ Some i → flag_under c.copied_interfaces.items n ≡ true → carries_owner f (as_interface n) ≡ true
+        → list_all (is_function_carried (is_carried fates)) (functions_of_interface i) ≡ true
+    interface_functions n i at set h =
+        let before = (parts_of (adds_interface n set)).of_interfaces n i at h in
+        functions_of (functions_of_interface i) before (first_interface_marked (is_carried all) (length other.types.items) all_within other c refl n i at set before)
+
+    abbrev item_holds : (ℕ → Bool) → WorldKey × WorldItem → Bool
+    item_holds carried e = list_all (is_function_carried carried) (option_to_list (item_function e.1))
+
+    -- and those of the items of a world
+    pub world_functions : (n : ℕ) (w : World) → world_at other n ≡ Some w → flag_under c.copied_worlds.items n ≡ true → carries_owner f (as_world n) ≡ true
+        → (list_all (item_holds (is_carried fates)) w.imports.entries && list_all (item_holds (is_carried fates)) w.exports.entries) ≡ true
+    world_functions n w at set h =
+        let before = sym (by_entries (is_function_carried (is_carried all)) w) ∙ (parts_of (adds_world n set)).of_worlds n w at h in
+        let imports = first_true (list_all (item_holds (is_carried all)) w.imports.entries) (list_all (item_holds (is_carried all)) w.exports.entries) before in
+        let exports = second_true (list_all (item_holds (is_carried all)) w.imports.entries) (list_all (item_holds (is_carried all)) w.exports.entries) before in
+        let marked = first_world_marked (is_carried all) (length other.types.items) all_within other c refl n w at set imports exports in
+        both (list_all (item_holds (is_carried fates)) w.imports.entries) (list_all (item_holds (is_carried fates)) w.exports.entries)
+        (items_hold other valid f (adds_any c) initial starts marks (first_many other c) w.imports.entries imports
+        (first_true (list_all (item_marked marks) w.imports.entries) (list_all (item_marked marks) w.exports.entries) marked))
+        (items_hold other valid f (adds_any c) initial starts marks (first_many other c) w.exports.entries exports
+        (second_true (list_all (item_marked marks) w.imports.entries) (list_all (item_marked marks) w.exports.entries) marked))
 
     -- ---- what stands for own types
 
@@ -156,7 +207,7 @@ module _ (own other : Resolve) (valid : IsValid other) (matched : List (Option I
     -- a type that is carried without a copy is a named one of a matched interface
     pub stood_how : (n : ℕ) (def : TypeDef) → type_at other n ≡ Some def → is_carried fates n ≡ true → is_copied fates n ≡ false → StandsHere n def
     stood_how n def at h bare =
-        let stood = stood_first other valid f (adds_any c) initial starts n def at h bare in
+        let stood = stood_first other valid f (adds_any c) initial starts marks (first_many other c) n def at h bare in
         let x = first_stands own matched c fates numbers def.owner (optional_text def.name) stood.1 (some_same _ _ (sym (initial_at n def at) ∙ stood.2)) in
         record { at_number = x.0.0; home = x.1; named = stood.0; uncopied = x.2; has_match = x.3 }
 
@@ -172,9 +223,9 @@ module _ (own other : Resolve) (valid : IsValid other) (matched : List (Option I
           let there = within_there other.types.items n (omega (
             arith,
             carried_within fates n h,
-            settled_long (adds_any c) other.types.items initial (length-map other.types.items (fate_of own matched c)),
+            fates_many other valid f (adds_any c) initial starts marks (first_many other c),
           )) in
-          by_test (is_copied fates n) (λ e. copy_holds other valid f (adds_any c) initial starts own merged numbers [] more rest is types_are refl refl n there.0 there.1 e)
+          by_test (is_copied fates n) (λ e. copy_holds other valid f (adds_any c) initial starts marks (first_many other c) own merged numbers [] more rest is types_are refl refl n there.0 there.1 e)
           (λ e. let how = stood_how n there.0 there.1 h e in stands n there.0 how.at_number there.1 how.named how.home how.has_match how.uncopied e)
 
 -- ---- Copies of interfaces: each stands under its new number, with its types and its functions.

@@ -1,11 +1,11 @@
 -- Worlds that are carried by path have numbers of their own, and packages stand in packages of their names.
-use Rattle.bind_carry.proofs.{CopiesPlaced.by_test, FirstInterfaces.parts_of, FirstInterfaces.stood_how, KeptPlaced.kept_here, Marking.AreWorldsBelow}
+use Rattle.bind_carry.proofs.{CopiesPlaced.by_test, FirstInterfaces.interface_functions, FirstInterfaces.stood_how, KeptPlaced.kept_here, Marking.AreWorldsBelow}
 use Rattle.base_lemmas.proofs.{Bools.left_of as first_true, Bools.right_of as second_true, Elements.all_two, Lists.within_there, Options.there as some_of}
 pub use Rattle.bind_carry.proofs.CopiesPlaced.{uncopied_under}
 use Rattle.bind_carry.proofs.CopiesPlaced.{copied_behind, fates_rise, numbers_by_long, stands_under}
-use Rattle.bind_carry.proofs.FirstInterfaces.{adds_interface, copy_stands, excluded, final_stands, first_types, home_number, named_carried, owned_copied}
+use Rattle.bind_carry.proofs.FirstInterfaces.{copy_stands, excluded, final_stands, first_types, home_number, named_carried, owned_copied}
 use Rattle.bind_carry.proofs.{Marking.are_chosen, PassedTypes.carried_within, Ranges.shown_below}
-use Rattle.bind_carry.specs.{Fates.AreCopied, Fates.copies, Fates.is_carried, Fates.numbers_by, First.first_fates, First.flag_under, InRange.IsInRange, Listed.given_interface, Listed.type_named, Marked.AreChosen, MatchedSame.AreMatchedAt, MatchedSame.IsMatchedAt, MatchedSame.NoneOfPath, Numbers.interface_number, Numbers.numbers_of, Numbers.world_number, Renumbered.first_of, Renumbered.is_copied, Renumbered.is_matched, Which.AreMatchedAll, Which.IsNumbered, Whole.IsInterfaceCarried, Whole.home_under, Whole.kept, declared.fate.Fate.Fate, declared.plan.Carried.Carried}
+use Rattle.bind_carry.specs.{Fates.AreCopied, Fates.is_carried, Fates.numbers_by, First.first_fates, First.flag_under, InRange.IsInRange, Listed.given_interface, Listed.type_named, Marked.AreChosen, MatchedSame.AreMatchedAt, MatchedSame.IsMatchedAt, MatchedSame.NoneOfPath, Numbers.interface_number, Numbers.numbers_of, Numbers.world_number, Renumbered.first_of, Renumbered.is_copied, Renumbered.is_matched, Which.AreMatchedAll, Which.IsNumbered, Whole.IsInterfaceCarried, Whole.home_under, Whole.kept, declared.fate.Fate.Fate, declared.plan.Carried.Carried}
 use Rattle.bind_copy.specs.Copies.{number_under}
 use Rattle.bind_match.specs.declared.matches.Matches.{Matches}
 use Rattle.bind_union.proofs.{Homes.apart, Listed.found_by_text, Listed.under_text, Lists.no_true, MatchedStand.matched_stand, MatchedStand.numbers_rise}
@@ -224,7 +224,7 @@ module _ (own other : Resolve) (valid_own : IsValid own) (valid_other : IsValid 
         let carried = or_left (flag_under c.copied_interfaces.items n) (is_matched matched n) set in
         copy_stands other merged valid_other f numbers refl n i place.image (home_under c.packages.items i.«package») at place.at_image place.is
         (λ h. ap package_number place.is.in_package ∙ home_number c.packages.items i.«package») (types_carried n i carried at) (types_copied n i set at)
-        ((parts_of own other valid_other matched c numbers chosen names (adds_interface own other valid_other matched c numbers chosen names n set)).of_interfaces n i at carried)
+        (interface_functions own other valid_other matched c numbers chosen names n i at set carried)
 
     -- each interface that is carried stands under its new number
     pub interfaces_hold : (n : ℕ) → f.carries_interface n ≡ true → IsInterface other merged f n

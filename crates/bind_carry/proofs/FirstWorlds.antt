@@ -1,7 +1,7 @@
 -- Worlds that are copied: all that their items name is carried, so each is a copy as the laws on unions ask for it.
 use Rattle.bind_meaning.proofs.Listed.{by_option}
 use Rattle.bind_carry.proofs.CopiesPlaced.{by_either, by_test, copied_behind, copied_past, numbers_by_long, some_same}
-use Rattle.bind_carry.proofs.FirstInterfaces.{adds_world, excluded, home_number, parts_of, world_owned_copied}
+use Rattle.bind_carry.proofs.FirstInterfaces.{excluded, home_number, world_functions, world_owned_copied}
 use Rattle.bind_carry.proofs.FirstNumbers.{chosen_so, flag_within, interfaces_hold, interfaces_once, interfaces_rise, named_of_path, names, types_hold}
 use Rattle.bind_carry.proofs.{FirstNumbers.types_rise, FirstNumbers.worlds_apart, FirstOfUnion.packages_hold, Joined.items_join, KeptPlaced.kept_here, KeysGained.is_key_carried, KeysGained.keys_apart, PassedTypes.copied_carried, Ranges.is_in_range, Ready.fates_long}
 use Rattle.base_lemmas.proofs.{Bools.left_of as first_true, Bools.right_of as second_true, Elements.all_get as all_at, Lists.within_there, Numbers.equal}
@@ -10,7 +10,7 @@ use Rattle.bind_carry.specs.{CarriedParts.is_function_carried, Fates.copies, Fir
 use Rattle.bind_carry.specs.declared.{fate.Fate.Fate, plan.Carried.Carried}
 use Rattle.bind_copy.specs.Copies.{AreNewCopied, number_under}
 use Rattle.bind_match.specs.declared.matches.Matches.{Matches}
-use Rattle.bind_union.proofs.{Homes.apart, Images.filter_map_none, Images.filter_map_some, Lists.no_true, WorldRules.by_entries}
+use Rattle.bind_union.proofs.{Homes.apart, Images.filter_map_none, Images.filter_map_some, Lists.no_true}
 use Rattle.bind_union.specs.{Carried.IsCarried, Carried.Renumbering, Joined.Joined, Merged.AreCopies, Merged.BeginsWith, Merged.IsWorldCopy}
 use Rattle.std.proofs.Common.{Bool, List, None, Option, Some, [], ap, append-nil, arith, cond, false, filter_map, is_some, length, map, not, option_to_list, refl, rules as std_rules, slice_get, subst, suc, sym, true, unwrap_or, zero, ℕ, ◌&&◌, ◌++◌, ◌+◌, ◌==◌, ◌||◌, ◌∙◌, ◌∷◌, ◌≡◌, ◌≤◌}
 use Rattle.std.proofs.lemmas.{Bool.and_from as both, Bool.or_left, Bool.or_right, List.length-map, List.Sums.sum_by-append, List.Sums.sum_by-cons}
@@ -187,7 +187,7 @@ module _ (own other : Resolve) (valid : IsValid other) (matched : List (Option I
   item_passes e = list_all function_ready (option_to_list (item_function e.1))
 
   ready_functions : (list_all item_passes w.imports.entries && list_all item_passes w.exports.entries) ≡ true
-  ready_functions = sym (by_entries function_ready w) ∙ (parts_of own other valid matched c numbers chosen names (adds_world own other valid matched c numbers chosen names n set)).of_worlds n w at set
+  ready_functions = world_functions own other valid matched c numbers chosen names n w at set set
 
   interface_key_named : (k : ℕ) (i : WorldItem) → is_interface_key other k i ≡ true → passes (λ j. is_some j.name) (interface_at other k) ≡ true
   interface_key_named k i h = second_true (is_id k (item_interface i)) (passes (λ j. is_some j.name) (interface_at other k)) h

@@ -1,4 +1,4 @@
--- Where copies of types stand, under the numbers that all types have. Serves Addable, FirstInterfaces, FirstNumbers, FirstOfUnion and 21 more; crates above.
+-- Where copies of types stand, under the numbers that all types have. Serves Addable, FirstInterfaces, FirstNumbers, FirstOfUnion and 22 more; crates above.
 pub mod CopiesPlaced
 -- Where copies of things stand whose flags are set, under the numbers that are given to them one behind the other. Serves packages::new_package_list, whole::copy_worlds; crates above.
 pub mod KeptPlaced
@@ -12,16 +12,18 @@ pub mod NamesGained
 pub mod Addable
 -- What flags say that are set one after the other for the inline interfaces that are shown. Serves CountedCopies, FirstNumbers, SecondInitial; crates above.
 pub mod Marking
--- At most as many are copied as pass a test that each of these passes. Serves crates above.
+-- As many are copied as pass a test, where each of these passes it, and each that passes it is copied. Serves crates above.
 pub mod CountedCopies
 -- How many are copied. Serves fates::copy_types, moved::move_types, whole::move_interfaces; crates above.
 pub mod Counting
 -- Names that a package gains join those that it had. Serves FirstInterfaces, FirstWorlds, NamesCopied, SecondCarried; crates above.
 pub mod Joined
+-- Which types are needed: marks stay, what is named is marked, and so are parts of what is copied in the end. Serves needs::mark_needed.
+pub mod Needed
 -- With its owner, all that a type or a function refers to is carried: by the rule on owners, from the smaller numbers on. Serves laws::parts.
 pub mod PartsCarried
 -- What becomes of types in the end, place by place: a type without a name is copied exactly where all its parts are carried, if anything is added. Serves FirstInterfaces, PassedTypes, Ready,
--- SecondPass and 1 more.
+-- SecondCarried and 2 more.
 pub mod SettledParts
 -- Types that a pass copies: each stands under its new number, and all its parts are carried. Serves FirstInterfaces, FirstNumbers, FirstWorlds, SecondCarried and 1 more.
 pub mod PassedTypes
@@ -46,6 +48,8 @@ pub mod FirstWorlds
 pub mod Flat
 -- What packages gain, one after the other. Serves packages::gained_names.
 pub mod Gaining
+-- Numbers that are marked one list after the other. Serves needs::mark_function, needs::mark_id, needs::mark_map, needs::mark_record and 3 more.
+pub mod MarkedNumbers
 -- Names that are copied into a map one behind the other, those that a test passes. Serves packages::interface_names, packages::world_names.
 pub mod NamesCopied
 -- No map of what was merged has a key twice: what is inserted keeps keys apart, and copies have the names of what they are of. Serves added_laws::added_apart, added_laws::added_distinct; crates
@@ -64,6 +68,8 @@ pub mod SecondPass
 pub mod SecondCarried
 -- What a union adds, once it is added, is merged. Serves merged::merged_unions; crates above.
 pub mod MergedUnion
+-- Each type without a name that is copied is named by something that comes. Serves WhatComes; crates above.
+pub mod MetTypes
 -- Things that are moved one after the other to the places that were made for them. Serves moved::move_types, moved::type_places, whole::move_interfaces; crates above.
 pub mod Moving
 -- The names in packages once all is added: own ones, each package's followed by what is new in it, and then those of new packages. Serves added_laws::added_names; crates above.

@@ -1,5 +1,6 @@
 -- What is carried of a `Resolve` in range can be copied, and so can what the bound world gains.
-use Rattle.bind_carry.proofs.{CopiesPlaced.numbers_by_long, CopiesPlaced.numbers_long, Ranges.keys_below, Ranges.new_shown_below, Ranges.types_below, SecondInitial.second_long, SecondInitial.unified_long, SettledParts.settled_long}
+use Rattle.bind_carry.proofs.{CopiesPlaced.numbers_by_long, CopiesPlaced.numbers_long, Ranges.keys_below, Ranges.new_shown_below, Ranges.types_below, SecondInitial.second_long, SecondInitial.unified_long, Needed.pruned_long, SettledParts.settled_long}
+use Rattle.bind_carry.specs.{First.all_first_fates, First.first_marks, Needs.needed_of}
 use Rattle.bind_carry.specs.{Bound.IsBoundReady, BoundGains.AreWorldKeysBelow, BoundGains.are_types_below, BoundGains.bound_fates, Fates.AreCopied, First.adds_any, First.fate_of, First.first_fates, InRange.IsInRange, Listed.IsOwnerBelow, Numbers.numbers_of, Over.IsCarriedReady, Shown.AreNewShownBelow, Which.AreMatchedAll, Which.IsNumbered, declared.fate.Fate.Fate, declared.plan.Carried.Carried}
 use Rattle.bind_copy.specs.Copies.{AreEntriesBelow, AreFunctionsBelow, are_names_below}
 use Rattle.bind_match.specs.declared.matches.Matches.{Matches}
@@ -29,7 +30,8 @@ module _ (own other : Resolve) (m : Matches) (c : Carried) (range : IsInRange ot
 
 -- each type has a fate
 pub fates_long : (own other : Resolve) (m : Matches) (c : Carried) → length (first_fates own other m.interfaces.items c) ≡ length other.types.items
-fates_long own other m c = settled_long (adds_any c) other.types.items (map (fate_of own m.interfaces.items c) other.types.items) (length-map other.types.items (fate_of own m.interfaces.items c))
+fates_long own other m c = pruned_long (needed_of (first_marks other c) 0 other.types.items (all_first_fates own other m.interfaces.items c)) (all_first_fates own other m.interfaces.items c)
+    ∙ settled_long (adds_any c) other.types.items (map (fate_of own m.interfaces.items c) other.types.items) (length-map other.types.items (fate_of own m.interfaces.items c))
 
 -- and a number
 pub numbers_count : (own : ℕ) (numbers : List ℕ) (types : List TypeDef) (fates : List Fate) (old new : List TypeDef) → AreCopied own numbers types fates old new → length numbers ≡ length fates
@@ -73,7 +75,7 @@ module _ (own other : Resolve) (world other_world : ℕ) (c : Carried) (fates : 
 -- each type has a fate there, too
 pub bound_long : (other : Resolve) (world other_world : ℕ) (w v : World) (copied : List Bool) (interfaces : List ℕ) (fates : List Fate) (numbers : List ℕ) → length fates ≡ length other.types.items
     → length numbers ≡ length other.types.items → length (bound_fates other world other_world w v copied interfaces fates numbers) ≡ length other.types.items
-bound_long other world other_world w v copied interfaces fates numbers long_fates long_numbers = search (std_rules, settled_long, unified_long, second_long)
+bound_long other world other_world w v copied interfaces fates numbers long_fates long_numbers = search (std_rules, pruned_long, settled_long, unified_long, second_long)
 
 -- each has a number
 pub numbers_many : (first : ℕ) (flags : List Bool) (others numbers : List ℕ) (n : ℕ) → numbers ≡ numbers_of first flags others → length flags ≡ n → length others ≡ n → length numbers ≡ n

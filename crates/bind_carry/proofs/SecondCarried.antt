@@ -9,7 +9,7 @@ use Rattle.bind_carry.proofs.WorldEntries.{any_place, export_keyed, export_range
 use Rattle.bind_carry.proofs.SecondItems.{type_number, same_label, not_some, shown_in, not_root, same_parts_of}
 use Rattle.bind_meaning.proofs.Listed.{by_option}
 use Rattle.base_lemmas.proofs.{Bools.left_of as first_true, Bools.right_of as second_true, Elements.all-contained, Elements.get-contains, Elements.lookup_stands, Lists.front_at, Lists.within_there, Numbers.equal, Numbers.same-number}
-use Rattle.bind_carry.specs.{CarriedParts.is_function_carried, FirstPass.IsFirstPass, Marked.is_inline_at, Marked.is_shown_in, Numbers.interface_number, Numbers.numbers_of, Numbers.world_number, ReadyItems.AreReady, ReadyItems.IsItemReady, ReadyItems.IsKeyReady, Renumbered.is_copied, Renumbered.is_matched, SecondPass.ArePackagesMerged, SecondPass.IsSecondPass, SecondPass.is_left_out, Shown.any_new, Shown.type_in, Which.new_worlds, Whole.IsInterfaceCarried, Whole.IsWorldCarried, declared.fate.Fate.Fate, declared.plan.Carried.Carried, Fates.carries, Fates.copied_types, Fates.copies, Fates.is_carried, Fates.numbers_by, First.flag_under, First.is_named_at}
+use Rattle.bind_carry.specs.{CarriedParts.is_function_carried, FirstPass.IsFirstPass, Marked.is_inline_at, Marked.is_shown_in, Numbers.interface_number, Numbers.numbers_of, Numbers.world_number, ReadyItems.AreReady, ReadyItems.IsItemReady, ReadyItems.IsKeyReady, Renumbered.is_copied, Renumbered.is_matched, SecondPass.ArePackagesMerged, SecondPass.IsSecondPass, SecondPass.is_left_out, Shown.any_new, Shown.type_in, Whole.IsInterfaceCarried, Whole.IsWorldCarried, declared.fate.Fate.Fate, declared.plan.Carried.Carried, Fates.is_carried, Fates.numbers_by, First.flag_under, First.is_named_at}
 use Rattle.bind_copy.specs.Copies.{IsInterfaceUnder, become_one, is_key_under, is_new_under, number_under}
 use Rattle.bind_match.specs.declared.matches.Matches.{Matches}
 use Rattle.bind_union.{proofs.Lists.no_true, proofs.MatchedStand.numbers_rise, proofs.WorldRules.by_entries, proofs.WorldNamesakes.IsWorldType, specs.Joined.IsJoined, specs.Merged.AreCopies, specs.Merged.IsCopyUnder, specs.Merged.IsMerged}
@@ -24,6 +24,9 @@ use Rattle.wit_model.specs.declared.model.WorldItem.TheVariants as item
 use Rattle.wit_model.specs.declared.model.WorldKey.TheVariants as key
 use Rattle.bind_carry.specs.declared.fate.Fate.TheVariants as fate
 use Rattle.bind_carry.proofs.SecondPass as pass
+use Rattle.bind_carry.proofs.{Needed.gained_export_marked, Needed.gained_import_marked, Needed.gained_interface_marked, Needed.gained_many, Needed.item_marked, PassedTypes.carried_within, PassedTypes.functions_hold, SettledParts.settled_long}
+use Rattle.bind_carry.specs.{BoundGains.gained_marks, Fates.is_carried, Fates.settled_from}
+use Rattle.wit_model.specs.Valid.{functions_of_interface}
 
 module _ (own other merged : Resolve) (valid_own : IsValid own) (valid_other : IsValid other) (world other_world : ℕ) (w v : World) (m : Matches) (c : Carried) (first_numbers : List ℕ)
     (p : IsFirstPass own other merged m c first_numbers) (copied : List Bool) (interfaces types : List ℕ)
@@ -113,6 +116,29 @@ module _ (own other merged : Resolve) (valid_own : IsValid own) (valid_other : I
       → interface_at merged (second.interfaces n) ≡ Some (inline_place n i there set).image
   inline_at n i there set = search (std_rules, carried_number n (copied_carries n set), copied_carries n set, inline_here, inline_place n i there set)
 
+  abbrev all : List Fate
+  all = settled_from adds [] other.types.items initial
+
+  abbrev marks : List Bool
+  marks = gained_marks other copied interfaces w v
+
+  many : length marks ≡ length other.types.items
+  many = gained_many other copied interfaces w v
+
+  all_within : (n : ℕ) → is_carried all n ≡ true → n < length other.types.items
+  all_within n h =
+      let less = carried_within all n h in
+      let same = settled_long adds other.types.items initial (pass.starts _ _ _ valid_own valid_other _ _ _ _ _ _ _ _ _ _ _ s).long in omega (arith, less, same)
+
+  -- all types of the functions of an inline interface that is gained are carried
+  inline_functions : (n : ℕ) (i : Interface) → interface_at other n ≡ Some i → flag_under copied n ≡ true → second.carries_interface n ≡ true
+      → list_all (is_function_carried (is_carried fates)) (functions_of_interface i) ≡ true
+  inline_functions n i there set carried =
+      let before = (parts_hold other valid_other second adds initial (pass.starts _ _ _ valid_own valid_other _ _ _ _ _ _ _ _ _ _ _ s) marks many
+      ((pass.known _ _ _ valid_own valid_other _ _ _ _ _ _ _ _ _ _ _ s).inline_adds n set)).of_interfaces n i there carried in
+      functions_hold other valid_other second adds initial (pass.starts _ _ _ valid_own valid_other _ _ _ _ _ _ _ _ _ _ _ s) marks many (functions_of_interface i) before
+      (gained_interface_marked (is_carried all) (length other.types.items) all_within other copied interfaces w v refl n i there set before)
+
   copy_interface : (n : ℕ) (i : Interface) → interface_at other n ≡ Some i → i.name ≡ None → flag_under copied n ≡ true → IsInterface other merged second n
   copy_interface n i there inline set =
       let place = inline_place n i there set in
@@ -120,8 +146,7 @@ module _ (own other merged : Resolve) (valid_own : IsValid own) (valid_other : I
       copy_stands other merged valid_other second types refl n i place.image w.«package» there (inline_at n i there set) place.is (λ h. no_true (sym (ap is_some inline) ∙ h))
       (types_carried n i carried there)
       (each_type n i there second.copies_type (λ t def at named home. (pass.inline_type_copied _ _ _ valid_own valid_other _ _ _ _ _ _ _ _ _ _ _ s) t def n at home set))
-      ((parts_hold other valid_other second adds initial (pass.starts _ _ _ valid_own valid_other _ _ _ _ _ _ _ _ _ _ _ s)
-      ((pass.known _ _ _ valid_own valid_other _ _ _ _ _ _ _ _ _ _ _ s).inline_adds n set)).of_interfaces n i there carried)
+      (inline_functions n i there set carried)
 
   -- ---- those with a name
 
@@ -299,11 +324,12 @@ module _ (own other merged : Resolve) (valid_own : IsValid own) (valid_other : I
   abbrev function_ready : Function → Bool
   function_ready = is_function_carried second.carries_type
 
-  abbrev item_passes : WorldKey × WorldItem → Bool
-  item_passes e = list_all function_ready (option_to_list (item_function e.1))
+  abbrev item_before : WorldKey × WorldItem → Bool
+  item_before e = list_all (is_function_carried (is_carried all)) (option_to_list (item_function e.1))
 
-  functions_ready : adds ≡ true → (list_all item_passes v.imports.entries && list_all item_passes v.exports.entries) ≡ true
-  functions_ready add = sym (by_entries function_ready v) ∙ (parts_hold other valid_other second adds initial (pass.starts _ _ _ valid_own valid_other _ _ _ _ _ _ _ _ _ _ _ s) add).of_worlds
+  functions_before : adds ≡ true → (list_all item_before v.imports.entries && list_all item_before v.exports.entries) ≡ true
+  functions_before add = sym (by_entries (is_function_carried (is_carried all)) v)
+      ∙ (parts_hold other valid_other second adds initial (pass.starts _ _ _ valid_own valid_other _ _ _ _ _ _ _ _ _ _ _ s) marks many add).of_worlds
       other_world v s.other_at (same-number other_world)
 
   -- a type under a new key is copied
@@ -313,7 +339,7 @@ module _ (own other merged : Resolve) (valid_own : IsValid own) (valid_other : I
       (pass.was _ _ _ valid_own valid_other _ _ _ _ _ _ _ _ _ _ _ s) id.0 x.def x.found in
       let in_before = b.stands ∙ (ap (λ o. Some ((pass.fate_before _ _ _ valid_own valid_other _ _ _ _ _ _ _ _ _ _ _ s) b o)) x.home
       ∙ ap (λ k. Some (if k then fate.Copied (as_world world) else fate.Left)) (same-number other_world)) in
-      (pass.copied_so _ _ _ valid_own valid_other _ _ _ _ _ _ _ _ _ _ _ s) id.0 x.def (as_world world) x.found in_before never
+      (pass.copied_so _ _ _ valid_own valid_other _ _ _ _ _ _ _ _ _ _ _ s) id.0 x.def (as_world world) refl x.found in_before never
     where
       is_type : item_type e.1 ≡ Some id.0
       is_type = type_number e.1 id is
@@ -342,7 +368,8 @@ module _ (own other merged : Resolve) (valid_own : IsValid own) (valid_other : I
 
   -- an item under a new key is ready, whichever of the two lists it is of
   module _ (here es : List (WorldKey × WorldItem)) (gains : any_new interfaces here es ≡ true → adds ≡ true)
-      (shows : (n : ℕ) → is_shown_new other c.interfaces.items here es n ≡ true → shows_gained other c.interfaces.items w v n ≡ true) (passed : adds ≡ true → list_all item_passes es ≡ true)
+      (shows : (n : ℕ) → is_shown_new other c.interfaces.items here es n ≡ true → shows_gained other c.interfaces.items w v n ≡ true) (passed : adds ≡ true → list_all item_before es ≡ true)
+      (marked : (n : ℕ) (x : WorldKey × WorldItem) → slice_get es n ≡ Some x → is_new_under interfaces here x.0 ≡ true → item_before x ≡ true → item_marked marks x ≡ true)
       (e : WorldKey × WorldItem) (held : Contains es e) (new : is_new_under interfaces here e.0 ≡ true) (range_of : item_in_range other e.1 ≡ true)
       (same : IsNumberedSame interfaces c.interfaces.items e.0) (types_ready : (id : TypeId) → type_in e.1 ≡ Some id → is_copied fates id.0 ≡ true) where
     item_ready : (i : WorldItem) → e.1 ≡ i → IsItemReady second i
@@ -354,8 +381,10 @@ module _ (own other merged : Resolve) (valid_own : IsValid own) (valid_other : I
         (ap (λ y. is_id id.0 (item_interface y)) q ∙ same-number id.0))))
     item_ready (item.Function g) q =
         let place = contains-get es e held in
-        let all = all-contained item_passes es e (passed (gains (any_at (λ (y : WorldKey × WorldItem). is_new_under interfaces here y.0) es place.0 e place.1 new))) held in
-        first_true (function_ready g) true (sym (ap (λ y. list_all function_ready (option_to_list (item_function y))) q) ∙ all)
+        let before = all-contained item_before es e (passed (gains (any_at (λ (y : WorldKey × WorldItem). is_new_under interfaces here y.0) es place.0 e place.1 new))) held in
+        let kept = functions_hold other valid_other second adds initial (pass.starts _ _ _ valid_own valid_other _ _ _ _ _ _ _ _ _ _ _ s) marks many (option_to_list (item_function e.1)) before
+        (marked place.0 e place.1 new before) in
+        first_true (function_ready g) true (sym (ap (λ y. list_all function_ready (option_to_list (item_function y))) q) ∙ kept)
     item_ready (item.Type_ id) q = types_ready id (ap type_in q)
 
   keys_there : AreKeysThere w.imports.entries
@@ -370,7 +399,8 @@ module _ (own other merged : Resolve) (valid_own : IsValid own) (valid_other : I
       key_ready e.0 (import_named e held),
       item_ready w.imports.entries v.imports.entries (or_left (any_new interfaces w.imports.entries v.imports.entries) (any_new interfaces w.exports.entries v.exports.entries))
           (λ k. or_left (is_shown_new other c.interfaces.items w.imports.entries v.imports.entries k) (is_shown_new other c.interfaces.items w.exports.entries v.exports.entries k))
-          (λ add. first_true (list_all item_passes v.imports.entries) (list_all item_passes v.exports.entries) (functions_ready add)) e held new
+          (λ add. first_true (list_all item_before v.imports.entries) (list_all item_before v.exports.entries) (functions_before add))
+          (gained_import_marked (is_carried all) (length other.types.items) all_within other copied interfaces w v refl) e held new
           (second_true (key_in_range other e.0) (item_in_range other e.1) (import_range other valid_other other_world v s.other_at e held))
           ((pass.import_same _ _ _ valid_own valid_other _ _ _ _ _ _ _ _ _ _ _ s) e held) (type_ready e held new) e.1 refl,
     );
@@ -390,7 +420,8 @@ module _ (own other merged : Resolve) (valid_own : IsValid own) (valid_other : I
       key_ready e.0 (export_named e held),
       item_ready w.exports.entries v.exports.entries (or_right (any_new interfaces w.imports.entries v.imports.entries) (any_new interfaces w.exports.entries v.exports.entries))
           (λ k. or_right (is_shown_new other c.interfaces.items w.imports.entries v.imports.entries k) (is_shown_new other c.interfaces.items w.exports.entries v.exports.entries k))
-          (λ add. second_true (list_all item_passes v.imports.entries) (list_all item_passes v.exports.entries) (functions_ready add)) e held new
+          (λ add. second_true (list_all item_before v.imports.entries) (list_all item_before v.exports.entries) (functions_before add))
+          (gained_export_marked (is_carried all) (length other.types.items) all_within other copied interfaces w v refl) e held new
           (second_true (key_in_range other e.0) (item_in_range other e.1) (export_range other valid_other other_world v s.other_at e held))
           ((pass.export_same _ _ _ valid_own valid_other _ _ _ _ _ _ _ _ _ _ _ s) e held)
           (λ id is. export_no_type e.0 e.1 (export_so other valid_other other_world v s.other_at e held) id is) e.1 refl,

@@ -6,7 +6,9 @@ use Rattle.bind_carry.proofs.SecondItems.{shown_in, beside_stands, second_carrie
 use Rattle.bind_meaning.proofs.Listed.{by_option}
 use Rattle.base_lemmas.proofs.{Bools.left_of as first_true, Bools.right_of as second_true, Elements.get-contains, Lists.within_there, Numbers.same-number}
 use Rattle.bind_carry.specs.{BoundGains.gains_any, BoundGains.type_under_key, BoundGains.unified, Fates.FallBelow, FirstPass.IsFirstPass, InRange.IsInRange, Initial.IsInitial, Marked.AreChosen, Marked.is_inline_at, Marked.is_shown_in, Renumbered.first_of, Renumbered.is_copied, Renumbered.is_matched, Renumbered.met_under, Renumbered.second_of, SecondPass.IsSecondPass, Shown.AreShownBelow, Shown.any_new, Shown.type_in, declared.fate.Fate.Fate, declared.plan.Carried.Carried}
-use Rattle.bind_carry.specs.Fates.{carries, copies, is_carried, settled_from, stood}
+use Rattle.bind_carry.specs.Fates.{carries, copies, is_carried, settled_from}
+use Rattle.bind_carry.specs.{BoundGains.gained_marks, Needs.needed_of, Needs.pruned_by}
+use Rattle.bind_carry.proofs.Needed.{copied_kept, gained_many, is_home, stands_kept}
 use Rattle.bind_carry.specs.First.{beside_first, first_fates, flag_under, is_named_at, second_from, second_in}
 use Rattle.bind_copy.specs.Copies.{is_new_under, number_under}
 use Rattle.bind_match.specs.declared.matches.Matches.{Matches}
@@ -47,8 +49,21 @@ module _ (own other merged : Resolve) (valid_own : IsValid own) (valid_other : I
   abbrev pub initial : List Fate
   initial = unified w.imports.entries v.imports.entries before
 
+  -- the fates if all are copied that can be, and the types that functions name of what is gained
+  abbrev pub all : List Fate
+  all = settled_from adds [] other.types.items initial
+
+  abbrev pub marks : List Bool
+  marks = gained_marks other copied interfaces w v
+
+  abbrev pub needs : List Bool
+  needs = needed_of marks 0 other.types.items all
+
   abbrev pub fates : List Fate
-  fates = settled_from adds [] other.types.items initial
+  fates = pruned_by needs all
+
+  pub many : length marks ≡ length other.types.items
+  many = gained_many other copied interfaces w v
 
   abbrev pub second : Renumbering
   second = second_of other matched c world other_world w.imports.entries v.imports.entries copied interfaces fates types
@@ -283,9 +298,10 @@ module _ (own other merged : Resolve) (valid_own : IsValid own) (valid_other : I
   stays_so : (n : ℕ) (g : Fate) → slice_get before n ≡ Some g → (IsUnified w.imports.entries v.imports.entries initial n → ⊥) → slice_get initial n ≡ Some g
   stays_so n g at never = elim (unified_at w.imports.entries v.imports.entries before n g at) [ inl same ↦ same | inr u ↦ absurd (never u) ]
 
-  pub copied_so : (n : ℕ) (def : TypeDef) (home : TypeOwner) → type_at other n ≡ Some def → slice_get before n ≡ Some (fate.Copied home)
+  pub copied_so : (n : ℕ) (def : TypeDef) (home : TypeOwner) → is_home home ≡ true → type_at other n ≡ Some def → slice_get before n ≡ Some (fate.Copied home)
       → (IsUnified w.imports.entries v.imports.entries initial n → ⊥) → is_copied fates n ≡ true
-  copied_so n def home at e never = ap (λ o. option_map_or copies o false) (copied_still adds other.types.items initial falls n def at home (stays_so n (fate.Copied home) e never))
+  copied_so n def home owned at e never = ap (λ o. option_map_or copies o false)
+      (copied_kept needs all n home owned (copied_still adds other.types.items initial falls n def at home (stays_so n (fate.Copied home) e never)))
 
   not_met : (n : ℕ) (def : TypeDef) (a : ℕ) → type_at other n ≡ Some def → def.owner ≡ as_interface a → IsUnified w.imports.entries v.imports.entries initial n → ⊥
   not_met n def a at home u = let wrong : as_interface a ≡ as_world other_world = sym home ∙ (known.imports n def at u).1 in cc
@@ -307,10 +323,10 @@ module _ (own other merged : Resolve) (valid_own : IsValid own) (valid_other : I
       → is_carried before_fates n ≡ true → slice_get fates n ≡ Some (fate.Stands (number_under first_numbers n))
   stays n def a i at home there path carried =
       let b = was n def at in
-      stands_still adds other.types.items initial falls n def at b.number (stays_so n (fate.Stands b.number)
+      stands_kept needs all n b.number (stands_still adds other.types.items initial falls n def at b.number (stays_so n (fate.Stands b.number)
       (b.stands ∙ (ap (λ o. Some (fate_before b o)) home ∙ (λ j. Some (if named_stays a i there path j then fate.Copied (owner.Interface (record { 0 = number_under interfaces a })) else
       (if is_named_there a i there path j then (if (sym (ap (λ o. option_map_or carries o false) b.at_old) ∙ carried) j then fate.Stands b.number else fate.Left) else fate.Left)))))
-      (not_met n def a at home)) ∙ ap (λ (k : ℕ). Some (fate.Stands k)) (sym (ap (λ o. unwrap_or o 0) b.at_number))
+      (not_met n def a at home))) ∙ ap (λ (k : ℕ). Some (fate.Stands k)) (sym (ap (λ o. unwrap_or o 0) b.at_number))
 
   -- so it has the number that it has by path, is carried, and isn't copied
   pub second_same : (n : ℕ) (def : TypeDef) (a : ℕ) (i : Interface) → type_at other n ≡ Some def → def.owner ≡ as_interface a → interface_at other a ≡ Some i → is_some i.name ≡ true
@@ -337,7 +353,7 @@ module _ (own other merged : Resolve) (valid_own : IsValid own) (valid_other : I
       ⊎ IsUnified w.imports.entries v.imports.entries initial n
   stood_how n def at h bare = elim (fate_first n def at) [
     | inl same ↦ (let b = was n def at in
-        let stood = stood_first other valid_other second adds initial starts n def at h bare in
+        let stood = stood_first other valid_other second adds initial starts marks many n def at h bare in
         let x = second_stands other matched c world other_world w.imports.entries v.imports.entries copied interfaces fates types def.owner (beside_first b.old b.number) stood.1
         (some_same _ _ (sym same ∙ stood.2)) in
         let i = named_at x.0.0 x.2 in
@@ -386,7 +402,7 @@ module _ (own other merged : Resolve) (valid_own : IsValid own) (valid_other : I
       → second.types u ≡ mine.0
   met_number e held u is mine there = ap (λ l. number_under l u) s.types_copied.numbers_are
       ∙ stands_under (length own.types.items + length p.new_types) fates u mine.0
-      (stands_still adds other.types.items initial falls u (typed e held u is).def (typed e held u is).found mine.0 (met_stands e held u is mine there))
+      (stands_kept needs all u mine.0 (stands_still adds other.types.items initial falls u (typed e held u is).def (typed e held u is).found mine.0 (met_stands e held u is mine there)))
 
   -- types of one key are one in the end
   pub types_agree : (x e : WorldKey × WorldItem) → Contains w.imports.entries x → Contains v.imports.entries e → key_text own x.0 ≡ key_text other e.0 → (t u : ℕ) → item_type x.1 ≡ Some t
@@ -487,7 +503,7 @@ module _ (own other merged : Resolve) (valid_own : IsValid own) (valid_other : I
 
   -- a named type of an owner that is carried is carried
   pub named_carried : (n : ℕ) (def : TypeDef) → type_at other n ≡ Some def → is_some def.name ≡ true → carries_owner second def.owner ≡ true → is_carried fates n ≡ true
-  named_carried n def at named h = let g = starts.carried n def at named h in carried_if other valid_other second adds initial starts n def g.0 at g.1 g.2
+  named_carried n def at named h = let g = starts.carried n def at named h in carried_if other valid_other second adds initial starts marks many n def g.0 at named g.1 g.2
 
   -- a type of an inline interface that is copied is copied
   pub inline_type_copied : (n : ℕ) (def : TypeDef) (a : ℕ) → type_at other n ≡ Some def → def.owner ≡ as_interface a → flag_under copied a ≡ true → is_copied fates n ≡ true
@@ -495,7 +511,7 @@ module _ (own other merged : Resolve) (valid_own : IsValid own) (valid_other : I
       let b = was n def at in
       let in_before = b.stands ∙ (ap (λ o. Some (fate_before b o)) home ∙ ap
       (λ k. Some (if k then fate.Copied (as_interface (number_under interfaces a)) else (if is_named_at other a then beside_first b.old b.number else fate.Left))) set) in
-      copied_so n def (as_interface (number_under interfaces a)) at in_before (not_met n def a at home)
+      copied_so n def (as_interface (number_under interfaces a)) refl at in_before (not_met n def a at home)
 
   -- ---- what is matched, and what agrees
 
@@ -578,7 +594,7 @@ module _ (own other merged : Resolve) (valid_own : IsValid own) (valid_other : I
   pub types_hold : (n : ℕ) → second.carries_type n ≡ true → IsType other merged second n
   types_hold n h =
       let d = type_there n h in
-      by_test (is_copied fates n) (λ e. copy_holds other valid_other second adds initial starts own merged types p.new_types s.all_types [] s.types_copied
+      by_test (is_copied fates n) (λ e. copy_holds other valid_other second adds initial starts marks many own merged types p.new_types s.all_types [] s.types_copied
       (s.types_here ∙ ap (λ l. own.types.items ++ l) (sym (append-nil s.all_types))) refl refl n d.0 d.1 e) (λ e. elim (stood_how n d.0 d.1 h e) [
         | inl x ↦ (let t = by_path.types n x.carried in path_stands n t (subst (λ (y : TypeDef). StandsByPath n y) (some_same d.0 t.def (sym d.1 ∙ t.found)) x))
         | inr u ↦ met_holds n e (met_type n d.0 d.1 u)

@@ -1,19 +1,22 @@
 -- What is copied of types: those whose owners are, types that new imports are, and types without a name that are made of what is carried.
 use Rattle.bind_meaning.proofs.Listed.{by_option, mapped, tested}
-use Rattle.std.proofs.Common.{rules as std_rules, ◌≡◌, ◌⊎◌, inl, inr, refl, sym, ap, subst, ◌∙◌, ℕ, zero, suc, ◌<◌, arith, Bool, true, false, ◌&&◌, ◌==◌, ◌+◌, cond, nat_lt, List, [], ◌∷◌, length, map, Option, Some, is_none, is_some, option_map, slice_get, if◌then◌else◌}
+use Rattle.std.proofs.Common.{rules as std_rules, ◌≡◌, ◌⊎◌, inl, inr, refl, sym, ap, subst, ◌∙◌, ℕ, zero, suc, ◌<◌, arith, Bool, true, false, ◌&&◌, ◌==◌, ◌+◌, cond, nat_lt, List, [], ◌∷◌, length, map, Option, Some, is_none, is_some, option_map, replicate, slice_get, if◌then◌else◌}
 use Rattle.std.proofs.lemmas.{Bool.ltb-true, List.length-map, List.Sums.sum_by-cons, Option.slice_get-map, Option.slice_get_within}
 use Rattle.std.specs.{Prelude.count_by, List.Contains}
-use Rattle.wit_model.specs.{Lookup.world_at, Rules.item_type, Text.Text, Text.optional_text, Valid.IsValid, Valid.as_world}
-use Rattle.wit_model.specs.declared.model.{InterfaceId.InterfaceId, Resolve.Resolve, TypeOwner.TypeOwner, WorldItem.WorldItem, WorldKey.WorldKey, TypeDef.TypeDef, World.World, WorldId.WorldId}
+use Rattle.wit_model.specs.{Lookup.world_at, Parts.function_numbers, Rules.item_type, Text.Text, Text.optional_text, Valid.IsValid, Valid.as_world}
+use Rattle.wit_model.specs.declared.model.{Function.Function, InterfaceId.InterfaceId, Resolve.Resolve, TypeOwner.TypeOwner, WorldItem.WorldItem, WorldKey.WorldKey, TypeDef.TypeDef, World.World, WorldId.WorldId}
 use Rattle.wit_model.proofs.Elements.{contains-get}
 use Rattle.bind_copy.specs.Copies.{is_new_under}
 use Rattle.bind_union.proofs.{Lists.no_true, WorldNamesakes.type_imported, WorldNamesakes.world_type}
 use Rattle.bind_carry.specs.{BoundGains.bound_fates, BoundGains.gains_any, BoundGains.type_under_key, BoundGains.unified, Renumbered.is_matched, Numbers.copied_count, SecondPass.DoNotClash, TooLong.CarriedThings, TooLong.TypeFates}
+use Rattle.bind_carry.specs.{BoundGains.all_bound_fates, BoundGains.gained_marks, First.all_first_fates, First.first_marks, Needs.mark_interfaces, Needs.mark_new}
+use Rattle.bind_carry.proofs.MetTypes.{copied_met, interfaces_fit, new_fit, none_fit, worlds_fit, InterfacesCome, NewCome, WorldsCome}
+use Rattle.bind_carry.proofs.Needed.{first_many, gained_many}
 use Rattle.bind_carry.specs.Fates.{are_carried, carries, copies, is_carried, settled, settled_from, FallBelow}
 use Rattle.bind_carry.specs.First.{adds_any, beside_first, fate_in, fate_named, fate_of, first_fates, flag_under, is_named_at, second_from, second_in}
-use Rattle.bind_carry.specs.MadeOf.{owned, type_parts, unnamed, IsMadeOf, IsMadeUp, IsOwnedBy}
+use Rattle.bind_carry.specs.MadeOf.{by_function, owned, type_parts, unnamed, IsMadeOf, IsMadeUp, IsMet, IsOwnedBy}
 use Rattle.bind_carry.specs.declared.fate.Fate.{Fate}
-use Rattle.bind_carry.proofs.{CopiesPlaced.some_same, PartsCarried.no_home, Ranges.is_in_range, FirstInterfaces.named_no_copy, SecondItems.number_type, SecondItems.type_number, SecondItems.unmet_new, SettledParts.settled_all, SettledParts.settled_long}
+use Rattle.bind_carry.proofs.{CopiesPlaced.by_test, CopiesPlaced.some_same, PartsCarried.no_home, Ranges.is_in_range, FirstInterfaces.named_no_copy, SecondItems.number_type, SecondItems.type_number, SecondItems.unmet_new, SettledParts.settled_all, SettledParts.settled_long}
 use Rattle.bind_carry.proofs.SecondInitial.{second_long, unified_at, unified_long, unified_set, IsUnified}
 use Rattle.base_lemmas.proofs.{Bools.left_of, Bools.right_of, Elements.all-contained, Elements.get-contains, Lists.within_there, Numbers.equal}
 use Rattle.wit_model.specs.declared.model.TypeOwner.TheVariants as owner
@@ -28,6 +31,16 @@ marked_count (true ∷ bs) = let r = marked_count bs in let one : count_by (λ b
 marked_count (false ∷ bs) = let r = marked_count bs in let one : count_by (λ b. b) (false ∷ bs) ≡ 0 + count_by (λ b. b) bs = sum_by-cons (λ (b : Bool). cond b 1 0) false bs in omega (arith, r, one)
 
 -- ---- fates in the end
+
+-- what is settled without a fate at first is copied without an owner
+copied_bare : (f : Fate) (none may : Bool) → copies f ≡ false → copies (settled f none may) ≡ true → settled f none may ≡ fate.Copied owner.None
+copied_bare fate.Left none may e h = by (may && none) h
+  where
+    by : (b : Bool) → copies (if b then fate.Copied owner.None else fate.Left) ≡ true → (if b then fate.Copied owner.None else fate.Left) ≡ fate.Copied owner.None
+    by true k = refl
+    by false k = no_true k
+copied_bare (fate.Stands n) none may e h = no_true h
+copied_bare (fate.Copied home) none may e h = no_true (sym e)
 
 copied_how : (f : Fate) (none may : Bool) → copies (settled f none may) ≡ true → (copies f ≡ true) ⊎ ((none ≡ true) × (may ≡ true))
 copied_how x none may h = search std_rules
@@ -89,21 +102,33 @@ module _ (adds : Bool) (types : List TypeDef) (fates : List Fate) (falls : FallB
     made_below zero n less h = absurd (omega (arith, less))
     made_below (suc k) n less h = let g = tested carries (slice_get final n) h in made_so k n less (made_below k) (how_so carries carried_how n g.0 g.1 g.2)
 
-    -- what is copied was to be copied at first, or has no name and is made of such types
-    pub copied_so : (Copied : ℕ → Type 0) → ((n : ℕ) (t : TypeDef) (f : Fate) → slice_get types n ≡ Some t → slice_get fates n ≡ Some f → copies f ≡ true → Copied n)
-        → (n : ℕ) → slice_get (map copies final) n ≡ Some true → Copied n ⊎ ((adds ≡ true) × IsMadeUp types Owner n)
-    copied_so Copied begins n mark = by h.how
+    ends_so : (Copied : ℕ → Type 0) → ((n : ℕ) (t : TypeDef) (f : Fate) → slice_get types n ≡ Some t → slice_get fates n ≡ Some f → copies f ≡ true → Copied n)
+        → (n : ℕ) (g : Fate) → slice_get final n ≡ Some g → copies g ≡ true → IsHow copies n → Copied n ⊎ (IsMadeUp types Owner n × (slice_get final n ≡ Some (fate.Copied owner.None)))
+    ends_so Copied begins n g at copy h = by h.how
       where
-        g : (f : Fate) × (slice_get final n ≡ Some f) × (copies f ≡ true)
-        g = mapped copies (slice_get final n) true (sym (slice_get-map copies final n) ∙ mark)
+        may : Bool
+        may = adds && are_carried final (type_parts h.def)
 
-        h : IsHow copies n
-        h = how_so copies copied_how n g.0 g.1 g.2
+        there : slice_get final n ≡ Some (settled h.first (is_none h.def.name) may)
+        there = settled_all adds types fates falls n h.def h.first h.found h.at_first
 
-        by : (copies h.first ≡ true) ⊎ ((is_none h.def.name ≡ true) × (adds ≡ true) × (are_carried final (type_parts h.def) ≡ true)) → Copied n ⊎ ((adds ≡ true) × IsMadeUp types Owner n)
+        copied : copies (settled h.first (is_none h.def.name) may) ≡ true
+        copied = ap copies (some_same (settled h.first (is_none h.def.name) may) g (sym there ∙ at)) ∙ copy
+
+        by : (copies h.first ≡ true) ⊎ ((is_none h.def.name ≡ true) × (adds ≡ true) × (are_carried final (type_parts h.def) ≡ true))
+            → Copied n ⊎ (IsMadeUp types Owner n × (slice_get final n ≡ Some (fate.Copied owner.None)))
         by (inl e) = inl (begins n h.def h.first h.found h.at_first e)
-        by (inr (none, add, all)) =
-            inr (add, record { def = h.def; found = h.found; nameless = none; parts = λ m held. made_below (suc m) m (omega arith) (all-contained (is_carried final) (type_parts h.def) m all held) })
+        by (inr (none, add, all)) = by_test (copies h.first) (λ e. inl (begins n h.def h.first h.found h.at_first e)) (λ e. inr (
+          record { def = h.def; found = h.found; nameless = none; parts = λ m held. made_below (suc m) m (omega arith) (all-contained (is_carried final) (type_parts h.def) m all held) },
+          there ∙ ap Some (copied_bare h.first (is_none h.def.name) may e copied),
+        ))
+
+    -- what is copied was to be copied at first, or has neither name nor owner and is made of such types
+    pub copied_so : (Copied : ℕ → Type 0) → ((n : ℕ) (t : TypeDef) (f : Fate) → slice_get types n ≡ Some t → slice_get fates n ≡ Some f → copies f ≡ true → Copied n)
+        → (n : ℕ) → slice_get (map copies final) n ≡ Some true → Copied n ⊎ (IsMadeUp types Owner n × (slice_get final n ≡ Some (fate.Copied owner.None)))
+    copied_so Copied begins n mark =
+        let g = mapped copies (slice_get final n) true (sym (slice_get-map copies final n) ∙ mark) in
+        ends_so Copied begins n g.0 g.1 g.2 (how_so copies copied_how n g.0 g.1 g.2)
 
 -- ---- by path
 
@@ -126,11 +151,33 @@ module _ (own other : Resolve) (valid_other : IsValid other) (matched : List (Op
   initial_is : (n : ℕ) (t : TypeDef) (f : Fate) → slice_get other.types.items n ≡ Some t → slice_get initial n ≡ Some f → fate_of own matched c t ≡ f
   initial_is n t f at e = some_same (fate_of own matched c t) f (sym (slice_get-map (fate_of own matched c) other.types.items n ∙ ap (option_map (fate_of own matched c)) at) ∙ e)
 
-  -- a type that is copied with what is carried by path
-  pub first_comes : (n : ℕ) → slice_get (map copies (first_fates own other matched c)) n ≡ Some true → IsOwnedBy other.types.items Copied n ⊎ ((adds_any c ≡ true) × IsMadeUp other.types.items Owner n)
-  first_comes = copied_so (adds_any c) other.types.items initial (is_in_range other valid_other).falls (length-map other.types.items (fate_of own matched c)) Owner
+  -- a type that is copied with what is carried by path, if all are copied that can be
+  abbrev all : List Fate
+  all = all_first_fates own other matched c
+
+  all_first_comes : (n : ℕ) → slice_get (map copies all) n ≡ Some true → IsOwnedBy other.types.items Copied n
+      ⊎ (IsMadeUp other.types.items Owner n × (slice_get all n ≡ Some (fate.Copied owner.None)))
+  all_first_comes = copied_so (adds_any c) other.types.items initial (is_in_range other valid_other).falls (length-map other.types.items (fate_of own matched c)) Owner
       (λ n t f at e k. begins_carried t.owner (optional_text t.name) (ap carries (initial_is n t f at e) ∙ k)) (IsOwnedBy other.types.items Copied)
       (λ n t f at e k. record { def = t; found = at; owned_so = begins_copied t.owner (optional_text t.name) (ap copies (initial_is n t f at e) ∙ k) })
+
+  -- and in the end: what comes names it, if it has no owner
+  module _ (Calls : Function → Type 0) where
+    abbrev Met : ℕ → Type 0
+    Met n = IsMet other.types.items Calls (IsOwnedBy other.types.items Copied) n
+
+    abbrev named : (f : Function) → Calls f → (n : ℕ) → Contains (function_numbers f) n → Met n
+    named f come n held = by_function f come held
+
+    module _ (interfaces_come : InterfacesCome Met Calls named c.copied_interfaces.items other.interfaces.items) (worlds_come : WorldsCome Met Calls named c.copied_worlds.items other.worlds.items) where
+      pub first_comes : (n : ℕ) → slice_get (map copies (first_fates own other matched c)) n ≡ Some true → IsOwnedBy other.types.items Copied n ⊎ (IsMadeUp other.types.items Owner n × Met n)
+      first_comes = copied_met other.types.items Calls (IsOwnedBy other.types.items Copied) Owner all (first_marks other c) all_first_comes
+          (worlds_fit Met Calls named c.copied_worlds.items other.worlds.items (mark_interfaces none c.copied_interfaces.items other.interfaces.items)
+          (interfaces_fit Met Calls named c.copied_interfaces.items other.interfaces.items none (none_fit Met (length other.types.items)) interfaces_come) worlds_come)
+          (first_many other c ∙ sym (settled_long (adds_any c) other.types.items initial (length-map other.types.items (fate_of own matched c))))
+        where
+          none : List Bool
+          none = replicate (length other.types.items) false
 
 -- ---- with what the bound world gains
 
@@ -224,8 +271,36 @@ module _ (own other : Resolve) (valid_own : IsValid own) (valid_other : IsValid 
         subst Owner (sym (ap (λ (d : TypeDef). d.owner) (sym (some_same x.def t (sym x.found ∙ at))) ∙ x.home)) (bound_owner (record { 0 = other_world }) refl)
   ]
 
-  -- a type that is copied with what the bound world gains
-  pub second_comes : (n : ℕ) → slice_get (map copies (bound_fates other world other_world w v copied interfaces before numbers)) n ≡ Some true → Gained n
-      ⊎ ((gains_any interfaces w v ≡ true) × IsMadeUp types Owner n)
-  second_comes = copied_so (gains_any interfaces w v) types at_first (is_in_range other valid_other).falls (unified_long w.imports.entries v.imports.entries behind ∙ long_behind) Owner gained_carried
-      Gained gained_copied
+  -- a type that is copied with what the bound world gains, if all are copied that can be
+  abbrev before_end : List Fate
+  before_end = all_bound_fates other world other_world w v copied interfaces before numbers
+
+  all_second_comes : (n : ℕ) → slice_get (map copies before_end) n ≡ Some true → Gained n ⊎ (IsMadeUp types Owner n × (slice_get before_end n ≡ Some (fate.Copied owner.None)))
+  all_second_comes = copied_so (gains_any interfaces w v) types at_first (is_in_range other valid_other).falls (unified_long w.imports.entries v.imports.entries behind ∙ long_behind)
+      Owner gained_carried Gained gained_copied
+
+  -- and in the end: what is gained names it, if it has no owner
+  module _ (Calls : Function → Type 0) where
+    abbrev Shown : ℕ → Type 0
+    Shown n = IsMet types Calls Gained n
+
+    abbrev shown : (f : Function) → Calls f → (n : ℕ) → Contains (function_numbers f) n → Shown n
+    shown f come n held = by_function f come held
+
+    module _ (inline_come : InterfacesCome Shown Calls shown copied other.interfaces.items) (imports_come : NewCome Shown Calls shown interfaces w.imports.entries v.imports.entries)
+        (exports_come : NewCome Shown Calls shown interfaces w.exports.entries v.exports.entries) where
+      pub second_comes : (n : ℕ) → slice_get (map copies (bound_fates other world other_world w v copied interfaces before numbers)) n ≡ Some true → Gained n ⊎ (IsMadeUp types Owner n × Shown n)
+      second_comes = copied_met types Calls Gained Owner before_end (gained_marks other copied interfaces w v) all_second_comes
+          (new_fit Shown Calls shown interfaces w.exports.entries v.exports.entries imports
+          (new_fit Shown Calls shown interfaces w.imports.entries v.imports.entries inline
+          (interfaces_fit Shown Calls shown copied other.interfaces.items none (none_fit Shown (length types)) inline_come) imports_come) exports_come)
+          (gained_many other copied interfaces w v ∙ sym (settled_long (gains_any interfaces w v) types at_first (unified_long w.imports.entries v.imports.entries behind ∙ long_behind)))
+        where
+          none : List Bool
+          none = replicate (length types) false
+
+          inline : List Bool
+          inline = mark_interfaces none copied other.interfaces.items
+
+          imports : List Bool
+          imports = mark_new interfaces w.imports.entries inline v.imports.entries

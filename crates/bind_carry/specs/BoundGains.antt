@@ -5,7 +5,7 @@ use Rattle.wit_model.specs.Valid.{key_eq}
 use Rattle.wit_model.specs.declared.model.{Interface.Interface, PackageId.PackageId, Resolve.Resolve, TypeId.TypeId, WorldItem.WorldItem, WorldKey.WorldKey}
 use Rattle.wit_model.specs.declared.model.World.{World}
 use Rattle.bind_copy.specs.Copies.{become_one, IsInterfaceUnder, IsKeyUnder}
-use Rattle.bind_carry.specs.{Fates.settled_from, First.second_from, Marked.mark_new_items, Shown.any_new, Shown.are_keys_below, Shown.type_in, Whole.kept}
+use Rattle.bind_carry.specs.{Fates.settled_from, First.second_from, Marked.mark_new_items, Needs.mark_interfaces, Needs.mark_new, Needs.needed_alone, Shown.any_new, Shown.are_keys_below, Shown.type_in, Whole.kept}
 use Rattle.bind_carry.specs.declared.fate.Fate.{Fate}
 use Rattle.bind_carry.specs.declared.fate.Fate.TheVariants as fate
 
@@ -44,11 +44,21 @@ unified here (e ∷ es) fates = unified here es (unify_one fates (type_in e.1) (
 abbrev pub are_types_below : ℕ → List (WorldKey × WorldItem) → Bool
 are_types_below count es = list_all (λ (e : WorldKey × WorldItem). option_map_or (λ id. nat_lt id.0 count) (type_in e.1) true) es
 
--- what becomes of the other's types in what the bound world gains, by their fates and numbers by path
-abbrev pub bound_fates : Resolve → ℕ → ℕ → World → World → List Bool → List ℕ → List Fate → List ℕ → List Fate
-bound_fates other world other_world own bound copied interfaces fates numbers =
+-- the types that functions name among the items that are gained, and of their inline interfaces
+abbrev pub gained_marks : Resolve → List Bool → List ℕ → World → World → List Bool
+gained_marks other copied interfaces own bound = mark_new interfaces own.exports.entries (mark_new interfaces own.imports.entries
+    (mark_interfaces (replicate (length other.types.items) false) copied other.interfaces.items) bound.imports.entries) bound.exports.entries
+
+-- what becomes of the other's types in what the bound world gains, by their fates and numbers by path, if all are copied that can be
+abbrev pub all_bound_fates : Resolve → ℕ → ℕ → World → World → List Bool → List ℕ → List Fate → List ℕ → List Fate
+all_bound_fates other world other_world own bound copied interfaces fates numbers =
     settled_from (gains_any interfaces own bound) [] other.types.items
     (unified own.imports.entries bound.imports.entries (second_from other world other_world copied interfaces other.types.items fates numbers))
+
+-- what becomes of them
+abbrev pub bound_fates : Resolve → ℕ → ℕ → World → World → List Bool → List ℕ → List Fate → List ℕ → List Fate
+bound_fates other world other_world own bound copied interfaces fates numbers = needed_alone (gained_marks other copied interfaces own bound) other.types.items
+    (all_bound_fates other world other_world own bound copied interfaces fates numbers)
 
 -- ---- interfaces and keys
 

@@ -1,10 +1,10 @@
 -- What becomes of the types of another `Resolve` by what is carried of it.
-use Rattle.std.specs.Prelude.{ℕ, ◌<◌, ◌==◌, Bool, false, ◌||◌, List, [], ◌∷◌, map, Option, Some, None, is_some, slice_get, unwrap_or, if◌then◌else◌}
+use Rattle.std.specs.Prelude.{ℕ, ◌<◌, ◌==◌, Bool, false, ◌||◌, List, [], ◌∷◌, map, Option, Some, None, is_some, length, replicate, slice_get, unwrap_or, if◌then◌else◌}
 use Rattle.std.specs.{List.list_any, Option.option_map_or}
 use Rattle.wit_model.specs.{Lookup.interface_at, Text.Text, Text.optional_text}
 use Rattle.wit_model.specs.declared.model.{InterfaceId.InterfaceId, Resolve.Resolve, TypeDef.TypeDef, TypeId.TypeId, TypeOwner.TypeOwner}
 use Rattle.bind_copy.specs.Copies.{number_under}
-use Rattle.bind_carry.specs.{Fates.carries, Fates.settled_from, Listed.type_named}
+use Rattle.bind_carry.specs.{Fates.carries, Fates.settled_from, Listed.type_named, Needs.mark_interfaces, Needs.mark_worlds_of, Needs.needed_alone}
 use Rattle.bind_carry.specs.declared.{fate.Fate.Fate, plan.Carried.Carried}
 use Rattle.wit_model.specs.declared.model.TypeOwner.TheVariants as owner
 use Rattle.bind_carry.specs.declared.fate.Fate.TheVariants as fate
@@ -37,9 +37,18 @@ fate_of own matched c def = fate_in own matched c def.owner (optional_text def.n
 abbrev pub adds_any : Carried → Bool
 adds_any c = list_any (λ b. b) c.copied_interfaces.items || list_any (λ b. b) c.copied_worlds.items
 
+-- what becomes of the other's types, if all are copied that can be
+abbrev pub all_first_fates : Resolve → Resolve → List (Option InterfaceId) → Carried → List Fate
+all_first_fates own other matched c = settled_from (adds_any c) [] other.types.items (map (fate_of own matched c) other.types.items)
+
+-- the types that functions name of interfaces and worlds that are copied
+abbrev pub first_marks : Resolve → Carried → List Bool
+first_marks other c = mark_worlds_of (mark_interfaces (replicate (length other.types.items) false) c.copied_interfaces.items other.interfaces.items)
+    c.copied_worlds.items other.worlds.items
+
 -- what becomes of the other's types
 abbrev pub first_fates : Resolve → Resolve → List (Option InterfaceId) → Carried → List Fate
-first_fates own other matched c = settled_from (adds_any c) [] other.types.items (map (fate_of own matched c) other.types.items)
+first_fates own other matched c = needed_alone (first_marks other c) other.types.items (all_first_fates own other matched c)
 
 -- in what the bound world gains, what was carried stands under its number, and what wasn't is left
 abbrev pub beside_first : Fate → ℕ → Fate

@@ -32,3 +32,4 @@ pub mod ListedNames
 pub mod AddedNames
 pub mod MadeOf
 pub mod OfBound
+pub mod Needs

@@ -1,7 +1,8 @@
 -- What types are made of, and whose they are.
 use Rattle.std.specs.Prelude.{◌≡◌, ℕ, Bool, true, List, is_none, slice_get, Some, count_by}
 use Rattle.std.specs.List.{Contains}
-use Rattle.wit_model.specs.declared.model.{TypeDef.TypeDef, TypeOwner.TypeOwner}
+use Rattle.wit_model.specs.declared.model.{Function.Function, TypeDef.TypeDef, TypeOwner.TypeOwner}
+use Rattle.wit_model.specs.Parts.{function_numbers}
 use Rattle.bind_union.specs.Views.{kind_view, view_numbers}
 
 -- the types that a type names in its definition
@@ -26,6 +27,13 @@ pub record IsMadeUp (types : List TypeDef) (Owner : TypeOwner → Type 0) (n : �
   pub found : slice_get types n ≡ Some def
   pub nameless : is_none def.name ≡ true
   pub parts : (m : ℕ) → Contains (type_parts def) m → IsMadeOf types Owner m
+
+-- Something that comes names it: such a function in its signature, such a type in its definition, or a type without a name that is named so itself.
+pub data IsMet (types : List TypeDef) (Calls : Function → Type 0) (Comes : ℕ → Type 0) : ℕ → Type 0 where
+  by_function : {n : ℕ} (f : Function) → Calls f → Contains (function_numbers f) n → IsMet types Calls Comes n
+  by_type : {n : ℕ} (m : ℕ) (def : TypeDef) → slice_get types m ≡ Some def → Comes m → Contains (type_parts def) n → IsMet types Calls Comes n
+  by_unnamed : {n : ℕ} (m : ℕ) (def : TypeDef) → slice_get types m ≡ Some def → is_none def.name ≡ true → IsMet types Calls Comes m
+      → Contains (type_parts def) n → IsMet types Calls Comes n
 
 -- So many numbers have the property: so many places of a list are marked, and each number whose place is has it.
 pub record Come (Has : ℕ → Type 0) (count : ℕ) : Type 0 where

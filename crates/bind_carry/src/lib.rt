@@ -8,6 +8,7 @@ pub mod fates;
 pub mod laws;
 pub mod merged;
 pub mod moved;
+pub mod needs;
 pub mod numbers;
 pub mod owned;
 pub mod packages;

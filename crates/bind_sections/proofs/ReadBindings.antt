@@ -9,7 +9,7 @@ use Rattle.wit_model.proofs.Distinct.{text_eq_flip}
 use Rattle.comp_bytes.specs.Reading.{◌>>=◌}
 use Rattle.comp_bytes.proofs.Readers.{bind_some}
 use Rattle.comp_meaning.specs.{Follow.Scope, Follow.Seen, Follow.each, Rules.are_imports, Rules.distinct, Rules.is_item, Rules.is_world}
-use Rattle.comp_meaning.specs.Reads.{Member, Part, ReadsWorld, Sight, entry, exported_types, member, seen_meaning, world_meaning, world_of_members, world_with}
+use Rattle.comp_meaning.specs.Reads.{Member, Part, ReadsWorld, Sight, entry, exported_types, member, seen_meaning, meaning_of_scope, world_of_members, world_with}
 use Rattle.read_shown.specs.Parts.{MemberStands, PartStands}
 use Rattle.read_shown.proofs.Parts.{members_stand}
 use Rattle.bind_meaning.specs.{Binding.Binding, Binding.IsBinding, Binding.Stand, Roots.root_binding, Roots.root_meaning, Roots.root_path, Union.union}
@@ -27,7 +27,7 @@ record IsRead (m : WorldPackage) : Type 0 where
   pub obeys : is_world scope ≡ true
   pub seen : List Sight
   pub elsewhere : not (list_any (λ s. text_eq s.path (path_in m.identity m.name)) seen) ≡ true
-  pub world : m.world ≡ world_meaning scope
+  pub world : m.world ≡ meaning_of_scope scope
   pub shown : m.shown ≡ from_entries (map (seen_meaning seen) seen)
 
 scope_read : (package_ : PackageIdentity) (name : Text) (scope : Scope) (m : WorldPackage) → is_world scope ≡ true → world_with package_ name scope ≡ Some m → IsRead m

@@ -6,7 +6,7 @@ use Rattle.std.specs.declared.alloc.Global.{Global}
 use Rattle.wit_model.specs.declared.model.{Resolve.Resolve, Interface.Interface, TypeId.TypeId, TypeDef.TypeDef, TypeDefKind.TypeDefKind, TypeOwner.TypeOwner}
 use Rattle.wit_model.specs.Text.{Text, text_of, text_eq, text_cmp, optional_text, TextMap}
 use Rattle.wit_model.specs.Lookup.{interface_at, type_at, interface_path, place_of, place_of_path}
-use Rattle.wit_model.specs.Tree.{Tree, Place, Declaration, type_, resource, named, primitive, node, of_interface, here}
+use Rattle.wit_model.specs.Tree.{Tree, Place, TypeDeclaration, type_, resource, named, primitive, node, of_interface, here}
 use Rattle.wit_model.specs.Types.{no_tree, tree_at, declared_by, trees_of, declaration_of, tree_of_declaration}
 use Rattle.wit_model.specs.Parts.{kind_numbers, same_owner, has_owner, met_by, met_of, used_by_type}
 use Rattle.wit_model.specs.Uses.{has, alias_target, owner_interface}
@@ -31,7 +31,7 @@ alias_declares trees x t h = search std_rules
 pub name_is_alias : (trees : List Tree) (k : TypeDefKind) (p : Place) (n : Text) → declared_by trees k ≡ type_ (named p n) → (t : ℕ) × (alias_target k ≡ Some t) × (tree_at trees t ≡ named p n)
 name_is_alias trees x p n h = search std_rules
 
-abbrev pub declares_resource : Declaration → Bool
+abbrev pub declares_resource : TypeDeclaration → Bool
 declares_resource (type_ t) = false
 declares_resource resource = true
 

@@ -5,7 +5,7 @@ use Rattle.std.specs.{Prelude.String, Prelude.count_by, List.list_all, List.Cont
 use Rattle.std.specs.declared.alloc.Global.{Global}
 use Rattle.wit_model.specs.declared.model.{Resolve.Resolve, World.World, WorldKey.WorldKey, WorldItem.WorldItem, TypeDef.TypeDef}
 use Rattle.wit_model.specs.{Text.Text, Text.text_of, Text.optional_text, Types.trees_of, Types.declaration_of, Parts.kind_numbers, Parts.same_owner, Uses.alias_target, Uses.item_interface, Valid.IsValid, Valid.as_interface, Valid.as_world, Valid.order_of_types, Valid.world_items}
-use Rattle.wit_model.specs.{Lookup.world_at, Lookup.type_at, Lookup.interface_path, Lookup.place_of, Lookup.key_text, Tree.Declaration, Tree.named}
+use Rattle.wit_model.specs.{Lookup.world_at, Lookup.type_at, Lookup.interface_path, Lookup.place_of, Lookup.key_text, Tree.TypeDeclaration, Tree.named}
 use Rattle.wit_model.specs.Meaning.{Item, interface, inline, function, declares, Entry, InterfaceSense, item_sense}
 use Rattle.wit_model.specs.Meant.{type_meaning, type_meaning_at, no_type, interface_item, interface_meaning_at, item_meaning}
 use Rattle.wit_model.specs.Rules.{passes, is_id, text_is, is_name_key, item_type, key_in_range, item_in_range, world_type_numbers, is_listed, is_listed_in_world, import_stands, export_stands}
@@ -115,7 +115,7 @@ sort_of_item (item.Type_ t) = 1
 sort_of_item (item.Function g) = 2
 sort_of_item _ = 0
 
-abbrev declared_so : Item InterfaceSense → Option Declaration
+abbrev declared_so : Item InterfaceSense → Option TypeDeclaration
 declared_so (declares d) = Some d
 declared_so _ = None
 

@@ -7,7 +7,7 @@ ghost use Rattle.wit_model.specs.declared.error.Error.TheVariants.{Size};
 ghost use Rattle.wit_model.specs.declared.model.{Interface.Interface as InterfaceValue, World.World as WorldValue, TypeDef.TypeDef as TypeDefValue};
 ghost use Rattle.bind_copy.specs.Copies.{are_names_below, AreEntriesBelow, AreFunctionsBelow, IsInterfaceUnder};
 ghost use Rattle.bind_carry.specs.{Whole.kept, Fates.FallBelow, First.beside_first, First.is_named_at, First.second_from, First.second_in, First.IsHomeIn, Bound.IsBoundReady, Bound.IsSameButItems, Shown.any_new, Shown.are_keys_below, Shown.type_in, Shown.AreNewShownBelow};
-ghost use Rattle.bind_carry.specs.BoundGains.{are_types_below, gained_inline, gains_any, type_under_key, unified, unify_one as unify_one_lem, AreInlineCopied, AreKeysUnder, AreWorldKeysBelow};
+ghost use Rattle.bind_carry.specs.BoundGains.{are_types_below, gained_inline, gained_marks as gained_marks_lem, gains_any, type_under_key, unified, unify_one as unify_one_lem, AreInlineCopied, AreKeysUnder, AreWorldKeysBelow};
 ghost use Rattle.bind_carry.specs.Numbers.{copied_count, numbers_of, IsMemoryOrSize};
 ghost use Rattle.bind_carry.specs.OfBound.{AreExportsBound, AreImportsBound, AreTooManyTypes, AreTypesBound, IsAllBound, IsTooMuchBound, OfBound, StaysFew};
 
@@ -15,6 +15,7 @@ use bind_add::Added;
 use bind_carry::bound::{Bound, First};
 use bind_carry::fate::Fate;
 use bind_carry::fates::{copy_types, settle};
+use bind_carry::needs::{mark_interfaces_of, mark_new_items, prune};
 use bind_carry::numbers::numbered;
 use bind_carry::plan::Carried;
 use bind_carry::which::{mark_new_inline, unmarked};
@@ -279,6 +280,29 @@ fn gains(bound: Bound<'_>, interfaces: &[u32]) -> bool
         || has_new(interfaces, &own.exports, &other.exports)
 }
 
+// The types that functions name among the items that are gained, and of their inline interfaces.
+fn gained_marks(
+    alloc: Global,
+    bound: Bound<'_>,
+    copied: &[bool],
+    interfaces: &[u32],
+) -> Result<Vec<bool>, AllocError>
+    requires own_range { bound.world.0 < length bound.own.now.worlds.items }
+    requires other_range { bound.other_world.0 < length bound.other.now.worlds.items }
+    requires flags { length copied.now ≡ length bound.other.now.interfaces.items }
+    requires keys { (v : WorldValue) → world_at bound.other.now bound.other_world.0 ≡ Some v → AreWorldKeysBelow (length interfaces.now) v }
+    ensures marks { IfOk result (λ f. OfBound bound.entry (λ w v. f.items ≡ gained_marks_lem bound.entry.other.now copied.now interfaces.now w v)) }
+    ensures count { IfOk result (λ f. length f.items ≡ length bound.entry.other.now.types.items) }
+{
+    let mut marks = vec![in alloc; false; bound.other.types.len()]?;
+    mark_interfaces_of(&bound.other.interfaces, copied, &mut marks);
+    let own = own_world(bound);
+    let other = other_world(bound);
+    mark_new_items(interfaces, &own.imports, &other.imports, &mut marks);
+    mark_new_items(interfaces, &own.exports, &other.exports, &mut marks);
+    Ok(marks)
+}
+
 // Copies the types that the bound world gains, and answers the numbers that the other's types have in what it gains.
 fn bind_types(
     alloc: Global,
@@ -292,6 +316,7 @@ fn bind_types(
     requires other_range { bound.other_world.0 < length bound.other.now.worlds.items }
     requires keys { (v : WorldValue) → world_at bound.other.now bound.other_world.0 ≡ Some v → AreWorldKeysBelow (length interfaces.now) v }
     requires same { length interfaces.now ≡ length copied.now }
+    requires flags { length copied.now ≡ length bound.other.now.interfaces.items }
     requires fates { length first.fates.now ≡ length bound.other.now.types.items }
     requires types { length first.types.now ≡ length bound.other.now.types.items }
     requires owners { (n : ℕ) (def : TypeDefValue) → type_at bound.other.now n ≡ Some def → IsHomeIn (length copied.now) def.owner }
@@ -307,11 +332,13 @@ fn bind_types(
     let mut fates = first_fates(alloc, bound, copied, interfaces, first)?;
     unify_types(bound, &mut fates);
     let settled = settle(alloc, &bound.other.types, &fates, gains(bound, interfaces))?;
+    let marks = gained_marks(alloc, bound, copied, interfaces)?;
+    let needed = prune(alloc, &bound.other.types, &settled, marks)?;
     copy_types(
         alloc,
         bound.own.types.len(),
         &bound.other.types,
-        &settled,
+        &needed,
         added,
     )
 }

@@ -3,11 +3,12 @@
 ghost use Rattle.std.specs.Prelude.{◌≡◌, ◌≤◌, ℕ, length, map, IfErr, IfOk, Some};
 ghost use Rattle.wit_model.specs.declared.{model.TypeDef.TypeDef as TypeDefValue, model.World.World as WorldValue, error.Error.TheVariants.Size};
 ghost use Rattle.wit_model.specs.{Lookup.type_at, Lookup.world_at, Text.optional_text, Text.text_of, Refusals.IsMemory};
-ghost use Rattle.bind_carry.specs.{Shown.AreShownBelow, Numbers.IsMemoryOrSize, Over.IsCarriedReady, Over.IsPlacedOver, TooLong.AreTooManyByPath, Which.IsNumbered, Few.AreFewNumbered, First.fate_named, First.fate_of, First.first_fates, Listed.type_named, Listed.IsOwnerBelow, Listed.IsWhole};
+ghost use Rattle.bind_carry.specs.{Shown.AreShownBelow, Numbers.IsMemoryOrSize, Over.IsCarriedReady, Over.IsPlacedOver, TooLong.AreTooManyByPath, Which.IsNumbered, Few.AreFewNumbered, First.fate_named, First.fate_of, First.first_fates, First.first_marks as first_marks_lem, Listed.type_named, Listed.IsOwnerBelow, Listed.IsWhole};
 
 use bind_add::Added;
 use bind_carry::fate::Fate;
 use bind_carry::fates::{any, settle};
+use bind_carry::needs::{mark_interfaces_of, mark_worlds, prune};
 use bind_carry::numbers::numbered;
 use bind_carry::owned::{interface_numbers, new_packages, package_numbers, world_numbers};
 use bind_carry::packages::{gained_names, new_package_list};
@@ -124,6 +125,19 @@ fn fates(
     Ok(fates)
 }
 
+// The types that functions name of interfaces and worlds that are copied.
+fn first_marks(alloc: Global, other: &Resolve, carried: &Carried) -> Result<Vec<bool>, AllocError>
+    requires interfaces { length carried.now.copied_interfaces.items ≡ length other.now.interfaces.items }
+    requires worlds { length carried.now.copied_worlds.items ≡ length other.now.worlds.items }
+    ensures marks { IfOk result (λ v. v.items ≡ first_marks_lem other.now carried.now) }
+    ensures count { IfOk result (λ v. length v.items ≡ length other.now.types.items) }
+{
+    let mut marks = vec![in alloc; false; other.types.len()]?;
+    mark_interfaces_of(&other.interfaces, &carried.copied_interfaces, &mut marks);
+    mark_worlds(&other.worlds, &carried.copied_worlds, &mut marks);
+    Ok(marks)
+}
+
 /// What becomes of each of the other's types by what is carried.
 pub(crate) fn settled_types(
     alloc: Global,
@@ -135,12 +149,16 @@ pub(crate) fn settled_types(
     requires whole { IsWhole carried.now }
     requires owners { (n : ℕ) (def : TypeDefValue) → type_at other.now n ≡ Some def
         → IsOwnerBelow (length carried.now.copied_interfaces.items) (length carried.now.copied_worlds.items) def.owner }
+    requires interfaces { length carried.now.copied_interfaces.items ≡ length other.now.interfaces.items }
+    requires worlds { length carried.now.copied_worlds.items ≡ length other.now.worlds.items }
     ensures fates { IfOk result (λ v. v.items ≡ first_fates own.now other.now matches.now.interfaces.items carried.now) }
     ensures count { IfOk result (λ v. length v.items ≡ length other.now.types.items) }
 {
     let fates = fates(alloc, own, other, matches, carried)?;
     let adds = any(&carried.copied_interfaces) || any(&carried.copied_worlds);
-    settle(alloc, &other.types, &fates, adds)
+    let settled = settle(alloc, &other.types, &fates, adds)?;
+    let marks = first_marks(alloc, other, carried)?;
+    prune(alloc, &other.types, &settled, marks)
 }
 
 /// All that is carried, with empty places for the interfaces and types, and nothing yet for the bound world.

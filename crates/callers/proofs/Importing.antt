@@ -46,7 +46,14 @@ can-encode scoped encode r e interface id encoder named stands owned =
 -- ---- the encoder behind a call
 
 pub left : (r : Resolve) (e e' : InterfaceEncoder) → IsEncoderOf r e → LeavesInterfaces e e' → IsEncoderOf r e'
-left r e e' encoder leaves = search std_rules
+left r e e' encoder leaves = record {
+  packages_ = leaves.packages_ ∙ encoder.packages_;
+  can = leaves.can;
+  agree = record {
+    says = λ k i held. leaves.stands i _ (encoder.agree.says k i (rw leaves.maps_ at held));
+    once = rw (sym leaves.maps_) at encoder.agree.once;
+  };
+}
 
 pub defined : DefinitionsLeaveInterfaces → (r : Resolve) (e e' : InterfaceEncoder) → IsEncoderOf r e → Leaves r (interface_encoder_view e) (interface_encoder_view e') → IsEncoderOf r e'
 defined leave r e e' encoder leaves = search std_rules

@@ -1,23 +1,23 @@
 -- What both passes copy has its own documentation, stability and external ids in what is merged.
-use Rattle.std.proofs.Common.{rules as std_rules, ◌≡◌, refl, sym, ap, subst, ◌∙◌, ◌⊎◌, inl, inr, arith, ℕ, zero, suc, Bool, true, false, not, cond, List, [], ◌∷◌, ◌++◌, map, Option, Some, None, is_none, option_map, option_to_list, String, Contains, ◌+◌, ◌≤◌, length, append-nil, is_some, slice_get}
+use Rattle.std.proofs.Common.{rules as std_rules, ◌≡◌, refl, sym, ap, subst, ◌∙◌, ◌⊎◌, inl, inr, arith, ℕ, zero, suc, Bool, true, false, not, cond, List, [], ◌∷◌, ◌++◌, map, Option, Some, None, is_none, option_map, option_to_list, String, Contains, ◌+◌, ◌≤◌, ◌<◌, length, append-nil, is_some, slice_get, take, nat_lt, ltb→lt, ltb-true, T}
 use Rattle.std.proofs.lemmas.{List.map-append, List.length-map, Bool.and_from as both, List.Elements.Contains-append_right, Map.Made.IsDistinct-keys_filter, Simd.map-map, List.Folds.list_all-append, Map.Keys.any_passes_from_place as any_at, Option.same_Some as same-some, Option.slice_get-map, Option.slice_get_within}
 use Rattle.std.specs.Prelude.{if◌then◌else◌, unwrap_or, option_and_then}
 use Rattle.std.specs.{List.filter, List.filter_map, List.list_all, List.AllZip, List.IsDistinct, Map.keys_of, Option.option_map_or}
 use Rattle.std.specs.declared.alloc.Global.{Global}
 use Rattle.wit_model.specs.declared.model.{Function.Function, Resolve.Resolve, TypeDef.TypeDef, WorldKey.WorldKey, TypeOwner.TypeOwner, Package.Package, Interface.Interface, PackageId.PackageId, «Type».«Type» as ValueType, WorldItem.WorldItem, InterfaceId.InterfaceId, TypeId.TypeId, World.World}
 use Rattle.wit_model.specs.Lookup.{interface_at, interface_path, key_text, resource_of, type_at, identity_of, package_at, path_in_package, path_of_interface, path_of_world, world_at}
-use Rattle.wit_model.specs.{Parts.function_types, Parts.kind_numbers, Valid.IsValid, Valid.Keeps, Checks.references, Text.Text, Text.optional_text, Text.text_of, Text.text_eq, Types.number_of, Types.declaration_of, Types.number_tree, Names.path_in}
-use Rattle.wit_model.proofs.{Elements.contains-get, VersionLaws.same_text, OnePath.named-path}
-use Rattle.bind_copy.specs.Copies.{is_new_under, number_under, IsEntryUnder, IsFunctionUnder, IsInterfaceUnder, IsItemUnder, IsFunctionEntry as IsFunctionEntryUnder, become_one, IsTypeUnder}
-use Rattle.bind_union.specs.Carried.{EntryBecomes, IsCarried, IsFunctionCopy, IsFunctionEntry, IsInterfaceCopy, ItemBecomes, KeyBecomes, Renumbering}
+use Rattle.wit_model.specs.{Parts.function_types, Parts.kind_numbers, Valid.IsValid, Valid.Keeps, Checks.references, Text.Text, Text.optional_text, Text.text_of, Text.text_eq, Types.number_of, Types.declaration_of, Types.number_tree, Types.grow, Names.path_in}
+use Rattle.wit_model.proofs.{Checks.below_at, Elements.contains-get, VersionLaws.same_text, OnePath.named-path, Tables.grow_at}
+use Rattle.bind_copy.specs.Copies.{is_new_under, number_under, IsEntryUnder, IsFunctionUnder, IsInterfaceUnder, IsItemUnder, IsFunctionEntry as IsFunctionEntryUnder, become_one, IsTypeUnder, member_docs}
+use Rattle.bind_union.specs.Carried.{stability_view, EntryBecomes, IsCarried, IsFunctionCopy, IsFunctionEntry, IsInterface, IsInterfaceCopy, IsType, ItemBecomes, KeyBecomes, Renumbering}
 use Rattle.bind_union.specs.{Views.renamed_type, Merged.AreCopies, Joined.same_key, Joined.none, Joined.met, Joined.added, Joined.Joined, Joined.IsJoined}
 use Rattle.bind_carry.specs.{ReadyItems.IsKeyReady, BoundGains.bound_fates, FirstPass.IsFirstPass, Fates.is_carried, Marked.AreChosen, Packaged.IsPackageCarried, Renumbered.first_of, Renumbered.is_copied, TooLong.CarriedThings, TooLong.TypeFates, First.first_fates, First.flag_under, Numbers.interface_number, Numbers.numbers_of, Numbers.package_number, Numbers.world_number, SecondPass.second_pass_of, SecondPass.IsSecondPass, Whole.home_under, Whole.IsInterfaceCarried, Whole.IsWorldCarried}
 use Rattle.bind_carry.proofs.{Joined.new_same, FirstNumbers.names, FirstWorlds.first_is_copied, SecondCarried.type_from, SecondCarried.second_is_copied, UnionKeys.carried_path, CopiesPlaced.copied_home, CopiesPlaced.copy_placed, WorldEntries.export_keyed, WorldEntries.import_keyed, InsertedBehind.all_behind, InsertedBehind.filter_passes, SecondPass.known as second_known, SecondPass.stood_how as second_stood, FirstInterfaces.stood_how as first_stood, FirstWorlds.first_worlds_are_copied, KeptPlaced.kept_placed, KeptPlaced.IsKeptAt, SecondCarried.carried_number, SecondCarried.inline_at, SecondCarried.inline_place, SecondPass.chosen, SecondPass.long}
-use Rattle.bind_union.proofs.{ViewTests.numbers_under, ViewTests.one_given, ViewTests.numbers_same, Images.same_declarations, Lists.no_true}
+use Rattle.bind_union.proofs.{ViewTests.numbers_under, ViewTests.one_given, ViewTests.numbers_same, Images.same_declarations, Lists.by_less, Lists.no_true}
 use Rattle.bind_union.proofs.Carrying.{carried_types, kind_carried, references_of, refers_below, same_identity, tree_same}
-use Rattle.wit_bind.specs.Brings.{entry_notes, function_notes, function_type_notes, inline_notes, interface_notes, item_notes, type_notes, type_notes_at, unnamed_notes, InterfaceNotes, Notes, key_texts, world_notes, BringsEntries, IsTypeOf}
+use Rattle.wit_bind.specs.Brings.{entry_notes, inline_notes, interface_notes, item_notes, noted, noted_by, noted_function, noted_number, noted_of, noted_parts, of_name, part, InterfaceNotes, NotedTree, Notes, key_texts, world_notes, BringsEntries, IsTypeOf}
 use Rattle.wit_bind.specs.Comes.{is_one_of}
-use Rattle.base_lemmas.proofs.{Bools.left_of as first_true, Bools.right_of as second_true, Elements.contains-later, Elements.zip_map, Elements.get-contains, Numbers.same-number, Options.nameless as named_none, Options.there as some-of}
+use Rattle.base_lemmas.proofs.{Bools.left_of as first_true, Bools.right_of as second_true, Elements.contains-later, Elements.get-contains, Lists.slice_take as slice_get-take, Numbers.same-number, Options.nameless as named_none, Options.there as some-of}
 use Rattle.bind_clash.proofs.PathsMatched.{world-path-of, IsPathOf}
 use Rattle.bind_match.specs.declared.matches.Matches.{Matches}
 use Rattle.wit_model.specs.declared.model.WorldKey.TheVariants as key
@@ -25,14 +25,29 @@ use Rattle.bind_carry.proofs.SecondCarried as second_joined
 
 -- ---- What is copied keeps its documentation, its stability and its external ids, in its order.
 
--- ---- functions
+-- ---- noted trees
 
-pub function_noted : (numbers : List ℕ) (old new : Function) → IsFunctionUnder numbers old new → function_notes new ≡ function_notes old
-function_noted numbers old new is = λ i. record { docs = is.docs i; stability = is.stability i; external_id = is.external_id i; of_members = [] }
+-- what is said of a type by itself
+abbrev pub type_notes : TypeDef → Notes
+type_notes t = record { docs = optional_text t.docs.contents; stability = stability_view t.stability; external_id = optional_text t.external_id; of_members = member_docs t.kind }
 
-functions_noted : (numbers : List ℕ) (olds news : List (String Global × Function)) → AllZip (IsFunctionEntryUnder numbers) olds news
-    → map {B = Text × Notes} (λ e. (text_of e.0, function_notes e.1)) news ≡ map (λ e. (text_of e.0, function_notes e.1)) olds
-functions_noted numbers olds news zip = search (std_rules, zip_map, function_noted)
+abbrev noted_step : List NotedTree → TypeDef → NotedTree
+noted_step table t = if is_none t.name then noted_by table t else of_name
+
+-- smaller numbers stand in front of a table
+front_parts : (table : List NotedTree) (n : ℕ) (ns : List ℕ) → list_all (λ m. nat_lt m n) ns ≡ true → noted_parts (take n table) ns ≡ noted_parts table ns
+front_parts table n [] h = refl
+front_parts table n (m ∷ ns) h = λ i. part (unwrap_or (slice_get-take table n m (ltb→lt m n (subst T (sym (first_true (nat_lt m n) (list_all (λ k. nat_lt k n) ns) h)) tt)) i) of_name)
+    (front_parts table n ns (second_true (nat_lt m n) (list_all (λ k. nat_lt k n) ns) h) i)
+
+abbrev noted_at : Resolve → ℕ → NotedTree
+noted_at r n = unwrap_or (slice_get (noted_of r) n) of_name
+
+-- what the table has for a type
+noted_here : (r : Resolve) (n : ℕ) (t : TypeDef) → type_at r n ≡ Some t → list_all (λ m. nat_lt m n) (kind_numbers t.kind) ≡ true → noted_at r n ≡ noted_step (noted_of r) t
+unfolding noted_of
+noted_here r n t at small = ap (λ o. unwrap_or o of_name) (grow_at noted_step r.types.items n t at)
+    ∙ (λ i. if is_none t.name then noted (type_notes t) (front_parts (grow noted_step [] r.types.items) n (kind_numbers t.kind) small i) else of_name)
 
 -- ---- names
 
@@ -42,30 +57,91 @@ inline_same x y e = search std_rules
 
 -- ---- what is carried of one `Resolve` into another
 
-module _ (r s : Resolve) (f : Renumbering) (interfaces numbers : List ℕ) (valid : IsValid r) (carried : IsCarried r s f)
+module _ (r s : Resolve) (f : Renumbering) (interfaces numbers : List ℕ) (valid : IsValid r) (carried : IsCarried r s f) (below_s : Keeps references s)
     (by_interface : (n : ℕ) → f.carries_interface n ≡ true → number_under interfaces n ≡ f.interfaces n) (by_type : number_under numbers ≡ f.types)
-    (types_noted : (n : ℕ) → f.copies_type n ≡ true → type_notes_at s (f.types n) ≡ type_notes_at r n)
+    (types_noted : (n : ℕ) → f.copies_type n ≡ true → option_map type_notes (type_at s (f.types n)) ≡ option_map type_notes (type_at r n))
     (unnamed_copied : (n : ℕ) (t : TypeDef) → type_at r n ≡ Some t → f.carries_type n ≡ true → f.copies_type n ≡ false → is_none t.name ≡ false)
     (under : (n : ℕ) (i : Interface) → interface_at r n ≡ Some i → f.copies_interface n ≡ true → (home : Option PackageId) × (j : Interface) × (interface_at s (f.interfaces n) ≡ Some j)
     × IsInterfaceUnder numbers home i j) (inline_copied : (m : ℕ) (i : Interface) → f.carries_interface m ≡ true → interface_at r m ≡ Some i → i.name ≡ None → f.copies_interface m ≡ true) where
-  -- ---- types without a name
+  -- ---- noted trees of types
 
-  abbrev if_unnamed : TypeDef → Option Notes
-  if_unnamed t = if is_none t.name then Some (type_notes t) else None
+  below_r : Keeps references r
+  below_r = references_of r valid.rules
 
-  -- what is carried has them where it has no name, since it is a copy then
-  unnamed_noted : (n : ℕ) → f.carries_type n ≡ true → unnamed_notes s (f.types n) ≡ unnamed_notes r n
-  unnamed_noted n c = grind (arith, inline_same, same-some)
+  -- what is copied has its noted tree, if its parts have theirs
+  copy_noted : (n : ℕ) (t : IsType r s f n) → f.copies_type n ≡ true
+      → noted_parts (noted_of s) (map f.types (kind_numbers t.def.kind)) ≡ noted_parts (noted_of r) (kind_numbers t.def.kind) → noted_by (noted_of s) t.image ≡ noted_by (noted_of r) t.def
+  copy_noted n t copy parts =
+      let notes : type_notes t.image ≡ type_notes t.def =
+      same-some (type_notes t.image) (type_notes t.def) (sym (ap (option_map type_notes) t.at_image) ∙ (types_noted n copy ∙ ap (option_map type_notes) t.found)) in
+      let all : noted_parts (noted_of s) (kind_numbers t.image.kind) ≡ noted_parts (noted_of r) (kind_numbers t.def.kind) =
+      ap (noted_parts (noted_of s)) (numbers_same f.types t.def.kind t.image.kind (t.copied copy).kind.kinds) ∙ parts in
+      λ i. noted (notes i) (all i)
+
+  abbrev same_at : ℕ → Type 0
+  same_at n = f.carries_type n ≡ true → noted_at s (f.types n) ≡ noted_at r n
+
+  smaller_parts : (n : ℕ) → ((m : ℕ) → m < n → same_at m) → (ns : List ℕ) → list_all (λ m. nat_lt m n) ns ≡ true → list_all f.carries_type ns ≡ true
+      → noted_parts (noted_of s) (map f.types ns) ≡ noted_parts (noted_of r) ns
+  smaller_parts n smaller [] low h = refl
+  smaller_parts n smaller (m ∷ ns) low h =
+      let one = smaller m (ltb-true m n (first_true (nat_lt m n) (list_all (λ k. nat_lt k n) ns) low)) (first_true (f.carries_type m) (list_all f.carries_type ns) h) in
+      let rest = smaller_parts n smaller ns (second_true (nat_lt m n) (list_all (λ k. nat_lt k n) ns) low) (second_true (f.carries_type m) (list_all f.carries_type ns) h) in
+      λ i. part (one i) (rest i)
+
+  one_noted : (n : ℕ) → ((m : ℕ) → m < n → same_at m) → same_at n
+  one_noted n smaller c = noted_here s (f.types n) t.image t.at_image (below_at s below_s (f.types n) t.image t.at_image)
+      ∙ (by (is_none t.def.name) refl ∙ sym (noted_here r n t.def t.found small))
+    where
+      t : IsType r s f n
+      t = carried.types n c
+
+      small : list_all (λ m. nat_lt m n) (kind_numbers t.def.kind) ≡ true
+      small = below_at r below_r n t.def t.found
+
+      names : is_none t.image.name ≡ is_none t.def.name
+      names = inline_same t.def.name t.image.name t.name
+
+      copied : (b : Bool) → f.copies_type n ≡ b → is_none t.def.name ≡ true → f.copies_type n ≡ true
+      copied true e bare = e
+      copied false e bare = no_true (sym (unnamed_copied n t.def t.found c e) ∙ bare)
+
+      opened : is_none t.def.name ≡ true → noted_by (noted_of s) t.image ≡ noted_by (noted_of r) t.def
+      opened bare =
+          let copy = copied (f.copies_type n) refl bare in
+          copy_noted n t copy (smaller_parts n smaller (kind_numbers t.def.kind) small (kind_carried r s f valid.rules carried below_s t.def t.image (t.copied copy).kind))
+
+      by : (b : Bool) → is_none t.def.name ≡ b → noted_step (noted_of s) t.image ≡ noted_step (noted_of r) t.def
+      by true e = ap (λ b. if b then noted_by (noted_of s) t.image else of_name) (names ∙ e)
+          ∙ (opened e ∙ sym (ap (λ b. if b then noted_by (noted_of r) t.def else of_name) e))
+      by false e = ap (λ b. if b then noted_by (noted_of s) t.image else of_name) (names ∙ e) ∙ sym (ap (λ b. if b then noted_by (noted_of r) t.def else of_name) e)
+
+  number_same : (n : ℕ) → same_at n
+  number_same = by_less same_at one_noted
 
   -- so have all of these numbers
-  pub parts_noted : (ns : List ℕ) → list_all f.carries_type ns ≡ true → map (unnamed_notes s) (map f.types ns) ≡ map (unnamed_notes r) ns
+  parts_noted : (ns : List ℕ) → list_all f.carries_type ns ≡ true → noted_parts (noted_of s) (map f.types ns) ≡ noted_parts (noted_of r) ns
   parts_noted [] h = refl
-  parts_noted (n ∷ ns) h = λ i. unnamed_noted n (first_true _ _ h) i ∷ parts_noted ns (second_true (f.carries_type n) _ h) i
+  parts_noted (n ∷ ns) h =
+      let one = number_same n (first_true (f.carries_type n) (list_all f.carries_type ns) h) in
+      let rest = parts_noted ns (second_true (f.carries_type n) (list_all f.carries_type ns) h) in
+      λ i. part (one i) (rest i)
 
-  -- and those of parameters and results
-  function_types_noted : (old new : Function) → IsFunctionCopy f old new → function_type_notes s new ≡ function_type_notes r old
-  function_types_noted old new c = ap (λ ts. map (unnamed_notes s) (filter_map number_of ts)) all
-      ∙ (ap (map (unnamed_notes s)) (numbers_under f.types (function_types old))
+  -- what is copied has its noted tree, with a name or without
+  pub type_same : (n : ℕ) (t : IsType r s f n) → f.copies_type n ≡ true → noted_by (noted_of s) t.image ≡ noted_by (noted_of r) t.def
+  type_same n t copy = copy_noted n t copy (parts_noted (kind_numbers t.def.kind) (kind_carried r s f valid.rules carried below_s t.def t.image (t.copied copy).kind))
+
+  number_noted : (n : ℕ) → f.copies_type n ≡ true → noted_number s (f.types n) ≡ noted_number r n
+  number_noted n copy =
+      let t = carried.types n (carried.copied_types n copy) in
+      ap (option_map (noted_by (noted_of s))) t.at_image ∙ (ap Some (type_same n t copy) ∙ sym (ap (option_map (noted_by (noted_of r))) t.found))
+
+  -- ---- functions
+
+  function_types_noted : (old new : Function) → IsFunctionCopy f old new
+      → noted_parts (noted_of s) (filter_map number_of (function_types new)) ≡ noted_parts (noted_of r) (filter_map number_of (function_types old))
+  function_types_noted old new c = ap (λ ts. noted_parts (noted_of s) (filter_map number_of ts)) all
+      ∙ (ap (noted_parts (noted_of s)) (numbers_under f.types (function_types old))
       ∙ parts_noted (filter_map number_of (function_types old))
       (first_true _ _ (sym (list_all-append f.carries_type (filter_map number_of (function_types old)) (option_to_list (resource_of old.kind))) ∙ c.parts)))
     where
@@ -78,23 +154,35 @@ module _ (r s : Resolve) (f : Renumbering) (interfaces numbers : List ℕ) (vali
       all = (λ i. params i ++ (ap option_to_list c.result ∙ one_given (renamed_type f.types) old.result) i)
           ∙ sym (map-append (renamed_type f.types) (map (λ p. p.ty) old.params.items) (option_to_list old.result))
 
-  each_function : (olds news : List (String Global × Function)) → AllZip (IsFunctionEntry f) olds news → map (λ e. function_type_notes s e.1) news ≡ map (λ e. function_type_notes r e.1) olds
-  each_function olds news zip = zip_map (IsFunctionEntry f) (λ e. function_type_notes r e.1) (λ e. function_type_notes s e.1) (λ a b z. function_types_noted a.1 b.1 z.1) olds news zip
+  function_noted : (old new : Function) → IsFunctionUnder numbers old new → IsFunctionCopy f old new → noted_function s new ≡ noted_function r old
+  function_noted old new is c =
+      let parts = function_types_noted old new c in
+      λ i. noted (record { docs = is.docs i; stability = is.stability i; external_id = is.external_id i; of_members = [] }) (parts i)
+
+  each_function : (olds news : List (String Global × Function)) → AllZip (IsFunctionEntryUnder numbers) olds news → AllZip (IsFunctionEntry f) olds news
+      → map {B = Text × NotedTree} (λ e. (text_of e.0, noted_function s e.1)) news ≡ map (λ e. (text_of e.0, noted_function r e.1)) olds
+  each_function [] [] u z = refl
+  each_function [] (y ∷ ys) u z = absurd u
+  each_function (x ∷ xs) [] u z = absurd u
+  each_function (x ∷ xs) (y ∷ ys) u z =
+      let one = function_noted x.1 y.1 u.0.1 z.0.1 in
+      let rest = each_function xs ys u.1 z.1 in
+      λ i. (u.0.0 i, one i) ∷ rest i
 
   -- ---- interfaces
 
   each_type : (es : List (Text × ℕ)) → list_all (λ (e : Text × ℕ). f.copies_type e.1) es ≡ true
-      → map {B = Text × Option Notes} (λ (e : Text × ℕ). (e.0, type_notes_at s (f.types e.1))) es ≡ map (λ (e : Text × ℕ). (e.0, type_notes_at r e.1)) es
+      → map {B = Text × Option NotedTree} (λ (e : Text × ℕ). (e.0, noted_number s (f.types e.1))) es ≡ map (λ (e : Text × ℕ). (e.0, noted_number r e.1)) es
   each_type [] h = refl
-  each_type (e ∷ es) h = λ i. (e.0, types_noted e.1 (first_true _ _ h) i) ∷ each_type es (second_true (f.copies_type e.1) _ h) i
+  each_type (e ∷ es) h = λ i. (e.0, number_noted e.1 (first_true _ _ h) i) ∷ each_type es (second_true (f.copies_type e.1) _ h) i
 
   types_of : (old image : Interface) → IsInterfaceCopy f old image
-      → map {B = Text × Option Notes} (λ e. (text_of e.0, type_notes_at s e.1.0)) image.types.entries ≡ map (λ e. (text_of e.0, type_notes_at r e.1.0)) old.types.entries
-  types_of old image c = sym (map-map (λ (x : Text × ℕ). (x.0, type_notes_at s x.1)) (λ e. (text_of e.0, e.1.0)) image.types.entries)
-      ∙ (ap (map (λ (x : Text × ℕ). (x.0, type_notes_at s x.1))) c.types ∙ (map-map (λ (x : Text × ℕ). (x.0, type_notes_at s x.1)) (λ e. (text_of e.0, f.types e.1.0)) old.types.entries
-      ∙ (sym (map-map (λ (x : Text × ℕ). (x.0, type_notes_at s (f.types x.1))) (λ e. (text_of e.0, e.1.0)) old.types.entries)
+      → map {B = Text × Option NotedTree} (λ e. (text_of e.0, noted_number s e.1.0)) image.types.entries ≡ map (λ e. (text_of e.0, noted_number r e.1.0)) old.types.entries
+  types_of old image c = sym (map-map (λ (x : Text × ℕ). (x.0, noted_number s x.1)) (λ e. (text_of e.0, e.1.0)) image.types.entries)
+      ∙ (ap (map (λ (x : Text × ℕ). (x.0, noted_number s x.1))) c.types ∙ (map-map (λ (x : Text × ℕ). (x.0, noted_number s x.1)) (λ e. (text_of e.0, f.types e.1.0)) old.types.entries
+      ∙ (sym (map-map (λ (x : Text × ℕ). (x.0, noted_number s (f.types x.1))) (λ e. (text_of e.0, e.1.0)) old.types.entries)
       ∙ (each_type (map (λ e. (text_of e.0, e.1.0)) old.types.entries) (copied old.types.entries c.copies)
-      ∙ map-map (λ (x : Text × ℕ). (x.0, type_notes_at r x.1)) (λ e. (text_of e.0, e.1.0)) old.types.entries))))
+      ∙ map-map (λ (x : Text × ℕ). (x.0, noted_number r x.1)) (λ e. (text_of e.0, e.1.0)) old.types.entries))))
     where
       copied : (es : List (String Global × TypeId)) → list_all (λ (id : TypeId). f.copies_type id.0) (map (λ e. e.1) es) ≡ true
           → list_all (λ (e : Text × ℕ). f.copies_type e.1) (map (λ e. (text_of e.0, e.1.0)) es) ≡ true
@@ -104,7 +192,29 @@ module _ (r s : Resolve) (f : Renumbering) (interfaces numbers : List ℕ) (vali
   -- an interface that is copied has its notes
   pub interface_noted : (n : ℕ) (i : Interface) → interface_at r n ≡ Some i → f.copies_interface n ≡ true → (j : Interface) × (interface_at s (f.interfaces n) ≡ Some j)
       × (interface_notes s j ≡ interface_notes r i)
-  interface_noted n i at copy = grind (arith, same-some, types_of, each_function, functions_noted)
+  interface_noted n i at copy = (
+    u.1,
+    u.2,
+    λ k. record {
+      docs = is.docs k;
+      stability = is.stability k;
+      functions = each_function i.functions.entries u.1.functions.entries (is.functions (valid.distinct_keys.interfaces n i at).1) copied.functions k;
+      types = types_of i u.1 copied k;
+    },
+  )
+    where
+      u : (home : Option PackageId) × (j : Interface) × (interface_at s (f.interfaces n) ≡ Some j) × IsInterfaceUnder numbers home i j
+      u = under n i at copy
+
+      is : IsInterfaceUnder numbers u.0 i u.1
+      is = u.3
+
+      x : IsInterface r s f n
+      x = carried.interfaces n (carried.copied_interfaces n copy)
+
+      copied : IsInterfaceCopy f i u.1
+      copied = subst (λ (y : Interface). IsInterfaceCopy f i y) (same-some x.image u.1 (sym x.at_image ∙ u.2))
+          (subst (λ (y : Interface). IsInterfaceCopy f y x.image) (same-some x.old i (sym x.found ∙ at)) (x.copied copy))
 
   abbrev if_inline : Resolve → Bool → Interface → Option InterfaceNotes
   if_inline q b i = if b then Some (interface_notes q i) else None
@@ -119,7 +229,7 @@ module _ (r s : Resolve) (f : Renumbering) (interfaces numbers : List ℕ) (vali
   key_texts_same x y z = search (std_rules, carried_path)
 
   item_noted : (i j : WorldItem) → IsItemUnder interfaces numbers i j → ItemBecomes f i j → item_notes s j ≡ item_notes r i
-  item_noted x y u z = search (std_rules, inline_noted, function_noted, function_types_noted)
+  item_noted x y u z = search (std_rules, inline_noted, function_noted, number_noted)
 
   entry_noted : (e x : WorldKey × WorldItem) → IsEntryUnder interfaces numbers e x → EntryBecomes f e x → entry_notes s x ≡ entry_notes r e
   entry_noted e x u z = λ i. (key_texts_same e.0 x.0 z.0 i, item_noted e.1 x.1 u.1 z.1 i)
@@ -199,7 +309,7 @@ module _ (own other merged : Resolve) (valid_own : IsValid own) (valid_other : I
 
   -- ---- types
 
-  first_type : (n : ℕ) → is_copied fates n ≡ true → type_notes_at merged (number_under first_numbers n) ≡ type_notes_at other n
+  first_type : (n : ℕ) → is_copied fates n ≡ true → option_map type_notes (type_at merged (number_under first_numbers n)) ≡ option_map type_notes (type_at other n)
   first_type n h =
       let t = first_copies.carried.types n (first_copies.carried.copied_types n h) in
       let home = copied_home fates n h in
@@ -207,7 +317,7 @@ module _ (own other merged : Resolve) (valid_own : IsValid own) (valid_other : I
       ap (λ l. option_map type_notes (slice_get l (number_under first_numbers n))) p.types_here
       ∙ (ap (option_map type_notes) place.at_image ∙ (ap Some (type_noted first_numbers home.0 t.def place.image place.under) ∙ sym (ap (option_map type_notes) t.found)))
 
-  second_type : (n : ℕ) → is_copied later_fates n ≡ true → type_notes_at merged (number_under types n) ≡ type_notes_at other n
+  second_type : (n : ℕ) → is_copied later_fates n ≡ true → option_map type_notes (type_at merged (number_under types n)) ≡ option_map type_notes (type_at other n)
   second_type n h =
       let t = second_copies.carried.types n (second_copies.carried.copied_types n h) in
       let home = copied_home later_fates n h in
@@ -266,17 +376,20 @@ module _ (own other merged : Resolve) (valid_own : IsValid own) (valid_other : I
 
   -- ---- types that come
 
-  first_parts : (ns : List ℕ) → list_all first.carries_type ns ≡ true → map (unnamed_notes merged) (map first.types ns) ≡ map (unnamed_notes other) ns
-  first_parts = parts_noted other merged first c.interfaces.items first_numbers valid_other first_copies.carried (λ k h. refl) refl first_type first_named first_interface first_copies.inline_copied
+  abbrev KeepsNoted : Renumbering → Type 0
+  KeepsNoted f = (k : ℕ) (t : IsType other merged f k) → f.copies_type k ≡ true → noted_by (noted_of merged) t.image ≡ noted_by (noted_of other) t.def
 
-  second_parts : (ns : List ℕ) → list_all second.carries_type ns ≡ true → map (unnamed_notes merged) (map second.types ns) ≡ map (unnamed_notes other) ns
-  second_parts = parts_noted other merged second interfaces types valid_other second_copies.carried handed_on refl second_type second_named second_interface second_copies.inline_copied
+  first_noted : KeepsNoted first
+  first_noted = type_same other merged first c.interfaces.items first_numbers valid_other first_copies.carried below (λ k h. refl) refl first_type first_named first_interface
+      first_copies.inline_copied
+
+  second_noted : KeepsNoted second
+  second_noted = type_same other merged second interfaces types valid_other second_copies.carried below handed_on refl second_type second_named second_interface second_copies.inline_copied
 
   -- what is copied is a type of the other's
-  copy_brought : (f : Renumbering) (is : AreCopies own other merged f) → ((n : ℕ) → f.copies_type n ≡ true → type_notes_at merged (f.types n) ≡ type_notes_at other n)
-      → ((ns : List ℕ) → list_all f.carries_type ns ≡ true → map (unnamed_notes merged) (map f.types ns) ≡ map (unnamed_notes other) ns)
-      → (k : ℕ) → f.copies_type k ≡ true → (n : ℕ) → f.types k ≡ n → (y : TypeDef) → type_at merged n ≡ Some y → IsTypeOf other merged n y
-  copy_brought f is noted made k copy n number y at =
+  copy_brought : (f : Renumbering) (is : AreCopies own other merged f) → KeepsNoted f → (k : ℕ) → f.copies_type k ≡ true → (n : ℕ) → f.types k ≡ n → (y : TypeDef) → type_at merged n ≡ Some y
+      → IsTypeOf other merged n y
+  copy_brought f is keeps k copy n number y at =
       let carried = is.carried.copied_types k copy in
       let t = is.carried.types k carried in
       let image : t.image ≡ y = same-some t.image y (sym t.at_image ∙ (ap (type_at merged) number ∙ at)) in
@@ -288,18 +401,17 @@ module _ (own other merged : Resolve) (valid_own : IsValid own) (valid_other : I
         tree = ap (number_tree merged) (sym number) ∙ tree_same other merged f valid_other.rules is.carried below k carried;
         declares = ap (declaration_of merged) (sym image) ∙ same_declarations other merged f.types f.carries_type (refers_below other (references_of other valid_other.rules))
             (refers_below merged below) all t.def t.image (t.copied copy).kind;
-        notes = ap type_notes (sym image) ∙ same-some (type_notes t.image) (type_notes t.def) (sym (ap (option_map type_notes) t.at_image) ∙ (noted k copy ∙ ap (option_map type_notes) t.found));
-        parts = ap (λ (d : TypeDef). map (unnamed_notes merged) (kind_numbers d.kind)) (sym image)
-            ∙ (ap (map (unnamed_notes merged)) (numbers_same f.types t.def.kind t.image.kind (t.copied copy).kind.kinds)
-            ∙ made (kind_numbers t.def.kind) (kind_carried other merged f valid_other.rules is.carried below t.def t.image (t.copied copy).kind));
+        notes = ap (noted_by (noted_of merged)) (sym image) ∙ keeps k t copy;
       }
 
   -- so is each type behind own ones
-  pub type_brought : (n : ℕ) (y : TypeDef) → length own.types.items ≤ n → type_at merged n ≡ Some y → IsTypeOf other merged n y
+  pub type_brought : (n : ℕ) (y : TypeDef) → length own.types.items ≤ n → type_at merged n ≡ Some y
+      → (x : IsTypeOf other merged n y) × ((first.copies_type x.source ≡ true) ⊎ (second.copies_type x.source ≡ true))
+  unfolding copy_brought
   type_brought n y high at = elim (type_from own other merged valid_own valid_other world other_world w v m c first_numbers p copied interfaces types s n high
       (slice_get_within merged.types.items n y at)) [
-        | inl x ↦ copy_brought first first_copies first_type first_parts x.0 x.1 n x.2 y at
-        | inr x ↦ copy_brought second second_copies second_type second_parts x.0 x.1 n x.2 y at
+        | inl x ↦ (copy_brought first first_copies first_noted x.0 x.1 n x.2 y at, inl x.1)
+        | inr x ↦ (copy_brought second second_copies second_noted x.0 x.1 n x.2 y at, inr x.1)
       ]
 
   -- ---- interfaces that come
@@ -308,7 +420,7 @@ module _ (own other merged : Resolve) (valid_own : IsValid own) (valid_other : I
   pub interface_brought : (n : ℕ) (i : Interface) (path : Text) → interface_at other n ≡ Some i → flag_under c.copied_interfaces.items n ≡ true → path_of_interface other i ≡ Some path
       → (j : Interface) × Contains merged.interfaces.items j × (path_of_interface merged j ≡ Some path) × (interface_notes merged j ≡ interface_notes other i)
   interface_brought n i path at set is =
-      let x = interface_noted other merged first c.interfaces.items first_numbers valid_other first_copies.carried (λ k h. refl) refl first_type first_named first_interface
+      let x = interface_noted other merged first c.interfaces.items first_numbers valid_other first_copies.carried below (λ k h. refl) refl first_type first_named first_interface
       first_copies.inline_copied n i at set in (
         x.0,
         get-contains merged.interfaces.items (number_under c.interfaces.items n) x.0 x.1,
@@ -374,10 +486,11 @@ module _ (own other merged : Resolve) (valid_own : IsValid own) (valid_other : I
     joined_exports : Joined first [] x.exports.entries place.image.exports.entries
     joined_exports = search (std_rules, place, old, j, image)
 
-    noted : (olds news : Entries) → Joined first [] olds news
+    all_noted : (olds news : Entries) → Joined first [] olds news
         → AllZip (IsEntryUnder c.interfaces.items first_numbers) (filter (λ (e : WorldKey × WorldItem). is_new_under c.interfaces.items [] e.0) olds) news
         → map (entry_notes merged) news ≡ map (entry_notes other) olds
-    noted = entries_noted other merged first c.interfaces.items first_numbers valid_other first_copies.carried (λ k h. refl) refl first_type first_named first_interface first_copies.inline_copied
+    all_noted = entries_noted other merged first c.interfaces.items first_numbers valid_other first_copies.carried below (λ k h. refl) refl first_type first_named first_interface
+        first_copies.inline_copied
 
     -- a world that is copied, with its notes
     pub world_brought : (y : World) × Contains merged.worlds.items y × (path_of_world merged y ≡ Some path) × (world_notes merged y ≡ world_notes other x)
@@ -388,8 +501,8 @@ module _ (own other merged : Resolve) (valid_own : IsValid own) (valid_other : I
       λ i. record {
         docs = place.is.docs i;
         stability = place.is.stability i;
-        imports = noted x.imports.entries place.image.imports.entries joined_imports (place.is.imports apart.0) i;
-        exports = noted x.exports.entries place.image.exports.entries joined_exports (place.is.exports apart.1) i;
+        imports = all_noted x.imports.entries place.image.imports.entries joined_imports (place.is.imports apart.0) i;
+        exports = all_noted x.exports.entries place.image.exports.entries joined_exports (place.is.exports apart.1) i;
       },
     )
 
@@ -433,10 +546,10 @@ module _ (own other merged : Resolve) (valid_own : IsValid own) (valid_other : I
         (keyed : (x : WorldKey × WorldItem) → Contains here x → (id : InterfaceId) → x.0 ≡ key.Interface id → is_some (interface_path own id.0) ≡ true)
         (join : Joined second here olds news) (zip : AllZip (IsEntryUnder interfaces types) (filter (λ (e : WorldKey × WorldItem). is_new_under interfaces here e.0) olds) news) where
       entries_brought : BringsEntries (key_texts own here) other olds merged whole
-      entries_brought e held fresh = go (met_or_noted other merged second interfaces types valid_other second_copies.carried handed_on refl second_type second_named second_interface
+      entries_brought e held fresh = go (met_or_noted other merged second interfaces types valid_other second_copies.carried below handed_on refl second_type second_named second_interface
           second_copies.inline_copied here olds news join zip e held)
         where
-          go : IsMetOrNoted other merged second interfaces types valid_other second_copies.carried handed_on refl second_type second_named second_interface second_copies.inline_copied here
+          go : IsMetOrNoted other merged second interfaces types valid_other second_copies.carried below handed_on refl second_type second_named second_interface second_copies.inline_copied here
               news e → (x : WorldKey × WorldItem) × Contains whole x × (entry_notes merged x ≡ entry_notes other e)
           go (inl (there, h, same)) = no_true (sym fresh ∙ known here (key_text other e.0) there h (sym (own_text there.0 (keyed there h)) ∙ same))
           go (inr (x, h, same)) = (x, subst (λ (l : List (WorldKey × WorldItem)). Contains l x) (sym behind) (Contains-append_right here news x h), same)

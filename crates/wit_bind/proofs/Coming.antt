@@ -3,8 +3,8 @@ use Rattle.std.proofs.Common.{rules as std_rules, ◌≡◌, ◌⊎◌, inl, inr
 use Rattle.std.proofs.lemmas.{List.length-map, Option.slice_get_within}
 use Rattle.std.specs.{Prelude.String, List.list_any, Option.option_map_or}
 use Rattle.std.specs.declared.alloc.Global.{Global}
-use Rattle.wit_model.specs.declared.model.{Interface.Interface, Resolve.Resolve, TypeOwner.TypeOwner, World.World, WorldItem.WorldItem, WorldKey.WorldKey}
-use Rattle.wit_model.specs.{Lookup.interface_at, Lookup.interface_path, Lookup.key_text, Lookup.world_at, Meaning.WorldMeaning, Text.Text, Text.text_eq, Meant.entries_meaning, Rules.is_id, Uses.item_interface}
+use Rattle.wit_model.specs.declared.model.{Function.Function, Interface.Interface, Resolve.Resolve, TypeOwner.TypeOwner, World.World, WorldItem.WorldItem, WorldKey.WorldKey}
+use Rattle.wit_model.specs.{Lookup.interface_at, Lookup.interface_path, Lookup.key_text, Lookup.world_at, Meaning.WorldMeaning, Text.Text, Text.text_eq, Meant.entries_meaning, Rules.is_id, Uses.item_interface, Valid.item_function}
 use Rattle.wit_model.proofs.{OnePath.named-path, RulesLemmas.is_id_some as some_id, TextLemmas.text_same as text-same}
 use Rattle.bind_meaning.specs.Clash.{entry_under, CanUnite}
 use Rattle.bind_meaning.proofs.WorldBindings.{export-key, import-key, keys-apart, IsKey}
@@ -13,13 +13,14 @@ use Rattle.bind_clash.proofs.KeysMatched.{no-entry}
 use Rattle.bind_copy.specs.Copies.{is_key_under, is_new_under, number_under}
 use Rattle.bind_match.specs.declared.matches.Matches.{Matches}
 use Rattle.bind_union.proofs.Lists.{no_true}
-use Rattle.bind_carry.specs.{Bound.bound_interfaces, Shown.any_new, Shown.AreShownBelow, Which.new_interfaces, Which.AreMatchedAll, Which.IsNumbered, BoundGains.bound_fates, BoundGains.gained_inline, BoundGains.gains_any, MadeOf.Come, MadeOf.IsMadeUp, MadeOf.IsOwnedBy, Whole.kept, Fates.copies, TooLong.carried_interfaces, TooLong.carried_worlds, TooLong.copies_of, TooLong.CarriedThings, TooLong.TypeFates, First.adds_any, First.first_fates, First.flag_under, First.is_named_at, Numbers.copied_count, Numbers.interface_number, Marked.is_inline_at, Marked.is_shown_in, Marked.mark_worlds, Marked.AreChosen, MatchedSame.AreMatchedAt, MatchedSame.NoneOfPath, Renumbered.is_matched, SecondPass.DoNotClash}
+use Rattle.bind_carry.specs.{Bound.bound_interfaces, Shown.AreShownBelow, Which.new_interfaces, Which.AreMatchedAll, Which.IsNumbered, BoundGains.bound_fates, BoundGains.gained_inline, MadeOf.Come, MadeOf.IsMadeUp, MadeOf.IsMet, MadeOf.IsOwnedBy, Whole.kept, Fates.copies, TooLong.carried_interfaces, TooLong.carried_worlds, TooLong.copies_of, TooLong.CarriedThings, TooLong.TypeFates, First.first_fates, First.flag_under, First.is_named_at, Numbers.copied_count, Numbers.interface_number, Marked.is_inline_at, Marked.is_shown_in, Marked.mark_worlds, Marked.AreChosen, MatchedSame.AreMatchedAt, MatchedSame.NoneOfPath, Renumbered.is_matched, SecondPass.DoNotClash}
 use Rattle.bind_carry.proofs.{FirstNumbers.matched_under, FirstNumbers.named_of_path, FirstNumbers.uncopied_under, Ready.fates_long, Ready.interface_count, Marking.are_chosen, WorldEntries.any_place, WorldEntries.export_keyed, WorldEntries.import_keyed, WorldEntries.new_under_same, Ranges.is_in_range, SecondInitial.gained_flag, SecondInitial.gained_long, SecondInitial.is_gained, SecondInitial.is_shown_new}
+use Rattle.bind_carry.proofs.{CopiesPlaced.some_same, MetTypes.met_as}
 use Rattle.bind_carry.proofs.WhatComes.{first_comes, marked_count, second_comes, IsNewImport}
 use Rattle.bind_carry.proofs.CountedCopies.{interfaces_flagged, worlds_flagged}
 use Rattle.wit_bind.specs.declared.bindgen.Bindgen.{Bindgen}
 use Rattle.wit_bind.specs.Bindings.{binding_of, IsBindgen}
-use Rattle.wit_bind.specs.Comes.{ExportIsGained, ImportIsGained, InlineComes, InlineIsGained, InterfaceComes, IsGained, OwnerComes, OwnerIsGained, OwnerIsShown, OwnerStands, SomethingComes, SomethingIsGained, TypeComes, TypeIsGained, WorldComes}
+use Rattle.wit_bind.specs.Comes.{ExportIsGained, FunctionComes, FunctionIsGained, ImportIsGained, InlineComes, InlineIsGained, InterfaceComes, IsGained, NamedIsGained, OwnerComes, OwnerIsGained, OwnerIsShown, OwnerStands, TypeComes, TypeIsGained, WorldComes}
 use Rattle.wit_bind.proofs.{MatchedPaths.all-matched, MatchedPaths.matched-with, MatchedPaths.none-of-path, NumbersAgree.meant, NumbersAgree.united_agree_by_numbers}
 use Rattle.wit_bind.proofs.TooMany.{new-interface, new-world, shown}
 use Rattle.base_lemmas.proofs.{Bools.left_of as first_true, Bools.right_of as second_true, Elements.get-contains, Lists.within_there, Options.none_some, Options.there as some-of}
@@ -127,28 +128,33 @@ module _ (own other : Bindgen) (o : IsBindgen own) (t : IsBindgen other) (can : 
     same : AreMatchedAt r s m.interfaces.items c.packages.items
     same = matched-with own other o t can m matched c numbered
 
-    any-flag : (flags : List Bool) → list_any (λ b. b) flags ≡ true → (n : ℕ) × (flag_under flags n ≡ true)
-    any-flag flags h = let p = any_place (λ (b : Bool). b) flags h in (p.place, ap (λ (o : Option Bool). unwrap_or o false) p.there ∙ p.passes_it)
+    -- functions of what is copied
+    interface-function : (n : ℕ) (i : Interface) → slice_get s.interfaces.items n ≡ Some i → flag_under c.copied_interfaces.items n ≡ true → (f : Function)
+        → Contains (map (λ e. e.1) i.functions.entries) f → FunctionComes r s f
+    interface-function n i at set f held = inl (record { place = n; comes = copied-interface n set; interface = i; found = at; held = held })
 
-    something : adds_any c ≡ true → SomethingComes r s
-    something h =
-        either-true {P = SomethingComes r s} (list_any (λ b. b) c.copied_interfaces.items) (list_any (λ b. b) c.copied_worlds.items)
-        (λ q. let f = any-flag c.copied_interfaces.items q in (f.0, inl (copied-interface f.0 f.1))) (λ q. let f = any-flag c.copied_worlds.items q in (f.0, inr (copied-world f.0 f.1))) h
+    world-function : (n : ℕ) (w : World) → slice_get s.worlds.items n ≡ Some w → flag_under c.copied_worlds.items n ≡ true → (e : WorldKey × WorldItem)
+        → Contains w.imports.entries e ⊎ Contains w.exports.entries e → (f : Function) → item_function e.1 ≡ Some f → FunctionComes r s f
+    world-function n w at set e held f is =
+        let comes = copied-world n set in
+        let same : w ≡ comes.world = some_same w comes.world (sym at ∙ comes.found) in
+        inr (record {
+          place = n;
+          comes = comes;
+          entry = e;
+          held = subst (λ (x : World). Contains x.imports.entries e ⊎ Contains x.exports.entries e) same held;
+          is_function = is;
+        })
 
     abbrev fates : TypeFates
     fates = first_fates r s m.interfaces.items c
 
+    pub type-comes : (n : ℕ) → slice_get (map copies fates) n ≡ Some true → TypeComes r s n
+    type-comes = first_comes r s t.valid m.interfaces.items c (OwnerComes r s) (OwnerStands r s) (λ id h. copied-interface id.0 h) (λ id h. copied-world id.0 h) stands
+        (λ id h. inl (same id.0 h).has_path) (FunctionComes r s) interface-function world-function
+
     pub types-come : Come (TypeComes r s) (copies_of fates)
-    types-come = record {
-      marks = map copies fates;
-      marked = marked_count (map copies fates);
-      each = λ n e. by n (first_comes r s t.valid m.interfaces.items c (OwnerComes r s) (OwnerStands r s) (λ id h. copied-interface id.0 h) (λ id h. copied-world id.0 h) stands
-          (λ id h. inl (same id.0 h).has_path) n e);
-    }
-      where
-        by : (n : ℕ) → IsOwnedBy s.types.items (OwnerComes r s) n ⊎ ((adds_any c ≡ true) × IsMadeUp s.types.items (OwnerStands r s) n) → TypeComes r s n
-        by n (inl x) = inl x
-        by n (inr (h, x)) = inr (something h, x)
+    types-come = record { marks = map copies fates; marked = marked_count (map copies fates); each = type-comes }
 
     -- ---- keys that are new
 
@@ -266,14 +272,18 @@ module _ (own other : Bindgen) (o : IsBindgen own) (t : IsBindgen other) (can : 
         export-same e held new = export-gained e held (sym (new_under_same later numbers w.exports.entries e.0
             (λ id is. let k = export_keyed s t.valid other.world.0 v at_v e held id is in named-same id.0 k.def k.found k.named)) ∙ new)
 
-        something-gained : gains_any later w v ≡ true → SomethingIsGained own other
-        something-gained h =
-            either-true {P = SomethingIsGained own other} (any_new later w.imports.entries v.imports.entries) (any_new later w.exports.entries v.exports.entries)
-            (λ q. let p = any_place (λ (e : WorldKey × WorldItem). is_new_under later w.imports.entries e.0) v.imports.entries q in
-            (p.thing, inl (import-same p.thing (get-contains v.imports.entries p.place p.thing p.there) p.passes_it)))
-            (λ q. let p = any_place (λ (e : WorldKey × WorldItem). is_new_under later w.exports.entries e.0) v.exports.entries q in
-            (p.thing, inr (export-same p.thing (get-contains v.exports.entries p.place p.thing p.there) p.passes_it)))
-            h
+        -- functions of what is gained
+        inline-function : (n : ℕ) (i : Interface) → slice_get s.interfaces.items n ≡ Some i → flag_under gained n ≡ true → (f : Function)
+            → Contains (map (λ e. e.1) i.functions.entries) f → FunctionIsGained own other f
+        inline-function n i at set f held = inl (record { place = n; gained = inline-gained n set; interface = i; found = at; held = held })
+
+        import-function : (e : WorldKey × WorldItem) → Contains v.imports.entries e → is_new_under later w.imports.entries e.0 ≡ true → (f : Function) → item_function e.1 ≡ Some f
+            → FunctionIsGained own other f
+        import-function e held new f is = inr (record { entry = e; gained = inl (import-same e held new); is_function = is })
+
+        export-function : (e : WorldKey × WorldItem) → Contains v.exports.entries e → is_new_under later w.exports.entries e.0 ≡ true → (f : Function) → item_function e.1 ≡ Some f
+            → FunctionIsGained own other f
+        export-function e held new f is = inr (record { entry = e; gained = inr (export-same e held new); is_function = is })
 
         shown-owner : (w : TypeOwner) → OwnerIsGained own other w → OwnerIsShown own other w
         shown-owner x h = search std_rules
@@ -284,16 +294,21 @@ module _ (own other : Bindgen) (o : IsBindgen own) (t : IsBindgen other) (can : 
         abbrev later_fates : List ℕ → TypeFates
         later_fates ns = bound_fates s own.world.0 other.world.0 w v gained later fates ns
 
-        pub types-gained : (ns : List ℕ) → length ns ≡ length s.types.items → Come (TypeIsGained own other) (copies_of (later_fates ns))
-        types-gained ns long = record {
-          marks = map copies (later_fates ns);
-          marked = marked_count (map copies (later_fates ns));
-          each = λ n e. by n (second_comes r s o.valid t.valid own.world.0 other.world.0 w v at_v agree gained later fates ns (fates_long r s m c) long (OwnerIsGained own other)
-              (OwnerIsShown own other) (λ id h. inline-gained id.0 h) shown-owner (λ id h. inl (has-path id.0 h)) (λ id h. h) n e);
-        }
+        pub type-gained : (ns : List ℕ) → length ns ≡ length s.types.items → (n : ℕ) → slice_get (map copies (later_fates ns)) n ≡ Some true → TypeIsGained own other n
+        type-gained ns long n e = by (second_comes r s o.valid t.valid own.world.0 other.world.0 w v at_v agree gained later fates ns (fates_long r s m c) long (OwnerIsGained own other)
+            (OwnerIsShown own other) (λ id h. inline-gained id.0 h) shown-owner (λ id h. inl (has-path id.0 h)) (λ id h. h) (FunctionIsGained own other) inline-function import-function
+            export-function n e)
           where
-            by : (n : ℕ) → (IsOwnedBy s.types.items (OwnerIsGained own other) n ⊎ IsNewImport later w.imports.entries v.imports.entries n)
-                ⊎ ((gains_any later w v ≡ true) × IsMadeUp s.types.items (OwnerIsShown own other) n) → TypeIsGained own other n
-            by n (inl (inl x)) = inl x
-            by n (inl (inr x)) = inr (inl (record { entry = x.entry; gained = import-same x.entry x.held x.is_new; is_type = x.is_type }))
-            by n (inr (h, x)) = inr (inr (something-gained h, x))
+            Named : ℕ → Type 0
+            Named k = IsOwnedBy s.types.items (OwnerIsGained own other) k ⊎ IsNewImport later w.imports.entries v.imports.entries k
+
+            named : (k : ℕ) → Named k → NamedIsGained own other k
+            named k (inl x) = inl x
+            named k (inr x) = inr (record { entry = x.entry; gained = import-same x.entry x.held x.is_new; is_type = x.is_type })
+
+            by : Named n ⊎ (IsMadeUp s.types.items (OwnerIsShown own other) n × IsMet s.types.items (FunctionIsGained own other) Named n) → TypeIsGained own other n
+            by (inl x) = inl (named n x)
+            by (inr (made, met)) = inr (made, met_as s.types.items (FunctionIsGained own other) Named (NamedIsGained own other) named n met)
+
+        pub types-gained : (ns : List ℕ) → length ns ≡ length s.types.items → Come (TypeIsGained own other) (copies_of (later_fates ns))
+        types-gained ns long = record { marks = map copies (later_fates ns); marked = marked_count (map copies (later_fates ns)); each = type-gained ns long }

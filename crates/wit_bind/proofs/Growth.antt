@@ -1,18 +1,22 @@
 -- A merge adds what comes, and nothing where nothing is new.
 use Rattle.std.proofs.Common.{rules as std_rules, ◌≡◌, inl, inr, refl, sym, ap, subst, ◌∙◌, arith, ℕ, zero, suc, ◌+◌, Bool, true, false, not, ◌&&◌, cond, List, [], ◌∷◌, ◌++◌, length, map, append-nil, Option, Some, None, is_some, option_and_then, slice_get, Contains, ◌≤◌, slice_set, unwrap_or}
 use Rattle.std.specs.{Cmp.Lexicographic.nat_list_cmp_total, FinMap.get, FinMap.get-from_entries, Option.option_map_or}
-use Rattle.wit_model.specs.declared.model.{Interface.Interface, Resolve.Resolve, TypeOwner.TypeOwner, World.World, WorldItem.WorldItem, WorldKey.WorldKey}
+use Rattle.wit_model.specs.declared.model.{Function.Function, Interface.Interface, Resolve.Resolve, TypeOwner.TypeOwner, World.World, WorldItem.WorldItem, WorldKey.WorldKey}
 use Rattle.wit_model.specs.{Lookup.interface_path, Lookup.key_text, Lookup.path_of_interface, Lookup.path_of_world, Lookup.world_at, Text.Text, Text.text_eq}
 use Rattle.wit_model.proofs.OnePath.{named-path}
 use Rattle.bind_meaning.specs.{ByNumbers.interfaces_by_path, ByNumbers.worlds_by_path, Clash.carried_worlds, Clash.entry_under, Clash.CanUnite, Roots.root_path}
 use Rattle.bind_meaning.proofs.Maps.{eq_by_text, found_keys, get-without}
 use Rattle.bind_meaning.proofs.WorldBindings.{interface-found, world-found, world-path}
-use Rattle.bind_carry.specs.{MadeOf.Come, Numbers.copied_count, Bound.bound_interfaces, First.first_fates, Union.IsUnionOf, BoundGains.bound_fates, BoundGains.gained_inline, Whole.IsInterfaceCarried, Whole.IsWorldCarried, TooLong.carried_interfaces, TooLong.copies_of, TooLong.gained_fates, TooLong.CarriedThings, TooLong.TypeFates, Shown.AreShownBelow}
+use Rattle.bind_carry.specs.{MadeOf.Come, MadeOf.IsOwnedBy, Numbers.copied_count, Bound.bound_interfaces, First.first_fates, Union.IsUnionOf, BoundGains.bound_fates, BoundGains.gained_inline, Whole.IsInterfaceCarried, Whole.IsWorldCarried, MatchedSame.AreMatchedAt, MatchedSame.NoneOfPath, Packaged.IsPackageCarried, Which.AreMatchedAll, TooLong.carried_interfaces, TooLong.carried_packages, TooLong.carried_worlds as carried_worlds_of, TooLong.copies_of, TooLong.gained_fates, TooLong.CarriedThings, TooLong.TypeFates, Shown.AreShownBelow}
+use Rattle.bind_carry.proofs.{CountedCopies.flags_many, MetTypes.met_by}
+use Rattle.std.proofs.Common.{is_none}
+use Rattle.std.proofs.lemmas.List.{length-map}
+use Rattle.wit_bind.proofs.{Bringing.new_package_copied, Bringing.new_world_copied, MatchedPaths.matches_have_paths}
 use Rattle.bind_carry.proofs.Counting.{length_both, carried_all, carried_few, copied_long, inline_all}
 use Rattle.bind_carry.proofs.{WhatComes.marked_count, Ready.bound_long, Ready.fates_long, Ready.numbers_count, SecondInitial.gained_long}
 use Rattle.wit_bind.specs.declared.bindgen.Bindgen.{Bindgen}
 use Rattle.wit_bind.specs.Bindings.{binding_of, IsBindgen}
-use Rattle.wit_bind.specs.Comes.{is_one_of, BringsNothing, ExportIsGained, ImportIsGained, InlineIsGained, InterfaceComes, IsGained, NamedComes, OwnerComes, OwnerIsGained, TypeComes, TypeIsGained, WorldComes}
+use Rattle.wit_bind.specs.Comes.{is_new_package, is_new_world, is_one_of, BringsNothing, ExportIsGained, FunctionComes, FunctionIsGained, ImportIsGained, InlineIsGained, InterfaceComes, IsGained, NamedComes, NamedIsGained, OwnerComes, OwnerIsGained, TypeComes, TypeIsGained, WorldComes}
 use Rattle.wit_bind.specs.Merges.{packages_to_come, worlds_to_come, AddsNothing, GrowsWithin, IsGrownBy, IsPlanOf}
 use Rattle.wit_bind.proofs.{NumbersAgree.export-found, NumbersAgree.import-found, TooMany.packages-few, TooMany.shown, TooMany.worlds-few}
 use Rattle.wit_bind.proofs.Coming.{copied-world, inline-come, interfaces-are, interfaces-come, types-come, types-gained}
@@ -99,10 +103,17 @@ module _ (own other : Bindgen) (o : IsBindgen own) (t : IsBindgen other) (can : 
   no-owner : (h : TypeOwner) → OwnerComes r s h → ⊥
   no-owner x c = search (std_rules, no-interface, no-world)
 
+  no-owned : (n : ℕ) → IsOwnedBy s.types.items (OwnerComes r s) n → ⊥
+  no-owned n c = no-owner c.def.owner c.owned_so
+
+  no-function : (f : Function) → FunctionComes r s f → ⊥
+  no-function f (inl c) = no-interface c.place c.comes
+  no-function f (inr c) = no-world c.place c.comes
+
   pub no-type : (n : ℕ) → TypeComes r s n → ⊥
-  no-type n (inl c) = no-owner c.def.owner c.owned_so
-  no-type n (inr ((k, inl c), up)) = no-interface k c
-  no-type n (inr ((k, inr c), up)) = no-world k c
+  no-type n (inl c) = no-owned n c
+  no-type n (inr (made, met)) =
+      elim (met_by s.types.items (FunctionComes r s) (IsOwnedBy s.types.items (OwnerComes r s)) n met) [ inl x ↦ no-function x.0 x.1 | inr x ↦ no-owned x.0 x.1 ]
 
   -- ---- what is gained
 
@@ -128,16 +139,24 @@ module _ (own other : Bindgen) (o : IsBindgen own) (t : IsBindgen other) (can : 
   no-gained-owner : (h : TypeOwner) → OwnerIsGained own other h → ⊥
   no-gained-owner x c = search (std_rules, no-inline)
 
+  no-gained-named : (n : ℕ) → NamedIsGained own other n → ⊥
+  no-gained-named n (inl c) = no-gained-owner c.def.owner c.owned_so
+  no-gained-named n (inr c) = no-import c.entry c.gained
+
+  no-gained-function : (f : Function) → FunctionIsGained own other f → ⊥
+  no-gained-function f (inl c) = no-inline c.place c.gained
+  no-gained-function f (inr c) = no-gain c.entry c.gained
+
   pub no-gained-type : (n : ℕ) → TypeIsGained own other n → ⊥
-  no-gained-type n (inl c) = no-gained-owner c.def.owner c.owned_so
-  no-gained-type n (inr (inl c)) = no-import c.entry c.gained
-  no-gained-type n (inr (inr ((e, c), up))) = no-gain e c
+  no-gained-type n (inl c) = no-gained-named n c
+  no-gained-type n (inr (made, met)) =
+      elim (met_by s.types.items (FunctionIsGained own other) (NamedIsGained own other) n met) [ inl x ↦ no-gained-function x.0 x.1 | inr x ↦ no-gained-named x.0 x.1 ]
 
 -- ---- a merge adds what comes, and nothing where nothing is new
 
 -- a list with more behind it, or with its elements changed and more behind it, is longer by that
-longer : {X : Type 0} (old between more new : List X) (n : ℕ) → length between ≡ length old → new ≡ between ++ more → length more ≤ n → length new ≤ length old + n
-longer old between more new n same is few = let all = ap length is ∙ length_both between more in omega (arith, same, all, few)
+longer : {X : Type 0} (old between more new : List X) (n : ℕ) → length between ≡ length old → new ≡ between ++ more → length more ≡ n → length new ≡ length old + n
+longer old between more new n same is count = let all = ap length is ∙ length_both between more in omega (arith, same, all, count)
 
 module _ (own other new : Bindgen) (o : IsBindgen own) (t : IsBindgen other) (can : CanUnite (binding_of own) (binding_of other)) (added : Added) (keys : List WorldKey) (p : IsPlanOf own other added keys) (g : IsGrownBy added other.metadata own new) where
   bound : (w : World) × (world_at own.resolve own.world.0 ≡ Some w)
@@ -163,11 +182,39 @@ module _ (own other new : Bindgen) (o : IsBindgen own) (t : IsBindgen other) (ca
 
   -- ---- packages and worlds
 
-  packages : length added.packages.items ≤ packages_to_come own.resolve other.resolve
-  packages = search (std_rules, planned, carried_few, packages-few)
+  paths : AreMatchedAll other.resolve p.matches × AreMatchedAt own.resolve other.resolve p.matches.interfaces.items c.packages.items
+      × NoneOfPath own.resolve other.resolve p.matches.interfaces.items
+  paths = matches_have_paths own other o t can p.matches p.matched own.world.0 other.world.0 w v added keys planned
 
-  worlds : length added.worlds.items ≤ worlds_to_come own.resolve other.resolve
-  worlds = search (std_rules, planned, carried_few, worlds-few)
+  packages : length added.packages.items ≡ packages_to_come own.resolve other.resolve
+  packages =
+      let r = own.resolve in
+      let s = other.resolve in
+      let flags : c.new_packages.items ≡ carried_packages p.matches = planned.numbered.new_packages in
+      let long : length c.new_packages.items ≡ length s.packages.items = ap length flags ∙ (length-map p.matches.packages.items is_none ∙ paths.0.packages) in
+      let all : length planned.before.packages.items ≡ copied_count c.new_packages.items =
+      carried_all (IsPackageCarried c) c.new_packages.items s.packages.items planned.before.packages.items long planned.first.packages in
+      let same = ap length planned.second.packages in
+      let most = packages-few r s o.valid t.valid p.matches p.matched in
+      let least = flags_many (is_new_package r) c.new_packages.items s.packages.items long
+      (λ n q at fresh. new_package_copied r s o.valid t.valid p.matches p.matched paths.0 c planned.numbered paths.1 n q at fresh) in
+      let count = ap copied_count flags in
+      omega (arith, all, same, most, least, count)
+
+  worlds : length added.worlds.items ≡ worlds_to_come own.resolve other.resolve
+  worlds =
+      let r = own.resolve in
+      let s = other.resolve in
+      let flags : c.copied_worlds.items ≡ carried_worlds_of s p.matches = planned.numbered.copied_worlds in
+      let all : length planned.before.worlds.items ≡ copied_count c.copied_worlds.items =
+      carried_all (IsWorldCarried c planned.types) c.copied_worlds.items s.worlds.items planned.before.worlds.items planned.numbered.world_count planned.first.worlds in
+      let same = ap length planned.second.worlds in
+      let most = worlds-few r s o.valid t.valid p.matches p.matched in
+      let least = flags_many (is_new_world r s) c.copied_worlds.items s.worlds.items planned.numbered.world_count
+      (λ n x at fresh. let path = world-path s t.valid n x at in new_world_copied r s o.valid t.valid p.matches p.matched paths.0 c planned.numbered paths.1 n x path.0 at
+      (sym (ap (option_and_then (path_of_world s)) at) ∙ path.1) fresh) in
+      let count = ap copied_count flags in
+      omega (arith, all, same, most, least, count)
 
   -- ---- interfaces
 

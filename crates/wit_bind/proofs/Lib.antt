@@ -2,7 +2,7 @@
 pub mod AsItWas
 -- What stands under the number of a world that means something by itself. Serves RootBindings; crates above.
 pub mod BoundWorlds
--- What is new by name or path is copied. Serves Merging.
+-- What is new by name or path is copied. Serves Growth, Merging.
 pub mod Bringing
 -- What both passes copy has its own documentation, stability and external ids in what is merged. Serves Merging.
 pub mod Brought
@@ -12,7 +12,7 @@ pub mod MatchedPaths
 pub mod NumbersAgree
 -- What is carried by path is new. Serves Coming, Growth, Outgrown.
 pub mod TooMany
--- What is copied of other bindings comes by its path, or is gained by the own bound world. Serves Growth, Outgrown.
+-- What is copied of other bindings comes by its path, or is gained by the own bound world. Serves Growth, Merging, Outgrown.
 pub mod Coming
 -- What is added under new keys comes behind what was there. Serves laws::grown_extend.
 pub mod Extending

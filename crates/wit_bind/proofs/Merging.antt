@@ -1,5 +1,5 @@
 -- What comes of two bindings that don't clash, once all that the one brings is added to the other.
-use Rattle.std.proofs.Common.{rules as std_rules, ◌≡◌, refl, sym, ap, ◌∙◌, inl, inr, arith, ℕ, zero, suc, ◌≤◌, Bool, true, false, ◌&&◌, List, [], ◌∷◌, ◌++◌, length, map, Option, Some, is_none, slice_get, slice_set, String, Contains, subst}
+use Rattle.std.proofs.Common.{rules as std_rules, ◌≡◌, ◌⊎◌, refl, sym, ap, ◌∙◌, inl, inr, arith, ℕ, zero, suc, ◌≤◌, Bool, true, false, ◌&&◌, List, [], ◌∷◌, ◌++◌, length, map, Option, Some, None, is_none, slice_get, slice_set, String, Contains, subst}
 use Rattle.std.proofs.lemmas.{Bool.and_from as both, Bool.cases_lt as either, List.map-append, List.Folds.list_all-map, Option.slice_get_within, Option.same_Some as same-some}
 use Rattle.std.specs.{List.filter, List.list_all, List.AllZip, List.IsDistinct, Map.keys_of, String.string_eq, Option.option_map_or}
 use Rattle.std.specs.declared.alloc.Global.{Global}
@@ -15,10 +15,13 @@ use Rattle.bind_match.specs.declared.matches.Matches.{Matches}
 use Rattle.bind_union.specs.Carried.{stability_view}
 use Rattle.bind_union.proofs.{BoundMeanings.bound_means, Valid.merged_is_valid}
 use Rattle.bind_carry.specs.{MatchedSame.AreMatchedAt, MatchedSame.NoneOfPath, SecondPass.is_left_out, SecondPass.second_pass_of, SecondPass.IsSecondPass, Which.AreMatchedAll, TooLong.CarriedThings, AddedKeys.key_view, FirstPass.IsFirstPass, Renumbered.first_of, First.first_fates, Whole.kept, Whole.IsInterfaceCarried, Whole.IsWorldCarried, Packaged.IsPackageCarried, AddedApart.AreMatchedByName, Apart.IsApart}
-use Rattle.bind_carry.specs.Union.{IsUnionOf}
+use Rattle.bind_carry.specs.{Bound.bound_interfaces, BoundGains.bound_fates, Fates.copies, Renumbered.is_copied, TooLong.gained_fates, TooLong.TypeFates, Union.IsUnionOf}
+use Rattle.bind_carry.proofs.{MetTypes.copied_mark, Ready.fates_long, Ready.numbers_count}
+use Rattle.wit_bind.specs.Comes.{TypeComes, TypeIsGained}
+use Rattle.wit_bind.proofs.Coming.{type-comes, type-gained}
 use Rattle.bind_carry.proofs.KeysGained.{by_path_apart, exports_apart, exports_behind, imports_apart, imports_behind}
 use Rattle.bind_carry.proofs.{FirstOfUnion.unions_have_the_second, NamesMerged.names_are_merged, MergedUnion.unions_are_merged, UnionDistinct.unions_are_apart, UnionDistinct.unions_have_distinct_keys, UnionKeys.exports_come_behind, UnionKeys.keys_keep_texts}
-use Rattle.wit_bind.specs.Brings.{type_notes, key_texts, BringsEntries, BringsItsOwn, IsTypeOf}
+use Rattle.wit_bind.specs.Brings.{noted, key_texts, BringsEntries, BringsItsOwn, IsTypeOf, NotedTree, Notes}
 use Rattle.wit_bind.specs.{Extends.Extends, Extends.listed_names, Extends.merged_names, Merges.export_keys, Merges.IsGrownBy, Merges.IsPlanOf, Bindings.binding_of, Bindings.IsBindgen, MergedLaws.AgreeByNumbers, MergedLaws.IsUnited}
 use Rattle.base_lemmas.proofs.{Bools.left_of as first_true, Bools.right_of as second_true, Lists.front_at, Lists.within_there as element_at}
 use Rattle.base_lemmas.proofs.Elements.{all-contained, all_by_number as all_by, all_get as at_all, contains-later, contains-map, filter_kept as from-filter, joined_well as joined_all}
@@ -26,7 +29,7 @@ use Rattle.bind_match.specs.Matching.{is_root_world}
 use Rattle.bind_meaning.specs.{Clash.CanUnite, Union.union}
 use Rattle.wit_bind.specs.declared.bindgen.Bindgen.{Bindgen}
 use Rattle.wit_bind.proofs.{Extending.grown_extend, MatchedPaths.matches_have_paths, UnionBound.united_are_the_union, Bringing.new_interface_copied, Bringing.new_package_copied, Bringing.new_world_copied, NumbersAgree.united_agree_by_numbers}
-use Rattle.wit_bind.proofs.Brought.{bound_brought, interface_brought, package_brought, type_brought, world_brought}
+use Rattle.wit_bind.proofs.Brought.{bound_brought, interface_brought, package_brought, type_brought, type_notes, world_brought}
 use Rattle.wit_model.specs.declared.model.TypeDefKind.TheVariants as kind
 
 -- ---- Where there is no documentation and no known stability on either side, there is none in what is merged.
@@ -75,6 +78,11 @@ members_bare (kind.Variant variant) = docs_none (λ c. c.docs) variant.cases.ite
 members_bare (kind.Flags flags) = docs_none (λ f. f.docs) flags.flags.items
 members_bare (kind.Enum enum) = docs_none (λ c. c.docs) enum.cases.items
 members_bare _ = refl
+
+-- what a noted tree says of the thing itself
+abbrev of_itself : NotedTree → Option Notes
+of_itself (noted notes parts) = Some notes
+of_itself _ = None
 
 -- a type with the notes of a bare one is bare
 type_bare : (old new : TypeDef) → type_notes new ≡ type_notes old → is_bare_type old ≡ true → is_bare_type new ≡ true
@@ -344,10 +352,41 @@ module _ (own other new : Bindgen) (o : IsBindgen own) (t : IsBindgen other) (ca
   Gained a b x = BringsEntries (key_texts r a.imports.entries) s b.imports.entries new.resolve x.imports.entries
       × BringsEntries (key_texts r a.exports.entries) s b.exports.entries new.resolve x.exports.entries
 
-  -- each type that comes is one of the other's
-  type_comes : (n : ℕ) (y : TypeDef) → length r.types.items ≤ n → type_at new.resolve n ≡ Some y → IsTypeOf s new.resolve n y
-  type_comes = type_brought r s new.resolve o.valid t.valid own.world.0 other.world.0 w v p.matches planned.carried planned.types passes.0 planned.second.copied planned.second.interfaces
+  abbrev first-fates : TypeFates
+  first-fates = first_fates r s p.matches.interfaces.items planned.carried
+
+  abbrev second-fates : TypeFates
+  second-fates = bound_fates s own.world.0 other.world.0 w v planned.second.copied planned.second.interfaces first-fates planned.types
+
+  -- each new type is one of the other's
+  type_from : (n : ℕ) (y : TypeDef) → length r.types.items ≤ n → type_at new.resolve n ≡ Some y
+      → (x : IsTypeOf s new.resolve n y) × ((is_copied first-fates x.source ≡ true) ⊎ (is_copied second-fates x.source ≡ true))
+  type_from = type_brought r s new.resolve o.valid t.valid own.world.0 other.world.0 w v p.matches planned.carried planned.types passes.0 planned.second.copied planned.second.interfaces
       planned.second.types passes.1 merged_are_the_union.0.valid
+
+  -- what is copied comes, or is gained
+  copied_comes : (k : ℕ) → is_copied first-fates k ≡ true → TypeComes r s k
+  copied_comes k h = type-comes own other o t can p.matches p.matched planned.carried planned.numbered k (copied_mark first-fates k h)
+
+  copied_gained : (k : ℕ) → is_copied second-fates k ≡ true → TypeIsGained own other k
+  copied_gained k h =
+      let copied = planned.second.copied_are in
+      let numbers = planned.second.interfaces_are ∙ ap (bound_interfaces r (length planned.before.interfaces.items) planned.carried) copied in
+      let same : slice_get (map copies later) k ≡ slice_get (map copies second-fates) k =
+      λ i. slice_get (map copies (bound_fates s own.world.0 other.world.0 w v (sym copied i) (sym numbers i) first-fates planned.types)) k in
+      type-gained own other o t can p.matches p.matched planned.carried planned.numbered w v bound.1 other-bound.1 (length planned.before.interfaces.items) planned.types numbers-long k
+      (same ∙ copied_mark second-fates k h)
+    where
+      later : TypeFates
+      later = gained_fates r s own.world.0 other.world.0 w v planned.carried first-fates planned.types (length planned.before.interfaces.items)
+
+      numbers-long : length planned.types ≡ length s.types.items
+      numbers-long = numbers_count (length r.types.items) planned.types s.types.items first-fates [] planned.defs planned.types_copied ∙ fates_long r s p.matches planned.carried
+
+  type_comes : (n : ℕ) (y : TypeDef) → length r.types.items ≤ n → type_at new.resolve n ≡ Some y
+      → (x : IsTypeOf s new.resolve n y) × (TypeComes r s x.source ⊎ TypeIsGained own other x.source)
+  type_comes n y high at =
+      let x = type_from n y high at in (x.0, elim x.1 [ inl h ↦ inl (copied_comes x.0.source h) | inr h ↦ inr (copied_gained x.0.source h) ])
 
   pub merged_brings : BringsItsOwn own other new
   merged_brings = record {
@@ -379,4 +418,4 @@ module _ (own other new : Bindgen) (o : IsBindgen own) (t : IsBindgen other) (ca
   -- where neither side has documentation or a known stability, there is none
   pub merged_bare : IsBare r → IsBare s → IsBare new.resolve
   merged_bare = merged_is_bare r s new.resolve o.valid t.valid own.world.0 other.world.0 p.matches w v added keys planned g.all_added bound.1 other-bound.1 paths.0 paths.1 paths.2 merged_extend
-      (λ n y high at. let is = type_comes n y high at in (is.source, is.def, is.found, is.notes))
+      (λ n y high at. let is = (type_from n y high at).0 in (is.source, is.def, is.found, same-some (type_notes y) (type_notes is.def) (ap of_itself is.notes)))

@@ -1,5 +1,5 @@
 -- Bindings that unite, by the entries and the numbers of their `Resolve`s.
-use Rattle.std.proofs.Common.{rules as std_rules, ◌≡◌, ◌≢◌, refl, sym, ap, ◌∙◌, ℕ, Bool, true, false, cond, List, map, Option, Some, None, option_and_then, Contains}
+use Rattle.std.proofs.Common.{rules as std_rules, ◌≡◌, refl, sym, ap, ◌∙◌, ℕ, Bool, true, false, cond, List, map, Option, Some, None, option_and_then, Contains}
 use mathlib.Core.Bool.{true≢false}
 use Rattle.std.specs.{FinMap.get, Ordering.eq_by_cmp, Option.option_map_or}
 use Rattle.wit_model.specs.declared.model.{Interface.Interface, Resolve.Resolve, World.World, WorldItem.WorldItem, WorldKey.WorldKey}

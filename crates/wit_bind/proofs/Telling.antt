@@ -4,7 +4,7 @@ use mathlib.Core.Logic.{inl, inr}
 use Rattle.std.specs.{Prelude.◌⊎◌, Prelude.◌≢◌, Prelude.unwrap_or, Bool.Decides, FinMap.entries, FinMap.same_entries_map}
 use Rattle.std.proofs.lemmas.{Bool.true≢false, Slice.Eq.bytes_eq-Decides}
 use Rattle.wit_model.specs.{Text.Text, Text.TextMap, Text.text_eq, Meaning.Entry, Meaning.InterfaceSense, Meaning.Item, Meaning.Signature, Meaning.WorldSense}
-use Rattle.wit_model.specs.Tree.{Declaration}
+use Rattle.wit_model.specs.Tree.{TypeDeclaration}
 use Rattle.comp_meaning.specs.Same.{same_declaration, same_function, same_signature, same_type}
 use Rattle.comp_meaning.proofs.SameLaws.{declarations_decide, functions_decide, signatures_decide, types_decide}
 use Rattle.bind_meaning.specs.Laws.{CanTell}
@@ -78,7 +78,7 @@ signature-in : Signature → Shown → Signature
 signature-in d (Item.function s) = s
 signature-in d _ = d
 
-declaration-in : Declaration → Shown → Declaration
+declaration-in : TypeDeclaration → Shown → TypeDeclaration
 declaration-in d (Item.declares t) = t
 declaration-in d _ = d
 

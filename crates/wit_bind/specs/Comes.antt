@@ -1,12 +1,12 @@
 -- What comes of other bindings when they are merged into own ones: their packages, interfaces, worlds and types, by their numbers there.
 use Rattle.std.specs.Prelude.{◌≡◌, ◌⊎◌, ℕ, ◌+◌, ◌<◌, Bool, true, not, ◌&&◌, is_some, List, [], map, None, Some}
 use Rattle.std.specs.{FinMap.get, List.Contains, List.list_any, Option.option_map_or}
-use Rattle.wit_model.specs.declared.model.{Interface.Interface, Package.Package, Resolve.Resolve, TypeOwner.TypeOwner, WorldItem.WorldItem, WorldKey.WorldKey}
+use Rattle.wit_model.specs.declared.model.{Function.Function, Interface.Interface, Package.Package, Resolve.Resolve, TypeOwner.TypeOwner, WorldItem.WorldItem, WorldKey.WorldKey}
 use Rattle.wit_model.specs.declared.model.World.{World}
 use Rattle.wit_model.specs.Lookup.{identity_of, interface_at, interface_path, key_text, path_of_interface, path_of_world, world_at}
-use Rattle.wit_model.specs.{Rules.item_type, Text.Text, Text.text_eq, Uses.item_interface}
+use Rattle.wit_model.specs.{Rules.item_type, Text.Text, Text.text_eq, Uses.item_interface, Valid.item_function}
 use Rattle.bind_meaning.specs.{Binding.package_text, Binding.Binding, Roots.root_path, ByNumbers.interfaces_by_path, ByNumbers.package_texts, ByNumbers.worlds_by_path, Clash.carried_worlds, Clash.entry_under}
-use Rattle.bind_carry.specs.{MadeOf.Come, MadeOf.IsMadeUp, MadeOf.IsOwnedBy, Marked.is_inline_at}
+use Rattle.bind_carry.specs.{MadeOf.Come, MadeOf.IsMadeUp, MadeOf.IsMet, MadeOf.IsOwnedBy, Marked.is_inline_at}
 use Rattle.wit_bind.specs.declared.bindgen.Bindgen.{Bindgen}
 use Rattle.wit_bind.specs.Bindings.{binding_of}
 use Rattle.wit_model.specs.declared.model.TypeOwner.TheVariants as owner
@@ -56,9 +56,25 @@ pub record InlineComes (own other : Resolve) (n : ℕ) : Type 0 where
 abbrev pub InterfaceComes : Resolve → Resolve → ℕ → Type 0
 InterfaceComes own other n = NamedComes own other n ⊎ InlineComes own other n
 
--- Some interface or world comes.
-abbrev pub SomethingComes : Resolve → Resolve → Type 0
-SomethingComes own other = (n : ℕ) × (InterfaceComes own other n ⊎ WorldComes own other n)
+-- The function is one of an interface that comes.
+pub record IsInterfaceFunction (own other : Resolve) (f : Function) : Type 0 where
+  pub place : ℕ
+  pub comes : InterfaceComes own other place
+  pub interface : Interface
+  pub found : interface_at other place ≡ Some interface
+  pub held : Contains (map (λ e. e.1) interface.functions.entries) f
+
+-- It is an import or an export of a world that comes.
+pub record IsWorldFunction (own other : Resolve) (f : Function) : Type 0 where
+  pub place : ℕ
+  pub comes : WorldComes own other place
+  pub entry : WorldKey × WorldItem
+  pub held : Contains comes.world.imports.entries entry ⊎ Contains comes.world.exports.entries entry
+  pub is_function : item_function entry.1 ≡ Some f
+
+-- The function comes: with an interface, or with a world.
+abbrev pub FunctionComes : Resolve → Resolve → Function → Type 0
+FunctionComes own other f = IsInterfaceFunction own other f ⊎ IsWorldFunction own other f
 
 -- ---- types that come by path
 
@@ -74,9 +90,11 @@ OwnerStands own other (owner.Interface id) = (is_some (interface_path other id.0
 OwnerStands own other (owner.World id) = WorldComes own other id.0
 OwnerStands own other owner.None = ⊥
 
--- A type comes with its owner; and with all that comes, a type without a name, if the owners of all that it is made of come or stand here.
+-- A type comes with its owner. A type without a name comes, if the owners of all that it is made of come or stand here, and something that comes names it.
+-- That is a function, a type whose owner comes, or a type without a name that is named so itself.
 abbrev pub TypeComes : Resolve → Resolve → ℕ → Type 0
-TypeComes own other n = IsOwnedBy other.types.items (OwnerComes own other) n ⊎ (SomethingComes own other × IsMadeUp other.types.items (OwnerStands own other) n)
+TypeComes own other n = IsOwnedBy other.types.items (OwnerComes own other) n ⊎ (IsMadeUp other.types.items (OwnerStands own other) n
+    × IsMet other.types.items (FunctionComes own other) (IsOwnedBy other.types.items (OwnerComes own other)) n)
 
 -- ---- what the own bound world gains
 
@@ -102,10 +120,6 @@ pub record ExportIsGained (own other : Bindgen) (e : WorldKey × WorldItem) : Ty
 abbrev pub IsGained : Bindgen → Bindgen → WorldKey × WorldItem → Type 0
 IsGained own other e = ImportIsGained own other e ⊎ ExportIsGained own other e
 
--- Some import or export is gained.
-abbrev pub SomethingIsGained : Bindgen → Bindgen → Type 0
-SomethingIsGained own other = (e : WorldKey × WorldItem) × IsGained own other e
-
 -- The interface of this number is inline, and what is gained shows it.
 pub record InlineIsGained (own other : Bindgen) (n : ℕ) : Type 0 where
   pub inline : is_inline_at other.resolve n ≡ true
@@ -130,11 +144,33 @@ OwnerIsShown own other (owner.Interface id) = (is_some (interface_path other.res
 OwnerIsShown own other (owner.World id) = id.0 ≡ other.world.0
 OwnerIsShown own other owner.None = ⊥
 
--- A type is gained with its inline interface, or as an import. With all that is gained comes a type without a name, if the owners of all that it
--- is made of are such as items of the bound world have.
+-- The function is one of an inline interface that is gained.
+pub record IsInlineFunction (own other : Bindgen) (f : Function) : Type 0 where
+  pub place : ℕ
+  pub gained : InlineIsGained own other place
+  pub interface : Interface
+  pub found : interface_at other.resolve place ≡ Some interface
+  pub held : Contains (map (λ e. e.1) interface.functions.entries) f
+
+-- It is an import or an export that is gained.
+pub record IsGainedFunction (own other : Bindgen) (f : Function) : Type 0 where
+  pub entry : WorldKey × WorldItem
+  pub gained : IsGained own other entry
+  pub is_function : item_function entry.1 ≡ Some f
+
+-- The function is gained: with an inline interface, or as an import or an export.
+abbrev pub FunctionIsGained : Bindgen → Bindgen → Function → Type 0
+FunctionIsGained own other f = IsInlineFunction own other f ⊎ IsGainedFunction own other f
+
+-- A type with a name is gained with its inline interface, or as an import.
+abbrev pub NamedIsGained : Bindgen → Bindgen → ℕ → Type 0
+NamedIsGained own other n = IsOwnedBy other.resolve.types.items (OwnerIsGained own other) n ⊎ TypeIsImport own other n
+
+-- A type without a name is gained, if the owners of all that it is made of are such as items of the bound world have, and something that is gained names it.
+-- That is a function, a type with a name, or a type without a name that is named so itself.
 abbrev pub TypeIsGained : Bindgen → Bindgen → ℕ → Type 0
-TypeIsGained own other n = IsOwnedBy other.resolve.types.items (OwnerIsGained own other) n
-    ⊎ (TypeIsImport own other n ⊎ (SomethingIsGained own other × IsMadeUp other.resolve.types.items (OwnerIsShown own other) n))
+TypeIsGained own other n = NamedIsGained own other n ⊎ (IsMadeUp other.resolve.types.items (OwnerIsShown own other) n
+    × IsMet other.resolve.types.items (FunctionIsGained own other) (NamedIsGained own other) n)
 
 -- ---- how much
 

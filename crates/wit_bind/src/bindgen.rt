@@ -147,8 +147,9 @@ impl Bindgen {
     /// both sides has to mean the same, and keeps this side's documentation and stability; the other's world `root:root/root` isn't compared and
     /// not carried over. What wasn't here keeps the other's documentation and stability. Own numbers stay, and lists get longer by what comes
     /// alone. What comes is packages, interfaces and worlds that aren't here by name or path, with their types and inline interfaces. The inline
-    /// interfaces and types of what the own bound world gains come once more. Where nothing of the other is new, no interface, world or type
-    /// comes. The answer is the keys of the other's exports, as they stand here, in their order.
+    /// interfaces and types of what the own bound world gains come once more. A type without a name comes if a function or a type refers to it
+    /// that comes. Where nothing of the other is new, no interface, world or type comes. The answer is the keys of the other's exports, as they
+    /// stand here, in their order.
     ///
     /// Both `Resolve`s are valid, and each world is one of its own. Refuses with `Clash` where the two clash, and names the first fault; with `Memory`;
     /// and with `Size` only where a list would pass 4,294,967,295 with what comes. Takes time and memory linear in both, with hashed look-ups.

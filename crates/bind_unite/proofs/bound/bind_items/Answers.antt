@@ -121,3 +121,6 @@ returns-clause-few c =
       types = subst (λ (l : List TypeDef). length own.types.items + length l ≤ 4294967295) (sym lists.type_defs) c.in_ok-types.ensures.few;
     })
     c.bind_entries.result
+
+pub bind_types-requires-clause-flags : goal.bind_types-requires-clause-flags
+bind_types-requires-clause-flags c = ap length c.deref-4.ensures.value ∙ c.in_ok-copied.ensures.count

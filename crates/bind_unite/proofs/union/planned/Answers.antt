@@ -136,3 +136,9 @@ returns-in_err-bind_items-clause-size c =
           (subst (λ l. AreTooManyGained own other world other_world w v carried l c.deref-4.result.now (length before.interfaces.items) (length before.types.items))
           (c.deref-3.ensures.value ∙ c.in_ok-fates.ensures.fates) (c.in_err-bind_items.ensures.size is w v at_w at_v)))),
     ))
+
+pub settled_types-requires-clause-interfaces : goal.settled_types-requires-clause-interfaces
+settled_types-requires-clause-interfaces c = c.in_ok-carried.ensures.numbered.interface_count
+
+pub settled_types-requires-clause-worlds : goal.settled_types-requires-clause-worlds
+settled_types-requires-clause-worlds c = c.in_ok-carried.ensures.numbered.world_count
