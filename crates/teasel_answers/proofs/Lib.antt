@@ -2,5 +2,7 @@
 mod DifferLaws
 -- What is told of texts that are lent. Serves compared::all_compared.
 mod LentLaws
--- Bytes that mean nothing. Serves checks::component_words, forms::means_no_package.
+-- The last of a list of texts. Serves embedded::chosen_world.
+mod Lists
+-- Bytes that mean nothing, and lists that would get too long. Serves checks::component_words, embedded::only_world, forms::means_no_package, kinds::kind_of.
 mod Nothing

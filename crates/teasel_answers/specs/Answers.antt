@@ -7,7 +7,7 @@ use Rattle.wit_model.specs.declared.error.Error.TheVariants as errors
 use Rattle.wit_model.specs.declared.model.StringEncoding.TheVariants as strings
 use Rattle.line_diff.specs.{Script.LeadsTo, Unified.unified_text}
 use Rattle.line_diff.specs.declared.script.Edit.{Edit}
-use Rattle.teasel_answers.specs.{Checks.IsChecked, Forms.Shows, Kinds.IsKnown}
+use Rattle.teasel_answers.specs.{Checks.IsChecked, Forms.Shows, Kinds.IsKnown, Worlds.IsChosen}
 use Rattle.teasel_answers.specs.declared.forms.Form.{Form}
 use Rattle.teasel_answers.specs.declared.forms.Form.TheVariants as forms
 use Rattle.teasel_files.specs.AllTell.{AllTell}
@@ -64,10 +64,11 @@ pub record Differs (g : Given) (color : Bool) (old new : Input) (a : Answer) : T
   pub new_is : Shows (forms.Text g.most) g.kind new new_text
   pub difference : IsDifference old.name.now new.name.now old_text.items new_text.items color a
 
--- yes, and the module with one more section, which carries a world of the package that these bytes are
+-- yes, and the module with one more section, which carries the world of the package of these bytes that is chosen
 pub record Attaches (g : Given) (module_ : Input) (bytes : List ℕ) (a : Answer) : Type 0 where
   pub yes : a.yes ≡ true
   pub name : Text
+  pub chosen : IsChosen g.worlds bytes name
   pub attaches : AttachesWorld module_.bytes.items bytes name (encoding_of g.encoding) false a.text.items
 
 -- `embed`: the same of the package that the second file means, or of the package of the one world that it means

@@ -5,7 +5,7 @@ use Rattle.wit_component.specs.{Decoded.IsDecoded, Decoded.MeansNothing, Decoded
 use Rattle.wit_model.specs.declared.{error.Error.Error, model.Resolve.Resolve}
 use Rattle.wit_model.specs.declared.error.Error.TheVariants as errors
 use Rattle.teasel_files.specs.declared.answer.Input.{Input}
-use Rattle.teasel_messages.specs.Looks.{begins_as_module}
+use Rattle.teasel_messages.specs.{Looks.begins_as_module, Reasons.is_memory}
 
 -- Bytes mean a package, or else one world.
 pub data MeansComponent (bytes : List ℕ) : Type 0 where
@@ -16,11 +16,6 @@ pub data MeansComponent (bytes : List ℕ) : Type 0 where
 pub data Means (bytes : List ℕ) : Type 0 where
   a_module : (b : Binding) → begins_as_module bytes ≡ true → IsBound bytes b → Means bytes
   a_component : begins_as_module bytes ≡ false → MeansComponent bytes → Means bytes
-
--- whether a refusal is for want of memory
-abbrev pub is_memory : Error → Bool
-is_memory errors.Memory = true
-is_memory _ = false
 
 -- a module is refused so, with `Size` only where a list would get too long
 abbrev pub RefusesModule : List ℕ → Error → Type 0

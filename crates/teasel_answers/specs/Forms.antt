@@ -1,11 +1,14 @@
 -- The text, the JSON or the bytes of a package, a world or a core module.
 use Rattle.std.specs.Prelude.{◌≡◌, ℕ, Bool, true, false, List, Option, Some, None, Vec}
 use Rattle.std.specs.declared.alloc.Global.{Global}
-use Rattle.wit_component.specs.Decoded.{MeansNothing}
+use Rattle.wit_component.specs.{DecodedWorlds.RefusesWorldBytes}
+use Rattle.wit_component.specs.Decoded.{IsDecoded, MeansNothing, RefusesBytes}
+use Rattle.wit_model.specs.declared.{error.Error.Error, model.Resolve.Resolve}
+use Rattle.teasel_answers.specs.Checks.{RefusesModule}
 use Rattle.teasel_answers.specs.declared.forms.Form.{Form}
 use Rattle.teasel_answers.specs.declared.forms.Form.TheVariants as forms
 use Rattle.teasel_files.specs.declared.answer.Input.{Input}
-use Rattle.teasel_messages.specs.Looks.{begins_as_module}
+use Rattle.teasel_messages.specs.{Looks.begins_as_module, Reasons.is_memory}
 use Rattle.teasel_words.specs.declared.choices.Kind.{Kind}
 use Rattle.teasel_words.specs.declared.choices.Kind.TheVariants as kinds
 use Rattle.witc_listed.specs.Listings.{ListsModule, ListsPackage, ListsWorld}
@@ -13,7 +16,8 @@ use Rattle.witc_texts.specs.{Bindings.PrintsModule, Printed.PrintsBytes}
 use Rattle.witc_within.specs.Within.{TextWithin}
 use Rattle.witc_within.specs.declared.texts.Within.{Within}
 use Rattle.witc_within.specs.declared.texts.Within.TheVariants as within
-use Rattle.witc_written.specs.{Worlds.EncodesWorld, Worlds.PrintsWorld, Written.EncodesModule, Written.EncodesPackage}
+use Rattle.witc_written.specs.{Worlds.EncodesWorld, Worlds.PrintsWorld, Worlds.RefusesEncodedWorld}
+use Rattle.witc_written.specs.Written.{EncodesModule, EncodesPackage, RefusesEncoded, RefusesEncodedModule}
 
 -- this is made, of which that is true
 abbrev pub IsMade : (List ℕ → Type 0) → Within → Type 0
@@ -55,3 +59,53 @@ MakesShown form None bytes = MakesFound form bytes
 pub record Shows (form : Form) (kind : Option Kind) (i : Input) (made : Vec ℕ Global) : Type 0 where
   pub whole : i.whole ≡ true
   pub is : MakesShown form kind i.bytes.items (within.Text made)
+
+-- ---- why nothing is made
+
+-- what a package's bytes are refused for, in each form
+abbrev pub RefusesPackage : Form → List ℕ → Error → Type 0
+RefusesPackage forms.Wasm bytes = RefusesEncoded bytes false
+RefusesPackage _ bytes = RefusesBytes bytes
+
+-- the same of one world's bytes
+abbrev pub RefusesWorld : Form → List ℕ → Error → Type 0
+RefusesWorld forms.Wasm bytes = RefusesEncodedWorld bytes
+RefusesWorld _ bytes = RefusesWorldBytes bytes
+
+-- the same of a core module's
+abbrev pub RefusesBound : Form → List ℕ → Error → Type 0
+RefusesBound forms.Wasm bytes = RefusesEncodedModule bytes
+RefusesBound _ bytes = RefusesModule bytes
+
+-- One world's bytes are refused so, or for a reason that isn't told, which isn't want of memory where this isn't.
+abbrev pub RefusesWorldFor : Form → List ℕ → Error → Type 0
+RefusesWorldFor form bytes e = (of_world : Error) × RefusesWorld form bytes of_world × (is_memory e ≡ false → is_memory of_world ≡ false)
+
+-- Bytes mean no package; or they mean one.
+abbrev pub DecidesPackage : List ℕ → Bool → Type 0
+DecidesPackage bytes true = MeansNothing bytes
+DecidesPackage bytes false = (r : Resolve) × (n : ℕ) × IsDecoded bytes r n
+
+-- Bytes mean a package, and are refused as one; or they mean none, and are refused as one world.
+pub data RefusesComponent (form : Form) (bytes : List ℕ) (e : Error) : Type 0 where
+  as_package : DecidesPackage bytes false → RefusesPackage form bytes e → RefusesComponent form bytes e
+  as_world : MeansNothing bytes → RefusesWorldFor form bytes e → RefusesComponent form bytes e
+
+-- The same of bytes whose kind isn't said: they are refused as a core module, where they begin as one; else as a package, where they mean one; else as one
+-- world.
+pub data RefusesFound (form : Form) (bytes : List ℕ) (e : Error) : Type 0 where
+  as_module : begins_as_module bytes ≡ true → RefusesBound form bytes e → RefusesFound form bytes e
+  as_component : begins_as_module bytes ≡ false → RefusesComponent form bytes e → RefusesFound form bytes e
+
+-- the same of bytes whose kind is said, or found
+abbrev pub RefusesShown : Form → Option Kind → List ℕ → Error → Type 0
+RefusesShown form (Some kinds.Package) bytes = RefusesPackage form bytes
+RefusesShown form (Some kinds.World) bytes = RefusesWorld form bytes
+RefusesShown form (Some kinds.Module) bytes = RefusesBound form bytes
+RefusesShown form None bytes = λ e. is_memory e ≡ false → RefusesFound form bytes e
+
+-- Nothing is made of the input: it is no WebAssembly; what is made of it is longer than the bound; or its bytes are refused, and not for want of memory.
+pub data ShowsNothing (form : Form) (kind : Option Kind) (i : Input) : Type 0 where
+  foreign : i.whole ≡ false → ShowsNothing form kind i
+  beyond : MakesShown form kind i.bytes.items within.Beyond → ShowsNothing form kind i
+  refused : (e : Error) → is_memory e ≡ false → RefusesShown form kind i.bytes.items e → ShowsNothing form kind i

@@ -1,8 +1,11 @@
 //! What a word answers to the bytes of its files.
 
-ghost use Rattle.std.specs.Prelude.{◌≡◌, true, [], ◌∷◌, IfOk};
-ghost use Rattle.teasel_answers.specs.{Answers.Answers, Answers.AnswersTo, Answers.Writes, Forms.Shows};
-ghost use Rattle.teasel_words.specs.Given.{given_of};
+ghost use Rattle.std.specs.Prelude.{◌≡◌, true, false, [], ◌∷◌, length, nat_eq, IfErr, IfOk};
+ghost use Rattle.teasel_answers.specs.{Answers.Answers, Answers.AnswersTo, Answers.Writes, Forms.Shows, Forms.ShowsNothing};
+ghost use Rattle.teasel_answers.specs.Refusals.{AnswersNothing, AnswersNothingTo, ExplainsNothing, HasItsFiles, takes};
+ghost use Rattle.teasel_messages.specs.Reasons.{RefusedFor};
+ghost use Rattle.teasel_messages.specs.declared.refusal.Refusal.TheVariants.{Memory};
+ghost use Rattle.teasel_words.specs.Given.{given_of, texts_of};
 
 use crate::checks::checks;
 use crate::compared::compared;
@@ -13,7 +16,7 @@ use crate::kinds::kinds;
 use crate::sections::{refusal_of, sections};
 use std::alloc::Global;
 use teasel_files::{Answer, Input};
-use teasel_messages::{Refusal, foreign, plain, told};
+use teasel_messages::{Refusal, foreign, told};
 use teasel_words::{Asked, Word, completion, man, shell_named, usage, usage_of, word_named};
 use witc_within::Within;
 
@@ -27,7 +30,8 @@ pub fn made(
     asked: &Asked<'_>,
     input: &Input<'_>,
 ) -> Result<Vec<u8>, Refusal>
-    ensures { IfOk result (Shows form (given_of asked.now).kind input.now) }
+    ensures shows { IfOk result (Shows form (given_of asked.now).kind input.now) }
+    ensures refused { IfErr result (RefusedFor (ShowsNothing form (given_of asked.now).kind input.now)) }
 {
     if !input.whole {
         return Err(foreign(alloc, input.name, &input.bytes));
@@ -52,7 +56,8 @@ fn show(
     input: &Input<'_>,
     binary: bool,
 ) -> Result<Answer, Refusal>
-    ensures { IfOk result (Writes form (given_of asked.now) input.now) }
+    ensures writes { IfOk result (Writes form (given_of asked.now) input.now) }
+    ensures refused { IfErr result (RefusedFor (ShowsNothing form (given_of asked.now).kind input.now)) }
 {
     let text = made(alloc, form, asked, input)?;
     Ok(Answer {
@@ -70,7 +75,8 @@ pub fn text_form(asked: &Asked<'_>) -> Form
 }
 
 fn explain(alloc: Global, word: Option<Word>) -> Result<Answer, Refusal>
-    ensures { IfOk result (λ a. a.yes ≡ true) }
+    ensures yes { IfOk result (λ a. a.yes ≡ true) }
+    ensures memory { IfErr result (λ refusal. refusal ≡ Memory) }
 {
     let text = match word {
         Some(word) => usage_of(alloc, word)?,
@@ -80,7 +86,8 @@ fn explain(alloc: Global, word: Option<Word>) -> Result<Answer, Refusal>
 }
 
 fn help(alloc: Global, files: &[&str]) -> Result<Answer, Refusal>
-    ensures { IfOk result (λ a. a.yes ≡ true) }
+    ensures yes { IfOk result (λ a. a.yes ≡ true) }
+    ensures refused { IfErr result (RefusedFor (ExplainsNothing (texts_of files.now))) }
 {
     let Some(name) = files.first() else {
         return explain(alloc, None);
@@ -112,39 +119,34 @@ fn completions(alloc: Global, files: &[&str]) -> Result<Answer, Refusal>
 }
 
 fn man_page(alloc: Global) -> Result<Answer, Refusal>
-    ensures { IfOk result (λ a. a.yes ≡ true) }
+    ensures yes { IfOk result (λ a. a.yes ≡ true) }
+    ensures memory { IfErr result (λ refusal. refusal ≡ Memory) }
 {
     Ok(Answer::told(man(alloc, VERSION)?.into_bytes(), true))
 }
 
 fn version(alloc: Global) -> Result<Answer, Refusal>
-    ensures { IfOk result (λ a. a.yes ≡ true) }
+    ensures yes { IfOk result (λ a. a.yes ≡ true) }
+    ensures memory { IfErr result (λ refusal. refusal ≡ Memory) }
 {
     let text = format!(in alloc; "teasel {VERSION}\n")?;
     Ok(Answer::told(text.into_bytes(), true))
 }
 
 /// The only file.
-fn only<'a, 'b>(alloc: Global, inputs: &'a [Input<'b>]) -> Result<&'a Input<'b>, Refusal>
-    ensures { IfOk result (λ i. inputs.now ≡ i.now ∷ []) }
+fn only<'a, 'b>(inputs: &'a [Input<'b>]) -> &'a Input<'b>
+    requires { nat_eq (length inputs.now) 1 ≡ true }
+    ensures { inputs.now ≡ result.now ∷ [] }
 {
-    match inputs {
-        [input] => Ok(input),
-        _ => Err(plain(alloc, "one file is wanted", "")),
-    }
+    &inputs[0]
 }
 
 /// The only two files.
-fn pair<'a, 'b>(
-    alloc: Global,
-    inputs: &'a [Input<'b>],
-) -> Result<(&'a Input<'b>, &'a Input<'b>), Refusal>
-    ensures { IfOk result (λ both. inputs.now ≡ both.0.now ∷ both.1.now ∷ []) }
+fn pair<'a, 'b>(inputs: &'a [Input<'b>]) -> (&'a Input<'b>, &'a Input<'b>)
+    requires { nat_eq (length inputs.now) 2 ≡ true }
+    ensures { inputs.now ≡ result.0.now ∷ result.1.now ∷ [] }
 {
-    match inputs {
-        [one, other] => Ok((one, other)),
-        _ => Err(plain(alloc, "two files are wanted", "")),
-    }
+    (&inputs[0], &inputs[1])
 }
 
 /// What a word answers to its files.
@@ -154,23 +156,25 @@ fn answer_to(
     inputs: &[Input<'_>],
     color: bool,
 ) -> Result<Answer, Refusal>
-    ensures { IfOk result (AnswersTo asked.now.word (given_of asked.now) color inputs.now) }
+    requires { takes asked.now.word (length inputs.now) ≡ true }
+    ensures answers { IfOk result (AnswersTo asked.now.word (given_of asked.now) color inputs.now) }
+    ensures refused { IfErr result (RefusedFor (AnswersNothingTo asked.now.word (given_of asked.now) inputs.now)) }
 {
     match asked.word {
-        Word::Text => show(alloc, text_form(asked), asked, only(alloc, inputs)?, false),
-        Word::Json => show(alloc, Form::Json, asked, only(alloc, inputs)?, false),
-        Word::Wasm => show(alloc, Form::Wasm, asked, only(alloc, inputs)?, true),
+        Word::Text => show(alloc, text_form(asked), asked, only(inputs), false),
+        Word::Json => show(alloc, Form::Json, asked, only(inputs), false),
+        Word::Wasm => show(alloc, Form::Wasm, asked, only(inputs), true),
         Word::Kind => kinds(alloc, inputs, asked.json),
         Word::Check => checks(alloc, inputs, asked.json, color),
-        Word::Compat => compared(alloc, asked, only(alloc, inputs)?, color),
-        Word::Strip => stripped(alloc, only(alloc, inputs)?),
-        Word::Sections => sections(alloc, asked, only(alloc, inputs)?),
+        Word::Compat => compared(alloc, asked, only(inputs), color),
+        Word::Strip => stripped(alloc, only(inputs)),
+        Word::Sections => sections(alloc, asked, only(inputs)),
         Word::Diff => {
-            let (old, new) = pair(alloc, inputs)?;
+            let (old, new) = pair(inputs);
             differences(alloc, asked, old, new, color)
         }
         Word::Embed => {
-            let (module, package) = pair(alloc, inputs)?;
+            let (module, package) = pair(inputs);
             embedded(alloc, asked, module, package)
         }
         Word::Help => help(alloc, &asked.files),
@@ -190,7 +194,9 @@ pub fn answer_of(
     inputs: &[Input<'_>],
     color: bool,
 ) -> Result<Answer, Refusal>
-    ensures { IfOk result (Answers (given_of asked.now) color inputs.now) }
+    requires { HasItsFiles (given_of asked.now) inputs.now }
+    ensures answers { IfOk result (Answers (given_of asked.now) color inputs.now) }
+    ensures refused { IfErr result (RefusedFor (AnswersNothing (given_of asked.now) inputs.now)) }
 {
     if asked.help {
         explain(alloc, Some(asked.word))

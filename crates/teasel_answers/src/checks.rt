@@ -4,8 +4,10 @@ ghost use Rattle.std.specs.Prelude.{◌≡◌, ℕ, true, false, IfErr, IfOk};
 ghost use Rattle.wit_component.specs.{Binding.Binding, Bound.IsBound};
 ghost use Rattle.wit_component.specs.{Decoded.MeansNothing, DecodedWorlds.IsDecodedWorld, DecodedWorlds.MeansNoWorld};
 ghost use Rattle.wit_model.specs.declared.model.Resolve.{Resolve};
-ghost use Rattle.teasel_answers.specs.Checks.{IsChecked, Means, MeansComponent, MeansNoneFor, RefusesModule, is_memory as is_want_of_memory};
+ghost use Rattle.teasel_answers.specs.Checks.{IsChecked, Means, MeansComponent, MeansNoneFor, RefusesModule};
 ghost use Rattle.teasel_files.specs.AllTell.{AllTell};
+ghost use Rattle.teasel_messages.specs.Reasons.{is_memory as is_want_of_memory};
+ghost use Rattle.teasel_messages.specs.declared.refusal.Refusal.TheVariants.{Memory};
 
 use crate::names::{Names, package_names, world_name};
 use crate::report::{Report, Value, both, put_object};
@@ -191,7 +193,8 @@ pub fn checks(
     json: bool,
     color: bool,
 ) -> Result<Answer, Refusal>
-    ensures { IfOk result (λ a. AllTell IsChecked inputs.now true a.yes) }
+    ensures checked { IfOk result (λ a. AllTell IsChecked inputs.now true a.yes) }
+    ensures memory { IfErr result (λ refusal. refusal ≡ Memory) }
 {
     let mut all_read = true;
     let mut report = Report::begin(alloc, json)?;

@@ -1,8 +1,10 @@
 //! Whether worlds of a package can replace others.
 
-ghost use Rattle.std.specs.Prelude.{◌≡◌, true, false, IfOk, is_none};
+ghost use Rattle.std.specs.Prelude.{◌≡◌, true, false, Any, IfErr, IfOk, is_none};
+ghost use Rattle.teasel_answers.specs.Refusals.{ComparesNoPair, ComparesNothing, fails_pair};
 ghost use Rattle.teasel_answers.specs.Answers.{Compares, IsCompared, is_answer_no, pair_of as pair_in, tells_pair};
 ghost use Rattle.teasel_files.specs.AllTell.{AllTell};
+ghost use Rattle.teasel_messages.specs.Reasons.{RefusedFor, is_memory};
 ghost use Rattle.teasel_words.specs.Given.{given_of, texts_of};
 
 use crate::names::{Names, package_names};
@@ -71,7 +73,8 @@ fn no_choice(alloc: Global, file: &str, bytes: &[u8]) -> Refusal {
 
 /// Why the second world can't replace the first, where that is the answer.
 fn reason(alloc: Global, input: &Input<'_>, error: Error) -> Result<Option<String>, Refusal>
-    ensures { IfOk result (λ why. (is_answer_no error ≡ true) × (is_none why ≡ false)) }
+    ensures no { IfOk result (λ why. (is_answer_no error ≡ true) × (is_none why ≡ false)) }
+    ensures refused { IfErr result (RefusedFor ((is_memory error ≡ false) × (is_answer_no error ≡ false))) }
 {
     if is_no(&error) {
         Ok(Some(message(alloc, &error)?))
@@ -87,7 +90,8 @@ fn compare(
     prev: &str,
     next: &str,
 ) -> Result<Option<String>, Refusal>
-    ensures { IfOk result (λ why. IsCompared input.now.bytes.items prev.now next.now (is_none why)) }
+    ensures compared { IfOk result (λ why. IsCompared input.now.bytes.items prev.now next.now (is_none why)) }
+    ensures refused { IfErr result (RefusedFor (ComparesNoPair input.now.bytes.items prev.now next.now)) }
 {
     match compat(alloc, &input.bytes, prev, next) {
         Ok(Compared::Compatible) => Ok(None),
@@ -131,7 +135,8 @@ pub fn compared(
     input: &Input<'_>,
     color: bool,
 ) -> Result<Answer, Refusal>
-    ensures { IfOk result (Compares (given_of asked.now) input.now) }
+    ensures compared { IfOk result (Compares (given_of asked.now) input.now) }
+    ensures refused { IfErr result (RefusedFor (ComparesNothing (given_of asked.now) input.now)) }
 {
     if !input.whole {
         return Err(foreign(alloc, input.name, &input.bytes));
@@ -172,7 +177,8 @@ fn compare_pair(
     report: &mut Report,
     color: bool,
 ) -> Result<bool, Refusal>
-    ensures { IfOk result (tells_pair input.now.bytes.items value.now) }
+    ensures compared { IfOk result (tells_pair input.now.bytes.items value.now) }
+    ensures refused { IfErr result (RefusedFor (fails_pair input.now.bytes.items value.now)) }
 {
     let (prev, next) = pair_of(value);
     let why = compare(alloc, input, prev, next)?;
@@ -187,7 +193,8 @@ fn all_compared(
     json: bool,
     color: bool,
 ) -> Result<Answer, Refusal>
-    ensures { IfOk result (λ a. AllTell (tells_pair input.now.bytes.items) (texts_of pairs.now) true a.yes) }
+    ensures compared { IfOk result (λ a. AllTell (tells_pair input.now.bytes.items) (texts_of pairs.now) true a.yes) }
+    ensures refused { IfErr result (RefusedFor (Any (fails_pair input.now.bytes.items) (texts_of pairs.now))) }
 {
     let mut all_fit = true;
     let mut report = Report::begin(alloc, json)?;

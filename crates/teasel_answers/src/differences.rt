@@ -1,7 +1,8 @@
 //! The difference of two files' texts.
 
-ghost use Rattle.std.specs.Prelude.{IfOk};
-ghost use Rattle.teasel_answers.specs.Answers.{Differs, IsTold};
+ghost use Rattle.std.specs.Prelude.{IfErr, IfOk};
+ghost use Rattle.teasel_answers.specs.{Answers.Differs, Answers.IsTold, Refusals.DiffersFromNothing};
+ghost use Rattle.teasel_messages.specs.Reasons.{RefusedFor};
 ghost use Rattle.teasel_words.specs.Given.{given_of};
 
 use crate::answer::{made, text_form};
@@ -19,7 +20,8 @@ pub fn differences(
     new: &Input<'_>,
     color: bool,
 ) -> Result<Answer, Refusal>
-    ensures { IfOk result (Differs (given_of asked.now) color old.now new.now) }
+    ensures differs { IfOk result (Differs (given_of asked.now) color old.now new.now) }
+    ensures refused { IfErr result (RefusedFor (DiffersFromNothing (given_of asked.now) old.now new.now)) }
 {
     let old_text = made(alloc, text_form(asked), asked, old)?;
     let new_text = made(alloc, text_form(asked), asked, new)?;

@@ -1,13 +1,15 @@
 //! Core modules with one more world, and without worlds.
 
-ghost use Rattle.std.specs.Prelude.{◌≡◌, None, true, IfOk};
+ghost use Rattle.std.specs.Prelude.{◌≡◌, ◌≢◌, None, true, false, string_bytes, IfErr, IfOk};
 ghost use Rattle.teasel_answers.specs.{Answers.Attaches, Answers.Embeds, Answers.Strips, Answers.encoding_of as encoding_by, Forms.Shows};
 ghost use Rattle.teasel_answers.specs.declared.forms.Form.TheVariants.{Wasm};
+ghost use Rattle.teasel_answers.specs.{Refusals.AttachesNothing, Refusals.BringsNothing, Refusals.EmbedsNothing, Refusals.StripsNothing, Worlds.HasNoOneWorld, Worlds.HasWorlds, Worlds.IsChosen, Worlds.last_of};
+ghost use Rattle.teasel_messages.specs.Reasons.{RefusedFor, is_memory};
 ghost use Rattle.teasel_words.specs.Given.{given_of};
 
 use crate::compared::no_world;
 use crate::forms::{Form, shown};
-use crate::names::package_names;
+use crate::names::{Names, package_names};
 use crate::sections::refusal_of;
 use std::alloc::Global;
 use teasel_files::{Answer, Input};
@@ -32,7 +34,8 @@ fn answered(text: Vec<u8>) -> Answer
 
 /// The core module without the sections that contain worlds.
 pub fn stripped(alloc: Global, input: &Input<'_>) -> Result<Answer, Refusal>
-    ensures { IfOk result (Strips input.now) }
+    ensures strips { IfOk result (Strips input.now) }
+    ensures refused { IfErr result (RefusedFor (StripsNothing input.now)) }
 {
     if !input.whole {
         return Err(foreign(alloc, input.name, &input.bytes));
@@ -55,23 +58,27 @@ fn encoding_of(encoding: Encoding) -> StringEncoding
 }
 
 /// The only one of these names, or why there is none.
-fn only(alloc: Global, file: &str, names: String) -> Result<String, Refusal> {
-    if names.is_empty() {
-        return Err(told(alloc, file, "the package has no world", ""));
-    }
-    if names.contains(", ") {
-        return Err(Refusal::of(
+fn only(alloc: Global, file: &str, names: Names) -> Result<String, Refusal>
+    ensures one { IfOk result (λ name. names.count ≡ 1) }
+    ensures refused { IfErr result (RefusedFor (names.count ≢ 1)) }
+{
+    match names.count {
+        0 => Err(told(alloc, file, "the package has no world", "")),
+        1 => Ok(names.worlds),
+        _ => Err(Refusal::of(
             format!(in alloc; "{file}: the package has several worlds"),
-            format!(in alloc; "choose one by --world: {names}"),
-        ));
+            format!(in alloc; "choose one by --world: {}", names.worlds),
+        )),
     }
-    Ok(names)
 }
 
 /// The name of the only world of a package, or why there is none.
-fn only_world(alloc: Global, file: &str, bytes: &[u8]) -> Result<String, Refusal> {
+fn only_world(alloc: Global, file: &str, bytes: &[u8]) -> Result<String, Refusal>
+    ensures one { IfOk result (λ name. HasWorlds bytes.now 1) }
+    ensures refused { IfErr result (RefusedFor (HasNoOneWorld bytes.now)) }
+{
     match package_names(alloc, bytes) {
-        Ok(names) => only(alloc, file, names.worlds),
+        Ok(names) => only(alloc, file, names),
         Err(error) => Err(of_error(alloc, file, &error)),
     }
 }
@@ -82,7 +89,10 @@ fn chosen_world(
     asked: &Asked<'_>,
     file: &str,
     bytes: &[u8],
-) -> Result<String, Refusal> {
+) -> Result<String, Refusal>
+    ensures chosen { IfOk result (λ name. IsChosen (given_of asked.now).worlds bytes.now (string_bytes name)) }
+    ensures refused { IfErr result (RefusedFor ((last_of (given_of asked.now).worlds ≡ None) × HasNoOneWorld bytes.now)) }
+{
     match asked.worlds.last() {
         Some(name) => Ok(String::from_str(alloc, *name)?),
         None => only_world(alloc, file, bytes),
@@ -91,7 +101,8 @@ fn chosen_world(
 
 /// The bytes of a package: of the one that the file's bytes mean, or of the one world.
 fn package_of(alloc: Global, input: &Input<'_>) -> Result<Vec<u8>, Refusal>
-    ensures { IfOk result (Shows Wasm None input.now) }
+    ensures shows { IfOk result (Shows Wasm None input.now) }
+    ensures refused { IfErr result (RefusedFor (BringsNothing input.now)) }
 {
     if !input.whole {
         return Err(foreign(alloc, input.name, &input.bytes));
@@ -112,7 +123,9 @@ fn package_of(alloc: Global, input: &Input<'_>) -> Result<Vec<u8>, Refusal>
 }
 
 /// The refusal of a world in a module.
-fn refused(alloc: Global, module: &Input<'_>, error: Error) -> Refusal {
+fn refused(alloc: Global, module: &Input<'_>, error: Error) -> Refusal
+    ensures { RefusedFor (is_memory error ≡ false) result }
+{
     match error {
         Error::Clash(_, _) => match message(alloc, &error) {
             Ok(words) => told(
@@ -135,7 +148,8 @@ fn attached(
     file: &str,
     bytes: &[u8],
 ) -> Result<Answer, Refusal>
-    ensures { IfOk result (Attaches (given_of asked.now) «module».now bytes.now) }
+    ensures attaches { IfOk result (Attaches (given_of asked.now) «module».now bytes.now) }
+    ensures refused { IfErr result (RefusedFor (AttachesNothing (given_of asked.now) «module».now bytes.now)) }
 {
     let name = chosen_world(alloc, asked, file, bytes)?;
     let encoding = encoding_of(asked.encoding);
@@ -153,7 +167,8 @@ pub fn embedded(
     module: &Input<'_>,
     package: &Input<'_>,
 ) -> Result<Answer, Refusal>
-    ensures { IfOk result (Embeds (given_of asked.now) «module».now «package».now) }
+    ensures embeds { IfOk result (Embeds (given_of asked.now) «module».now «package».now) }
+    ensures refused { IfErr result (RefusedFor (EmbedsNothing (given_of asked.now) «module».now «package».now)) }
 {
     if !module.whole {
         return Err(foreign(alloc, module.name, &module.bytes));

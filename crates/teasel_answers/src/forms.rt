@@ -1,8 +1,10 @@
 //! The text, the JSON or the bytes of a package, a world or a core module.
 
-ghost use Rattle.std.specs.Prelude.{◌≡◌, true, IfOk};
+ghost use Rattle.std.specs.Prelude.{◌≡◌, true, false, IfErr, IfOk};
 ghost use Rattle.wit_component.specs.Decoded.{MeansNothing};
-ghost use Rattle.teasel_answers.specs.Forms.{MakesFound, MakesModule, MakesPackage, MakesShown, MakesWorld};
+ghost use Rattle.teasel_answers.specs.Forms.{DecidesPackage, MakesFound, MakesModule, MakesPackage, MakesShown, MakesWorld};
+ghost use Rattle.teasel_answers.specs.Forms.{RefusesBound, RefusesComponent, RefusesFound, RefusesPackage, RefusesShown, RefusesWorld, RefusesWorldFor};
+ghost use Rattle.teasel_messages.specs.Reasons.{is_memory as is_want_of_memory};
 
 use crate::checks::is_memory;
 use crate::names::package_names;
@@ -26,7 +28,8 @@ pub enum Form {
 }
 
 fn of_package(alloc: Global, form: Form, bytes: &[u8]) -> Result<Within, Error>
-    ensures { IfOk result (MakesPackage form bytes.now) }
+    ensures makes { IfOk result (MakesPackage form bytes.now) }
+    ensures refused { IfErr result (RefusesPackage form bytes.now) }
 {
     match form {
         Form::Text(most) => package_text_within(alloc, bytes, most),
@@ -36,7 +39,8 @@ fn of_package(alloc: Global, form: Form, bytes: &[u8]) -> Result<Within, Error>
 }
 
 fn of_world(alloc: Global, form: Form, bytes: &[u8]) -> Result<Within, Error>
-    ensures { IfOk result (MakesWorld form bytes.now) }
+    ensures makes { IfOk result (MakesWorld form bytes.now) }
+    ensures refused { IfErr result (RefusesWorld form bytes.now) }
 {
     match form {
         Form::Text(most) => world_text_within(alloc, bytes, most),
@@ -46,7 +50,8 @@ fn of_world(alloc: Global, form: Form, bytes: &[u8]) -> Result<Within, Error>
 }
 
 fn of_module(alloc: Global, form: Form, bytes: &[u8]) -> Result<Within, Error>
-    ensures { IfOk result (MakesModule form bytes.now) }
+    ensures makes { IfOk result (MakesModule form bytes.now) }
+    ensures refused { IfErr result (RefusesBound form bytes.now) }
 {
     match form {
         Form::Text(most) => module_text_within(alloc, bytes, most),
@@ -56,7 +61,9 @@ fn of_module(alloc: Global, form: Form, bytes: &[u8]) -> Result<Within, Error>
 }
 
 /// The refusal of bytes that mean neither a package nor one world: that of the package.
-fn first_refusal(of_package: Error, of_world: Error) -> Error {
+fn first_refusal(of_package: Error, of_world: Error) -> Error
+    ensures { is_want_of_memory result ≡ false → is_want_of_memory of_world ≡ false }
+{
     match of_world {
         Error::NoReading(_, _) => of_package,
         other => other,
@@ -70,7 +77,8 @@ fn of_world_instead(
     bytes: &[u8],
     refusal: Error,
 ) -> Result<Within, Error>
-    ensures { IfOk result (MakesWorld form bytes.now) }
+    ensures makes { IfOk result (MakesWorld form bytes.now) }
+    ensures refused { IfErr result (RefusesWorldFor form bytes.now) }
 {
     match of_world(alloc, form, bytes) {
         Ok(made) => Ok(made),
@@ -78,9 +86,10 @@ fn of_world_instead(
     }
 }
 
-/// Whether bytes mean no package.
+/// Whether bytes mean no package, or else one.
 fn means_no_package(alloc: Global, bytes: &[u8]) -> Result<bool, Error>
-    ensures { IfOk result (λ none. none ≡ true → MeansNothing bytes.now) }
+    ensures decides { IfOk result (DecidesPackage bytes.now) }
+    ensures memory { IfErr result (λ e. is_want_of_memory e ≡ true) }
 {
     match package_names(alloc, bytes) {
         Ok(_) => Ok(false),
@@ -101,7 +110,9 @@ fn of_world_or_refused(
     bytes: &[u8],
     refusal: Error,
 ) -> Result<Within, Error>
-    ensures { IfOk result (λ made. MeansNothing bytes.now × MakesWorld form bytes.now made) }
+    requires { RefusesPackage form bytes.now refusal }
+    ensures makes { IfOk result (λ made. MeansNothing bytes.now × MakesWorld form bytes.now made) }
+    ensures refused { IfErr result (λ e. is_want_of_memory e ≡ false → RefusesComponent form bytes.now e) }
 {
     match means_no_package(alloc, bytes) {
         Ok(none) => {
@@ -117,7 +128,8 @@ fn of_world_or_refused(
 
 /// What is made of what the bytes are: a core module by their beginning, else a package where they mean one, else one world.
 fn of_found(alloc: Global, form: Form, bytes: &[u8]) -> Result<Within, Error>
-    ensures { IfOk result (MakesFound form bytes.now) }
+    ensures makes { IfOk result (MakesFound form bytes.now) }
+    ensures refused { IfErr result (λ e. is_want_of_memory e ≡ false → RefusesFound form bytes.now e) }
 {
     if is_module(bytes) {
         return of_module(alloc, form, bytes);
@@ -130,7 +142,8 @@ fn of_found(alloc: Global, form: Form, bytes: &[u8]) -> Result<Within, Error>
 
 /// What is made of bytes that are of this kind, or of the kind that they are found to be.
 pub fn shown(alloc: Global, form: Form, kind: Option<Kind>, bytes: &[u8]) -> Result<Within, Error>
-    ensures { IfOk result (MakesShown form kind bytes.now) }
+    ensures makes { IfOk result (MakesShown form kind bytes.now) }
+    ensures refused { IfErr result (RefusesShown form kind bytes.now) }
 {
     match kind {
         Some(Kind::Package) => of_package(alloc, form, bytes),

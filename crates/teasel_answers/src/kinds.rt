@@ -1,8 +1,9 @@
 //! What files are.
 
-ghost use Rattle.std.specs.Prelude.{◌≡◌, true, IfOk};
-ghost use Rattle.teasel_answers.specs.Kinds.{IsKnown, is_known_by};
+ghost use Rattle.std.specs.Prelude.{◌≡◌, true, false, Any, IfErr, IfOk};
+ghost use Rattle.teasel_answers.specs.{Kinds.IsKnown, Kinds.is_known_by, Refusals.Outgrows};
 ghost use Rattle.teasel_files.specs.AllTell.{AllTell};
+ghost use Rattle.teasel_messages.specs.Reasons.{RefusedFor, is_memory};
 
 use crate::report::{Report, Value, both, put_object};
 use crate::sections::refusal_of;
@@ -36,7 +37,8 @@ fn kind_word(sum: u8, bytes: &[u8]) -> &'static str {
 
 /// What a file is, and whether that is known.
 fn kind_of(alloc: Global, input: &Input<'_>) -> Result<(&'static str, bool), Error>
-    ensures { IfOk result (λ kind. IsKnown input.now kind.1) }
+    ensures known { IfOk result (λ kind. IsKnown input.now kind.1) }
+    ensures refused { IfErr result (λ e. is_memory e ≡ false → Outgrows input.now) }
 {
     if !input.whole {
         return Ok(("unknown", false));
@@ -60,7 +62,8 @@ fn tell_kind(report: &mut Report, name: &str, kind: &str) -> Result<(), AllocErr
 
 /// What each file is. The answer is no where one is unknown.
 pub fn kinds(alloc: Global, inputs: &[Input<'_>], json: bool) -> Result<Answer, Refusal>
-    ensures { IfOk result (λ a. AllTell IsKnown inputs.now true a.yes) }
+    ensures known { IfOk result (λ a. AllTell IsKnown inputs.now true a.yes) }
+    ensures refused { IfErr result (RefusedFor (Any Outgrows inputs.now)) }
 {
     let mut all_known = true;
     let mut report = Report::begin(alloc, json)?;

@@ -1,36 +1,52 @@
 //! The names of worlds that bytes mean.
 
-ghost use Rattle.std.specs.Prelude.{ℕ, IfErr, IfOk};
-ghost use Rattle.wit_component.specs.{Decoded.IsDecoded, Decoded.RefusesBytes, DecodedWorlds.IsDecodedWorld, DecodedWorlds.RefusesWorldBytes};
+ghost use Rattle.std.specs.Prelude.{◌≡◌, ℕ, IfErr, IfOk};
+ghost use Rattle.wit_component.specs.{Decoded.RefusesBytes, DecodedWorlds.IsDecodedWorld, DecodedWorlds.RefusesWorldBytes};
+ghost use Rattle.wit_component.specs.Lookup.{package_at};
 ghost use Rattle.wit_model.specs.declared.model.Resolve.{Resolve};
+ghost use Rattle.teasel_answers.specs.Worlds.{HasWorlds, world_count};
 
 use std::alloc::{AllocError, Global};
 use teasel_messages::push;
-use wit_component::{Error, PackageId, Resolve, WorldId, decode, decode_world};
+use wit_component::{Error, Package, PackageId, Resolve, WorldId, decode, decode_world};
 
-/// The names of a package's worlds, with a comma between, and how many interfaces it has.
+/// The names of a package's worlds, with a comma between, how many they are, and how many interfaces it has.
 #[derive(Drop)]
 pub struct Names {
     pub worlds: String,
+    pub count: usize,
     pub interfaces: usize,
 }
 
-fn names_in(alloc: Global, resolve: &Resolve, id: PackageId) -> Result<Names, AllocError> {
+fn worlds_in(alloc: Global, package: &Package) -> Result<String, AllocError> {
     let mut worlds = String::new(alloc);
-    let mut interfaces = 0usize;
-    if let Some(package) = resolve.packages.get(id.0 as usize) {
-        interfaces = package.interfaces.len();
-        for (name, _) in package.worlds.iter() {
-            let comma = if worlds.is_empty() { "" } else { ", " };
-            push(&mut worlds, &[comma, name])?;
-        }
+    for (name, _) in package.worlds.iter() {
+        let comma = if worlds.is_empty() { "" } else { ", " };
+        push(&mut worlds, &[comma, name])?;
     }
-    Ok(Names { worlds, interfaces })
+    Ok(worlds)
+}
+
+fn names_in(alloc: Global, resolve: &Resolve, id: PackageId) -> Result<Names, AllocError>
+    ensures { IfOk result (λ names. world_count (package_at resolve.now id.0) ≡ names.count) }
+{
+    match resolve.packages.get(id.0 as usize) {
+        Some(package) => Ok(Names {
+            worlds: worlds_in(alloc, package)?,
+            count: package.worlds.len(),
+            interfaces: package.interfaces.len(),
+        }),
+        None => Ok(Names {
+            worlds: String::new(alloc),
+            count: 0,
+            interfaces: 0,
+        }),
+    }
 }
 
 /// The names of the package that bytes mean.
 pub fn package_names(alloc: Global, bytes: &[u8]) -> Result<Names, Error>
-    ensures means { IfOk result (λ names. (r : Resolve) × (n : ℕ) × IsDecoded bytes.now r n) }
+    ensures means { IfOk result (λ names. HasWorlds bytes.now names.count) }
     ensures refuses { IfErr result (RefusesBytes bytes.now) }
 {
     match decode(alloc, bytes) {

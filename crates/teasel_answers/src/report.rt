@@ -1,6 +1,7 @@
 //! What is told of a list of things: lines, or JSON.
 
-ghost use Rattle.std.specs.Prelude.{◌≡◌, ◌&&◌, IfOk};
+ghost use Rattle.std.specs.Prelude.{◌≡◌, ◌&&◌, IfErr, IfOk};
+ghost use Rattle.teasel_messages.specs.declared.refusal.Refusal.TheVariants.{Memory};
 
 use json::Writer;
 use std::alloc::{AllocError, Global};
@@ -27,7 +28,8 @@ impl Report {
 
     /// The report as an answer.
     pub fn end(self, fits: bool) -> Result<Answer, Refusal>
-        ensures { IfOk result (λ a. a.yes ≡ fits) }
+        ensures fits { IfOk result (λ a. a.yes ≡ fits) }
+        ensures memory { IfErr result (λ refusal. refusal ≡ Memory) }
     {
         match self {
             Report::Lines(text) => Ok(Answer::told(text.into_bytes(), fits)),

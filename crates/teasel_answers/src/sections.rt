@@ -1,7 +1,8 @@
 //! The sections of a core module that contain worlds.
 
-ghost use Rattle.std.specs.Prelude.{◌≡◌, true, IfOk};
+ghost use Rattle.std.specs.Prelude.{◌≡◌, true, false, IfOk};
 ghost use Rattle.teasel_answers.specs.Answers.{IsListed};
+ghost use Rattle.teasel_messages.specs.Reasons.{RefusedFor, is_memory};
 
 use crate::names::world_name;
 use crate::report::{Report, Value, put_object};
@@ -59,7 +60,9 @@ fn all_sections(alloc: Global, bytes: &[u8]) -> Result<Vec<Section>, Error> {
 }
 
 /// A refusal of a module's bytes whose place, if that is in the data of a section, is one of all bytes.
-fn placed(alloc: Global, bytes: &[u8], error: Error) -> Error {
+fn placed(alloc: Global, bytes: &[u8], error: Error) -> Error
+    ensures { is_memory result ≡ is_memory error }
+{
     match error {
         Error::NoReading(cause, offset) => match all_sections(alloc, bytes) {
             Err(Error::NoReading(of_section, place)) => Error::NoReading(of_section, place),
@@ -69,8 +72,10 @@ fn placed(alloc: Global, bytes: &[u8], error: Error) -> Error {
     }
 }
 
-/// The refusal of a file's bytes, at its place in the file.
-pub fn refusal_of(alloc: Global, input: &Input<'_>, error: Error) -> Refusal {
+/// The refusal of a file's bytes, at its place in the file. It is for want of memory where the error is.
+pub fn refusal_of(alloc: Global, input: &Input<'_>, error: Error) -> Refusal
+    ensures { RefusedFor (is_memory error ≡ false) result }
+{
     if is_module(&input.bytes) {
         of_error(alloc, input.name, &placed(alloc, &input.bytes, error))
     } else {

@@ -1,3 +1,5 @@
+-- One of a list, by its place. Serves inputs::read_inputs; crates above.
+pub mod AnyLaws
 -- What is read of one file more. Serves inputs::read_inputs.
 mod InputLaws
 -- What is told of a list, from a place on. Serves crates above.

@@ -1,7 +1,7 @@
 -- What is read of files.
 use Rattle.std.specs.Prelude.{◌≡◌, ℕ, Bool, true, false, List, [], ◌∷◌, codes, if◌then◌else◌}
 use Rattle.teasel_files.specs.declared.{answer.Input.Input, input.Content.Content}
-use Rattle.teasel_messages.specs.Looks.{has_preamble}
+use Rattle.teasel_messages.specs.{Looks.has_preamble, Reasons.is_memory_fault, declared.faults.ReadFault.ReadFault}
 use Rattle.teasel_words.specs.{Given.Given, Table.Text}
 use Rattle.teasel_words.specs.declared.table.Word.{Word}
 use Rattle.teasel_words.specs.declared.table.Word.TheVariants as words
@@ -18,6 +18,10 @@ IsContent Holds c = AreBytes Holds c.bytes.items c.whole
 -- the same of an input
 abbrev pub IsInput : (List ℕ → Type 0) → Input → Type 0
 IsInput Holds i = AreBytes Holds i.bytes.items i.whole
+
+-- memory was wanting, or this is why a file isn't read
+abbrev pub UnreadFor : Type 0 → ReadFault → Type 0
+UnreadFor Why fault = is_memory_fault fault ≡ false → Why
 
 -- whether a word is about files
 abbrev pub has_files : Word → Bool

@@ -124,18 +124,24 @@ pub fn deliver<S: Store, W: Write>(
 }
 
 /// Writes a message, and what to do on a second line.
-fn write_message<E: Write>(errors: &mut E, color: bool, message: &str, hint: &str) -> IoResult<()> {
-    if color {
-        errors.write_all(b"\x1b[31mteasel\x1b[0m: ")?;
+fn write_message<'a, E: Write>(
+    errors: &mut E,
+    color: bool,
+    message: &'a str,
+    hint: &'a str,
+) -> IoResult<()> {
+    let name = if color {
+        "\x1b[31mteasel\x1b[0m: "
     } else {
-        errors.write_all(b"teasel: ")?;
-    }
-    errors.write_all(message.as_bytes())?;
-    errors.write_all(b"\n")?;
-    if !hint.is_empty() {
-        errors.write_all(b"  ")?;
-        errors.write_all(hint.as_bytes())?;
-        errors.write_all(b"\n")?;
+        "teasel: "
+    };
+    let (gap, end) = if hint.is_empty() {
+        ("", "")
+    } else {
+        ("  ", "\n")
+    };
+    for part in [name, message, "\n", gap, hint, end] {
+        errors.write_all(part.as_bytes())?;
     }
     errors.flush()
 }

@@ -1,7 +1,9 @@
 //! The files of a command line, read.
 
-ghost use Rattle.std.specs.Prelude.{◌≡◌, IfOk};
+ghost use Rattle.std.specs.Prelude.{◌≡◌, Any, IfErr, IfOk};
 ghost use Rattle.teasel_files.specs.Contents.{AreRead, IsInput, files_of, has_files as is_about_files};
+ghost use Rattle.teasel_messages.specs.Reasons.{RefusedFor};
+ghost use Rattle.teasel_messages.specs.declared.refusal.Refusal.TheVariants.{Memory};
 ghost use Rattle.teasel_words.specs.Given.{given_of, texts_of};
 
 use crate::answer::Input;
@@ -41,6 +43,7 @@ fn read_input<'a, S: Store, E: Write>(
     errors: &mut E,
 ) -> Result<Input<'a>, Refusal>
     ensures read { IfOk result (IsInput (S.holds (S.state store.old) name.now)) }
+    ensures refused { IfErr result (RefusedFor (S.fails (S.state store.old) name.now)) }
     ensures kept { S.state store.new ≡ S.state store.old }
 {
     if setting.in_terminal && name == "-" {
@@ -66,7 +69,8 @@ fn read_input<'a, S: Store, E: Write>(
 
 /// The files that are read: those that are named, or standard input, or none where the word is about none.
 fn names_of<'a>(alloc: Global, asked: &Asked<'a>) -> Result<Vec<&'a str>, Refusal>
-    ensures { IfOk result (λ names. texts_of names.items ≡ files_of (given_of asked.now)) }
+    ensures names { IfOk result (λ names. texts_of names.items ≡ files_of (given_of asked.now)) }
+    ensures memory { IfErr result (λ refusal. refusal ≡ Memory) }
 {
     let mut names = Vec::new(alloc);
     if asked.help || !has_files(asked.word) {
@@ -88,6 +92,7 @@ pub fn read_inputs<'a, S: Store, E: Write>(
     errors: &mut E,
 ) -> Result<Vec<Input<'a>>, Refusal>
     ensures read { IfOk result (λ inputs. AreRead (S.holds (S.state store.old)) (files_of (given_of asked.now)) inputs.items) }
+    ensures refused { IfErr result (RefusedFor (Any (S.fails (S.state store.old)) (files_of (given_of asked.now)))) }
     ensures kept { S.state store.new ≡ S.state store.old }
 {
     let names = names_of(alloc, asked)?;

@@ -1,7 +1,7 @@
 //! Where files are read and written.
 
-ghost use Rattle.std.specs.Prelude.{◌≡◌, ℕ, List, IfOk, OnErr, OnOk};
-ghost use Rattle.teasel_files.specs.Contents.{IsContent};
+ghost use Rattle.std.specs.Prelude.{◌≡◌, ℕ, List, IfErr, IfOk, OnErr, OnOk};
+ghost use Rattle.teasel_files.specs.{Contents.IsContent, Contents.UnreadFor};
 
 use crate::input::Content;
 use std::alloc::Global;
@@ -18,12 +18,16 @@ pub trait Store {
     /// In this state these are the bytes of the file of this name.
     ghost holds: { State → List ℕ → List ℕ → Type 0 };
 
+    /// In this state the file of this name can't be read.
+    ghost fails: { State → List ℕ → Type 0 };
+
     /// From the one state to the other a new file of these bytes came in the place of the one of this name, and all else stayed.
     ghost puts: { State → List ℕ → List ℕ → State → Type 0 };
 
     /// The file of this name, of so many bytes at most.
     fn read(&mut self, alloc: Global, name: &str, most: u64) -> Result<Content, ReadFault>
         ensures bytes { IfOk result (IsContent (holds (state self.old) name.now)) }
+        ensures refused { IfErr result (UnreadFor (fails (state self.old) name.now)) }
         ensures kept { state self.new ≡ state self.old };
 
     /// Puts a new file of these bytes in the place of the one that has this name, if one has, when all of it is written. Else it leaves it as it was.

@@ -101,6 +101,8 @@ impl<'a, R: Files, I: Read> Store for Host<'a, R, I> {
 
     ghost holds = { λ state name bytes. Unit {0} };
 
+    ghost fails = { λ state name. Unit {0} };
+
     ghost puts = { λ old name bytes new. Unit {0} };
 
     fn read(&mut self, alloc: Global, name: &str, most: u64) -> Result<Content, ReadFault> {

@@ -1,0 +1,2 @@
+-- What follows from why something is refused. Serves crates above.
+pub mod ReasonLaws

@@ -1,5 +1,8 @@
 //! Why files can't be read or written.
 
+ghost use Rattle.std.specs.Prelude.{◌≡◌, false};
+ghost use Rattle.teasel_messages.specs.Reasons.{RefusedFor, is_memory_fault};
+
 use crate::messages::told;
 use crate::refusal::Refusal;
 use std::alloc::{AllocError, Global};
@@ -65,8 +68,10 @@ impl WriteFault {
     }
 }
 
-/// The refusal of a file that can't be read.
-pub fn unread(alloc: Global, name: &str, fault: ReadFault) -> Refusal {
+/// The refusal of a file that can't be read, which is for want of memory where the fault is.
+pub fn unread(alloc: Global, name: &str, fault: ReadFault) -> Refusal
+    ensures { RefusedFor (is_memory_fault fault ≡ false) result }
+{
     let (words, hint) = match fault {
         ReadFault::Memory => return Refusal::Memory,
         ReadFault::NotFound => ("there is no such file", ""),

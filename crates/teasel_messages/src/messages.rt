@@ -1,5 +1,8 @@
 //! The messages of what is refused: the file, the place where there is one, and what is wrong; and what to do about it.
 
+ghost use Rattle.std.specs.Prelude.{◌≡◌, false};
+ghost use Rattle.teasel_messages.specs.Reasons.{RefusedFor, is_memory};
+
 use crate::looks::{Look, look_of};
 use crate::refusal::Refusal;
 use std::alloc::{AllocError, Global};
@@ -63,8 +66,10 @@ fn by_message(alloc: Global, name: &str, error: &Error) -> Result<String, AllocE
     about(alloc, name, &words)
 }
 
-/// The refusal of a file's bytes.
-pub fn of_error(alloc: Global, name: &str, error: &Error) -> Refusal {
+/// The refusal of a file's bytes, which is for want of memory where the error is.
+pub fn of_error(alloc: Global, name: &str, error: &Error) -> Refusal
+    ensures { RefusedFor (is_memory error.now ≡ false) result }
+{
     match error {
         Error::Memory => Refusal::Memory,
         Error::NoReading(cause, offset) => {

@@ -1,5 +1,8 @@
 //! The messages of words that ask for nothing.
 
+ghost use Rattle.std.specs.Prelude.{◌≡◌, false};
+ghost use Rattle.teasel_messages.specs.Reasons.{RefusedFor, is_memory_misuse};
+
 use crate::refusal::Refusal;
 use std::alloc::{AllocError, Global};
 use teasel_words::{Misuse, Opt, Word, nearest_word};
@@ -46,8 +49,10 @@ fn bad_value(alloc: Global, option: Opt, value: &str) -> Refusal {
     )
 }
 
-/// The refusal of words that ask for nothing.
-pub fn of_misuse(alloc: Global, misuse: Misuse<'_>) -> Refusal {
+/// The refusal of words that ask for nothing, which is for want of memory where theirs is.
+pub fn of_misuse(alloc: Global, misuse: Misuse<'_>) -> Refusal
+    ensures { RefusedFor (is_memory_misuse misuse.entry ≡ false) result }
+{
     match misuse {
         Misuse::Memory => Refusal::Memory,
         Misuse::NoWord => Refusal::of(

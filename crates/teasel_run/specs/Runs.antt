@@ -1,11 +1,11 @@
 -- What a run answers, writes and returns.
-use Rattle.std.specs.Prelude.{◌≡◌, ℕ, Bool, true, false, ◌&&◌, is_none, List, map, Option, Result, Ok, Err, Vec}
+use Rattle.std.specs.Prelude.{◌≡◌, ◌⊎◌, ◌<◌, ℕ, Bool, true, false, ◌&&◌, is_none, Any, List, codes, count_by, length, map, Option, Some, Result, Ok, Err, Vec}
 use Rattle.std.specs.declared.alloc.Global.{Global}
-use Rattle.teasel_answers.specs.Answers.{Answers}
+use Rattle.teasel_answers.specs.{Answers.Answers, Refusals.AnswersNothing}
 use Rattle.teasel_files.specs.{Contents.AreRead, Contents.files_of, Delivered.IsDelivered}
 use Rattle.teasel_files.specs.declared.{answer.Answer.Answer, answer.Input.Input, setting.Setting.Setting}
-use Rattle.teasel_messages.specs.declared.refusal.Refusal.{Refusal}
-use Rattle.teasel_words.specs.{Given.Given, Spelling.Spells, Table.Text}
+use Rattle.teasel_messages.specs.{Reasons.RefusedFor, declared.refusal.Refusal.Refusal}
+use Rattle.teasel_words.specs.{Given.Given, Spelling.IsMisspelt, Spelling.Spells, Table.Text, Table.is_same}
 use Rattle.teasel_words.specs.declared.choices.Color.{Color}
 use Rattle.teasel_words.specs.declared.choices.Color.TheVariants as colors
 
@@ -30,11 +30,37 @@ pub record Carries {State : Type 0} (holds : State → Text → List ℕ → Typ
   pub is : answer.yes ≡ fits
   pub delivered : IsDelivered puts g answer.text.items old new before after
 
--- The words ask for something that is answered so; or something is refused, and all files are as they were.
-abbrev pub Runs : {State : Type 0} → (State → Text → List ℕ → Type 0) → (State → Text → List ℕ → State → Type 0) → Setting → List Text → State → State
-    → Option (List ℕ) → Option (List ℕ) → Result Bool Refusal → Type 0
-Runs holds puts s words old new before after (Ok fits) = (g : Given) × Spells words g × Carries holds puts s g old new before after fits
-Runs holds puts s words old new before after (Err refusal) = new ≡ old
+-- ---- why nothing is answered
+
+-- whether a name is that of standard input
+abbrev pub is_input : Text → Bool
+is_input name = is_same name (codes "-")
+
+-- a file that is to be read or written has an empty name
+abbrev pub HasNameless : Given → Type 0
+HasNameless g = Any (λ name. length name ≡ 0) g.files ⊎ ((name : Text) × (g.output ≡ Some name) × (length name ≡ 0))
+
+-- Why what is asked for isn't done: a name is empty; standard input is named twice; a file can't be read; the word answers nothing to the files; or it
+-- answers, and that isn't written.
+pub data Stops {State : Type 0} (holds : State → Text → List ℕ → Type 0) (fails : State → Text → Type 0) (s : Setting) (g : Given) (old : State) : Type 0 where
+  nameless : HasNameless g → Stops holds fails s g old
+  named_twice : 1 < count_by is_input g.files → Stops holds fails s g old
+  unread : Any (fails old) (files_of g) → Stops holds fails s g old
+  unanswered : (inputs : List Input) → AreRead (holds old) (files_of g) inputs → AnswersNothing g inputs → Stops holds fails s g old
+  unwritten : (inputs : List Input) (a : Answer) → AreRead (holds old) (files_of g) inputs → Answers g (colored_by g.color g.output s) inputs a
+      → Stops holds fails s g old
+
+-- Why words aren't answered: they ask for nothing, or for something that isn't done.
+pub data IsStopped {State : Type 0} (holds : State → Text → List ℕ → Type 0) (fails : State → Text → Type 0) (s : Setting) (words : List Text) (old : State)
+    : Type 0 where
+  misspelt : IsMisspelt words → IsStopped holds fails s words old
+  stopped : (g : Given) → Spells words g → Stops holds fails s g old → IsStopped holds fails s words old
+
+-- The words ask for something that is answered so; or something is refused, for want of memory or for such a reason, and all files are as they were.
+abbrev pub Runs : {State : Type 0} → (State → Text → List ℕ → Type 0) → (State → Text → Type 0) → (State → Text → List ℕ → State → Type 0) → Setting
+    → List Text → State → State → Option (List ℕ) → Option (List ℕ) → Result Bool Refusal → Type 0
+Runs holds fails puts s words old new before after (Ok fits) = (g : Given) × Spells words g × Carries holds puts s g old new before after fits
+Runs holds fails puts s words old new before after (Err refusal) = (new ≡ old) × RefusedFor (IsStopped holds fails s words old) refusal
 
 -- the status of what came of it
 abbrev pub status_by : Result Bool Refusal → ℕ

@@ -1,8 +1,9 @@
 //! A run of the program, over any files and streams.
 
-ghost use Rattle.std.specs.Prelude.{◌≡◌, IfOk, IfSome, OnErr};
-ghost use Rattle.teasel_run.specs.Runs.{Carries, Ends, Runs, bytes_of, colored_by, status_by};
-ghost use Rattle.teasel_words.specs.Given.{given_of, text_if, texts_of as texts_in};
+ghost use Rattle.std.specs.Prelude.{◌≡◌, ◌≤◌, ◌<◌, ◌⊎◌, true, count_by, IfErr, IfOk, IfSome, OnErr};
+ghost use Rattle.teasel_messages.specs.Reasons.{RefusedFor};
+ghost use Rattle.teasel_run.specs.Runs.{Carries, Ends, HasNameless, Runs, Stops, bytes_of, colored_by, is_input, status_by};
+ghost use Rattle.teasel_words.specs.{Given.given_of, Given.text_if, Given.texts_of as texts_in, Spelling.fits};
 
 use std::alloc::{AllocError, Global};
 use std::io::Write;
@@ -22,7 +23,9 @@ pub const REFUSED: u8 = 2;
 const LARGE: usize = 16_777_216;
 
 /// How many of these names are standard input's.
-fn inputs_among(names: &[&str]) -> usize {
+fn inputs_among(names: &[&str]) -> usize
+    ensures { result ≤ count_by is_input (texts_in names.now) }
+{
     let mut count = 0usize;
     for name in names {
         if *name == "-" {
@@ -33,7 +36,9 @@ fn inputs_among(names: &[&str]) -> usize {
 }
 
 /// Whether a file has no name.
-fn is_nameless(asked: &Asked<'_>) -> bool {
+fn is_nameless(asked: &Asked<'_>) -> bool
+    ensures { result ≡ true → HasNameless (given_of asked.now) }
+{
     for name in asked.files.iter() {
         if name.is_empty() {
             return true;
@@ -46,7 +51,9 @@ fn is_nameless(asked: &Asked<'_>) -> bool {
 }
 
 /// Refuses a file without a name, and standard input where it is named twice.
-fn check_names(alloc: Global, asked: &Asked<'_>) -> Result<(), Refusal> {
+fn check_names(alloc: Global, asked: &Asked<'_>) -> Result<(), Refusal>
+    ensures { IfErr result (RefusedFor (HasNameless (given_of asked.now) ⊎ (1 < count_by is_input (given_of asked.now).files))) }
+{
     if is_nameless(asked) {
         return Err(plain(alloc, "the name of a file is empty", ""));
     }
@@ -87,9 +94,11 @@ fn carry_out<S: Store, W: Write, E: Write>(
     writer: &mut W,
     errors: &mut E,
 ) -> Result<bool, Refusal>
+    requires { fits (given_of asked.now) ≡ true }
     ensures carries { IfOk result (Carries S.holds S.puts setting (given_of asked.now) (S.state store.old) (S.state store.new) (W.contents writer.old)
         (W.contents writer.new)) }
     ensures kept { OnErr result (S.state store.new ≡ S.state store.old) }
+    ensures stops { IfErr result (RefusedFor (Stops S.holds S.fails setting (given_of asked.now) (S.state store.old))) }
 {
     check_names(alloc, asked)?;
     let inputs = read_inputs(alloc, asked, setting, store, errors)?;
@@ -123,7 +132,8 @@ pub fn run_texts<S: Store, W: Write, E: Write>(
     writer: &mut W,
     errors: &mut E,
 ) -> Result<bool, Refusal>
-    ensures { Runs S.holds S.puts setting (texts_in words.now) (S.state store.old) (S.state store.new) (W.contents writer.old) (W.contents writer.new) result }
+    ensures { Runs S.holds S.fails S.puts setting (texts_in words.now) (S.state store.old) (S.state store.new) (W.contents writer.old)
+        (W.contents writer.new) result }
 {
     match read_words(alloc, words) {
         Ok(asked) => carry_out(alloc, &asked, setting, store, writer, errors),

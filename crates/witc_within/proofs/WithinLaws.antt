@@ -4,7 +4,7 @@ use Rattle.std.specs.Prelude.{OnErr, OnOk, Vec}
 use Rattle.std.specs.declared.alloc.Global.{Global}
 use Rattle.wit_model.specs.declared.error.Error.{Error}
 use Rattle.wit_model.specs.declared.model.{PackageId.PackageId, Resolve.Resolve}
-use Rattle.print_output.specs.OutputCall.{Begins, Moves, View}
+use Rattle.print_output.specs.OutputCall.{Begins, Moves, OutputView}
 use Rattle.print_output.specs.Render.{Written, blank, render, writes}
 use Rattle.print_output.proofs.RenderLaws.{Moves-writes}
 use Rattle.print_grammar.specs.{AsRead.file_as_read, Calls.file_calls, Reading.IsOnlyReading}
@@ -20,9 +20,9 @@ pub lifted : (P Q : List ℕ → Type 0) → ((text : List ℕ) → P text → Q
 lifted P Q all most (within.Text text) h = (all text.items h.0, h.1)
 lifted P Q all most within.Beyond h = (h.0, all h.0 h.1, h.2)
 
-module _ (r : Resolve) (id : PackageId) (nested : List PackageId) (old new : View Written) (fresh : old ≡ blank) (most : ℕ) (reads : FileReads true (shown_file r id nested)) where
+module _ (r : Resolve) (id : PackageId) (nested : List PackageId) (old new : OutputView Written) (fresh : old ≡ blank) (most : ℕ) (reads : FileReads true (shown_file r id nested)) where
   rendered : Moves writes old (file_calls true (shown_file r id nested)) new → new.kept.text ≡ render (file_calls true (shown_file r id nested))
-  rendered moved = ap (λ (v : View Written). v.kept.text) (Moves-writes (subst (λ (v : View Written). Moves writes v (file_calls true (shown_file r id nested)) new) fresh moved))
+  rendered moved = ap (λ (v : OutputView Written). v.kept.text) (Moves-writes (subst (λ (v : OutputView Written). Moves writes v (file_calls true (shown_file r id nested)) new) fresh moved))
 
   -- all of it, within the bound
   pub all-within : (text : Vec ℕ Global) → text.items ≡ new.kept.text → Moves writes old (file_calls true (shown_file r id nested)) new → length new.kept.text ≤ most
@@ -36,5 +36,5 @@ module _ (r : Resolve) (id : PackageId) (nested : List PackageId) (old new : Vie
       → OnErr printed (Begins writes old (file_calls true (shown_file r id nested)) new) → most < length new.kept.text → TextWithin (IsTextOf r id nested) most within.Beyond
   some-beyond (Ok x) moved begun long = (render (file_calls true (shown_file r id nested)), record { rendered = refl; reads = reads }, subst (λ (t : List ℕ). most < length t) (rendered moved) long)
   some-beyond (Err e) moved begun long =
-      let less = begun-shorter (subst (λ (v : View Written). Begins writes v (file_calls true (shown_file r id nested)) new) fresh begun) in
+      let less = begun-shorter (subst (λ (v : OutputView Written). Begins writes v (file_calls true (shown_file r id nested)) new) fresh begun) in
       (render (file_calls true (shown_file r id nested)), record { rendered = refl; reads = reads }, omega (arith, long, less))

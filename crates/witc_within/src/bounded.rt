@@ -24,10 +24,10 @@ pub struct BoundedText {
 impl Model for BoundedText {
     ghost use Rattle.std.specs.Prelude.{◌*◌, ◌≤◌};
     ghost use Rattle.std.specs.String.{string_bytes, string_len};
-    ghost use Rattle.print_output.specs.OutputCall.{View};
+    ghost use Rattle.print_output.specs.OutputCall.{OutputView};
     ghost use Rattle.print_output.specs.Render.{Written};
 
-    ghost Value = { View Written };
+    ghost Value = { OutputView Written };
 
     ghost view = { λ it. record { line_begun = it.line_begun; kept = record { text = string_bytes it.text; level = it.level } } };
 

@@ -11,8 +11,8 @@ loop-input-preserved c = λ all rest. c.loop-input.invariant all
     (subst (λ (x : Input). IsChecked x c.in_ok-checked.checked.ok) c.input-item.is c.in_ok-checked.ensures)
     (subst (λ (b : Bool). AllTell IsChecked (drop (c.loop-input.input-index + 1) c.args.inputs.now) b all) c.both-all_read.ensures rest))
 
-pub returns : goal.returns
-returns c = if-ok (λ (a : Answer). a.yes ≡ c.loop-input.all_read) (λ (a : Answer). AllTell IsChecked c.args.inputs.now true a.yes)
+pub returns-clause-checked : goal.returns-clause-checked
+returns-clause-checked c = if-ok (λ (a : Answer). a.yes ≡ c.loop-input.all_read) (λ (a : Answer). AllTell IsChecked c.args.inputs.now true a.yes)
     (λ a is. subst (λ (b : Bool). AllTell IsChecked c.args.inputs.now true b) (sym is)
     (c.loop-input.invariant c.loop-input.all_read (tell-end IsChecked c.args.inputs.now c.loop-input.input-index c.loop-input-test.false c.loop-input.all_read)))
-    c.end.result c.end.ensures
+    c.end.result c.end.ensures.fits

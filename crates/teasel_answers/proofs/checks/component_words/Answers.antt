@@ -3,12 +3,13 @@ use Rattle.std.specs.declared.alloc.Global.{Global}
 use Rattle.base_lemmas.proofs.Options.{at_ok as at-ok, err_said as err-said, if_ok as if-ok}
 use Rattle.wit_component.specs.{Decoded.MeansNothing, DecodedWorlds.IsDecodedWorld, DecodedWorlds.MeansNoWorld}
 use Rattle.wit_model.specs.declared.{error.Error.Error, model.Resolve.Resolve}
-use Rattle.teasel_answers.specs.Checks.{MeansComponent, a_package, a_world, is_memory}
+use Rattle.teasel_answers.specs.Checks.{MeansComponent, a_package, a_world}
+use Rattle.teasel_messages.specs.Reasons.{is_memory}
 use Rattle.teasel_answers.proofs.Nothing.{refused-nothing}
 use Rattle.teasel_answers.proofs.checks.component_words.Goals as goal
 
 pub returns-in-Ok-clause-means : goal.returns-in-Ok-clause-means
-returns-in-Ok-clause-means c = at-ok c.of_words.result (a_package c.in-Ok.ensures.means.0 c.in-Ok.ensures.means.1 c.in-Ok.ensures.means.2)
+returns-in-Ok-clause-means c = at-ok c.of_words.result (a_package c.in-Ok.ensures.means.resolve c.in-Ok.ensures.means.number c.in-Ok.ensures.means.decoded)
 
 pub returns-else-is_memory-clause-means : goal.returns-else-is_memory-clause-means
 returns-else-is_memory-clause-means c =

@@ -3,7 +3,8 @@ use Rattle.std.specs.declared.alloc.Global.{Global}
 use Rattle.base_lemmas.proofs.Options.{err_said as err-said, if_ok as if-ok}
 use Rattle.wit_component.specs.{Binding.Binding, Bound.IsBound, Decoded.MeansNothing, DecodedWorlds.MeansNoWorld}
 use Rattle.wit_model.specs.declared.error.Error.{Error}
-use Rattle.teasel_answers.specs.Checks.{Means, MeansComponent, MeansNoneFor, RefusesModule, a_component, a_module, is_memory, no_component, no_module}
+use Rattle.teasel_answers.specs.Checks.{Means, MeansComponent, MeansNoneFor, RefusesModule, a_component, a_module, no_component, no_module}
+use Rattle.teasel_messages.specs.Reasons.{is_memory}
 use Rattle.teasel_answers.proofs.checks.summary.Goals as goal
 
 pub returns-then-is_module-clause-means : goal.returns-then-is_module-clause-means

@@ -2,10 +2,12 @@ use Rattle.std.proofs.Common.{sym, subst, ◌∙◌, List, ℕ, Vec}
 use Rattle.std.specs.declared.alloc.Global.{Global}
 use Rattle.witc_texts.specs.Stripped.{StripsBytes}
 use Rattle.witc_texts.proofs.StrippedLaws.{part-left, whole-left}
+use Rattle.teasel_answers.specs.{Checks.RefusesModule, Refusals.refused}
+use Rattle.teasel_messages.proofs.ReasonLaws.{refused-by}
 use Rattle.teasel_answers.proofs.embedded.stripped.Goals as goal
 
-pub returns-in-Ok-Some : goal.returns-in-Ok-Some
-returns-in-Ok-Some c =
+pub returns-in-Ok-Some-clause-strips : goal.returns-in-Ok-Some-clause-strips
+returns-in-Ok-Some-clause-strips c =
     let bytes = c.args.input.now.bytes.items in
     let left = part-left c.deref-2.result.now c.in-Ok-Some.field-0 c.in-Ok-Some.text c.in-Ok-Some.field-0-is c.in-Ok-Some.ensures.stripped in
     record {
@@ -14,8 +16,8 @@ returns-in-Ok-Some c =
       strips = subst (λ (v : Vec ℕ Global). StripsBytes bytes v.items) (sym c.answered.ensures.1) (subst (λ (xs : List ℕ). StripsBytes xs c.in-Ok-Some.text.items) c.deref-2.ensures.value left);
     }
 
-pub returns-in_ok-from_slice-in-Ok-None : goal.returns-in_ok-from_slice-in-Ok-None
-returns-in_ok-from_slice-in-Ok-None c =
+pub returns-in_ok-from_slice-in-Ok-None-clause-strips : goal.returns-in_ok-from_slice-in-Ok-None-clause-strips
+returns-in_ok-from_slice-in-Ok-None-clause-strips c =
     let bytes = c.args.input.now.bytes.items in
     let copy = c.in_ok-from_slice-in-Ok-None.field-0 in
     let left = whole-left c.deref-2.result.now c.in-Ok-None.field-0 c.in-Ok-None.field-0-is c.in-Ok-None.ensures.stripped in
@@ -26,3 +28,7 @@ returns-in_ok-from_slice-in-Ok-None c =
       strips = subst (λ (v : Vec ℕ Global). StripsBytes bytes v.items) (sym c.answered-in-Ok-None.ensures.1)
           (subst (λ (ys : List ℕ). StripsBytes bytes ys) (sym same) (subst (λ (xs : List ℕ). StripsBytes xs xs) c.deref-2.ensures.value left));
     }
+
+pub returns-in-Err-clause-refused : goal.returns-in-Err-clause-refused
+returns-in-Err-clause-refused c = refused-by _ _ _ (λ other. refused c.in-Err.error other
+    (subst (λ (xs : List ℕ). RefusesModule xs c.in-Err.error) c.deref-2.ensures.value (c.in-Err.ensures.refused, c.in-Err.ensures.size))) c.refusal_of.ensures

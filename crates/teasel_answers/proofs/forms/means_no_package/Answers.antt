@@ -2,5 +2,5 @@ use Rattle.std.proofs.Common.{sym, ◌∙◌}
 use Rattle.teasel_answers.proofs.Nothing.{refused-nothing}
 use Rattle.teasel_answers.proofs.forms.means_no_package.Goals as goal
 
-pub returns : goal.returns
-returns c = λ _. refused-nothing c.args.bytes.now c.in-Err.error c.in-Err.ensures.refuses (sym c.is_memory.ensures ∙ c.if-is_memory.false)
+pub returns-clause-decides : goal.returns-clause-decides
+returns-clause-decides c = refused-nothing c.args.bytes.now c.in-Err.error c.in-Err.ensures.refuses (sym c.is_memory.ensures ∙ c.if-is_memory.false)
