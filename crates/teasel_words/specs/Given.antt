@@ -88,15 +88,11 @@ behind [] t = Some t
 behind (c ∷ cs) [] = None
 behind (c ∷ cs) (d ∷ ds) = if nat_eq c d then behind cs ds else None
 
--- a value that is joined to a short name: it isn't empty, and no `=` is in front of it
+-- a value that is joined to a short name, as in `-oFILE`: it isn't empty, and no `=` is in front of it
 abbrev pub joined_value : Option Text → Option Text
 joined_value None = None
 joined_value (Some []) = None
 joined_value (Some (c ∷ cs)) = if is_equals c then None else Some (c ∷ cs)
-
--- the value that is joined to this short name, as in `-oFILE`
-abbrev pub joined_to : Text → Text → Option Text
-joined_to name t = joined_value (behind name t)
 
 -- the name of an option and its value: what is joined to `-o` or to `-w`; else what stands in front of the first `=`, and behind it
 abbrev pub parts_by : Option Text → Option Text → Text → Text × Option Text
@@ -106,11 +102,11 @@ parts_by None None t = if has_equals t then (before_first is_equals t, Some (aft
 
 -- a word as the name of an option
 unfoldable pub name_part : Text → Text
-name_part t = (parts_by (joined_to (codes "-o") t) (joined_to (codes "-w") t) t).0
+name_part t = (parts_by (joined_value (behind (codes "-o") t)) (joined_value (behind (codes "-w") t)) t).0
 
 -- the value that it has in the same word
 unfoldable pub value_part : Text → Option Text
-value_part t = (parts_by (joined_to (codes "-o") t) (joined_to (codes "-w") t) t).1
+value_part t = (parts_by (joined_value (behind (codes "-o") t)) (joined_value (behind (codes "-w") t)) t).1
 
 -- whether a dash is the first byte
 abbrev pub begins_with_dash : Text → Bool

@@ -1,7 +1,7 @@
 //! What a command line asks for.
 
 ghost use Rattle.std.specs.Prelude.{◌≡◌, ◌<◌, ◌≤◌, ◌+◌, if◌then◌else◌, drop, length, IfErr, IfOk};
-ghost use Rattle.teasel_words.specs.{Given.Given, Given.given_of, Given.set_flag, Given.set_value, Given.IsSet, Given.IsPut, Given.IsPutSome, Given.text_if, Given.texts_of, Given.value_part, Given.name_part, Given.joined_to, Given.is_file, Given.fresh};
+ghost use Rattle.teasel_words.specs.{Given.Given, Given.given_of, Given.set_flag, Given.set_value, Given.IsSet, Given.IsPut, Given.IsPutSome, Given.text_if, Given.texts_of, Given.value_part, Given.name_part, Given.behind, Given.joined_value, Given.is_file, Given.fresh};
 ghost use Rattle.teasel_words.specs.{Table.all_options, Table.first_option, Spelling.HasFollowed, Spelling.IsRead, Spelling.IsRest, Spelling.IsTaken, Spelling.IsWhole, Spelling.fits, Spelling.head_of, Spelling.start_named, Spelling.counted, Spelling.taken, Spelling.with_option, Spelling.with_value, Spelling.without_value};
 
 use crate::choices::{Color, Encoding, Kind, color_named, encoding_named, kind_named, size_named};
@@ -72,7 +72,7 @@ impl<'a, T: Drop> From<AllocFailed<T>> for Misuse<'a> {
 
 /// The value that is joined to a short name, as in `-oFILE`.
 fn joined<'a>(word: &'a str, name: &str) -> Option<&'a str>
-    ensures { text_if result ≡ joined_to name.now word.now }
+    ensures { text_if result ≡ joined_value (behind name.now word.now) }
 {
     let value = word.strip_prefix(name)?;
     match value.as_bytes().first() {
