@@ -1,0 +1,4 @@
+pub mod Reading
+pub mod ReadTypes
+pub mod ReadDeclared
+pub mod ReadFiles
