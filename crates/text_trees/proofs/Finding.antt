@@ -161,7 +161,7 @@ module _ {X : Type 0} {Q : List Token → X → List Token → Type 0} where
 -- ---- lists
 
 -- Things are found one after the other, by a relation that holds at the end and in front of a further thing.
-pub things_sound : {X : Type 0} {ends : List Token → Bool} {read : List Token → Reading X} {Reads : List Token → X → List Token → Type 0}
+things_sound : {X : Type 0} {ends : List Token → Bool} {read : List Token → Reading X} {Reads : List Token → X → List Token → Type 0}
     (Q : List Token → List X → List Token → Type 0) → Sound Reads read → ((ts : List Token) → ends ts ≡ true → Q ts [] ts)
     → ((ts between rest : List Token) (x : X) (xs : List X) → Reads ts x between → Q between xs rest → Q ts (x ∷ xs) rest)
     → (n : ℕ) → Sound Q (things_in_front ends read n)
@@ -174,16 +174,23 @@ things_sound {ends = ends} {read = read} Q sound none more (suc n) = record {
       let loop = things_sound {ends = ends} Q sound none more n in made_finds _ _ (finds_as (loop.at between) (λ xs rest q. more ts between rest x xs r q))));
 }
 
+pub until_sound : {X : Type 0} {ends : List Token → Bool} {read : List Token → Reading X} {Reads : List Token → X → List Token → Type 0}
+    (Q : List Token → List X → List Token → Type 0) → Sound Reads read → ((ts : List Token) → ends ts ≡ true → Q ts [] ts)
+    → ((ts between rest : List Token) (x : X) (xs : List X) → Reads ts x between → Q between xs rest → Q ts (x ∷ xs) rest) → Sound Q (until ends read)
+unfolding until
+until_sound Q sound none more = record { at = λ ts. (things_sound Q sound none more _).at ts }
+
 pub repeated_sound : {X : Type 0} {read : List Token → Reading X} {Reads : List Token → X → List Token → Type 0} {close : Mark} → Sound Reads read
     → Sound (Repeated Reads (Punctuation close)) (repeated read close)
-unfolding repeated until then_read
-repeated_sound {X} {read} {Reads} {close} sound = record { at = λ ts. then_finds _ ((loop _).at ts) (λ xs rest q. finds q) }
+unfolding repeated
+repeated_sound {X} {read} {Reads} {close} sound = then_sound ended (λ xs. record { at = λ ts. finds (λ us q. q) })
   where
     Ended : List Token → List X → List Token → Type 0
     Ended ts xs rest = Repeated Reads (Punctuation close) ts xs (behind rest)
 
-    loop : (n : ℕ) → Sound Ended (things_in_front (begins close) read n)
-    loop = things_sound Ended sound (λ ts h. subst (λ us. Repeated Reads (Punctuation close) us [] (behind ts)) (sym (begins_is close ts h)) closed)
+    ended : Sound Ended (until (begins close) read)
+    ended =
+        until_sound Ended sound (λ ts h. subst (λ us. Repeated Reads (Punctuation close) us [] (behind ts)) (sym (begins_is close ts h)) closed)
         (λ ts between rest x xs r q. again r q)
 
 -- what tokens begin with by whether more follows: a comma, or the closing mark, perhaps behind a comma

@@ -1,3 +1,5 @@
 pub mod Fronts
 pub mod Finding
 pub mod TypesFound
+pub mod DeclaredFound
+pub mod FilesFound
