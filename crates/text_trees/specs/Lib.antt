@@ -2,3 +2,4 @@ pub mod Reading
 pub mod ReadTypes
 pub mod ReadDeclared
 pub mod ReadFiles
+pub mod Levels

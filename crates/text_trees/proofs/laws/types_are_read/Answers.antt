@@ -1,6 +1,7 @@
 use Rattle.std.proofs.Common.{refl}
-use Rattle.text_trees.specs.ReadFiles.{file_in_front}
+use Rattle.text_trees.specs.Levels.{fits_file}
 use Rattle.text_trees.proofs.FilesFound.{file-sound}
+use Rattle.text_trees.proofs.TypesComplete.{type-complete}
 use Rattle.text_trees.proofs.laws.types_are_read.Goals as goal
 
 pub returns : goal.returns
