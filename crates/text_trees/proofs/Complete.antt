@@ -20,6 +20,10 @@ pub then_gives : {X Y : Type 0} (read_on : X → List Token → Reading Y) {r : 
 unfolding then_read
 then_gives read_on e f = rw e f
 
+pub made_gives : {X Y : Type 0} (make : X → Y) {r : Reading X} {x : X} {rest : List Token} → r ≡ Found x rest → made make r ≡ Found (make x) rest
+unfolding made
+made_gives make e = rw e refl
+
 pub id_gives : {t : Token} {label : Text} (rest : List Token) → IsId t label → id_in_front (t ∷ rest) ≡ Found label rest
 unfolding id_in_front
 id_gives rest plain = refl
@@ -111,7 +115,7 @@ module _ {X : Type 0} {Reads : List Token → X → List Token → Type 0} (clos
     more_at_comma ts h = rw (other, h) refl
 
     -- the first of listed things is found
-    first_found : {ts rest : List Token} {xs : List X} → CommaList Reads (Punctuation close) ts xs rest → list_all fits xs ≡ true → begins close ts ≡ false
+    pub first_found : {ts rest : List Token} {xs : List X} → CommaList Reads (Punctuation close) ts xs rest → list_all fits xs ≡ true → begins close ts ≡ false
     first_found {ts} (last {after} r) h = test_fails (begins close ts) (shut ts) (one _ _ _ r (stop after) (left_of _ _ h))
     first_found {ts} (last_with_comma r) h = test_fails (begins close ts) (shut ts) (one _ _ _ r refl (left_of _ _ h))
     first_found {ts} (next r l) h = test_fails (begins close ts) (shut ts) (one _ _ _ r refl (left_of _ _ h))

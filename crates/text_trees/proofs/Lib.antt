@@ -6,3 +6,5 @@ pub mod FilesFound
 pub mod Lengths
 pub mod Complete
 pub mod TypesComplete
+pub mod DeclaredComplete
+pub mod FilesComplete

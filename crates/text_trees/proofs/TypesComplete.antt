@@ -17,7 +17,7 @@ use Rattle.text_trees.specs.Reading.{Reading, Reading.Found, then_read, made, be
 use Rattle.text_trees.specs.ReadTypes.{tuple_types, type_in_front, level_in_front, param_in_front, params_in_front, result_in_front, arguments_in_front, signature_in_front}
 use Rattle.text_trees.specs.Levels.{levels, deepest, fits_type, fits_param, fits_signature}
 use Rattle.text_trees.proofs.Lengths.{type-shortens, types-shorten, param-shortens}
-use Rattle.text_trees.proofs.Complete.{then_gives, id_gives, shut_at, listed-complete}
+use Rattle.text_trees.proofs.Complete.{id_gives, Shut, shut_at, first_found, listed-complete}
 
 -- the types of a tuple, as a list
 abbrev type_list : TypeTrees → List TypeTree
@@ -106,3 +106,51 @@ mutual
   types-complete room (suc n) (next_type {between} r s) l h =
       let k = type-shortens r in
       rw (type-complete room r refl (omega (arith, h)), comma_first between (types_no_greater s), types-complete room n s (omega (arith, k, l)) (omega (arith, h))) refl
+
+-- ---- what may follow
+
+pub stops_no_less : (ts : List Token) → stops ts ≡ true → begins Less ts ≡ false
+stops_no_less (Punctuation Less ∷ ts) h = absurd cc
+stops_no_less _ h = refl
+
+stops_no_arrow : (ts : List Token) → stops ts ≡ true → begins Arrow ts ≡ false
+stops_no_arrow (Punctuation Arrow ∷ ts) h = absurd cc
+stops_no_arrow _ h = refl
+
+-- ---- signatures
+
+module _ (room : ℕ) where
+  -- a type of so many levels, in front of a mark that ends it, is found
+  pub type-found : {ts rest : List Token} {ty : TypeTree} → ReadsType ts ty rest → stops rest ≡ true → fits_type room ty ≡ true → type_in_front room ts ≡ Found ty rest
+  type-found {rest = rest} {ty = ty} r s h = type-complete room r (stops_no_less rest s) (leb-true (levels ty) room h)
+
+  param-complete : (ts rest : List Token) (param : ParamTree) → ReadsParam ts param rest → stops rest ≡ true → fits_param room param ≡ true
+      → param_in_front room ts ≡ Found param rest
+  unfolding then_read behind_mark
+  param-complete _ _ _ (param i r) s h = rw (id_gives _ i, type-found r s h) refl
+
+  param-shut : Shut (begins CloseParen) (param_in_front room)
+  unfolding then_read id_in_front
+  param-shut = shut_at CloseParen (param_in_front room) (λ rest. refl)
+
+  pub params-complete : {ts rest : List Token} {params : List ParamTree} → ReadsParams ts params rest → list_all (fits_param room) params ≡ true
+      → params_in_front room ts ≡ Found params rest
+  unfolding behind_mark if_mark
+  params-complete no_params h = refl
+  params-complete (params l) h =
+      rw (first_found CloseParen (param_in_front room) (fits_param room) param-shortens param-shut refl (λ ts. refl) param-complete l h,
+      listed-complete CloseParen (param_in_front room) (fits_param room) param-shortens param-shut refl (λ ts. refl) param-complete l h) refl
+
+  pub result-complete : {ts rest : List Token} {result : Option TypeTree} → ReadsResult ts result rest → stops rest ≡ true → passes (fits_type room) result ≡ true
+      → result_in_front room ts ≡ Found result rest
+  unfolding if_mark made
+  result-complete {rest = rest} no_result s h = rw (stops_no_arrow rest s) refl
+  result-complete (with_result r) s h = rw (type-found r s h) refl
+
+  pub signature-complete : {ts rest : List Token} {signature : SignatureTree} → ReadsSignature ts signature rest → stops rest ≡ true → fits_signature room signature ≡ true
+      → signature_in_front room ts ≡ Found signature rest
+  unfolding if_key behind_key then_read
+  signature-complete (func {params} p r) s h =
+      rw (params-complete p (left_of _ _ h), result-complete r s (right_of (list_all (fits_param room) params) _ h)) refl
+  signature-complete (async_func {params} p r) s h =
+      rw (params-complete p (left_of _ _ h), result-complete r s (right_of (list_all (fits_param room) params) _ h)) refl
