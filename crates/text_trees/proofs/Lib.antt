@@ -8,3 +8,4 @@ pub mod Complete
 pub mod TypesComplete
 pub mod DeclaredComplete
 pub mod FilesComplete
+pub mod Fitting
