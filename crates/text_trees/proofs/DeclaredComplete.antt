@@ -164,7 +164,7 @@ module _ (room : ℕ) where
   signature_no_static (func p r) = refl
   signature_no_static (async_func p r) = refl
 
-  resource_member-complete : (ts rest : List Token) (member : ResourceMember) → ReadsResourceMember ts member rest → fits_resource_member room member ≡ true
+  pub resource_member-complete : (ts rest : List Token) (member : ResourceMember) → ReadsResourceMember ts member rest → fits_resource_member room member ≡ true
       → resource_member_in_front room ts ≡ Found member rest
   unfolding then_read behind_mark if_key
   resource_member-complete _ _ _ (constructor_ {params} p a r) h =

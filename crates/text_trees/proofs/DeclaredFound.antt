@@ -80,7 +80,7 @@ module _ (room : ℕ) where
       → Sound Q (function_behind room function_of)
   function-sound function_of q = then_sound (signature-sound room) (λ signature. mark_sound _ (found_sound (λ rest ts r. q ts rest signature r)))
 
-  resource_member-sound : Sound ReadsResourceMember (resource_member_in_front room)
+  pub resource_member-sound : Sound ReadsResourceMember (resource_member_in_front room)
   resource_member-sound =
       then_sound prefix-sound (λ pre.
       if_key_sound _ (then_sound (params-sound room) (λ params. then_sound (result-is_sound room) (λ result. mark_sound _ (found_sound (λ rest vs s us r ts p. constructor_ p r s)))))

@@ -61,7 +61,7 @@ module _ (room : ℕ) where
   member_type_behind pre (record_ i l) = refl
   member_type_behind pre _ = refl
 
-  member-complete : (ts rest : List Token) (member : MemberTree) → ReadsMember ts member rest → fits_member room member ≡ true → member_in_front room ts ≡ Found member rest
+  pub member-complete : (ts rest : List Token) (member : MemberTree) → ReadsMember ts member rest → fits_member room member ≡ true → member_in_front room ts ≡ Found member rest
   unfolding behind_mark
   member-complete _ _ _ (member_use {pre} p u) h = then_gives _ (prefix-complete p (use_no_at u)) (member_use_behind pre u)
   member-complete _ _ _ (member_type {pre} p d) h = then_gives _ (prefix-complete p (declared_no_at d)) (member_type_behind pre d ∙ made_gives (TypeMember pre) (declared-complete room d h))
@@ -74,7 +74,7 @@ module _ (room : ℕ) where
 
   -- ---- worlds
 
-  extern-complete : (ts rest : List Token) (e : ExternTree) → ReadsExtern ts e rest → fits_extern room e ≡ true → extern_in_front room ts ≡ Found e rest
+  pub extern-complete : (ts rest : List Token) (e : ExternTree) → ReadsExtern ts e rest → fits_extern room e ≡ true → extern_in_front room ts ≡ Found e rest
   unfolding then_read behind_mark if_mark if_key made
   extern-complete _ _ _ (extern_path (local i)) h = rw (id_gives _ i) refl
   extern-complete _ _ _ (extern_path (full i j k v)) h =
@@ -100,7 +100,7 @@ module _ (room : ℕ) where
   world_type_behind pre (record_ i l) = refl
   world_type_behind pre _ = refl
 
-  world_member-complete : (ts rest : List Token) (member : WorldMember) → ReadsWorldMember ts member rest → fits_world_member room member ≡ true
+  pub world_member-complete : (ts rest : List Token) (member : WorldMember) → ReadsWorldMember ts member rest → fits_world_member room member ≡ true
       → world_member_in_front room ts ≡ Found member rest
   unfolding if_key
   world_member-complete _ _ _ (world_use {pre} p u) h = then_gives _ (prefix-complete p (use_no_at u)) (world_use_behind pre u)
@@ -117,7 +117,7 @@ module _ (room : ℕ) where
 
   -- ---- packages
 
-  item-complete : (ts rest : List Token) (item : ItemTree) → ReadsItem ts item rest → fits_item room item ≡ true → item_in_front room ts ≡ Found item rest
+  pub item-complete : (ts rest : List Token) (item : ItemTree) → ReadsItem ts item rest → fits_item room item ≡ true → item_in_front room ts ≡ Found item rest
   unfolding then_read behind_mark if_key made
   item-complete _ _ _ (interface_item g i l) h =
       rw (gates-complete g refl, id_gives _ i, repeated-complete CloseBrace (member_in_front room) (fits_member room) member-shortens member-shut member-complete l h) refl
@@ -142,7 +142,7 @@ module _ (room : ℕ) where
       let k = item-shortens _ _ _ r in
       things_step ends_items (item_in_front room) n items-shut (item-complete _ _ _ r (left_of _ _ h)) (items-complete n m e (omega (arith, k, l)) (right_of (fits_item room item) _ h))
 
-  nested-complete : (ts rest : List Token) (tree : PackageTree) → ReadsNested ts tree rest → fits_package room tree ≡ true → nested_in_front room ts ≡ Found tree rest
+  pub nested-complete : (ts rest : List Token) (tree : PackageTree) → ReadsNested ts tree rest → fits_package room tree ≡ true → nested_in_front room ts ≡ Found tree rest
   unfolding then_read behind_mark behind_key made
   nested-complete _ _ _ (nested_package p l) h =
       rw (head-complete p refl, repeated-complete CloseBrace (item_in_front room) (fits_item room) item-shortens item-shut item-complete l h) refl

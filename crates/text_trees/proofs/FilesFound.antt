@@ -28,7 +28,7 @@ head-sound =
 module _ (room : ℕ) where
   -- ---- interfaces
 
-  member-sound : Sound ReadsMember (member_in_front room)
+  pub member-sound : Sound ReadsMember (member_in_front room)
   member-sound =
       then_sound prefix-sound (λ pre.
       if_id_sound (λ t name i. mark_sound _ (function-sound room _ (λ us rest signature r ts p. member_function p i r)))
@@ -36,7 +36,7 @@ module _ (room : ℕ) where
 
   -- ---- worlds
 
-  extern-sound : Sound ReadsExtern (extern_in_front room)
+  pub extern-sound : Sound ReadsExtern (extern_in_front room)
   extern-sound =
       id_sound (λ t name i.
       if_mark_sound _ (found_sound (λ rest. extern_path (local i)))
@@ -46,7 +46,7 @@ module _ (room : ℕ) where
       either_sound _ (then_sound (full_path-sound i j) (λ path. mark_sound _ (found_sound (λ rest ts p. extern_path p))))
       (then_sound (path_behind-sound j) (λ path. mark_sound _ (found_sound (λ rest ts p. extern_named_path i p))))))))))
 
-  world_member-sound : Sound ReadsWorldMember (world_member_in_front room)
+  pub world_member-sound : Sound ReadsWorldMember (world_member_in_front room)
   world_member-sound =
       then_sound prefix-sound (λ pre.
       if_key_sound _ (made_sound _ (sound_as extern-sound (λ us rest e r ts p. world_import p r)))
@@ -55,7 +55,7 @@ module _ (room : ℕ) where
 
   -- ---- packages
 
-  item-sound : Sound ReadsItem (item_in_front room)
+  pub item-sound : Sound ReadsItem (item_in_front room)
   item-sound =
       then_sound gates-sound (λ gates.
       if_key_sound _ (id_sound (λ t name i. made_sound _ (mark_sound _ (sound_as (repeated_sound member-sound) (λ us rest xs l ts g. interface_item g i l)))))
@@ -64,7 +64,7 @@ module _ (room : ℕ) where
   items-sound : Sound ReadsItems (until ends_items (item_in_front room))
   items-sound = until_sound ReadsItems item-sound (λ ts h. no_items) (λ ts between rest x xs r l. next_item r l)
 
-  nested-sound : Sound ReadsNested (nested_in_front room)
+  pub nested-sound : Sound ReadsNested (nested_in_front room)
   nested-sound =
       key_sound _ (then_sound head-sound (λ head. mark_sound _ (made_sound _ (sound_as (repeated_sound item-sound) (λ us rest items l ts h. nested_package h l)))))
 

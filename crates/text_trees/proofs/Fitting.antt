@@ -17,7 +17,7 @@ use Rattle.text_trees.specs.Levels.{levels, deepest, fits_type, fits_param, fits
 use Rattle.text_trees.proofs.Finding.{Sound, Finds, finds, refuses, found_sound, refused_sound, then_sound, made_sound, sound_as, mark_sound, if_mark_sound, key_sound, if_key_sound, either_sound, id_sound, if_id_sound, digits_sound, until_sound, repeated_sound, listed_sound}
 
 -- what is found passes a test
-abbrev Passes : {X : Type 0} → (X → Bool) → List Token → X → List Token → Type 0
+abbrev pub Passes : {X : Type 0} → (X → Bool) → List Token → X → List Token → Type 0
 Passes test ts x rest = test x ≡ true
 
 -- whatever is found
@@ -143,7 +143,7 @@ module _ (room : ℕ) where
   case-fits : Sound (Passes (fits_case room)) (case_in_front room)
   case-fits = id_sound (λ t name i. if_mark_sound _ (then_sound type-fits (λ ty. mark_sound _ (found_sound (λ rest ts h. h)))) (found_sound (λ rest. refl)))
 
-  resource_member-fits : Sound (Passes (fits_resource_member room)) (resource_member_in_front room)
+  pub resource_member-fits : Sound (Passes (fits_resource_member room)) (resource_member_in_front room)
   resource_member-fits =
       then_sound (anything prefix_in_front) (λ pre.
       if_key_sound _ (then_sound params-fit (λ params. then_sound result-fit (λ result. mark_sound _ (found_sound (λ rest vs k us h ts u. both _ _ h k)))))
@@ -151,7 +151,7 @@ module _ (room : ℕ) where
       (sound_as (function-fits {test = fits_resource_member room} _ (λ signature h. h)) (λ us rest member h ts u. h))
       (sound_as (function-fits {test = fits_resource_member room} _ (λ signature h. h)) (λ us rest member h ts u. h))))))
 
-  declared-fits : Sound (Passes (fits_declared room)) (declared_in_front room)
+  pub declared-fits : Sound (Passes (fits_declared room)) (declared_in_front room)
   declared-fits =
       if_key_sound _ (id_sound (λ t name i. mark_sound _ (made_sound _ (sound_as (listed-fit (fits_field room) field-fits _) (λ ts rest xs h. h)))))
       (if_key_sound _ (id_sound (λ t name i. mark_sound _ (made_sound _ (sound_as (listed-fit (fits_case room) case-fits _) (λ ts rest xs h. h)))))
@@ -163,14 +163,14 @@ module _ (room : ℕ) where
 
   -- ---- what interfaces, worlds and packages have
 
-  member-fits : Sound (Passes (fits_member room)) (member_in_front room)
+  pub member-fits : Sound (Passes (fits_member room)) (member_in_front room)
   member-fits =
       then_sound (anything prefix_in_front) (λ pre.
       if_id_sound (λ t name i. mark_sound _ (sound_as (function-fits {test = fits_member room} _ (λ signature h. h)) (λ us rest member h ts u. h)))
       (if_key_sound _ (sound_as (use-fits {test = fits_member room} _ (λ path names. refl)) (λ us rest member h ts u. h))
       (made_sound _ (sound_as declared-fits (λ us rest declared h ts u. h)))))
 
-  extern-fits : Sound (Passes (fits_extern room)) (extern_in_front room)
+  pub extern-fits : Sound (Passes (fits_extern room)) (extern_in_front room)
   extern-fits =
       id_sound (λ t name i.
       if_mark_sound _ (found_sound (λ rest. refl))
@@ -180,7 +180,7 @@ module _ (room : ℕ) where
       either_sound _ (then_sound (anything (full_path_behind name second)) (λ path. mark_sound _ (found_sound (λ rest ts u. refl))))
       (then_sound (anything (path_behind second)) (λ path. mark_sound _ (found_sound (λ rest ts u. refl))))))))))
 
-  world_member-fits : Sound (Passes (fits_world_member room)) (world_member_in_front room)
+  pub world_member-fits : Sound (Passes (fits_world_member room)) (world_member_in_front room)
   world_member-fits =
       then_sound (anything prefix_in_front) (λ pre.
       if_key_sound _ (made_sound _ (sound_as extern-fits (λ us rest e h ts u. h)))
@@ -188,14 +188,14 @@ module _ (room : ℕ) where
       (if_key_sound _ (sound_as (use-fits {test = fits_world_member room} _ (λ path names. refl)) (λ us rest member h ts u. h))
       (made_sound _ (sound_as declared-fits (λ us rest declared h ts u. h))))))
 
-  item-fits : Sound (Passes (fits_item room)) (item_in_front room)
+  pub item-fits : Sound (Passes (fits_item room)) (item_in_front room)
   item-fits =
       then_sound (anything gates_in_front) (λ gates.
       if_key_sound _ (id_sound (λ t name i. made_sound _ (mark_sound _ (sound_as (repeated-fit (fits_member room) member-fits _) (λ us rest xs h ts u. h)))))
       (if_key_sound _ (id_sound (λ t name i. made_sound _ (mark_sound _ (sound_as (repeated-fit (fits_world_member room) world_member-fits _) (λ us rest xs h ts u. h)))))
       refused_sound))
 
-  nested-fits : Sound (Passes (fits_package room)) (nested_in_front room)
+  pub nested-fits : Sound (Passes (fits_package room)) (nested_in_front room)
   nested-fits =
       key_sound _ (then_sound (anything head_in_front) (λ head. mark_sound _ (made_sound _ (sound_as (repeated-fit (fits_item room) item-fits _) (λ us rest items h ts u. h)))))
 

@@ -9,3 +9,4 @@ pub mod TypesComplete
 pub mod DeclaredComplete
 pub mod FilesComplete
 pub mod Fitting
+pub mod Exact

@@ -3,3 +3,4 @@ pub mod ReadTypes
 pub mod ReadDeclared
 pub mod ReadFiles
 pub mod Levels
+pub mod Laws

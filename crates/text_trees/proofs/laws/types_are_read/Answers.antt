@@ -1,8 +1,8 @@
-use Rattle.std.proofs.Common.{refl}
-use Rattle.text_trees.proofs.FilesFound.{file-sound}
-use Rattle.text_trees.proofs.FilesComplete.{file-complete}
-use Rattle.text_trees.proofs.Fitting.{file-fits}
+use Rattle.text_trees.proofs.Exact.{types_found, types_there}
 use Rattle.text_trees.proofs.laws.types_are_read.Goals as goal
 
-pub returns : goal.returns
-returns c = λ n. refl
+pub returns-clause-found : goal.returns-clause-found
+returns-clause-found c = types_found
+
+pub returns-clause-there : goal.returns-clause-there
+returns-clause-there c = types_there

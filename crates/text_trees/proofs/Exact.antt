@@ -1,0 +1,64 @@
+-- Readers find exactly what is there.
+use Rattle.std.proofs.Common.{◌≡◌, ◌↔◌, refl, sym, ap, ◌∙◌, ℕ, Bool, true, false, List, []}
+use Rattle.print_grammar.specs.{Token.Token, Token.Mark.Less, Tree.FileTree}
+use Rattle.print_grammar.specs.Grammar.{ReadsType, ReadsFile, ReadsResourceMember, ReadsDeclared, ReadsMember, ReadsExtern, ReadsWorldMember, ReadsItem, ReadsNested}
+use Rattle.print_grammar.proofs.GrammarUnique.{file-unique}
+use Rattle.text_trees.specs.Reading.{Reading, Reading.Found, Reading.Refused, Wanted, begins}
+use Rattle.text_trees.specs.{ReadTypes.type_in_front, ReadDeclared.resource_member_in_front, ReadDeclared.declared_in_front}
+use Rattle.text_trees.specs.ReadFiles.{member_in_front, extern_in_front, world_member_in_front, item_in_front, nested_in_front, file_in_front}
+use Rattle.text_trees.specs.Levels.{fits_type, fits_resource_member, fits_declared, fits_member, fits_extern, fits_world_member, fits_item, fits_package, fits_file, levels}
+use Rattle.text_trees.specs.Laws.{FindsWhatIsRead, FindsNothingElse, FindsBefore, FilesAreRead, FoundFilesAreOnly, RefusedAreNoFiles}
+use Rattle.text_trees.proofs.Finding.{Sound, is_there}
+use Rattle.text_trees.proofs.Fitting.{Passes, type-fits, resource_member-fits, declared-fits, member-fits, extern-fits, world_member-fits, item-fits, nested-fits, file-fits}
+use Rattle.text_trees.proofs.{TypesFound.type-sound, TypesComplete.type-complete, DeclaredFound.resource_member-sound, DeclaredFound.declared-sound, DeclaredComplete.resource_member-complete, DeclaredComplete.declared-complete}
+use Rattle.text_trees.proofs.FilesFound.{member-sound, extern-sound, world_member-sound, item-sound, nested-sound, file-sound}
+use Rattle.text_trees.proofs.FilesComplete.{member-complete, extern-complete, world_member-complete, item-complete, nested-complete, file-complete}
+use Rattle.std.proofs.lemmas.Bool.{leb-true}
+
+-- what is found is there and passes a test, if each is known
+nothing_else : {X : Type 0} {Reads : List Token → X → List Token → Type 0} {fits : X → Bool} {read : List Token → Reading X} → Sound Reads read → Sound (Passes fits) read
+    → FindsNothingElse Reads fits read
+nothing_else sound fit ts rest x e = (is_there sound ts rest x e, is_there fit ts rest x e)
+
+exactly : {X : Type 0} {Reads : List Token → X → List Token → Type 0} {fits : X → Bool} {read : List Token → Reading X} → Sound Reads read → Sound (Passes fits) read
+    → ((ts rest : List Token) (x : X) → Reads ts x rest → fits x ≡ true → read ts ≡ Found x rest) → FindsWhatIsRead Reads fits read
+exactly sound fit complete ts rest x = (nothing_else sound fit ts rest x, λ r. complete ts rest x r.0 r.1)
+
+module _ (room : ℕ) where
+  pub types_found : FindsNothingElse ReadsType (fits_type room) (type_in_front room)
+  types_found = nothing_else (type-sound room) (type-fits room)
+
+  pub types_there : FindsBefore (λ rest. begins Less rest ≡ false) ReadsType (fits_type room) (type_in_front room)
+  types_there ts rest ty r e h = type-complete room r e (leb-true (levels ty) room h)
+
+  pub declared_exact : FindsWhatIsRead ReadsDeclared (fits_declared room) (declared_in_front room)
+  declared_exact = exactly (declared-sound room) (declared-fits room) (λ ts rest declared r h. declared-complete room r h)
+
+  pub resource_members_exact : FindsWhatIsRead ReadsResourceMember (fits_resource_member room) (resource_member_in_front room)
+  resource_members_exact = exactly (resource_member-sound room) (resource_member-fits room) (resource_member-complete room)
+
+  pub members_exact : FindsWhatIsRead ReadsMember (fits_member room) (member_in_front room)
+  members_exact = exactly (member-sound room) (member-fits room) (member-complete room)
+
+  pub externs_exact : FindsWhatIsRead ReadsExtern (fits_extern room) (extern_in_front room)
+  externs_exact = exactly (extern-sound room) (extern-fits room) (extern-complete room)
+
+  pub world_members_exact : FindsWhatIsRead ReadsWorldMember (fits_world_member room) (world_member_in_front room)
+  world_members_exact = exactly (world_member-sound room) (world_member-fits room) (world_member-complete room)
+
+  pub items_exact : FindsWhatIsRead ReadsItem (fits_item room) (item_in_front room)
+  items_exact = exactly (item-sound room) (item-fits room) (item-complete room)
+
+  pub packages_exact : FindsWhatIsRead ReadsNested (fits_package room) (nested_in_front room)
+  packages_exact = exactly (nested-sound room) (nested-fits room) (nested-complete room)
+
+-- ---- files
+
+pub files_are_read : FilesAreRead
+files_are_read room ts rest file = (λ e. let r = is_there (file-sound room) ts rest file e in (r.0, is_there (file-fits room) ts rest file e, r.1), λ r. file-complete room r.0 r.1 ∙ ap (Found file) (sym r.2))
+
+pub found_files_are_only : FoundFilesAreOnly
+found_files_are_only room ts rest file other e r = file-unique r (is_there (file-sound room) ts rest file e).0
+
+pub refused_are_no_files : RefusedAreNoFiles
+refused_are_no_files room ts rest wanted file e r h = let found = file-complete room r h in absurd (cc (e, found))

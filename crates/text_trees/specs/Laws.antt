@@ -1,0 +1,34 @@
+-- What the laws of readers say: what they find is what the grammar says is there.
+use Rattle.std.specs.Prelude.{◌≡◌, ◌↔◌, Bool, true, List, [], ℕ}
+use Rattle.print_grammar.specs.{Token.Token, Tree.FileTree, Grammar.ReadsFile}
+use Rattle.text_trees.specs.Reading.{Reading, Reading.Found, Reading.Refused, Wanted}
+use Rattle.text_trees.specs.{Levels.fits_file, ReadFiles.file_in_front}
+
+-- A thing is found in front of tokens exactly where the grammar says that it stands there, and it passes a test.
+abbrev pub FindsWhatIsRead : {X : Type 0} → (List Token → X → List Token → Type 0) → (X → Bool) → (List Token → Reading X) → Type 0
+FindsWhatIsRead {X} Reads fits read = (ts rest : List Token) (x : X) → (read ts ≡ Found x rest) ↔ (Reads ts x rest × (fits x ≡ true))
+
+-- What is found is there by the grammar and passes a test.
+abbrev pub FindsNothingElse : {X : Type 0} → (List Token → X → List Token → Type 0) → (X → Bool) → (List Token → Reading X) → Type 0
+FindsNothingElse {X} Reads fits read = (ts rest : List Token) (x : X) → read ts ≡ Found x rest → Reads ts x rest × (fits x ≡ true)
+
+-- What is there by the grammar and passes a test is found, where what follows it doesn't go on with it.
+abbrev pub FindsBefore : {X : Type 0} → (List Token → Type 0) → (List Token → X → List Token → Type 0) → (X → Bool) → (List Token → Reading X) → Type 0
+FindsBefore {X} Ends Reads fits read = (ts rest : List Token) (x : X) → Reads ts x rest → Ends rest → fits x ≡ true → read ts ≡ Found x rest
+
+-- Tokens are found to be a file, with nothing behind it, exactly where the grammar says so and no type in it has more levels than there is room for.
+abbrev pub FilesAreRead : Type 0
+FilesAreRead =
+    (room : ℕ) (ts rest : List Token) (file : FileTree)
+    → (file_in_front room ts ≡ Found file rest) ↔ (ReadsFile ts file × (fits_file room file ≡ true) × (rest ≡ []))
+
+-- Where tokens are found to be a file, they are no other.
+abbrev pub FoundFilesAreOnly : Type 0
+FoundFilesAreOnly =
+    (room : ℕ) (ts rest : List Token) (file other : FileTree) → file_in_front room ts ≡ Found file rest → ReadsFile ts other → other ≡ file
+
+-- Where tokens are refused, they are no file whose types have no more levels than there is room for.
+abbrev pub RefusedAreNoFiles : Type 0
+RefusedAreNoFiles =
+    (room : ℕ) (ts rest : List Token) (wanted : Wanted) (file : FileTree) → file_in_front room ts ≡ Refused wanted rest → ReadsFile ts file
+    → fits_file room file ≡ true → ⊥
