@@ -9,8 +9,7 @@ use Rattle.print_grammar.specs.{Grammar.IsId.plain, Grammar.IsId.with_percent, G
 use Rattle.print_grammar.specs.Grammar.CommaList.{last, last_with_comma, next}
 use Rattle.print_grammar.specs.Token.Mark.{Comma}
 use Rattle.print_grammar.specs.Token.Token.{Key, Punctuation}
-use Rattle.print_grammar.proofs.TypeTokens.{stops}
-use Rattle.text_trees.specs.Reading.{Reading, Reading.Found, Reading.Refused, then_read, made, behind, begins, is_mark, mark_number, behind_mark, if_mark, is_key, id_in_front, if_id, things_in_front, until, repeated, more_in_front, listed_in_front, listed}
+use Rattle.text_trees.specs.Reading.{Reading, Reading.Found, Reading.Refused, then_read, made, behind, begins, begins_key, is_mark, mark_number, behind_mark, if_mark, is_key, id_in_front, if_id, things_in_front, until, repeated, more_in_front, listed_in_front, listed}
 use Rattle.text_trees.proofs.{Fronts.begins_is, Lengths.Shortens}
 
 -- ---- steps
@@ -82,6 +81,21 @@ same_number n = held (n == n) (eqb_refl n)
 begins_itself : (mark : Mark) (ts : List Token) → begins mark (Punctuation mark ∷ ts) ≡ true
 begins_itself mark ts = same_number (mark_number mark)
 
+-- A comma follows, or a closing mark.
+pub data EndsAt (close : Mark) : List Token → Type 0 where
+  at_comma : {ts : List Token} → EndsAt close (Punctuation Comma ∷ ts)
+  at_close : {ts : List Token} → EndsAt close (Punctuation close ∷ ts)
+
+-- other marks don't follow, and no keyword does
+pub ends_no_mark : {close : Mark} {ts : List Token} (mark : Mark) → (mark_number Comma == mark_number mark) ≡ false → (mark_number close == mark_number mark) ≡ false
+    → EndsAt close ts → begins mark ts ≡ false
+ends_no_mark mark p q at_comma = p
+ends_no_mark mark p q at_close = q
+
+pub ends_no_key : {close : Mark} {ts : List Token} (keyword : Keyword) → EndsAt close ts → begins_key keyword ts ≡ false
+ends_no_key keyword at_comma = refl
+ends_no_key keyword at_close = refl
+
 -- What a relation says of things is what a reader finds, where the test of a thing holds.
 module _ {X : Type 0} {Reads : List Token → X → List Token → Type 0} (close : Mark) (read : List Token → Reading X) (fits : X → Bool)
     (short : Shortens Reads) (shut : Shut (begins close) read) where
@@ -100,8 +114,8 @@ module _ {X : Type 0} {Reads : List Token → X → List Token → Type 0} (clos
   unfolding repeated until
   repeated-complete one {ts} r h = then_gives _ (things-complete one (suc (length ts)) r (omega arith) h) refl
 
-  module _ (other : (mark_number Comma == mark_number close) ≡ false) (stop : (ts : List Token) → stops (Punctuation close ∷ ts) ≡ true)
-      (one : (ts rest : List Token) (x : X) → Reads ts x rest → stops rest ≡ true → fits x ≡ true → read ts ≡ Found x rest) where
+  module _ (other : (mark_number Comma == mark_number close) ≡ false)
+      (one : (ts rest : List Token) (x : X) → Reads ts x rest → EndsAt close rest → fits x ≡ true → read ts ≡ Found x rest) where
     more_at_end : (ts : List Token) → more_in_front close (Punctuation close ∷ ts) ≡ Found false ts
     unfolding if_mark
     more_at_end ts = rw (begins_itself close ts) refl
@@ -116,22 +130,22 @@ module _ {X : Type 0} {Reads : List Token → X → List Token → Type 0} (clos
 
     -- the first of listed things is found
     pub first_found : {ts rest : List Token} {xs : List X} → CommaList Reads (Punctuation close) ts xs rest → list_all fits xs ≡ true → begins close ts ≡ false
-    first_found {ts} (last {after} r) h = test_fails (begins close ts) (shut ts) (one _ _ _ r (stop after) (left_of _ _ h))
-    first_found {ts} (last_with_comma r) h = test_fails (begins close ts) (shut ts) (one _ _ _ r refl (left_of _ _ h))
-    first_found {ts} (next r l) h = test_fails (begins close ts) (shut ts) (one _ _ _ r refl (left_of _ _ h))
+    first_found {ts} (last r) h = test_fails (begins close ts) (shut ts) (one _ _ _ r at_close (left_of _ _ h))
+    first_found {ts} (last_with_comma r) h = test_fails (begins close ts) (shut ts) (one _ _ _ r at_comma (left_of _ _ h))
+    first_found {ts} (next r l) h = test_fails (begins close ts) (shut ts) (one _ _ _ r at_comma (left_of _ _ h))
 
     pub listed_in_front-complete : (n : ℕ) {ts rest : List Token} {xs : List X} → CommaList Reads (Punctuation close) ts xs rest → length ts < n → list_all fits xs ≡ true
         → listed_in_front read close n ts ≡ Found xs rest
     unfolding listed_in_front made
     listed_in_front-complete zero r l h = absurd (omega (arith, l))
     listed_in_front-complete (suc n) (last {after} r) l h =
-        then_gives _ (one _ _ _ r (stop after) (left_of _ _ h)) (then_gives _ (more_at_end after) refl)
+        then_gives _ (one _ _ _ r at_close (left_of _ _ h)) (then_gives _ (more_at_end after) refl)
     listed_in_front-complete (suc n) (last_with_comma {after} r) l h =
-        then_gives _ (one _ _ _ r refl (left_of _ _ h)) (then_gives _ (more_at_comma_end after) refl)
+        then_gives _ (one _ _ _ r at_comma (left_of _ _ h)) (then_gives _ (more_at_comma_end after) refl)
     listed_in_front-complete (suc n) (next {between} {x} r m) l h =
         let k = short _ _ _ r in
         let others = right_of (fits x) _ h in
-        then_gives _ (one _ _ _ r refl (left_of _ _ h)) (then_gives _ (more_at_comma between (first_found m others))
+        then_gives _ (one _ _ _ r at_comma (left_of _ _ h)) (then_gives _ (more_at_comma between (first_found m others))
         (rw (listed_in_front-complete n m (omega (arith, k, l)) others) refl))
 
     -- Things with commas between, up to a closing mark, are found.

@@ -4,7 +4,7 @@ use Rattle.std.specs.List.{list_all}
 use Rattle.base_lemmas.proofs.Bools.{left_of, right_of}
 use Rattle.wit_model.specs.{Text.Text, Rules.passes}
 use Rattle.print_grammar.specs.{Keyword.Keyword, Token.Token, Token.Mark}
-use Rattle.print_grammar.specs.Token.Mark.{OpenBrace, CloseBrace, OpenParen, CloseParen, Colon, Semi, Comma, Dot, At, Slash}
+use Rattle.print_grammar.specs.Token.Mark.{CloseBrace, OpenParen, Less, Colon, Semi, At, Slash}
 use Rattle.print_grammar.specs.Token.Token.{Word, Escaped, Key, VersionText, Digits, Quoted, Punctuation}
 use Rattle.print_grammar.specs.Tree.{Gates, Prefix, PathTree, UsedName, FieldTree, CaseTree, LabelTree, SignatureTree, ResourceMember, Declared}
 use Rattle.print_grammar.specs.Grammar.{IsId, CommaList, ReadsVersion, ReadsVersionArgument, ReadsDeprecated, ReadsGates, ReadsExternalId, ReadsPrefix, ReadsPath, ReadsUsedName, ReadsUse, ReadsField, ReadsCase, ReadsLabel, ReadsSignature, ReadsResourceMember, ReadsDeclared}
@@ -15,12 +15,11 @@ use Rattle.print_grammar.specs.Grammar.{ReadsSignature.func, ReadsSignature.asyn
 use Rattle.print_grammar.specs.Grammar.{ReadsField.field, ReadsCase.case_alone, ReadsCase.case_of, ReadsLabel.label}
 use Rattle.print_grammar.specs.Grammar.ReadsResourceMember.{constructor_, method, static}
 use Rattle.print_grammar.specs.Grammar.ReadsDeclared.{record_, variant, flags, enum, alias, resource, resource_with}
-use Rattle.print_grammar.proofs.TypeTokens.{stops}
 use Rattle.text_trees.specs.Reading.{Reading, Reading.Found, then_read, made, begins, begins_key, begins_attribute, behind, behind_mark, if_mark, behind_key, if_key, id_in_front, version_in_front, quoted_in_front, behind_word, if_attribute}
 use Rattle.text_trees.specs.ReadDeclared.{at_version_in_front, version_argument_in_front, deprecated_in_front, gates_in_front, external_id_in_front, prefix_in_front, full_path_behind, path_behind, path_in_front, used_name_in_front, use_behind, field_in_front, case_in_front, label_in_front, function_behind, resource_member_behind, resource_member_in_front, resource_behind, declared_in_front}
 use Rattle.text_trees.specs.Levels.{fits_type, fits_param, fits_signature, fits_field, fits_case, fits_resource_member, fits_declared}
 use Rattle.text_trees.proofs.Lengths.{used_name-shortens, field-shortens, case-shortens, label-shortens, resource_member-shortens}
-use Rattle.text_trees.proofs.Complete.{then_gives, id_gives, id_no_key, id_no_mark, Shut, shut_at, listed-complete, repeated-complete}
+use Rattle.text_trees.proofs.Complete.{EndsAt, ends_no_mark, ends_no_key, id_gives, id_no_key, id_no_mark, Shut, shut_at, listed-complete, repeated-complete}
 use Rattle.text_trees.proofs.TypesComplete.{type-found, params-complete, result-complete, signature-complete}
 
 -- ---- gates and external ids
@@ -93,13 +92,9 @@ unfolding then_read if_mark
 path-complete (local i) c h = rw (id_gives _ i, c) refl
 path-complete (full i j k r) c h = rw (id_gives _ i, id_gives _ j, full_path-complete k r h) refl
 
-stops_no_as : (ts : List Token) → stops ts ≡ true → begins_key Keyword.As ts ≡ false
-stops_no_as (Key keyword ∷ ts) h = absurd cc
-stops_no_as _ h = refl
-
-used_name-complete : (ts rest : List Token) (name : UsedName) → ReadsUsedName ts name rest → stops rest ≡ true → true ≡ true → used_name_in_front ts ≡ Found name rest
+used_name-complete : (ts rest : List Token) (name : UsedName) → ReadsUsedName ts name rest → EndsAt CloseBrace rest → true ≡ true → used_name_in_front ts ≡ Found name rest
 unfolding then_read if_key
-used_name-complete _ rest _ (same_name i) s h = rw (id_gives _ i, stops_no_as rest s) refl
+used_name-complete _ rest _ (same_name i) s h = rw (id_gives _ i, ends_no_key Keyword.As s) refl
 used_name-complete _ _ _ (other_name i j) s h = rw (id_gives _ i, id_gives _ j) refl
 
 used_name-shut : Shut (begins CloseBrace) used_name_in_front
@@ -115,12 +110,14 @@ pub use-complete : {X : Type 0} (use_of : PathTree → List UsedName → X) {ts 
     → ReadsUse (Key Keyword.Use ∷ ts) path names rest → use_behind use_of ts ≡ Found (use_of path names) rest
 unfolding then_read behind_mark
 use-complete use_of (use_names {names} p l) =
-    rw (path-complete p refl refl,
-    listed-complete CloseBrace used_name_in_front (λ name. true) used_name-shortens used_name-shut refl (λ ts. refl) used_name-complete l (all_pass names)) refl
+    rw (
+      path-complete p refl refl,
+      listed-complete CloseBrace used_name_in_front (λ name. true) used_name-shortens used_name-shut refl used_name-complete l (all_pass names),
+    ) refl
 
 -- ---- declared types
 
-label-complete : (ts rest : List Token) (name : LabelTree) → ReadsLabel ts name rest → stops rest ≡ true → true ≡ true → label_in_front ts ≡ Found name rest
+label-complete : (ts rest : List Token) (name : LabelTree) → ReadsLabel ts name rest → EndsAt CloseBrace rest → true ≡ true → label_in_front ts ≡ Found name rest
 unfolding then_read
 label-complete _ _ _ (label i) s h = rw (id_gives _ i) refl
 
@@ -131,24 +128,20 @@ label-shut = shut_at CloseBrace label_in_front (λ rest. refl)
 labels-complete : {ts rest : List Token} {names : List LabelTree} → CommaList ReadsLabel (Punctuation CloseBrace) ts names rest
     → Rattle.text_trees.specs.Reading.listed label_in_front CloseBrace ts ≡ Found names rest
 labels-complete {names = names} l =
-    listed-complete CloseBrace label_in_front (λ name. true) label-shortens label-shut refl (λ ts. refl) label-complete l (all_pass names)
-
-stops_no_paren : (ts : List Token) → stops ts ≡ true → begins OpenParen ts ≡ false
-stops_no_paren (Punctuation OpenParen ∷ ts) h = absurd cc
-stops_no_paren _ h = refl
+    listed-complete CloseBrace label_in_front (λ name. true) label-shortens label-shut refl label-complete l (all_pass names)
 
 module _ (room : ℕ) where
-  field-complete : (ts rest : List Token) (field : FieldTree) → ReadsField ts field rest → stops rest ≡ true → fits_field room field ≡ true → field_in_front room ts ≡ Found field rest
+  field-complete : (ts rest : List Token) (field : FieldTree) → ReadsField ts field rest → EndsAt CloseBrace rest → fits_field room field ≡ true → field_in_front room ts ≡ Found field rest
   unfolding then_read behind_mark
-  field-complete _ _ _ (field i r) s h = rw (id_gives _ i, type-found room r s h) refl
+  field-complete _ _ _ (field i r) s h = rw (id_gives _ i, type-found room r (ends_no_mark Less refl refl s) h) refl
 
   field-shut : Shut (begins CloseBrace) (field_in_front room)
   unfolding then_read id_in_front
   field-shut = shut_at CloseBrace (field_in_front room) (λ rest. refl)
 
-  case-complete : (ts rest : List Token) (c : CaseTree) → ReadsCase ts c rest → stops rest ≡ true → fits_case room c ≡ true → case_in_front room ts ≡ Found c rest
+  case-complete : (ts rest : List Token) (c : CaseTree) → ReadsCase ts c rest → EndsAt CloseBrace rest → fits_case room c ≡ true → case_in_front room ts ≡ Found c rest
   unfolding then_read behind_mark if_mark
-  case-complete _ rest _ (case_alone i) s h = rw (id_gives _ i, stops_no_paren rest s) refl
+  case-complete _ rest _ (case_alone i) s h = rw (id_gives _ i, ends_no_mark OpenParen refl refl s) refl
   case-complete _ _ _ (case_of i r) s h = rw (id_gives _ i, type-found room r refl h) refl
 
   case-shut : Shut (begins CloseBrace) (case_in_front room)
@@ -158,7 +151,7 @@ module _ (room : ℕ) where
   pub function-complete : {X : Type 0} (function_of : SignatureTree → X) {ts rest : List Token} {signature : SignatureTree} → ReadsSignature ts signature (Punctuation Semi ∷ rest)
       → fits_signature room signature ≡ true → function_behind room function_of ts ≡ Found (function_of signature) rest
   unfolding then_read behind_mark
-  function-complete function_of r h = rw (signature-complete room r refl h) refl
+  function-complete function_of r h = rw (signature-complete room r refl refl h) refl
 
   signature_no_static : {ts rest : List Token} {signature : SignatureTree} → ReadsSignature ts signature rest → begins_key Keyword.Static ts ≡ false
   signature_no_static (func p r) = refl
@@ -168,11 +161,11 @@ module _ (room : ℕ) where
       → resource_member_in_front room ts ≡ Found member rest
   unfolding then_read behind_mark if_key
   resource_member-complete _ _ _ (constructor_ {params} p a r) h =
-      rw (prefix-complete p refl, params-complete room a (left_of _ _ h), result-complete room r refl (right_of (list_all (fits_param room) params) _ h)) refl
+      rw (prefix-complete p refl, params-complete room a (left_of _ _ h), result-complete room r refl refl (right_of (list_all (fits_param room) params) _ h)) refl
   resource_member-complete _ _ _ (method p i r) h =
-      rw (prefix-complete p (id_no_mark At i), id_no_key Keyword.Constructor i, id_gives _ i, signature_no_static r, signature-complete room r refl h) refl
+      rw (prefix-complete p (id_no_mark At i), id_no_key Keyword.Constructor i, id_gives _ i, signature_no_static r, signature-complete room r refl refl h) refl
   resource_member-complete _ _ _ (static p i r) h =
-      rw (prefix-complete p (id_no_mark At i), id_no_key Keyword.Constructor i, id_gives _ i, signature-complete room r refl h) refl
+      rw (prefix-complete p (id_no_mark At i), id_no_key Keyword.Constructor i, id_gives _ i, signature-complete room r refl refl h) refl
 
   resource_member-shut : Shut (begins CloseBrace) (resource_member_in_front room)
   unfolding then_read id_in_front if_key if_mark if_attribute
@@ -183,13 +176,16 @@ module _ (room : ℕ) where
       → declared_in_front room ts ≡ Found declared rest
   unfolding then_read behind_mark if_key if_mark made
   declared-complete (record_ i l) h =
-      rw (id_gives _ i, listed-complete CloseBrace (field_in_front room) (fits_field room) field-shortens field-shut refl (λ ts. refl) field-complete l h) refl
+      rw (id_gives _ i, listed-complete CloseBrace (field_in_front room) (fits_field room) field-shortens field-shut refl field-complete l h) refl
   declared-complete (variant i l) h =
-      rw (id_gives _ i, listed-complete CloseBrace (case_in_front room) (fits_case room) case-shortens case-shut refl (λ ts. refl) case-complete l h) refl
+      rw (id_gives _ i, listed-complete CloseBrace (case_in_front room) (fits_case room) case-shortens case-shut refl case-complete l h) refl
   declared-complete (flags i l) h = rw (id_gives _ i, labels-complete l) refl
   declared-complete (enum i l) h = rw (id_gives _ i, labels-complete l) refl
   declared-complete (alias i r) h = rw (id_gives _ i, type-found room r refl h) refl
   declared-complete (resource i) h = rw (id_gives _ i) refl
   declared-complete (resource_with i l) h =
-      rw (id_gives _ i, repeated-complete CloseBrace (resource_member_in_front room) (fits_resource_member room) resource_member-shortens resource_member-shut
-      resource_member-complete l h) refl
+      rw (
+        id_gives _ i,
+        repeated-complete CloseBrace (resource_member_in_front room) (fits_resource_member room) resource_member-shortens resource_member-shut
+            resource_member-complete l h,
+      ) refl

@@ -2,17 +2,17 @@
 use Rattle.std.proofs.Common.{◌≡◌, ◌↔◌, refl, sym, ap, ◌∙◌, ℕ, Bool, true, false, List, []}
 use Rattle.print_grammar.specs.{Token.Token, Token.Mark.Less, Tree.FileTree}
 use Rattle.print_grammar.specs.Grammar.{ReadsType, ReadsFile, ReadsResourceMember, ReadsDeclared, ReadsMember, ReadsExtern, ReadsWorldMember, ReadsItem, ReadsNested}
-use Rattle.print_grammar.proofs.GrammarUnique.{file-unique}
-use Rattle.text_trees.specs.Reading.{Reading, Reading.Found, Reading.Refused, Wanted, begins}
+use Rattle.text_trees.specs.Reading.{Reading, Reading.Found, Reading.Refused, Wanted, Wanted.Shallower, begins}
 use Rattle.text_trees.specs.{ReadTypes.type_in_front, ReadDeclared.resource_member_in_front, ReadDeclared.declared_in_front}
 use Rattle.text_trees.specs.ReadFiles.{member_in_front, extern_in_front, world_member_in_front, item_in_front, nested_in_front, file_in_front}
 use Rattle.text_trees.specs.Levels.{fits_type, fits_resource_member, fits_declared, fits_member, fits_extern, fits_world_member, fits_item, fits_package, fits_file, levels}
-use Rattle.text_trees.specs.Laws.{FindsWhatIsRead, FindsNothingElse, FindsBefore, FilesAreRead, FoundFilesAreOnly, RefusedAreNoFiles}
+use Rattle.text_trees.specs.Laws.{FindsWhatIsRead, FindsNothingElse, FindsBefore, FilesAreRead, FoundFilesAreOnly, RefusedAreNoFiles, ShallowFilesAreFound}
 use Rattle.text_trees.proofs.Finding.{Sound, is_there}
 use Rattle.text_trees.proofs.Fitting.{Passes, type-fits, resource_member-fits, declared-fits, member-fits, extern-fits, world_member-fits, item-fits, nested-fits, file-fits}
 use Rattle.text_trees.proofs.{TypesFound.type-sound, TypesComplete.type-complete, DeclaredFound.resource_member-sound, DeclaredFound.declared-sound, DeclaredComplete.resource_member-complete, DeclaredComplete.declared-complete}
 use Rattle.text_trees.proofs.FilesFound.{member-sound, extern-sound, world_member-sound, item-sound, nested-sound, file-sound}
 use Rattle.text_trees.proofs.FilesComplete.{member-complete, extern-complete, world_member-complete, item-complete, nested-complete, file-complete}
+use Rattle.text_trees.proofs.{Enough.file-room, Extending.Extends, Extending.Extends.same, Extending.Extends.too_deep, Extending.file-extends}
 use Rattle.std.proofs.lemmas.Bool.{leb-true}
 
 -- what is found is there and passes a test, if each is known
@@ -57,8 +57,27 @@ module _ (room : ℕ) where
 pub files_are_read : FilesAreRead
 files_are_read room ts rest file = (λ e. let r = is_there (file-sound room) ts rest file e in (r.0, is_there (file-fits room) ts rest file e, r.1), λ r. file-complete room r.0 r.1 ∙ ap (Found file) (sym r.2))
 
+-- what is found with some room is found with more
+found_with_more : {X : Type 0} {r s : Reading X} {x : X} {rest : List Token} → Extends r s → r ≡ Found x rest → s ≡ Found x rest
+found_with_more same e = e
+found_with_more too_deep e = absurd (cc e)
+
+-- what is refused with some room, but for want of levels, is refused with more
+refused_with_more : {X : Type 0} {r s : Reading X} {wanted : Wanted} {rest : List Token} → Extends r s → r ≡ Refused wanted rest → (wanted ≡ Shallower → ⊥) → s ≡ Refused wanted rest
+refused_with_more same e n = e
+refused_with_more too_deep e n = absurd (n (cc e))
+
 pub found_files_are_only : FoundFilesAreOnly
-found_files_are_only room ts rest file other e r = file-unique r (is_there (file-sound room) ts rest file e).0
+found_files_are_only room ts rest file other e r =
+    let (more, above, enough) = file-room room other in
+    let found = found_with_more ((file-extends room more above).at ts) e in
+    let again = file-complete more r enough in cc (found, again)
 
 pub refused_are_no_files : RefusedAreNoFiles
-refused_are_no_files room ts rest wanted file e r h = let found = file-complete room r h in absurd (cc (e, found))
+refused_are_no_files room ts rest wanted file e r n =
+    let (more, above, enough) = file-room room file in
+    let refused = refused_with_more ((file-extends room more above).at ts) e n in
+    let found = file-complete more r enough in absurd (cc (refused, found))
+
+pub shallow_files_are_found : ShallowFilesAreFound
+shallow_files_are_found room ts rest wanted file e r h = let found = file-complete room r h in absurd (cc (e, found))

@@ -122,8 +122,11 @@ module _ (room : ℕ) where
   item-complete _ _ _ (interface_item g i l) h =
       rw (gates-complete g refl, id_gives _ i, repeated-complete CloseBrace (member_in_front room) (fits_member room) member-shortens member-shut member-complete l h) refl
   item-complete _ _ _ (world_item g i l) h =
-      rw (gates-complete g refl, id_gives _ i,
-      repeated-complete CloseBrace (world_member_in_front room) (fits_world_member room) world_member-shortens world_member-shut world_member-complete l h) refl
+      rw (
+        gates-complete g refl,
+        id_gives _ i,
+        repeated-complete CloseBrace (world_member_in_front room) (fits_world_member room) world_member-shortens world_member-shut world_member-complete l h,
+      ) refl
 
   item-shut : Shut (begins CloseBrace) (item_in_front room)
   unfolding then_read if_key if_mark if_attribute
@@ -166,5 +169,8 @@ module _ (room : ℕ) where
   pub file-complete : {ts : List Token} {tree : FileTree} → ReadsFile ts tree → fits_file room tree ≡ true → file_in_front room ts ≡ Found tree []
   unfolding then_read behind_mark behind_key made until
   file-complete (file {middle} {after} {items} p l n) h =
-      rw (head-complete p refl, items-complete (suc (length middle)) l (nested_ends_items n) (omega arith) (left_of _ _ h),
-      all_nested-complete (suc (length after)) n (omega arith) (right_of (list_all (fits_item room) items) _ h)) refl
+      rw (
+        head-complete p refl,
+        items-complete (suc (length middle)) l (nested_ends_items n) (omega arith) (left_of _ _ h),
+        all_nested-complete (suc (length after)) n (omega arith) (right_of (list_all (fits_item room) items) _ h),
+      ) refl

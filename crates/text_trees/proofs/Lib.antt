@@ -10,3 +10,5 @@ pub mod DeclaredComplete
 pub mod FilesComplete
 pub mod Fitting
 pub mod Exact
+pub mod Extending
+pub mod Enough

@@ -12,12 +12,11 @@ use Rattle.print_grammar.specs.Grammar.{CommaList, ReadsType, ReadsTypes, ReadsP
 use Rattle.print_grammar.specs.Grammar.ReadsType.{primitive, named, named_with_percent, own, borrow, tuple, option, map, list, fixed_list, future, future_of, stream, stream_of, result, result_ok, result_of, result_err}
 use Rattle.print_grammar.specs.Grammar.ReadsTypes.{last_type, last_type_with_comma, next_type}
 use Rattle.print_grammar.specs.Grammar.{ReadsParam.param, ReadsParams.no_params, ReadsParams.params, ReadsResult.no_result, ReadsResult.with_result, ReadsSignature.func, ReadsSignature.async_func}
-use Rattle.print_grammar.proofs.TypeTokens.{stops}
 use Rattle.text_trees.specs.Reading.{Reading, Reading.Found, then_read, made, begins, begins_key, behind_mark, if_mark, behind_key, if_key, id_in_front, digits_in_front, listed, listed_in_front, more_in_front}
 use Rattle.text_trees.specs.ReadTypes.{tuple_types, type_in_front, level_in_front, param_in_front, params_in_front, result_in_front, arguments_in_front, signature_in_front}
 use Rattle.text_trees.specs.Levels.{levels, deepest, fits_type, fits_param, fits_signature}
 use Rattle.text_trees.proofs.Lengths.{type-shortens, types-shorten, param-shortens}
-use Rattle.text_trees.proofs.Complete.{id_gives, Shut, shut_at, first_found, listed-complete}
+use Rattle.text_trees.proofs.Complete.{EndsAt, ends_no_mark, id_gives, Shut, shut_at, first_found, listed-complete}
 
 -- the types of a tuple, as a list
 abbrev type_list : TypeTrees → List TypeTree
@@ -59,6 +58,7 @@ comma_first rest h = rw h refl
 
 mutual
   unfolding level_in_front listed_in_front listed then_read made if_mark behind_mark if_key digits_in_front
+
   -- A type that is read by the grammar, and isn't continued by what follows it, is found where there is room for its levels.
   pub type-complete : (room : ℕ) {ts rest : List Token} {ty : TypeTree} → ReadsType ts ty rest → begins Less rest ≡ false → levels ty ≤ room
       → type_in_front room ts ≡ Found ty rest
@@ -107,27 +107,17 @@ mutual
       let k = type-shortens r in
       rw (type-complete room r refl (omega (arith, h)), comma_first between (types_no_greater s), types-complete room n s (omega (arith, k, l)) (omega (arith, h))) refl
 
--- ---- what may follow
-
-pub stops_no_less : (ts : List Token) → stops ts ≡ true → begins Less ts ≡ false
-stops_no_less (Punctuation Less ∷ ts) h = absurd cc
-stops_no_less _ h = refl
-
-stops_no_arrow : (ts : List Token) → stops ts ≡ true → begins Arrow ts ≡ false
-stops_no_arrow (Punctuation Arrow ∷ ts) h = absurd cc
-stops_no_arrow _ h = refl
-
 -- ---- signatures
 
 module _ (room : ℕ) where
-  -- a type of so many levels, in front of a mark that ends it, is found
-  pub type-found : {ts rest : List Token} {ty : TypeTree} → ReadsType ts ty rest → stops rest ≡ true → fits_type room ty ≡ true → type_in_front room ts ≡ Found ty rest
-  type-found {rest = rest} {ty = ty} r s h = type-complete room r (stops_no_less rest s) (leb-true (levels ty) room h)
+  -- a type of so many levels is found, where no `<` goes on with it
+  pub type-found : {ts rest : List Token} {ty : TypeTree} → ReadsType ts ty rest → begins Less rest ≡ false → fits_type room ty ≡ true → type_in_front room ts ≡ Found ty rest
+  type-found {ty = ty} r e h = type-complete room r e (leb-true (levels ty) room h)
 
-  param-complete : (ts rest : List Token) (param : ParamTree) → ReadsParam ts param rest → stops rest ≡ true → fits_param room param ≡ true
+  param-complete : (ts rest : List Token) (param : ParamTree) → ReadsParam ts param rest → EndsAt CloseParen rest → fits_param room param ≡ true
       → param_in_front room ts ≡ Found param rest
   unfolding then_read behind_mark
-  param-complete _ _ _ (param i r) s h = rw (id_gives _ i, type-found r s h) refl
+  param-complete _ _ _ (param i r) s h = rw (id_gives _ i, type-found r (ends_no_mark Less refl refl s) h) refl
 
   param-shut : Shut (begins CloseParen) (param_in_front room)
   unfolding then_read id_in_front
@@ -138,19 +128,21 @@ module _ (room : ℕ) where
   unfolding behind_mark if_mark
   params-complete no_params h = refl
   params-complete (params l) h =
-      rw (first_found CloseParen (param_in_front room) (fits_param room) param-shortens param-shut refl (λ ts. refl) param-complete l h,
-      listed-complete CloseParen (param_in_front room) (fits_param room) param-shortens param-shut refl (λ ts. refl) param-complete l h) refl
+      rw (
+        first_found CloseParen (param_in_front room) (fits_param room) param-shortens param-shut refl param-complete l h,
+        listed-complete CloseParen (param_in_front room) (fits_param room) param-shortens param-shut refl param-complete l h,
+      ) refl
 
-  pub result-complete : {ts rest : List Token} {result : Option TypeTree} → ReadsResult ts result rest → stops rest ≡ true → passes (fits_type room) result ≡ true
+  pub result-complete : {ts rest : List Token} {result : Option TypeTree} → ReadsResult ts result rest → begins Less rest ≡ false → begins Arrow rest ≡ false → passes (fits_type room) result ≡ true
       → result_in_front room ts ≡ Found result rest
   unfolding if_mark made
-  result-complete {rest = rest} no_result s h = rw (stops_no_arrow rest s) refl
-  result-complete (with_result r) s h = rw (type-found r s h) refl
+  result-complete no_result e f h = rw f refl
+  result-complete (with_result r) e f h = rw (type-found r e h) refl
 
-  pub signature-complete : {ts rest : List Token} {signature : SignatureTree} → ReadsSignature ts signature rest → stops rest ≡ true → fits_signature room signature ≡ true
+  pub signature-complete : {ts rest : List Token} {signature : SignatureTree} → ReadsSignature ts signature rest → begins Less rest ≡ false → begins Arrow rest ≡ false → fits_signature room signature ≡ true
       → signature_in_front room ts ≡ Found signature rest
   unfolding if_key behind_key then_read
-  signature-complete (func {params} p r) s h =
-      rw (params-complete p (left_of _ _ h), result-complete r s (right_of (list_all (fits_param room) params) _ h)) refl
-  signature-complete (async_func {params} p r) s h =
-      rw (params-complete p (left_of _ _ h), result-complete r s (right_of (list_all (fits_param room) params) _ h)) refl
+  signature-complete (func {params} p r) e f h =
+      rw (params-complete p (left_of _ _ h), result-complete r e f (right_of (list_all (fits_param room) params) _ h)) refl
+  signature-complete (async_func {params} p r) e f h =
+      rw (params-complete p (left_of _ _ h), result-complete r e f (right_of (list_all (fits_param room) params) _ h)) refl

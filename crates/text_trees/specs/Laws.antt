@@ -1,7 +1,7 @@
 -- What the laws of readers say: what they find is what the grammar says is there.
 use Rattle.std.specs.Prelude.{◌≡◌, ◌↔◌, Bool, true, List, [], ℕ}
 use Rattle.print_grammar.specs.{Token.Token, Tree.FileTree, Grammar.ReadsFile}
-use Rattle.text_trees.specs.Reading.{Reading, Reading.Found, Reading.Refused, Wanted}
+use Rattle.text_trees.specs.Reading.{Reading, Reading.Found, Reading.Refused, Wanted, Wanted.Shallower}
 use Rattle.text_trees.specs.{Levels.fits_file, ReadFiles.file_in_front}
 
 -- A thing is found in front of tokens exactly where the grammar says that it stands there, and it passes a test.
@@ -27,8 +27,14 @@ abbrev pub FoundFilesAreOnly : Type 0
 FoundFilesAreOnly =
     (room : ℕ) (ts rest : List Token) (file other : FileTree) → file_in_front room ts ≡ Found file rest → ReadsFile ts other → other ≡ file
 
--- Where tokens are refused, they are no file whose types have no more levels than there is room for.
+-- Where tokens are refused, and not for want of levels, they are no file.
 abbrev pub RefusedAreNoFiles : Type 0
 RefusedAreNoFiles =
+    (room : ℕ) (ts rest : List Token) (wanted : Wanted) (file : FileTree) → file_in_front room ts ≡ Refused wanted rest → ReadsFile ts file
+    → (wanted ≡ Shallower → ⊥) → ⊥
+
+-- Where tokens are refused, they are no file whose types have no more levels than there is room for.
+abbrev pub ShallowFilesAreFound : Type 0
+ShallowFilesAreFound =
     (room : ℕ) (ts rest : List Token) (wanted : Wanted) (file : FileTree) → file_in_front room ts ≡ Refused wanted rest → ReadsFile ts file
     → fits_file room file ≡ true → ⊥
