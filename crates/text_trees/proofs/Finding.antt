@@ -56,6 +56,11 @@ pub is_there : {X : Type 0} {Reads : List Token → X → List Token → Type 0}
     → (ts rest : List Token) (x : X) → read ts ≡ Found x rest → Reads ts x rest
 is_there sound ts rest x e = (sound.at ts).found x rest e
 
+-- a reader's relation, by what it finds
+pub sound_of : {X : Type 0} {Reads : List Token → X → List Token → Type 0} {read : List Token → Reading X}
+    → ((ts rest : List Token) (x : X) → read ts ≡ Found x rest → Reads ts x rest) → Sound Reads read
+sound_of f = record { at = λ ts. record { found = λ x rest e. f ts rest x e } }
+
 module _ {X : Type 0} {Q : List Token → X → List Token → Type 0} where
   pub found_sound : {x : X} → ((ts : List Token) → Q ts x ts) → Sound Q (Found x)
   found_sound f = record { at = λ ts. finds (f ts) }
@@ -194,11 +199,11 @@ repeated_sound {X} {read} {Reads} {close} sound = then_sound ended (λ xs. recor
         (λ ts between rest x xs r q. again r q)
 
 -- what tokens begin with by whether more follows: a comma, or the closing mark, perhaps behind a comma
-abbrev MoreSays : Mark → List Token → Bool → List Token → Type 0
+abbrev pub MoreSays : Mark → List Token → Bool → List Token → Type 0
 MoreSays close ts true rest = ts ≡ Punctuation Comma ∷ rest
 MoreSays close ts false rest = (ts ≡ Punctuation close ∷ rest) ⊎ (ts ≡ Punctuation Comma ∷ Punctuation close ∷ rest)
 
-more_sound : (close : Mark) → Sound (MoreSays close) (more_in_front close)
+pub more_sound : (close : Mark) → Sound (MoreSays close) (more_in_front close)
 more_sound close =
     if_mark_sound _ (found_sound (λ ts. inl refl)) (mark_sound _ (if_mark_sound _ (found_sound (λ ts. inr refl)) (found_sound (λ ts. refl))))
 

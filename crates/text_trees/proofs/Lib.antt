@@ -10,5 +10,7 @@ pub mod DeclaredComplete
 pub mod FilesComplete
 pub mod Fitting
 pub mod Exact
+pub mod Steady
+pub mod SteadyLists
 pub mod Extending
 pub mod Enough

@@ -3,4 +3,5 @@ pub mod ReadTypes
 pub mod ReadDeclared
 pub mod ReadFiles
 pub mod Levels
+pub mod Places
 pub mod Laws
