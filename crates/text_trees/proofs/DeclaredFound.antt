@@ -53,7 +53,7 @@ path_behind-sound i = if_mark_sound _ (id_sound (λ u name j. full_path-sound i 
 path-sound : Sound ReadsPath path_in_front
 path-sound = id_sound (λ t first i. path_behind-sound i)
 
-used_name-sound : Sound ReadsUsedName used_name_in_front
+pub used_name-sound : Sound ReadsUsedName used_name_in_front
 used_name-sound = id_sound (λ t other i. if_key_sound _ (id_sound (λ u own j. found_sound (λ rest. other_name i j))) (found_sound (λ rest. same_name i)))
 
 pub use-sound : {X : Type 0} {Q : List Token → X → List Token → Type 0} (use_of : PathTree → List UsedName → X)
@@ -64,14 +64,14 @@ use-sound use_of q =
 
 -- ---- declared types
 
-label-sound : Sound ReadsLabel label_in_front
+pub label-sound : Sound ReadsLabel label_in_front
 label-sound = id_sound (λ t name i. found_sound (λ rest. label i))
 
 module _ (room : ℕ) where
-  field-sound : Sound ReadsField (field_in_front room)
+  pub field-sound : Sound ReadsField (field_in_front room)
   field-sound = id_sound (λ t name i. mark_sound _ (then_sound (type-sound room) (λ ty. found_sound (λ rest ts r. field i r))))
 
-  case-sound : Sound ReadsCase (case_in_front room)
+  pub case-sound : Sound ReadsCase (case_in_front room)
   case-sound =
       id_sound (λ t name i. if_mark_sound _ (then_sound (type-sound room) (λ ty. mark_sound _ (found_sound (λ rest ts r. case_of i r)))) (found_sound (λ rest. case_alone i)))
 

@@ -1,12 +1,14 @@
 -- Readers find exactly what is there.
-use Rattle.std.proofs.Common.{◌≡◌, ◌↔◌, refl, sym, ap, ◌∙◌, ℕ, Bool, true, false, List, []}
+use Rattle.std.proofs.Common.{◌≡◌, sym, ap, ◌∙◌, ℕ, Bool, true, false, List, ◌++◌}
+use Rattle.text_trees.specs.Places.{window, rest_of, put}
+use Rattle.text_trees.proofs.{Steady.SteadyAt, SteadyFiles.file-steady}
 use Rattle.print_grammar.specs.{Token.Token, Token.Mark.Less, Tree.FileTree}
 use Rattle.print_grammar.specs.Grammar.{ReadsType, ReadsFile, ReadsResourceMember, ReadsDeclared, ReadsMember, ReadsExtern, ReadsWorldMember, ReadsItem, ReadsNested}
 use Rattle.text_trees.specs.Reading.{Reading, Reading.Found, Reading.Refused, Wanted, Wanted.Shallower, begins}
 use Rattle.text_trees.specs.{ReadTypes.type_in_front, ReadDeclared.resource_member_in_front, ReadDeclared.declared_in_front}
 use Rattle.text_trees.specs.ReadFiles.{member_in_front, extern_in_front, world_member_in_front, item_in_front, nested_in_front, file_in_front}
 use Rattle.text_trees.specs.Levels.{fits_type, fits_resource_member, fits_declared, fits_member, fits_extern, fits_world_member, fits_item, fits_package, fits_file, levels}
-use Rattle.text_trees.specs.Laws.{FindsWhatIsRead, FindsNothingElse, FindsBefore, FilesAreRead, FoundFilesAreOnly, RefusedAreNoFiles, ShallowFilesAreFound}
+use Rattle.text_trees.specs.Laws.{FindsWhatIsRead, FindsNothingElse, FindsBefore, FilesAreRead, FoundFilesAreOnly, RefusedAreNoFiles, ShallowFilesAreFound, RefusalsStandAtPlaces, NoFileBeginsSo}
 use Rattle.text_trees.proofs.Finding.{Sound, is_there}
 use Rattle.text_trees.proofs.Fitting.{Passes, type-fits, resource_member-fits, declared-fits, member-fits, extern-fits, world_member-fits, item-fits, nested-fits, file-fits}
 use Rattle.text_trees.proofs.{TypesFound.type-sound, TypesComplete.type-complete, DeclaredFound.resource_member-sound, DeclaredFound.declared-sound, DeclaredComplete.resource_member-complete, DeclaredComplete.declared-complete}
@@ -81,3 +83,21 @@ refused_are_no_files room ts rest wanted file e r n =
 
 pub shallow_files_are_found : ShallowFilesAreFound
 shallow_files_are_found room ts rest wanted file e r h = let found = file-complete room r h in absurd (cc (e, found))
+
+-- ---- places
+
+-- a steady reader that refuses does so at a place
+refused_at : {X : Type 0} {read : List Token → Reading X} {ts rest : List Token} {wanted : Wanted} (r : Reading X) → SteadyAt read ts r → r ≡ Refused wanted rest
+    → (front : List Token) × (ts ≡ front ++ rest) × ((other : List Token) → window other ≡ window rest → read (front ++ other) ≡ Refused wanted other)
+refused_at {rest = rest} (Refused w after) s e =
+    let same : after ≡ rest = cc e in
+    (s.front, s.before ∙ ap (λ x. s.front ++ x) same, λ other h. s.alike other (h ∙ ap window (sym same)) ∙ ap (λ x. Refused x other) (cc e))
+refused_at (Found x after) s e = absurd (cc e)
+
+pub refusals_stand_at_places : RefusalsStandAtPlaces
+refusals_stand_at_places room ts rest wanted e = refused_at (file_in_front room ts) ((file-steady room).at ts) e
+
+pub no_file_begins_so : NoFileBeginsSo
+no_file_begins_so room ts rest wanted e n =
+    let (front, before, alike) = refusals_stand_at_places room ts rest wanted e in
+    (front, before, λ other file h r. refused_are_no_files room (front ++ other) other wanted file (alike other h) r n)

@@ -12,5 +12,6 @@ pub mod Fitting
 pub mod Exact
 pub mod Steady
 pub mod SteadyLists
+pub mod SteadyFiles
 pub mod Extending
 pub mod Enough

@@ -48,7 +48,7 @@ module _ {read : List Token → Reading TypeTree} (sound : Sound ReadsType read)
       (if_key_sound _ (payload-sound (λ after. future) (λ between after ty r. future_of r))
       (if_key_sound _ (payload-sound (λ after. stream) (λ between after ty r. stream_of r)) refused_sound))))))))
 
-by-sound : {form : List Token → Reading TypeTree} → Sound ReadsType form → Sound ReadsType (type_by form)
+pub by-sound : {form : List Token → Reading TypeTree} → Sound ReadsType form → Sound ReadsType (type_by form)
 by-sound {form} sound = record { at = go }
   where
     go : (ts : List Token) → Finds (type_by form ts) (ReadsType ts)
@@ -59,7 +59,7 @@ by-sound {form} sound = record { at = go }
     go (Key keyword ∷ ts) = sound.at _
     go _ = refuses
 
-level-sound : (room : ℕ) → Sound ReadsType (level_in_front room)
+pub level-sound : (room : ℕ) → Sound ReadsType (level_in_front room)
 unfolding level_in_front
 level-sound zero = refused_sound
 level-sound (suc room) = form-sound (by-sound (level-sound room))
@@ -71,7 +71,7 @@ type-sound room = by-sound (level-sound room)
 -- ---- signatures
 
 module _ (room : ℕ) where
-  param-sound : Sound ReadsParam (param_in_front room)
+  pub param-sound : Sound ReadsParam (param_in_front room)
   param-sound = id_sound (λ t name i. mark_sound _ (then_sound (type-sound room) (λ ty. found_sound (λ rest ts r. param i r))))
 
   pub params-sound : Sound ReadsParams (params_in_front room)

@@ -1,8 +1,8 @@
 -- What the laws of readers say: what they find is what the grammar says is there.
-use Rattle.std.specs.Prelude.{◌≡◌, ◌↔◌, Bool, true, List, [], ℕ}
+use Rattle.std.specs.Prelude.{◌≡◌, ◌↔◌, Bool, true, List, [], ◌++◌, ℕ}
 use Rattle.print_grammar.specs.{Token.Token, Tree.FileTree, Grammar.ReadsFile}
 use Rattle.text_trees.specs.Reading.{Reading, Reading.Found, Reading.Refused, Wanted, Wanted.Shallower}
-use Rattle.text_trees.specs.{Levels.fits_file, ReadFiles.file_in_front}
+use Rattle.text_trees.specs.{Levels.fits_file, Places.window, ReadFiles.file_in_front}
 
 -- A thing is found in front of tokens exactly where the grammar says that it stands there, and it passes a test.
 abbrev pub FindsWhatIsRead : {X : Type 0} → (List Token → X → List Token → Type 0) → (X → Bool) → (List Token → Reading X) → Type 0
@@ -38,3 +38,19 @@ abbrev pub ShallowFilesAreFound : Type 0
 ShallowFilesAreFound =
     (room : ℕ) (ts rest : List Token) (wanted : Wanted) (file : FileTree) → file_in_front room ts ≡ Refused wanted rest → ReadsFile ts file
     → fits_file room file ≡ true → ⊥
+
+-- Tokens are refused at a place behind some of them, and so is, for the same reason and at the same place, whatever begins with those and then has the
+-- same first token, or `@` and the same token behind it.
+abbrev pub RefusalsStandAtPlaces : Type 0
+RefusalsStandAtPlaces =
+    (room : ℕ) (ts rest : List Token) (wanted : Wanted) → file_in_front room ts ≡ Refused wanted rest
+    → (front : List Token) × (ts ≡ front ++ rest)
+    × ((other : List Token) → window other ≡ window rest → file_in_front room (front ++ other) ≡ Refused wanted other)
+
+-- Where tokens are refused, and not for want of levels, no file begins with what stands before the place and then the first token there, or `@` and the
+-- token behind it.
+abbrev pub NoFileBeginsSo : Type 0
+NoFileBeginsSo =
+    (room : ℕ) (ts rest : List Token) (wanted : Wanted) → file_in_front room ts ≡ Refused wanted rest → (wanted ≡ Shallower → ⊥)
+    → (front : List Token) × (ts ≡ front ++ rest)
+    × ((other : List Token) (file : FileTree) → window other ≡ window rest → ReadsFile (front ++ other) file → ⊥)

@@ -7,7 +7,7 @@ use Rattle.print_grammar.specs.Tree.{Gates, Prefix, PathTree, PathTree.Local, Me
 use Rattle.print_grammar.specs.Tree.{MemberTree.UseMember, MemberTree.TypeMember, MemberTree.FunctionMember, ItemTree.InterfaceItem, ItemTree.WorldItem}
 use Rattle.print_grammar.specs.Tree.{ExternTree.Path, ExternTree.NamedFunction, ExternTree.NamedPath, ExternTree.NamedInterface}
 use Rattle.print_grammar.specs.Tree.WorldMember.{WorldUse, WorldType, WorldImport, WorldExport}
-use Rattle.text_trees.specs.Reading.{Wanted, Reading, Reading.Found, Reading.Refused, then_read, made, begins_key, behind_mark, if_mark, behind_key, if_key, if_id, id_in_front, until, repeated}
+use Rattle.text_trees.specs.Reading.{Wanted, Reading, Reading.Found, Reading.Refused, then_read, made, begins, begins_key, behind_mark, if_mark, behind_key, if_key, if_id, id_in_front, until, repeated}
 use Rattle.text_trees.specs.ReadTypes.{begins_signature}
 use Rattle.text_trees.specs.ReadDeclared.{at_version_in_front, gates_in_front, prefix_in_front, full_path_behind, path_behind, use_behind, function_behind, declared_in_front, named}
 
@@ -36,10 +36,7 @@ path_ended extern_of path = behind_mark Semi (Found (extern_of path))
 -- what follows a name, a colon and another name in a world: the rest of a path that begins with the first, or with the second
 abbrev pub extern_path_behind : Text → Text → List Token → Reading ExternTree
 extern_path_behind first second ts =
-    if begins_slash ts then then_read (full_path_behind first second ts) (path_ended Path) else then_read (path_behind second ts) (path_ended (NamedPath first))
-  where
-    begins_slash : List Token → Bool
-    begins_slash ts = Rattle.text_trees.specs.Reading.begins Slash ts
+    if begins Slash ts then then_read (full_path_behind first second ts) (path_ended Path) else then_read (path_behind second ts) (path_ended (NamedPath first))
 
 -- what follows a name and a colon in a world: a function, an interface or a path
 abbrev pub extern_behind : ℕ → Text → List Token → Reading ExternTree

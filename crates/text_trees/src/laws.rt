@@ -7,7 +7,7 @@ ghost use Rattle.text_trees.specs.{Reading.begins, ReadTypes.type_in_front};
 ghost use Rattle.text_trees.specs.ReadDeclared.{declared_in_front, resource_member_in_front};
 ghost use Rattle.text_trees.specs.ReadFiles.{extern_in_front, item_in_front, member_in_front, nested_in_front, world_member_in_front};
 ghost use Rattle.text_trees.specs.Levels.{fits_declared, fits_extern, fits_item, fits_member, fits_package, fits_resource_member, fits_type, fits_world_member};
-ghost use Rattle.text_trees.specs.Laws.{FilesAreRead, FindsBefore, FindsNothingElse, FindsWhatIsRead, FoundFilesAreOnly, RefusedAreNoFiles, ShallowFilesAreFound};
+ghost use Rattle.text_trees.specs.Laws.{FilesAreRead, FindsBefore, FindsNothingElse, FindsWhatIsRead, FoundFilesAreOnly, NoFileBeginsSo, RefusalsStandAtPlaces, RefusedAreNoFiles, ShallowFilesAreFound};
 
 /// A type that is found is there and has at most so many levels, and one that is there is found, where no `<` goes on with it.
 pub fn types_are_read()
@@ -40,4 +40,10 @@ pub fn files_are_read()
     ensures only { FoundFilesAreOnly }
     ensures refused { RefusedAreNoFiles }
     ensures shallow { ShallowFilesAreFound }
+{}
+
+/// Tokens are refused at a place where no file goes on as they do.
+pub fn refusals_stand()
+    ensures places { RefusalsStandAtPlaces }
+    ensures begins { NoFileBeginsSo }
 {}

@@ -1,4 +1,3 @@
-use Rattle.text_trees.proofs.SteadyLists.{Shrinks}
 use Rattle.text_trees.proofs.Exact.{files_are_read, found_files_are_only, refused_are_no_files, shallow_files_are_found}
 use Rattle.text_trees.proofs.laws.files_are_read.Goals as goal
 
