@@ -15,3 +15,4 @@ pub mod SteadyLists
 pub mod SteadyFiles
 pub mod Extending
 pub mod Enough
+mod ReaderExamples
