@@ -1,0 +1,8 @@
+-- Runs of a machine over bytes, parts between marks, and the first mark.
+pub mod Runs
+-- A scan of fragments is what the grammar says of them.
+pub mod WordScans
+-- What stands between two dots of a version, byte by byte.
+pub mod PartScans
+-- A scan of digits and versions is what the grammar says of them.
+pub mod NumberScans
