@@ -6,3 +6,9 @@ pub mod WordScans
 pub mod PartScans
 -- A scan of digits and versions is what the grammar says of them.
 pub mod NumberScans
+-- A scan of strings is what the grammar says of them.
+pub mod QuoteScans
+-- A scan of marks is what the grammar says of them.
+pub mod MarkScans
+-- A scan finds the longest token.
+pub mod TokenScans
