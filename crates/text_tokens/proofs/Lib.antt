@@ -12,3 +12,11 @@ pub mod QuoteScans
 pub mod MarkScans
 -- A scan finds the longest token.
 pub mod TokenScans
+-- The keyword of a word.
+pub mod KeywordFacts
+-- Blanks and comments at a place of a text.
+pub mod CommentFacts
+-- What a token is, by its text.
+pub mod KindFacts
+-- The loop of a scan: where the longest token ends.
+pub mod EndFacts

@@ -137,7 +137,7 @@ dead_number_stays (InBuild Letters) c h = absurd (cc h)
 dead_number_stays (InBuild Bad) c h = dead_build c
 dead_number_stays Nowhere c h = refl
 
-dead_not_ok : (s : State) → is_dead s ≡ true → is_ok s ≡ false
+pub dead_not_ok : (s : State) → is_dead s ≡ true → is_ok s ≡ false
 dead_not_ok Start h = refl
 dead_not_ok Percent h = refl
 dead_not_ok (InWord word) h = dead_word_not_ok word h
@@ -249,7 +249,7 @@ none_if : {X : Type 0} (o : Option X) → is_some o ≡ false → o ≡ None
 none_if None h = refl
 none_if (Some x) h = absurd (cc h)
 
-some_if : {X : Type 0} (o : Option X) → is_some o ≡ true → (x : X) × (o ≡ Some x)
+pub some_if : {X : Type 0} (o : Option X) → is_some o ≡ true → (x : X) × (o ≡ Some x)
 some_if None h = absurd (cc h)
 some_if (Some x) h = (x, refl)
 

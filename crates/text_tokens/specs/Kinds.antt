@@ -98,6 +98,11 @@ abbrev pub entry_in : List (Bor Text × Keyword) → Text → Option Keyword
 entry_in [] text = None
 entry_in (entry ∷ entries) text = if text_eq entry.0.now text then Some entry.1 else entry_in entries text
 
+-- the same, of the grammar's table
+abbrev pub entry_here : List (Text × keywords) → Text → Option Keyword
+entry_here [] text = None
+entry_here (entry ∷ entries) text = if text_eq entry.0 text then Some (keyword_here entry.1) else entry_here entries text
+
 -- what the mark is that begins with this byte, if one does
 abbrev pub kind_with : List (Text × tokens) → ℕ → Option Kind
 kind_with [] c = None

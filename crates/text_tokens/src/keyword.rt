@@ -1,9 +1,9 @@
 //! The keywords of WIT text.
 
-ghost use Rattle.std.specs.Prelude.{◌≡◌, ◌∷◌, ℕ, List, Option, option_map};
+ghost use Rattle.std.specs.Prelude.{◌≡◌, ◌∷◌, ℕ, List, option_map};
 ghost use Rattle.wit_model.specs.Text.{text_eq};
-ghost use Rattle.print_grammar.specs.Keyword.{entry_of, keyword_of as keyword_of_lem, keyword_texts};
-ghost use Rattle.text_tokens.specs.Kinds.{entry_in, keyword_here};
+ghost use Rattle.print_grammar.specs.Keyword.{keyword_of as keyword_of_lem, keyword_texts};
+ghost use Rattle.text_tokens.specs.Kinds.{entry_here, entry_in, keyword_here};
 
 /// The primitive types.
 #[derive(Clone, Copy, Debug, PartialEq, Eq)]
@@ -64,7 +64,7 @@ pub enum Keyword {
 
 /// The keywords that begin with this lower-case letter. No byte but these and `_` begins one.
 fn keywords_with(first: u8) -> &'static [(&'static str, Keyword)]
-    ensures { (rest : List ℕ) → option_map keyword_here (entry_of keyword_texts (first ∷ rest)) ≡ entry_in result.now (first ∷ rest) }
+    ensures { (rest : List ℕ) → entry_in result.now (first ∷ rest) ≡ entry_here keyword_texts (first ∷ rest) }
 {
     match first {
         b'a' => &[("as", Keyword::As), ("async", Keyword::Async)],

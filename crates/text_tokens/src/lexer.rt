@@ -1,6 +1,7 @@
 //! The tokens of a text, each the longest that begins where it stands.
 
 ghost use Rattle.std.specs.Prelude.{◌≡◌, ◌≤◌, ◌<◌, ◌^◌, ◌∷◌, [], ℕ, List, length, drop, IfOk, IfErr, Some};
+ghost use Rattle.semver.specs.Order.{is_numeric as is_numeric_lem};
 ghost use Rattle.print_grammar.specs.Keyword.{keyword_of as keyword_of_lem};
 ghost use Rattle.print_grammar.specs.Token.{Token as GrammarToken, after_comment, begins_comment as begins_comment_lem, found, front_of_text, is_blank as is_blank_lem, longest, mark_of, mark_texts, number_token, spelled, word_token};
 ghost use Rattle.text_tokens.specs.Kinds.{kind_here};
@@ -56,10 +57,16 @@ fn word_kind(text: &[u8]) -> Kind
     }
 }
 
+fn is_numeric(text: &[u8]) -> bool
+    ensures { result ≡ is_numeric_lem text.now }
+{
+    text.iter().all(|byte| byte.is_ascii_digit())
+}
+
 fn number_kind(text: &[u8]) -> Kind
     ensures { (token : GrammarToken) → number_token text.now ≡ Some token → result ≡ kind_here token }
 {
-    if text.iter().all(|byte| byte.is_ascii_digit()) {
+    if is_numeric(text) {
         Kind::Digits
     } else {
         Kind::Version
@@ -153,7 +160,7 @@ pub fn tokens(alloc: Global, text: &str) -> Result<Vec<Token>, TokenError>
     }
     let mut found = Vec::new(alloc);
     let mut at: usize = 0;
-    loop {
+    'places: loop {
         match front_at(bytes, at) {
             Front::Ended => return Ok(found),
             Front::Skipped(next) => at = next,
