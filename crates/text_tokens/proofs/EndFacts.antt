@@ -1,6 +1,6 @@
 -- The loop of a scan: where the longest token ends.
-use Rattle.std.proofs.Common.{rules as std_rules, ◌≡◌, refl, sym, ap, ◌∙◌, ℕ, ◌+◌, ◌<◌, ◌≤◌, suc, Bool, true, false, if◌then◌else◌, List, [], ◌∷◌, length, Option, Some, None, take, drop, get_or, arith}
-use Rattle.std.specs.{Option.option_map, Prelude.is_some}
+use Rattle.std.proofs.Common.{rules as std_rules, ◌≡◌, refl, sym, ap, ◌∙◌, ℕ, ◌+◌, ◌<◌, ◌≤◌, suc, Bool, true, false, if◌then◌else◌, List, [], ◌∷◌, length, Option, Some, None, take, drop, get_or, arith, length-drop}
+use Rattle.std.specs.{Option.option_map, Prelude.IfSome}
 use Rattle.std.proofs.lemmas.List.{drop_all}
 use Rattle.text_tokens.specs.declared.state.State.{State}
 use Rattle.text_tokens.specs.declared.state.State.TheVariants.{Start}
@@ -32,14 +32,18 @@ kept_first bytes from = record { kept = or_none (ends_at from (reach Start (drop
 none_some : (x : ℕ) → Some x ≡ None → ⊥
 none_some x e = cc e
 
+-- no byte more, if it passes
+abbrev some_zero : Bool → Option ℕ
+some_zero b = if b then Some 0 else None
+
 ok_reaches : (s : State) (cs : List ℕ) → is_ok s ≡ true → reach s cs ≡ None → ⊥
-ok_reaches s [] h e = none_some 0 (ap (λ b. if b then Some 0 else None) (sym h) ∙ e)
+ok_reaches s [] h e = none_some 0 (ap some_zero (sym h) ∙ e)
 ok_reaches s (c ∷ cs) h e = go (is_dead s) refl (reach (step s c) cs) e
   where
-    go : (d : Bool) → is_dead s ≡ d → (o : Option ℕ) → (if d then None else elim o [ | Some n ↦ Some (suc n) | None ↦ if is_ok s then Some 0 else None ]) ≡ None → ⊥
+    go : (d : Bool) → is_dead s ≡ d → (o : Option ℕ) → (if d then None else elim o [ | Some n ↦ Some (suc n) | None ↦ some_zero (is_ok s) ]) ≡ None → ⊥
     go true f o g = let x = dead_not_ok s f in cc (x, h)
     go false f (Some n) g = none_some (suc n) g
-    go false f None g = none_some 0 (ap (λ b. if b then Some 0 else None) (sym h) ∙ g)
+    go false f None g = none_some 0 (ap some_zero (sym h) ∙ g)
 
 -- a byte more
 step_on : (s : State) (at c : ℕ) (cs : List ℕ) (best : Option ℕ) → is_dead s ≡ false → (is_ok s ≡ true → best ≡ Some at)
@@ -112,3 +116,15 @@ reach_some (c ∷ cs) n e = go (reach (step Start c) cs) e
     go : (o : Option ℕ) → (elim o [ | Some m ↦ Some (suc m) | None ↦ None ]) ≡ Some n → 0 < n
     go (Some m) g = let z : suc m ≡ n = cc in omega arith
     go None g = absurd cc
+
+-- Where a token ends: further on, and within the text.
+pub ends_within : (bytes : List ℕ) (from : ℕ) (o : Option ℕ) → from ≤ length bytes → o ≡ ends_at from (reach Start (drop from bytes))
+    → (IfSome o (λ e. from < e)) × (IfSome o (λ e. e ≤ length bytes))
+ends_within bytes from o h e = rw e (go (reach Start (drop from bytes)) refl)
+  where
+    go : (r : Option ℕ) → reach Start (drop from bytes) ≡ r → (IfSome (ends_at from r) (λ e. from < e)) × (IfSome (ends_at from r) (λ e. e ≤ length bytes))
+    go None f = (tt, tt)
+    go (Some n) f =
+        let more = reach_some (drop from bytes) n f in
+        let less = reach_within (drop from bytes) Start n f in
+        (omega arith, omega (arith, length-drop from bytes))

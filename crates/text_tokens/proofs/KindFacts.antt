@@ -1,14 +1,14 @@
 -- What a token is, by its text.
-use Rattle.std.proofs.Common.{rules as std_rules, ◌≡◌, refl, sym, ap, ◌∙◌, ℕ, Bool, true, false, ◌==◌, if◌then◌else◌, List, [], ◌∷◌, Option, Some, None, arith}
-use Rattle.std.specs.{Option.option_map, Char.is_ascii_alphabetic, Char.is_ascii_digit, Str.Parse.digits_value}
+use Rattle.std.proofs.Common.{rules as std_rules, ◌≡◌, refl, sym, ap, ◌∙◌, ℕ, Bool, true, false, ◌==◌, if◌then◌else◌, List, [], ◌∷◌, Option, Some, None, drop, subst, arith}
+use Rattle.std.specs.{List.slice_get, Option.option_map, Char.is_ascii_alphabetic, Char.is_ascii_digit, Str.Parse.digits_value}
 use Rattle.semver.specs.Order.{is_numeric}
 use Rattle.wit_model.specs.Names.{is_label, is_numeral, is_version_of}
-use Rattle.print_grammar.specs.Keyword.{keyword_of}
+use Rattle.print_grammar.specs.Keyword.{Keyword as keywords, keyword_of}
 use Rattle.print_grammar.specs.Token.Token.{Word, Escaped, Key, VersionText, Quoted}
 use Rattle.print_grammar.specs.Token.{Token, StringState as states, mark_of, mark_texts, number_token, spelled, string_characters, word_token}
-use Rattle.text_tokens.specs.declared.token.Kind.{Kind}
+use Rattle.text_tokens.specs.declared.keyword.Keyword.{Keyword}
 use Rattle.text_tokens.specs.declared.token.Kind.TheVariants as kind
-use Rattle.text_tokens.specs.Kinds.{kind_here}
+use Rattle.text_tokens.specs.Kinds.{kind_here, keyword_here}
 
 -- a token of a kind of its own, if there is one
 of_if : (b : Bool) (x t : Token) → (if b then Some x else None) ≡ Some t → kind_here x ≡ kind_here t
@@ -83,3 +83,29 @@ quoted_kind c cs t a d p q e = go (string_characters states.Between cs) (sym (by
 pub mark_spelled : (c : ℕ) (cs : List ℕ) (t : Token) → is_ascii_alphabetic c ≡ false → is_ascii_digit c ≡ false → (c == 37) ≡ false → (c == 34) ≡ false → spelled (c ∷ cs) ≡ Some t
     → mark_of mark_texts (c ∷ cs) ≡ Some t
 mark_spelled c cs t a d p q e = sym (by_tests c cs false false false false (record { letter = a; digit = d; percent = p; quote = q })) ∙ e
+
+-- ---- words
+
+pub word_key : (text : List ℕ) (k : Keyword) → Some k ≡ option_map keyword_here (keyword_of text) → kind.Key k ≡ kind_here (word_token text (keyword_of text))
+word_key text k e = go (keyword_of text) e
+  where
+    go : (o : Option keywords) → Some k ≡ option_map keyword_here o → kind.Key k ≡ kind_here (word_token text o)
+    go None f = absurd cc
+    go (Some w) f = let x : k ≡ keyword_here w = cc in ap kind.Key x
+
+pub word_plain : (text : List ℕ) → None ≡ option_map keyword_here (keyword_of text) → kind.Word ≡ kind_here (word_token text (keyword_of text))
+word_plain text e = go (keyword_of text) e
+  where
+    go : (o : Option keywords) → None ≡ option_map keyword_here o → kind.Word ≡ kind_here (word_token text o)
+    go None f = refl
+    go (Some w) f = absurd cc
+
+-- a text whose first byte is known
+pub first_and_rest : (text : List ℕ) (first : ℕ) → slice_get text 0 ≡ Some first → text ≡ first ∷ drop 1 text
+first_and_rest text first e = search std_rules
+
+pub word_kind_at : (text : List ℕ) (first : ℕ) (t : Token) → slice_get text 0 ≡ Some first → is_ascii_alphabetic first ≡ true → spelled text ≡ Some t
+    → kind_here (word_token text (keyword_of text)) ≡ kind_here t
+word_kind_at text first t at letter e =
+    let P : List ℕ → Type 0 = λ x. spelled x ≡ Some t → kind_here (word_token x (keyword_of x)) ≡ kind_here t in
+    subst P (sym (first_and_rest text first at)) (word_kind first (drop 1 text) t letter) e

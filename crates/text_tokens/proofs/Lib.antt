@@ -20,3 +20,5 @@ pub mod CommentFacts
 pub mod KindFacts
 -- The loop of a scan: where the longest token ends.
 pub mod EndFacts
+-- Tokens with their places: more of them, and what a text with a place where none begins is.
+pub mod PlaceFacts

@@ -1,6 +1,6 @@
 //! Tokens, byte by byte: the longest one that begins at a place.
 
-ghost use Rattle.std.specs.Prelude.{◌≡◌, ◌+◌, ◌<◌, ◌≤◌, length, drop, option_map, Option, Some, is_some, true, false, if◌then◌else◌};
+ghost use Rattle.std.specs.Prelude.{◌≡◌, ◌+◌, ◌<◌, ◌≤◌, length, drop, option_map, Option, Some, IfSome, is_some, true, false, if◌then◌else◌};
 ghost use Rattle.print_grammar.specs.Token.{mark_texts};
 ghost use Rattle.text_tokens.specs.Kinds.{kind_with};
 ghost use Rattle.text_tokens.specs.States.{after_quote, first_step as first_step_lem, is_dead as is_dead_lem, is_ok as is_ok_lem, reach, step as step_lem};
@@ -158,7 +158,9 @@ fn better(state: State, at: usize, best: Option<usize>) -> Option<usize>
 /// Where the longest token that begins at a place ends, if one begins there. Takes time linear in the bytes that it looks at.
 pub(crate) fn token_end(bytes: &[u8], from: usize) -> Option<usize>
     requires { from ≤ length bytes.now }
-    ensures { result ≡ option_map (λ n. n + from) (reach State.Start (drop from bytes.now)) }
+    ensures longest { result ≡ option_map (λ n. n + from) (reach State.Start (drop from bytes.now)) }
+    ensures further { IfSome result (λ end. from < end) }
+    ensures within { IfSome result (λ end. end ≤ length bytes.now) }
 {
     let mut state = State::Start;
     let mut best: Option<usize> = None;
