@@ -40,7 +40,7 @@ ok_reaches : (s : State) (cs : List ℕ) → is_ok s ≡ true → reach s cs ≡
 ok_reaches s [] h e = none_some 0 (ap some_zero (sym h) ∙ e)
 ok_reaches s (c ∷ cs) h e = go (is_dead s) refl (reach (step s c) cs) e
   where
-    go : (d : Bool) → is_dead s ≡ d → (o : Option ℕ) → (if d then None else elim o [ | Some n ↦ Some (suc n) | None ↦ some_zero (is_ok s) ]) ≡ None → ⊥
+    go : (d : Bool) → is_dead s ≡ d → (o : Option ℕ) → (if d then None else elim o [ Some n ↦ Some (suc n) | None ↦ some_zero (is_ok s) ]) ≡ None → ⊥
     go true f o g = let x = dead_not_ok s f in cc (x, h)
     go false f (Some n) g = none_some (suc n) g
     go false f None g = none_some 0 (ap some_zero (sym h) ∙ g)
@@ -50,7 +50,7 @@ step_on : (s : State) (at c : ℕ) (cs : List ℕ) (best : Option ℕ) → is_de
     → or_else (ends_at (at + 1) (reach (step s c) cs)) (if is_ok (step s c) then Some (at + 1) else best) ≡ or_else (ends_at at (reach s (c ∷ cs))) best
 step_on s at c cs best alive here =
     go (reach (step s c) cs) refl
-    ∙ ap (λ d. or_else (ends_at at (if d then None else elim (reach (step s c) cs) [ | Some n ↦ Some (suc n) | None ↦ if is_ok s then Some 0 else None ])) best) (sym alive)
+    ∙ ap (λ d. or_else (ends_at at (if d then None else elim (reach (step s c) cs) [ Some n ↦ Some (suc n) | None ↦ if is_ok s then Some 0 else None ])) best) (sym alive)
   where
     after : (b : Bool) → is_ok (step s c) ≡ b → reach (step s c) cs ≡ None → (if b then Some (at + 1) else best) ≡ best
     after true e f = absurd (ok_reaches (step s c) cs e f)
@@ -62,7 +62,7 @@ step_on s at c cs best alive here =
 
     go : (o : Option ℕ) → reach (step s c) cs ≡ o
         → or_else (ends_at (at + 1) o) (if is_ok (step s c) then Some (at + 1) else best)
-          ≡ or_else (ends_at at (elim o [ | Some n ↦ Some (suc n) | None ↦ if is_ok s then Some 0 else None ])) best
+        ≡ or_else (ends_at at (elim o [ Some n ↦ Some (suc n) | None ↦ if is_ok s then Some 0 else None ])) best
     go (Some n) e = ap Some (omega arith)
     go None e = after (is_ok (step s c)) refl e ∙ before (is_ok s) refl
 
@@ -104,7 +104,7 @@ reach_within (c ∷ cs) s n e = go (is_dead s) (reach (step s c) cs) (reach_with
     here false f = absurd cc
 
     go : (d : Bool) (o : Option ℕ) → ((m : ℕ) → reach (step s c) cs ≡ Some m → m ≤ length cs) → reach (step s c) cs ≡ o
-        → (if d then None else elim o [ | Some m ↦ Some (suc m) | None ↦ if is_ok s then Some 0 else None ]) ≡ Some n → n ≤ length (c ∷ cs)
+        → (if d then None else elim o [ Some m ↦ Some (suc m) | None ↦ if is_ok s then Some 0 else None ]) ≡ Some n → n ≤ length (c ∷ cs)
     go true o k f g = absurd cc
     go false (Some m) k f g = let z : suc m ≡ n = cc in let w = k m f in omega arith
     go false None k f g = here (is_ok s) g
@@ -113,7 +113,7 @@ pub reach_some : (cs : List ℕ) (n : ℕ) → reach Start cs ≡ Some n → 0 <
 reach_some [] n e = absurd cc
 reach_some (c ∷ cs) n e = go (reach (step Start c) cs) e
   where
-    go : (o : Option ℕ) → (elim o [ | Some m ↦ Some (suc m) | None ↦ None ]) ≡ Some n → 0 < n
+    go : (o : Option ℕ) → (elim o [ Some m ↦ Some (suc m) | None ↦ None ]) ≡ Some n → 0 < n
     go (Some m) g = let z : suc m ≡ n = cc in omega arith
     go None g = absurd cc
 

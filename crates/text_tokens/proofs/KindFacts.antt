@@ -19,7 +19,7 @@ pub digits_kind : (text : List ℕ) (t : Token) → is_numeric text ≡ true →
 digits_kind text t h e = go (is_numeric text) h e
   where
     go : (b : Bool) → b ≡ true
-        → (elim b [ | true ↦ Some (Token.Digits (digits_value 10 text)) | false ↦ (if is_version_of is_numeral text then Some (VersionText text) else None) ]) ≡ Some t
+        → (elim b [ true ↦ Some (Token.Digits (digits_value 10 text)) | false ↦ (if is_version_of is_numeral text then Some (VersionText text) else None) ]) ≡ Some t
         → kind.Digits ≡ kind_here t
     go true f g = let x : Token.Digits (digits_value 10 text) ≡ t = cc in ap kind_here x
     go false f g = absurd (cc f)
@@ -28,7 +28,7 @@ pub version_kind : (text : List ℕ) (t : Token) → is_numeric text ≡ false �
 version_kind text t h e = go (is_numeric text) h e
   where
     go : (b : Bool) → b ≡ false
-        → (elim b [ | true ↦ Some (Token.Digits (digits_value 10 text)) | false ↦ (if is_version_of is_numeral text then Some (VersionText text) else None) ]) ≡ Some t
+        → (elim b [ true ↦ Some (Token.Digits (digits_value 10 text)) | false ↦ (if is_version_of is_numeral text then Some (VersionText text) else None) ]) ≡ Some t
         → kind.Version ≡ kind_here t
     go true f g = absurd (cc f)
     go false f g = of_if (is_version_of is_numeral text) (VersionText text) t g

@@ -22,3 +22,5 @@ pub mod KindFacts
 pub mod EndFacts
 -- Tokens with their places: more of them, and what a text with a place where none begins is.
 pub mod PlaceFacts
+-- A text has its tokens at one list of places, and one first byte at most at which none begins.
+pub mod OneAnswer

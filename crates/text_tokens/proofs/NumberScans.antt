@@ -113,7 +113,7 @@ core-run (c ∷ cs) d p h = go (c == 46) refl (core-run cs d (p ++ c ∷ []) h) 
   where
     dotted : (f : Bool) → is_numeral p ≡ f → (r : Bool) → nat_lt d 2 ≡ r → (d + 1 ≤ 2 → Says (d + 1) [] cs)
         → (three d (p ∷ onto [] (parts cs)) && (f && list_all is_numeral (onto [] (parts cs))))
-          ≡ core_is_ok (run core_step (if f && r then core (d + 1) Empty else core d Bad) cs)
+        ≡ core_is_ok (run core_step (if f && r then core (d + 1) Empty else core d Bad) cs)
     dotted true e true r k = ap (λ b. b && list_all is_numeral (onto [] (parts cs))) (three_after d p (onto [] (parts cs))) ∙ k (grind (arith, nat_tests))
     dotted true e false r k =
         ap (λ b. b && list_all is_numeral (onto [] (parts cs))) (too_many d p (onto [] (parts cs)) (grind (arith, nat_tests)) (some_parts [] (parts cs)))
@@ -151,7 +151,7 @@ number_scan : (text : List ℕ) → is_version_number is_numeral text ≡ releas
 number_scan text =
     cut-front (is_version_core is_numeral) (λ t. core_is_ok (run core_step core_start t)) (is_marked_part is_pre_release) text core_scan (cut 45 text)
     ∙ cut-run release_step release_is_ok core_step core_is_ok InCore (InPre Empty) Neither 45 (is_marked_part is_pre_release)
-      (λ k. refl) no_dash dash pre-run (λ cs. ap release_is_ok (neither-run cs)) core_start text
+    (λ k. refl) no_dash dash pre-run (λ cs. ap release_is_ok (neither-run cs)) core_start text
 
 plus : (r : Release) (c : ℕ) → (c == 43) ≡ true → number_step (InRelease r) c ≡ (if release_is_ok r then InBuild Empty else Nowhere)
 plus r c e = rw e refl
@@ -163,7 +163,7 @@ version_scan : (text : List ℕ) → is_version_of is_numeral text ≡ version_i
 version_scan text =
     cut-front (is_version_number is_numeral) (λ t. release_is_ok (run release_step (InCore core_start) t)) (is_marked_part is_build) text number_scan (cut 43 text)
     ∙ cut-run number_step version_is_ok release_step release_is_ok InRelease (InBuild Empty) Nowhere 43 (is_marked_part is_build)
-      (λ r. refl) no_plus plus build-run (λ cs. ap version_is_ok (nowhere-run cs)) (InCore core_start) text
+    (λ r. refl) no_plus plus build-run (λ cs. ap version_is_ok (nowhere-run cs)) (InCore core_start) text
 
 -- ---- digits
 

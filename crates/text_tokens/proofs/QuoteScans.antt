@@ -40,9 +40,13 @@ string-run [] q = refl
 string-run (c ∷ cs) q = go (string_step (quoting q) c) (string-run cs)
   where
     go : (x : steps) → ((p : Quote) → Says cs p)
-        → is_some (elim x [ | steps.Refused ↦ None | steps.Closed ↦ only_at_end cs | steps.Goes next ↦ string_characters next cs
-                          | steps.Reads y ↦ option_map (λ xs. y ∷ xs) (string_characters states.Between cs) ])
-          ≡ is_ok (run step (after_quote (state_after x)) cs)
+        → is_some (elim x [
+          | steps.Refused ↦ None
+          | steps.Closed ↦ only_at_end cs
+          | steps.Goes next ↦ string_characters next cs
+          | steps.Reads y ↦ option_map (λ xs. y ∷ xs) (string_characters states.Between cs)
+        ])
+        ≡ is_ok (run step (after_quote (state_after x)) cs)
     go steps.Refused k = sym (dead-run cs)
     go steps.Closed k = closed cs
     go (steps.Goes next) k = ap (λ s. is_some (string_characters s cs)) (sym (same_state next)) ∙ k (quote_in next)

@@ -95,7 +95,7 @@ cut-run {S} {A} step ok step_front ok_front front start dead m back ends goes ma
 
     further : (o : Option (List ℕ × List ℕ))
         → option_map_or (λ (p : List ℕ × List ℕ). ok_front (run step_front a p.0) && back p.1) (option_map (λ (p : List ℕ × List ℕ). (c ∷ p.0, p.1)) o) (ok_front (run step_front a (c ∷ cs)))
-          ≡ option_map_or (λ (p : List ℕ × List ℕ). ok_front (run step_front (step_front a c) p.0) && back p.1) o (ok_front (run step_front (step_front a c) cs))
+        ≡ option_map_or (λ (p : List ℕ × List ℕ). ok_front (run step_front (step_front a c) p.0) && back p.1) o (ok_front (run step_front (step_front a c) cs))
     further None = refl
     further (Some p) = refl
 

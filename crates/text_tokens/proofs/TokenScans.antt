@@ -190,8 +190,8 @@ number_some : (text : List ℕ) → is_some (number_token text) ≡ (is_numeric 
 number_some text = go (is_numeric text)
   where
     go : (b : Bool)
-        → is_some (elim b [ | true ↦ Some (DigitsToken (digits_value 10 text)) | false ↦ (if is_version_of is_numeral text then Some (VersionText text) else None) ])
-          ≡ (b || is_version_of is_numeral text)
+        → is_some (elim b [ true ↦ Some (DigitsToken (digits_value 10 text)) | false ↦ (if is_version_of is_numeral text then Some (VersionText text) else None) ])
+        ≡ (b || is_version_of is_numeral text)
     go true = refl
     go false = is_some-if (is_version_of is_numeral text) (VersionText text)
 
@@ -218,7 +218,7 @@ spelled_ok (c ∷ cs) = go (is_ascii_alphabetic c) refl (is_ascii_digit c) refl 
   where
     go : (a : Bool) → is_ascii_alphabetic c ≡ a → (d : Bool) → is_ascii_digit c ≡ d → (p q : Bool)
         → is_some (by_first a d p q c cs)
-          ≡ is_ok (run step (if a then InWord (word_step word_start c) else (if d then InNumber (number_step number_start c) else (if p then Percent else (if q then InQuote Between else mark_step c)))) cs)
+        ≡ is_ok (run step (if a then InWord (word_step word_start c) else (if d then InNumber (number_step number_start c) else (if p then Percent else (if q then InQuote Between else mark_step c)))) cs)
     go true e d f p q = is_some-if (is_label (c ∷ cs)) (word_token (c ∷ cs) (keyword_of (c ∷ cs))) ∙ labelled c cs e
     go false e true f p q = number_some (c ∷ cs) ∙ (numbers c cs f ∙ ap is_ok (sym (number-run (number_step number_start c) cs)))
     go false e false f true q = is_some-if (is_label cs) (Escaped cs) ∙ escaped cs
@@ -240,7 +240,7 @@ reach_ok (c ∷ cs) s n h = go (is_dead s) (reach (step s c) cs) refl (reach_ok 
     here false e f = absurd cc
 
     go : (d : Bool) (o : Option ℕ) → reach (step s c) cs ≡ o → ((m : ℕ) → reach (step s c) cs ≡ Some m → is_ok (run step (step s c) (take m cs)) ≡ true)
-        → (if d then None else elim o [ | Some m ↦ Some (suc m) | None ↦ if is_ok s then Some 0 else None ]) ≡ Some n → is_ok (run step s (take n (c ∷ cs))) ≡ true
+        → (if d then None else elim o [ Some m ↦ Some (suc m) | None ↦ if is_ok s then Some 0 else None ]) ≡ Some n → is_ok (run step s (take n (c ∷ cs))) ≡ true
     go true o e k f = absurd cc
     go false (Some m) e k f = let z : suc m ≡ n = cc in rw (← z) (k m e)
     go false None e k f = here (is_ok s) refl f
@@ -286,7 +286,7 @@ longest-taken front (c ∷ cs) =
 
     go : (d : Bool) → is_dead (run step Start front) ≡ d → (o : Option ℕ) → reach (step (run step Start front) c) cs ≡ o
         → or_here front (c ∷ cs) (taken (front ++ c ∷ []) cs o)
-          ≡ taken front (c ∷ cs) (if d then None else elim o [ | Some n ↦ Some (suc n) | None ↦ if is_ok (run step Start front) then Some 0 else None ])
+        ≡ taken front (c ∷ cs) (if d then None else elim o [ Some n ↦ Some (suc n) | None ↦ if is_ok (run step Start front) then Some 0 else None ])
     go true e (Some n) f = absurd (cc (dead-reach (step (run step Start front) c) cs (dead_stays (run step Start front) c e), f))
     go true e None f = ap (option_map (λ t. record { token = t; rest = c ∷ cs })) (none_if (spelled front) (spelled_ok front ∙ dead_not_ok (run step Start front) e))
     go false e (Some n) f = found n (spelled ((front ++ c ∷ []) ++ take n cs)) (longer n f) refl

@@ -1,13 +1,12 @@
-//! Laws of the scans.
+//! Laws of the tokens of texts.
 
-ghost use Rattle.std.specs.Prelude.{◌≡◌, ◌==◌, ℕ, List, []};
-ghost use Rattle.std.specs.List.{list_all, slice_split};
-ghost use Rattle.wit_model.specs.Names.{is_fragment};
-ghost use Rattle.print_grammar.specs.Token.{longest};
-ghost use Rattle.text_tokens.specs.declared.state.State.TheVariants.{Start};
-ghost use Rattle.text_tokens.specs.States.{reach, taken};
+ghost use Rattle.std.specs.Prelude.{◌≡◌, ℕ, List};
+ghost use Rattle.text_tokens.specs.Places.{HasNoTokenAt, HasTokensAt};
+ghost use Rattle.text_tokens.specs.declared.token.Token.{Token};
 
-/// The longest token that begins a text is what a scan finds.
-pub fn longest_is_scanned()
-    ensures { (text : List ℕ) → longest [] text ≡ taken [] text (reach Start text) }
+/// A text has tokens at places, or a first byte at which none begins, and never both; and either is the only one.
+pub fn one_answer()
+    ensures places { (text : List ℕ) (xs ys : List Token) → HasTokensAt text xs → HasTokensAt text ys → xs ≡ ys }
+    ensures refusal { (text : List ℕ) (a b : ℕ) → HasNoTokenAt text a → HasNoTokenAt text b → a ≡ b }
+    ensures either { (text : List ℕ) (xs : List Token) (at : ℕ) → HasTokensAt text xs → HasNoTokenAt text at → ⊥ }
 {}

@@ -8,12 +8,11 @@ ghost use Rattle.text_tokens.specs.Kinds.{kind_here};
 ghost use Rattle.text_tokens.specs.Places.{HasTokensAt, IsRefusal};
 ghost use Rattle.text_tokens.specs.Steps.{IsFront};
 
-use std::alloc::Global;
-
 use crate::error::TokenError;
 use crate::keyword::keyword_of;
 use crate::state::{mark_with, token_end};
 use crate::token::{Kind, Token};
+use std::alloc::Global;
 
 /// What stands at a place of a text.
 #[derive(Clone, Copy)]

@@ -3,10 +3,26 @@
 ghost use Rattle.std.specs.Prelude.{◌≡◌};
 ghost use Rattle.semver.specs.Grammar.{is_identifier_byte as is_identifier_byte_lem};
 ghost use Rattle.text_tokens.specs.Numbers.{
-    build_is_ok as build_is_ok_lem, core_is_dead as core_is_dead_lem, core_is_digits as core_is_digits_lem, core_is_ok as core_is_ok_lem, core_step as core_step_lem,
-    digits_are_ok as digits_are_ok_lem, number_is_dead as number_is_dead_lem, number_is_ok as number_is_ok_lem, number_start as number_start_lem, number_step as number_step_lem,
-    numeral_is_ok as numeral_is_ok_lem, part_step as part_step_lem, pre_is_ok as pre_is_ok_lem, release_is_dead as release_is_dead_lem, release_is_ok as release_is_ok_lem,
-    release_step as release_step_lem, is_bad as is_bad_lem, after_letter, after_digit, after_zero,
+  build_is_ok as build_is_ok_lem,
+  core_is_dead as core_is_dead_lem,
+  core_is_digits as core_is_digits_lem,
+  core_is_ok as core_is_ok_lem,
+  core_step as core_step_lem,
+  digits_are_ok as digits_are_ok_lem,
+  number_is_dead as number_is_dead_lem,
+  number_is_ok as number_is_ok_lem,
+  number_start as number_start_lem,
+  number_step as number_step_lem,
+  numeral_is_ok as numeral_is_ok_lem,
+  part_step as part_step_lem,
+  pre_is_ok as pre_is_ok_lem,
+  release_is_dead as release_is_dead_lem,
+  release_is_ok as release_is_ok_lem,
+  release_step as release_step_lem,
+  is_bad as is_bad_lem,
+  after_letter,
+  after_digit,
+  after_zero,
 };
 
 /// What stands between two dots of a version, so far.
