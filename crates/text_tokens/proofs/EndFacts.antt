@@ -1,5 +1,5 @@
 -- The loop of a scan: where the longest token ends.
-use Rattle.std.proofs.Common.{rules as std_rules, ◌≡◌, refl, sym, ap, ◌∙◌, ℕ, ◌+◌, ◌<◌, ◌≤◌, suc, Bool, true, false, if◌then◌else◌, List, [], ◌∷◌, length, Option, Some, None, take, drop, get_or, arith, length-drop}
+use Rattle.std.proofs.Common.{◌≡◌, refl, sym, ap, ◌∙◌, ℕ, ◌+◌, ◌<◌, ◌≤◌, suc, Bool, true, false, if◌then◌else◌, List, [], ◌∷◌, length, Option, Some, None, drop, get_or, arith, length-drop}
 use Rattle.std.specs.{Option.option_map, Prelude.IfSome}
 use Rattle.std.proofs.lemmas.List.{drop_all}
 use Rattle.text_tokens.specs.declared.state.State.{State}

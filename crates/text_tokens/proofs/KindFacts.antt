@@ -1,10 +1,10 @@
 -- What a token is, by its text.
-use Rattle.std.proofs.Common.{rules as std_rules, ◌≡◌, refl, sym, ap, ◌∙◌, ℕ, Bool, true, false, ◌==◌, if◌then◌else◌, List, [], ◌∷◌, Option, Some, None, drop, subst, arith}
+use Rattle.std.proofs.Common.{rules as std_rules, ◌≡◌, refl, sym, ap, ◌∙◌, ℕ, Bool, true, false, ◌==◌, if◌then◌else◌, List, ◌∷◌, Option, Some, None, drop, subst}
 use Rattle.std.specs.{List.slice_get, Option.option_map, Char.is_ascii_alphabetic, Char.is_ascii_digit, Str.Parse.digits_value}
 use Rattle.semver.specs.Order.{is_numeric}
 use Rattle.wit_model.specs.Names.{is_label, is_numeral, is_version_of}
 use Rattle.print_grammar.specs.Keyword.{Keyword as keywords, keyword_of}
-use Rattle.print_grammar.specs.Token.Token.{Word, Escaped, Key, VersionText, Quoted}
+use Rattle.print_grammar.specs.Token.Token.{Escaped, VersionText, Quoted}
 use Rattle.print_grammar.specs.Token.{Token, StringState as states, mark_of, mark_texts, number_token, spelled, string_characters, word_token}
 use Rattle.text_tokens.specs.declared.keyword.Keyword.{Keyword}
 use Rattle.text_tokens.specs.declared.token.Kind.TheVariants as kind
@@ -67,22 +67,6 @@ word_kind c cs t a e =
 
 pub number_spelled : (c : ℕ) (cs : List ℕ) (t : Token) → is_ascii_alphabetic c ≡ false → is_ascii_digit c ≡ true → spelled (c ∷ cs) ≡ Some t → number_token (c ∷ cs) ≡ Some t
 number_spelled c cs t a d e = sym (by_tests c cs false true (c == 37) (c == 34) (record { letter = a; digit = d; percent = refl; quote = refl })) ∙ e
-
-pub escaped_kind : (c : ℕ) (cs : List ℕ) (t : Token) → is_ascii_alphabetic c ≡ false → is_ascii_digit c ≡ false → (c == 37) ≡ true → spelled (c ∷ cs) ≡ Some t → kind.Escaped ≡ kind_here t
-escaped_kind c cs t a d p e =
-    of_if (is_label cs) (Escaped cs) t (sym (by_tests c cs false false true (c == 34) (record { letter = a; digit = d; percent = p; quote = refl })) ∙ e)
-
-pub quoted_kind : (c : ℕ) (cs : List ℕ) (t : Token) → is_ascii_alphabetic c ≡ false → is_ascii_digit c ≡ false → (c == 37) ≡ false → (c == 34) ≡ true → spelled (c ∷ cs) ≡ Some t
-    → kind.Quoted ≡ kind_here t
-quoted_kind c cs t a d p q e = go (string_characters states.Between cs) (sym (by_tests c cs false false false true (record { letter = a; digit = d; percent = p; quote = q })) ∙ e)
-  where
-    go : (o : Option (List ℕ)) → option_map Quoted o ≡ Some t → kind.Quoted ≡ kind_here t
-    go None f = absurd cc
-    go (Some xs) f = let x : Quoted xs ≡ t = cc in ap kind_here x
-
-pub mark_spelled : (c : ℕ) (cs : List ℕ) (t : Token) → is_ascii_alphabetic c ≡ false → is_ascii_digit c ≡ false → (c == 37) ≡ false → (c == 34) ≡ false → spelled (c ∷ cs) ≡ Some t
-    → mark_of mark_texts (c ∷ cs) ≡ Some t
-mark_spelled c cs t a d p q e = sym (by_tests c cs false false false false (record { letter = a; digit = d; percent = p; quote = q })) ∙ e
 
 -- ---- words
 

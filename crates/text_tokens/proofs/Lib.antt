@@ -1,26 +1,26 @@
--- Runs of a machine over bytes, parts between marks, and the first mark.
-pub mod Runs
--- A scan of fragments is what the grammar says of them.
-pub mod WordScans
--- What stands between two dots of a version, byte by byte.
-pub mod PartScans
--- A scan of digits and versions is what the grammar says of them.
-pub mod NumberScans
--- A scan of strings is what the grammar says of them.
-pub mod QuoteScans
--- A scan of marks is what the grammar says of them.
-pub mod MarkScans
--- A scan finds the longest token.
-pub mod TokenScans
--- The keyword of a word.
-pub mod KeywordFacts
--- Blanks and comments at a place of a text.
+-- Blanks and comments at a place of a text. Serves lexer::comment_end.
 pub mod CommentFacts
--- What a token is, by its text.
-pub mod KindFacts
--- The loop of a scan: where the longest token ends.
+-- Runs of a machine over bytes, and what two tests of parts say of them. Serves MarkScans, NumberScans, PartScans, QuoteScans and 2 more.
+pub mod Runs
+-- A scan of strings is what the grammar says of them. Serves MarkScans, TokenScans.
+pub mod QuoteScans
+-- A scan of marks is what the grammar says of them. Serves TokenScans.
+pub mod MarkScans
+-- What stands between two dots of a version, byte by byte: numerals and identifiers. Serves NumberScans, TokenScans.
+pub mod PartScans
+-- A scan of digits and versions is what the grammar says of them. Serves TokenScans.
+pub mod NumberScans
+-- A scan of fragments is what the grammar says of them. Serves TokenScans.
+pub mod WordScans
+-- A scan finds the longest token. Serves EndFacts, PlaceFacts.
+pub mod TokenScans
+-- The loop of a scan: where the longest token ends. Serves state::token_end.
 pub mod EndFacts
--- Tokens with their places: more of them, and what a text with a place where none begins is.
-pub mod PlaceFacts
--- A text has its tokens at one list of places, and one first byte at most at which none begins.
+-- The keyword of a word. Serves keyword::keyword_of.
+pub mod KeywordFacts
+-- What a token is, by its text. Serves keyword::keyword_of, lexer::kind_of, lexer::number_kind, lexer::word_kind.
+pub mod KindFacts
+-- A text has its tokens at one list of places, and one first byte at most at which none begins. Serves laws::one_answer.
 pub mod OneAnswer
+-- Tokens with their places: more of them, and what a text with a place where none begins is. Serves lexer::token_front, lexer::tokens.
+pub mod PlaceFacts

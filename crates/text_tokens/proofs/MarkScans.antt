@@ -1,9 +1,9 @@
 -- A scan of marks is what the grammar says of them.
-use Rattle.std.proofs.Common.{rules as std_rules, ◌≡◌, refl, sym, ap, ◌∙◌, subst, ℕ, Bool, true, false, ◌&&◌, ◌==◌, if◌then◌else◌, List, [], ◌∷◌, Option, Some, None, arith}
+use Rattle.std.proofs.Common.{◌≡◌, refl, sym, ◌∙◌, subst, ℕ, Bool, true, false, ◌&&◌, ◌==◌, if◌then◌else◌, List, [], ◌∷◌, Some, None, arith}
 use Rattle.std.proofs.lemmas.Bool.{eqb-true}
 use Rattle.std.proofs.lemmas.{Bool.Decides.nat_tests}
 use Rattle.std.specs.{Prelude.is_some, List.list_all}
-use Rattle.wit_model.specs.Text.{Text, text_eq}
+use Rattle.wit_model.specs.Text.{Text}
 use Rattle.print_grammar.specs.Token.{Token, mark_of, mark_texts, Mark.Arrow}
 use Rattle.text_tokens.specs.declared.state.State.TheVariants.{Minus, Done, Dead}
 use Rattle.text_tokens.specs.Kinds.{kind_with, kind_here}

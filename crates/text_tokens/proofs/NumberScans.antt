@@ -1,9 +1,8 @@
 -- A scan of digits and versions is what the grammar says of them.
-use Rattle.std.proofs.Common.{rules as std_rules, ◌≡◌, refl, sym, ap, ◌∙◌, ℕ, ◌+◌, ◌≤◌, ◌<◌, Bool, true, false, ◌&&◌, ◌||◌, ◌==◌, not, if◌then◌else◌, List, [], ◌∷◌, ◌++◌, length, append-nil, arith, nat_lt, lit<}
+use Rattle.std.proofs.Common.{◌≡◌, refl, sym, ap, ◌∙◌, ℕ, ◌+◌, ◌≤◌, ◌<◌, Bool, true, false, ◌&&◌, ◌||◌, ◌==◌, if◌then◌else◌, List, [], ◌∷◌, ◌++◌, length, append-nil, arith, nat_lt, lit<}
 use Rattle.std.proofs.lemmas.Bool.{lt-ltb}
 use Rattle.std.proofs.lemmas.{Bool.Decides.nat_tests}
-use Rattle.std.specs.{Char.is_ascii_digit, List.list_all, List.slice_split}
-use Rattle.std.specs.Option.{option_map_or}
+use Rattle.std.specs.{Char.is_ascii_digit, List.list_all}
 use Rattle.semver.specs.Grammar.{is_build, is_pre_release, is_build_identifier, is_pre_identifier}
 use Rattle.semver.specs.Order.{is_numeric, parts}
 use Rattle.wit_model.specs.Names.{cut, is_marked_part, is_numeral, is_version_core, is_version_number, is_version_of}
@@ -14,7 +13,7 @@ use Rattle.text_tokens.specs.declared.number.Release.{Release}
 use Rattle.text_tokens.specs.declared.number.Release.TheVariants.{InCore, InPre, Neither}
 use Rattle.text_tokens.specs.declared.number.Number.{Number}
 use Rattle.text_tokens.specs.declared.number.Number.TheVariants.{InRelease, InBuild, Nowhere}
-use Rattle.text_tokens.specs.Numbers.{after_zero, after_digit, after_letter, part_step, digits_are_ok, numeral_is_ok, pre_is_ok, build_is_ok, is_bad, core_step, core_is_ok, core_is_digits, release_step, release_is_ok, number_start, number_step, number_is_ok}
+use Rattle.text_tokens.specs.Numbers.{after_zero, after_digit, after_letter, part_step, digits_are_ok, numeral_is_ok, pre_is_ok, build_is_ok, core_step, core_is_ok, core_is_digits, release_step, release_is_ok, number_start, number_step, number_is_ok}
 use Rattle.text_tokens.proofs.Runs.{run, run-append, onto, onto_nil, split-yes, split-no, and-true, and-false, parts-run, cut-run, cut-front}
 use Rattle.text_tokens.proofs.PartScans.{Class, Class.is_zero, Class.is_digit, Class.is_letter, Class.is_other, class_of, step-zero, step-digit, step-letter, step-other, some, bad_stays, kept, build_part, pre_part, numeral_part}
 
@@ -49,7 +48,8 @@ marked_build [] = refl
 marked_build (c ∷ cs) = rw (some c cs, onto_nil 46 (c ∷ cs)) refl
 
 build-run : (cs : List ℕ) → version_is_ok (run number_step (InBuild Empty) cs) ≡ is_marked_part is_build cs
-build-run cs = sym (marked_build cs ∙ parts-run number_step version_is_ok 46 is_build_identifier (λ p. InBuild (part_of p)) Nowhere build_part in_build build_dot (λ xs. ap version_is_ok (nowhere-run xs)) [] cs)
+build-run cs = sym (marked_build cs ∙ parts-run number_step version_is_ok 46 is_build_identifier (λ p. InBuild (part_of p)) Nowhere build_part in_build build_dot
+    (λ xs. ap version_is_ok (nowhere-run xs)) [] cs)
 
 in_pre : (p : List ℕ) (c : ℕ) → (c == 46) ≡ false → release_step (InPre (part_of p)) c ≡ InPre (part_of (p ++ c ∷ []))
 in_pre p c e = rw (e, run-append part_step Empty p c) refl

@@ -1,14 +1,14 @@
 -- What stands between two dots of a version, byte by byte: numerals and identifiers.
-use Rattle.std.proofs.Common.{rules as std_rules, ◌≡◌, refl, sym, ap, ◌∙◌, ℕ, Bool, true, false, ◌&&◌, ◌||◌, ◌==◌, not, List, [], ◌∷◌, ◌++◌, length, arith, nat_lt}
+use Rattle.std.proofs.Common.{◌≡◌, refl, sym, ap, ◌∙◌, ℕ, Bool, true, false, ◌&&◌, ◌==◌, not, List, [], ◌∷◌, length, arith, nat_lt}
 use Rattle.std.proofs.lemmas.Bool.{lt-ltb}
 use Rattle.std.proofs.lemmas.{Bool.Decides.nat_tests}
 use Rattle.std.specs.{Char.is_ascii_digit, List.list_all}
-use Rattle.semver.specs.Grammar.{is_identifier_byte, is_build_identifier, is_pre_identifier, has_leading_zero}
+use Rattle.semver.specs.Grammar.{is_identifier_byte, is_build_identifier, is_pre_identifier}
 use Rattle.semver.specs.Order.{is_numeric}
 use Rattle.wit_model.specs.Names.{is_numeral}
 use Rattle.text_tokens.specs.declared.number.Part.{Part}
 use Rattle.text_tokens.specs.declared.number.Part.TheVariants.{Empty, Zero, Zeros, Digits, Letters, Bad}
-use Rattle.text_tokens.specs.Numbers.{after_zero, after_digit, after_letter, part_step, digits_are_ok, numeral_is_ok, pre_is_ok, build_is_ok, is_bad}
+use Rattle.text_tokens.specs.Numbers.{after_zero, after_digit, after_letter, part_step, numeral_is_ok, pre_is_ok, build_is_ok}
 use Rattle.text_tokens.proofs.Runs.{run, and-true, and-false}
 
 -- ---- the classes of bytes
@@ -263,7 +263,8 @@ pub pre_part : (text : List ℕ) → is_pre_identifier text ≡ pre_is_ok (run p
 pre_part [] = refl
 pre_part (c ∷ cs) = rw (some c cs) (go (class_of c))
   where
-    go : Class c → ((is_identifier_byte c && list_all is_identifier_byte cs) && not ((is_ascii_digit c && is_numeric cs) && ((c == 48) && nat_lt 0 (length cs)))) ≡ pre_is_ok (run part_step (part_step Empty c) cs)
+    go : Class c → ((is_identifier_byte c && list_all is_identifier_byte cs) && not ((is_ascii_digit c && is_numeric cs) && ((c == 48) && nat_lt 0 (length cs))))
+        ≡ pre_is_ok (run part_step (part_step Empty c) cs)
     go (is_zero e f g) = rw (step-zero Empty c e, e, g, f) (zero-pre cs)
     go (is_digit e f g) = rw (step-digit Empty c e f, e, g, f, and-false (is_numeric cs)) (and-true (list_all is_identifier_byte cs) ∙ sym (number-run cs))
     go (is_letter e f g) = rw (step-letter Empty c e f g, g, f) (and-true (list_all is_identifier_byte cs) ∙ sym (letters-run cs))

@@ -1,10 +1,10 @@
 -- Tokens with their places: more of them, and what a text with a place where none begins is.
-use Rattle.std.proofs.Common.{rules as std_rules, ◌≡◌, refl, sym, ap, ◌∙◌, subst, ℕ, ◌+◌, ◌-◌, ◌<◌, ◌≤◌, List, [], ◌∷◌, ◌++◌, length, Option, Some, None, take, drop, true, arith}
-use Rattle.std.specs.{Option.option_map, Prelude.is_some}
+use Rattle.std.proofs.Common.{◌≡◌, refl, ap, ◌∙◌, subst, ℕ, ◌+◌, ◌-◌, ◌<◌, ◌≤◌, List, [], ◌∷◌, ◌++◌, length, Option, Some, None, take, drop, arith}
+use Rattle.std.specs.{Option.option_map}
 use Rattle.std.proofs.lemmas.List.{drop_all, drop-drop}
 use Rattle.print_grammar.specs.Token as grammar
 use Rattle.print_grammar.specs.Token.Front.{Ended, Skipped, Found, Unknown}
-use Rattle.print_grammar.specs.Token.{Front, Taken, Tokens, front_of_text, found, longest, spelled}
+use Rattle.print_grammar.specs.Token.{Tokens, front_of_text, found, longest, spelled}
 use Rattle.print_grammar.specs.Token.Tokens.{no_tokens, skip, token}
 use Rattle.text_tokens.specs.declared.state.State.TheVariants.{Start}
 use Rattle.text_tokens.specs.declared.token.Kind.{Kind}
@@ -12,10 +12,9 @@ use Rattle.text_tokens.specs.declared.token.Token.{Token}
 use Rattle.text_tokens.specs.Kinds.{kind_here}
 use Rattle.text_tokens.specs.Places.Placed.{none_placed, skip_placed, one_placed}
 use Rattle.text_tokens.specs.Places.{HasNoTokenAt, HasTokensAt, Placed, StandsAt}
-use Rattle.text_tokens.specs.States.{reach, step, is_ok, taken}
+use Rattle.text_tokens.specs.States.{reach, taken}
 use Rattle.text_tokens.specs.Steps.{BeginsHere, IsUnknown, SkipsTo}
 use Rattle.text_tokens.proofs.EndFacts.{ends_at}
-use Rattle.text_tokens.proofs.Runs.{run}
 use Rattle.text_tokens.proofs.TokenScans.{longest_scan, reach_ok, some_if, spelled_ok}
 
 -- ---- a token at a place

@@ -1,12 +1,11 @@
 -- A scan of strings is what the grammar says of them.
-use Rattle.std.proofs.Common.{rules as std_rules, ◌≡◌, refl, sym, ap, ◌∙◌, ℕ, ◌+◌, ◌*◌, ◌<◌, Bool, true, false, ◌==◌, if◌then◌else◌, List, [], ◌∷◌, Option, Some, None, arith, nat_lt}
+use Rattle.std.proofs.Common.{◌≡◌, refl, sym, ap, ◌∙◌, ℕ, ◌+◌, ◌*◌, Bool, true, false, ◌==◌, List, [], ◌∷◌, Option, Some, None, arith, nat_lt}
 use Rattle.std.proofs.lemmas.{Bool.Decides.nat_tests}
 use Rattle.std.specs.{Prelude.is_some, Option.option_map}
 use lib.Utf8.{scalar}
-use Rattle.print_grammar.specs.Token.{StringState as states, StringStep as steps, string_step, string_characters, only_at_end, hexadecimal, code_step, end_step}
+use Rattle.print_grammar.specs.Token.{StringState as states, StringStep as steps, string_step, string_characters, only_at_end, hexadecimal, code_step}
 use Rattle.text_tokens.specs.declared.quote.Quote.{Quote}
 use Rattle.text_tokens.specs.declared.quote.Quote.TheVariants.{Between, AfterBackslash, AfterU, AfterBrace, InCode}
-use Rattle.text_tokens.specs.declared.state.State.{State}
 use Rattle.text_tokens.specs.declared.state.State.TheVariants.{InQuote, Done, Dead}
 use Rattle.text_tokens.specs.Quotes.{quoting, quote_in, state_after, quote_is_dead}
 use Rattle.text_tokens.specs.States.{after_quote, step, is_ok, is_dead}

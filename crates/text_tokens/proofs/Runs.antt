@@ -1,5 +1,5 @@
 -- Runs of a machine over bytes, and what two tests of parts say of them.
-use Rattle.std.proofs.Common.{rules as std_rules, ◌≡◌, refl, sym, ap, ◌∙◌, ℕ, Bool, true, false, ◌&&◌, ◌||◌, ◌==◌, if◌then◌else◌, List, [], ◌∷◌, ◌++◌, length, Option, Some, None, append-nil, append_assoc}
+use Rattle.std.proofs.Common.{◌≡◌, refl, sym, ap, ◌∙◌, ℕ, Bool, true, false, ◌&&◌, ◌==◌, if◌then◌else◌, List, [], ◌∷◌, ◌++◌, Option, Some, None, append-nil, append_assoc}
 use Rattle.std.proofs.lemmas.List.Splits.{slice_split-cons_yes, slice_split-cons_no}
 use Rattle.std.specs.List.{list_all, slice_split, onto_first}
 use Rattle.std.specs.Option.{option_map, option_map_or}
@@ -61,7 +61,8 @@ pub parts-run : {S : Type 0} (step : S → ℕ → S) (ok : S → Bool) (m : ℕ
     → ((cs : List ℕ) → ok (run step dead cs) ≡ false)
     → (p cs : List ℕ) → list_all passes (onto p (slice_split (λ b. b == m) cs)) ≡ ok (run step (after p) cs)
 parts-run step ok m passes after dead ends goes marks ended p [] = rw (append-nil p) (and-true (passes p) ∙ ends p)
-parts-run {S} step ok m passes after dead ends goes marks ended p (c ∷ cs) = go (c == m) refl (parts-run step ok m passes after dead ends goes marks ended [] cs) (parts-run step ok m passes after dead ends goes marks ended (p ++ c ∷ []) cs)
+parts-run {S} step ok m passes after dead ends goes marks ended p (c ∷ cs) =
+    go (c == m) refl (parts-run step ok m passes after dead ends goes marks ended [] cs) (parts-run step ok m passes after dead ends goes marks ended (p ++ c ∷ []) cs)
   where
     marked : (f : Bool) → list_all passes (onto [] (slice_split (λ b. b == m) cs)) ≡ ok (run step (after []) cs)
         → (f && list_all passes (onto [] (slice_split (λ b. b == m) cs))) ≡ ok (run step (if f then after [] else dead) cs)
@@ -100,7 +101,8 @@ cut-run {S} {A} step ok step_front ok_front front start dead m back ends goes ma
     further (Some p) = refl
 
     go : (b : Bool) → (c == m) ≡ b
-        → option_map_or (λ (p : List ℕ × List ℕ). ok_front (run step_front (step_front a c) p.0) && back p.1) (cut m cs) (ok_front (run step_front (step_front a c) cs)) ≡ ok (run step (front (step_front a c)) cs)
+        → option_map_or (λ (p : List ℕ × List ℕ). ok_front (run step_front (step_front a c) p.0) && back p.1) (cut m cs) (ok_front (run step_front (step_front a c) cs))
+        ≡ ok (run step (front (step_front a c)) cs)
         → option_map_or (λ (p : List ℕ × List ℕ). ok_front (run step_front a p.0) && back p.1) (cut m (c ∷ cs)) (ok_front (run step_front a (c ∷ cs))) ≡ ok (run step (step (front a) c) cs)
     go true d h = rw d (marked (ok_front a) ∙ ap (λ s. ok (run step s cs)) (sym (marks a c d)))
     go false d h = rw d (further (cut m cs) ∙ (h ∙ ap (λ s. ok (run step s cs)) (sym (goes a c d))))

@@ -1,5 +1,5 @@
 -- A scan finds the longest token.
-use Rattle.std.proofs.Common.{rules as std_rules, ◌≡◌, refl, sym, ap, ◌∙◌, ℕ, zero, suc, Bool, true, false, ◌&&◌, ◌||◌, ◌==◌, not, if◌then◌else◌, List, [], ◌∷◌, ◌++◌, Option, Some, None, take, drop, append-nil, append_assoc, arith}
+use Rattle.std.proofs.Common.{◌≡◌, refl, sym, ap, ◌∙◌, ℕ, suc, Bool, true, false, ◌&&◌, ◌||◌, ◌==◌, if◌then◌else◌, List, [], ◌∷◌, ◌++◌, Option, Some, None, take, drop, append-nil, append_assoc}
 use Rattle.std.specs.{Prelude.is_some, Option.option_map, Char.is_ascii_alphabetic, Char.is_ascii_digit, List.list_all, List.slice_split}
 use Rattle.std.specs.Str.Parse.{digits_value}
 use Rattle.semver.specs.Order.{is_numeric}
@@ -16,8 +16,8 @@ use Rattle.text_tokens.specs.declared.quote.Quote.TheVariants.{Between}
 use Rattle.text_tokens.specs.declared.state.State.{State}
 use Rattle.text_tokens.specs.declared.state.State.TheVariants.{Start, Percent, InWord, InNumber, InQuote, Minus, Done, Dead}
 use Rattle.text_tokens.specs.declared.word.Word.{Word}
-use Rattle.text_tokens.specs.Numbers.{core_is_dead, core_is_ok, core_is_digits, core_step, digits_are_ok, numeral_is_ok, number_is_dead, number_is_ok, number_start, number_step, part_step, release_step}
-use Rattle.text_tokens.specs.States.{first_step, is_dead, is_ok, mark_step, reach, step, taken}
+use Rattle.text_tokens.specs.Numbers.{core_is_dead, core_is_ok, core_is_digits, core_step, digits_are_ok, numeral_is_ok, number_is_dead, number_is_ok, number_start, number_step, release_step}
+use Rattle.text_tokens.specs.States.{is_dead, is_ok, mark_step, reach, step, taken}
 use Rattle.text_tokens.specs.Words.{word_start, word_step}
 use Rattle.text_tokens.proofs.MarkScans.{marks}
 use Rattle.text_tokens.proofs.NumberScans.{numbers, no_digits, no_digits_stays, no_dot}
@@ -218,7 +218,8 @@ spelled_ok (c ∷ cs) = go (is_ascii_alphabetic c) refl (is_ascii_digit c) refl 
   where
     go : (a : Bool) → is_ascii_alphabetic c ≡ a → (d : Bool) → is_ascii_digit c ≡ d → (p q : Bool)
         → is_some (by_first a d p q c cs)
-        ≡ is_ok (run step (if a then InWord (word_step word_start c) else (if d then InNumber (number_step number_start c) else (if p then Percent else (if q then InQuote Between else mark_step c)))) cs)
+        ≡ is_ok (run step (if a then InWord (word_step word_start c) else (if d then InNumber (number_step number_start c) else
+        (if p then Percent else (if q then InQuote Between else mark_step c)))) cs)
     go true e d f p q = is_some-if (is_label (c ∷ cs)) (word_token (c ∷ cs) (keyword_of (c ∷ cs))) ∙ labelled c cs e
     go false e true f p q = number_some (c ∷ cs) ∙ (numbers c cs f ∙ ap is_ok (sym (number-run (number_step number_start c) cs)))
     go false e false f true q = is_some-if (is_label cs) (Escaped cs) ∙ escaped cs

@@ -1,5 +1,5 @@
 -- A scan of fragments is what the grammar says of them.
-use Rattle.std.proofs.Common.{rules as std_rules, ◌≡◌, refl, sym, ap, ◌∙◌, ℕ, Bool, true, false, ◌&&◌, ◌||◌, ◌==◌, not, if◌then◌else◌, List, [], ◌∷◌, ◌++◌, length, length-append, arith, nat_lt}
+use Rattle.std.proofs.Common.{◌≡◌, refl, sym, ap, ◌∙◌, ℕ, Bool, true, false, ◌&&◌, ◌||◌, ◌==◌, not, if◌then◌else◌, List, [], ◌∷◌, ◌++◌, length, length-append, arith, nat_lt}
 use Rattle.std.proofs.lemmas.Bool.{lt-ltb}
 use Rattle.std.proofs.lemmas.List.Folds.{list_all-append}
 use Rattle.std.specs.List.{list_all, slice_split}
@@ -42,7 +42,8 @@ dead-run s (c ∷ cs) e = dead-run (word_step s c) cs (go (c == 45) refl)
     go false d = rw (d, e) refl
 
 pub fragments : (text : List ℕ) → list_all is_fragment (slice_split (λ b. b == 45) text) ≡ word_ok (run word_step word_start text)
-fragments text = ap (list_all is_fragment) (sym (onto_nil 45 text)) ∙ parts-run word_step word_ok 45 is_fragment state_of dead_word (λ p. refl) step-no step-yes (λ cs. dead-run dead_word cs refl) [] text
+fragments text = ap (list_all is_fragment) (sym (onto_nil 45 text)) ∙ parts-run word_step word_ok 45 is_fragment state_of dead_word (λ p. refl) step-no step-yes
+    (λ cs. dead-run dead_word cs refl) [] text
 
 -- ---- a dead scan
 

@@ -41,7 +41,8 @@ after_letter Bad = Bad
 
 -- a byte more
 abbrev pub part_step : Part → ℕ → Part
-part_step part c = if c == 48 then after_zero part else (if is_ascii_digit c then after_digit part else (if is_identifier_byte c then after_letter part else Bad))
+part_step part c = if c == 48 then after_zero part else (if is_ascii_digit c then after_digit part else
+    (if is_identifier_byte c then after_letter part else Bad))
 
 -- whether it is digits
 abbrev pub digits_are_ok : Part → Bool

@@ -17,7 +17,8 @@ pub record StandsAt (text : List ℕ) (place : Token) (token : grammar.Token) : 
 -- The text from one byte to another is blanks, comments and these tokens in order, at these places.
 pub data Placed (text : List ℕ) : ℕ → ℕ → List Token → List grammar.Token → Type 0 where
   none_placed : {at : ℕ} → Placed text at at [] []
-  skip_placed : {at next to : ℕ} {places : List Token} {tokens : List grammar.Token} → grammar.front_of_text (drop at text) ≡ front.Skipped (drop next text) → next ≤ length text
+  skip_placed : {at next to : ℕ} {places : List Token} {tokens : List grammar.Token} → grammar.front_of_text (drop at text) ≡ front.Skipped (drop next text)
+      → next ≤ length text
       → Placed text next to places tokens → Placed text at to places tokens
   one_placed : {to : ℕ} {places : List Token} {tokens : List grammar.Token} (place : Token) (token : grammar.Token) → StandsAt text place token
       → Placed text place.end to places tokens → Placed text place.start to (place ∷ places) (token ∷ tokens)

@@ -1,6 +1,6 @@
-use Rattle.std.proofs.Common.{◌≡◌, ◌∙◌, sym, ap, subst, List, ℕ, length, arith}
+use Rattle.std.proofs.Common.{subst}
 use Rattle.text_tokens.specs.Places.{HasNoTokenAt, HasTokensAt}
-use Rattle.text_tokens.proofs.PlaceFacts.{SoFar, has_no_token, has_tokens, so_far_none, so_far_one, so_far_skip}
+use Rattle.text_tokens.proofs.PlaceFacts.{has_no_token, has_tokens, so_far_none, so_far_one, so_far_skip}
 use Rattle.text_tokens.proofs.lexer.tokens.Goals as goal
 
 pub places-init : goal.places-init
