@@ -9,7 +9,8 @@ use Rattle.text_tokens.specs.declared.state.State.TheVariants.{Minus, Done, Dead
 use Rattle.text_tokens.specs.Kinds.{kind_with, kind_here}
 use Rattle.text_tokens.specs.States.{step, is_ok, mark_step}
 use Rattle.text_tokens.proofs.QuoteScans.{dead-run}
-use Rattle.text_tokens.proofs.Runs.{run, and-true, and-false}
+use Rattle.base_lemmas.proofs.{Numbers.turned, Bools.and-true, Bools.no-and}
+use Rattle.text_tokens.proofs.Runs.{run}
 
 -- one byte, or a text that begins with `-`
 abbrev short : Text → Bool
@@ -42,7 +43,7 @@ more-bytes : (entries : List (Text × Token)) (c d : ℕ) (ds : List ℕ) → (c
     → is_some (mark_of entries (c ∷ d ∷ ds)) ≡ false
 more-bytes [] c d ds h k = refl
 more-bytes (([], t) ∷ entries) c d ds h k = absurd (cc k)
-more-bytes ((b ∷ [], t) ∷ entries) c d ds h k = rw (and-false (b == c)) (more-bytes entries c d ds h k)
+more-bytes ((b ∷ [], t) ∷ entries) c d ds h k = rw (no-and (b == c)) (more-bytes entries c d ds h k)
 more-bytes ((b ∷ x ∷ bs, t) ∷ entries) c d ds h k = go (b == 45) refl k (more-bytes entries c d ds h)
   where
     go : (r : Bool) → (b == 45) ≡ r → (r && list_all (λ (e : Text × Token). short e.0) entries) ≡ true
@@ -51,17 +52,14 @@ more-bytes ((b ∷ x ∷ bs, t) ∷ entries) c d ds h k = go (b == 45) refl k (m
     go true e f y = rw (other_byte b c e h) (y f)
     go false e f y = absurd (cc f)
 
-same_test : (b c : ℕ) → (b == c) ≡ (c == b)
-same_test b c = grind (arith, nat_tests)
-
 arrow : (cs : List ℕ) → is_some (mark_of mark_texts (45 ∷ cs)) ≡ is_ok (run step Minus cs)
 arrow [] = refl
-arrow (d ∷ []) = rw (and-true (62 == d), same_test 62 d) (go (d == 62))
+arrow (d ∷ []) = rw (and-true (62 == d), turned 62 d) (go (d == 62))
   where
     go : (r : Bool) → is_some (if r then Some (Token.Punctuation Arrow) else None) ≡ is_ok (if r then Done else Dead)
     go true = refl
     go false = refl
-arrow (d ∷ e ∷ es) = rw (and-false (62 == d)) (go (d == 62))
+arrow (d ∷ e ∷ es) = rw (no-and (62 == d)) (go (d == 62))
   where
     go : (r : Bool) → false ≡ is_ok (run step (step (if r then Done else Dead) e) es)
     go true = sym (dead-run es)

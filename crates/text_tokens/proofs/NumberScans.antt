@@ -14,7 +14,8 @@ use Rattle.text_tokens.specs.declared.number.Release.TheVariants.{InCore, InPre,
 use Rattle.text_tokens.specs.declared.number.Number.{Number}
 use Rattle.text_tokens.specs.declared.number.Number.TheVariants.{InRelease, InBuild, Nowhere}
 use Rattle.text_tokens.specs.Numbers.{after_zero, after_digit, after_letter, part_step, digits_are_ok, numeral_is_ok, pre_is_ok, build_is_ok, core_step, core_is_ok, core_is_digits, release_step, release_is_ok, number_start, number_step, number_is_ok}
-use Rattle.text_tokens.proofs.Runs.{run, run-append, onto, onto_nil, split-yes, split-no, and-true, and-false, parts-run, cut-run, cut-front}
+use Rattle.base_lemmas.proofs.{Bools.or_true, Bools.and-true, Bools.no-and}
+use Rattle.text_tokens.proofs.Runs.{run, run-append, onto, onto_nil, split-yes, split-no, parts-run, cut-run, cut-front}
 use Rattle.text_tokens.proofs.PartScans.{Class, Class.is_zero, Class.is_digit, Class.is_letter, Class.is_other, class_of, step-zero, step-digit, step-letter, step-other, some, bad_stays, kept, build_part, pre_part, numeral_part}
 
 -- the part after a text
@@ -80,7 +81,7 @@ core_bad_stays d c = go (c == 46) refl
     go false e = rw (e, bad_stays c) refl
 
 core_bad-run : (d : ℕ) (cs : List ℕ) → core_is_ok (run core_step (core d Bad) cs) ≡ false
-core_bad-run d [] = and-false (d == 2)
+core_bad-run d [] = no-and (d == 2)
 core_bad-run d (c ∷ cs) = ap (λ s. core_is_ok (run core_step s cs)) (core_bad_stays d c) ∙ core_bad-run d cs
 
 in_core : (d : ℕ) (p : List ℕ) (c : ℕ) → (c == 46) ≡ false → core_step (core d (part_of p)) c ≡ core d (part_of (p ++ c ∷ []))
@@ -118,7 +119,7 @@ core-run (c ∷ cs) d p h = go (c == 46) refl (core-run cs d (p ++ c ∷ []) h) 
     dotted true e false r k =
         ap (λ b. b && list_all is_numeral (onto [] (parts cs))) (too_many d p (onto [] (parts cs)) (grind (arith, nat_tests)) (some_parts [] (parts cs)))
         ∙ sym (core_bad-run d cs)
-    dotted false e r s k = and-false (three d (p ∷ onto [] (parts cs))) ∙ sym (core_bad-run d cs)
+    dotted false e r s k = no-and (three d (p ∷ onto [] (parts cs))) ∙ sym (core_bad-run d cs)
 
     step_dot : (c == 46) ≡ true → core_step (core d (part_of p)) c ≡ (if is_numeral p && nat_lt d 2 then core (d + 1) Empty else core d Bad)
     step_dot e = rw (e, numeral_part p) refl
@@ -219,7 +220,7 @@ no_digits_stays q c h = kept no_digits after-zero after-digit after-letter refl 
     after-letter Letters e = refl
     after-letter Bad e = refl
 
-no_digits_ok : (q : Part) → no_digits q ≡ true → digits_are_ok q ≡ false
+pub no_digits_ok : (q : Part) → no_digits q ≡ true → digits_are_ok q ≡ false
 no_digits_ok Empty e = refl
 no_digits_ok Zero e = absurd (cc e)
 no_digits_ok Zeros e = absurd (cc e)
@@ -235,15 +236,11 @@ never_ok (InRelease (InCore k)) h = go (nat_lt 0 k.dots) refl h
   where
     go : (b : Bool) → nat_lt 0 k.dots ≡ b → (b || no_digits k.part) ≡ true → ((k.dots == 0) && digits_are_ok k.part) ≡ false
     go true e f = rw (some_dots k.dots e) refl
-    go false e f = rw (no_digits_ok k.part f) (and-false (k.dots == 0))
+    go false e f = rw (no_digits_ok k.part f) (no-and (k.dots == 0))
 never_ok (InRelease (InPre part)) h = refl
 never_ok (InRelease Neither) h = refl
 never_ok (InBuild part) h = refl
 never_ok Nowhere h = refl
-
-or-true : (b : Bool) → (b || true) ≡ true
-or-true true = refl
-or-true false = refl
 
 more_dots : (d : ℕ) → nat_lt 0 (d + 1) ≡ true
 more_dots d = lt-ltb 0 (d + 1) (omega arith)
@@ -253,7 +250,7 @@ core_never k c h = go (c == 46) refl
   where
     dotted : (b : Bool) → never_digits (InRelease (InCore (if b then core (k.dots + 1) Empty else core k.dots Bad))) ≡ true
     dotted true = rw (more_dots k.dots) refl
-    dotted false = or-true (nat_lt 0 k.dots)
+    dotted false = or_true (nat_lt 0 k.dots)
 
     same : (b : Bool) → nat_lt 0 k.dots ≡ b → (b || no_digits k.part) ≡ true → (b || no_digits (part_step k.part c)) ≡ true
     same true e f = refl

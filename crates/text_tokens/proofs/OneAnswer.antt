@@ -31,7 +31,7 @@ same_token p q a b c =
 inverse_none : {text : List ℕ} {from to : ℕ} {places : List Token} {tokens : List grammar.Token} → stops (front_of_text (drop from text)) ≡ true → Placed text from to places tokens
     → (from ≡ to) × (places ≡ [])
 inverse_none h none_placed = (refl, refl)
-inverse_none h (skip_placed f w more) = absurd (cc (h, ap stops f))
+inverse_none h (skip_placed f l w more) = absurd (cc (h, ap stops f))
 inverse_none h (one_placed place t s more) = absurd (cc (h, ap stops s.found))
 
 -- the rest after a blank or a comment
@@ -45,7 +45,7 @@ record Skips (text rest : List ℕ) (to : ℕ) (places : List Token) : Type 0 wh
 inverse_skip : {text rest : List ℕ} {from to : ℕ} {places : List Token} {tokens : List grammar.Token} → front_of_text (drop from text) ≡ Skipped rest → stops (front_of_text (drop to text)) ≡ true
     → Placed text from to places tokens → Skips text rest to places
 inverse_skip h k none_placed = absurd (cc (k, ap stops h))
-inverse_skip h k (skip_placed {next = next} {tokens = tokens} f w more) = record { next = next; tokens = tokens; here = cc; within = w; more = more }
+inverse_skip h k (skip_placed {next = next} {tokens = tokens} f l w more) = record { next = next; tokens = tokens; here = cc; within = w; more = more }
 inverse_skip h k (one_placed place t s more) = absurd (cc (h, s.found))
 
 -- the token that begins here, and the rest
@@ -63,7 +63,7 @@ record Begins (text rest : List ℕ) (from to : ℕ) (t : grammar.Token) (places
 inverse_token : {text rest : List ℕ} {from to : ℕ} {t : grammar.Token} {places : List Token} {tokens : List grammar.Token} → front_of_text (drop from text) ≡ Found t rest
     → stops (front_of_text (drop to text)) ≡ true → Placed text from to places tokens → Begins text rest from to t places
 inverse_token h k none_placed = absurd (cc (k, ap stops h))
-inverse_token h k (skip_placed f w more) = absurd (cc (h, f))
+inverse_token h k (skip_placed f l w more) = absurd (cc (h, f))
 inverse_token {t = t} h k (one_placed {places = behind} {tokens = tokens} place other s more) =
     let same : other ≡ t = cc (h, s.found) in
     record {
@@ -82,7 +82,7 @@ inverse_token {t = t} h k (one_placed {places = behind} {tokens = tokens} place 
 one_end : {text : List ℕ} {from to other_to : ℕ} {places others : List Token} {tokens other_tokens : List grammar.Token} → stops (front_of_text (drop to text)) ≡ true
     → stops (front_of_text (drop other_to text)) ≡ true → Placed text from to places tokens → Placed text from other_to others other_tokens → (to ≡ other_to) × (places ≡ others)
 one_end h k none_placed y = let i = inverse_none h y in (i.0, sym i.1)
-one_end {text} {other_to = other_to} {others = others} h k (skip_placed {next = next} f w more) y =
+one_end {text} {other_to = other_to} {others = others} h k (skip_placed {next = next} f l w more) y =
     let i = inverse_skip f k y in
     let e = same_place text i.next next i.within w i.here in
     one_end h k more (subst (λ x. Placed text x other_to others i.tokens) e i.more)

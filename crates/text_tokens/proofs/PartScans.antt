@@ -1,6 +1,6 @@
 -- What stands between two dots of a version, byte by byte: numerals and identifiers.
 use Rattle.std.proofs.Common.{◌≡◌, refl, sym, ap, ◌∙◌, ℕ, Bool, true, false, ◌&&◌, ◌==◌, not, List, [], ◌∷◌, length, arith, nat_lt}
-use Rattle.std.proofs.lemmas.Bool.{lt-ltb}
+use Rattle.std.proofs.lemmas.Bool.{lt-ltb, or_left}
 use Rattle.std.proofs.lemmas.{Bool.Decides.nat_tests}
 use Rattle.std.specs.{Char.is_ascii_digit, List.list_all}
 use Rattle.semver.specs.Grammar.{is_identifier_byte, is_build_identifier, is_pre_identifier}
@@ -9,15 +9,13 @@ use Rattle.wit_model.specs.Names.{is_numeral}
 use Rattle.text_tokens.specs.declared.number.Part.{Part}
 use Rattle.text_tokens.specs.declared.number.Part.TheVariants.{Empty, Zero, Zeros, Digits, Letters, Bad}
 use Rattle.text_tokens.specs.Numbers.{after_zero, after_digit, after_letter, part_step, numeral_is_ok, pre_is_ok, build_is_ok}
-use Rattle.text_tokens.proofs.Runs.{run, and-true, and-false}
+use Rattle.base_lemmas.proofs.{Bools.and-true, Bools.no-and}
+use Rattle.text_tokens.proofs.Runs.{run}
 
 -- ---- the classes of bytes
 
 zero_digit : (c : ℕ) → (c == 48) ≡ true → is_ascii_digit c ≡ true
 zero_digit c h = grind (arith, nat_tests)
-
-digit_identifier : (c : ℕ) → is_ascii_digit c ≡ true → is_identifier_byte c ≡ true
-digit_identifier c h = grind (arith, nat_tests)
 
 -- a zero, another digit, a letter or a dash, or another byte
 pub data Class (c : ℕ) : Type 0 where
@@ -30,8 +28,8 @@ pub class_of : (c : ℕ) → Class c
 class_of c = go (c == 48) (is_ascii_digit c) (is_identifier_byte c) refl refl refl
   where
     go : (z d i : Bool) → (c == 48) ≡ z → is_ascii_digit c ≡ d → is_identifier_byte c ≡ i → Class c
-    go true d i e f g = is_zero e (zero_digit c e) (digit_identifier c (zero_digit c e))
-    go false true i e f g = is_digit e f (digit_identifier c f)
+    go true d i e f g = is_zero e (zero_digit c e) (or_left _ _ (or_left _ _ (or_left _ _ (zero_digit c e))))
+    go false true i e f g = is_digit e f (or_left _ _ (or_left _ _ (or_left _ _ f)))
     go false false true e f g = is_letter e f g
     go false false false e f g = is_other e f g
 
@@ -199,7 +197,7 @@ after_one_zero c = go (class_of c)
 
 zero-numeral : (cs : List ℕ) → (is_numeric cs && not (nat_lt 0 (length cs))) ≡ numeral_is_ok (run part_step Zero cs)
 zero-numeral [] = refl
-zero-numeral (c ∷ cs) = rw (some c cs) (and-false (is_numeric (c ∷ cs)) ∙ sym (no_numeral-run cs (part_step Zero c) (after_one_zero c)))
+zero-numeral (c ∷ cs) = rw (some c cs) (no-and (is_numeric (c ∷ cs)) ∙ sym (no_numeral-run cs (part_step Zero c) (after_one_zero c)))
 
 pub numeral_part : (text : List ℕ) → is_numeral text ≡ numeral_is_ok (run part_step Empty text)
 numeral_part [] = refl
@@ -266,6 +264,6 @@ pre_part (c ∷ cs) = rw (some c cs) (go (class_of c))
     go : Class c → ((is_identifier_byte c && list_all is_identifier_byte cs) && not ((is_ascii_digit c && is_numeric cs) && ((c == 48) && nat_lt 0 (length cs))))
         ≡ pre_is_ok (run part_step (part_step Empty c) cs)
     go (is_zero e f g) = rw (step-zero Empty c e, e, g, f) (zero-pre cs)
-    go (is_digit e f g) = rw (step-digit Empty c e f, e, g, f, and-false (is_numeric cs)) (and-true (list_all is_identifier_byte cs) ∙ sym (number-run cs))
+    go (is_digit e f g) = rw (step-digit Empty c e f, e, g, f, no-and (is_numeric cs)) (and-true (list_all is_identifier_byte cs) ∙ sym (number-run cs))
     go (is_letter e f g) = rw (step-letter Empty c e f g, g, f) (and-true (list_all is_identifier_byte cs) ∙ sym (letters-run cs))
     go (is_other e f g) = rw (step-other Empty c e f g, g) (sym (bad_ends pre_is_ok cs refl))

@@ -2,6 +2,7 @@
 use Rattle.std.proofs.Common.{◌≡◌, refl, ap, ◌∙◌, subst, ℕ, ◌+◌, ◌-◌, ◌<◌, ◌≤◌, List, [], ◌∷◌, ◌++◌, length, Option, Some, None, take, drop, arith}
 use Rattle.std.specs.{Option.option_map}
 use Rattle.std.proofs.lemmas.List.{drop_all, drop-drop}
+use Rattle.base_lemmas.proofs.{Options.there}
 use Rattle.print_grammar.specs.Token as grammar
 use Rattle.print_grammar.specs.Token.Front.{Ended, Skipped, Found, Unknown}
 use Rattle.print_grammar.specs.Token.{Tokens, front_of_text, found, longest, spelled}
@@ -11,22 +12,22 @@ use Rattle.text_tokens.specs.declared.token.Kind.{Kind}
 use Rattle.text_tokens.specs.declared.token.Token.{Token}
 use Rattle.text_tokens.specs.Kinds.{kind_here}
 use Rattle.text_tokens.specs.Places.Placed.{none_placed, skip_placed, one_placed}
-use Rattle.text_tokens.specs.Places.{HasNoTokenAt, HasTokensAt, Placed, StandsAt}
+use Rattle.text_tokens.specs.Places.{HasTokensAt, Placed, StandsAt}
 use Rattle.text_tokens.specs.States.{reach, taken}
 use Rattle.text_tokens.specs.Steps.{BeginsHere, IsUnknown, SkipsTo}
 use Rattle.text_tokens.proofs.EndFacts.{ends_at}
-use Rattle.text_tokens.proofs.TokenScans.{longest_scan, reach_ok, some_if, spelled_ok}
+use Rattle.text_tokens.proofs.TokenScans.{longest_scan, reach_ok, spelled_ok}
 
 -- ---- a token at a place
 
 -- the token of so many bytes
-token_of : (text : List ℕ) (n : ℕ) → reach Start text ≡ Some n → (t : grammar.Token) × (spelled (take n text) ≡ Some t)
-token_of text n e = some_if (spelled (take n text)) (spelled_ok (take n text) ∙ reach_ok text Start n e)
+pub token_of : (text : List ℕ) (n : ℕ) → reach Start text ≡ Some n → (t : grammar.Token) × (spelled (take n text) ≡ Some t)
+token_of text n e = there (spelled (take n text)) (spelled_ok (take n text) ∙ reach_ok text Start n e)
 
 taken-some : (text : List ℕ) (n : ℕ) (t : grammar.Token) → spelled (take n text) ≡ Some t → taken [] text (Some n) ≡ Some (record { token = t; rest = drop n text })
 taken-some text n t e = ap (option_map (λ x. record { token = x; rest = drop n text })) e
 
-longest-some : (text : List ℕ) (n : ℕ) (t : grammar.Token) → reach Start text ≡ Some n → spelled (take n text) ≡ Some t → longest [] text ≡ Some (record { token = t; rest = drop n text })
+pub longest-some : (text : List ℕ) (n : ℕ) (t : grammar.Token) → reach Start text ≡ Some n → spelled (take n text) ≡ Some t → longest [] text ≡ Some (record { token = t; rest = drop n text })
 longest-some text n t e f = longest_scan text ∙ (ap (taken [] text) e ∙ taken-some text n t f)
 
 pub begins_here : (text : List ℕ) (at end : ℕ) (kind : Kind) → front_of_text (drop at text) ≡ found (longest [] (drop at text))
@@ -64,14 +65,14 @@ unknown_here text at front e within = go (reach Start (drop at text)) refl e
 pub placed-one : {text : List ℕ} {from at : ℕ} {places : List Token} {tokens : List grammar.Token} (place : Token) (t : grammar.Token) → StandsAt text place t → place.start ≡ at
     → Placed text from at places tokens → Placed text from place.end (places ++ place ∷ []) (tokens ++ t ∷ [])
 placed-one {text} place t s e none_placed = subst (λ x. Placed text x place.end (place ∷ []) (t ∷ [])) e (one_placed place t s none_placed)
-placed-one place t s e (skip_placed f w more) = skip_placed f w (placed-one place t s e more)
+placed-one place t s e (skip_placed f l w more) = skip_placed f l w (placed-one place t s e more)
 placed-one place t s e (one_placed other u r more) = one_placed other u r (placed-one place t s e more)
 
-pub placed-skip : {text : List ℕ} {from at next : ℕ} {places : List Token} {tokens : List grammar.Token} → front_of_text (drop at text) ≡ Skipped (drop next text) → next ≤ length text
+pub placed-skip : {text : List ℕ} {from at next : ℕ} {places : List Token} {tokens : List grammar.Token} → front_of_text (drop at text) ≡ Skipped (drop next text) → at < next → next ≤ length text
     → Placed text from at places tokens → Placed text from next places tokens
-placed-skip e w none_placed = skip_placed e w none_placed
-placed-skip e w (skip_placed f v more) = skip_placed f v (placed-skip e w more)
-placed-skip e w (one_placed other u r more) = one_placed other u r (placed-skip e w more)
+placed-skip e h w none_placed = skip_placed e h w none_placed
+placed-skip e h w (skip_placed f l v more) = skip_placed f l v (placed-skip e h w more)
+placed-skip e h w (one_placed other u r more) = one_placed other u r (placed-skip e h w more)
 
 -- ---- the whole text
 
@@ -81,7 +82,7 @@ at_end text at e = ap front_of_text (drop_all at text (omega arith))
 -- Tokens with places up to the end are the text's tokens.
 pub placed-tokens : {text : List ℕ} {from to : ℕ} {places : List Token} {tokens : List grammar.Token} → to ≡ length text → Placed text from to places tokens → Tokens (drop from text) tokens
 placed-tokens {text} {from} e none_placed = no_tokens (at_end text from e)
-placed-tokens e (skip_placed f w more) = skip f (placed-tokens e more)
+placed-tokens e (skip_placed f l w more) = skip f (placed-tokens e more)
 placed-tokens e (one_placed place t s more) = token s.found (placed-tokens e more)
 
 unknown_none : {text : List ℕ} {others : List grammar.Token} → front_of_text text ≡ Unknown → Tokens text others → ⊥
@@ -103,7 +104,7 @@ after_token {rest} h (token {rest = behind} {tokens = further} p more) = let e :
 pub no_others : {text : List ℕ} {from to : ℕ} {places : List Token} {tokens others : List grammar.Token} → front_of_text (drop to text) ≡ Unknown → Placed text from to places tokens
     → Tokens (drop from text) others → ⊥
 no_others h none_placed x = unknown_none h x
-no_others h (skip_placed f w more) x = no_others h more (after_skip f x)
+no_others h (skip_placed f l w more) x = no_others h more (after_skip f x)
 no_others h (one_placed place t s more) x = no_others h more ((after_token s.found x).1)
 
 -- ---- the loop
@@ -118,20 +119,10 @@ pub so_far_none : (text : List ℕ) → SoFar text 0 []
 so_far_none text = record { tokens = []; placed = none_placed; within = omega arith }
 
 pub so_far_skip : (text : List ℕ) (at next : ℕ) (places : List Token) → SoFar text at places → SkipsTo text at next → SoFar text next places
-so_far_skip text at next places s k = record { tokens = s.tokens; placed = placed-skip k.skipped k.within s.placed; within = k.within }
+so_far_skip text at next places s k = record { tokens = s.tokens; placed = placed-skip k.skipped k.further k.within s.placed; within = k.within }
 
 pub so_far_one : (text : List ℕ) (at : ℕ) (place : Token) (places : List Token) → SoFar text at places → BeginsHere text at place → SoFar text place.end (places ++ place ∷ [])
 so_far_one text at place places s b = record { tokens = s.tokens ++ b.token ∷ []; placed = placed-one place b.token b.stands b.here s.placed; within = b.stands.within }
 
 pub has_tokens : (text : List ℕ) (at : ℕ) (places : List Token) → SoFar text at places → at ≡ length text → HasTokensAt text places
 has_tokens text at places s e = record { tokens = s.tokens; spelled = placed-tokens e s.placed; placed = subst (λ x. Placed text 0 x places s.tokens) e s.placed }
-
-pub has_no_token : (text : List ℕ) (at : ℕ) (places : List Token) → SoFar text at places → IsUnknown text at → HasNoTokenAt text at
-has_no_token text at places s u = record {
-  places = places;
-  tokens = s.tokens;
-  placed = s.placed;
-  within = u.within;
-  unknown = u.unknown;
-  none = λ others x. no_others u.unknown s.placed x;
-}

@@ -4,6 +4,7 @@ use Rattle.std.proofs.lemmas.List.Splits.{slice_split-cons_yes, slice_split-cons
 use Rattle.std.specs.List.{list_all, slice_split, onto_first}
 use Rattle.std.specs.Option.{option_map, option_map_or}
 use Rattle.wit_model.specs.Names.{cut}
+use Rattle.base_lemmas.proofs.Bools.{and-true}
 
 -- the state after a text
 abbrev pub run : {S : Type 0} → (S → ℕ → S) → S → List ℕ → S
@@ -36,14 +37,6 @@ onto_nil m (c ∷ cs) = go (c == m) refl
     go : (b : Bool) → (c == m) ≡ b → onto [] (slice_split (λ b. b == m) (c ∷ cs)) ≡ slice_split (λ b. b == m) (c ∷ cs)
     go true d = rw (slice_split-cons_yes (λ b. b == m) c cs d) refl
     go false d = rw (slice_split-cons_no (λ b. b == m) c cs d) (onto_nil-first c (slice_split (λ b. b == m) cs))
-
-pub and-true : (b : Bool) → (b && true) ≡ b
-and-true true = refl
-and-true false = refl
-
-pub and-false : (b : Bool) → (b && false) ≡ false
-and-false true = refl
-and-false false = refl
 
 -- the mark, and what follows it
 pub split-yes : (m : ℕ) (p : List ℕ) (c : ℕ) (cs : List ℕ) → (c == m) ≡ true → onto p (slice_split (λ b. b == m) (c ∷ cs)) ≡ p ∷ onto [] (slice_split (λ b. b == m) cs)

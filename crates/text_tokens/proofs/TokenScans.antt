@@ -16,14 +16,15 @@ use Rattle.text_tokens.specs.declared.quote.Quote.TheVariants.{Between}
 use Rattle.text_tokens.specs.declared.state.State.{State}
 use Rattle.text_tokens.specs.declared.state.State.TheVariants.{Start, Percent, InWord, InNumber, InQuote, Minus, Done, Dead}
 use Rattle.text_tokens.specs.declared.word.Word.{Word}
-use Rattle.text_tokens.specs.Numbers.{core_is_dead, core_is_ok, core_is_digits, core_step, digits_are_ok, numeral_is_ok, number_is_dead, number_is_ok, number_start, number_step, release_step}
+use Rattle.text_tokens.specs.Numbers.{core_is_dead, core_is_ok, core_is_digits, core_step, numeral_is_ok, number_is_dead, number_is_ok, number_start, number_step, release_step}
 use Rattle.text_tokens.specs.States.{is_dead, is_ok, mark_step, reach, step, taken}
 use Rattle.text_tokens.specs.Words.{word_start, word_step}
 use Rattle.text_tokens.proofs.MarkScans.{marks}
-use Rattle.text_tokens.proofs.NumberScans.{numbers, no_digits, no_digits_stays, no_dot}
+use Rattle.text_tokens.proofs.NumberScans.{numbers, no_digits, no_digits_ok, no_digits_stays, no_dot}
 use Rattle.text_tokens.proofs.PartScans.{bad_stays}
 use Rattle.text_tokens.proofs.QuoteScans.{dead-run, dead_quote_stays, is_some-map, string-run}
-use Rattle.text_tokens.proofs.Runs.{run, run-append, and-false}
+use Rattle.base_lemmas.proofs.{Bools.no-and}
+use Rattle.text_tokens.proofs.Runs.{run, run-append}
 use Rattle.text_tokens.proofs.WordScans.{fragments, dead_word_not_ok, dead_word_stays}
 
 -- ---- a dead scan
@@ -44,19 +45,11 @@ no_digits_numeral Digits e = absurd (cc e)
 no_digits_numeral Letters e = refl
 no_digits_numeral Bad e = refl
 
-no_digits_digits : (q : Part) → no_digits q ≡ true → digits_are_ok q ≡ false
-no_digits_digits Empty e = refl
-no_digits_digits Zero e = absurd (cc e)
-no_digits_digits Zeros e = absurd (cc e)
-no_digits_digits Digits e = absurd (cc e)
-no_digits_digits Letters e = refl
-no_digits_digits Bad e = refl
-
 core_not_ok : (k : Core) → no_digits k.part ≡ true → core_is_ok k ≡ false
-core_not_ok k h = ap (λ b. (k.dots == 2) && b) (no_digits_numeral k.part h) ∙ and-false (k.dots == 2)
+core_not_ok k h = ap (λ b. (k.dots == 2) && b) (no_digits_numeral k.part h) ∙ no-and (k.dots == 2)
 
 core_no_digits : (k : Core) → no_digits k.part ≡ true → core_is_digits k ≡ false
-core_no_digits k h = ap (λ b. (k.dots == 0) && b) (no_digits_digits k.part h) ∙ and-false (k.dots == 0)
+core_no_digits k h = ap (λ b. (k.dots == 0) && b) (no_digits_ok k.part h) ∙ no-and (k.dots == 0)
 
 dead_core_stays : (k : Core) (c : ℕ) → no_digits k.part ≡ true → no_digits ((core_step k c).part) ≡ true
 dead_core_stays k c h = go (c == 46) refl
@@ -246,13 +239,9 @@ reach_ok (c ∷ cs) s n h = go (is_dead s) (reach (step s c) cs) refl (reach_ok 
     go false (Some m) e k f = let z : suc m ≡ n = cc in rw (← z) (k m e)
     go false None e k f = here (is_ok s) refl f
 
-none_if : {X : Type 0} (o : Option X) → is_some o ≡ false → o ≡ None
-none_if None h = refl
-none_if (Some x) h = absurd (cc h)
-
-pub some_if : {X : Type 0} (o : Option X) → is_some o ≡ true → (x : X) × (o ≡ Some x)
-some_if None h = absurd (cc h)
-some_if (Some x) h = (x, refl)
+mapped_none : {X Y : Type 0} (f : X → Y) (o : Option X) → is_some o ≡ false → option_map f o ≡ None
+mapped_none f None h = refl
+mapped_none f (Some x) h = absurd (cc h)
 
 run-app : (s : State) (xs ys : List ℕ) → run step s (xs ++ ys) ≡ run step (run step s xs) ys
 run-app s [] ys = refl
@@ -262,7 +251,7 @@ run-app s (x ∷ xs) ys = run-app (step s x) xs ys
 here_taken : (front rest : List ℕ) (b : Bool) → is_some (spelled front) ≡ b
     → option_map (λ t. record { token = t; rest = rest }) (spelled front) ≡ taken front rest (if b then Some 0 else None)
 here_taken front rest true e = rw (append-nil front) refl
-here_taken front rest false e = ap (option_map (λ t. record { token = t; rest = rest })) (none_if (spelled front) e)
+here_taken front rest false e = mapped_none (λ t. record { token = t; rest = rest }) (spelled front) (e)
 
 -- a longer one, or else this
 abbrev or_here : List ℕ → List ℕ → Option Taken → Option Taken
@@ -289,7 +278,7 @@ longest-taken front (c ∷ cs) =
         → or_here front (c ∷ cs) (taken (front ++ c ∷ []) cs o)
         ≡ taken front (c ∷ cs) (if d then None else elim o [ Some n ↦ Some (suc n) | None ↦ if is_ok (run step Start front) then Some 0 else None ])
     go true e (Some n) f = absurd (cc (dead-reach (step (run step Start front) c) cs (dead_stays (run step Start front) c e), f))
-    go true e None f = ap (option_map (λ t. record { token = t; rest = c ∷ cs })) (none_if (spelled front) (spelled_ok front ∙ dead_not_ok (run step Start front) e))
+    go true e None f = mapped_none (λ t. record { token = t; rest = c ∷ cs }) (spelled front) ((spelled_ok front ∙ dead_not_ok (run step Start front) e))
     go false e (Some n) f = found n (spelled ((front ++ c ∷ []) ++ take n cs)) (longer n f) refl
     go false e None f = here_taken front (c ∷ cs) (is_ok (run step Start front)) (spelled_ok front)
 

@@ -6,7 +6,8 @@ use Rattle.std.specs.List.{list_all, slice_split}
 use Rattle.wit_model.specs.Names.{is_fragment, is_lower_byte, is_upper_byte}
 use Rattle.text_tokens.specs.declared.word.Word.{Word}
 use Rattle.text_tokens.specs.Words.{word_start, word_ok, word_is_dead, word_step}
-use Rattle.text_tokens.proofs.Runs.{run, onto_nil, and-true, parts-run}
+use Rattle.base_lemmas.proofs.{Bools.and-true}
+use Rattle.text_tokens.proofs.Runs.{run, onto_nil, parts-run}
 
 some-append : (p : List ℕ) (c : ℕ) → nat_lt 0 (length (p ++ c ∷ [])) ≡ true
 some-append p c = lt-ltb 0 (length (p ++ c ∷ [])) (omega (arith, length-append p (c ∷ [])))

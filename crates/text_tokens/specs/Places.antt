@@ -1,5 +1,5 @@
 -- The tokens of a text with their places.
-use Rattle.std.specs.Prelude.{◌≡◌, ◌≤◌, ◌<◌, ◌^◌, ℕ, List, [], ◌∷◌, drop, length}
+use Rattle.std.specs.Prelude.{◌≡◌, ◌≤◌, ◌<◌, ◌^◌, ℕ, List, [], ◌∷◌, drop, take, length}
 use Rattle.print_grammar.specs.Token as grammar
 use Rattle.print_grammar.specs.Token.{Front as front}
 use Rattle.text_tokens.specs.declared.token.Token.{Token}
@@ -18,8 +18,7 @@ pub record StandsAt (text : List ℕ) (place : Token) (token : grammar.Token) : 
 pub data Placed (text : List ℕ) : ℕ → ℕ → List Token → List grammar.Token → Type 0 where
   none_placed : {at : ℕ} → Placed text at at [] []
   skip_placed : {at next to : ℕ} {places : List Token} {tokens : List grammar.Token} → grammar.front_of_text (drop at text) ≡ front.Skipped (drop next text)
-      → next ≤ length text
-      → Placed text next to places tokens → Placed text at to places tokens
+      → at < next → next ≤ length text → Placed text next to places tokens → Placed text at to places tokens
   one_placed : {to : ℕ} {places : List Token} {tokens : List grammar.Token} (place : Token) (token : grammar.Token) → StandsAt text place token
       → Placed text place.end to places tokens → Placed text place.start to (place ∷ places) (token ∷ tokens)
 
@@ -29,11 +28,12 @@ pub record HasTokensAt (text : List ℕ) (places : List Token) : Type 0 where
   pub spelled : grammar.Tokens text tokens
   pub placed : Placed text 0 (length text) places tokens
 
--- At this byte, before the end, no token begins, and neither a blank nor a comment; up to there the text is tokens, blanks and comments.
--- So the text has no tokens.
+-- At this byte, before the end, no token begins, and neither a blank nor a comment. The text up to there has tokens, and these are their places,
+-- in the whole text too. So the whole text has none.
 pub record HasNoTokenAt (text : List ℕ) (at : ℕ) : Type 0 where
   pub places : List Token
   pub tokens : List grammar.Token
+  pub before : grammar.Tokens (take at text) tokens
   pub placed : Placed text 0 at places tokens
   pub within : at < length text
   pub unknown : grammar.front_of_text (drop at text) ≡ front.Unknown

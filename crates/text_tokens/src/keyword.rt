@@ -1,6 +1,6 @@
 //! The keywords of WIT text.
 
-ghost use Rattle.std.specs.Prelude.{◌≡◌, ◌∷◌, ℕ, List, option_map};
+ghost use Rattle.std.specs.Prelude.{◌≡◌, ◌≤◌, ◌<◌, ◌∷◌, ℕ, List, option_map};
 ghost use Rattle.wit_model.specs.Text.{text_eq};
 ghost use Rattle.print_grammar.specs.Keyword.{keyword_of as keyword_of_lem, keyword_texts};
 ghost use Rattle.text_tokens.specs.Kinds.{entry_here, entry_in, keyword_here};
@@ -62,11 +62,13 @@ pub enum Keyword {
     Map,
 }
 
-/// The keywords that begin with this lower-case letter. No byte but these and `_` begins one.
-fn keywords_with(first: u8) -> &'static [(&'static str, Keyword)]
+/// The keywords that begin with this byte, which comes before `i`.
+fn first_keywords(first: u8) -> &'static [(&'static str, Keyword)]
+    requires { first < 105 }
     ensures { (rest : List ℕ) → entry_in result.now (first ∷ rest) ≡ entry_here keyword_texts (first ∷ rest) }
 {
     match first {
+        b'_' => &[("_", Keyword::Underscore)],
         b'a' => &[("as", Keyword::As), ("async", Keyword::Async)],
         b'b' => &[
             ("bool", Keyword::PrimitiveWord(Primitive::Bool)),
@@ -94,6 +96,17 @@ fn keywords_with(first: u8) -> &'static [(&'static str, Keyword)]
             ("future", Keyword::Future),
             ("from", Keyword::From),
         ],
+        _ => &[],
+    }
+}
+
+/// The keywords that begin with this byte, from `i` to `r`.
+fn middle_keywords(first: u8) -> &'static [(&'static str, Keyword)]
+    requires after { 105 ≤ first }
+    requires before { first < 115 }
+    ensures { (rest : List ℕ) → entry_in result.now (first ∷ rest) ≡ entry_here keyword_texts (first ∷ rest) }
+{
+    match first {
         b'i' => &[
             ("interface", Keyword::Interface),
             ("import", Keyword::Import),
@@ -108,6 +121,16 @@ fn keywords_with(first: u8) -> &'static [(&'static str, Keyword)]
             ("record", Keyword::Record),
             ("result", Keyword::Result),
         ],
+        _ => &[],
+    }
+}
+
+/// The keywords that begin with this byte, which comes behind `r`.
+fn last_keywords(first: u8) -> &'static [(&'static str, Keyword)]
+    requires { 115 ≤ first }
+    ensures { (rest : List ℕ) → entry_in result.now (first ∷ rest) ≡ entry_here keyword_texts (first ∷ rest) }
+{
+    match first {
         b's' => &[
             ("s8", Keyword::PrimitiveWord(Primitive::S8)),
             ("s16", Keyword::PrimitiveWord(Primitive::S16)),
@@ -127,8 +150,20 @@ fn keywords_with(first: u8) -> &'static [(&'static str, Keyword)]
         ],
         b'v' => &[("variant", Keyword::Variant)],
         b'w' => &[("world", Keyword::World), ("with", Keyword::With)],
-        b'_' => &[("_", Keyword::Underscore)],
         _ => &[],
+    }
+}
+
+/// The keywords that begin with this byte.
+fn keywords_with(first: u8) -> &'static [(&'static str, Keyword)]
+    ensures { (rest : List ℕ) → entry_in result.now (first ∷ rest) ≡ entry_here keyword_texts (first ∷ rest) }
+{
+    if first < b'i' {
+        first_keywords(first)
+    } else if first < b's' {
+        middle_keywords(first)
+    } else {
+        last_keywords(first)
     }
 }
 

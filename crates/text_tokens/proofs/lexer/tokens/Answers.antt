@@ -1,6 +1,7 @@
 use Rattle.std.proofs.Common.{subst}
 use Rattle.text_tokens.specs.Places.{HasNoTokenAt, HasTokensAt}
-use Rattle.text_tokens.proofs.PlaceFacts.{has_no_token, has_tokens, so_far_none, so_far_one, so_far_skip}
+use Rattle.text_tokens.proofs.CutTexts.{has_no_token}
+use Rattle.text_tokens.proofs.PlaceFacts.{has_tokens, so_far_none, so_far_one, so_far_skip}
 use Rattle.text_tokens.proofs.lexer.tokens.Goals as goal
 
 pub places-init : goal.places-init
