@@ -16,3 +16,7 @@ pub mod SteadyFiles
 pub mod Extending
 pub mod Enough
 mod ReaderExamples
+-- What stands among tokens from a place on. Serves front::token_at.
+pub mod Ahead
+-- Readings that go on, or are refused, as their first steps are. Serves front::more_at.
+pub mod Going

@@ -5,3 +5,4 @@ pub mod ReadFiles
 pub mod Levels
 pub mod Places
 pub mod Laws
+pub mod Seen

@@ -1,0 +1,34 @@
+//! Trees of WIT text. Names, numbers, versions and strings are spans of the text that was read.
+
+use text_tokens::Primitive;
+
+/// Bytes of a text, from `start` on, up to before `end`.
+#[derive(Clone, Copy, Debug, PartialEq, Eq)]
+pub struct Span {
+    pub start: u32,
+    pub end: u32,
+}
+
+/// A type where it is used (WIT.md, Types).
+#[derive(Drop)]
+pub enum TypeTree {
+    PrimitiveType(Primitive),
+    /// A declared type, without `%`.
+    Name(Span),
+    Own(Span),
+    Borrow(Span),
+    TupleOf(Vec<TypeTree>),
+    OptionOf(Box<TypeTree>),
+    ListOf(Box<TypeTree>),
+    /// A list of so many elements, by the digits of the number.
+    FixedListOf(Box<TypeTree>, Span),
+    MapOf(Box<TypeTree>, Box<TypeTree>),
+    Result,
+    ResultOk(Box<TypeTree>),
+    ResultErr(Box<TypeTree>),
+    ResultOf(Box<TypeTree>, Box<TypeTree>),
+    Future,
+    FutureOf(Box<TypeTree>),
+    Stream,
+    StreamOf(Box<TypeTree>),
+}
