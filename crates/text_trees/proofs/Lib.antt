@@ -20,3 +20,7 @@ mod ReaderExamples
 pub mod Ahead
 -- Readings that go on, or are refused, as their first steps are. Serves front::more_at.
 pub mod Going
+-- The types of a tuple, as a row and as a list. Serves types::tuple_of.
+pub mod Rows
+-- Loops over lists with commas between. Serves types::types_at.
+pub mod Listings

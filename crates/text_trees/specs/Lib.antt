@@ -6,3 +6,4 @@ pub mod Levels
 pub mod Places
 pub mod Laws
 pub mod Seen
+pub mod TreesSeen

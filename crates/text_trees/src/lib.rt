@@ -6,6 +6,7 @@ mod keywords;
 pub mod laws;
 mod refusal;
 mod tree;
+mod types;
 
 pub use refusal::{Wanted, Word};
 pub use tree::{Span, TypeTree};

@@ -1,0 +1,67 @@
+-- What trees of the code are by the grammar, in the text that their spans are of.
+use Rattle.std.specs.Prelude.{◌≡◌, ℕ, List, [], ◌∷◌, map, Option}
+use Rattle.std.specs.Option.{option_map}
+use Rattle.wit_model.specs.Text.{Text}
+use Rattle.print_grammar.specs.Tree.{TypeTree, TypeTrees}
+use Rattle.print_grammar.specs.Tree.TypeTree.{PrimitiveType, Name, Own, Borrow, TupleOf, OptionOf, ListOf, FixedListOf, MapOf, Result, ResultOk, ResultErr, ResultOf, Future, FutureOf, Stream, StreamOf}
+use Rattle.print_grammar.specs.Tree.TypeTrees.{NoTypes, AndTypes}
+use Rattle.text_trees.specs.declared.tree.TypeTree.{TypeTree as CodeTree, PrimitiveType as PrimitiveType', Name as Name', Own as Own', Borrow as Borrow', Result as Result', Future as Future', Stream as Stream', TupleOf', OptionOf', ListOf', FixedListOf', MapOf', ResultOk', ResultErr', ResultOf', FutureOf', StreamOf', Row_of-TypeTree, end_of-TypeTree, more_of-TypeTree}
+use Rattle.print_grammar.specs.Token.{Token, Mark.Less, Mark.Greater}
+use Rattle.text_trees.specs.Reading.{Reading, Reading.Found, behind_mark, id_in_front, if_mark, listed, made}
+use Rattle.text_trees.specs.ReadTypes.{in_brackets, list_in_front, map_in_front, payload_in_front, result_parts_in_front, tuple_types}
+use Rattle.text_trees.specs.declared.types.Form.{Form}
+use Rattle.text_trees.specs.declared.types.Form.TheVariants as form
+use Rattle.text_trees.specs.declared.types.Async.{Async}
+use Rattle.text_trees.specs.declared.types.Async.TheVariants as async
+use Rattle.text_trees.specs.Seen.{cut, number_of, primitive_there}
+
+abbrev mutual
+  -- a type
+  pub type_of : Text → CodeTree → TypeTree
+  type_of text (PrimitiveType' p) = PrimitiveType (primitive_there p)
+  type_of text (Name' span) = Name (cut text span)
+  type_of text (Own' span) = Own (cut text span)
+  type_of text (Borrow' span) = Borrow (cut text span)
+  type_of text (TupleOf' shape row) = TupleOf (row_of_types text row)
+  type_of text (OptionOf' p ty) = OptionOf (type_of text ty)
+  type_of text (ListOf' p ty) = ListOf (type_of text ty)
+  type_of text (FixedListOf' p ty digits) = FixedListOf (type_of text ty) (number_of (cut text digits))
+  type_of text (MapOf' p k q v) = MapOf (type_of text k) (type_of text v)
+  type_of text Result' = Result
+  type_of text (ResultOk' p ty) = ResultOk (type_of text ty)
+  type_of text (ResultErr' p ty) = ResultErr (type_of text ty)
+  type_of text (ResultOf' p a q b) = ResultOf (type_of text a) (type_of text b)
+  type_of text Future' = Future
+  type_of text (FutureOf' p ty) = FutureOf (type_of text ty)
+  type_of text Stream' = Stream
+  type_of text (StreamOf' p ty) = StreamOf (type_of text ty)
+
+  -- the types of a tuple
+  pub row_of_types : {m : _} → Text → Row_of-TypeTree m → TypeTrees
+  row_of_types text end_of-TypeTree = NoTypes
+  row_of_types text (more_of-TypeTree ty row) = AndTypes (type_of text ty) (row_of_types text row)
+
+-- a future or a stream alone
+abbrev pub alone_of : Async → TypeTree
+alone_of async.Future = Future
+alone_of async.Stream = Stream
+
+-- a future or a stream of values of a type
+abbrev pub carrying : Async → TypeTree → TypeTree
+carrying async.Future ty = FutureOf ty
+carrying async.Stream ty = StreamOf ty
+
+-- a result behind its word
+abbrev pub result_form_in_front : (List Token → Reading TypeTree) → List Token → Reading TypeTree
+result_form_in_front read = if_mark Less (result_parts_in_front read) (Found Result)
+
+-- what follows the keyword of a form
+abbrev pub form_behind : Form → (List Token → Reading TypeTree) → List Token → Reading TypeTree
+form_behind form.Own read ts = made Own (in_brackets id_in_front ts)
+form_behind form.Borrow read ts = made Borrow (in_brackets id_in_front ts)
+form_behind form.Tuple read ts = behind_mark Less (λ rest. made (λ types. TupleOf (tuple_types types)) (listed read Greater rest)) ts
+form_behind form.Option read ts = made OptionOf (in_brackets read ts)
+form_behind form.List read ts = list_in_front read ts
+form_behind form.Map read ts = map_in_front read ts
+form_behind form.Result read ts = result_form_in_front read ts
+form_behind (form.Async which) read ts = payload_in_front (alone_of which) (carrying which) read ts
