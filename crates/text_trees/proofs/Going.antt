@@ -1,13 +1,14 @@
 -- Readings that go on, or are refused, as their first steps are.
-use Rattle.std.proofs.Common.{◌≡◌, refl, ap, sym, ◌∙◌, ℕ, ◌+◌, List, zero, suc, ◌<◌, ◌-◌, arith, sub-one}
+use Rattle.std.proofs.Common.{◌≡◌, refl, ap, sym, ◌∙◌, ℕ, ◌+◌, List, zero, suc, ◌<◌, ◌-◌, arith, sub-one, subst, true, false, if◌then◌else◌}
 use Rattle.text_trees.specs.ReadTypes.{form_in_front, level_in_front, type_in_front}
 use Rattle.print_grammar.specs.Token.{Token, Mark}
 use Rattle.print_grammar.specs.Keyword.{Keyword}
 use Rattle.text_trees.specs.declared.front.Tokens.{Tokens}
 use Rattle.text_trees.specs.declared.refusal.Refusal.{Refusal}
 use Rattle.text_trees.specs.declared.refusal.Refusal.TheVariants.{Memory, Wanted as NotThere}
-use Rattle.text_trees.specs.Reading.{Reading, Reading.Found, Reading.Refused, Wanted.Shallower, then_read, made, behind, begins, begins_key, behind_mark, if_mark, behind_key, if_key}
-use Rattle.text_trees.specs.Seen.{RefusesAs, ahead}
+use Rattle.text_trees.specs.Reading.{Reading, Reading.Found, Reading.Refused, Wanted.Shallower, Wanted.AMark, then_read, made, behind, begins, begins_key, behind_mark, if_mark, behind_key, if_key}
+use Rattle.text_trees.specs.declared.refusal.Wanted.{Wanted as CodeWanted}
+use Rattle.text_trees.specs.Seen.{RefusesAs, ahead, wanted_there}
 use Rattle.text_trees.proofs.Ahead.{behind_ahead}
 
 pub made-refuses : {X Y : Type 0} (them : Tokens) (f : X → Y) (r : Reading X) (e : Refusal) → RefusesAs them e r → RefusesAs them e (made f r)
@@ -24,9 +25,33 @@ unfolding then_read
 then-refuses them r next Memory h = tt
 then-refuses them r next (NotThere w n) h = ap (λ x. then_read x next) h
 
-pub then-gives : {X Y : Type 0} (r : Reading X) (next : X → List Token → Reading Y) (x : X) (rest : List Token) → r ≡ Found x rest → then_read r next ≡ next x rest
-unfolding then_read
-then-gives r next x rest e = ap (λ y. then_read y next) e
+-- ---- steps that are taken
+
+pub mark_goes : {X : Type 0} (them : Tokens) (mark : Mark) (next : List Token → Reading X) (at from : ℕ) → begins mark (ahead them at) ≡ true → from ≡ at + 1
+    → behind_mark mark next (ahead them at) ≡ next (ahead them from)
+unfolding behind_mark
+mark_goes them mark next at from h e =
+    ap (λ b. if b then next (behind (ahead them at)) else Refused (AMark mark) (ahead them at)) h ∙ ap next (behind_ahead them at ∙ ap (ahead them) (sym e))
+
+pub if_mark_goes : {X : Type 0} (them : Tokens) (mark : Mark) (next other : List Token → Reading X) (at from : ℕ) → begins mark (ahead them at) ≡ true → from ≡ at + 1
+    → if_mark mark next other (ahead them at) ≡ next (ahead them from)
+unfolding if_mark
+if_mark_goes them mark next other at from h e =
+    ap (λ b. if b then next (behind (ahead them at)) else other (ahead them at)) h ∙ ap next (behind_ahead them at ∙ ap (ahead them) (sym e))
+
+pub if_key_goes : {X : Type 0} (them : Tokens) (keyword : Keyword) (next other : List Token → Reading X) (at from : ℕ) → begins_key keyword (ahead them at) ≡ true
+    → from ≡ at + 1 → if_key keyword next other (ahead them at) ≡ next (ahead them from)
+unfolding if_key
+if_key_goes them keyword next other at from h e =
+    ap (λ b. if b then next (behind (ahead them at)) else other (ahead them at)) h ∙ ap next (behind_ahead them at ∙ ap (ahead them) (sym e))
+
+-- a mark that isn't there
+pub mark_refused : {X : Type 0} (them : Tokens) (mark : Mark) (next : List Token → Reading X) (at : ℕ) (w : CodeWanted) (e : Refusal) → begins mark (ahead them at) ≡ false
+    → wanted_there w ≡ AMark mark → e ≡ NotThere w at → RefusesAs them e (behind_mark mark next (ahead them at))
+unfolding behind_mark
+mark_refused them mark next at w e h k f =
+    subst (λ r. RefusesAs them r (if begins mark (ahead them at) then next (behind (ahead them at)) else Refused (AMark mark) (ahead them at))) (sym f)
+    (ap (λ b. if b then next (behind (ahead them at)) else Refused (AMark mark) (ahead them at)) h ∙ ap (λ v. Refused v (ahead them at)) (sym k))
 
 -- a form, where there is room for it
 pub level_room : (room : ℕ) (ts : List Token) → 0 < room → level_in_front room ts ≡ form_in_front (type_in_front (room - 1)) ts

@@ -13,20 +13,20 @@ abbrev pub prepended : {X : Type 0} → List X → Reading (List X) → Reading 
 prepended [] r = r
 prepended (x ∷ xs) r = with_first x (prepended xs r)
 
-prepended-append : {X : Type 0} (xs : List X) (x : X) (r : Reading (List X)) → prepended (xs ++ x ∷ []) r ≡ prepended xs (with_first x r)
+pub prepended-append : {X : Type 0} (xs : List X) (x : X) (r : Reading (List X)) → prepended (xs ++ x ∷ []) r ≡ prepended xs (with_first x r)
 prepended-append [] x r = refl
 prepended-append (y ∷ xs) x r = ap (with_first y) (prepended-append xs x r)
 
-prepended-found : {X : Type 0} (xs ys : List X) (rest : List Token) → prepended xs (Found ys rest) ≡ Found (xs ++ ys) rest
+pub prepended-found : {X : Type 0} (xs ys : List X) (rest : List Token) → prepended xs (Found ys rest) ≡ Found (xs ++ ys) rest
 unfolding made
 prepended-found [] ys rest = refl
 prepended-found (x ∷ xs) ys rest = ap (with_first x) (prepended-found xs ys rest)
 
-prepended-refuses : {X : Type 0} (them : Tokens) (xs : List X) (r : Reading (List X)) (e : Refusal) → RefusesAs them e r → RefusesAs them e (prepended xs r)
+pub prepended-refuses : {X : Type 0} (them : Tokens) (xs : List X) (r : Reading (List X)) (e : Refusal) → RefusesAs them e r → RefusesAs them e (prepended xs r)
 prepended-refuses them [] r e h = h
 prepended-refuses them (x ∷ xs) r e h = made-refuses them (λ ys. x ∷ ys) (prepended xs r) e (prepended-refuses them xs r e h)
 
-map-append : {T X : Type 0} (view : T → X) (xs : List T) (x : T) → map view (xs ++ x ∷ []) ≡ map view xs ++ view x ∷ []
+pub map-append : {T X : Type 0} (view : T → X) (xs : List T) (x : T) → map view (xs ++ x ∷ []) ≡ map view xs ++ view x ∷ []
 map-append view [] x = refl
 map-append view (y ∷ xs) x = ap (λ r. view y ∷ r) (map-append view xs x)
 

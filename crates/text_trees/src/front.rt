@@ -109,7 +109,7 @@ pub(crate) fn keyword_at(tokens: &Tokens<'_>, keyword: Keyword, at: usize) -> Re
 }
 
 /// What a token is spelled with.
-fn span_of(token: Token) -> Span
+pub(crate) fn span_of(token: Token) -> Span
     ensures { (text : List ℕ) → cut text result ≡ part_lem text token.start token.end }
 {
     Span {
@@ -119,7 +119,7 @@ fn span_of(token: Token) -> Span
 }
 
 /// A span without its first byte.
-fn behind_first(span: Span) -> Span
+pub(crate) fn behind_first(span: Span) -> Span
     ensures { (text : List ℕ) → cut text result ≡ drop 1 (cut text span) }
 {
     let start = if span.start < span.end {

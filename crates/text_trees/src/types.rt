@@ -8,10 +8,14 @@ ghost use Rattle.text_trees.specs.Reading.{Reading, Reading.Refused, Wanted.ATyp
 ghost use Rattle.text_trees.specs.ReadTypes.{form_in_front, in_brackets, level_in_front, list_in_front, map_in_front, payload_in_front, primitive_of as primitive_of_lem, tuple_types, type_in_front};
 ghost use Rattle.text_trees.specs.Seen.{RefusesAs, ahead, count_of, cut, keyword_there, primitive_there, text_of};
 ghost use Rattle.text_trees.specs.TreesSeen.{alone_of, carrying, form_behind, result_form_in_front, type_of};
+ghost use Rattle.text_trees.specs.declared.types.Form.TheVariants.{Tuple};
 ghost use Rattle.text_trees.specs.declared.refusal.Refusal.TheVariants.{Memory};
 ghost use Rattle.print_grammar.specs.Token.Mark.{Greater};
 
-use crate::front::{Tokens, begins, begins_key, mark_at, more_at, name_at, number_at, token_at};
+use crate::front::{
+    Tokens, begins, begins_key, behind_first, mark_at, more_at, name_at, number_at, span_of,
+    token_at,
+};
 use crate::refusal::{Refusal, Wanted};
 use crate::tree::{Span, TypeTree};
 use std::alloc::Global;
@@ -140,14 +144,8 @@ pub(crate) fn type_at(
         return Err(Refusal::Wanted(Wanted::Type, at));
     };
     match token.kind {
-        Kind::Word => {
-            let (name, behind) = name_at(tokens, at)?;
-            Ok((TypeTree::Name(name), behind))
-        }
-        Kind::Escaped => {
-            let (name, behind) = name_at(tokens, at)?;
-            Ok((TypeTree::Name(name), behind))
-        }
+        Kind::Word => Ok((TypeTree::Name(span_of(token)), at + 1)),
+        Kind::Escaped => Ok((TypeTree::Name(behind_first(span_of(token))), at + 1)),
         Kind::Key(keyword) => match primitive_of(keyword) {
             Some(primitive) => Ok((TypeTree::PrimitiveType(primitive), at + 1)),
             None => level_at(alloc, tokens, at, room),
@@ -204,11 +202,7 @@ fn form_at(
             let (name, behind) = handle_at(tokens, at + 1)?;
             Ok((TypeTree::Borrow(name), behind))
         }
-        Some(Form::Tuple) => {
-            let from = mark_at(tokens, Mark::Less, at + 1)?;
-            let (types, behind) = types_at(alloc, tokens, from, room)?;
-            Ok((tuple_of(types), behind))
-        }
+        Some(Form::Tuple) => tuple_at(alloc, tokens, at + 1, room),
         Some(Form::Option) => option_at(alloc, tokens, at + 1, room),
         Some(Form::List) => list_at(alloc, tokens, at + 1, room),
         Some(Form::Map) => map_at(alloc, tokens, at + 1, room),
@@ -216,6 +210,26 @@ fn form_at(
         Some(Form::Async(which)) => payload_at(alloc, tokens, at + 1, room, which),
         None => Err(Refusal::Wanted(Wanted::Type, at)),
     }
+}
+
+/// The types in angle brackets of a tuple.
+#[cycle(types)]
+#[tactic(auto, using(crate::proofs::Going::going), unfolding(crate::specs::Reading::behind_mark))]
+fn tuple_at(
+    alloc: Global,
+    tokens: &Tokens<'_>,
+    at: usize,
+    room: u32,
+) -> Result<(TypeTree, usize), Refusal>
+    requires { at ≤ count_of tokens.now }
+    ensures ok { IfOk result (λ r. form_behind Tuple (type_in_front room) (ahead tokens.now at) ≡ Found (type_of (text_of tokens.now) r.0) (ahead tokens.now r.1)) }
+    ensures err { IfErr result (λ e. RefusesAs tokens.now e (form_behind Tuple (type_in_front room) (ahead tokens.now at))) }
+    ensures goes { IfOk result (λ r. at < r.1) }
+    ensures within { IfOk result (λ r. r.1 ≤ count_of tokens.now) }
+{
+    let from = mark_at(tokens, Mark::Less, at)?;
+    let (types, behind) = types_at(alloc, tokens, from, room)?;
+    Ok((tuple_of(types), behind))
 }
 
 /// The type in angle brackets of an option.
@@ -290,6 +304,7 @@ fn map_at(
 
 /// What a result has, in angle brackets if it has anything.
 #[cycle(types)]
+#[tactic(auto, using(crate::proofs::Going::going), unfolding(crate::specs::Reading::then_read, crate::specs::Reading::behind_mark, crate::specs::Reading::if_mark, crate::specs::Reading::if_key))]
 fn result_at(
     alloc: Global,
     tokens: &Tokens<'_>,
@@ -305,13 +320,14 @@ fn result_at(
     if !begins(tokens, Mark::Less, at) {
         return Ok((TypeTree::Result, at));
     }
-    if begins_key(tokens, Keyword::Underscore, at + 1) {
-        let from = mark_at(tokens, Mark::Comma, at + 2)?;
+    let inner = at + 1;
+    if begins_key(tokens, Keyword::Underscore, inner) {
+        let from = mark_at(tokens, Mark::Comma, inner + 1)?;
         let (err, end) = type_at(alloc, tokens, from, room)?;
         let behind = mark_at(tokens, Mark::Greater, end)?;
         return Ok((TypeTree::ResultErr(Box::new(alloc, err)?), behind));
     }
-    let (ok, end) = type_at(alloc, tokens, at + 1, room)?;
+    let (ok, end) = type_at(alloc, tokens, inner, room)?;
     if begins(tokens, Mark::Comma, end) {
         let (err, end) = type_at(alloc, tokens, end + 1, room)?;
         let behind = mark_at(tokens, Mark::Greater, end)?;
