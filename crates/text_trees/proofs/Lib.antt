@@ -24,3 +24,7 @@ pub mod Going
 pub mod Rows
 -- Loops over lists with commas between. Serves types::types_at.
 pub mod Listings
+-- Loops over things up to what ends them. Serves lists::until_at.
+pub mod Untils
+-- Words and attributes among tokens. Serves words::begins_attribute.
+pub mod Attributes

@@ -1,19 +1,26 @@
 -- What trees of the code are by the grammar, in the text that their spans are of.
-use Rattle.std.specs.Prelude.{◌≡◌, ℕ, List, [], ◌∷◌, map, Option}
+use Rattle.std.specs.Prelude.{Bool, List, [], map}
 use Rattle.std.specs.Option.{option_map}
 use Rattle.wit_model.specs.Text.{Text}
-use Rattle.print_grammar.specs.Tree.{TypeTree, TypeTrees}
+use Rattle.print_grammar.specs.Tree.{TypeTree, TypeTrees, Gates, Prefix, ParamTree, SignatureTree}
+use Rattle.print_grammar.specs.Tree.{Gates.Ungated, Gates.Since, Gates.Unstable}
+use Rattle.text_trees.specs.declared.tree.Gates.{Gates as CodeGates}
+use Rattle.text_trees.specs.declared.tree.Gates.TheVariants as gates
+use Rattle.text_trees.specs.declared.tree.{Prefix.Prefix as CodePrefix, ParamTree.ParamTree as CodeParam, SignatureTree.SignatureTree as CodeSignature}
 use Rattle.print_grammar.specs.Tree.TypeTree.{PrimitiveType, Name, Own, Borrow, TupleOf, OptionOf, ListOf, FixedListOf, MapOf, Result, ResultOk, ResultErr, ResultOf, Future, FutureOf, Stream, StreamOf}
 use Rattle.print_grammar.specs.Tree.TypeTrees.{NoTypes, AndTypes}
 use Rattle.text_trees.specs.declared.tree.TypeTree.{TypeTree as CodeTree, PrimitiveType as PrimitiveType', Name as Name', Own as Own', Borrow as Borrow', Result as Result', Future as Future', Stream as Stream', TupleOf', OptionOf', ListOf', FixedListOf', MapOf', ResultOk', ResultErr', ResultOf', FutureOf', StreamOf', Row_of-TypeTree, end_of-TypeTree, more_of-TypeTree}
 use Rattle.print_grammar.specs.Token.{Token, Mark.Less, Mark.Greater}
-use Rattle.text_trees.specs.Reading.{Reading, Reading.Found, behind_mark, id_in_front, if_mark, listed, made}
+use Rattle.text_trees.specs.Reading.{Reading, Reading.Found, begins, behind_mark, id_in_front, if_mark, listed, made}
 use Rattle.text_trees.specs.ReadTypes.{in_brackets, list_in_front, map_in_front, payload_in_front, result_parts_in_front, tuple_types}
+use Rattle.text_trees.specs.ReadFiles.{ends_items, is_end}
+use Rattle.text_trees.specs.declared.lists.Ends.{Ends}
+use Rattle.text_trees.specs.declared.lists.Ends.TheVariants as ends
 use Rattle.text_trees.specs.declared.types.Form.{Form}
 use Rattle.text_trees.specs.declared.types.Form.TheVariants as form
 use Rattle.text_trees.specs.declared.types.Async.{Async}
 use Rattle.text_trees.specs.declared.types.Async.TheVariants as async
-use Rattle.text_trees.specs.Seen.{cut, number_of, primitive_there}
+use Rattle.text_trees.specs.Seen.{characters_of, cut, mark_there, number_of, primitive_there}
 
 abbrev mutual
   -- a type
@@ -65,3 +72,31 @@ form_behind form.List read ts = list_in_front read ts
 form_behind form.Map read ts = map_in_front read ts
 form_behind form.Result read ts = result_form_in_front read ts
 form_behind (form.Async which) read ts = payload_in_front (alone_of which) (carrying which) read ts
+
+-- what ends things that stand one after the other
+abbrev pub ends_as : Ends → List Token → Bool
+ends_as (ends.Mark m) = begins (mark_there m)
+ends_as ends.Package = ends_items
+ends_as ends.Text = is_end
+
+-- a parameter
+abbrev pub param_of : Text → CodeParam → ParamTree
+param_of text param = record { name = cut text param.name; ty = type_of text param.ty }
+
+-- a function's type
+abbrev pub signature_of : Text → CodeSignature → SignatureTree
+signature_of text signature =
+    record { is_async = signature.is_async; params = map (param_of text) signature.params.items; result = option_map (type_of text) signature.result }
+
+-- ---- in front of items
+
+-- feature gates
+abbrev pub gates_of : Text → CodeGates → Gates
+gates_of text gates.Ungated = Ungated
+gates_of text (gates.Since version deprecated) = Since (cut text version) (option_map (cut text) deprecated)
+gates_of text (gates.Unstable feature deprecated) = Unstable (cut text feature) (option_map (cut text) deprecated)
+
+-- what stands in front of an item
+abbrev pub prefix_of : Text → CodePrefix → Prefix
+prefix_of text prefix =
+    record { docs = []; gates = gates_of text prefix.gates; external_id = option_map (λ span. characters_of (cut text span)) prefix.external_id }

@@ -5,6 +5,7 @@ ghost use Rattle.print_grammar.specs.Token.{Token as GrammarToken};
 ghost use Rattle.text_trees.specs.Reading.{Reading.Found, begins as begins_lem, begins_key as begins_key_lem, digits_in_front, id_in_front, is_mark as is_mark_lem, more_in_front, quoted_in_front, version_in_front};
 ghost use Rattle.text_trees.specs.declared.refusal.Refusal.TheVariants.{Wanted as NotThere};
 ghost use Rattle.text_trees.specs.declared.refusal.Wanted.TheVariants as wanted;
+ghost use Rattle.text_trees.specs.ReadFiles.{is_end as is_end_lem};
 ghost use Rattle.text_trees.specs.Seen.{RefusesAs, ahead, characters_of, count_of, cut, number_of, keyword_there, mark_there, part as part_lem, said, text_of};
 
 use crate::keywords::same_keyword;
@@ -237,4 +238,14 @@ pub(crate) fn more_at(tokens: &Tokens<'_>, close: Mark, at: usize) -> Result<(bo
         return Ok((false, behind + 1));
     }
     Ok((true, behind))
+}
+
+/// Whether no token stands at a place.
+pub(crate) fn is_end(tokens: &Tokens<'_>, at: usize) -> bool
+    ensures { result ≡ is_end_lem (ahead tokens.now at) }
+{
+    match token_at(tokens, at) {
+        Some(_) => false,
+        None => true,
+    }
 }

@@ -4,9 +4,13 @@
 mod front;
 mod keywords;
 pub mod laws;
+mod lists;
+mod prefix;
 mod refusal;
+mod signatures;
 mod tree;
 mod types;
+mod words;
 
 pub use refusal::{Wanted, Word};
-pub use tree::{Span, TypeTree};
+pub use tree::{Gates, ParamTree, Prefix, SignatureTree, Span, TypeTree};

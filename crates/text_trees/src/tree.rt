@@ -32,3 +32,35 @@ pub enum TypeTree {
     Stream,
     StreamOf(Box<TypeTree>),
 }
+
+/// A parameter of a function.
+#[derive(Drop)]
+pub struct ParamTree {
+    pub name: Span,
+    pub ty: TypeTree,
+}
+
+/// A function's type (WIT.md, Item: func-type).
+#[derive(Drop)]
+pub struct SignatureTree {
+    pub is_async: bool,
+    pub params: Vec<ParamTree>,
+    pub result: Option<TypeTree>,
+}
+
+/// Feature gates (WIT.md, Feature gates).
+#[derive(Clone, Copy, Debug, PartialEq, Eq)]
+pub enum Gates {
+    Ungated,
+    /// Since a version, and deprecated since one.
+    Since(Span, Option<Span>),
+    /// Unstable under a feature, and deprecated since a version.
+    Unstable(Span, Option<Span>),
+}
+
+/// What stands in front of an item: gates, and an external id with its quotation marks.
+#[derive(Clone, Copy, Debug, PartialEq, Eq)]
+pub struct Prefix {
+    pub gates: Gates,
+    pub external_id: Option<Span>,
+}
