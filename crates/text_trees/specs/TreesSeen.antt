@@ -2,11 +2,13 @@
 use Rattle.std.specs.Prelude.{Bool, List, [], map}
 use Rattle.std.specs.Option.{option_map}
 use Rattle.wit_model.specs.Text.{Text}
-use Rattle.print_grammar.specs.Tree.{TypeTree, TypeTrees, Gates, Prefix, ParamTree, SignatureTree}
+use Rattle.print_grammar.specs.Tree.{TypeTree, TypeTrees, Gates, Prefix, ParamTree, SignatureTree, PathTree, UsedName, PathTree.Local, PathTree.Full}
 use Rattle.print_grammar.specs.Tree.{Gates.Ungated, Gates.Since, Gates.Unstable}
 use Rattle.text_trees.specs.declared.tree.Gates.{Gates as CodeGates}
 use Rattle.text_trees.specs.declared.tree.Gates.TheVariants as gates
-use Rattle.text_trees.specs.declared.tree.{Prefix.Prefix as CodePrefix, ParamTree.ParamTree as CodeParam, SignatureTree.SignatureTree as CodeSignature}
+use Rattle.text_trees.specs.declared.tree.PathTree.{PathTree as CodePath}
+use Rattle.text_trees.specs.declared.tree.PathTree.TheVariants as paths
+use Rattle.text_trees.specs.declared.tree.{Prefix.Prefix as CodePrefix, UsedName.UsedName as CodeUsed, ParamTree.ParamTree as CodeParam, SignatureTree.SignatureTree as CodeSignature}
 use Rattle.print_grammar.specs.Tree.TypeTree.{PrimitiveType, Name, Own, Borrow, TupleOf, OptionOf, ListOf, FixedListOf, MapOf, Result, ResultOk, ResultErr, ResultOf, Future, FutureOf, Stream, StreamOf}
 use Rattle.print_grammar.specs.Tree.TypeTrees.{NoTypes, AndTypes}
 use Rattle.text_trees.specs.declared.tree.TypeTree.{TypeTree as CodeTree, PrimitiveType as PrimitiveType', Name as Name', Own as Own', Borrow as Borrow', Result as Result', Future as Future', Stream as Stream', TupleOf', OptionOf', ListOf', FixedListOf', MapOf', ResultOk', ResultErr', ResultOf', FutureOf', StreamOf', Row_of-TypeTree, end_of-TypeTree, more_of-TypeTree}
@@ -100,3 +102,14 @@ gates_of text (gates.Unstable feature deprecated) = Unstable (cut text feature) 
 abbrev pub prefix_of : Text → CodePrefix → Prefix
 prefix_of text prefix =
     record { docs = []; gates = gates_of text prefix.gates; external_id = option_map (λ span. characters_of (cut text span)) prefix.external_id }
+
+-- ---- paths and uses
+
+-- a path
+abbrev pub path_of : Text → CodePath → PathTree
+path_of text (paths.Local name) = Local (cut text name)
+path_of text (paths.Full namespace name interface version) = Full (cut text namespace) (cut text name) (cut text interface) (option_map (cut text) version)
+
+-- a name that is used
+abbrev pub used_name_of : Text → CodeUsed → UsedName
+used_name_of text used = record { other = cut text used.other; own = option_map (cut text) used.own }

@@ -5,6 +5,7 @@ mod front;
 mod keywords;
 pub mod laws;
 mod lists;
+mod paths;
 mod prefix;
 mod refusal;
 mod signatures;
@@ -13,4 +14,4 @@ mod types;
 mod words;
 
 pub use refusal::{Wanted, Word};
-pub use tree::{Gates, ParamTree, Prefix, SignatureTree, Span, TypeTree};
+pub use tree::{Gates, ParamTree, PathTree, Prefix, SignatureTree, Span, TypeTree, UsedName};

@@ -64,3 +64,17 @@ pub struct Prefix {
     pub gates: Gates,
     pub external_id: Option<Span>,
 }
+
+/// An interface's place: in the same package, or by namespace, package, interface and version (WIT.md, use-path).
+#[derive(Clone, Copy, Debug, PartialEq, Eq)]
+pub enum PathTree {
+    Local(Span),
+    Full(Span, Span, Span, Option<Span>),
+}
+
+/// A name of a `use`, and what it is called here, if that is another name.
+#[derive(Clone, Copy, Debug, PartialEq, Eq)]
+pub struct UsedName {
+    pub other: Span,
+    pub own: Option<Span>,
+}
