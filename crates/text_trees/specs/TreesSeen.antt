@@ -1,19 +1,24 @@
 -- What trees of the code are by the grammar, in the text that their spans are of.
-use Rattle.std.specs.Prelude.{Bool, List, [], map}
+use Rattle.std.specs.Prelude.{Bool, ℕ, List, [], map}
 use Rattle.std.specs.Option.{option_map}
 use Rattle.wit_model.specs.Text.{Text}
-use Rattle.print_grammar.specs.Tree.{TypeTree, TypeTrees, Gates, Prefix, ParamTree, SignatureTree, PathTree, UsedName, PathTree.Local, PathTree.Full}
+use Rattle.print_grammar.specs.Tree.{TypeTree, TypeTrees, Gates, Prefix, ParamTree, SignatureTree, PathTree, UsedName, FieldTree, CaseTree, LabelTree, ResourceMember}
+use Rattle.print_grammar.specs.Tree.{PathTree.Local, PathTree.Full, ResourceMember.Constructor, ResourceMember.Method, ResourceMember.Static}
 use Rattle.print_grammar.specs.Tree.{Gates.Ungated, Gates.Since, Gates.Unstable}
 use Rattle.text_trees.specs.declared.tree.Gates.{Gates as CodeGates}
 use Rattle.text_trees.specs.declared.tree.Gates.TheVariants as gates
 use Rattle.text_trees.specs.declared.tree.PathTree.{PathTree as CodePath}
 use Rattle.text_trees.specs.declared.tree.PathTree.TheVariants as paths
-use Rattle.text_trees.specs.declared.tree.{Prefix.Prefix as CodePrefix, UsedName.UsedName as CodeUsed, ParamTree.ParamTree as CodeParam, SignatureTree.SignatureTree as CodeSignature}
+use Rattle.text_trees.specs.declared.tree.ResourceMember.{ResourceMember as CodeResourceMember}
+use Rattle.text_trees.specs.declared.tree.ResourceMember.TheVariants as members
+use Rattle.text_trees.specs.declared.tree.{Prefix.Prefix as CodePrefix, UsedName.UsedName as CodeUsed, FieldTree.FieldTree as CodeField, CaseTree.CaseTree as CodeCase, LabelTree.LabelTree as CodeLabel, ParamTree.ParamTree as CodeParam, SignatureTree.SignatureTree as CodeSignature}
 use Rattle.print_grammar.specs.Tree.TypeTree.{PrimitiveType, Name, Own, Borrow, TupleOf, OptionOf, ListOf, FixedListOf, MapOf, Result, ResultOk, ResultErr, ResultOf, Future, FutureOf, Stream, StreamOf}
 use Rattle.print_grammar.specs.Tree.TypeTrees.{NoTypes, AndTypes}
 use Rattle.text_trees.specs.declared.tree.TypeTree.{TypeTree as CodeTree, PrimitiveType as PrimitiveType', Name as Name', Own as Own', Borrow as Borrow', Result as Result', Future as Future', Stream as Stream', TupleOf', OptionOf', ListOf', FixedListOf', MapOf', ResultOk', ResultErr', ResultOf', FutureOf', StreamOf', Row_of-TypeTree, end_of-TypeTree, more_of-TypeTree}
-use Rattle.print_grammar.specs.Token.{Token, Mark.Less, Mark.Greater}
-use Rattle.text_trees.specs.Reading.{Reading, Reading.Found, begins, behind_mark, id_in_front, if_mark, listed, made}
+use Rattle.print_grammar.specs.Token.{Token, Mark.Less, Mark.Greater, Mark.Colon}
+use Rattle.print_grammar.specs.Keyword.{Keyword}
+use Rattle.text_trees.specs.ReadDeclared.{function_behind}
+use Rattle.text_trees.specs.Reading.{Reading, Reading.Found, begins, behind_mark, id_in_front, if_key, if_mark, listed, made, then_read}
 use Rattle.text_trees.specs.ReadTypes.{in_brackets, list_in_front, map_in_front, payload_in_front, result_parts_in_front, tuple_types}
 use Rattle.text_trees.specs.ReadFiles.{ends_items, is_end}
 use Rattle.text_trees.specs.declared.lists.Ends.{Ends}
@@ -113,3 +118,30 @@ path_of text (paths.Full namespace name interface version) = Full (cut text name
 -- a name that is used
 abbrev pub used_name_of : Text → CodeUsed → UsedName
 used_name_of text used = record { other = cut text used.other; own = option_map (cut text) used.own }
+
+-- ---- declared types
+
+-- a field of a record
+abbrev pub field_of : Text → CodeField → FieldTree
+field_of text field = record { docs = []; name = cut text field.name; ty = type_of text field.ty }
+
+-- a case of a variant
+abbrev pub case_of : Text → CodeCase → CaseTree
+case_of text c = record { docs = []; name = cut text c.name; payload = option_map (type_of text) c.payload }
+
+-- a flag, or a case of an enum
+abbrev pub label_of : Text → CodeLabel → LabelTree
+label_of text label = record { docs = []; name = cut text label.name }
+
+-- what a resource has
+abbrev pub resource_member_of : Text → CodeResourceMember → ResourceMember
+resource_member_of text (members.Constructor prefix params result) =
+    Constructor (prefix_of text prefix) (map (param_of text) params.items) (option_map (type_of text) result)
+resource_member_of text (members.Method prefix name signature) = Method (prefix_of text prefix) (cut text name) (signature_of text signature)
+resource_member_of text (members.Static prefix name signature) = Static (prefix_of text prefix) (cut text name) (signature_of text signature)
+
+-- a function of a resource that is no constructor
+abbrev pub method_in_front : ℕ → Prefix → List Token → Reading ResourceMember
+method_in_front room prefix ts =
+    then_read (id_in_front ts) (λ name rest.
+    behind_mark Colon (if_key Keyword.Static (function_behind room (Static prefix name)) (function_behind room (Method prefix name))) rest)

@@ -1,6 +1,7 @@
 //! Readers of WIT text: which tree stands in front of a list of tokens, or what is wanted there, and the laws that this is the grammar.
 #![tactic(auto)]
 
+mod declared;
 mod front;
 mod keywords;
 pub mod laws;
@@ -14,4 +15,7 @@ mod types;
 mod words;
 
 pub use refusal::{Wanted, Word};
-pub use tree::{Gates, ParamTree, PathTree, Prefix, SignatureTree, Span, TypeTree, UsedName};
+pub use tree::{
+    CaseTree, FieldTree, Gates, LabelTree, ParamTree, PathTree, Prefix, ResourceMember,
+    SignatureTree, Span, TypeTree, UsedName,
+};

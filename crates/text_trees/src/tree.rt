@@ -78,3 +78,31 @@ pub struct UsedName {
     pub other: Span,
     pub own: Option<Span>,
 }
+
+/// A field of a record.
+#[derive(Drop)]
+pub struct FieldTree {
+    pub name: Span,
+    pub ty: TypeTree,
+}
+
+/// A case of a variant, with its payload where it has one.
+#[derive(Drop)]
+pub struct CaseTree {
+    pub name: Span,
+    pub payload: Option<TypeTree>,
+}
+
+/// A flag, or a case of an enum.
+#[derive(Clone, Copy, Debug, PartialEq, Eq)]
+pub struct LabelTree {
+    pub name: Span,
+}
+
+/// What a resource has (WIT.md, Item: resource).
+#[derive(Drop)]
+pub enum ResourceMember {
+    Constructor(Prefix, Vec<ParamTree>, Option<TypeTree>),
+    Method(Prefix, Span, SignatureTree),
+    Static(Prefix, Span, SignatureTree),
+}
