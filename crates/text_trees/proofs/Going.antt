@@ -1,12 +1,15 @@
 -- Readings that go on, or are refused, as their first steps are.
 use Rattle.std.proofs.Common.{◌≡◌, refl, ap, sym, ◌∙◌, ℕ, ◌+◌, List, zero, suc, ◌<◌, ◌-◌, arith, sub-one, subst, true, false, if◌then◌else◌}
 use Rattle.text_trees.specs.ReadTypes.{form_in_front, level_in_front, type_in_front}
-use Rattle.print_grammar.specs.Token.{Token, Mark}
+use Rattle.wit_model.specs.Text.{Text}
+use Rattle.print_grammar.specs.Tree.{Declared}
+use Rattle.print_grammar.specs.Token.{Token, Mark, Mark.OpenBrace, Mark.CloseBrace}
+use Rattle.text_trees.specs.TreesSeen.{braced}
 use Rattle.print_grammar.specs.Keyword.{Keyword}
 use Rattle.text_trees.specs.declared.front.Tokens.{Tokens}
 use Rattle.text_trees.specs.declared.refusal.Refusal.{Refusal}
 use Rattle.text_trees.specs.declared.refusal.Refusal.TheVariants.{Memory, Wanted as NotThere}
-use Rattle.text_trees.specs.Reading.{Reading, Reading.Found, Reading.Refused, Wanted.Shallower, Wanted.AMark, then_read, made, behind, begins, begins_key, behind_mark, if_mark, behind_key, if_key}
+use Rattle.text_trees.specs.Reading.{Reading, id_in_front, listed, Reading.Found, Reading.Refused, Wanted.Shallower, Wanted.AMark, then_read, made, behind, begins, begins_key, behind_mark, if_mark, behind_key, if_key}
 use Rattle.text_trees.specs.declared.refusal.Wanted.{Wanted as CodeWanted}
 use Rattle.text_trees.specs.Seen.{RefusesAs, ahead, wanted_there}
 use Rattle.text_trees.proofs.Ahead.{behind_ahead}
@@ -66,3 +69,14 @@ level_none ts = refl
 pub ruleset levels = (level_room, level_none)
 
 pub ruleset going = (made-refuses, made-gives, then-refuses, behind_ahead)
+
+-- a name and a brace, and a list that is refused
+pub braced_refuses : {X : Type 0} (them : Tokens) (of : Text → List X → Declared) (read : List Token → Reading X) (at end from : ℕ) (name : Text)
+    → id_in_front (ahead them at) ≡ Found name (ahead them end) → begins OpenBrace (ahead them end) ≡ true → from ≡ end + 1 → (e : Refusal)
+    → RefusesAs them e (listed read CloseBrace (ahead them from)) → RefusesAs them e (braced of read (ahead them at))
+unfolding then_read
+braced_refuses them of read at end from name f h g e r =
+    let step : braced of read (ahead them at) ≡ made (of name) (listed read CloseBrace (ahead them from)) =
+    ap (λ x. then_read x (λ name. behind_mark OpenBrace (λ rest. made (of name) (listed read CloseBrace rest)))) f
+    ∙ mark_goes them OpenBrace (λ rest. made (of name) (listed read CloseBrace rest)) end from h g in
+    subst (RefusesAs them e) (sym step) (made-refuses them (of name) (listed read CloseBrace (ahead them from)) e r)

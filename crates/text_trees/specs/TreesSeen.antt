@@ -2,7 +2,10 @@
 use Rattle.std.specs.Prelude.{Bool, ℕ, List, [], map}
 use Rattle.std.specs.Option.{option_map}
 use Rattle.wit_model.specs.Text.{Text}
-use Rattle.print_grammar.specs.Tree.{TypeTree, TypeTrees, Gates, Prefix, ParamTree, SignatureTree, PathTree, UsedName, FieldTree, CaseTree, LabelTree, ResourceMember}
+use Rattle.print_grammar.specs.Tree.{TypeTree, TypeTrees, Gates, Prefix, ParamTree, SignatureTree, PathTree, UsedName, FieldTree, CaseTree, LabelTree, ResourceMember, Declared}
+use Rattle.print_grammar.specs.Tree.Declared.{RecordOf, VariantOf, FlagsOf, EnumOf, AliasOf, ResourceOf}
+use Rattle.text_trees.specs.declared.tree.Declared.{Declared as CodeDeclared}
+use Rattle.text_trees.specs.declared.tree.Declared.TheVariants as sorts
 use Rattle.print_grammar.specs.Tree.{PathTree.Local, PathTree.Full, ResourceMember.Constructor, ResourceMember.Method, ResourceMember.Static}
 use Rattle.print_grammar.specs.Tree.{Gates.Ungated, Gates.Since, Gates.Unstable}
 use Rattle.text_trees.specs.declared.tree.Gates.{Gates as CodeGates}
@@ -15,11 +18,11 @@ use Rattle.text_trees.specs.declared.tree.{Prefix.Prefix as CodePrefix, UsedName
 use Rattle.print_grammar.specs.Tree.TypeTree.{PrimitiveType, Name, Own, Borrow, TupleOf, OptionOf, ListOf, FixedListOf, MapOf, Result, ResultOk, ResultErr, ResultOf, Future, FutureOf, Stream, StreamOf}
 use Rattle.print_grammar.specs.Tree.TypeTrees.{NoTypes, AndTypes}
 use Rattle.text_trees.specs.declared.tree.TypeTree.{TypeTree as CodeTree, PrimitiveType as PrimitiveType', Name as Name', Own as Own', Borrow as Borrow', Result as Result', Future as Future', Stream as Stream', TupleOf', OptionOf', ListOf', FixedListOf', MapOf', ResultOk', ResultErr', ResultOf', FutureOf', StreamOf', Row_of-TypeTree, end_of-TypeTree, more_of-TypeTree}
-use Rattle.print_grammar.specs.Token.{Token, Mark.Less, Mark.Greater, Mark.Colon}
+use Rattle.print_grammar.specs.Token.{Token, Mark.Less, Mark.Greater, Mark.Colon, Mark.Semi, Mark.Equals, Mark.OpenBrace, Mark.CloseBrace}
 use Rattle.print_grammar.specs.Keyword.{Keyword}
-use Rattle.text_trees.specs.ReadDeclared.{function_behind}
+use Rattle.text_trees.specs.ReadDeclared.{function_behind, named}
 use Rattle.text_trees.specs.Reading.{Reading, Reading.Found, begins, behind_mark, id_in_front, if_key, if_mark, listed, made, then_read}
-use Rattle.text_trees.specs.ReadTypes.{in_brackets, list_in_front, map_in_front, payload_in_front, result_parts_in_front, tuple_types}
+use Rattle.text_trees.specs.ReadTypes.{type_in_front, in_brackets, list_in_front, map_in_front, payload_in_front, result_parts_in_front, tuple_types}
 use Rattle.text_trees.specs.ReadFiles.{ends_items, is_end}
 use Rattle.text_trees.specs.declared.lists.Ends.{Ends}
 use Rattle.text_trees.specs.declared.lists.Ends.TheVariants as ends
@@ -145,3 +148,21 @@ abbrev pub method_in_front : ℕ → Prefix → List Token → Reading ResourceM
 method_in_front room prefix ts =
     then_read (id_in_front ts) (λ name rest.
     behind_mark Colon (if_key Keyword.Static (function_behind room (Static prefix name)) (function_behind room (Method prefix name))) rest)
+
+-- a declared type
+abbrev pub declared_of : Text → CodeDeclared → Declared
+declared_of text (sorts.RecordOf name fields) = RecordOf (cut text name) (map (field_of text) fields.items)
+declared_of text (sorts.VariantOf name cases) = VariantOf (cut text name) (map (case_of text) cases.items)
+declared_of text (sorts.FlagsOf name flags) = FlagsOf (cut text name) (map (label_of text) flags.items)
+declared_of text (sorts.EnumOf name cases) = EnumOf (cut text name) (map (label_of text) cases.items)
+declared_of text (sorts.AliasOf name ty) = AliasOf (cut text name) (type_of text ty)
+declared_of text (sorts.ResourceOf name functions) = ResourceOf (cut text name) (map (resource_member_of text) functions.items)
+
+-- a name, and things in braces with commas between
+abbrev pub braced : {X : Type 0} → (Text → List X → Declared) → (List Token → Reading X) → List Token → Reading Declared
+braced of read = named (λ name. behind_mark OpenBrace (λ rest. made (of name) (listed read CloseBrace rest)))
+
+-- what follows `type`
+abbrev pub alias_in_front : ℕ → List Token → Reading Declared
+alias_in_front room =
+    named (λ name. behind_mark Equals (λ rest. then_read (type_in_front room rest) (λ ty rest. behind_mark Semi (Found (AliasOf name ty)) rest)))

@@ -10,12 +10,13 @@ mod paths;
 mod prefix;
 mod refusal;
 mod signatures;
+mod sorts;
 mod tree;
 mod types;
 mod words;
 
 pub use refusal::{Wanted, Word};
 pub use tree::{
-    CaseTree, FieldTree, Gates, LabelTree, ParamTree, PathTree, Prefix, ResourceMember,
+    CaseTree, Declared, FieldTree, Gates, LabelTree, ParamTree, PathTree, Prefix, ResourceMember,
     SignatureTree, Span, TypeTree, UsedName,
 };

@@ -106,3 +106,14 @@ pub enum ResourceMember {
     Method(Prefix, Span, SignatureTree),
     Static(Prefix, Span, SignatureTree),
 }
+
+/// A declared type (WIT.md, Item: type).
+#[derive(Drop)]
+pub enum Declared {
+    RecordOf(Span, Vec<FieldTree>),
+    VariantOf(Span, Vec<CaseTree>),
+    FlagsOf(Span, Vec<LabelTree>),
+    EnumOf(Span, Vec<LabelTree>),
+    AliasOf(Span, TypeTree),
+    ResourceOf(Span, Vec<ResourceMember>),
+}

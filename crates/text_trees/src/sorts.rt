@@ -1,0 +1,93 @@
+//! Declared types (WIT.md, Item: type).
+#![tactic(auto, using(crate::proofs::Going::going), unfolding(crate::specs::Reading::then_read, crate::specs::Reading::behind_mark, crate::specs::Reading::if_mark))]
+
+ghost use Rattle.std.specs.Prelude.{◌≡◌, ◌<◌, ◌≤◌, IfErr, IfOk};
+ghost use Rattle.print_grammar.specs.Tree.Declared.{RecordOf, VariantOf, FlagsOf, EnumOf};
+ghost use Rattle.text_trees.specs.Reading.{Reading.Found};
+ghost use Rattle.text_trees.specs.ReadDeclared.{case_in_front, field_in_front, label_in_front};
+ghost use Rattle.text_trees.specs.Seen.{RefusesAs, ahead, count_of, text_of};
+ghost use Rattle.text_trees.specs.TreesSeen.{alias_in_front, braced, declared_of};
+
+use crate::front::{Tokens, mark_at, name_at};
+use crate::lists::listed_at;
+use crate::refusal::Refusal;
+use crate::tree::Declared;
+use crate::types::{LEVELS, type_at};
+use std::alloc::Global;
+use text_tokens::Mark;
+
+/// What follows `record`: a name, and fields in braces.
+fn record_at(alloc: Global, tokens: &Tokens<'_>, at: usize) -> Result<(Declared, usize), Refusal>
+    requires { at ≤ count_of tokens.now }
+    ensures ok { IfOk result (λ r. braced RecordOf (field_in_front 100) (ahead tokens.now at)
+        ≡ Found (declared_of (text_of tokens.now) r.0) (ahead tokens.now r.1)) }
+    ensures err { IfErr result (λ e. RefusesAs tokens.now e (braced RecordOf (field_in_front 100) (ahead tokens.now at))) }
+    ensures goes { IfOk result (λ r. at < r.1) }
+    ensures within { IfOk result (λ r. r.1 ≤ count_of tokens.now) }
+{
+    let (name, end) = name_at(tokens, at)?;
+    let from = mark_at(tokens, Mark::OpenBrace, end)?;
+    let (fields, behind) = listed_at(alloc, tokens, Mark::CloseBrace, from)?;
+    Ok((Declared::RecordOf(name, fields), behind))
+}
+
+/// What follows `variant`: a name, and cases in braces.
+fn variant_at(alloc: Global, tokens: &Tokens<'_>, at: usize) -> Result<(Declared, usize), Refusal>
+    requires { at ≤ count_of tokens.now }
+    ensures ok { IfOk result (λ r. braced VariantOf (case_in_front 100) (ahead tokens.now at)
+        ≡ Found (declared_of (text_of tokens.now) r.0) (ahead tokens.now r.1)) }
+    ensures err { IfErr result (λ e. RefusesAs tokens.now e (braced VariantOf (case_in_front 100) (ahead tokens.now at))) }
+    ensures goes { IfOk result (λ r. at < r.1) }
+    ensures within { IfOk result (λ r. r.1 ≤ count_of tokens.now) }
+{
+    let (name, end) = name_at(tokens, at)?;
+    let from = mark_at(tokens, Mark::OpenBrace, end)?;
+    let (cases, behind) = listed_at(alloc, tokens, Mark::CloseBrace, from)?;
+    Ok((Declared::VariantOf(name, cases), behind))
+}
+
+/// What follows `flags`: a name, and flags in braces.
+fn flags_at(alloc: Global, tokens: &Tokens<'_>, at: usize) -> Result<(Declared, usize), Refusal>
+    requires { at ≤ count_of tokens.now }
+    ensures ok { IfOk result (λ r. braced FlagsOf label_in_front (ahead tokens.now at)
+        ≡ Found (declared_of (text_of tokens.now) r.0) (ahead tokens.now r.1)) }
+    ensures err { IfErr result (λ e. RefusesAs tokens.now e (braced FlagsOf label_in_front (ahead tokens.now at))) }
+    ensures goes { IfOk result (λ r. at < r.1) }
+    ensures within { IfOk result (λ r. r.1 ≤ count_of tokens.now) }
+{
+    let (name, end) = name_at(tokens, at)?;
+    let from = mark_at(tokens, Mark::OpenBrace, end)?;
+    let (flags, behind) = listed_at(alloc, tokens, Mark::CloseBrace, from)?;
+    Ok((Declared::FlagsOf(name, flags), behind))
+}
+
+/// What follows `enum`: a name, and cases in braces.
+fn enum_at(alloc: Global, tokens: &Tokens<'_>, at: usize) -> Result<(Declared, usize), Refusal>
+    requires { at ≤ count_of tokens.now }
+    ensures ok { IfOk result (λ r. braced EnumOf label_in_front (ahead tokens.now at)
+        ≡ Found (declared_of (text_of tokens.now) r.0) (ahead tokens.now r.1)) }
+    ensures err { IfErr result (λ e. RefusesAs tokens.now e (braced EnumOf label_in_front (ahead tokens.now at))) }
+    ensures goes { IfOk result (λ r. at < r.1) }
+    ensures within { IfOk result (λ r. r.1 ≤ count_of tokens.now) }
+{
+    let (name, end) = name_at(tokens, at)?;
+    let from = mark_at(tokens, Mark::OpenBrace, end)?;
+    let (cases, behind) = listed_at(alloc, tokens, Mark::CloseBrace, from)?;
+    Ok((Declared::EnumOf(name, cases), behind))
+}
+
+/// What follows `type`: a name and the type that it stands for.
+fn alias_at(alloc: Global, tokens: &Tokens<'_>, at: usize) -> Result<(Declared, usize), Refusal>
+    requires { at ≤ count_of tokens.now }
+    ensures ok { IfOk result (λ r. alias_in_front 100 (ahead tokens.now at)
+        ≡ Found (declared_of (text_of tokens.now) r.0) (ahead tokens.now r.1)) }
+    ensures err { IfErr result (λ e. RefusesAs tokens.now e (alias_in_front 100 (ahead tokens.now at))) }
+    ensures goes { IfOk result (λ r. at < r.1) }
+    ensures within { IfOk result (λ r. r.1 ≤ count_of tokens.now) }
+{
+    let (name, end) = name_at(tokens, at)?;
+    let from = mark_at(tokens, Mark::Equals, end)?;
+    let (ty, end) = type_at(alloc, tokens, from, LEVELS)?;
+    let behind = mark_at(tokens, Mark::Semi, end)?;
+    Ok((Declared::AliasOf(name, ty), behind))
+}
