@@ -1,13 +1,12 @@
 -- What stands among tokens from a place on.
 use Rattle.std.specs.Prelude.{IfSome}
-use Rattle.std.proofs.Common.{rules as std_rules, ◌≡◌, refl, ap, sym, ◌∙◌, ℕ, ◌+◌, ◌-◌, List, [], ◌∷◌, ◌++◌, map, drop, take, length, Option, Some, None, slice_get, zero, suc, add-one, length-drop, arith, Bool, true, false, ◌≤◌, ◌<◌, subst}
+use Rattle.std.proofs.Common.{◌≡◌, refl, sym, ◌∙◌, ℕ, ◌+◌, ◌-◌, List, [], ◌∷◌, map, drop, length, Option, Some, None, slice_get, zero, suc, add-one, length-drop, arith, ◌<◌}
 use Rattle.std.proofs.lemmas.List.{length-map}
 use Rattle.std.proofs.lemmas.Grind.{common_steps}
-use Rattle.print_grammar.specs.Token.{Token as Tok, Mark as marks}
-use Rattle.print_grammar.specs.Keyword.{Keyword as keywords, PrimitiveName as names}
+use Rattle.print_grammar.specs.Token.{Token as Tok}
 use Rattle.text_tokens.specs.declared.token.Token.{Token}
 use Rattle.text_trees.specs.declared.front.Tokens.{Tokens}
-use Rattle.text_trees.specs.Reading.{behind, begins, begins_key}
+use Rattle.text_trees.specs.Reading.{behind}
 use Rattle.text_trees.specs.Seen.{ahead, count_of, said, text_of}
 
 some_suc : (text : List ℕ) (ts : List Token) (at : ℕ) (t : Token) → slice_get ts at ≡ Some t → drop at (map (said text) ts) ≡ said text t ∷ drop (suc at) (map (said text) ts)

@@ -1,5 +1,5 @@
 -- What is there is found: the steps that readers are made of, and lists.
-use Rattle.std.proofs.Common.{◌≡◌, refl, sym, ap, ◌∙◌, subst, ℕ, ◌<◌, ◌≤◌, ◌==◌, Bool, true, false, List, [], ◌∷◌, length, arith, zero, suc, if◌then◌else◌}
+use Rattle.std.proofs.Common.{◌≡◌, refl, sym, ap, subst, ℕ, ◌<◌, ◌==◌, Bool, true, false, List, [], ◌∷◌, length, arith, zero, suc}
 use Rattle.std.specs.List.{list_all}
 use Rattle.base_lemmas.proofs.Bools.{left_of, right_of, held}
 use Rattle.std.proofs.Math.Dec.{eqb_refl}
@@ -8,7 +8,7 @@ use Rattle.print_grammar.specs.{Keyword.Keyword, Token.Token, Token.Mark, Gramma
 use Rattle.print_grammar.specs.{Grammar.IsId.plain, Grammar.IsId.with_percent, Grammar.Repeated.closed, Grammar.Repeated.again}
 use Rattle.print_grammar.specs.Grammar.CommaList.{last, last_with_comma, next}
 use Rattle.print_grammar.specs.Token.Mark.{Comma}
-use Rattle.print_grammar.specs.Token.Token.{Key, Punctuation}
+use Rattle.print_grammar.specs.Token.Token.{Punctuation}
 use Rattle.text_trees.specs.Reading.{Reading, Reading.Found, Reading.Refused, then_read, made, behind, begins, begins_key, is_mark, mark_number, behind_mark, if_mark, is_key, id_in_front, if_id, things_in_front, until, repeated, more_in_front, listed_in_front, listed}
 use Rattle.text_trees.proofs.{Fronts.begins_is, Lengths.Shortens}
 

@@ -1,18 +1,18 @@
 -- No type that a reader finds has more levels than there is room for.
-use Rattle.std.proofs.Common.{◌≡◌, refl, ap, ◌∙◌, ℕ, ◌≤◌, ◌&&◌, Bool, true, false, List, [], ◌∷◌, arith, zero, suc, max, Option}
+use Rattle.std.proofs.Common.{◌≡◌, refl, ℕ, ◌≤◌, ◌&&◌, Bool, true, List, [], ◌∷◌, arith, zero, suc}
 use Rattle.std.specs.List.{list_all}
 use Rattle.std.proofs.lemmas.Bool.{le-leb, leb-true}
 use Rattle.base_lemmas.proofs.Bools.{left_of, right_of}
-use Rattle.wit_model.specs.{Text.Text, Rules.passes}
+use Rattle.wit_model.specs.{Rules.passes}
 use Rattle.print_grammar.specs.{Keyword.Keyword, Token.Token, Token.Mark, Grammar.CommaList, Grammar.Repeated}
 use Rattle.print_grammar.specs.Grammar.CommaList.{last, last_with_comma, next}
 use Rattle.print_grammar.specs.Grammar.Repeated.{closed, again}
-use Rattle.print_grammar.specs.Token.Token.{Word, Escaped, Key, Punctuation}
+use Rattle.print_grammar.specs.Token.Token.{Word, Escaped, Key}
 use Rattle.print_grammar.specs.Tree.{TypeTree, SignatureTree, PathTree, UsedName}
-use Rattle.text_trees.specs.Reading.{Reading, id_in_front, until, repeated, listed}
+use Rattle.text_trees.specs.Reading.{Reading, until, repeated, listed}
 use Rattle.text_trees.specs.ReadTypes.{tuple_types, payload_in_front, result_parts_in_front, form_in_front, type_by, level_in_front, type_in_front, param_in_front, params_in_front, result_in_front, signature_in_front}
 use Rattle.text_trees.specs.ReadDeclared.{prefix_in_front, gates_in_front, full_path_behind, path_behind, path_in_front, use_behind, used_name_in_front, field_in_front, case_in_front, label_in_front, function_behind, resource_member_in_front, declared_in_front}
-use Rattle.text_trees.specs.ReadFiles.{member_in_front, extern_in_front, world_member_in_front, item_in_front, head_in_front, nested_in_front, is_end, ends_items, file_in_front}
+use Rattle.text_trees.specs.ReadFiles.{member_in_front, extern_in_front, world_member_in_front, item_in_front, head_in_front, nested_in_front, file_in_front}
 use Rattle.text_trees.specs.Levels.{levels, deepest, fits_type, fits_param, fits_signature, fits_field, fits_case, fits_resource_member, fits_declared, fits_member, fits_extern, fits_world_member, fits_item, fits_package, fits_file}
 use Rattle.text_trees.proofs.Finding.{Sound, Finds, finds, refuses, found_sound, refused_sound, then_sound, made_sound, sound_as, mark_sound, if_mark_sound, key_sound, if_key_sound, either_sound, id_sound, if_id_sound, digits_sound, until_sound, repeated_sound, listed_sound}
 

@@ -1,30 +1,48 @@
-pub mod Fronts
-pub mod Finding
-pub mod TypesFound
-pub mod DeclaredFound
-pub mod FilesFound
-pub mod Lengths
-pub mod Complete
-pub mod TypesComplete
-pub mod DeclaredComplete
-pub mod FilesComplete
-pub mod Fitting
-pub mod Exact
-pub mod Steady
-pub mod SteadyLists
-pub mod SteadyFiles
-pub mod Extending
-pub mod Enough
-mod ReaderExamples
 -- What stands among tokens from a place on. Serves front::token_at.
 pub mod Ahead
--- Readings that go on, or are refused, as their first steps are. Serves front::more_at.
+-- Words and attributes among tokens. Serves prefix::gates_at, words::begins_attribute.
+pub mod Attributes
+-- Tokens that pass the test for a mark, a keyword or a word begin with it. Serves Complete, FilesComplete, Finding.
+pub mod Fronts
+-- What follows a thing is shorter than what it stands in front of. Serves Complete, DeclaredComplete, FilesComplete, SteadyFiles and 1 more.
+pub mod Lengths
+-- What is there is found: the steps that readers are made of, and lists. Serves DeclaredComplete, FilesComplete, TypesComplete.
+pub mod Complete
+-- A type or signature that is there by the grammar is found. Serves DeclaredComplete, Exact.
+pub mod TypesComplete
+-- Gates, paths, uses and declared types that are there by the grammar are found. Serves Exact, FilesComplete.
+pub mod DeclaredComplete
+-- What readers find, by the steps that they are made of, and by lists. Serves DeclaredFound, Exact, FilesFound, Fitting and 3 more.
+pub mod Finding
+-- What readers of types and signatures find is there by the grammar. Serves DeclaredFound, Exact, SteadyFiles.
+pub mod TypesFound
+-- What readers of gates, paths, uses and declared types find is there by the grammar. Serves Exact, FilesFound, SteadyFiles.
+pub mod DeclaredFound
+-- Each file has room enough for its types. Serves Exact.
+pub mod Enough
+-- With more room a reader finds the same, and it refuses the same but where a type had too many levels. Serves Exact.
+pub mod Extending
+-- What interfaces, worlds, packages and files have by the grammar is found. Serves Exact.
+pub mod FilesComplete
+-- What readers of interfaces, worlds, packages and files find is there by the grammar. Serves Exact, SteadyFiles.
+pub mod FilesFound
+-- No type that a reader finds has more levels than there is room for. Serves Exact.
+pub mod Fitting
+-- A reader answers alike for tokens that begin alike: up to the place where it stops, and at the first token there, or at `@` and the token behind it. Serves Exact, SteadyFiles, SteadyLists.
+pub mod Steady
+-- Readers of lists answer alike for tokens that begin alike, where what they read is shorter each time. Serves SteadyFiles.
+pub mod SteadyLists
+-- Readers of types, declared types, interfaces, worlds and files answer alike for tokens that begin alike. Serves Exact.
+pub mod SteadyFiles
+-- Readers find exactly what is there. Serves laws::declared_types_are_read, laws::files_are_read, laws::items_are_read, laws::members_are_read and 2 more.
+pub mod Exact
+-- Readings that go on, or are refused, as their first steps are. Serves declared, front::more_at, lists::repeated_at, paths and 14 more.
 pub mod Going
+-- Loops over lists with commas between. Serves lists::listed_at, types.
+pub mod Listings
+-- Worked examples: what is found in front of tokens, and what is wanted where. Serves no function.
+mod ReaderExamples
 -- The types of a tuple, as a row and as a list. Serves types::tuple_of.
 pub mod Rows
--- Loops over lists with commas between. Serves types::types_at.
-pub mod Listings
 -- Loops over things up to what ends them. Serves lists::until_at.
 pub mod Untils
--- Words and attributes among tokens. Serves words::begins_attribute.
-pub mod Attributes

@@ -1,8 +1,8 @@
 -- The types of a tuple, as a row and as a list.
-use Rattle.std.proofs.Common.{◌≡◌, refl, ap, sym, ◌∙◌, ℕ, List, map, Vec, Global}
+use Rattle.std.proofs.Common.{◌≡◌, refl, ap, ◌∙◌, map, Vec, Global}
 use mathlib.Core.Former.{Count}
 use Rattle.wit_model.specs.Text.{Text}
-use Rattle.print_grammar.specs.Tree.{TypeTree as Tree, TypeTree.TupleOf as Tuple, TypeTrees.AndTypes}
+use Rattle.print_grammar.specs.Tree.{TypeTree.TupleOf as Tuple, TypeTrees.AndTypes}
 use Rattle.text_trees.specs.ReadTypes.{tuple_types}
 use Rattle.text_trees.specs.TreesSeen.{type_of, row_of_types}
 use Rattle.text_trees.specs.declared.tree.TypeTree.{TypeTree, TupleOf, TupleOf', Row_of-TypeTree, end_of-TypeTree, more_of-TypeTree, items-the_row-TypeTree, items_hidden-the_row-TypeTree-0}

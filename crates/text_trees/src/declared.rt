@@ -80,7 +80,8 @@ fn constructor_at(
     at: usize,
 ) -> Result<(ResourceMember, usize), Refusal>
     requires { at ≤ count_of tokens.now }
-    ensures ok { IfOk result (λ r. constructor_behind 100 (prefix_of (text_of tokens.now) prefix) (ahead tokens.now at) ≡ Found (resource_member_of (text_of tokens.now) r.0) (ahead tokens.now r.1)) }
+    ensures ok { IfOk result (λ r. constructor_behind 100 (prefix_of (text_of tokens.now) prefix) (ahead tokens.now at)
+        ≡ Found (resource_member_of (text_of tokens.now) r.0) (ahead tokens.now r.1)) }
     ensures err { IfErr result (λ e. RefusesAs tokens.now e (constructor_behind 100 (prefix_of (text_of tokens.now) prefix) (ahead tokens.now at))) }
     ensures goes { IfOk result (λ r. at < r.1) }
     ensures within { IfOk result (λ r. r.1 ≤ count_of tokens.now) }
@@ -99,7 +100,8 @@ fn method_at(
     at: usize,
 ) -> Result<(ResourceMember, usize), Refusal>
     requires { at ≤ count_of tokens.now }
-    ensures ok { IfOk result (λ r. method_in_front 100 (prefix_of (text_of tokens.now) prefix) (ahead tokens.now at) ≡ Found (resource_member_of (text_of tokens.now) r.0) (ahead tokens.now r.1)) }
+    ensures ok { IfOk result (λ r. method_in_front 100 (prefix_of (text_of tokens.now) prefix) (ahead tokens.now at)
+        ≡ Found (resource_member_of (text_of tokens.now) r.0) (ahead tokens.now r.1)) }
     ensures err { IfErr result (λ e. RefusesAs tokens.now e (method_in_front 100 (prefix_of (text_of tokens.now) prefix) (ahead tokens.now at))) }
     ensures goes { IfOk result (λ r. at < r.1) }
     ensures within { IfOk result (λ r. r.1 ≤ count_of tokens.now) }
@@ -124,7 +126,8 @@ fn resource_member_at(
     at: usize,
 ) -> Result<(ResourceMember, usize), Refusal>
     requires { at ≤ count_of tokens.now }
-    ensures ok { IfOk result (λ r. resource_member_behind 100 (prefix_of (text_of tokens.now) prefix) (ahead tokens.now at) ≡ Found (resource_member_of (text_of tokens.now) r.0) (ahead tokens.now r.1)) }
+    ensures ok { IfOk result (λ r. resource_member_behind 100 (prefix_of (text_of tokens.now) prefix) (ahead tokens.now at)
+        ≡ Found (resource_member_of (text_of tokens.now) r.0) (ahead tokens.now r.1)) }
     ensures err { IfErr result (λ e. RefusesAs tokens.now e (resource_member_behind 100 (prefix_of (text_of tokens.now) prefix) (ahead tokens.now at))) }
     ensures goes { IfOk result (λ r. at < r.1) }
     ensures within { IfOk result (λ r. r.1 ≤ count_of tokens.now) }

@@ -38,7 +38,8 @@ pub(crate) fn listed_at<T: Form + Drop>(
     at: usize,
 ) -> Result<(Vec<T>, usize), Refusal>
     requires { at ≤ count_of tokens.now }
-    ensures ok { IfOk result (λ r. listed T.reader (mark_there close) (ahead tokens.now at) ≡ Found (map (T.view (text_of tokens.now)) r.0.items) (ahead tokens.now r.1)) }
+    ensures ok { IfOk result (λ r. listed T.reader (mark_there close) (ahead tokens.now at)
+        ≡ Found (map (T.view (text_of tokens.now)) r.0.items) (ahead tokens.now r.1)) }
     ensures err { IfErr result (λ e. RefusesAs tokens.now e (listed T.reader (mark_there close) (ahead tokens.now at))) }
     ensures goes { IfOk result (λ r. at < r.1) }
     ensures within { IfOk result (λ r. r.1 ≤ count_of tokens.now) }
@@ -90,7 +91,8 @@ pub(crate) fn until_at<T: Form + Drop>(
     at: usize,
 ) -> Result<(Vec<T>, usize), Refusal>
     requires { at ≤ count_of tokens.now }
-    ensures ok { IfOk result (λ r. until (ends_as ends) T.reader (ahead tokens.now at) ≡ Found (map (T.view (text_of tokens.now)) r.0.items) (ahead tokens.now r.1)) }
+    ensures ok { IfOk result (λ r. until (ends_as ends) T.reader (ahead tokens.now at)
+        ≡ Found (map (T.view (text_of tokens.now)) r.0.items) (ahead tokens.now r.1)) }
     ensures err { IfErr result (λ e. RefusesAs tokens.now e (until (ends_as ends) T.reader (ahead tokens.now at))) }
     ensures ended { IfOk result (λ r. ends_as ends (ahead tokens.now r.1) ≡ true) }
     ensures goes { IfOk result (λ r. at ≤ r.1) }
@@ -117,7 +119,8 @@ pub(crate) fn repeated_at<T: Form + Drop>(
     at: usize,
 ) -> Result<(Vec<T>, usize), Refusal>
     requires { at ≤ count_of tokens.now }
-    ensures ok { IfOk result (λ r. repeated T.reader (mark_there close) (ahead tokens.now at) ≡ Found (map (T.view (text_of tokens.now)) r.0.items) (ahead tokens.now r.1)) }
+    ensures ok { IfOk result (λ r. repeated T.reader (mark_there close) (ahead tokens.now at)
+        ≡ Found (map (T.view (text_of tokens.now)) r.0.items) (ahead tokens.now r.1)) }
     ensures err { IfErr result (λ e. RefusesAs tokens.now e (repeated T.reader (mark_there close) (ahead tokens.now at))) }
     ensures goes { IfOk result (λ r. at < r.1) }
     ensures within { IfOk result (λ r. r.1 ≤ count_of tokens.now) }

@@ -24,8 +24,10 @@ pub(crate) fn full_path_at(
     at: usize,
 ) -> Result<(PathTree, usize), Refusal>
     requires { at ≤ count_of tokens.now }
-    ensures ok { IfOk result (λ r. full_path_behind (cut (text_of tokens.now) namespace) (cut (text_of tokens.now) name) (ahead tokens.now at) ≡ Found (path_of (text_of tokens.now) r.0) (ahead tokens.now r.1)) }
-    ensures err { IfErr result (λ e. RefusesAs tokens.now e (full_path_behind (cut (text_of tokens.now) namespace) (cut (text_of tokens.now) name) (ahead tokens.now at))) }
+    ensures ok { IfOk result (λ r. full_path_behind (cut (text_of tokens.now) namespace) (cut (text_of tokens.now) name) (ahead tokens.now at)
+        ≡ Found (path_of (text_of tokens.now) r.0) (ahead tokens.now r.1)) }
+    ensures err { IfErr result (λ e. RefusesAs tokens.now e
+        (full_path_behind (cut (text_of tokens.now) namespace) (cut (text_of tokens.now) name) (ahead tokens.now at))) }
     ensures goes { IfOk result (λ r. at < r.1) }
     ensures within { IfOk result (λ r. r.1 ≤ count_of tokens.now) }
 {
@@ -42,7 +44,8 @@ pub(crate) fn path_behind_at(
     at: usize,
 ) -> Result<(PathTree, usize), Refusal>
     requires { at ≤ count_of tokens.now }
-    ensures ok { IfOk result (λ r. path_behind (cut (text_of tokens.now) first) (ahead tokens.now at) ≡ Found (path_of (text_of tokens.now) r.0) (ahead tokens.now r.1)) }
+    ensures ok { IfOk result (λ r. path_behind (cut (text_of tokens.now) first) (ahead tokens.now at)
+        ≡ Found (path_of (text_of tokens.now) r.0) (ahead tokens.now r.1)) }
     ensures err { IfErr result (λ e. RefusesAs tokens.now e (path_behind (cut (text_of tokens.now) first) (ahead tokens.now at))) }
     ensures goes { IfOk result (λ r. at ≤ r.1) }
     ensures within { IfOk result (λ r. r.1 ≤ count_of tokens.now) }

@@ -113,7 +113,8 @@ pub(crate) fn gates_at(tokens: &Tokens<'_>, at: usize) -> Result<(Gates, usize),
 /// An external id, or nothing: `@external-id("..")`.
 fn external_id_at(tokens: &Tokens<'_>, at: usize) -> Result<(Option<Span>, usize), Refusal>
     requires { at ≤ count_of tokens.now }
-    ensures ok { IfOk result (λ r. external_id_in_front (ahead tokens.now at) ≡ Found (option_map (λ span. characters_of (cut (text_of tokens.now) span)) r.0) (ahead tokens.now r.1)) }
+    ensures ok { IfOk result (λ r. external_id_in_front (ahead tokens.now at)
+        ≡ Found (option_map (λ span. characters_of (cut (text_of tokens.now) span)) r.0) (ahead tokens.now r.1)) }
     ensures err { IfErr result (λ e. RefusesAs tokens.now e (external_id_in_front (ahead tokens.now at))) }
     ensures goes { IfOk result (λ r. at ≤ r.1) }
     ensures within { IfOk result (λ r. r.1 ≤ count_of tokens.now) }

@@ -78,7 +78,8 @@ fn arguments_at(
     is_async: bool,
 ) -> Result<(SignatureTree, usize), Refusal>
     requires { at ≤ count_of tokens.now }
-    ensures ok { IfOk result (λ r. arguments_in_front 100 is_async (ahead tokens.now at) ≡ Found (signature_of (text_of tokens.now) r.0) (ahead tokens.now r.1)) }
+    ensures ok { IfOk result (λ r. arguments_in_front 100 is_async (ahead tokens.now at)
+        ≡ Found (signature_of (text_of tokens.now) r.0) (ahead tokens.now r.1)) }
     ensures err { IfErr result (λ e. RefusesAs tokens.now e (arguments_in_front 100 is_async (ahead tokens.now at))) }
     ensures goes { IfOk result (λ r. at < r.1) }
     ensures within { IfOk result (λ r. r.1 ≤ count_of tokens.now) }

@@ -97,8 +97,10 @@ enum Form {
 /// The form that begins at a place, if one does.
 #[tactic(auto, using(crate::proofs::Going::going), unfolding(crate::specs::Reading::if_key))]
 fn form_of(tokens: &Tokens<'_>, at: usize) -> Option<Form>
-    ensures some { IfSome result (λ form. (read : List GrammarToken → Reading GrammarType) → form_in_front read (ahead tokens.now at) ≡ form_behind form read (ahead tokens.now (at + 1))) }
-    ensures none { result ≡ None → (read : List GrammarToken → Reading GrammarType) → form_in_front read (ahead tokens.now at) ≡ Refused AType (ahead tokens.now at) }
+    ensures some { IfSome result (λ form. (read : List GrammarToken → Reading GrammarType)
+        → form_in_front read (ahead tokens.now at) ≡ form_behind form read (ahead tokens.now (at + 1))) }
+    ensures none { result ≡ None → (read : List GrammarToken → Reading GrammarType)
+        → form_in_front read (ahead tokens.now at) ≡ Refused AType (ahead tokens.now at) }
     ensures within { IfSome result (λ form. at < count_of tokens.now) }
 {
     if begins_key(tokens, Keyword::Own, at) {
@@ -222,7 +224,8 @@ fn tuple_at(
     room: u32,
 ) -> Result<(TypeTree, usize), Refusal>
     requires { at ≤ count_of tokens.now }
-    ensures ok { IfOk result (λ r. form_behind Tuple (type_in_front room) (ahead tokens.now at) ≡ Found (type_of (text_of tokens.now) r.0) (ahead tokens.now r.1)) }
+    ensures ok { IfOk result (λ r. form_behind Tuple (type_in_front room) (ahead tokens.now at)
+        ≡ Found (type_of (text_of tokens.now) r.0) (ahead tokens.now r.1)) }
     ensures err { IfErr result (λ e. RefusesAs tokens.now e (form_behind Tuple (type_in_front room) (ahead tokens.now at))) }
     ensures goes { IfOk result (λ r. at < r.1) }
     ensures within { IfOk result (λ r. r.1 ≤ count_of tokens.now) }
@@ -241,7 +244,8 @@ fn option_at(
     room: u32,
 ) -> Result<(TypeTree, usize), Refusal>
     requires { at ≤ count_of tokens.now }
-    ensures ok { IfOk result (λ r. made OptionOf (in_brackets (type_in_front room) (ahead tokens.now at)) ≡ Found (type_of (text_of tokens.now) r.0) (ahead tokens.now r.1)) }
+    ensures ok { IfOk result (λ r. made OptionOf (in_brackets (type_in_front room) (ahead tokens.now at))
+        ≡ Found (type_of (text_of tokens.now) r.0) (ahead tokens.now r.1)) }
     ensures err { IfErr result (λ e. RefusesAs tokens.now e (made OptionOf (in_brackets (type_in_front room) (ahead tokens.now at)))) }
     ensures goes { IfOk result (λ r. at < r.1) }
     ensures within { IfOk result (λ r. r.1 ≤ count_of tokens.now) }
@@ -312,7 +316,8 @@ fn result_at(
     room: u32,
 ) -> Result<(TypeTree, usize), Refusal>
     requires { at ≤ count_of tokens.now }
-    ensures ok { IfOk result (λ r. result_form_in_front (type_in_front room) (ahead tokens.now at) ≡ Found (type_of (text_of tokens.now) r.0) (ahead tokens.now r.1)) }
+    ensures ok { IfOk result (λ r. result_form_in_front (type_in_front room) (ahead tokens.now at)
+        ≡ Found (type_of (text_of tokens.now) r.0) (ahead tokens.now r.1)) }
     ensures err { IfErr result (λ e. RefusesAs tokens.now e (result_form_in_front (type_in_front room) (ahead tokens.now at))) }
     ensures goes { IfOk result (λ r. at ≤ r.1) }
     ensures within { IfOk result (λ r. r.1 ≤ count_of tokens.now) }
@@ -350,7 +355,8 @@ fn payload_at(
     which: Async,
 ) -> Result<(TypeTree, usize), Refusal>
     requires { at ≤ count_of tokens.now }
-    ensures ok { IfOk result (λ r. payload_in_front (alone_of which) (carrying which) (type_in_front room) (ahead tokens.now at) ≡ Found (type_of (text_of tokens.now) r.0) (ahead tokens.now r.1)) }
+    ensures ok { IfOk result (λ r. payload_in_front (alone_of which) (carrying which) (type_in_front room) (ahead tokens.now at)
+        ≡ Found (type_of (text_of tokens.now) r.0) (ahead tokens.now r.1)) }
     ensures err { IfErr result (λ e. RefusesAs tokens.now e (payload_in_front (alone_of which) (carrying which) (type_in_front room) (ahead tokens.now at))) }
     ensures goes { IfOk result (λ r. at ≤ r.1) }
     ensures within { IfOk result (λ r. r.1 ≤ count_of tokens.now) }
@@ -372,7 +378,8 @@ fn types_at(
     room: u32,
 ) -> Result<(Vec<TypeTree>, usize), Refusal>
     requires { at ≤ count_of tokens.now }
-    ensures ok { IfOk result (λ r. listed (type_in_front room) Greater (ahead tokens.now at) ≡ Found (map (type_of (text_of tokens.now)) r.0.items) (ahead tokens.now r.1)) }
+    ensures ok { IfOk result (λ r. listed (type_in_front room) Greater (ahead tokens.now at)
+        ≡ Found (map (type_of (text_of tokens.now)) r.0.items) (ahead tokens.now r.1)) }
     ensures err { IfErr result (λ e. RefusesAs tokens.now e (listed (type_in_front room) Greater (ahead tokens.now at))) }
     ensures goes { IfOk result (λ r. at < r.1) }
     ensures within { IfOk result (λ r. r.1 ≤ count_of tokens.now) }

@@ -1,7 +1,7 @@
 use Rattle.std.proofs.Common.{◌≡◌, ◌+◌, sym, ◌∙◌, subst, codes}
 use Rattle.std.specs.Prelude.{IfErr, IfOk}
-use Rattle.print_grammar.specs.Tree.{Gates, Gates.Ungated}
-use Rattle.text_trees.specs.Reading.{Reading, Reading.Found, if_attribute}
+use Rattle.print_grammar.specs.Tree.{Gates.Ungated}
+use Rattle.text_trees.specs.Reading.{Reading.Found, if_attribute}
 use Rattle.text_trees.specs.ReadDeclared.{gates_in_front, since_in_front, unstable_in_front}
 use Rattle.text_trees.specs.Seen.{RefusesAs, ahead, text_of}
 use Rattle.text_trees.specs.TreesSeen.{gates_of}

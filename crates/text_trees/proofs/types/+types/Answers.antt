@@ -1,4 +1,4 @@
-use Rattle.std.proofs.Common.{rules, ◌≡◌, refl, sym, ◌∙◌, ◌+◌, ℕ, List, subst}
+use Rattle.std.proofs.Common.{rules, ◌≡◌, refl, sym, ◌∙◌, ◌+◌, List, subst}
 use Rattle.print_grammar.specs.Token.Mark.{Greater}
 use Rattle.text_trees.specs.ReadTypes.{type_in_front, tuple_types, up_to_greater, result_parts_in_front}
 use Rattle.text_trees.specs.Seen.{RefusesAs, ahead, text_of}

@@ -1,4 +1,4 @@
-use Rattle.std.proofs.Common.{◌≡◌, ◌≤◌, ◌+◌, ◌-◌, ◌*◌, ℕ, suc}
+use Rattle.std.proofs.Common.{◌+◌, ◌-◌, ◌*◌}
 use Rattle.print_grammar.specs.Token.Mark.{Greater}
 use Rattle.text_trees.specs.ReadTypes.{type_in_front}
 use Rattle.text_trees.specs.Seen.{count_of, text_of}
