@@ -1,15 +1,16 @@
 -- Readings that go on, or are refused, as their first steps are.
-use Rattle.std.proofs.Common.{◌≡◌, refl, ap, sym, ◌∙◌, ℕ, ◌+◌, List, zero, suc, ◌<◌, ◌-◌, arith, sub-one, subst, true, false, if◌then◌else◌}
+use Rattle.std.proofs.Common.{◌≡◌, refl, ap, sym, ◌∙◌, ℕ, ◌+◌, List, [], zero, suc, ◌<◌, ◌-◌, arith, sub-one, subst, true, false, if◌then◌else◌}
 use Rattle.text_trees.specs.ReadTypes.{form_in_front, level_in_front, type_in_front}
 use Rattle.wit_model.specs.Text.{Text}
-use Rattle.print_grammar.specs.Tree.{Declared}
-use Rattle.print_grammar.specs.Token.{Token, Mark, Mark.OpenBrace, Mark.CloseBrace}
+use Rattle.print_grammar.specs.Tree.{Declared, Declared.ResourceOf}
+use Rattle.text_trees.specs.ReadDeclared.{resource_behind, resource_member_in_front}
+use Rattle.print_grammar.specs.Token.{Token, Mark, Mark.OpenBrace, Mark.CloseBrace, Mark.Semi}
 use Rattle.text_trees.specs.TreesSeen.{braced}
 use Rattle.print_grammar.specs.Keyword.{Keyword}
 use Rattle.text_trees.specs.declared.front.Tokens.{Tokens}
 use Rattle.text_trees.specs.declared.refusal.Refusal.{Refusal}
 use Rattle.text_trees.specs.declared.refusal.Refusal.TheVariants.{Memory, Wanted as NotThere}
-use Rattle.text_trees.specs.Reading.{Reading, id_in_front, listed, Reading.Found, Reading.Refused, Wanted.Shallower, Wanted.AMark, then_read, made, behind, begins, begins_key, behind_mark, if_mark, if_key}
+use Rattle.text_trees.specs.Reading.{Reading, id_in_front, listed, repeated, Reading.Found, Reading.Refused, Wanted.Shallower, Wanted.AMark, then_read, made, behind, begins, begins_key, behind_mark, if_mark, if_key}
 use Rattle.text_trees.specs.declared.refusal.Wanted.{Wanted as CodeWanted}
 use Rattle.text_trees.specs.Seen.{RefusesAs, ahead, wanted_there}
 use Rattle.text_trees.proofs.Ahead.{behind_ahead}
@@ -80,3 +81,15 @@ braced_refuses them of read at end from name f h g e r =
     ap (λ x. then_read x (λ name. behind_mark OpenBrace (λ rest. made (of name) (listed read CloseBrace rest)))) f
     ∙ mark_goes them OpenBrace (λ rest. made (of name) (listed read CloseBrace rest)) end from h g in
     subst (RefusesAs them e) (sym step) (made-refuses them (of name) (listed read CloseBrace (ahead them from)) e r)
+
+-- a resource's brace, and functions that are refused
+pub resource_refuses : (them : Tokens) (name : Text) (at from : ℕ) → begins Semi (ahead them at) ≡ false → begins OpenBrace (ahead them at) ≡ true
+    → from ≡ at + 1 → (e : Refusal) → RefusesAs them e (repeated (resource_member_in_front 100) CloseBrace (ahead them from))
+    → RefusesAs them e (resource_behind 100 name (ahead them at))
+unfolding if_mark
+resource_refuses them name at from n h g e r =
+    let next : List Token → Reading Declared = behind_mark OpenBrace (λ rest. made (ResourceOf name) (repeated (resource_member_in_front 100) CloseBrace rest)) in
+    let step : resource_behind 100 name (ahead them at) ≡ made (ResourceOf name) (repeated (resource_member_in_front 100) CloseBrace (ahead them from)) =
+    ap (λ b. if b then Found (ResourceOf name []) (behind (ahead them at)) else next (ahead them at)) n
+    ∙ mark_goes them OpenBrace (λ rest. made (ResourceOf name) (repeated (resource_member_in_front 100) CloseBrace rest)) at from h g in
+    subst (RefusesAs them e) (sym step) (made-refuses them (ResourceOf name) (repeated (resource_member_in_front 100) CloseBrace (ahead them from)) e r)

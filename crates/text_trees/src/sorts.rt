@@ -4,14 +4,14 @@
 ghost use Rattle.std.specs.Prelude.{◌≡◌, ◌<◌, ◌≤◌, IfErr, IfOk};
 ghost use Rattle.print_grammar.specs.Tree.Declared.{RecordOf, VariantOf, FlagsOf, EnumOf};
 ghost use Rattle.text_trees.specs.Reading.{Reading.Found};
-ghost use Rattle.text_trees.specs.ReadDeclared.{case_in_front, field_in_front, label_in_front};
-ghost use Rattle.text_trees.specs.Seen.{RefusesAs, ahead, count_of, text_of};
+ghost use Rattle.text_trees.specs.ReadDeclared.{case_in_front, field_in_front, label_in_front, resource_behind};
+ghost use Rattle.text_trees.specs.Seen.{RefusesAs, ahead, count_of, cut, text_of};
 ghost use Rattle.text_trees.specs.TreesSeen.{alias_in_front, braced, declared_of};
 
-use crate::front::{Tokens, mark_at, name_at};
-use crate::lists::listed_at;
+use crate::front::{Tokens, begins, mark_at, name_at};
+use crate::lists::{listed_at, repeated_at};
 use crate::refusal::Refusal;
-use crate::tree::Declared;
+use crate::tree::{Declared, Span};
 use crate::types::{LEVELS, type_at};
 use std::alloc::Global;
 use text_tokens::Mark;
@@ -90,4 +90,26 @@ fn alias_at(alloc: Global, tokens: &Tokens<'_>, at: usize) -> Result<(Declared, 
     let (ty, end) = type_at(alloc, tokens, from, LEVELS)?;
     let behind = mark_at(tokens, Mark::Semi, end)?;
     Ok((Declared::AliasOf(name, ty), behind))
+}
+
+/// What follows the name of a resource: `;`, or its functions in braces.
+fn resource_behind_at(
+    alloc: Global,
+    tokens: &Tokens<'_>,
+    name: Span,
+    at: usize,
+) -> Result<(Declared, usize), Refusal>
+    requires { at ≤ count_of tokens.now }
+    ensures ok { IfOk result (λ r. resource_behind 100 (cut (text_of tokens.now) name) (ahead tokens.now at)
+        ≡ Found (declared_of (text_of tokens.now) r.0) (ahead tokens.now r.1)) }
+    ensures err { IfErr result (λ e. RefusesAs tokens.now e (resource_behind 100 (cut (text_of tokens.now) name) (ahead tokens.now at))) }
+    ensures goes { IfOk result (λ r. at < r.1) }
+    ensures within { IfOk result (λ r. r.1 ≤ count_of tokens.now) }
+{
+    if begins(tokens, Mark::Semi, at) {
+        return Ok((Declared::ResourceOf(name, Vec::new(alloc)), at + 1));
+    }
+    let from = mark_at(tokens, Mark::OpenBrace, at)?;
+    let (functions, behind) = repeated_at(alloc, tokens, Mark::CloseBrace, from)?;
+    Ok((Declared::ResourceOf(name, functions), behind))
 }
