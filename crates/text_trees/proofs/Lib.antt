@@ -36,7 +36,7 @@ pub mod SteadyLists
 pub mod SteadyFiles
 -- Readers find exactly what is there. Serves laws::declared_types_are_read, laws::files_are_read, laws::items_are_read, laws::members_are_read and 2 more.
 pub mod Exact
--- Readings that go on, or are refused, as their first steps are. Serves declared, front::more_at, lists::repeated_at, paths and 14 more.
+-- Readings that go on, or are refused, as their first steps are. Serves declared, front::more_at, lists::repeated_at, paths and 17 more.
 pub mod Going
 -- Loops over lists with commas between. Serves lists::listed_at, types.
 pub mod Listings

@@ -20,13 +20,15 @@ use Rattle.print_grammar.specs.Tree.TypeTrees.{NoTypes, AndTypes}
 use Rattle.text_trees.specs.declared.tree.TypeTree.{TypeTree as CodeTree, PrimitiveType as PrimitiveType', Name as Name', Own as Own', Borrow as Borrow', Result as Result', Future as Future', Stream as Stream', TupleOf', OptionOf', ListOf', FixedListOf', MapOf', ResultOk', ResultErr', ResultOf', FutureOf', StreamOf', Row_of-TypeTree, end_of-TypeTree, more_of-TypeTree}
 use Rattle.print_grammar.specs.Token.{Token, Mark.Less, Mark.Greater, Mark.Colon, Mark.Semi, Mark.Equals, Mark.OpenBrace, Mark.CloseBrace}
 use Rattle.print_grammar.specs.Keyword.{Keyword}
-use Rattle.text_trees.specs.ReadDeclared.{function_behind, named}
+use Rattle.text_trees.specs.ReadDeclared.{case_in_front, field_in_front, function_behind, label_in_front, named, resource_behind}
 use Rattle.text_trees.specs.Reading.{Reading, Reading.Found, begins, behind_mark, id_in_front, if_key, if_mark, listed, made, then_read}
 use Rattle.text_trees.specs.ReadTypes.{type_in_front, in_brackets, list_in_front, map_in_front, payload_in_front, result_parts_in_front, tuple_types}
 use Rattle.text_trees.specs.ReadFiles.{ends_items, is_end}
 use Rattle.text_trees.specs.declared.lists.Ends.{Ends}
 use Rattle.text_trees.specs.declared.lists.Ends.TheVariants as ends
 use Rattle.text_trees.specs.declared.types.Form.{Form}
+use Rattle.text_trees.specs.declared.sorts.Sort.{Sort}
+use Rattle.text_trees.specs.declared.sorts.Sort.TheVariants as sort
 use Rattle.text_trees.specs.declared.types.Form.TheVariants as form
 use Rattle.text_trees.specs.declared.types.Async.{Async}
 use Rattle.text_trees.specs.declared.types.Async.TheVariants as async
@@ -166,3 +168,16 @@ braced of read = named (λ name. behind_mark OpenBrace (λ rest. made (of name) 
 abbrev pub alias_in_front : ℕ → List Token → Reading Declared
 alias_in_front room =
     named (λ name. behind_mark Equals (λ rest. then_read (type_in_front room rest) (λ ty rest. behind_mark Semi (Found (AliasOf name ty)) rest)))
+
+-- what follows `resource`
+abbrev pub resource_in_front : ℕ → List Token → Reading Declared
+resource_in_front room = named (resource_behind room)
+
+-- what follows the word of a sort
+abbrev pub declared_behind : Sort → ℕ → List Token → Reading Declared
+declared_behind sort.Record room = braced RecordOf (field_in_front room)
+declared_behind sort.Variant room = braced VariantOf (case_in_front room)
+declared_behind sort.Flags room = braced FlagsOf label_in_front
+declared_behind sort.Enum room = braced EnumOf label_in_front
+declared_behind sort.Alias room = alias_in_front room
+declared_behind sort.Resource room = resource_in_front room
