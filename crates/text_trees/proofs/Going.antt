@@ -1,5 +1,5 @@
 -- Readings that go on, or are refused, as their first steps are.
-use Rattle.std.proofs.Common.{◌≡◌, refl, ap, sym, ◌∙◌, ℕ, ◌+◌, List, [], zero, suc, ◌<◌, ◌-◌, arith, sub-one, subst, true, false, if◌then◌else◌}
+use Rattle.std.proofs.Common.{◌≡◌, refl, ap, sym, ◌∙◌, ℕ, ◌+◌, List, [], ◌∷◌, zero, suc, ◌<◌, ◌-◌, arith, sub-one, subst, true, false, if◌then◌else◌}
 use Rattle.text_trees.specs.ReadTypes.{form_in_front, level_in_front, type_in_front}
 use Rattle.wit_model.specs.Text.{Text}
 use Rattle.print_grammar.specs.Tree.{Declared, Declared.ResourceOf}
@@ -10,7 +10,8 @@ use Rattle.print_grammar.specs.Keyword.{Keyword}
 use Rattle.text_trees.specs.declared.front.Tokens.{Tokens}
 use Rattle.text_trees.specs.declared.refusal.Refusal.{Refusal}
 use Rattle.text_trees.specs.declared.refusal.Refusal.TheVariants.{Memory, Wanted as NotThere}
-use Rattle.text_trees.specs.Reading.{Reading, id_in_front, listed, repeated, Reading.Found, Reading.Refused, Wanted.Shallower, Wanted.AMark, then_read, made, behind, begins, begins_key, behind_mark, if_mark, if_key}
+use Rattle.print_grammar.specs.Token.Token.{Word, Escaped, Key, VersionText, Digits, Quoted, Punctuation}
+use Rattle.text_trees.specs.Reading.{if_id, Wanted.AnId, Reading, id_in_front, listed, repeated, Reading.Found, Reading.Refused, Wanted.Shallower, Wanted.AMark, then_read, made, behind, begins, begins_key, behind_mark, if_mark, if_key}
 use Rattle.text_trees.specs.declared.refusal.Wanted.{Wanted as CodeWanted}
 use Rattle.text_trees.specs.Seen.{RefusesAs, ahead, wanted_there}
 use Rattle.text_trees.proofs.Ahead.{behind_ahead}
@@ -57,6 +58,30 @@ mark_refused them mark next at w e h k f =
     subst (λ r. RefusesAs them r (if begins mark (ahead them at) then next (behind (ahead them at)) else Refused (AMark mark) (ahead them at))) (sym f)
     (ap (λ b. if b then next (behind (ahead them at)) else Refused (AMark mark) (ahead them at)) h ∙ ap (λ v. Refused v (ahead them at)) (sym k))
 
+pub if_id_found : {X : Type 0} (next : Text → List Token → Reading X) (other : List Token → Reading X) (ts rest : List Token) (name : Text)
+    → id_in_front ts ≡ Found name rest → if_id next other ts ≡ next name rest
+unfolding id_in_front if_id
+if_id_found next other [] rest name e = absurd (cc e)
+if_id_found next other (Word label ∷ ts) rest name e = cc e
+if_id_found next other (Escaped label ∷ ts) rest name e = cc e
+if_id_found next other (Key keyword ∷ ts) rest name e = absurd (cc e)
+if_id_found next other (VersionText version ∷ ts) rest name e = absurd (cc e)
+if_id_found next other (Digits n ∷ ts) rest name e = absurd (cc e)
+if_id_found next other (Quoted cs ∷ ts) rest name e = absurd (cc e)
+if_id_found next other (Punctuation mark ∷ ts) rest name e = absurd (cc e)
+
+pub if_id_not : {X : Type 0} (next : Text → List Token → Reading X) (other : List Token → Reading X) (ts rest : List Token)
+    → id_in_front ts ≡ Refused AnId rest → if_id next other ts ≡ other ts
+unfolding id_in_front if_id
+if_id_not next other [] rest e = refl
+if_id_not next other (Word label ∷ ts) rest e = absurd (cc e)
+if_id_not next other (Escaped label ∷ ts) rest e = absurd (cc e)
+if_id_not next other (Key keyword ∷ ts) rest e = refl
+if_id_not next other (VersionText version ∷ ts) rest e = refl
+if_id_not next other (Digits n ∷ ts) rest e = refl
+if_id_not next other (Quoted cs ∷ ts) rest e = refl
+if_id_not next other (Punctuation mark ∷ ts) rest e = refl
+
 -- a form, where there is room for it
 pub level_room : (room : ℕ) (ts : List Token) → 0 < room → level_in_front room ts ≡ form_in_front (type_in_front (room - 1)) ts
 unfolding level_in_front
@@ -70,6 +95,8 @@ level_none ts = refl
 pub ruleset levels = (level_room, level_none)
 
 pub ruleset going = (made-refuses, made-gives, then-refuses, behind_ahead)
+
+pub ruleset ids = (if_id_found, if_id_not)
 
 -- a name and a brace, and a list that is refused
 pub braced_refuses : {X : Type 0} (them : Tokens) (of : Text → List X → Declared) (read : List Token → Reading X) (at end from : ℕ) (name : Text)

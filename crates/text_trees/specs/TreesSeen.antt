@@ -2,7 +2,7 @@
 use Rattle.std.specs.Prelude.{Bool, ℕ, List, [], map}
 use Rattle.std.specs.Option.{option_map}
 use Rattle.wit_model.specs.Text.{Text}
-use Rattle.print_grammar.specs.Tree.{TypeTree, TypeTrees, Gates, Prefix, ParamTree, SignatureTree, PathTree, UsedName, FieldTree, CaseTree, LabelTree, ResourceMember, Declared}
+use Rattle.print_grammar.specs.Tree.{TypeTree, TypeTrees, Gates, Prefix, ParamTree, SignatureTree, PathTree, UsedName, FieldTree, CaseTree, LabelTree, ResourceMember, Declared, MemberTree, ExternTree, WorldMember, ItemTree, PackageHead, PackageTree, FileTree}
 use Rattle.print_grammar.specs.Tree.Declared.{RecordOf, VariantOf, FlagsOf, EnumOf, AliasOf, ResourceOf}
 use Rattle.text_trees.specs.declared.tree.Declared.{Declared as CodeDeclared}
 use Rattle.text_trees.specs.declared.tree.Declared.TheVariants as sorts
@@ -14,13 +14,25 @@ use Rattle.text_trees.specs.declared.tree.PathTree.{PathTree as CodePath}
 use Rattle.text_trees.specs.declared.tree.PathTree.TheVariants as paths
 use Rattle.text_trees.specs.declared.tree.ResourceMember.{ResourceMember as CodeResourceMember}
 use Rattle.text_trees.specs.declared.tree.ResourceMember.TheVariants as members
+use Rattle.print_grammar.specs.Tree.{MemberTree.UseMember, MemberTree.TypeMember, MemberTree.FunctionMember, ItemTree.InterfaceItem, ItemTree.WorldItem}
+use Rattle.print_grammar.specs.Tree.{ExternTree.Path, ExternTree.NamedFunction, ExternTree.NamedPath, ExternTree.NamedInterface}
+use Rattle.print_grammar.specs.Tree.WorldMember.{WorldUse, WorldType, WorldImport, WorldExport}
+use Rattle.text_trees.specs.declared.tree.MemberTree.{MemberTree as CodeMember}
+use Rattle.text_trees.specs.declared.tree.MemberTree.TheVariants as member
+use Rattle.text_trees.specs.declared.tree.ExternTree.{ExternTree as CodeExtern}
+use Rattle.text_trees.specs.declared.tree.ExternTree.TheVariants as extern
+use Rattle.text_trees.specs.declared.tree.WorldMember.{WorldMember as CodeWorldMember}
+use Rattle.text_trees.specs.declared.tree.WorldMember.TheVariants as world
+use Rattle.text_trees.specs.declared.tree.ItemTree.{ItemTree as CodeItem}
+use Rattle.text_trees.specs.declared.tree.ItemTree.TheVariants as item
+use Rattle.text_trees.specs.declared.tree.{PackageHead.PackageHead as CodeHead, PackageTree.PackageTree as CodePackage, FileTree.FileTree as CodeFile}
 use Rattle.text_trees.specs.declared.tree.{Prefix.Prefix as CodePrefix, UsedName.UsedName as CodeUsed, FieldTree.FieldTree as CodeField, CaseTree.CaseTree as CodeCase, LabelTree.LabelTree as CodeLabel, ParamTree.ParamTree as CodeParam, SignatureTree.SignatureTree as CodeSignature}
 use Rattle.print_grammar.specs.Tree.TypeTree.{PrimitiveType, Name, Own, Borrow, TupleOf, OptionOf, ListOf, FixedListOf, MapOf, Result, ResultOk, ResultErr, ResultOf, Future, FutureOf, Stream, StreamOf}
 use Rattle.print_grammar.specs.Tree.TypeTrees.{NoTypes, AndTypes}
 use Rattle.text_trees.specs.declared.tree.TypeTree.{TypeTree as CodeTree, PrimitiveType as PrimitiveType', Name as Name', Own as Own', Borrow as Borrow', Result as Result', Future as Future', Stream as Stream', TupleOf', OptionOf', ListOf', FixedListOf', MapOf', ResultOk', ResultErr', ResultOf', FutureOf', StreamOf', Row_of-TypeTree, end_of-TypeTree, more_of-TypeTree}
 use Rattle.print_grammar.specs.Token.{Token, Mark.Less, Mark.Greater, Mark.Colon, Mark.Semi, Mark.Equals, Mark.OpenBrace, Mark.CloseBrace}
 use Rattle.print_grammar.specs.Keyword.{Keyword}
-use Rattle.text_trees.specs.ReadDeclared.{case_in_front, field_in_front, function_behind, label_in_front, named, resource_behind}
+use Rattle.text_trees.specs.ReadDeclared.{case_in_front, declared_in_front, use_behind, field_in_front, function_behind, label_in_front, named, resource_behind}
 use Rattle.text_trees.specs.Reading.{Reading, Reading.Found, begins, behind_mark, id_in_front, if_key, if_mark, listed, made, then_read}
 use Rattle.text_trees.specs.ReadTypes.{type_in_front, in_brackets, list_in_front, map_in_front, payload_in_front, result_parts_in_front, tuple_types}
 use Rattle.text_trees.specs.ReadFiles.{ends_items, is_end}
@@ -181,3 +193,46 @@ declared_behind sort.Flags room = braced FlagsOf label_in_front
 declared_behind sort.Enum room = braced EnumOf label_in_front
 declared_behind sort.Alias room = alias_in_front room
 declared_behind sort.Resource room = resource_in_front room
+
+-- ---- interfaces, worlds, packages and files
+
+-- what an interface has
+abbrev pub member_of : Text → CodeMember → MemberTree
+member_of text (member.UseMember prefix path names) = UseMember (prefix_of text prefix) (path_of text path) (map (used_name_of text) names.items)
+member_of text (member.TypeMember prefix declared) = TypeMember (prefix_of text prefix) (declared_of text declared)
+member_of text (member.FunctionMember prefix name signature) = FunctionMember (prefix_of text prefix) (cut text name) (signature_of text signature)
+
+-- what a world imports or exports
+abbrev pub extern_of : Text → CodeExtern → ExternTree
+extern_of text (extern.Path path) = Path (path_of text path)
+extern_of text (extern.NamedFunction name signature) = NamedFunction (cut text name) (signature_of text signature)
+extern_of text (extern.NamedPath name path) = NamedPath (cut text name) (path_of text path)
+extern_of text (extern.NamedInterface name members) = NamedInterface (cut text name) (map (member_of text) members.items)
+
+-- what a world has
+abbrev pub world_member_of : Text → CodeWorldMember → WorldMember
+world_member_of text (world.WorldUse prefix path names) = WorldUse (prefix_of text prefix) (path_of text path) (map (used_name_of text) names.items)
+world_member_of text (world.WorldType prefix declared) = WorldType (prefix_of text prefix) (declared_of text declared)
+world_member_of text (world.WorldImport prefix it) = WorldImport (prefix_of text prefix) (extern_of text it)
+world_member_of text (world.WorldExport prefix it) = WorldExport (prefix_of text prefix) (extern_of text it)
+
+-- an interface or a world
+abbrev pub item_of : Text → CodeItem → ItemTree
+item_of text (item.InterfaceItem gates name members) = InterfaceItem [] (gates_of text gates) (cut text name) (map (member_of text) members.items)
+item_of text (item.WorldItem gates name members) = WorldItem [] (gates_of text gates) (cut text name) (map (world_member_of text) members.items)
+
+-- what names a package
+abbrev pub head_of : Text → CodeHead → PackageHead
+head_of text head = record { docs = []; namespace = cut text head.namespace; name = cut text head.name; version = option_map (cut text) head.version }
+
+-- a package
+abbrev pub package_of : Text → CodePackage → PackageTree
+package_of text it = record { head = head_of text it.head; items = map (item_of text) it.items.items }
+
+-- a file
+abbrev pub file_of : Text → CodeFile → FileTree
+file_of text file = record { main = package_of text file.main; nested = map (package_of text) file.nested.items }
+
+-- what an interface has that begins with no name, behind what stands in front of it
+abbrev pub other_behind : ℕ → Prefix → List Token → Reading MemberTree
+other_behind room prefix = if_key Keyword.Use (use_behind (UseMember prefix)) (λ rest. made (TypeMember prefix) (declared_in_front room rest))

@@ -2,7 +2,7 @@
 
 ghost use Rattle.std.specs.Prelude.{◌≡◌, ◌+◌, ◌<◌, ◌≤◌, ◌∷◌, [], ℕ, List, drop, IfErr, IfOk, IfSome, None, slice_get, true, false};
 ghost use Rattle.print_grammar.specs.Token.{Token as GrammarToken};
-ghost use Rattle.text_trees.specs.Reading.{Reading.Found, begins as begins_lem, begins_key as begins_key_lem, digits_in_front, id_in_front, is_mark as is_mark_lem, more_in_front, quoted_in_front, version_in_front};
+ghost use Rattle.text_trees.specs.Reading.{Reading.Found, Reading.Refused, Wanted.AnId, begins as begins_lem, begins_key as begins_key_lem, digits_in_front, id_in_front, is_mark as is_mark_lem, more_in_front, quoted_in_front, version_in_front};
 ghost use Rattle.text_trees.specs.declared.refusal.Refusal.TheVariants.{Wanted as NotThere};
 ghost use Rattle.text_trees.specs.declared.refusal.Wanted.TheVariants as wanted;
 ghost use Rattle.text_trees.specs.ReadFiles.{is_end as is_end_lem};
@@ -153,6 +153,25 @@ pub(crate) fn name_at(tokens: &Tokens<'_>, at: usize) -> Result<(Span, usize), R
         Kind::Version => Err(Refusal::Wanted(Wanted::Id, at)),
         Kind::Digits => Err(Refusal::Wanted(Wanted::Id, at)),
         Kind::Quoted => Err(Refusal::Wanted(Wanted::Id, at)),
+    }
+}
+
+/// The id at a place, without `%`, if one stands there.
+#[tactic(auto, unfolding(crate::specs::Reading::id_in_front))]
+pub(crate) fn name_there(tokens: &Tokens<'_>, at: usize) -> Option<Span>
+    ensures some { IfSome result (λ name. id_in_front (ahead tokens.now at) ≡ Found (cut (text_of tokens.now) name) (ahead tokens.now (at + 1))) }
+    ensures none { result ≡ None → id_in_front (ahead tokens.now at) ≡ Refused AnId (ahead tokens.now at) }
+    ensures within { IfSome result (λ name. at < count_of tokens.now) }
+{
+    let token = token_at(tokens, at)?;
+    match token.kind {
+        Kind::Word => Some(span_of(token)),
+        Kind::Escaped => Some(behind_first(span_of(token))),
+        Kind::Key(_) => None,
+        Kind::Punctuation(_) => None,
+        Kind::Version => None,
+        Kind::Digits => None,
+        Kind::Quoted => None,
     }
 }
 

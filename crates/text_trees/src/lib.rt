@@ -6,6 +6,7 @@ mod front;
 mod keywords;
 pub mod laws;
 mod lists;
+mod members;
 mod paths;
 mod prefix;
 mod refusal;
@@ -17,6 +18,7 @@ mod words;
 
 pub use refusal::{Wanted, Word};
 pub use tree::{
-    CaseTree, Declared, FieldTree, Gates, LabelTree, ParamTree, PathTree, Prefix, ResourceMember,
-    SignatureTree, Span, TypeTree, UsedName,
+    CaseTree, Declared, ExternTree, FieldTree, FileTree, Gates, ItemTree, LabelTree, MemberTree,
+    PackageHead, PackageTree, ParamTree, PathTree, Prefix, ResourceMember, SignatureTree, Span,
+    TypeTree, UsedName, WorldMember,
 };

@@ -91,3 +91,27 @@ impl Form for UsedName {
         Ok((used, behind))
     }
 }
+
+/// What follows `use`, up to behind its `;`: a path, and names in braces.
+pub(crate) fn use_at(
+    alloc: Global,
+    tokens: &Tokens<'_>,
+    at: usize,
+) -> Result<((PathTree, Vec<UsedName>), usize), Refusal>
+    requires { at ≤ count_of tokens.now }
+    ensures ok { (of : GrammarPath → List GrammarUsed → GrammarMember) → IfOk result (λ r. use_behind of (ahead tokens.now at)
+        ≡ Found (of (path_of (text_of tokens.now) r.0.0) (map (used_name_of (text_of tokens.now)) r.0.1.items)) (ahead tokens.now r.1)) }
+    ensures err { (of : GrammarPath → List GrammarUsed → GrammarMember) → IfErr result (λ e. RefusesAs tokens.now e (use_behind of (ahead tokens.now at))) }
+    ensures world_ok { (of : GrammarPath → List GrammarUsed → GrammarWorldMember) → IfOk result (λ r. use_behind of (ahead tokens.now at)
+        ≡ Found (of (path_of (text_of tokens.now) r.0.0) (map (used_name_of (text_of tokens.now)) r.0.1.items)) (ahead tokens.now r.1)) }
+    ensures world_err { (of : GrammarPath → List GrammarUsed → GrammarWorldMember) → IfErr result (λ e. RefusesAs tokens.now e (use_behind of (ahead tokens.now at))) }
+    ensures goes { IfOk result (λ r. at < r.1) }
+    ensures within { IfOk result (λ r. r.1 ≤ count_of tokens.now) }
+{
+    let (path, end) = path_at(tokens, at)?;
+    let from = mark_at(tokens, Mark::Dot, end)?;
+    let from = mark_at(tokens, Mark::OpenBrace, from)?;
+    let (names, end) = listed_at(alloc, tokens, Mark::CloseBrace, from)?;
+    let behind = mark_at(tokens, Mark::Semi, end)?;
+    Ok(((path, names), behind))
+}

@@ -117,3 +117,58 @@ pub enum Declared {
     AliasOf(Span, TypeTree),
     ResourceOf(Span, Vec<ResourceMember>),
 }
+
+/// What an interface has (WIT.md, Item: interface).
+#[derive(Drop)]
+pub enum MemberTree {
+    UseMember(Prefix, PathTree, Vec<UsedName>),
+    TypeMember(Prefix, Declared),
+    FunctionMember(Prefix, Span, SignatureTree),
+}
+
+/// What a world imports or exports.
+#[derive(Drop)]
+pub enum ExternTree {
+    Path(PathTree),
+    NamedFunction(Span, SignatureTree),
+    NamedPath(Span, PathTree),
+    NamedInterface(Span, Vec<MemberTree>),
+}
+
+/// What a world has (WIT.md, Item: world).
+#[derive(Drop)]
+pub enum WorldMember {
+    WorldUse(Prefix, PathTree, Vec<UsedName>),
+    WorldType(Prefix, Declared),
+    WorldImport(Prefix, ExternTree),
+    WorldExport(Prefix, ExternTree),
+}
+
+/// An interface or a world: its gates, its name, and what it has.
+#[derive(Drop)]
+pub enum ItemTree {
+    InterfaceItem(Gates, Span, Vec<MemberTree>),
+    WorldItem(Gates, Span, Vec<WorldMember>),
+}
+
+/// A package's namespace, name and version (WIT.md, Package declaration).
+#[derive(Clone, Copy, Debug, PartialEq, Eq)]
+pub struct PackageHead {
+    pub namespace: Span,
+    pub name: Span,
+    pub version: Option<Span>,
+}
+
+/// A package: what names it, and items.
+#[derive(Drop)]
+pub struct PackageTree {
+    pub head: PackageHead,
+    pub items: Vec<ItemTree>,
+}
+
+/// A file: the package that it begins with, and the nested ones (WIT.md, Top-level items).
+#[derive(Drop)]
+pub struct FileTree {
+    pub main: PackageTree,
+    pub nested: Vec<PackageTree>,
+}
