@@ -33,9 +33,9 @@ use Rattle.text_trees.specs.declared.tree.TypeTree.{TypeTree as CodeTree, Primit
 use Rattle.print_grammar.specs.Token.{Token, Mark.Less, Mark.Greater, Mark.Colon, Mark.Semi, Mark.Equals, Mark.OpenBrace, Mark.CloseBrace}
 use Rattle.print_grammar.specs.Keyword.{Keyword}
 use Rattle.text_trees.specs.ReadDeclared.{case_in_front, declared_in_front, use_behind, field_in_front, function_behind, label_in_front, named, resource_behind}
-use Rattle.text_trees.specs.Reading.{Reading, Reading.Found, begins, behind_mark, id_in_front, if_key, if_mark, listed, made, then_read}
+use Rattle.text_trees.specs.Reading.{Reading, Reading.Found, begins, behind_mark, id_in_front, if_key, if_mark, listed, made, repeated, then_read, until}
 use Rattle.text_trees.specs.ReadTypes.{type_in_front, in_brackets, list_in_front, map_in_front, payload_in_front, result_parts_in_front, tuple_types}
-use Rattle.text_trees.specs.ReadFiles.{ends_items, is_end}
+use Rattle.text_trees.specs.ReadFiles.{ends_items, extern_path_behind, is_end, item_in_front, members_in_front, nested_in_front, world_members_in_front}
 use Rattle.text_trees.specs.declared.lists.Ends.{Ends}
 use Rattle.text_trees.specs.declared.lists.Ends.TheVariants as ends
 use Rattle.text_trees.specs.declared.types.Form.{Form}
@@ -236,3 +236,32 @@ file_of text file = record { main = package_of text file.main; nested = map (pac
 -- what an interface has that begins with no name, behind what stands in front of it
 abbrev pub other_behind : ℕ → Prefix → List Token → Reading MemberTree
 other_behind room prefix = if_key Keyword.Use (use_behind (UseMember prefix)) (λ rest. made (TypeMember prefix) (declared_in_front room rest))
+
+-- what follows a name and a colon in a world and begins with no signature: an interface or a path
+abbrev pub extern_other_behind : ℕ → Text → List Token → Reading ExternTree
+extern_other_behind room name = if_key Keyword.Interface (λ rest. made (NamedInterface name) (members_in_front room rest)) (named (extern_path_behind name))
+
+-- what a world has that is no import and no export, behind what stands in front of it
+abbrev pub world_other_behind : ℕ → Prefix → List Token → Reading WorldMember
+world_other_behind room prefix = if_key Keyword.Use (use_behind (WorldUse prefix)) (λ rest. made (WorldType prefix) (declared_in_front room rest))
+
+-- an interface, behind its word
+abbrev pub interface_in_front : ℕ → Gates → List Token → Reading ItemTree
+interface_in_front room gates = named (λ name rest. made (InterfaceItem [] gates name) (members_in_front room rest))
+
+-- a world, behind its word
+abbrev pub world_in_front : ℕ → Gates → List Token → Reading ItemTree
+world_in_front room gates = named (λ name rest. made (WorldItem [] gates name) (world_members_in_front room rest))
+
+-- a nested package, behind what names it
+abbrev pub package_behind : ℕ → PackageHead → List Token → Reading PackageTree
+package_behind room head = behind_mark OpenBrace (λ rest. made (λ items. record { head = head; items = items }) (repeated (item_in_front room) CloseBrace rest))
+
+-- the packages nested in a file, behind the items of its own
+abbrev pub nested_behind : ℕ → PackageHead → List ItemTree → List Token → Reading FileTree
+nested_behind room head items rest =
+    made (λ nested. record { main = record { head = head; items = items }; nested = nested }) (until is_end (nested_in_front room) rest)
+
+-- a file, behind what names its package
+abbrev pub file_behind : ℕ → PackageHead → List Token → Reading FileTree
+file_behind room head = behind_mark Semi (λ rest. then_read (until ends_items (item_in_front room) rest) (nested_behind room head))

@@ -2,7 +2,10 @@
 #![tactic(auto)]
 
 mod declared;
+mod externs;
+mod files;
 mod front;
+mod items;
 mod keywords;
 pub mod laws;
 mod lists;
@@ -15,6 +18,7 @@ mod sorts;
 mod tree;
 mod types;
 mod words;
+mod worlds;
 
 pub use refusal::{Wanted, Word};
 pub use tree::{
