@@ -46,3 +46,5 @@ mod ReaderExamples
 pub mod Rows
 -- Loops over things up to what ends them. Serves lists::until_at.
 pub mod Untils
+-- Tokens that stand at places are those that the places say. Serves laws::places_say_tokens.
+pub mod Saying

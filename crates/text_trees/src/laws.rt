@@ -1,6 +1,9 @@
 //! Laws of reading: what readers find is what the grammar says is there. `room` is how many levels a type may have.
 
-ghost use Rattle.std.specs.Prelude.{◌≡◌, ℕ, List, false};
+ghost use Rattle.std.specs.Prelude.{◌≡◌, ℕ, List, false, map};
+ghost use Rattle.text_tokens.specs.Places.{Placed};
+ghost use Rattle.text_tokens.specs.declared.token.Token.{Token as PlacedToken};
+ghost use Rattle.text_trees.specs.Seen.{said};
 ghost use Rattle.print_grammar.specs.{Token.Mark.Less, Token.Token};
 ghost use Rattle.print_grammar.specs.Grammar.{ReadsDeclared, ReadsExtern, ReadsItem, ReadsMember, ReadsNested, ReadsResourceMember, ReadsType, ReadsWorldMember};
 ghost use Rattle.text_trees.specs.{Reading.begins, ReadTypes.type_in_front};
@@ -46,4 +49,9 @@ pub fn files_are_read()
 pub fn refusals_stand()
     ensures places { RefusalsStandAtPlaces }
     ensures begins { NoFileBeginsSo }
+{}
+
+/// Tokens that stand at places of a text are those that the places say.
+pub fn places_say_tokens()
+    ensures same { (text : List ℕ) (at to : ℕ) (places : List PlacedToken) (tokens : List Token) → Placed text at to places tokens → tokens ≡ map (said text) places }
 {}
