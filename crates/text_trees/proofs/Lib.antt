@@ -48,3 +48,5 @@ pub mod Rows
 pub mod Untils
 -- Tokens that stand at places are those that the places say. Serves laws::places_say_tokens.
 pub mod Saying
+-- A tree that is found is what the text's tokens are by the grammar. Serves read::tree_of.
+pub mod Trees

@@ -7,3 +7,4 @@ pub mod Places
 pub mod Laws
 pub mod Seen
 pub mod TreesSeen
+pub mod Reads

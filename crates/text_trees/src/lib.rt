@@ -12,6 +12,7 @@ mod lists;
 mod members;
 mod paths;
 mod prefix;
+mod read;
 mod refusal;
 mod signatures;
 mod sorts;
@@ -20,7 +21,8 @@ mod types;
 mod words;
 mod worlds;
 
-pub use refusal::{Wanted, Word};
+pub use read::read_tree;
+pub use refusal::{TreeError, Wanted, Word};
 pub use tree::{
     CaseTree, Declared, ExternTree, FieldTree, FileTree, Gates, ItemTree, LabelTree, MemberTree,
     PackageHead, PackageTree, ParamTree, PathTree, Prefix, ResourceMember, SignatureTree, Span,

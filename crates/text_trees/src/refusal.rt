@@ -33,6 +33,16 @@ pub enum Wanted {
     Shallower,
 }
 
+/// Why a text is not read: memory, its size, a byte at which no token begins, or what is wanted at a byte.
+#[derive(Clone, Copy, Debug, PartialEq, Eq)]
+pub enum TreeError {
+    Memory,
+    /// The text has 2^32 bytes or more.
+    Size,
+    NoToken(usize),
+    Wanted(Wanted, usize),
+}
+
 /// Why tokens are refused: memory, or what is wanted at the token of this number.
 #[derive(Clone, Copy)]
 pub(crate) enum Refusal {
