@@ -168,15 +168,15 @@ spelled_is (c ∷ cs) t e =
     go (is_ascii_alphabetic c) (is_label (c ∷ cs)) (is_ascii_digit c) (c == 37) (is_label cs) (c == 34) e
   where
     go : (a l d p m q : Bool) → (elim a [
-        true ↦ (if l then Some (word_token (c ∷ cs) (keyword_of (c ∷ cs))) else None)
-        | false ↦ elim d [
-          true ↦ number_token (c ∷ cs)
-          | false ↦ elim p [
-            true ↦ (if m then Some (toks.Escaped cs) else None)
-            | false ↦ elim q [ true ↦ option_map toks.Quoted (string_characters Between cs) | false ↦ mark_of mark_texts (c ∷ cs) ]
-          ]
+      | true ↦ (if l then Some (word_token (c ∷ cs) (keyword_of (c ∷ cs))) else None)
+      | false ↦ elim d [
+        | true ↦ number_token (c ∷ cs)
+        | false ↦ elim p [
+          | true ↦ (if m then Some (toks.Escaped cs) else None)
+          | false ↦ elim q [ true ↦ option_map toks.Quoted (string_characters Between cs) | false ↦ mark_of mark_texts (c ∷ cs) ]
         ]
-      ]) ≡ Some t → spelled_as (c ∷ cs) (kind_here t) ≡ t
+      ]
+    ]) ≡ Some t → spelled_as (c ∷ cs) (kind_here t) ≡ t
     go true true d p m q e =
         let same : word_token (c ∷ cs) (keyword_of (c ∷ cs)) ≡ t = cc e in
         subst (λ x. spelled_as (c ∷ cs) (kind_here x) ≡ x) same (word_is (c ∷ cs) (keyword_of (c ∷ cs)))
