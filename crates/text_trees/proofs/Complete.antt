@@ -1,14 +1,14 @@
 -- What is there is found: the steps that readers are made of, and lists.
-use Rattle.std.proofs.Common.{◌≡◌, refl, sym, ap, ◌∙◌, subst, ℕ, ◌<◌, ◌≤◌, ◌==◌, Bool, true, false, List, [], ◌∷◌, length, arith, zero, suc, if◌then◌else◌}
+use Rattle.std.proofs.Common.{◌≡◌, refl, sym, ap, subst, ℕ, ◌<◌, ◌==◌, Bool, true, false, List, [], ◌∷◌, length, arith, zero, suc}
 use Rattle.std.specs.List.{list_all}
-use Rattle.base_lemmas.proofs.Bools.{left_of, right_of, held}
-use Rattle.std.proofs.Math.Dec.{eqb_refl}
+use Rattle.base_lemmas.proofs.Bools.{left_of, right_of}
+use Rattle.base_lemmas.proofs.Numbers.{same-number}
 use Rattle.wit_model.specs.Text.{Text}
 use Rattle.print_grammar.specs.{Keyword.Keyword, Token.Token, Token.Mark, Grammar.IsId, Grammar.Repeated, Grammar.CommaList}
 use Rattle.print_grammar.specs.{Grammar.IsId.plain, Grammar.IsId.with_percent, Grammar.Repeated.closed, Grammar.Repeated.again}
 use Rattle.print_grammar.specs.Grammar.CommaList.{last, last_with_comma, next}
 use Rattle.print_grammar.specs.Token.Mark.{Comma}
-use Rattle.print_grammar.specs.Token.Token.{Key, Punctuation}
+use Rattle.print_grammar.specs.Token.Token.{Punctuation}
 use Rattle.text_trees.specs.Reading.{Reading, Reading.Found, Reading.Refused, then_read, made, behind, begins, begins_key, is_mark, mark_number, behind_mark, if_mark, is_key, id_in_front, if_id, things_in_front, until, repeated, more_in_front, listed_in_front, listed}
 use Rattle.text_trees.proofs.{Fronts.begins_is, Lengths.Shortens}
 
@@ -74,12 +74,9 @@ module _ {X : Type 0} (ends : List Token → Bool) (read : List Token → Readin
   unfolding things_in_front then_read made
   things_step n {ts} shut e f = rw (test_fails (ends ts) (shut ts) e, e, f) refl
 
--- a mark is itself
-same_number : (n : ℕ) → (n == n) ≡ true
-same_number n = held (n == n) (eqb_refl n)
-
+-- tokens that begin with a mark pass the test for it
 begins_itself : (mark : Mark) (ts : List Token) → begins mark (Punctuation mark ∷ ts) ≡ true
-begins_itself mark ts = same_number (mark_number mark)
+begins_itself mark ts = same-number (mark_number mark)
 
 -- A comma follows, or a closing mark.
 pub data EndsAt (close : Mark) : List Token → Type 0 where

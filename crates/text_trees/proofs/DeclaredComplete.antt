@@ -1,11 +1,11 @@
 -- Gates, paths, uses and declared types that are there by the grammar are found.
-use Rattle.std.proofs.Common.{◌≡◌, refl, sym, ap, ◌∙◌, ℕ, Bool, true, false, List, [], ◌∷◌, Option, Some, None, codes}
+use Rattle.std.proofs.Common.{◌≡◌, refl, ℕ, true, false, List, [], ◌∷◌, Option, codes}
 use Rattle.std.specs.List.{list_all}
 use Rattle.base_lemmas.proofs.Bools.{left_of, right_of}
-use Rattle.wit_model.specs.{Text.Text, Rules.passes}
-use Rattle.print_grammar.specs.{Keyword.Keyword, Token.Token, Token.Mark}
+use Rattle.wit_model.specs.{Text.Text}
+use Rattle.print_grammar.specs.{Keyword.Keyword, Token.Token}
 use Rattle.print_grammar.specs.Token.Mark.{CloseBrace, OpenParen, Less, Colon, Semi, At, Slash}
-use Rattle.print_grammar.specs.Token.Token.{Word, Escaped, Key, VersionText, Digits, Quoted, Punctuation}
+use Rattle.print_grammar.specs.Token.Token.{Key, Punctuation}
 use Rattle.print_grammar.specs.Tree.{Gates, Prefix, PathTree, UsedName, FieldTree, CaseTree, LabelTree, SignatureTree, ResourceMember, Declared}
 use Rattle.print_grammar.specs.Grammar.{IsId, CommaList, ReadsVersion, ReadsVersionArgument, ReadsDeprecated, ReadsGates, ReadsExternalId, ReadsPrefix, ReadsPath, ReadsUsedName, ReadsUse, ReadsField, ReadsCase, ReadsLabel, ReadsSignature, ReadsResourceMember, ReadsDeclared}
 use Rattle.print_grammar.specs.Grammar.{ReadsVersion.no_version, ReadsVersion.with_version, ReadsVersionArgument.version_argument, ReadsDeprecated.not_deprecated, ReadsDeprecated.deprecated}
@@ -15,9 +15,9 @@ use Rattle.print_grammar.specs.Grammar.{ReadsSignature.func, ReadsSignature.asyn
 use Rattle.print_grammar.specs.Grammar.{ReadsField.field, ReadsCase.case_alone, ReadsCase.case_of, ReadsLabel.label}
 use Rattle.print_grammar.specs.Grammar.ReadsResourceMember.{constructor_, method, static}
 use Rattle.print_grammar.specs.Grammar.ReadsDeclared.{record_, variant, flags, enum, alias, resource, resource_with}
-use Rattle.text_trees.specs.Reading.{Reading, Reading.Found, then_read, made, begins, begins_key, begins_attribute, behind, behind_mark, if_mark, behind_key, if_key, id_in_front, version_in_front, quoted_in_front, behind_word, if_attribute}
-use Rattle.text_trees.specs.ReadDeclared.{at_version_in_front, version_argument_in_front, deprecated_in_front, gates_in_front, external_id_in_front, prefix_in_front, full_path_behind, path_behind, path_in_front, used_name_in_front, use_behind, field_in_front, case_in_front, label_in_front, function_behind, resource_member_behind, resource_member_in_front, resource_behind, declared_in_front}
-use Rattle.text_trees.specs.Levels.{fits_type, fits_param, fits_signature, fits_field, fits_case, fits_resource_member, fits_declared}
+use Rattle.text_trees.specs.Reading.{Reading.Found, then_read, made, begins, begins_key, begins_attribute, behind_mark, if_mark, if_key, id_in_front, version_in_front, quoted_in_front, behind_word, if_attribute}
+use Rattle.text_trees.specs.ReadDeclared.{at_version_in_front, version_argument_in_front, deprecated_in_front, gates_in_front, external_id_in_front, prefix_in_front, full_path_behind, path_in_front, used_name_in_front, use_behind, field_in_front, case_in_front, label_in_front, function_behind, resource_member_in_front, declared_in_front}
+use Rattle.text_trees.specs.Levels.{fits_param, fits_signature, fits_field, fits_case, fits_resource_member, fits_declared}
 use Rattle.text_trees.proofs.Lengths.{used_name-shortens, field-shortens, case-shortens, label-shortens, resource_member-shortens}
 use Rattle.text_trees.proofs.Complete.{EndsAt, ends_no_mark, ends_no_key, id_gives, id_no_key, id_no_mark, Shut, shut_at, listed-complete, repeated-complete}
 use Rattle.text_trees.proofs.TypesComplete.{type-found, params-complete, result-complete, signature-complete}

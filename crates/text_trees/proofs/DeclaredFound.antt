@@ -1,19 +1,18 @@
 -- What readers of gates, paths, uses and declared types find is there by the grammar.
-use Rattle.std.proofs.Common.{◌≡◌, refl, ℕ, List, [], ◌∷◌, Option, Some, None, codes}
+use Rattle.std.proofs.Common.{refl, ℕ, List, ◌∷◌}
 use Rattle.wit_model.specs.Text.{Text}
 use Rattle.print_grammar.specs.{Keyword.Keyword, Token.Token}
-use Rattle.print_grammar.specs.Token.Mark.{OpenBrace, CloseBrace, Colon, Semi, Dot}
+use Rattle.print_grammar.specs.Token.Mark.{Colon, Semi}
 use Rattle.print_grammar.specs.Token.Token.{Key, Punctuation}
-use Rattle.print_grammar.specs.Tree.{Gates, Prefix, PathTree, UsedName, Declared, SignatureTree}
-use Rattle.print_grammar.specs.Grammar.{IsId, CommaList, ReadsVersion, ReadsVersionArgument, ReadsDeprecated, ReadsGates, ReadsExternalId, ReadsPrefix, ReadsPath, ReadsUsedName, ReadsUse, ReadsField, ReadsCase, ReadsLabel, ReadsSignature, ReadsResourceMember, ReadsDeclared}
+use Rattle.print_grammar.specs.Tree.{PathTree, UsedName, SignatureTree}
+use Rattle.print_grammar.specs.Grammar.{IsId, ReadsVersion, ReadsVersionArgument, ReadsDeprecated, ReadsGates, ReadsExternalId, ReadsPrefix, ReadsPath, ReadsUsedName, ReadsUse, ReadsField, ReadsCase, ReadsLabel, ReadsSignature, ReadsResourceMember, ReadsDeclared}
 use Rattle.print_grammar.specs.Grammar.{ReadsVersion.no_version, ReadsVersion.with_version, ReadsVersionArgument.version_argument, ReadsDeprecated.not_deprecated, ReadsDeprecated.deprecated}
 use Rattle.print_grammar.specs.Grammar.{ReadsGates.no_gates, ReadsGates.since, ReadsGates.unstable, ReadsExternalId.no_external_id, ReadsExternalId.external_id, ReadsPrefix.prefix}
 use Rattle.print_grammar.specs.Grammar.{ReadsPath.local, ReadsPath.full, ReadsUsedName.same_name, ReadsUsedName.other_name, ReadsUse.use_names}
 use Rattle.print_grammar.specs.Grammar.{ReadsField.field, ReadsCase.case_alone, ReadsCase.case_of, ReadsLabel.label}
 use Rattle.print_grammar.specs.Grammar.ReadsResourceMember.{constructor_, method, static}
 use Rattle.print_grammar.specs.Grammar.ReadsDeclared.{record_, variant, flags, enum, alias, resource, resource_with}
-use Rattle.text_trees.specs.Reading.{Reading}
-use Rattle.text_trees.specs.ReadDeclared.{at_version_in_front, version_argument_in_front, deprecated_in_front, gates_in_front, external_id_in_front, prefix_in_front, full_path_behind, path_behind, path_in_front, used_name_in_front, use_behind, field_in_front, case_in_front, label_in_front, function_behind, resource_member_behind, resource_member_in_front, resource_behind, declared_in_front}
+use Rattle.text_trees.specs.ReadDeclared.{at_version_in_front, version_argument_in_front, deprecated_in_front, gates_in_front, external_id_in_front, prefix_in_front, full_path_behind, path_behind, path_in_front, used_name_in_front, use_behind, field_in_front, case_in_front, label_in_front, function_behind, resource_member_in_front, declared_in_front}
 use Rattle.text_trees.proofs.Finding.{Sound, found_sound, refused_sound, then_sound, made_sound, sound_as, mark_sound, if_mark_sound, if_key_sound, word_sound, if_attribute_sound, id_sound, version_sound, quoted_sound, repeated_sound, listed_sound}
 use Rattle.text_trees.proofs.TypesFound.{type-sound, params-sound, result-is_sound, signature-sound}
 

@@ -1,13 +1,13 @@
 -- Readers find exactly what is there.
 use Rattle.std.proofs.Common.{◌≡◌, sym, ap, ◌∙◌, ℕ, Bool, true, false, List, ◌++◌}
-use Rattle.text_trees.specs.Places.{window, rest_of, put}
+use Rattle.text_trees.specs.Places.{window}
 use Rattle.text_trees.proofs.{Steady.SteadyAt, SteadyFiles.file-steady}
-use Rattle.print_grammar.specs.{Token.Token, Token.Mark.Less, Tree.FileTree}
-use Rattle.print_grammar.specs.Grammar.{ReadsType, ReadsFile, ReadsResourceMember, ReadsDeclared, ReadsMember, ReadsExtern, ReadsWorldMember, ReadsItem, ReadsNested}
+use Rattle.print_grammar.specs.{Token.Token, Token.Mark.Less}
+use Rattle.print_grammar.specs.Grammar.{ReadsType, ReadsResourceMember, ReadsDeclared, ReadsMember, ReadsExtern, ReadsWorldMember, ReadsItem, ReadsNested}
 use Rattle.text_trees.specs.Reading.{Reading, Reading.Found, Reading.Refused, Wanted, Wanted.Shallower, begins}
 use Rattle.text_trees.specs.{ReadTypes.type_in_front, ReadDeclared.resource_member_in_front, ReadDeclared.declared_in_front}
 use Rattle.text_trees.specs.ReadFiles.{member_in_front, extern_in_front, world_member_in_front, item_in_front, nested_in_front, file_in_front}
-use Rattle.text_trees.specs.Levels.{fits_type, fits_resource_member, fits_declared, fits_member, fits_extern, fits_world_member, fits_item, fits_package, fits_file, levels}
+use Rattle.text_trees.specs.Levels.{fits_type, fits_resource_member, fits_declared, fits_member, fits_extern, fits_world_member, fits_item, fits_package, levels}
 use Rattle.text_trees.specs.Laws.{FindsWhatIsRead, FindsNothingElse, FindsBefore, FilesAreRead, FoundFilesAreOnly, RefusedAreNoFiles, ShallowFilesAreFound, RefusalsStandAtPlaces, NoFileBeginsSo}
 use Rattle.text_trees.proofs.Finding.{Sound, is_there}
 use Rattle.text_trees.proofs.Fitting.{Passes, type-fits, resource_member-fits, declared-fits, member-fits, extern-fits, world_member-fits, item-fits, nested-fits, file-fits}
@@ -57,7 +57,10 @@ module _ (room : ℕ) where
 -- ---- files
 
 pub files_are_read : FilesAreRead
-files_are_read room ts rest file = (λ e. let r = is_there (file-sound room) ts rest file e in (r.0, is_there (file-fits room) ts rest file e, r.1), λ r. file-complete room r.0 r.1 ∙ ap (Found file) (sym r.2))
+files_are_read room ts rest file = (
+  λ e. let r = is_there (file-sound room) ts rest file e in (r.0, is_there (file-fits room) ts rest file e, r.1),
+  λ r. file-complete room r.0 r.1 ∙ ap (Found file) (sym r.2),
+)
 
 -- what is found with some room is found with more
 found_with_more : {X : Type 0} {r s : Reading X} {x : X} {rest : List Token} → Extends r s → r ≡ Found x rest → s ≡ Found x rest

@@ -1,12 +1,12 @@
 -- With more room a reader finds the same, and it refuses the same but where a type had too many levels.
-use Rattle.std.proofs.Common.{◌≡◌, refl, ap, ℕ, ◌≤◌, Bool, true, false, List, [], ◌∷◌, arith, zero, suc, if◌then◌else◌}
+use Rattle.std.proofs.Common.{ℕ, ◌≤◌, Bool, true, false, List, ◌∷◌, arith, zero, suc, if◌then◌else◌}
 use Rattle.wit_model.specs.Text.{Text}
 use Rattle.print_grammar.specs.{Keyword.Keyword, Token.Token, Token.Mark}
 use Rattle.print_grammar.specs.Token.Token.{Word, Escaped, Key}
-use Rattle.print_grammar.specs.Tree.{TypeTree, Prefix, SignatureTree}
-use Rattle.text_trees.specs.Reading.{Wanted, Wanted.Shallower, Reading, Reading.Found, Reading.Refused, then_read, made, behind, begins, behind_mark, if_mark, begins_key, behind_key, if_key, id_in_front, if_id, things_in_front, until, repeated, thing_and_more, more_in_front, listed_in_front, listed}
-use Rattle.text_trees.specs.ReadTypes.{payload_in_front, result_parts_in_front, form_in_front, type_by, level_in_front, type_in_front, param_in_front, params_in_front, result_in_front, signature_in_front}
-use Rattle.text_trees.specs.ReadDeclared.{field_in_front, case_in_front, function_behind, resource_member_in_front, declared_in_front}
+use Rattle.print_grammar.specs.Tree.{TypeTree, SignatureTree}
+use Rattle.text_trees.specs.Reading.{Wanted.Shallower, Reading, Reading.Found, Reading.Refused, then_read, made, behind, begins, behind_mark, if_mark, begins_key, behind_key, if_key, if_id, things_in_front, until, repeated, listed_in_front, listed}
+use Rattle.text_trees.specs.ReadTypes.{payload_in_front, form_in_front, type_by, level_in_front, type_in_front, params_in_front, result_in_front, signature_in_front}
+use Rattle.text_trees.specs.ReadDeclared.{function_behind, resource_member_in_front, declared_in_front}
 use Rattle.text_trees.specs.ReadFiles.{member_in_front, extern_in_front, world_member_in_front, item_in_front, nested_in_front, file_in_front}
 
 -- ---- readings

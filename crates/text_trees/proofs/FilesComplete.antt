@@ -1,30 +1,27 @@
 -- What interfaces, worlds, packages and files have by the grammar is found.
-use Rattle.std.proofs.Common.{◌≡◌, refl, sym, ap, ◌∙◌, subst, ℕ, ◌<◌, ◌≤◌, Bool, true, false, List, [], ◌∷◌, length, arith, zero, suc}
+use Rattle.std.proofs.Common.{◌≡◌, refl, sym, ◌∙◌, subst, ℕ, ◌<◌, true, false, List, [], ◌∷◌, length, arith, zero, suc}
 use Rattle.std.specs.List.{list_all}
 use Rattle.base_lemmas.proofs.Bools.{left_of, right_of}
-use Rattle.wit_model.specs.Text.{Text}
 use Rattle.print_grammar.specs.{Keyword.Keyword, Token.Token}
-use Rattle.print_grammar.specs.Token.Mark.{OpenBrace, CloseBrace, Colon, Semi, At, Slash}
-use Rattle.print_grammar.specs.Token.Token.{Word, Escaped, Key, Punctuation}
+use Rattle.print_grammar.specs.Token.Mark.{CloseBrace, At}
 use Rattle.print_grammar.specs.Tree.{Prefix, SignatureTree, Declared, PathTree, UsedName, MemberTree, MemberTree.UseMember, MemberTree.TypeMember, ExternTree, WorldMember, WorldMember.WorldUse, WorldMember.WorldType, ItemTree, PackageHead, PackageTree, FileTree}
-use Rattle.print_grammar.specs.Grammar.{IsId, Repeated, ReadsUse, ReadsDeclared, ReadsSignature, ReadsMember, ReadsExtern, ReadsWorldMember, ReadsItem, ReadsItems, ReadsHead, ReadsNested, ReadsAllNested, ReadsFile}
+use Rattle.print_grammar.specs.Grammar.{ReadsUse, ReadsDeclared, ReadsSignature, ReadsMember, ReadsExtern, ReadsWorldMember, ReadsItem, ReadsItems, ReadsHead, ReadsNested, ReadsAllNested, ReadsFile}
 use Rattle.print_grammar.specs.Grammar.{ReadsUse.use_names, ReadsSignature.func, ReadsSignature.async_func, ReadsPath.local, ReadsPath.full}
-use Rattle.print_grammar.specs.Grammar.ReadsDeclared.{record_, variant, flags, enum, alias, resource, resource_with}
+use Rattle.print_grammar.specs.Grammar.ReadsDeclared.{record_}
 use Rattle.print_grammar.specs.Grammar.ReadsMember.{member_use, member_type, member_function}
 use Rattle.print_grammar.specs.Grammar.ReadsExtern.{extern_path, extern_function, extern_named_path, extern_interface}
 use Rattle.print_grammar.specs.Grammar.ReadsWorldMember.{world_use, world_type, world_import, world_export}
 use Rattle.print_grammar.specs.Grammar.{ReadsItem.interface_item, ReadsItem.world_item, ReadsItems.no_items, ReadsItems.next_item, ReadsHead.head}
 use Rattle.print_grammar.specs.Grammar.{ReadsNested.nested_package, ReadsAllNested.nested_end, ReadsAllNested.next_nested, ReadsFile.file}
-use Rattle.text_trees.specs.Reading.{Reading, Reading.Found, then_read, made, begins, begins_key, behind, behind_mark, if_mark, behind_key, if_key, if_id, id_in_front, if_attribute, things_in_front, until}
+use Rattle.text_trees.specs.Reading.{Reading.Found, then_read, made, begins, behind_mark, if_mark, behind_key, if_key, if_id, id_in_front, if_attribute, things_in_front, until}
 use Rattle.text_trees.specs.ReadTypes.{begins_signature}
 use Rattle.text_trees.specs.{ReadDeclared.declared_in_front}
-use Rattle.text_trees.specs.ReadFiles.{member_behind, member_in_front, extern_behind, extern_in_front, world_member_behind, world_member_in_front, item_behind, item_in_front, head_in_front, nested_in_front, is_end, ends_items, file_in_front}
-use Rattle.text_trees.specs.Levels.{fits_signature, fits_declared, fits_member, fits_extern, fits_world_member, fits_item, fits_package, fits_file}
+use Rattle.text_trees.specs.ReadFiles.{member_behind, member_in_front, extern_in_front, world_member_behind, world_member_in_front, item_in_front, head_in_front, nested_in_front, is_end, ends_items, file_in_front}
+use Rattle.text_trees.specs.Levels.{fits_member, fits_extern, fits_world_member, fits_item, fits_package, fits_file}
 use Rattle.text_trees.proofs.Fronts.{begins_key_is}
-use Rattle.text_trees.proofs.FilesFound.{is_end_is}
 use Rattle.text_trees.proofs.Lengths.{member-shortens, world_member-shortens, item-shortens, nested-shortens}
 use Rattle.text_trees.proofs.Complete.{then_gives, made_gives, id_gives, if_id_gives, id_no_key, id_no_mark, is_found, Shut, shut_at, things_end, things_step, repeated-complete}
-use Rattle.text_trees.proofs.DeclaredComplete.{at_version-complete, gates-complete, prefix-complete, full_path-complete, path-complete, use-complete, function-complete, declared-complete}
+use Rattle.text_trees.proofs.DeclaredComplete.{at_version-complete, gates-complete, prefix-complete, full_path-complete, use-complete, function-complete, declared-complete}
 
 -- no declared type and no use begins with `@`
 use_no_at : {ts rest : List Token} {path : PathTree} {names : List UsedName} → ReadsUse ts path names rest → begins At ts ≡ false

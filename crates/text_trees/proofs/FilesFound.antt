@@ -1,18 +1,15 @@
 -- What readers of interfaces, worlds, packages and files find is there by the grammar.
-use Rattle.std.proofs.Common.{◌≡◌, refl, sym, subst, ℕ, Bool, true, false, List, [], ◌∷◌}
-use Rattle.wit_model.specs.Text.{Text}
-use Rattle.print_grammar.specs.{Keyword.Keyword, Token.Token}
-use Rattle.print_grammar.specs.Token.Mark.{OpenBrace, CloseBrace, Colon, Semi}
-use Rattle.print_grammar.specs.Token.Token.{Key, Punctuation}
-use Rattle.print_grammar.specs.Tree.{MemberTree, WorldMember, ItemTree, PackageTree, FileTree}
-use Rattle.print_grammar.specs.Grammar.{IsId, Repeated, ReadsMember, ReadsExtern, ReadsWorldMember, ReadsItem, ReadsItems, ReadsHead, ReadsNested, ReadsAllNested, ReadsFile}
+use Rattle.std.proofs.Common.{◌≡◌, refl, sym, subst, ℕ, true, List, [], ◌∷◌}
+use Rattle.print_grammar.specs.{Token.Token}
+use Rattle.print_grammar.specs.Tree.{PackageTree}
+use Rattle.print_grammar.specs.Grammar.{ReadsMember, ReadsExtern, ReadsWorldMember, ReadsItem, ReadsItems, ReadsHead, ReadsNested, ReadsAllNested, ReadsFile}
 use Rattle.print_grammar.specs.Grammar.ReadsMember.{member_use, member_type, member_function}
 use Rattle.print_grammar.specs.Grammar.ReadsExtern.{extern_path, extern_function, extern_named_path, extern_interface}
 use Rattle.print_grammar.specs.Grammar.ReadsWorldMember.{world_use, world_type, world_import, world_export}
 use Rattle.print_grammar.specs.Grammar.{ReadsItem.interface_item, ReadsItem.world_item, ReadsItems.no_items, ReadsItems.next_item, ReadsHead.head}
 use Rattle.print_grammar.specs.Grammar.{ReadsNested.nested_package, ReadsAllNested.nested_end, ReadsAllNested.next_nested, ReadsFile.file, ReadsPath.local}
-use Rattle.text_trees.specs.Reading.{Reading, until}
-use Rattle.text_trees.specs.ReadFiles.{member_in_front, members_in_front, extern_in_front, world_member_in_front, world_members_in_front, item_in_front, head_in_front, nested_in_front, is_end, ends_items, file_in_front}
+use Rattle.text_trees.specs.Reading.{until}
+use Rattle.text_trees.specs.ReadFiles.{member_in_front, extern_in_front, world_member_in_front, item_in_front, head_in_front, nested_in_front, is_end, ends_items, file_in_front}
 use Rattle.text_trees.proofs.Finding.{Sound, found_sound, refused_sound, then_sound, made_sound, sound_as, mark_sound, if_mark_sound, key_sound, if_key_sound, either_sound, id_sound, if_id_sound, repeated_sound, until_sound}
 use Rattle.text_trees.proofs.DeclaredFound.{at_version-sound, gates-sound, prefix-sound, full_path-sound, path_behind-sound, use-sound, function-sound, declared-sound}
 

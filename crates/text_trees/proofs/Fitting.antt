@@ -1,18 +1,18 @@
 -- No type that a reader finds has more levels than there is room for.
-use Rattle.std.proofs.Common.{◌≡◌, refl, ap, ◌∙◌, ℕ, ◌≤◌, ◌&&◌, Bool, true, false, List, [], ◌∷◌, arith, zero, suc, max, Option}
+use Rattle.std.proofs.Common.{◌≡◌, refl, ℕ, ◌≤◌, Bool, true, List, [], ◌∷◌, arith, zero, suc}
 use Rattle.std.specs.List.{list_all}
-use Rattle.std.proofs.lemmas.Bool.{le-leb, leb-true}
+use Rattle.std.proofs.lemmas.Bool.{and_from, le-leb, leb-true}
 use Rattle.base_lemmas.proofs.Bools.{left_of, right_of}
-use Rattle.wit_model.specs.{Text.Text, Rules.passes}
+use Rattle.wit_model.specs.{Rules.passes}
 use Rattle.print_grammar.specs.{Keyword.Keyword, Token.Token, Token.Mark, Grammar.CommaList, Grammar.Repeated}
 use Rattle.print_grammar.specs.Grammar.CommaList.{last, last_with_comma, next}
 use Rattle.print_grammar.specs.Grammar.Repeated.{closed, again}
-use Rattle.print_grammar.specs.Token.Token.{Word, Escaped, Key, Punctuation}
+use Rattle.print_grammar.specs.Token.Token.{Word, Escaped, Key}
 use Rattle.print_grammar.specs.Tree.{TypeTree, SignatureTree, PathTree, UsedName}
-use Rattle.text_trees.specs.Reading.{Reading, id_in_front, until, repeated, listed}
+use Rattle.text_trees.specs.Reading.{Reading, until, repeated, listed}
 use Rattle.text_trees.specs.ReadTypes.{tuple_types, payload_in_front, result_parts_in_front, form_in_front, type_by, level_in_front, type_in_front, param_in_front, params_in_front, result_in_front, signature_in_front}
 use Rattle.text_trees.specs.ReadDeclared.{prefix_in_front, gates_in_front, full_path_behind, path_behind, path_in_front, use_behind, used_name_in_front, field_in_front, case_in_front, label_in_front, function_behind, resource_member_in_front, declared_in_front}
-use Rattle.text_trees.specs.ReadFiles.{member_in_front, extern_in_front, world_member_in_front, item_in_front, head_in_front, nested_in_front, is_end, ends_items, file_in_front}
+use Rattle.text_trees.specs.ReadFiles.{member_in_front, extern_in_front, world_member_in_front, item_in_front, head_in_front, nested_in_front, file_in_front}
 use Rattle.text_trees.specs.Levels.{levels, deepest, fits_type, fits_param, fits_signature, fits_field, fits_case, fits_resource_member, fits_declared, fits_member, fits_extern, fits_world_member, fits_item, fits_package, fits_file}
 use Rattle.text_trees.proofs.Finding.{Sound, Finds, finds, refuses, found_sound, refused_sound, then_sound, made_sound, sound_as, mark_sound, if_mark_sound, key_sound, if_key_sound, either_sound, id_sound, if_id_sound, digits_sound, until_sound, repeated_sound, listed_sound}
 
@@ -27,19 +27,16 @@ Any ts x rest = Unit {0}
 anything : {X : Type 0} (read : List Token → Reading X) → Sound Any read
 anything read = record { at = λ ts. record { found = λ x rest e. tt } }
 
-both : (a b : Bool) → a ≡ true → b ≡ true → (a && b) ≡ true
-both a b e f = rw (e, f) refl
-
 -- ---- lists
 
 all_listed : {X : Type 0} {test : X → Bool} {close : Token} {ts rest : List Token} {xs : List X} → CommaList (Passes test) close ts xs rest → list_all test xs ≡ true
-all_listed (last p) = both _ _ p refl
-all_listed (last_with_comma p) = both _ _ p refl
-all_listed (next p l) = both _ _ p (all_listed l)
+all_listed (last p) = and_from _ _ p refl
+all_listed (last_with_comma p) = and_from _ _ p refl
+all_listed (next p l) = and_from _ _ p (all_listed l)
 
 all_repeated : {X : Type 0} {test : X → Bool} {close : Token} {ts rest : List Token} {xs : List X} → Repeated (Passes test) close ts xs rest → list_all test xs ≡ true
 all_repeated closed = refl
-all_repeated (again p l) = both _ _ p (all_repeated l)
+all_repeated (again p l) = and_from _ _ p (all_repeated l)
 
 module _ {X : Type 0} (test : X → Bool) {read : List Token → Reading X} (fit : Sound (Passes test) read) where
   listed-fit : (close : Mark) → Sound (Passes (list_all test)) (listed read close)
@@ -49,7 +46,7 @@ module _ {X : Type 0} (test : X → Bool) {read : List Token → Reading X} (fit
   repeated-fit close = sound_as (repeated_sound fit) (λ ts rest xs l. all_repeated l)
 
   until-fit : (ends : List Token → Bool) → Sound (Passes (list_all test)) (until ends read)
-  until-fit ends = until_sound (Passes (list_all test)) fit (λ ts h. refl) (λ ts between rest x xs p q. both _ _ p q)
+  until-fit ends = until_sound (Passes (list_all test)) fit (λ ts h. refl) (λ ts between rest x xs p q. and_from _ _ p q)
 
 -- ---- types
 
@@ -122,8 +119,8 @@ module _ (room : ℕ) where
 
   signature-fits : Sound (Passes (fits_signature room)) (signature_in_front room)
   signature-fits =
-      if_key_sound _ (key_sound _ (then_sound params-fit (λ params. then_sound result-fit (λ result. found_sound (λ rest us k ts h. both _ _ h k)))))
-      (key_sound _ (then_sound params-fit (λ params. then_sound result-fit (λ result. found_sound (λ rest us k ts h. both _ _ h k)))))
+      if_key_sound _ (key_sound _ (then_sound params-fit (λ params. then_sound result-fit (λ result. found_sound (λ rest us k ts h. and_from _ _ h k)))))
+      (key_sound _ (then_sound params-fit (λ params. then_sound result-fit (λ result. found_sound (λ rest us k ts h. and_from _ _ h k)))))
 
   function-fits : {X : Type 0} {test : X → Bool} (function_of : SignatureTree → X) → ((signature : SignatureTree) → fits_signature room signature ≡ true → test (function_of signature) ≡ true)
       → Sound (Passes test) (function_behind room function_of)
@@ -146,7 +143,7 @@ module _ (room : ℕ) where
   pub resource_member-fits : Sound (Passes (fits_resource_member room)) (resource_member_in_front room)
   resource_member-fits =
       then_sound (anything prefix_in_front) (λ pre.
-      if_key_sound _ (then_sound params-fit (λ params. then_sound result-fit (λ result. mark_sound _ (found_sound (λ rest vs k us h ts u. both _ _ h k)))))
+      if_key_sound _ (then_sound params-fit (λ params. then_sound result-fit (λ result. mark_sound _ (found_sound (λ rest vs k us h ts u. and_from _ _ h k)))))
       (id_sound (λ t name i. mark_sound _ (if_key_sound _
       (sound_as (function-fits {test = fits_resource_member room} _ (λ signature h. h)) (λ us rest member h ts u. h))
       (sound_as (function-fits {test = fits_resource_member room} _ (λ signature h. h)) (λ us rest member h ts u. h))))))
@@ -203,4 +200,4 @@ module _ (room : ℕ) where
   pub file-fits : Sound (Passes (fits_file room)) (file_in_front room)
   file-fits =
       key_sound _ (then_sound (anything head_in_front) (λ head. mark_sound _ (then_sound (until-fit (fits_item room) item-fits _) (λ items.
-      made_sound _ (sound_as (until-fit (fits_package room) nested-fits _) (λ vs rest nested k us h ts u. both _ _ h k))))))
+      made_sound _ (sound_as (until-fit (fits_package room) nested-fits _) (λ vs rest nested k us h ts u. and_from _ _ h k))))))

@@ -1,12 +1,12 @@
 -- Tokens that pass the test for a mark, a keyword or a word begin with it.
-use Rattle.std.proofs.Common.{◌≡◌, refl, sym, ap, ◌∙◌, ℕ, ◌==◌, Bool, true, false, List, [], ◌∷◌, Option, Some, None}
+use Rattle.std.proofs.Common.{◌≡◌, refl, ap, ◌==◌, true, List, [], ◌∷◌, Some}
 use Rattle.std.specs.Prelude.{slice_get}
 use Rattle.std.proofs.lemmas.Bool.{eqb-true}
 use Rattle.print_grammar.specs.{Keyword.Keyword, Keyword.PrimitiveName, Token.Token, Token.Mark}
 use Rattle.print_grammar.specs.Token.Mark.{OpenBrace, CloseBrace, OpenParen, CloseParen, Less, Greater, Colon, Semi, Comma, Dot, Equals, Slash, At, Arrow}
-use Rattle.print_grammar.specs.Token.Token.{Word, Escaped, Key, VersionText, Digits, Quoted, Punctuation}
+use Rattle.print_grammar.specs.Token.Token.{Word, Key, Punctuation}
 use Rattle.print_grammar.specs.Keyword.PrimitiveName.{Bool_, U8, U16, U32, U64, S8, S16, S32, S64, F32, F64, Char, String, ErrorContext}
-use Rattle.wit_model.specs.Text.{Text, text_eq}
+use Rattle.wit_model.specs.Text.{Text}
 use Rattle.wit_model.proofs.TextLemmas.{text_same}
 use Rattle.text_trees.specs.Reading.{behind, begins, is_mark, mark_number, begins_key, is_key, primitive_number, keyword_number, begins_word, begins_attribute}
 

@@ -1,9 +1,9 @@
 -- What follows a thing is shorter than what it stands in front of.
-use Rattle.std.proofs.Common.{◌≡◌, ℕ, ◌<◌, ◌≤◌, List, [], ◌∷◌, length, arith, Option}
+use Rattle.std.proofs.Common.{ℕ, ◌<◌, ◌≤◌, List, length, arith, Option}
 use Rattle.wit_model.specs.Text.{Text}
 use Rattle.print_grammar.specs.Token.{Token}
-use Rattle.print_grammar.specs.Tree.{TypeTree, TypeTrees, Gates, Prefix, ParamTree, FieldTree, CaseTree, LabelTree, SignatureTree, ResourceMember, Declared, PathTree, UsedName, MemberTree, ExternTree, WorldMember, ItemTree, PackageHead, PackageTree}
-use Rattle.print_grammar.specs.Grammar.{CommaList, Repeated, ReadsType, ReadsTypes, ReadsParam, ReadsParams, ReadsResult, ReadsSignature, ReadsVersion, ReadsVersionArgument, ReadsDeprecated, ReadsGates, ReadsExternalId, ReadsPrefix, ReadsPath, ReadsUsedName, ReadsUse, ReadsField, ReadsCase, ReadsLabel, ReadsResourceMember, ReadsDeclared, ReadsMember, ReadsExtern, ReadsWorldMember, ReadsItem, ReadsItems, ReadsHead, ReadsNested}
+use Rattle.print_grammar.specs.Tree.{TypeTree, TypeTrees, Gates, Prefix, PathTree, UsedName}
+use Rattle.print_grammar.specs.Grammar.{CommaList, Repeated, ReadsType, ReadsTypes, ReadsParam, ReadsParams, ReadsResult, ReadsSignature, ReadsVersion, ReadsVersionArgument, ReadsDeprecated, ReadsGates, ReadsExternalId, ReadsPrefix, ReadsPath, ReadsUsedName, ReadsUse, ReadsField, ReadsCase, ReadsLabel, ReadsResourceMember, ReadsDeclared, ReadsMember, ReadsExtern, ReadsWorldMember, ReadsItem, ReadsHead, ReadsNested}
 use Rattle.print_grammar.specs.Grammar.ReadsType.{primitive, named, named_with_percent, own, borrow, tuple, option, map, list, fixed_list, future, future_of, stream, stream_of, result, result_ok, result_of, result_err}
 use Rattle.print_grammar.specs.Grammar.ReadsTypes.{last_type, last_type_with_comma, next_type}
 use Rattle.print_grammar.specs.Grammar.CommaList.{last, last_with_comma, next}

@@ -1,7 +1,7 @@
 -- Worked examples: what is found in front of tokens, and what is wanted where.
 use Rattle.std.proofs.Common.{◌≡◌, refl, ℕ, false, List, [], ◌∷◌, None, Some, codes}
 use Rattle.print_grammar.specs.{Keyword.Keyword, Keyword.PrimitiveName.U8, Token.Token}
-use Rattle.print_grammar.specs.Token.Mark.{OpenBrace, CloseBrace, OpenParen, CloseParen, Less, Greater, Colon, Semi, Comma, Slash, At, Arrow}
+use Rattle.print_grammar.specs.Token.Mark.{OpenBrace, CloseBrace, OpenParen, CloseParen, Less, Greater, Colon, Semi, Comma, Slash, At}
 use Rattle.print_grammar.specs.Token.Token.{Word, Escaped, Key, VersionText, Punctuation}
 use Rattle.print_grammar.specs.Tree.{FileTree, Gates.Ungated, PathTree.Full, ExternTree.Path, MemberTree.FunctionMember, WorldMember.WorldImport, ItemTree.InterfaceItem, ItemTree.WorldItem, TypeTree.ListOf, TypeTree.PrimitiveType, TypeTree.Future}
 use Rattle.text_trees.specs.Reading.{Wanted, Reading.Found, Reading.Refused, then_read, made, behind_mark, if_mark, behind_key, if_key, if_id, behind_word, if_attribute, id_in_front, version_in_front, digits_in_front, quoted_in_front, things_in_front, until, repeated, listed_in_front, listed}
@@ -9,7 +9,8 @@ use Rattle.text_trees.specs.{ReadTypes.level_in_front, ReadTypes.type_in_front, 
 
 -- what computes in the examples
 computes : ℕ
-unfolding then_read made behind_mark if_mark behind_key if_key if_id behind_word if_attribute id_in_front version_in_front digits_in_front quoted_in_front things_in_front until repeated listed_in_front listed level_in_front
+unfolding then_read made behind_mark if_mark behind_key if_key if_id behind_word if_attribute id_in_front version_in_front digits_in_front quoted_in_front things_in_front until repeated
+    listed_in_front listed level_in_front
 computes = 0
 
 -- `list<u8>` has one level

@@ -1,5 +1,5 @@
 -- A reader answers alike for tokens that begin alike: up to the place where it stops, and at the first token there, or at `@` and the token behind it.
-use Rattle.std.proofs.Common.{◌≡◌, refl, sym, ap, ◌∙◌, subst, ℕ, Bool, true, false, List, [], ◌∷◌, ◌++◌, append_assoc, if◌then◌else◌, Option, Some, None}
+use Rattle.std.proofs.Common.{◌≡◌, refl, sym, ap, ◌∙◌, ℕ, Bool, true, false, List, [], ◌∷◌, ◌++◌, append_assoc, if◌then◌else◌, Option, Some, None}
 use Rattle.wit_model.specs.Text.{Text}
 use Rattle.print_grammar.specs.{Keyword.Keyword, Token.Token, Token.Mark}
 use Rattle.print_grammar.specs.Token.Mark.{At}
@@ -275,7 +275,8 @@ begins_id_first [] = refl
 begins_id_first (Word label ∷ ts) = refl
 begins_id_first (t ∷ ts) = refl
 
-if_id_split : {X : Type 0} (read_on : Text → List Token → Reading X) (other : List Token → Reading X) (ts : List Token) → if_id read_on other ts ≡ (if begins_id ts then then_read (id_in_front ts) read_on else other ts)
+if_id_split : {X : Type 0} (read_on : Text → List Token → Reading X) (other : List Token → Reading X) (ts : List Token)
+    → if_id read_on other ts ≡ (if begins_id ts then then_read (id_in_front ts) read_on else other ts)
 unfolding if_id id_in_front then_read
 if_id_split read_on other [] = refl
 if_id_split read_on other (Word label ∷ ts) = refl

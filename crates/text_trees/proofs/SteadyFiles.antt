@@ -1,20 +1,20 @@
 -- Readers of types, declared types, interfaces, worlds and files answer alike for tokens that begin alike.
-use Rattle.std.proofs.Common.{◌≡◌, refl, ℕ, ◌<◌, Bool, true, false, List, [], ◌∷◌, length, zero, suc, if◌then◌else◌, Option, Some, None}
+use Rattle.std.proofs.Common.{◌≡◌, refl, ℕ, Bool, true, false, List, [], ◌∷◌, zero, suc, if◌then◌else◌, Option, Some, None}
 use Rattle.print_grammar.specs.{Keyword.Keyword, Token.Token}
 use Rattle.print_grammar.specs.Token.Mark.{CloseBrace, Slash}
 use Rattle.print_grammar.specs.Token.Token.{Word, Escaped, Key}
 use Rattle.print_grammar.specs.Tree.{TypeTree, TypeTree.PrimitiveType, TypeTree.Name, SignatureTree, PathTree, UsedName}
-use Rattle.text_trees.specs.Reading.{Wanted, Reading, Reading.Found, Reading.Refused, begins, until, repeated, listed}
-use Rattle.text_trees.specs.ReadTypes.{in_brackets, payload_in_front, form_in_front, type_by, level_in_front, type_in_front, param_in_front, params_in_front, result_in_front, begins_signature, signature_in_front}
-use Rattle.text_trees.specs.ReadDeclared.{at_version_in_front, version_argument_in_front, deprecated_in_front, gates_in_front, external_id_in_front, prefix_in_front, full_path_behind, path_behind, path_in_front, used_name_in_front, use_behind, field_in_front, case_in_front, label_in_front, function_behind, resource_member_in_front, declared_in_front}
+use Rattle.text_trees.specs.Reading.{Wanted, Reading, Reading.Refused, begins, listed}
+use Rattle.text_trees.specs.ReadTypes.{payload_in_front, form_in_front, type_by, level_in_front, type_in_front, param_in_front, params_in_front, result_in_front, begins_signature, signature_in_front}
+use Rattle.text_trees.specs.ReadDeclared.{at_version_in_front, version_argument_in_front, deprecated_in_front, gates_in_front, external_id_in_front, prefix_in_front, full_path_behind, path_behind, used_name_in_front, use_behind, field_in_front, case_in_front, label_in_front, function_behind, resource_member_in_front, declared_in_front}
 use Rattle.text_trees.specs.ReadFiles.{member_in_front, extern_in_front, world_member_in_front, item_in_front, head_in_front, nested_in_front, is_end, ends_items, file_in_front}
 use Rattle.text_trees.specs.Places.{first_alone}
 use Rattle.text_trees.proofs.Finding.{Sound, is_there}
 use Rattle.text_trees.proofs.Lengths.{Shortens, type-shortens, param-shortens, used_name-shortens, field-shortens, case-shortens, label-shortens, resource_member-shortens, member-shortens, world_member-shortens, item-shortens, nested-shortens}
-use Rattle.text_trees.proofs.TypesFound.{type-sound, by-sound, level-sound, param-sound}
+use Rattle.text_trees.proofs.TypesFound.{by-sound, level-sound, param-sound}
 use Rattle.text_trees.proofs.DeclaredFound.{used_name-sound, field-sound, case-sound, label-sound, resource_member-sound}
 use Rattle.text_trees.proofs.FilesFound.{member-sound, world_member-sound, item-sound, nested-sound}
-use Rattle.text_trees.proofs.Steady.{Steady, Windowed, of_first, begins_windowed, begins_key_windowed, found_steady, refused_steady, then_steady, made_steady, either_steady, steady_as, mark_steady, if_mark_steady, key_steady, if_key_steady, word_steady, if_attribute_steady, taken, taken_steady, id_steady, version_steady, digits_steady, quoted_steady, if_id_steady}
+use Rattle.text_trees.proofs.Steady.{Steady, Windowed, of_first, begins_windowed, found_steady, refused_steady, then_steady, made_steady, either_steady, steady_as, mark_steady, if_mark_steady, key_steady, if_key_steady, word_steady, if_attribute_steady, taken, taken_steady, id_steady, version_steady, digits_steady, quoted_steady, if_id_steady}
 use Rattle.text_trees.proofs.SteadyLists.{Shrinks, until_steady, repeated_steady, listed_steady}
 
 -- what is found leaves fewer tokens, if what stands there does

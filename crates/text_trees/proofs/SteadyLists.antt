@@ -1,7 +1,7 @@
 -- Readers of lists answer alike for tokens that begin alike, where what they read is shorter each time.
 use Rattle.std.proofs.Common.{◌≡◌, refl, sym, ap, ◌∙◌, ℕ, ◌<◌, ◌+◌, Bool, true, false, List, [], ◌∷◌, ◌++◌, append_assoc, length, length-append, arith, zero, suc, if◌then◌else◌}
 use Rattle.print_grammar.specs.{Token.Token, Token.Mark}
-use Rattle.text_trees.specs.Reading.{Wanted, Reading, Reading.Found, Reading.Refused, then_read, made, behind, begins, things_in_front, until, repeated, more_in_front, thing_and_more, listed_in_front, listed}
+use Rattle.text_trees.specs.Reading.{Wanted, Reading, Reading.Found, Reading.Refused, then_read, made, begins, things_in_front, until, repeated, more_in_front, thing_and_more, listed_in_front, listed}
 use Rattle.text_trees.specs.Places.{window, rest_of, put}
 use Rattle.text_trees.proofs.Steady.{SteadyAt, Steady, Windowed, same_window, begins_windowed, found_steady, then_steady, made_steady, either_steady, behind_steady, if_mark_steady, mark_steady}
 use Rattle.text_trees.proofs.Finding.{Sound, sound_of, is_there, then_sound, made_sound, sound_as, MoreSays, more_sound}
@@ -122,7 +122,8 @@ module _ {X : Type 0} {read : List Token → Reading X} (steady : Steady read) (
     as_looped zero ts = refl
     as_looped (suc n) ts = go (as_looped n) (ends ts) (read ts)
       where
-        go : ((us : List Token) → things_in_front ends read n us ≡ looped one_thing n us) → (b : Bool) (r : Reading X) → (if b then Found [] ts else then_read r (λ x rest. made (λ xs. x ∷ xs) (things_in_front ends read n rest)))
+        go : ((us : List Token) → things_in_front ends read n us ≡ looped one_thing n us) → (b : Bool) (r : Reading X)
+            → (if b then Found [] ts else then_read r (λ x rest. made (λ xs. x ∷ xs) (things_in_front ends read n rest)))
             ≡ then_read (if b then Found (Ends []) ts else made Goes r) (λ round rest. going_on (looped one_thing n rest) round rest)
         go loop true r = refl
         go loop false (Found x rest) = ap (made (λ xs. x ∷ xs)) (loop rest)

@@ -1,21 +1,21 @@
 -- A type or signature that is there by the grammar is found.
-use Rattle.std.proofs.Common.{◌≡◌, refl, sym, ap, ◌∙◌, ℕ, ◌<◌, ◌≤◌, Bool, true, false, List, [], ◌∷◌, length, arith, zero, suc, max, Option, Some, None}
+use Rattle.std.proofs.Common.{◌≡◌, refl, ap, ℕ, ◌<◌, ◌≤◌, true, false, List, [], ◌∷◌, length, arith, zero, suc, Option}
 use Rattle.std.specs.List.{list_all}
 use Rattle.std.proofs.lemmas.Bool.{leb-true}
 use Rattle.base_lemmas.proofs.Bools.{left_of, right_of}
-use Rattle.wit_model.specs.{Text.Text, Rules.passes}
-use Rattle.print_grammar.specs.{Keyword.Keyword, Keyword.PrimitiveName, Keyword.PrimitiveName.Bool_, Token.Token, Token.Mark}
-use Rattle.print_grammar.specs.Token.Mark.{CloseParen, Less, Greater, Comma, Arrow, At, Colon, OpenParen}
-use Rattle.print_grammar.specs.Token.Token.{Word, Escaped, Key, VersionText, Digits, Quoted, Punctuation}
+use Rattle.wit_model.specs.{Rules.passes}
+use Rattle.print_grammar.specs.{Keyword.Keyword, Keyword.PrimitiveName, Keyword.PrimitiveName.Bool_, Token.Token}
+use Rattle.print_grammar.specs.Token.Mark.{CloseParen, Less, Greater, Comma, Arrow}
+use Rattle.print_grammar.specs.Token.Token.{Key, Punctuation}
 use Rattle.print_grammar.specs.Tree.{TypeTree, TypeTrees, TypeTrees.NoTypes, TypeTrees.AndTypes, ParamTree, SignatureTree}
-use Rattle.print_grammar.specs.Grammar.{CommaList, ReadsType, ReadsTypes, ReadsParam, ReadsParams, ReadsResult, ReadsSignature}
+use Rattle.print_grammar.specs.Grammar.{ReadsType, ReadsTypes, ReadsParam, ReadsParams, ReadsResult, ReadsSignature}
 use Rattle.print_grammar.specs.Grammar.ReadsType.{primitive, named, named_with_percent, own, borrow, tuple, option, map, list, fixed_list, future, future_of, stream, stream_of, result, result_ok, result_of, result_err}
 use Rattle.print_grammar.specs.Grammar.ReadsTypes.{last_type, last_type_with_comma, next_type}
 use Rattle.print_grammar.specs.Grammar.{ReadsParam.param, ReadsParams.no_params, ReadsParams.params, ReadsResult.no_result, ReadsResult.with_result, ReadsSignature.func, ReadsSignature.async_func}
-use Rattle.text_trees.specs.Reading.{Reading, Reading.Found, then_read, made, begins, begins_key, behind_mark, if_mark, behind_key, if_key, id_in_front, digits_in_front, listed, listed_in_front, more_in_front}
-use Rattle.text_trees.specs.ReadTypes.{tuple_types, type_in_front, level_in_front, param_in_front, params_in_front, result_in_front, arguments_in_front, signature_in_front}
+use Rattle.text_trees.specs.Reading.{Reading.Found, then_read, made, begins, begins_key, behind_mark, if_mark, behind_key, if_key, id_in_front, digits_in_front, listed, listed_in_front, more_in_front}
+use Rattle.text_trees.specs.ReadTypes.{tuple_types, type_in_front, level_in_front, param_in_front, params_in_front, result_in_front, signature_in_front}
 use Rattle.text_trees.specs.Levels.{levels, deepest, fits_type, fits_param, fits_signature}
-use Rattle.text_trees.proofs.Lengths.{type-shortens, types-shorten, param-shortens}
+use Rattle.text_trees.proofs.Lengths.{type-shortens, param-shortens}
 use Rattle.text_trees.proofs.Complete.{EndsAt, ends_no_mark, id_gives, Shut, shut_at, first_found, listed-complete}
 
 -- the types of a tuple, as a list
@@ -139,7 +139,8 @@ module _ (room : ℕ) where
   result-complete no_result e f h = rw f refl
   result-complete (with_result r) e f h = rw (type-found r e h) refl
 
-  pub signature-complete : {ts rest : List Token} {signature : SignatureTree} → ReadsSignature ts signature rest → begins Less rest ≡ false → begins Arrow rest ≡ false → fits_signature room signature ≡ true
+  pub signature-complete : {ts rest : List Token} {signature : SignatureTree} → ReadsSignature ts signature rest → begins Less rest ≡ false → begins Arrow rest ≡ false
+      → fits_signature room signature ≡ true
       → signature_in_front room ts ≡ Found signature rest
   unfolding if_key behind_key then_read
   signature-complete (func {params} p r) e f h =

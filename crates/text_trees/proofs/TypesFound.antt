@@ -1,18 +1,16 @@
 -- What readers of types and signatures find is there by the grammar.
-use Rattle.std.proofs.Common.{◌≡◌, refl, ℕ, Bool, true, false, List, [], ◌∷◌, zero, suc, length, Option, Some, None}
-use Rattle.wit_model.specs.Text.{Text}
-use Rattle.print_grammar.specs.{Keyword.Keyword, Token.Token, Token.Mark}
-use Rattle.print_grammar.specs.Token.Mark.{CloseParen, Less, Greater, Comma}
-use Rattle.print_grammar.specs.Token.Token.{Word, Escaped, Key, VersionText, Digits, Quoted, Punctuation}
-use Rattle.print_grammar.specs.Tree.{TypeTree, TypeTrees, ParamTree, SignatureTree}
-use Rattle.print_grammar.specs.Tree.TypeTree.{TupleOf}
+use Rattle.std.proofs.Common.{ℕ, List, ◌∷◌, zero, suc}
+use Rattle.print_grammar.specs.{Keyword.Keyword, Token.Token}
+use Rattle.print_grammar.specs.Token.Mark.{Less, Greater}
+use Rattle.print_grammar.specs.Token.Token.{Word, Escaped, Key, Punctuation}
+use Rattle.print_grammar.specs.Tree.{TypeTree}
 use Rattle.print_grammar.specs.Grammar.{CommaList, ReadsType, ReadsTypes, ReadsParam, ReadsParams, ReadsResult, ReadsSignature}
 use Rattle.print_grammar.specs.Grammar.ReadsType.{primitive, named, named_with_percent, own, borrow, tuple, option, map, list, fixed_list, future, future_of, stream, stream_of, result, result_ok, result_of, result_err}
 use Rattle.print_grammar.specs.Grammar.ReadsTypes.{last_type, last_type_with_comma, next_type}
 use Rattle.print_grammar.specs.Grammar.CommaList.{last, last_with_comma, next}
 use Rattle.print_grammar.specs.Grammar.{ReadsParam.param, ReadsParams.no_params, ReadsParams.params, ReadsResult.no_result, ReadsResult.with_result, ReadsSignature.func, ReadsSignature.async_func}
-use Rattle.text_trees.specs.Reading.{Reading, listed_in_front}
-use Rattle.text_trees.specs.ReadTypes.{tuple_types, payload_in_front, result_parts_in_front, form_in_front, type_by, level_in_front, type_in_front, param_in_front, params_in_front, result_in_front, arguments_in_front, signature_in_front}
+use Rattle.text_trees.specs.Reading.{Reading}
+use Rattle.text_trees.specs.ReadTypes.{tuple_types, payload_in_front, result_parts_in_front, form_in_front, type_by, level_in_front, type_in_front, param_in_front, params_in_front, result_in_front, signature_in_front}
 use Rattle.text_trees.proofs.Finding.{Sound, found_sound, refused_sound, then_sound, made_sound, sound_as, mark_sound, if_mark_sound, key_sound, if_key_sound, id_sound, digits_sound, listed_sound, Finds, finds, refuses}
 
 -- ---- types

@@ -39,8 +39,8 @@ ShallowFilesAreFound =
     (room : ℕ) (ts rest : List Token) (wanted : Wanted) (file : FileTree) → file_in_front room ts ≡ Refused wanted rest → ReadsFile ts file
     → fits_file room file ≡ true → ⊥
 
--- Tokens are refused at a place behind some of them, and so is, for the same reason and at the same place, whatever begins with those and then has the
--- same first token, or `@` and the same token behind it.
+-- Tokens are refused at a place. Whatever has the same tokens before that place, and there the same token, or `@` and the same token behind it, is refused
+-- there too, and for the same reason.
 abbrev pub RefusalsStandAtPlaces : Type 0
 RefusalsStandAtPlaces =
     (room : ℕ) (ts rest : List Token) (wanted : Wanted) → file_in_front room ts ≡ Refused wanted rest

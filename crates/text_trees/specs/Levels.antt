@@ -1,5 +1,5 @@
 -- How many levels the types of a tree have (WIT.md, Types): none a primitive type and a name, and one more than its deepest part every other form.
-use Rattle.std.specs.Prelude.{Bool, true, List, ◌&&◌, ℕ, nat_le, suc, zero, max}
+use Rattle.std.specs.Prelude.{Bool, true, ◌&&◌, ℕ, nat_le, suc, max}
 use Rattle.std.specs.List.{list_all}
 use Rattle.wit_model.specs.Rules.{passes}
 use Rattle.print_grammar.specs.Tree.{TypeTree, TypeTrees, ParamTree, FieldTree, CaseTree, SignatureTree, ResourceMember, Declared, MemberTree, ExternTree, WorldMember, ItemTree, PackageTree, FileTree}

@@ -1,5 +1,5 @@
 -- Reading what stands in front of items, paths, uses and declared types (WIT.md, Item: use, Feature gates, Item: type).
-use Rattle.std.specs.Prelude.{List, [], ◌∷◌, ℕ, Option, Some, None, codes}
+use Rattle.std.specs.Prelude.{List, [], ℕ, Option, Some, None, codes}
 use Rattle.wit_model.specs.Text.{Text}
 use Rattle.print_grammar.specs.{Keyword.Keyword, Token.Token}
 use Rattle.print_grammar.specs.Token.Mark.{OpenBrace, CloseBrace, OpenParen, CloseParen, Colon, Semi, Dot, Equals, Slash, At}
@@ -134,7 +134,8 @@ named next ts = then_read (id_in_front ts) next
 -- what follows the name of a resource: `;`, or its functions in braces
 abbrev pub resource_behind : ℕ → Text → List Token → Reading Declared
 resource_behind room name =
-    if_mark Semi (Found (ResourceOf name [])) (behind_mark OpenBrace (λ rest. made (ResourceOf name) (repeated (resource_member_in_front room) CloseBrace rest)))
+    if_mark Semi (Found (ResourceOf name [])) (behind_mark OpenBrace
+    (λ rest. made (ResourceOf name) (repeated (resource_member_in_front room) CloseBrace rest)))
 
 -- A declared type.
 abbrev pub declared_in_front : ℕ → List Token → Reading Declared

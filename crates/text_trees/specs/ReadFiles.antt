@@ -7,7 +7,7 @@ use Rattle.print_grammar.specs.Tree.{Gates, Prefix, PathTree, PathTree.Local, Me
 use Rattle.print_grammar.specs.Tree.{MemberTree.UseMember, MemberTree.TypeMember, MemberTree.FunctionMember, ItemTree.InterfaceItem, ItemTree.WorldItem}
 use Rattle.print_grammar.specs.Tree.{ExternTree.Path, ExternTree.NamedFunction, ExternTree.NamedPath, ExternTree.NamedInterface}
 use Rattle.print_grammar.specs.Tree.WorldMember.{WorldUse, WorldType, WorldImport, WorldExport}
-use Rattle.text_trees.specs.Reading.{Wanted, Reading, Reading.Found, Reading.Refused, then_read, made, begins, begins_key, behind_mark, if_mark, behind_key, if_key, if_id, id_in_front, until, repeated}
+use Rattle.text_trees.specs.Reading.{Wanted, Reading, Reading.Found, Reading.Refused, then_read, made, begins, begins_key, behind_mark, if_mark, behind_key, if_key, if_id, until, repeated}
 use Rattle.text_trees.specs.ReadTypes.{begins_signature}
 use Rattle.text_trees.specs.ReadDeclared.{at_version_in_front, gates_in_front, prefix_in_front, full_path_behind, path_behind, use_behind, function_behind, declared_in_front, named}
 

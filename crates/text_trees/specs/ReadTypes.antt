@@ -1,14 +1,13 @@
 -- Reading types and signatures (WIT.md, Types; Item: func-type). `room` is how many levels a type may have: none for a primitive type and a name,
 -- and one more than the deepest part for every other form.
-use Rattle.std.specs.Prelude.{◌||◌, Bool, true, false, List, [], ◌∷◌, ℕ, Option, Some, None, zero, suc, if◌then◌else◌}
+use Rattle.std.specs.Prelude.{◌||◌, Bool, true, false, List, [], ◌∷◌, ℕ, Option, Some, None, zero, suc}
 use Rattle.std.specs.Option.{option_map_or}
-use Rattle.wit_model.specs.Text.{Text}
 use Rattle.print_grammar.specs.{Keyword.Keyword, Keyword.PrimitiveName, Token.Token}
 use Rattle.print_grammar.specs.Token.Mark.{OpenParen, CloseParen, Less, Greater, Colon, Comma, Arrow}
 use Rattle.print_grammar.specs.Token.Token.{Word, Escaped, Key}
 use Rattle.print_grammar.specs.Tree.{TypeTree, TypeTrees, TypeTrees.NoTypes, TypeTrees.AndTypes, ParamTree, SignatureTree}
 use Rattle.print_grammar.specs.Tree.TypeTree.{PrimitiveType, Name, Own, Borrow, TupleOf, OptionOf, ListOf, FixedListOf, MapOf, Result, ResultOk, ResultErr, ResultOf, Future, FutureOf, Stream, StreamOf}
-use Rattle.text_trees.specs.Reading.{Wanted, Reading, Reading.Found, Reading.Refused, then_read, made, begins, begins_key, behind_mark, if_mark, behind_key, if_key, id_in_front, digits_in_front, listed}
+use Rattle.text_trees.specs.Reading.{Wanted, Reading, Reading.Found, Reading.Refused, then_read, made, begins_key, behind_mark, if_mark, behind_key, if_key, id_in_front, digits_in_front, listed}
 
 -- ---- types
 

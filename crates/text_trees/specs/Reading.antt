@@ -1,6 +1,6 @@
 -- Reading the front of a list of tokens: what is there and what follows it, or what is wanted and where.
 -- Readers are functions. Where the grammar has a choice, the next token or the next two decide, so nothing is read twice.
-use Rattle.std.specs.Prelude.{◌==◌, ◌||◌, Bool, true, false, List, [], ◌∷◌, ℕ, length, zero, suc, codes, if◌then◌else◌}
+use Rattle.std.specs.Prelude.{◌==◌, Bool, true, false, List, [], ◌∷◌, ℕ, length, zero, suc, if◌then◌else◌}
 use Rattle.wit_model.specs.Text.{Text, text_eq}
 use Rattle.print_grammar.specs.{Keyword.Keyword, Keyword.PrimitiveName, Token.Token, Token.Mark}
 use Rattle.print_grammar.specs.Token.Mark.{OpenBrace, CloseBrace, OpenParen, CloseParen, Less, Greater, Colon, Semi, Comma, Dot, Equals, Slash, At, Arrow}
