@@ -49,7 +49,7 @@ full_path-sound i j = mark_sound _ (id_sound (λ v interface k. then_sound at_ve
 pub path_behind-sound : {t : Token} {first : Text} → IsId t first → Sound (λ ts. ReadsPath (t ∷ ts)) (path_behind first)
 path_behind-sound i = if_mark_sound _ (id_sound (λ u name j. full_path-sound i j)) (found_sound (λ rest. local i))
 
-path-sound : Sound ReadsPath path_in_front
+pub path-sound : Sound ReadsPath path_in_front
 path-sound = id_sound (λ t first i. path_behind-sound i)
 
 pub used_name-sound : Sound ReadsUsedName used_name_in_front

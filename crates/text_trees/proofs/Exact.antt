@@ -1,5 +1,5 @@
 -- Readers find exactly what is there.
-use Rattle.std.proofs.Common.{◌≡◌, sym, ap, ◌∙◌, ℕ, Bool, true, false, List, ◌++◌}
+use Rattle.std.proofs.Common.{◌≡◌, refl, sym, ap, ◌∙◌, ℕ, Bool, true, false, List, ◌++◌}
 use Rattle.text_trees.specs.Places.{window}
 use Rattle.text_trees.proofs.{Steady.SteadyAt, SteadyFiles.file-steady}
 use Rattle.print_grammar.specs.{Token.Token, Token.Mark.Less}
@@ -9,6 +9,9 @@ use Rattle.text_trees.specs.{ReadTypes.type_in_front, ReadDeclared.resource_memb
 use Rattle.text_trees.specs.ReadFiles.{member_in_front, extern_in_front, world_member_in_front, item_in_front, nested_in_front, file_in_front}
 use Rattle.text_trees.specs.Levels.{fits_type, fits_resource_member, fits_declared, fits_member, fits_extern, fits_world_member, fits_item, fits_package, levels}
 use Rattle.text_trees.specs.Laws.{FindsWhatIsRead, FindsNothingElse, FindsBefore, FilesAreRead, FoundFilesAreOnly, RefusedAreNoFiles, ShallowFilesAreFound, RefusalsStandAtPlaces, NoFileBeginsSo}
+use Rattle.print_grammar.specs.{Token.Mark.Arrow, Token.Mark.At, Token.Mark.Colon, Grammar.ReadsPath, Grammar.ReadsPrefix, Grammar.ReadsSignature}
+use Rattle.text_trees.specs.{ReadTypes.signature_in_front, ReadDeclared.path_in_front, ReadDeclared.prefix_in_front, Levels.fits_signature}
+use Rattle.text_trees.proofs.{DeclaredFound.prefix-sound, DeclaredFound.path-sound, TypesFound.signature-sound, Fitting.signature-fits, DeclaredComplete.prefix-complete, DeclaredComplete.path-complete, TypesComplete.signature-complete}
 use Rattle.text_trees.proofs.Finding.{Sound, is_there}
 use Rattle.text_trees.proofs.Fitting.{Passes, type-fits, resource_member-fits, declared-fits, member-fits, extern-fits, world_member-fits, item-fits, nested-fits, file-fits}
 use Rattle.text_trees.proofs.{TypesFound.type-sound, TypesComplete.type-complete, DeclaredFound.resource_member-sound, DeclaredFound.declared-sound, DeclaredComplete.resource_member-complete, DeclaredComplete.declared-complete}
@@ -53,6 +56,30 @@ module _ (room : ℕ) where
 
   pub packages_exact : FindsWhatIsRead ReadsNested (fits_package room) (nested_in_front room)
   packages_exact = exactly (nested-sound room) (nested-fits room) (nested-complete room)
+
+-- ---- parts
+
+-- what is found is there, whatever it is
+any_found : {X : Type 0} {Reads : List Token → X → List Token → Type 0} {read : List Token → Reading X} → Sound Reads read → FindsNothingElse Reads (λ x. true) read
+any_found sound ts rest x e = (is_there sound ts rest x e, refl)
+
+pub prefixes_found : FindsNothingElse ReadsPrefix (λ prefix. true) prefix_in_front
+prefixes_found = any_found prefix-sound
+
+pub prefixes_there : FindsBefore (λ rest. begins At rest ≡ false) ReadsPrefix (λ prefix. true) prefix_in_front
+prefixes_there ts rest prefix r e h = prefix-complete r e
+
+pub paths_found : FindsNothingElse ReadsPath (λ path. true) path_in_front
+paths_found = any_found path-sound
+
+pub paths_there : FindsBefore (λ rest. (begins Colon rest ≡ false) × (begins At rest ≡ false)) ReadsPath (λ path. true) path_in_front
+paths_there ts rest path r e h = path-complete r e.0 e.1
+
+pub signatures_found : (room : ℕ) → FindsNothingElse ReadsSignature (fits_signature room) (signature_in_front room)
+signatures_found room = nothing_else (signature-sound room) (signature-fits room)
+
+pub signatures_there : (room : ℕ) → FindsBefore (λ rest. (begins Less rest ≡ false) × (begins Arrow rest ≡ false)) ReadsSignature (fits_signature room) (signature_in_front room)
+signatures_there room ts rest signature r e h = signature-complete room r e.0 e.1 h
 
 -- ---- files
 

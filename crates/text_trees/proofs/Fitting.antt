@@ -117,7 +117,7 @@ module _ (room : ℕ) where
   result-fit : Sound (Passes (passes (fits_type room))) (result_in_front room)
   result-fit = if_mark_sound _ (made_sound _ (sound_as type-fits (λ ts rest ty h. h))) (found_sound (λ rest. refl))
 
-  signature-fits : Sound (Passes (fits_signature room)) (signature_in_front room)
+  pub signature-fits : Sound (Passes (fits_signature room)) (signature_in_front room)
   signature-fits =
       if_key_sound _ (key_sound _ (then_sound params-fit (λ params. then_sound result-fit (λ result. found_sound (λ rest us k ts h. and_from _ _ h k)))))
       (key_sound _ (then_sound params-fit (λ params. then_sound result-fit (λ result. found_sound (λ rest us k ts h. and_from _ _ h k)))))

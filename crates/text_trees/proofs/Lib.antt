@@ -31,6 +31,7 @@ pub mod SteadyLists
 -- Readers of types, declared types, interfaces, worlds and files answer alike for tokens that begin alike. Serves Exact.
 pub mod SteadyFiles
 -- Readers find exactly what is there. Serves laws::declared_types_are_read, laws::files_are_read, laws::items_are_read, laws::members_are_read and 2 more.
+pub mod OneByOne
 pub mod Exact
 -- Worked examples: what is found in front of tokens, and what is wanted where. Serves no function.
 mod ReaderExamples

@@ -11,7 +11,7 @@ use Rattle.text_trees.specs.ReadFiles.{member_in_front, extern_in_front, world_m
 use Rattle.text_trees.specs.Places.{first_alone}
 use Rattle.text_trees.proofs.Finding.{Sound, is_there}
 use Rattle.text_trees.proofs.Lengths.{Shortens, type-shortens, param-shortens, used_name-shortens, field-shortens, case-shortens, label-shortens, resource_member-shortens, member-shortens, world_member-shortens, item-shortens, nested-shortens}
-use Rattle.text_trees.proofs.TypesFound.{by-sound, level-sound, param-sound}
+use Rattle.text_trees.proofs.TypesFound.{type-sound, by-sound, level-sound, param-sound}
 use Rattle.text_trees.proofs.DeclaredFound.{used_name-sound, field-sound, case-sound, label-sound, resource_member-sound}
 use Rattle.text_trees.proofs.FilesFound.{member-sound, world_member-sound, item-sound, nested-sound}
 use Rattle.text_trees.proofs.Steady.{Steady, Windowed, of_first, begins_windowed, found_steady, refused_steady, then_steady, made_steady, either_steady, steady_as, mark_steady, if_mark_steady, key_steady, if_key_steady, word_steady, if_attribute_steady, taken, taken_steady, id_steady, version_steady, digits_steady, quoted_steady, if_id_steady}
@@ -137,28 +137,40 @@ path_behind-steady first = if_mark_steady _ (then_steady id_steady (λ name. ful
 used_name-steady : Steady used_name_in_front
 used_name-steady = then_steady id_steady (λ other. if_key_steady _ (then_steady id_steady (λ own. found_steady)) found_steady)
 
+pub used_name-shrinks : Shrinks used_name_in_front
+used_name-shrinks = shrinks used_name-sound used_name-shortens
+
 use-steady : {X : Type 0} (use_of : PathTree → List UsedName → X) → Steady (use_behind use_of)
 use-steady use_of =
     then_steady (then_steady id_steady path_behind-steady) (λ path. mark_steady _ (mark_steady _ (then_steady
-    (listed_steady used_name-steady (shrinks used_name-sound used_name-shortens) _) (λ names. mark_steady _ found_steady))))
+    (listed_steady used_name-steady used_name-shrinks _) (λ names. mark_steady _ found_steady))))
 
 -- ---- declared types
 
 label-steady : Steady label_in_front
 label-steady = then_steady id_steady (λ name. found_steady)
 
+pub label-shrinks : Shrinks label_in_front
+label-shrinks = shrinks label-sound label-shortens
+
 labels-steady : Steady (listed label_in_front CloseBrace)
-labels-steady = listed_steady label-steady (shrinks label-sound label-shortens) CloseBrace
+labels-steady = listed_steady label-steady label-shrinks CloseBrace
 
 module _ (room : ℕ) where
   type-steady : Steady (type_in_front room)
   type-steady = by-steady (level-steady room)
 
+  pub type-shrinks : Shrinks (type_in_front room)
+  type-shrinks = shrinks (type-sound room) (λ ts rest ty r. type-shortens r)
+
   param-steady : Steady (param_in_front room)
   param-steady = then_steady id_steady (λ name. mark_steady _ (then_steady type-steady (λ ty. found_steady)))
 
+  pub param-shrinks : Shrinks (param_in_front room)
+  param-shrinks = shrinks (param-sound room) param-shortens
+
   params-steady : Steady (params_in_front room)
-  params-steady = mark_steady _ (if_mark_steady _ found_steady (listed_steady param-steady (shrinks (param-sound room) param-shortens) _))
+  params-steady = mark_steady _ (if_mark_steady _ found_steady (listed_steady param-steady param-shrinks _))
 
   result-steady : Steady (result_in_front room)
   result-steady = if_mark_steady _ (made_steady _ type-steady) found_steady
@@ -174,8 +186,14 @@ module _ (room : ℕ) where
   field-steady : Steady (field_in_front room)
   field-steady = then_steady id_steady (λ name. mark_steady _ (then_steady type-steady (λ ty. found_steady)))
 
+  pub field-shrinks : Shrinks (field_in_front room)
+  field-shrinks = shrinks (field-sound room) field-shortens
+
   case-steady : Steady (case_in_front room)
   case-steady = then_steady id_steady (λ name. if_mark_steady _ (then_steady type-steady (λ ty. mark_steady _ found_steady)) found_steady)
+
+  pub case-shrinks : Shrinks (case_in_front room)
+  case-shrinks = shrinks (case-sound room) case-shortens
 
   resource_member-steady : Steady (resource_member_in_front room)
   resource_member-steady =
@@ -183,15 +201,18 @@ module _ (room : ℕ) where
       if_key_steady _ (then_steady params-steady (λ params. then_steady result-steady (λ result. mark_steady _ found_steady)))
       (then_steady id_steady (λ name. mark_steady _ (if_key_steady _ (function-steady _) (function-steady _)))))
 
+  pub resource_member-shrinks : Shrinks (resource_member_in_front room)
+  resource_member-shrinks = shrinks (resource_member-sound room) resource_member-shortens
+
   declared-steady : Steady (declared_in_front room)
   declared-steady =
-      if_key_steady _ (then_steady id_steady (λ name. mark_steady _ (made_steady _ (listed_steady field-steady (shrinks (field-sound room) field-shortens) _))))
-      (if_key_steady _ (then_steady id_steady (λ name. mark_steady _ (made_steady _ (listed_steady case-steady (shrinks (case-sound room) case-shortens) _))))
+      if_key_steady _ (then_steady id_steady (λ name. mark_steady _ (made_steady _ (listed_steady field-steady field-shrinks _))))
+      (if_key_steady _ (then_steady id_steady (λ name. mark_steady _ (made_steady _ (listed_steady case-steady case-shrinks _))))
       (if_key_steady _ (then_steady id_steady (λ name. mark_steady _ (made_steady _ labels-steady)))
       (if_key_steady _ (then_steady id_steady (λ name. mark_steady _ (made_steady _ labels-steady)))
       (if_key_steady _ (then_steady id_steady (λ name. mark_steady _ (then_steady type-steady (λ ty. mark_steady _ found_steady))))
       (if_key_steady _ (then_steady id_steady (λ name. if_mark_steady _ found_steady (mark_steady _ (made_steady _
-      (repeated_steady resource_member-steady (shrinks (resource_member-sound room) resource_member-shortens) _))))) refused_steady)))))
+      (repeated_steady resource_member-steady resource_member-shrinks _))))) refused_steady)))))
 
   -- ---- what interfaces, worlds and packages have
 
@@ -200,12 +221,15 @@ module _ (room : ℕ) where
       then_steady prefix-steady (λ pre.
       if_id_steady (λ name. mark_steady _ (function-steady _)) (if_key_steady _ (use-steady _) (made_steady _ declared-steady)))
 
+  pub member-shrinks : Shrinks (member_in_front room)
+  member-shrinks = shrinks (member-sound room) member-shortens
+
   extern-steady : Steady (extern_in_front room)
   extern-steady =
       then_steady id_steady (λ name.
       if_mark_steady _ found_steady
       (mark_steady _ (either_steady begins_signature signature_windowed (function-steady _)
-      (if_key_steady _ (made_steady _ (mark_steady _ (repeated_steady member-steady (shrinks (member-sound room) member-shortens) _)))
+      (if_key_steady _ (made_steady _ (mark_steady _ (repeated_steady member-steady member-shrinks _)))
       (then_steady id_steady (λ second.
       either_steady (begins Slash) (begins_windowed Slash) (then_steady (full_path-steady name second) (λ path. mark_steady _ found_steady))
       (then_steady (path_behind-steady second) (λ path. mark_steady _ found_steady))))))))
@@ -217,23 +241,32 @@ module _ (room : ℕ) where
       (if_key_steady _ (made_steady _ extern-steady)
       (if_key_steady _ (use-steady _) (made_steady _ declared-steady))))
 
+  pub world_member-shrinks : Shrinks (world_member_in_front room)
+  world_member-shrinks = shrinks (world_member-sound room) world_member-shortens
+
   item-steady : Steady (item_in_front room)
   item-steady =
       then_steady gates-steady (λ gates.
-      if_key_steady _ (then_steady id_steady (λ name. made_steady _ (mark_steady _ (repeated_steady member-steady (shrinks (member-sound room) member-shortens) _))))
+      if_key_steady _ (then_steady id_steady (λ name. made_steady _ (mark_steady _ (repeated_steady member-steady member-shrinks _))))
       (if_key_steady _ (then_steady id_steady (λ name. made_steady _ (mark_steady _
-      (repeated_steady world_member-steady (shrinks (world_member-sound room) world_member-shortens) _)))) refused_steady))
+      (repeated_steady world_member-steady world_member-shrinks _)))) refused_steady))
+
+  pub item-shrinks : Shrinks (item_in_front room)
+  item-shrinks = shrinks (item-sound room) item-shortens
 
   head-steady : Steady head_in_front
   head-steady = then_steady id_steady (λ namespace. mark_steady _ (then_steady id_steady (λ name. made_steady _ at_version-steady)))
 
   nested-steady : Steady (nested_in_front room)
   nested-steady =
-      key_steady _ (then_steady head-steady (λ head. mark_steady _ (made_steady _ (repeated_steady item-steady (shrinks (item-sound room) item-shortens) _))))
+      key_steady _ (then_steady head-steady (λ head. mark_steady _ (made_steady _ (repeated_steady item-steady item-shrinks _))))
+
+  pub nested-shrinks : Shrinks (nested_in_front room)
+  nested-shrinks = shrinks (nested-sound room) nested-shortens
 
   -- The reader of a file answers alike for tokens that begin alike.
   pub file-steady : Steady (file_in_front room)
   file-steady =
       key_steady _ (then_steady head-steady (λ head. mark_steady _ (then_steady
-      (until_steady item-steady (shrinks (item-sound room) item-shortens) ends_items ends_windowed) (λ items.
-      made_steady _ (until_steady nested-steady (shrinks (nested-sound room) nested-shortens) is_end end_windowed)))))
+      (until_steady item-steady item-shrinks ends_items ends_windowed) (λ items.
+      made_steady _ (until_steady nested-steady nested-shrinks is_end end_windowed)))))

@@ -1,7 +1,7 @@
 -- What the laws of readers say: what they find is what the grammar says is there.
-use Rattle.std.specs.Prelude.{◌≡◌, ◌↔◌, Bool, true, List, [], ◌++◌, ℕ}
-use Rattle.print_grammar.specs.{Token.Token, Tree.FileTree, Grammar.ReadsFile}
-use Rattle.text_trees.specs.Reading.{Reading, Reading.Found, Reading.Refused, Wanted, Wanted.Shallower}
+use Rattle.std.specs.Prelude.{◌≡◌, ◌↔◌, Bool, true, List, [], ◌++◌, ℕ, if◌then◌else◌}
+use Rattle.print_grammar.specs.{Token.Mark, Token.Token, Tree.FileTree, Grammar.ReadsFile}
+use Rattle.text_trees.specs.Reading.{Reading, Reading.Found, Reading.Refused, Wanted, Wanted.Shallower, then_read, with_first, until, more_in_front, thing_and_more, listed}
 use Rattle.text_trees.specs.{Levels.fits_file, Places.window, ReadFiles.file_in_front}
 
 -- A thing is found in front of tokens exactly where the grammar says that it stands there, and it passes a test.
@@ -15,6 +15,18 @@ FindsNothingElse {X} Reads fits read = (ts rest : List Token) (x : X) → read t
 -- What is there by the grammar and passes a test is found, where what follows it doesn't go on with it.
 abbrev pub FindsBefore : {X : Type 0} → (List Token → Type 0) → (List Token → X → List Token → Type 0) → (X → Bool) → (List Token → Reading X) → Type 0
 FindsBefore {X} Ends Reads fits read = (ts rest : List Token) (x : X) → Reads ts x rest → Ends rest → fits x ≡ true → read ts ≡ Found x rest
+
+-- Things one after the other are read one by one: none where tokens end them, and else the first and then those behind it.
+abbrev pub OneByOne : {X : Type 0} → (List Token → Bool) → (List Token → Reading X) → Type 0
+OneByOne ends read =
+    (ts : List Token) → until ends read ts ≡ (if ends ts then Found [] ts else then_read (read ts) (λ x rest. with_first x (until ends read rest)))
+
+-- Things with commas between are read one by one: the first, and then those behind its comma, if there are more.
+abbrev pub ListedOneByOne : {X : Type 0} → (List Token → Reading X) → Mark → Type 0
+ListedOneByOne read close =
+    (ts : List Token)
+    → listed read close ts
+    ≡ then_read (read ts) (λ x rest. then_read (more_in_front close rest) (λ more rest. thing_and_more x (listed read close rest) more rest))
 
 -- Tokens are found to be a file, with nothing behind it, exactly where the grammar says so and no type in it has more levels than there is room for.
 abbrev pub FilesAreRead : Type 0

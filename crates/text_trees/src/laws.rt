@@ -1,18 +1,45 @@
 //! Laws of reading: what readers find is what the grammar says is there. `room` is how many levels a type may have.
 
-ghost use Rattle.std.specs.Prelude.{◌≡◌, ℕ, List, false};
-ghost use Rattle.print_grammar.specs.{Token.Mark.Less, Token.Token};
-ghost use Rattle.print_grammar.specs.Grammar.{ReadsDeclared, ReadsExtern, ReadsItem, ReadsMember, ReadsNested, ReadsResourceMember, ReadsType, ReadsWorldMember};
-ghost use Rattle.text_trees.specs.{Reading.begins, ReadTypes.type_in_front};
-ghost use Rattle.text_trees.specs.ReadDeclared.{declared_in_front, resource_member_in_front};
-ghost use Rattle.text_trees.specs.ReadFiles.{extern_in_front, item_in_front, member_in_front, nested_in_front, world_member_in_front};
-ghost use Rattle.text_trees.specs.Levels.{fits_declared, fits_extern, fits_item, fits_member, fits_package, fits_resource_member, fits_type, fits_world_member};
-ghost use Rattle.text_trees.specs.Laws.{FilesAreRead, FindsBefore, FindsNothingElse, FindsWhatIsRead, FoundFilesAreOnly, NoFileBeginsSo, RefusalsStandAtPlaces, RefusedAreNoFiles, ShallowFilesAreFound};
+ghost use Rattle.std.specs.Prelude.{◌≡◌, ℕ, List, false, true};
+ghost use Rattle.print_grammar.specs.{Token.Mark.Arrow, Token.Mark.At, Token.Mark.CloseBrace, Token.Mark.CloseParen, Token.Mark.Colon, Token.Mark.Greater, Token.Mark.Less, Token.Token};
+ghost use Rattle.print_grammar.specs.Grammar.{ReadsDeclared, ReadsExtern, ReadsItem, ReadsMember, ReadsNested, ReadsPath, ReadsPrefix, ReadsResourceMember, ReadsSignature, ReadsType, ReadsWorldMember};
+ghost use Rattle.text_trees.specs.{Reading.begins, ReadTypes.param_in_front, ReadTypes.signature_in_front, ReadTypes.type_in_front};
+ghost use Rattle.text_trees.specs.ReadDeclared.{case_in_front, declared_in_front, field_in_front, label_in_front, path_in_front, prefix_in_front, resource_member_in_front, used_name_in_front};
+ghost use Rattle.text_trees.specs.ReadFiles.{ends_items, extern_in_front, is_end, item_in_front, member_in_front, nested_in_front, world_member_in_front};
+ghost use Rattle.text_trees.specs.Levels.{fits_declared, fits_extern, fits_item, fits_member, fits_package, fits_resource_member, fits_signature, fits_type, fits_world_member};
+ghost use Rattle.text_trees.specs.Laws.{FilesAreRead, FindsBefore, FindsNothingElse, FindsWhatIsRead, FoundFilesAreOnly, ListedOneByOne, NoFileBeginsSo, OneByOne, RefusalsStandAtPlaces, RefusedAreNoFiles, ShallowFilesAreFound};
 
 /// A type that is found is there and has at most so many levels, and one that is there is found, where no `<` goes on with it.
 pub fn types_are_read()
     ensures found { (room : ℕ) → FindsNothingElse ReadsType (fits_type room) (type_in_front room) }
     ensures there { (room : ℕ) → FindsBefore (λ rest. begins Less rest ≡ false) ReadsType (fits_type room) (type_in_front room) }
+{}
+
+/// A prefix of gates and an external id, a path and a function's type that are found are there, and those that are there are found, where
+/// what follows doesn't go on with them.
+pub fn parts_are_read()
+    ensures prefixes { FindsNothingElse ReadsPrefix (λ prefix. true) prefix_in_front }
+    ensures prefixes_there { FindsBefore (λ rest. begins At rest ≡ false) ReadsPrefix (λ prefix. true) prefix_in_front }
+    ensures paths { FindsNothingElse ReadsPath (λ path. true) path_in_front }
+    ensures paths_there { FindsBefore (λ rest. (begins Colon rest ≡ false) × (begins At rest ≡ false)) ReadsPath (λ path. true) path_in_front }
+    ensures signatures { (room : ℕ) → FindsNothingElse ReadsSignature (fits_signature room) (signature_in_front room) }
+    ensures signatures_there { (room : ℕ) → FindsBefore (λ rest. (begins Less rest ≡ false) × (begins Arrow rest ≡ false)) ReadsSignature (fits_signature room) (signature_in_front room) }
+{}
+
+/// Lists are read one by one, so the numbers that count down in their definitions make no difference.
+pub fn lists_are_read_one_by_one()
+    ensures types { (room : ℕ) → ListedOneByOne (type_in_front room) Greater }
+    ensures params { (room : ℕ) → ListedOneByOne (param_in_front room) CloseParen }
+    ensures fields { (room : ℕ) → ListedOneByOne (field_in_front room) CloseBrace }
+    ensures cases { (room : ℕ) → ListedOneByOne (case_in_front room) CloseBrace }
+    ensures labels { ListedOneByOne label_in_front CloseBrace }
+    ensures used { ListedOneByOne used_name_in_front CloseBrace }
+    ensures functions { (room : ℕ) → OneByOne (begins CloseBrace) (resource_member_in_front room) }
+    ensures members { (room : ℕ) → OneByOne (begins CloseBrace) (member_in_front room) }
+    ensures world_members { (room : ℕ) → OneByOne (begins CloseBrace) (world_member_in_front room) }
+    ensures nested_items { (room : ℕ) → OneByOne (begins CloseBrace) (item_in_front room) }
+    ensures items { (room : ℕ) → OneByOne ends_items (item_in_front room) }
+    ensures packages { (room : ℕ) → OneByOne is_end (nested_in_front room) }
 {}
 
 /// Declared types and the functions of resources are found exactly where they are there.
