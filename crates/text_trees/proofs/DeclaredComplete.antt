@@ -15,7 +15,7 @@ use Rattle.print_grammar.specs.Grammar.{ReadsSignature.func, ReadsSignature.asyn
 use Rattle.print_grammar.specs.Grammar.{ReadsField.field, ReadsCase.case_alone, ReadsCase.case_of, ReadsLabel.label}
 use Rattle.print_grammar.specs.Grammar.ReadsResourceMember.{constructor_, method, static}
 use Rattle.print_grammar.specs.Grammar.ReadsDeclared.{record_, variant, flags, enum, alias, resource, resource_with}
-use Rattle.text_trees.specs.Reading.{Reading.Found, then_read, made, begins, begins_key, begins_attribute, behind_mark, if_mark, if_key, id_in_front, version_in_front, quoted_in_front, behind_word, if_attribute}
+use Rattle.text_trees.specs.Reading.{Reading.Found, then_read, made, begins, begins_key, begins_attribute, behind_mark, if_mark, if_key, id_in_front, version_in_front, quoted_in_front, if_word, if_attribute}
 use Rattle.text_trees.specs.ReadDeclared.{at_version_in_front, version_argument_in_front, deprecated_in_front, gates_in_front, external_id_in_front, prefix_in_front, full_path_behind, path_in_front, used_name_in_front, use_behind, field_in_front, case_in_front, label_in_front, function_behind, resource_member_in_front, declared_in_front}
 use Rattle.text_trees.specs.Levels.{fits_param, fits_signature, fits_field, fits_case, fits_resource_member, fits_declared}
 use Rattle.text_trees.proofs.Lengths.{used_name-shortens, field-shortens, case-shortens, label-shortens, resource_member-shortens}
@@ -30,7 +30,7 @@ at_version-complete no_version h = rw h refl
 at_version-complete with_version h = refl
 
 argument-complete : {ts rest : List Token} {version : Text} → ReadsVersionArgument ts version rest → version_argument_in_front ts ≡ Found version rest
-unfolding behind_mark behind_word version_in_front then_read
+unfolding behind_mark if_word version_in_front then_read
 argument-complete (version_argument e) = rw e refl
 
 no_attribute : (text : Text) (ts : List Token) → begins At ts ≡ false → begins_attribute text ts ≡ false
@@ -61,7 +61,7 @@ deprecated-complete not_deprecated n = rw n.no_deprecated refl
 deprecated-complete (deprecated e r) n = rw (e, argument-complete r) refl
 
 gates_before : {ts rest : List Token} {gates : Gates} → ReadsGates ts gates rest → NoGates rest → gates_in_front ts ≡ Found gates rest
-unfolding if_attribute behind_mark behind_word then_read
+unfolding if_attribute behind_mark if_word then_read
 gates_before no_gates n = rw (n.no_since, n.no_unstable) refl
 gates_before (since e r d) n = rw (e, argument-complete r, deprecated-complete d n) refl
 gates_before (unstable e f i d) n = rw (e, f, id_gives _ i, deprecated-complete d n) refl
@@ -71,7 +71,7 @@ pub gates-complete : {ts rest : List Token} {gates : Gates} → ReadsGates ts ga
 gates-complete {rest = rest} r h = gates_before r (no_gates_on rest h)
 
 external_id-complete : {ts rest : List Token} {id : Option (List ℕ)} → ReadsExternalId ts id rest → begins At rest ≡ false → external_id_in_front ts ≡ Found id rest
-unfolding if_mark behind_mark behind_word quoted_in_front then_read
+unfolding if_mark behind_mark if_word quoted_in_front then_read
 external_id-complete no_external_id h = rw h refl
 external_id-complete (external_id e) h = rw e refl
 

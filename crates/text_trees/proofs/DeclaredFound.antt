@@ -13,7 +13,7 @@ use Rattle.print_grammar.specs.Grammar.{ReadsField.field, ReadsCase.case_alone, 
 use Rattle.print_grammar.specs.Grammar.ReadsResourceMember.{constructor_, method, static}
 use Rattle.print_grammar.specs.Grammar.ReadsDeclared.{record_, variant, flags, enum, alias, resource, resource_with}
 use Rattle.text_trees.specs.ReadDeclared.{at_version_in_front, version_argument_in_front, deprecated_in_front, gates_in_front, external_id_in_front, prefix_in_front, full_path_behind, path_behind, path_in_front, used_name_in_front, use_behind, field_in_front, case_in_front, label_in_front, function_behind, resource_member_in_front, declared_in_front}
-use Rattle.text_trees.proofs.Finding.{Sound, found_sound, refused_sound, then_sound, made_sound, sound_as, mark_sound, if_mark_sound, if_key_sound, word_sound, if_attribute_sound, id_sound, version_sound, quoted_sound, repeated_sound, listed_sound}
+use Rattle.text_trees.proofs.Finding.{Sound, found_sound, refused_sound, then_sound, made_sound, sound_as, mark_sound, if_mark_sound, if_key_sound, if_word_sound, if_attribute_sound, id_sound, version_sound, quoted_sound, repeated_sound, listed_sound}
 use Rattle.text_trees.proofs.TypesFound.{type-sound, params-sound, result-is_sound, signature-sound}
 
 -- ---- in front of an item
@@ -22,7 +22,7 @@ pub at_version-sound : Sound ReadsVersion at_version_in_front
 at_version-sound = if_mark_sound _ (version_sound (λ version. found_sound (λ rest. with_version))) (found_sound (λ rest. no_version))
 
 argument-sound : Sound ReadsVersionArgument version_argument_in_front
-argument-sound = mark_sound _ (word_sound _ (mark_sound _ (version_sound (λ version. mark_sound _ (found_sound (λ rest. version_argument refl))))))
+argument-sound = mark_sound _ (if_word_sound _ (mark_sound _ (version_sound (λ version. mark_sound _ (found_sound (λ rest. version_argument refl))))) refused_sound)
 
 deprecated-sound : Sound ReadsDeprecated deprecated_in_front
 deprecated-sound = if_attribute_sound _ (made_sound _ (sound_as argument-sound (λ ts rest version r. deprecated refl r))) (found_sound (λ rest. not_deprecated))
@@ -30,12 +30,12 @@ deprecated-sound = if_attribute_sound _ (made_sound _ (sound_as argument-sound (
 pub gates-sound : Sound ReadsGates gates_in_front
 gates-sound =
     if_attribute_sound _ (then_sound argument-sound (λ version. then_sound deprecated-sound (λ d. found_sound (λ rest us s ts r. since refl r s))))
-    (if_attribute_sound _ (mark_sound _ (word_sound _ (mark_sound _ (id_sound (λ t feature i.
-    mark_sound _ (then_sound deprecated-sound (λ d. found_sound (λ rest ts r. unstable refl refl i r)))))))) (found_sound (λ rest. no_gates)))
+    (if_attribute_sound _ (mark_sound _ (if_word_sound _ (mark_sound _ (id_sound (λ t feature i.
+    mark_sound _ (then_sound deprecated-sound (λ d. found_sound (λ rest ts r. unstable refl refl i r)))))) refused_sound)) (found_sound (λ rest. no_gates)))
 
 external_id-sound : Sound ReadsExternalId external_id_in_front
 external_id-sound =
-    if_mark_sound _ (word_sound _ (mark_sound _ (quoted_sound (λ characters. mark_sound _ (found_sound (λ rest. external_id refl)))))) (found_sound (λ rest. no_external_id))
+    if_mark_sound _ (if_word_sound _ (mark_sound _ (quoted_sound (λ characters. mark_sound _ (found_sound (λ rest. external_id refl))))) refused_sound) (found_sound (λ rest. no_external_id))
 
 pub prefix-sound : Sound ReadsPrefix prefix_in_front
 prefix-sound = then_sound gates-sound (λ gates. then_sound external_id-sound (λ id. found_sound (λ rest us s ts r. prefix r s)))

@@ -6,7 +6,7 @@ use Rattle.print_grammar.specs.{Grammar.IsId.plain, Grammar.IsId.with_percent, G
 use Rattle.print_grammar.specs.Grammar.CommaList.{last, last_with_comma, next}
 use Rattle.print_grammar.specs.Token.Mark.{At, Comma}
 use Rattle.print_grammar.specs.Token.Token.{Word, Escaped, Key, VersionText, Digits, Quoted, Punctuation}
-use Rattle.text_trees.specs.Reading.{Wanted, Reading, Reading.Found, Reading.Refused, then_read, made, behind, begins, behind_mark, if_mark, begins_key, behind_key, if_key, id_in_front, if_id, version_in_front, digits_in_front, quoted_in_front, begins_word, behind_word, begins_attribute, if_attribute, things_in_front, until, repeated, more_in_front, thing_and_more, listed_in_front, listed}
+use Rattle.text_trees.specs.Reading.{Wanted, Reading, Reading.Found, Reading.Refused, then_read, made, behind, begins, behind_mark, if_mark, begins_key, behind_key, if_key, id_in_front, if_id, version_in_front, digits_in_front, quoted_in_front, begins_word, if_word, begins_attribute, if_attribute, things_in_front, until, repeated, more_in_front, thing_and_more, listed_in_front, listed}
 use Rattle.text_trees.proofs.Fronts.{begins_is, begins_key_is, begins_word_is, begins_attribute_is}
 
 -- ---- one reading
@@ -100,9 +100,10 @@ module _ {X : Type 0} {Q : List Token → X → List Token → Type 0} where
   unfolding if_key
   if_key_sound keyword f g = record { at = λ ts. either_finds (begins_key keyword ts) (λ h. as_begun Q (begins_key_is keyword ts h) (f.at (behind ts))) (λ h. g.at ts) }
 
-  pub word_sound : (text : Text) {read_on : List Token → Reading X} → Sound (λ rest. Q (Word text ∷ rest)) read_on → Sound Q (behind_word text read_on)
-  unfolding behind_word
-  word_sound text f = record { at = λ ts. either_finds (begins_word text ts) (λ h. as_begun Q (begins_word_is text ts h) (f.at (behind ts))) (λ h. refuses) }
+  pub if_word_sound : (text : Text) {read_on other : List Token → Reading X} → Sound (λ rest. Q (Word text ∷ rest)) read_on → Sound Q other
+      → Sound Q (if_word text read_on other)
+  unfolding if_word
+  if_word_sound text f g = record { at = λ ts. either_finds (begins_word text ts) (λ h. as_begun Q (begins_word_is text ts h) (f.at (behind ts))) (λ h. g.at ts) }
 
   pub if_attribute_sound : (text : Text) {read_on other : List Token → Reading X} → Sound (λ rest. Q (Punctuation At ∷ Word text ∷ rest)) read_on → Sound Q other
       → Sound Q (if_attribute text read_on other)

@@ -190,7 +190,7 @@ module _ (room : ℕ) where
       then_sound (anything gates_in_front) (λ gates.
       if_key_sound _ (id_sound (λ t name i. made_sound _ (mark_sound _ (sound_as (repeated-fit (fits_member room) member-fits _) (λ us rest xs h ts u. h)))))
       (if_key_sound _ (id_sound (λ t name i. made_sound _ (mark_sound _ (sound_as (repeated-fit (fits_world_member room) world_member-fits _) (λ us rest xs h ts u. h)))))
-      refused_sound))
+      (if_mark_sound _ refused_sound refused_sound)))
 
   pub nested-fits : Sound (Passes (fits_package room)) (nested_in_front room)
   nested-fits =

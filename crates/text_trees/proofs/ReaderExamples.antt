@@ -4,12 +4,12 @@ use Rattle.print_grammar.specs.{Keyword.Keyword, Keyword.PrimitiveName.U8, Token
 use Rattle.print_grammar.specs.Token.Mark.{OpenBrace, CloseBrace, OpenParen, CloseParen, Less, Greater, Colon, Semi, Comma, Slash, At}
 use Rattle.print_grammar.specs.Token.Token.{Word, Escaped, Key, VersionText, Punctuation}
 use Rattle.print_grammar.specs.Tree.{FileTree, Gates.Ungated, PathTree.Full, ExternTree.Path, MemberTree.FunctionMember, WorldMember.WorldImport, ItemTree.InterfaceItem, ItemTree.WorldItem, TypeTree.ListOf, TypeTree.PrimitiveType, TypeTree.Future}
-use Rattle.text_trees.specs.Reading.{Wanted, Reading.Found, Reading.Refused, then_read, made, behind_mark, if_mark, behind_key, if_key, if_id, behind_word, if_attribute, id_in_front, version_in_front, digits_in_front, quoted_in_front, things_in_front, until, repeated, listed_in_front, listed}
+use Rattle.text_trees.specs.Reading.{Wanted, Reading.Found, Reading.Refused, then_read, made, behind_mark, if_mark, behind_key, if_key, if_id, if_word, if_attribute, id_in_front, version_in_front, digits_in_front, quoted_in_front, things_in_front, until, repeated, listed_in_front, listed}
 use Rattle.text_trees.specs.{ReadTypes.level_in_front, ReadTypes.type_in_front, ReadFiles.file_in_front}
 
 -- what computes in the examples
 computes : ℕ
-unfolding then_read made behind_mark if_mark behind_key if_key if_id behind_word if_attribute id_in_front version_in_front digits_in_front quoted_in_front things_in_front until repeated
+unfolding then_read made behind_mark if_mark behind_key if_key if_id if_word if_attribute id_in_front version_in_front digits_in_front quoted_in_front things_in_front until repeated
     listed_in_front listed level_in_front
 computes = 0
 
@@ -72,9 +72,9 @@ func_wanted :
 unfolding computes
 func_wanted = refl
 
--- package a:b; @until: an item is wanted at `@`, since no gate begins so
-item_wanted :
+-- package a:b; @until: a gate is wanted behind `@`
+gate_wanted :
     file_in_front 1 (Key Keyword.Package ∷ Word (codes "a") ∷ Punctuation Colon ∷ Word (codes "b") ∷ Punctuation Semi ∷ Punctuation At ∷ Word (codes "until") ∷ [])
-    ≡ Refused Wanted.AnItem (Punctuation At ∷ Word (codes "until") ∷ [])
+    ≡ Refused Wanted.AnAttribute (Word (codes "until") ∷ [])
 unfolding computes
-item_wanted = refl
+gate_wanted = refl

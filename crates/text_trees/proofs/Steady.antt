@@ -4,7 +4,7 @@ use Rattle.wit_model.specs.Text.{Text}
 use Rattle.print_grammar.specs.{Keyword.Keyword, Token.Token, Token.Mark}
 use Rattle.print_grammar.specs.Token.Mark.{At}
 use Rattle.print_grammar.specs.Token.Token.{Word, Escaped, VersionText, Digits, Quoted, Punctuation}
-use Rattle.text_trees.specs.Reading.{Wanted, Reading, Reading.Found, Reading.Refused, then_read, made, behind, begins, behind_mark, if_mark, begins_key, behind_key, if_key, id_in_front, if_id, version_in_front, digits_in_front, quoted_in_front, begins_word, behind_word, begins_attribute, if_attribute}
+use Rattle.text_trees.specs.Reading.{Wanted, Reading, Reading.Found, Reading.Refused, then_read, made, behind, begins, behind_mark, if_mark, begins_key, behind_key, if_key, id_in_front, if_id, version_in_front, digits_in_front, quoted_in_front, begins_word, if_word, begins_attribute, if_attribute}
 use Rattle.text_trees.specs.Places.{first_alone, window, rest_of, put}
 
 -- ---- windows
@@ -167,9 +167,9 @@ module _ {X : Type 0} where
   unfolding if_key
   if_key_steady keyword s t = either_steady (begins_key keyword) (begins_key_windowed keyword) (behind_steady s) t
 
-  pub word_steady : (text : Text) {read : List Token → Reading X} → Steady read → Steady (behind_word text read)
-  unfolding behind_word
-  word_steady text s = either_steady (begins_word text) (of_first (begins_word text) (begins_word_first text)) (behind_steady s) refused_steady
+  pub if_word_steady : (text : Text) {read other : List Token → Reading X} → Steady read → Steady other → Steady (if_word text read other)
+  unfolding if_word
+  if_word_steady text s t = either_steady (begins_word text) (of_first (begins_word text) (begins_word_first text)) (behind_steady s) t
 
   pub if_attribute_steady : (text : Text) {read other : List Token → Reading X} → Steady read → Steady other → Steady (if_attribute text read other)
   unfolding if_attribute

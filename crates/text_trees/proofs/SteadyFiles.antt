@@ -14,7 +14,7 @@ use Rattle.text_trees.proofs.Lengths.{Shortens, type-shortens, param-shortens, u
 use Rattle.text_trees.proofs.TypesFound.{type-sound, by-sound, level-sound, param-sound}
 use Rattle.text_trees.proofs.DeclaredFound.{used_name-sound, field-sound, case-sound, label-sound, resource_member-sound}
 use Rattle.text_trees.proofs.FilesFound.{member-sound, world_member-sound, item-sound, nested-sound}
-use Rattle.text_trees.proofs.Steady.{Steady, Windowed, of_first, begins_windowed, found_steady, refused_steady, then_steady, made_steady, either_steady, steady_as, mark_steady, if_mark_steady, key_steady, if_key_steady, word_steady, if_attribute_steady, taken, taken_steady, id_steady, version_steady, digits_steady, quoted_steady, if_id_steady}
+use Rattle.text_trees.proofs.Steady.{Steady, Windowed, of_first, begins_windowed, found_steady, refused_steady, then_steady, made_steady, either_steady, steady_as, mark_steady, if_mark_steady, key_steady, if_key_steady, if_word_steady, if_attribute_steady, taken, taken_steady, id_steady, version_steady, digits_steady, quoted_steady, if_id_steady}
 use Rattle.text_trees.proofs.SteadyLists.{Shrinks, until_steady, repeated_steady, listed_steady}
 
 -- what is found leaves fewer tokens, if what stands there does
@@ -109,7 +109,7 @@ at_version-steady : Steady at_version_in_front
 at_version-steady = if_mark_steady _ (then_steady version_steady (λ version. found_steady)) found_steady
 
 argument-steady : Steady version_argument_in_front
-argument-steady = mark_steady _ (word_steady _ (mark_steady _ (then_steady version_steady (λ version. mark_steady _ found_steady))))
+argument-steady = mark_steady _ (if_word_steady _ (mark_steady _ (then_steady version_steady (λ version. mark_steady _ found_steady))) refused_steady)
 
 deprecated-steady : Steady deprecated_in_front
 deprecated-steady = if_attribute_steady _ (made_steady _ argument-steady) found_steady
@@ -117,11 +117,11 @@ deprecated-steady = if_attribute_steady _ (made_steady _ argument-steady) found_
 gates-steady : Steady gates_in_front
 gates-steady =
     if_attribute_steady _ (then_steady argument-steady (λ version. then_steady deprecated-steady (λ deprecated. found_steady)))
-    (if_attribute_steady _ (mark_steady _ (word_steady _ (mark_steady _ (then_steady id_steady (λ feature.
-    mark_steady _ (then_steady deprecated-steady (λ deprecated. found_steady))))))) found_steady)
+    (if_attribute_steady _ (mark_steady _ (if_word_steady _ (mark_steady _ (then_steady id_steady (λ feature.
+    mark_steady _ (then_steady deprecated-steady (λ deprecated. found_steady))))) refused_steady)) found_steady)
 
 external_id-steady : Steady external_id_in_front
-external_id-steady = if_mark_steady _ (word_steady _ (mark_steady _ (then_steady quoted_steady (λ characters. mark_steady _ found_steady)))) found_steady
+external_id-steady = if_mark_steady _ (if_word_steady _ (mark_steady _ (then_steady quoted_steady (λ characters. mark_steady _ found_steady))) refused_steady) found_steady
 
 prefix-steady : Steady prefix_in_front
 prefix-steady = then_steady gates-steady (λ gates. then_steady external_id-steady (λ id. found_steady))
@@ -249,7 +249,7 @@ module _ (room : ℕ) where
       then_steady gates-steady (λ gates.
       if_key_steady _ (then_steady id_steady (λ name. made_steady _ (mark_steady _ (repeated_steady member-steady member-shrinks _))))
       (if_key_steady _ (then_steady id_steady (λ name. made_steady _ (mark_steady _
-      (repeated_steady world_member-steady world_member-shrinks _)))) refused_steady))
+      (repeated_steady world_member-steady world_member-shrinks _)))) (if_mark_steady _ refused_steady refused_steady)))
 
   pub item-shrinks : Shrinks (item_in_front room)
   item-shrinks = shrinks (item-sound room) item-shortens

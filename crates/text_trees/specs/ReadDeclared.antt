@@ -7,7 +7,7 @@ use Rattle.print_grammar.specs.Tree.{Gates, Prefix, FieldTree, CaseTree, LabelTr
 use Rattle.print_grammar.specs.Tree.{Gates.Ungated, Gates.Since, Gates.Unstable, ResourceMember.Constructor, ResourceMember.Method, ResourceMember.Static}
 use Rattle.print_grammar.specs.Tree.{PathTree.Local, PathTree.Full}
 use Rattle.print_grammar.specs.Tree.Declared.{RecordOf, VariantOf, FlagsOf, EnumOf, AliasOf, ResourceOf}
-use Rattle.text_trees.specs.Reading.{Wanted, Reading, Reading.Found, Reading.Refused, then_read, made, behind_mark, if_mark, if_key, id_in_front, version_in_front, quoted_in_front, behind_word, if_attribute, repeated, listed}
+use Rattle.text_trees.specs.Reading.{Wanted, Reading, Reading.Found, Reading.Refused, then_read, made, behind_mark, if_mark, if_key, id_in_front, version_in_front, quoted_in_front, behind_word, if_word, if_attribute, repeated, listed}
 use Rattle.text_trees.specs.ReadTypes.{type_in_front, params_in_front, result_in_front, signature_in_front}
 
 -- ---- in front of an item
@@ -46,8 +46,8 @@ gates_in_front = if_attribute (codes "since") since_in_front (if_attribute (code
 -- an external id, or nothing: `@external-id("..")`
 abbrev pub external_id_in_front : List Token → Reading (Option (List ℕ))
 external_id_in_front =
-    if_mark At (behind_word (codes "external-id") (behind_mark OpenParen (λ rest.
-    then_read (quoted_in_front rest) (λ characters rest. behind_mark CloseParen (Found (Some characters)) rest)))) (Found None)
+    if_mark At (if_word (codes "external-id") (behind_mark OpenParen (λ rest.
+    then_read (quoted_in_front rest) (λ characters rest. behind_mark CloseParen (Found (Some characters)) rest))) (Refused Wanted.AnAttribute)) (Found None)
 
 -- what stands in front of an item: gates and an external id
 abbrev pub prefix_in_front : List Token → Reading Prefix

@@ -2,7 +2,7 @@
 use Rattle.std.specs.Prelude.{Bool, true, false, List, [], ◌∷◌, ℕ, if◌then◌else◌}
 use Rattle.wit_model.specs.Text.{Text}
 use Rattle.print_grammar.specs.{Keyword.Keyword, Token.Token}
-use Rattle.print_grammar.specs.Token.Mark.{OpenBrace, CloseBrace, Colon, Semi, Slash}
+use Rattle.print_grammar.specs.Token.Mark.{At, OpenBrace, CloseBrace, Colon, Semi, Slash}
 use Rattle.print_grammar.specs.Tree.{Gates, Prefix, PathTree, PathTree.Local, MemberTree, ExternTree, WorldMember, ItemTree, PackageHead, PackageTree, FileTree}
 use Rattle.print_grammar.specs.Tree.{MemberTree.UseMember, MemberTree.TypeMember, MemberTree.FunctionMember, ItemTree.InterfaceItem, ItemTree.WorldItem}
 use Rattle.print_grammar.specs.Tree.{ExternTree.Path, ExternTree.NamedFunction, ExternTree.NamedPath, ExternTree.NamedInterface}
@@ -69,7 +69,7 @@ world_members_in_front room = behind_mark OpenBrace (repeated (world_member_in_f
 abbrev pub item_behind : ℕ → Gates → List Token → Reading ItemTree
 item_behind room gates =
     if_key Keyword.Interface (named (λ name rest. made (InterfaceItem [] gates name) (members_in_front room rest)))
-    (if_key Keyword.World (named (λ name rest. made (WorldItem [] gates name) (world_members_in_front room rest))) (Refused Wanted.AnItem))
+    (if_key Keyword.World (named (λ name rest. made (WorldItem [] gates name) (world_members_in_front room rest))) (if_mark At (Refused Wanted.AnAttribute) (Refused Wanted.AnItem)))
 
 -- an interface or a world
 abbrev pub item_in_front : ℕ → List Token → Reading ItemTree

@@ -18,6 +18,8 @@ pub data Wanted : Type 0 where
   AMember : Wanted
   -- an interface or a world
   AnItem : Wanted
+  -- a gate or an external id, behind `@`
+  AnAttribute : Wanted
   -- a type of fewer levels
   Shallower : Wanted
 
@@ -185,9 +187,13 @@ abbrev pub begins_word : Text → List Token → Bool
 begins_word text (Word word ∷ ts) = text_eq word text
 begins_word text ts = false
 
+-- what is read behind a word that is no keyword, where it stands in front, or else something else
+unfoldable pub if_word : {X : Type 0} → Text → (List Token → Reading X) → (List Token → Reading X) → List Token → Reading X
+if_word text next other ts = if begins_word text ts then next (behind ts) else other ts
+
 -- a word that is no keyword, and what is read behind it
-unfoldable pub behind_word : {X : Type 0} → Text → (List Token → Reading X) → List Token → Reading X
-behind_word text next ts = if begins_word text ts then next (behind ts) else Refused (Wanted.AWord text) ts
+abbrev pub behind_word : {X : Type 0} → Text → (List Token → Reading X) → List Token → Reading X
+behind_word text next = if_word text next (Refused (Wanted.AWord text))
 
 -- whether tokens begin with `@` and this word
 abbrev pub begins_attribute : Text → List Token → Bool
