@@ -56,7 +56,8 @@ module _ (room : ℕ) where
   item-sound =
       then_sound gates-sound (λ gates.
       if_key_sound _ (id_sound (λ t name i. made_sound _ (mark_sound _ (sound_as (repeated_sound member-sound) (λ us rest xs l ts g. interface_item g i l)))))
-      (if_key_sound _ (id_sound (λ t name i. made_sound _ (mark_sound _ (sound_as (repeated_sound world_member-sound) (λ us rest xs l ts g. world_item g i l))))) (if_mark_sound _ refused_sound refused_sound)))
+      (if_key_sound _ (id_sound (λ t name i. made_sound _ (mark_sound _ (sound_as (repeated_sound world_member-sound) (λ us rest xs l ts g. world_item g i l)))))
+      (if_mark_sound _ refused_sound refused_sound)))
 
   items-sound : Sound ReadsItems (until ends_items (item_in_front room))
   items-sound = until_sound ReadsItems item-sound (λ ts h. no_items) (λ ts between rest x xs r l. next_item r l)

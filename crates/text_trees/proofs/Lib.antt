@@ -8,7 +8,7 @@ pub mod Complete
 pub mod TypesComplete
 -- Gates, paths, uses and declared types that are there by the grammar are found. Serves Exact, FilesComplete.
 pub mod DeclaredComplete
--- What readers find, by the steps that they are made of, and by lists. Serves DeclaredFound, Exact, FilesFound, Fitting and 3 more.
+-- What readers find, by the steps that they are made of, and by lists. Serves DeclaredFound, Exact, FilesFound, Fitting and 4 more.
 pub mod Finding
 -- What readers of types and signatures find is there by the grammar. Serves DeclaredFound, Exact, SteadyFiles.
 pub mod TypesFound
@@ -26,12 +26,13 @@ pub mod FilesFound
 pub mod Fitting
 -- A reader answers alike for tokens that begin alike: up to the place where it stops, and at the first token there, or at `@` and the token behind it. Serves Exact, SteadyFiles, SteadyLists.
 pub mod Steady
--- Readers of lists answer alike for tokens that begin alike, where what they read is shorter each time. Serves SteadyFiles.
+-- Readers of lists answer alike for tokens that begin alike, where what they read is shorter each time. Serves OneByOne, SteadyFiles.
 pub mod SteadyLists
--- Readers of types, declared types, interfaces, worlds and files answer alike for tokens that begin alike. Serves Exact.
+-- Readers of types, declared types, interfaces, worlds and files answer alike for tokens that begin alike. Serves laws::lists_are_read_one_by_one.
 pub mod SteadyFiles
--- Readers find exactly what is there. Serves laws::declared_types_are_read, laws::files_are_read, laws::items_are_read, laws::members_are_read and 2 more.
-pub mod OneByOne
+-- Readers find exactly what is there. Serves laws::declared_types_are_read, laws::files_are_read, laws::items_are_read, laws::members_are_read and 3 more.
 pub mod Exact
+-- Lists are read thing by thing: how far the number in their definitions counts makes no difference. Serves laws::lists_are_read_one_by_one.
+pub mod OneByOne
 -- Worked examples: what is found in front of tokens, and what is wanted where. Serves no function.
 mod ReaderExamples

@@ -1,7 +1,7 @@
 -- Lists are read thing by thing: how far the number in their definitions counts makes no difference.
 use Rattle.std.proofs.Common.{◌≡◌, refl, ap, ℕ, ◌<◌, Bool, true, false, List, [], ◌∷◌, length, arith, zero, suc, if◌then◌else◌}
-use Rattle.print_grammar.specs.{Token.Token, Token.Mark, Token.Mark.CloseBrace, Token.Mark.CloseParen}
-use Rattle.text_trees.specs.Reading.{Reading, Reading.Found, Reading.Refused, then_read, made, begins, things_in_front, until, more_in_front, thing_and_more, listed_in_front, listed}
+use Rattle.print_grammar.specs.{Token.Token, Token.Mark}
+use Rattle.text_trees.specs.Reading.{Reading, Reading.Found, Reading.Refused, then_read, made, things_in_front, until, more_in_front, thing_and_more, listed_in_front, listed}
 use Rattle.text_trees.specs.Laws.{OneByOne, ListedOneByOne}
 use Rattle.text_trees.proofs.Finding.{is_there, MoreSays, more_sound}
 use Rattle.text_trees.proofs.SteadyLists.{Shrinks}

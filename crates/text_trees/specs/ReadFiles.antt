@@ -69,7 +69,8 @@ world_members_in_front room = behind_mark OpenBrace (repeated (world_member_in_f
 abbrev pub item_behind : ℕ → Gates → List Token → Reading ItemTree
 item_behind room gates =
     if_key Keyword.Interface (named (λ name rest. made (InterfaceItem [] gates name) (members_in_front room rest)))
-    (if_key Keyword.World (named (λ name rest. made (WorldItem [] gates name) (world_members_in_front room rest))) (if_mark At (Refused Wanted.AnAttribute) (Refused Wanted.AnItem)))
+    (if_key Keyword.World (named (λ name rest. made (WorldItem [] gates name) (world_members_in_front room rest)))
+    (if_mark At (Refused Wanted.AnAttribute) (Refused Wanted.AnItem)))
 
 -- an interface or a world
 abbrev pub item_in_front : ℕ → List Token → Reading ItemTree

@@ -23,7 +23,8 @@ pub fn parts_are_read()
     ensures paths { FindsNothingElse ReadsPath (λ path. true) path_in_front }
     ensures paths_there { FindsBefore (λ rest. (begins Colon rest ≡ false) × (begins At rest ≡ false)) ReadsPath (λ path. true) path_in_front }
     ensures signatures { (room : ℕ) → FindsNothingElse ReadsSignature (fits_signature room) (signature_in_front room) }
-    ensures signatures_there { (room : ℕ) → FindsBefore (λ rest. (begins Less rest ≡ false) × (begins Arrow rest ≡ false)) ReadsSignature (fits_signature room) (signature_in_front room) }
+    ensures signatures_there { (room : ℕ)
+        → FindsBefore (λ rest. (begins Less rest ≡ false) × (begins Arrow rest ≡ false)) ReadsSignature (fits_signature room) (signature_in_front room) }
 {}
 
 /// Lists are read one by one, so the numbers that count down in their definitions make no difference.
