@@ -1,14 +1,14 @@
 -- Readers find exactly what is there.
-use Rattle.std.proofs.Common.{◌≡◌, refl, sym, ap, ◌∙◌, ℕ, Bool, true, false, List, ◌++◌}
+use Rattle.std.proofs.Common.{◌≡◌, refl, sym, ap, ◌∙◌, subst, ℕ, Bool, true, false, List, [], ◌++◌}
 use Rattle.text_trees.specs.Places.{window}
 use Rattle.text_trees.proofs.{Steady.SteadyAt, SteadyFiles.file-steady}
-use Rattle.print_grammar.specs.{Token.Token, Token.Mark.Less}
+use Rattle.print_grammar.specs.{Token.Token, Token.Tokens, Token.Mark.Less, Tree.FileTree, Reading.IsReading, Reading.OneReading, Grammar.ReadsFile}
 use Rattle.print_grammar.specs.Grammar.{ReadsType, ReadsResourceMember, ReadsDeclared, ReadsMember, ReadsExtern, ReadsWorldMember, ReadsItem, ReadsNested}
 use Rattle.text_trees.specs.Reading.{Reading, Reading.Found, Reading.Refused, Wanted, Wanted.Shallower, begins}
 use Rattle.text_trees.specs.{ReadTypes.type_in_front, ReadDeclared.resource_member_in_front, ReadDeclared.declared_in_front}
 use Rattle.text_trees.specs.ReadFiles.{member_in_front, extern_in_front, world_member_in_front, item_in_front, nested_in_front, file_in_front}
 use Rattle.text_trees.specs.Levels.{fits_type, fits_resource_member, fits_declared, fits_member, fits_extern, fits_world_member, fits_item, fits_package, levels}
-use Rattle.text_trees.specs.Laws.{FindsWhatIsRead, FindsNothingElse, FindsBefore, FilesAreRead, FoundFilesAreOnly, RefusedAreNoFiles, ShallowFilesAreFound, RefusalsStandAtPlaces, NoFileBeginsSo}
+use Rattle.text_trees.specs.Laws.{FindsWhatIsRead, FindsNothingElse, FindsBefore, FilesAreRead, FoundFilesAreOnly, RefusedAreNoFiles, ShallowFilesAreFound, RefusalsStandAtPlaces, NoFileBeginsSo, TextsAreRead, RefusedTextsAreNotRead}
 use Rattle.print_grammar.specs.{Token.Mark.Arrow, Token.Mark.At, Token.Mark.Colon, Grammar.ReadsPath, Grammar.ReadsPrefix, Grammar.ReadsSignature}
 use Rattle.text_trees.specs.{ReadTypes.signature_in_front, ReadDeclared.path_in_front, ReadDeclared.prefix_in_front, Levels.fits_signature}
 use Rattle.text_trees.proofs.{DeclaredFound.prefix-sound, DeclaredFound.path-sound, TypesFound.signature-sound, Fitting.signature-fits, DeclaredComplete.prefix-complete, DeclaredComplete.path-complete, TypesComplete.signature-complete}
@@ -131,3 +131,17 @@ pub no_file_begins_so : NoFileBeginsSo
 no_file_begins_so room ts rest wanted e n =
     let (front, before, alike) = refusals_stand_at_places room ts rest wanted e in
     (front, before, λ other file h r. refused_are_no_files room (front ++ other) other wanted file (alike other h) r n)
+
+-- ---- texts
+
+-- a text that is read as a file has no other tokens
+read_tokens : OneReading → {text : List ℕ} {ts : List Token} {file : FileTree} → Tokens text ts → IsReading text file → ReadsFile ts file
+read_tokens one {text} {ts} {file} t r = subst (λ us. ReadsFile us file) (one.0 text r.tokens ts r.spelled t) r.parsed
+
+pub texts_are_read : OneReading → TextsAreRead
+texts_are_read one room text ts file t =
+    (λ e. let r = (files_are_read room ts [] file).0 e in (record { tokens = ts; spelled = t; parsed = r.0 }, r.1),
+    λ r. (files_are_read room ts [] file).1 (read_tokens one t r.0, r.1, refl))
+
+pub refused_texts_are_not_read : OneReading → RefusedTextsAreNotRead
+refused_texts_are_not_read one room text ts rest wanted file t e n r = refused_are_no_files room ts rest wanted file e (read_tokens one t r) n

@@ -1,6 +1,6 @@
 -- What the laws of readers say: what they find is what the grammar says is there.
 use Rattle.std.specs.Prelude.{◌≡◌, ◌↔◌, Bool, true, List, [], ◌++◌, ℕ, if◌then◌else◌}
-use Rattle.print_grammar.specs.{Token.Mark, Token.Token, Tree.FileTree, Grammar.ReadsFile}
+use Rattle.print_grammar.specs.{Token.Mark, Token.Token, Token.Tokens, Tree.FileTree, Grammar.ReadsFile, Reading.IsReading}
 use Rattle.text_trees.specs.Reading.{Reading, Reading.Found, Reading.Refused, Wanted, Wanted.Shallower, then_read, with_first, until, more_in_front, thing_and_more, listed}
 use Rattle.text_trees.specs.{Levels.fits_file, Places.window, ReadFiles.file_in_front}
 
@@ -66,3 +66,16 @@ NoFileBeginsSo =
     (room : ℕ) (ts rest : List Token) (wanted : Wanted) → file_in_front room ts ≡ Refused wanted rest → (wanted ≡ Shallower → ⊥)
     → (front : List Token) × (ts ≡ front ++ rest)
     × ((other : List Token) (file : FileTree) → window other ≡ window rest → ReadsFile (front ++ other) file → ⊥)
+
+-- The tokens of a text are found to be a file, with nothing behind it, exactly where the text is read as that file by the grammar and no type in it has
+-- more levels than there is room for.
+abbrev pub TextsAreRead : Type 0
+TextsAreRead =
+    (room : ℕ) (text : List ℕ) (ts : List Token) (file : FileTree) → Tokens text ts
+    → (file_in_front room ts ≡ Found file []) ↔ (IsReading text file × (fits_file room file ≡ true))
+
+-- Where the tokens of a text are refused, and not for want of levels, the text has no reading.
+abbrev pub RefusedTextsAreNotRead : Type 0
+RefusedTextsAreNotRead =
+    (room : ℕ) (text : List ℕ) (ts rest : List Token) (wanted : Wanted) (file : FileTree) → Tokens text ts → file_in_front room ts ≡ Refused wanted rest
+    → (wanted ≡ Shallower → ⊥) → IsReading text file → ⊥
