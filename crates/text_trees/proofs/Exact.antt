@@ -139,9 +139,10 @@ read_tokens : OneReading → {text : List ℕ} {ts : List Token} {file : FileTre
 read_tokens one {text} {ts} {file} t r = subst (λ us. ReadsFile us file) (one.0 text r.tokens ts r.spelled t) r.parsed
 
 pub texts_are_read : OneReading → TextsAreRead
-texts_are_read one room text ts file t =
-    (λ e. let r = (files_are_read room ts [] file).0 e in (record { tokens = ts; spelled = t; parsed = r.0 }, r.1),
-    λ r. (files_are_read room ts [] file).1 (read_tokens one t r.0, r.1, refl))
+texts_are_read one room text ts file t = (
+  λ e. let r = (files_are_read room ts [] file).0 e in (record { tokens = ts; spelled = t; parsed = r.0 }, r.1),
+  λ r. (files_are_read room ts [] file).1 (read_tokens one t r.0, r.1, refl),
+)
 
 pub refused_texts_are_not_read : OneReading → RefusedTextsAreNotRead
 refused_texts_are_not_read one room text ts rest wanted file t e n r = refused_are_no_files room ts rest wanted file e (read_tokens one t r) n

@@ -30,7 +30,7 @@ pub mod Steady
 pub mod SteadyLists
 -- Readers of types, declared types, interfaces, worlds and files answer alike for tokens that begin alike. Serves laws::lists_are_read_one_by_one.
 pub mod SteadyFiles
--- Readers find exactly what is there. Serves laws::declared_types_are_read, laws::files_are_read, laws::items_are_read, laws::members_are_read and 3 more.
+-- Readers find exactly what is there. Serves laws::declared_types_are_read, laws::files_are_read, laws::items_are_read, laws::members_are_read and 5 more.
 pub mod Exact
 -- Lists are read thing by thing: how far the number in their definitions counts makes no difference. Serves laws::lists_are_read_one_by_one.
 pub mod OneByOne

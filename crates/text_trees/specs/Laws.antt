@@ -1,6 +1,8 @@
 -- What the laws of readers say: what they find is what the grammar says is there.
 use Rattle.std.specs.Prelude.{◌≡◌, ◌↔◌, Bool, true, List, [], ◌++◌, ℕ, if◌then◌else◌}
 use Rattle.print_grammar.specs.{Token.Mark, Token.Token, Token.Tokens, Tree.FileTree, Grammar.ReadsFile, Reading.IsReading}
+use Rattle.print_grammar.specs.{AsRead.file_as_read, Calls.file_calls, WellNamed.is_well_file}
+use Rattle.print_output.specs.Render.{render}
 use Rattle.text_trees.specs.Reading.{Reading, Reading.Found, Reading.Refused, Wanted, Wanted.Shallower, then_read, with_first, until, more_in_front, thing_and_more, listed}
 use Rattle.text_trees.specs.{Levels.fits_file, Places.window, ReadFiles.file_in_front}
 
@@ -79,3 +81,10 @@ abbrev pub RefusedTextsAreNotRead : Type 0
 RefusedTextsAreNotRead =
     (room : ℕ) (text : List ℕ) (ts rest : List Token) (wanted : Wanted) (file : FileTree) → Tokens text ts → file_in_front room ts ≡ Refused wanted rest
     → (wanted ≡ Shallower → ⊥) → IsReading text file → ⊥
+
+-- The tokens of the text of a tree whose names are labels and whose versions are versions are found to be the tree, if no type in it has more levels than
+-- there is room for.
+abbrev pub PrintedFilesAreFound : Type 0
+PrintedFilesAreFound =
+    (room : ℕ) (emits_docs : Bool) (file : FileTree) (ts : List Token) → is_well_file file ≡ true → fits_file room (file_as_read file) ≡ true
+    → Tokens (render (file_calls emits_docs file)) ts → file_in_front room ts ≡ Found (file_as_read file) []

@@ -7,9 +7,9 @@ ghost use Rattle.text_trees.specs.{Reading.begins, ReadTypes.param_in_front, Rea
 ghost use Rattle.text_trees.specs.ReadDeclared.{case_in_front, declared_in_front, field_in_front, label_in_front, path_in_front, prefix_in_front, resource_member_in_front, used_name_in_front};
 ghost use Rattle.text_trees.specs.ReadFiles.{ends_items, extern_in_front, is_end, item_in_front, member_in_front, nested_in_front, world_member_in_front};
 ghost use Rattle.text_trees.specs.Levels.{fits_declared, fits_extern, fits_item, fits_member, fits_package, fits_resource_member, fits_signature, fits_type, fits_world_member};
-ghost use Rattle.text_trees.specs.Laws.{FilesAreRead, FindsBefore, FindsNothingElse, FindsWhatIsRead, FoundFilesAreOnly, ListedOneByOne, NoFileBeginsSo, OneByOne, RefusalsStandAtPlaces, RefusedAreNoFiles, RefusedTextsAreNotRead, ShallowFilesAreFound, TextsAreRead};
+ghost use Rattle.text_trees.specs.Laws.{FilesAreRead, FindsBefore, FindsNothingElse, FindsWhatIsRead, FoundFilesAreOnly, ListedOneByOne, NoFileBeginsSo, OneByOne, PrintedFilesAreFound, RefusalsStandAtPlaces, RefusedAreNoFiles, RefusedTextsAreNotRead, ShallowFilesAreFound, TextsAreRead};
 
-use print_grammar::laws::one_reading;
+use print_grammar::laws::{one_reading, well_named_file_reads};
 
 /// A type that is found is there and has at most so many levels, and one that is there is found, where no `<` goes on with it.
 pub fn types_are_read()
@@ -85,4 +85,12 @@ pub fn texts_are_read()
     ensures refused { RefusedTextsAreNotRead }
 {
     one_reading();
+}
+
+/// What is printed of a tree of well-formed names is found again.
+pub fn printed_files_are_found()
+    ensures { PrintedFilesAreFound }
+{
+    one_reading();
+    well_named_file_reads();
 }
