@@ -332,7 +332,7 @@ class Outputs(Room):
         return stat.S_IMODE((self.room / file).stat().st_mode)
 
     def test_a_new_file(self):
-        for words in ["-o", "new.wit"], ["--output", "new.wit"], ["--output=new.wit"], ["-o=new.wit"]:
+        for words in ["-o", "new.wit"], ["--output", "new.wit"], ["--output=new.wit"], ["-o=new.wit"], ["-onew.wit"]:
             self.assertEqual(self.answer("text", CLOCK, *words, umask=0o027), b"")
             self.assertEqual([it.name for it in self.room.iterdir()], ["new.wit"])
             self.assertEqual(((self.room / "new.wit").read_bytes(), self.mode("new.wit")), (self.WIT, 0o640))
@@ -453,7 +453,7 @@ class Terminals(Room):
 
     ASKED = (
         (["check", CLOCK], 0, b"\x1b[32mok\x1b[0m   "),
-        (["compat", SERVICES, "-w", "service"], 0, b"\x1b[32mok\x1b[0m   service\n"),
+        (["compat", SERVICES, "-wservice"], 0, b"\x1b[32mok\x1b[0m   service\n"),
         (["compat", SERVICES, "-w", "service=service-bytes"], 1, b"\x1b[31mno\x1b[0m   service -> service-bytes\n"),
         (["diff", CLOCK, SERVICES], 1, b"\x1b[31m-package example:clock@1.2.0;"),
     )

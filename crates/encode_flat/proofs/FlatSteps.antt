@@ -43,6 +43,12 @@ pub function-added : {E : Type 0} (res : Result ℕ E) (declarations : List (Tex
     → IfOk res (AddsForm ks old (form.Function def) ks' new) → IfOk res (λ i. flat_definitions declarations ks' (reverse new) ≡ one_function_more i (flat_definitions declarations ks (reverse old)))
 function-added x declarations ks ks' old new def h = search (std_rules, reversed)
 
+-- a call that is refused defines nothing
+pub nothing-added : {T E : Type 0} (res : Result T E) (declarations : List (Text × TypeMeaning)) (ks ks' : List Mark) (old new : List Form) → OnErr res (ks' ≡ ks) → OnErr res (new ≡ old)
+    → OnErr res (flat_definitions declarations ks' (reverse new) ≡ flat_definitions declarations ks (reverse old))
+nothing-added (Ok v) declarations ks ks' old new h g = tt
+nothing-added (Err e) declarations ks ks' old new h g = λ i. flat_definitions declarations (h i) (reverse (g i))
+
 -- ---- names
 
 -- a slot that stands gets one more name

@@ -115,6 +115,7 @@ impl<'a> ValtypeEncoder<'a> for FlatEncoderOf<'a, TypeEncodingMaps<'a>> {
         ensures imports_stay { (flat_view self.new).imports ≡ (flat_view self.old).imports }
         ensures maps_stay { (flat_view self.new).maps ≡ (flat_view self.old).maps }
         ensures counts { OnOk result (ExportsName (flat_view self.old) (flat_view self.new) (Some index) (raw_name name.entry)) }
+        ensures err { OnErr result ((flat_view self.new).definitions ≡ (flat_view self.old).definitions) }
         ensures held { HoldsMore 1 (flat_view self.old) (flat_view self.new) }
         ensures written { OnOk result (Writes (name_extent (raw_name name.entry)) (flat_view self.old) (flat_view self.new)) }
         ensures size { result ≡ Err Size → Refuses (flat_view self.old) (flat_view self.new) (export_name (raw_name name.entry)) }
@@ -140,6 +141,7 @@ impl<'a> ValtypeEncoder<'a> for FlatEncoderOf<'a, TypeEncodingMaps<'a>> {
         ensures scope_stays { (flat_view self.new).scope ≡ (flat_view self.old).scope }
         ensures maps_stay { (flat_view self.new).maps ≡ (flat_view self.old).maps }
         ensures counts { OnOk result ((flat_view self.new).definitions ≡ (flat_view self.old).definitions) }
+        ensures err { OnErr result ((flat_view self.new).definitions ≡ (flat_view self.old).definitions) }
         ensures held { HoldsMore 1 (flat_view self.old) (flat_view self.new) }
         ensures written { OnOk result (WritesImport (flat_view self.old) (flat_view self.new) id.0) }
         ensures size { result ≡ Err Size → Refuses (flat_view self.old) (flat_view self.new) (import_of id.0) }

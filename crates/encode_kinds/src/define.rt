@@ -1,13 +1,13 @@
 //! Defines types whose parts are known, in a scope of any encoder.
 
-ghost use Rattle.std.specs.Prelude.{◌≡◌, ◌+◌, Err, ◌<◌, ◌&&◌, true, false, not, length, IfOk, OnOk, List, Some, None, is_some, IfErr, ◌∷◌, []};
+ghost use Rattle.std.specs.Prelude.{◌≡◌, ◌+◌, Err, ◌<◌, ◌&&◌, true, false, not, length, IfOk, OnOk, OnErr, List, Some, None, is_some, IfErr, ◌∷◌, []};
 ghost use Rattle.std.specs.List.{Contains};
 ghost use Rattle.comp_bytes.specs.{RawOf.raw_name, Refusal.IsMemoryOrSize};
 ghost use Rattle.wit_model.specs.declared.error.Error.TheVariants.{Size};
 ghost use Rattle.wit_model.specs.{Rules.is_named_kind, Types.number_tree, Types.tree_of, Types.trees_of, Types.tree_of_definition, Types.declared_by, Text.optional_text, Tree.named, Lookup.type_at, Meant.type_meaning};
-ghost use Rattle.encode_types.specs.{Slots.tree, Numbers.PartsReady, Numbers.HoldsKind, Numbers.NewKindLacksRoom, Numbers.NamedLacksRoom, Numbers.kind_count, Room.value_type, Room.export_name, Room.import_of, Counts.one_type_more, Counts.is_defined_by_name, Counts.own_name, Known.ReachesAround, MetKinds.LearnsKindOf, Aliases.ImportsMet, Aliases.MakesMet, Extents.name_extent, Extents.number_extent, Extents.tree_extent, Formed.IsFormed, Kinds.parts_of, Kinds.kind_of, Kinds.kind_tree, Kinds.has_form, Kinds.has_definition, Plan.foreign_owner, Plan.IsLayered, Codes.kind_code, Scope.DeclaresSlot, Scope.DeclaresResource, Scope.IsImportable, Scope.IsDeclared, Scope.exported_name, Maps.IsKnown, Maps.IsReady, Maps.AllReady, Maps.LacksKind, Maps.LearnsOne, Fits.Fits, Fits.FitsScope, Fits.CanEncode};
+ghost use Rattle.encode_types.specs.{Slots.tree, Numbers.PartsReady, Numbers.HoldsKind, Numbers.NewKindLacksRoom, Numbers.NamedLacksRoom, Numbers.kind_count, Room.value_type, Room.export_name, Room.import_of, Counts.one_type_more, Counts.is_defined_by_name, Counts.own_name, Known.ReachesAround, MetKinds.LearnsKindOf, Aliases.ImportsMet, Aliases.MakesMet, Extents.name_extent, Extents.number_extent, Extents.tree_extent, Formed.IsFormed, Kinds.parts_of, Kinds.kind_of, Kinds.kind_tree, Kinds.has_form, Kinds.has_definition, Plan.foreign_owner, Plan.IsLayered, Codes.kind_code, Scope.DeclaresSlot, Scope.DeclaresResource, Scope.IsImportable, Scope.IsDeclared, Scope.exported_name, Maps.IsKnown, Maps.HasRoomFor, Maps.IsReady, Maps.AllReady, Maps.LacksKind, Maps.LearnsOne, Fits.Fits, Fits.FitsScope, Fits.CanEncode};
 ghost use Rattle.encode_types.specs.View.{Agrees, Grows, ImportsOne, ExportsName, HoldsMore, HoldsLearnt, Refuses, Writes, WritesImport, WritesLearnt};
-ghost use Rattle.encode_types.specs.Leaves.{Leaves, LearnsFrom, LearnsParts, CountsTypes, DefinesIf, LacksRoom};
+ghost use Rattle.encode_types.specs.Leaves.{Leaves, LearnsFrom, LearnsParts, CountsTypes, CountsInPart, DefinesIf, LacksRoom};
 ghost use Rattle.wit_model.specs.declared.model.«Type».TheVariants as ValueType;
 
 use crate::name::name_of;
@@ -15,7 +15,8 @@ use comp_bytes::{ComponentDefinedType, ComponentExternName, ComponentValType};
 use encode_types::codes::{ListKey, kind_list};
 use encode_types::encoder::ValtypeEncoder;
 use encode_types::lend::{
-    definition_of, index_of, index_of_kind, order_of, remember_id, remember_kind, value_of,
+    definition_of, index_of, index_of_kind, order_of, remember_id, remember_kind, reserve_id,
+    value_of,
 };
 use encode_types::plan::foreign;
 use encode_types::shape::{Shape, shape_of};
@@ -40,6 +41,7 @@ pub(crate) fn define_shape<'a, E: ValtypeEncoder<'a>>(
     ensures imports_stay { (E.view enc.new).imports ≡ (E.view enc.old).imports }
     ensures maps_stay { (E.view enc.new).maps ≡ (E.view enc.old).maps }
     ensures counts { IfOk result (λ i. (E.view enc.new).definitions ≡ one_type_more i (E.view enc.old).definitions) }
+    ensures err { OnErr result ((E.view enc.new).definitions ≡ (E.view enc.old).definitions) }
     ensures held { HoldsMore 1 (E.view enc.old) (E.view enc.new) }
     ensures written { OnOk result (Writes (tree_extent (kind_tree resolve.now (kind_of shape.entry))) (E.view enc.old) (E.view enc.new)) }
     ensures size { result ≡ Err Size → Refuses (E.view enc.old) (E.view enc.new) (value_type (kind_tree resolve.now (kind_of shape.entry))) }
@@ -65,6 +67,7 @@ fn define_alias<'a, E: ValtypeEncoder<'a>>(
     ensures imports_stay { (E.view enc.new).imports ≡ (E.view enc.old).imports }
     ensures maps_stay { (E.view enc.new).maps ≡ (E.view enc.old).maps }
     ensures counts { IfOk result (DefinesIf (has_definition (TypeDefKind.Type_ ty.now)) (E.view enc.old) (E.view enc.new)) }
+    ensures err { OnErr result ((E.view enc.new).definitions ≡ (E.view enc.old).definitions) }
     ensures known { (id : _) → ty.now ≡ ValueType.Id id → IfOk result (λ i. Contains (E.view enc.old).maps.id_to_index.entries (id.0, i)) }
     ensures held { HoldsMore (kind_count (TypeDefKind.Type_ ty.now)) (E.view enc.old) (E.view enc.new) }
     ensures written { OnOk result (Writes (tree_extent (kind_tree resolve.now (TypeDefKind.Type_ ty.now))) (E.view enc.old) (E.view enc.new)) }
@@ -97,6 +100,7 @@ fn define_kind<'a, E: ValtypeEncoder<'a>>(
     ensures imports_stay { (E.view enc.new).imports ≡ (E.view enc.old).imports }
     ensures maps_stay { (E.view enc.new).maps ≡ (E.view enc.old).maps }
     ensures counts { IfOk result (DefinesIf (has_definition kind.now) (E.view enc.old) (E.view enc.new)) }
+    ensures err { OnErr result ((E.view enc.new).definitions ≡ (E.view enc.old).definitions) }
     ensures known { (id : _) → kind.now ≡ TypeDefKind.Type_ (ValueType.Id id)
         → IfOk result (λ i. Contains (E.view enc.old).maps.id_to_index.entries (id.0, i)) }
     ensures held { HoldsMore (kind_count kind.now) (E.view enc.old) (E.view enc.new) }
@@ -130,6 +134,7 @@ fn define_new_kind<'a, E: ValtypeEncoder<'a>>(
     ensures around_stays { (E.view enc.new).around ≡ (E.view enc.old).around }
     ensures imports_stay { (E.view enc.new).imports ≡ (E.view enc.old).imports }
     ensures counts { OnOk result (CountsTypes resolve.now (E.view enc.old) (E.view enc.new)) }
+    ensures stopped { OnErr result (CountsInPart resolve.now (E.view enc.old) (E.view enc.new)) }
     ensures kinds { OnOk result (LearnsKindOf (E.view enc.old).maps (E.view enc.new).maps kind.now) }
     ensures held { HoldsMore 1 (E.view enc.old) (E.view enc.new) }
     ensures written { OnOk result (Writes (tree_extent (kind_tree resolve.now kind.entry.now)) (E.view enc.old) (E.view enc.new)) }
@@ -158,6 +163,7 @@ fn define_unnamed_kind<'a, E: ValtypeEncoder<'a>>(
     ensures around_stays { (E.view enc.new).around ≡ (E.view enc.old).around }
     ensures imports_stay { (E.view enc.new).imports ≡ (E.view enc.old).imports }
     ensures counts { OnOk result (CountsTypes resolve.now (E.view enc.old) (E.view enc.new)) }
+    ensures stopped { OnErr result (CountsInPart resolve.now (E.view enc.old) (E.view enc.new)) }
     ensures kinds { OnOk result (LearnsKindOf (E.view enc.old).maps (E.view enc.new).maps kind.now) }
     ensures held { OnOk result (HoldsKind kind.entry.now (E.view enc.old) (E.view enc.new)) }
     ensures written { OnOk result (Writes (tree_extent (kind_tree resolve.now kind.entry.now)) (E.view enc.old) (E.view enc.new)) }
@@ -192,6 +198,7 @@ fn define_unnamed<'a, E: ValtypeEncoder<'a>>(
     ensures around_stays { (E.view enc.new).around ≡ (E.view enc.old).around }
     ensures imports_stay { (E.view enc.new).imports ≡ (E.view enc.old).imports }
     ensures counts { OnOk result (CountsTypes resolve.now (E.view enc.old) (E.view enc.new)) }
+    ensures stopped { OnErr result (CountsInPart resolve.now (E.view enc.old) (E.view enc.new)) }
     ensures kinds { OnOk result (LearnsKindOf (E.view enc.old).maps (E.view enc.new).maps kind.now) }
     ensures held { OnOk result (HoldsKind kind.entry.now (E.view enc.old) (E.view enc.new)) }
     ensures written { OnOk result (Writes (tree_extent (kind_tree resolve.now kind.entry.now)) (E.view enc.old) (E.view enc.new)) }
@@ -202,7 +209,39 @@ fn define_unnamed<'a, E: ValtypeEncoder<'a>>(
     remember_id(enc, resolve, id, index)
 }
 
+/// Exports a fresh resource of this place, for which the maps have room.
+fn define_resource_in_room<'a, E: ValtypeEncoder<'a>>(
+    enc: &mut E,
+    resolve: &'a Resolve,
+    id: TypeId,
+    name: ComponentExternName<'a>,
+) -> Result<(), Error>
+    requires declared { DeclaresResource (E.view enc.old).scope (raw_name name) }
+    requires shown { own_name resolve.now (E.view enc.old).scope id.0 ≡ Some (raw_name name).text }
+    requires same_tree { number_tree resolve.now id.0 ≡ named (E.view enc.old).scope.place (raw_name name).text }
+    requires no_definition { is_defined_by_name resolve.now (E.view enc.old).scope id.0 ≡ false }
+    requires fresh { IsKnown (E.view enc.old).maps id.0 → ⊥ }
+    requires agree { Agrees resolve.now (E.view enc.old) }
+    requires room { HasRoomFor (E.view enc.old).maps id.0 }
+    ensures ok { OnOk result (LearnsOne (E.view enc.old).maps (E.view enc.new).maps id.0) }
+    ensures leaves { Leaves resolve.now (E.view enc.old) (E.view enc.new) }
+    ensures around_stays { (E.view enc.new).around ≡ (E.view enc.old).around }
+    ensures imports_stay { (E.view enc.new).imports ≡ (E.view enc.old).imports }
+    ensures counts { OnOk result (CountsTypes resolve.now (E.view enc.old) (E.view enc.new)) }
+    ensures stopped { OnErr result (CountsInPart resolve.now (E.view enc.old) (E.view enc.new)) }
+    ensures kinds { OnOk result ((E.view enc.new).maps.def_to_index.entries ≡ (E.view enc.old).maps.def_to_index.entries) }
+    ensures held { HoldsMore 1 (E.view enc.old) (E.view enc.new) }
+    ensures written { OnOk result (Writes (name_extent (raw_name name.entry)) (E.view enc.old) (E.view enc.new)) }
+    ensures size { result ≡ Err Size → Refuses (E.view enc.old) (E.view enc.new) (export_name (raw_name name.entry)) }
+    ensures refuses { IfErr result IsMemoryOrSize }
+{
+    let index = enc.export_resource(name)?;
+    remember_id(enc, resolve, id, index)
+}
+
 /// Exports a fresh resource of this place.
+///
+/// The maps have room for it first, so that no name is exported that they don't know.
 fn define_resource<'a, E: ValtypeEncoder<'a>>(
     enc: &mut E,
     resolve: &'a Resolve,
@@ -220,14 +259,15 @@ fn define_resource<'a, E: ValtypeEncoder<'a>>(
     ensures around_stays { (E.view enc.new).around ≡ (E.view enc.old).around }
     ensures imports_stay { (E.view enc.new).imports ≡ (E.view enc.old).imports }
     ensures counts { OnOk result (CountsTypes resolve.now (E.view enc.old) (E.view enc.new)) }
+    ensures stopped { OnErr result (CountsInPart resolve.now (E.view enc.old) (E.view enc.new)) }
     ensures kinds { OnOk result ((E.view enc.new).maps.def_to_index.entries ≡ (E.view enc.old).maps.def_to_index.entries) }
     ensures held { HoldsMore 1 (E.view enc.old) (E.view enc.new) }
     ensures written { OnOk result (Writes (name_extent (raw_name name.entry)) (E.view enc.old) (E.view enc.new)) }
     ensures size { result ≡ Err Size → Refuses (E.view enc.old) (E.view enc.new) (export_name (raw_name name.entry)) }
     ensures refuses { IfErr result IsMemoryOrSize }
 {
-    let index = enc.export_resource(name)?;
-    remember_id(enc, resolve, id, index)
+    reserve_id(enc, resolve, id)?;
+    define_resource_in_room(enc, resolve, id, name)
 }
 
 /// Exports the type of a slot under a name of this place, and answers the slot that stands for the name.
@@ -244,6 +284,7 @@ fn export<'a, E: ValtypeEncoder<'a>>(
     ensures imports_stay { (E.view enc.new).imports ≡ (E.view enc.old).imports }
     ensures maps_stay { (E.view enc.new).maps ≡ (E.view enc.old).maps }
     ensures counts { OnOk result (ExportsName (E.view enc.old) (E.view enc.new) (Some index) (raw_name name.entry)) }
+    ensures err { OnErr result ((E.view enc.new).definitions ≡ (E.view enc.old).definitions) }
     ensures held { HoldsMore 1 (E.view enc.old) (E.view enc.new) }
     ensures written { OnOk result (Writes (name_extent (raw_name name.entry)) (E.view enc.old) (E.view enc.new)) }
     ensures size { result ≡ Err Size → Refuses (E.view enc.old) (E.view enc.new) (export_name (raw_name name.entry)) }
@@ -255,7 +296,48 @@ fn export<'a, E: ValtypeEncoder<'a>>(
     }
 }
 
+/// Defines a named type of this place that is no resource, for which the maps have room.
+fn define_named_in_room<'a, E: ValtypeEncoder<'a>>(
+    alloc: Global,
+    enc: &mut E,
+    resolve: &'a Resolve,
+    id: TypeId,
+    def: &'a TypeDef,
+    name: ComponentExternName<'a>,
+) -> Result<(), Error>
+    requires kind { def.now.kind ≡ TypeDefKind.Resource → ⊥ }
+    requires there { type_at resolve.now id.0 ≡ Some def.now }
+    requires name { raw_name name ≡ exported_name ((raw_name name).text, type_meaning resolve.now def.now) }
+    requires declared { IsDeclared (E.view enc.old).scope ((raw_name name).text, type_meaning resolve.now def.now) }
+    requires shown { own_name resolve.now (E.view enc.old).scope id.0 ≡ Some (raw_name name).text }
+    requires same_tree { number_tree resolve.now id.0 ≡ named (E.view enc.old).scope.place (raw_name name).text }
+    requires by_name { is_defined_by_name resolve.now (E.view enc.old).scope id.0 ≡ has_definition def.now.kind }
+    requires ready { AllReady (E.view enc.old).maps (parts_of def.now.kind) }
+    requires fresh { IsKnown (E.view enc.old).maps id.0 → ⊥ }
+    requires formed { has_definition def.now.kind ≡ true → IsFormed (E.view enc.old).scope (kind_tree resolve.now def.now.kind) }
+    requires agree { Agrees resolve.now (E.view enc.old) }
+    requires room { HasRoomFor (E.view enc.old).maps id.0 }
+    ensures ok { OnOk result (LearnsOne (E.view enc.old).maps (E.view enc.new).maps id.0) }
+    ensures leaves { Leaves resolve.now (E.view enc.old) (E.view enc.new) }
+    ensures around_stays { (E.view enc.new).around ≡ (E.view enc.old).around }
+    ensures imports_stay { (E.view enc.new).imports ≡ (E.view enc.old).imports }
+    ensures counts { OnOk result (CountsTypes resolve.now (E.view enc.old) (E.view enc.new)) }
+    ensures stopped { OnErr result (CountsInPart resolve.now (E.view enc.old) (E.view enc.new)) }
+    ensures kinds { OnOk result ((E.view enc.new).maps.def_to_index.entries ≡ (E.view enc.old).maps.def_to_index.entries) }
+    ensures held { HoldsMore (kind_count def.now.kind + 1) (E.view enc.old) (E.view enc.new) }
+    ensures written { OnOk result (Writes (tree_extent (kind_tree resolve.now def.entry.now.kind) + name_extent (raw_name name.entry)) (E.view enc.old)
+        (E.view enc.new)) }
+    ensures size { result ≡ Err Size → NamedLacksRoom resolve.now def.entry.now (raw_name name.entry) (E.view enc.old) (E.view enc.new) }
+    ensures refuses { IfErr result IsMemoryOrSize }
+{
+    let index = define_kind(alloc, enc, resolve, &def.kind)?;
+    let slot = export(enc, index, name)?;
+    remember_id(enc, resolve, id, slot)
+}
+
 /// Defines a named type of this place that is no resource.
+///
+/// The maps have room for it first, so that no name is exported that they don't know.
 fn define_named<'a, E: ValtypeEncoder<'a>>(
     alloc: Global,
     enc: &mut E,
@@ -280,6 +362,7 @@ fn define_named<'a, E: ValtypeEncoder<'a>>(
     ensures around_stays { (E.view enc.new).around ≡ (E.view enc.old).around }
     ensures imports_stay { (E.view enc.new).imports ≡ (E.view enc.old).imports }
     ensures counts { OnOk result (CountsTypes resolve.now (E.view enc.old) (E.view enc.new)) }
+    ensures stopped { OnErr result (CountsInPart resolve.now (E.view enc.old) (E.view enc.new)) }
     ensures kinds { OnOk result ((E.view enc.new).maps.def_to_index.entries ≡ (E.view enc.old).maps.def_to_index.entries) }
     ensures held { HoldsMore (kind_count def.now.kind + 1) (E.view enc.old) (E.view enc.new) }
     ensures written { OnOk result (Writes (tree_extent (kind_tree resolve.now def.entry.now.kind) + name_extent (raw_name name.entry)) (E.view enc.old)
@@ -287,9 +370,8 @@ fn define_named<'a, E: ValtypeEncoder<'a>>(
     ensures size { result ≡ Err Size → NamedLacksRoom resolve.now def.entry.now (raw_name name.entry) (E.view enc.old) (E.view enc.new) }
     ensures refuses { IfErr result IsMemoryOrSize }
 {
-    let index = define_kind(alloc, enc, resolve, &def.kind)?;
-    let slot = export(enc, index, name)?;
-    remember_id(enc, resolve, id, slot)
+    reserve_id(enc, resolve, id)?;
+    define_named_in_room(alloc, enc, resolve, id, def, name)
 }
 
 /// Defines a type of this place whose parts are known.
@@ -312,6 +394,7 @@ fn define_own<'a, E: ValtypeEncoder<'a>>(
     ensures around_stays { (E.view enc.new).around ≡ (E.view enc.old).around }
     ensures imports_stay { (E.view enc.new).imports ≡ (E.view enc.old).imports }
     ensures counts { OnOk result (CountsTypes resolve.now (E.view enc.old) (E.view enc.new)) }
+    ensures stopped { OnErr result (CountsInPart resolve.now (E.view enc.old) (E.view enc.new)) }
     ensures learns { OnOk result (LearnsParts resolve.now (E.view enc.old) (E.view enc.new)) }
     ensures held { OnOk result (HoldsLearnt resolve.now 0 (E.view enc.old) (E.view enc.new)) }
     ensures written { OnOk result (Writes (number_extent resolve.now (E.view enc.old).scope.own_interface id.0) (E.view enc.old) (E.view enc.new)) }
@@ -348,6 +431,7 @@ fn define_number<'a, E: ValtypeEncoder<'a>>(
     ensures aliases { MakesMet resolve.now (ValueType.Id id ∷ []) (E.view enc.old) (E.view enc.new) }
     ensures imports { ImportsMet resolve.now (ValueType.Id id ∷ []) (E.view enc.old) (E.view enc.new) }
     ensures counts { OnOk result (CountsTypes resolve.now (E.view enc.old) (E.view enc.new)) }
+    ensures stopped { OnErr result (CountsInPart resolve.now (E.view enc.old) (E.view enc.new)) }
     ensures learns { OnOk result (LearnsParts resolve.now (E.view enc.old) (E.view enc.new)) }
     ensures held { OnOk result (HoldsLearnt resolve.now 0 (E.view enc.old) (E.view enc.new)) }
     ensures written { OnOk result (WritesLearnt resolve.now 0 (E.view enc.old) (E.view enc.new)) }
@@ -383,6 +467,7 @@ fn import<'a, E: ValtypeEncoder<'a>>(
     ensures reaches { ReachesAround (E.view enc.old).scope.packages id (E.view enc.old).around (E.view enc.new).around }
     ensures imports { ImportsOne id (E.view enc.old).imports (E.view enc.new).imports }
     ensures counts { OnOk result (CountsTypes resolve.now (E.view enc.old) (E.view enc.new)) }
+    ensures stopped { OnErr result (CountsInPart resolve.now (E.view enc.old) (E.view enc.new)) }
     ensures kinds { OnOk result ((E.view enc.new).maps.def_to_index.entries ≡ (E.view enc.old).maps.def_to_index.entries) }
     ensures held { HoldsMore 1 (E.view enc.old) (E.view enc.new) }
     ensures written { OnOk result (WritesImport (E.view enc.old) (E.view enc.new) id.0) }
@@ -408,6 +493,7 @@ pub(crate) fn define_parts<'a, E: ValtypeEncoder<'a>>(
     ensures aliases { MakesMet resolve.now types.now (E.view enc.old) (E.view enc.new) }
     ensures imports { ImportsMet resolve.now types.now (E.view enc.old) (E.view enc.new) }
     ensures counts { OnOk result (CountsTypes resolve.now (E.view enc.old) (E.view enc.new)) }
+    ensures stopped { OnErr result (CountsInPart resolve.now (E.view enc.old) (E.view enc.new)) }
     ensures held { OnOk result (HoldsLearnt resolve.now 0 (E.view enc.old) (E.view enc.new)) }
     ensures written { OnOk result (WritesLearnt resolve.now 0 (E.view enc.old) (E.view enc.new)) }
     ensures size { result ≡ Err Size → LacksRoom resolve.now types.now [] (E.view enc.old) (E.view enc.new) }

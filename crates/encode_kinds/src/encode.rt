@@ -5,12 +5,15 @@
 //! parts, is defined only where the maps lack it, and then it is in the maps. What a function is named after it defines at each call. The caches of
 //! a future and a stream without an element are filled by `encode_unit_future` and `encode_unit_stream` alone, also where a call is refused.
 //!
+//! A call that is refused can be made again. No name is exported that the maps don't know, since they have room for a type before its name is
+//! exported. One definition at most stands in a slot that the maps don't know, and has no name.
+//!
 //! `Error::Size` comes only from a call of the encoder, for what has no room in the encoder that is left. That is the definition, the name or
 //! the import of a type that is met from those asked for, or what the function is named after. By then the encoder holds what it held, and less
 //! than what these take and wasn't known. They take two for a type that is defined under its name, one for each kind of unnamed types, one for
 //! each other type, and one for what the function is named after. Every other refusal is `Error::Memory`.
 
-ghost use Rattle.std.specs.Prelude.{◌≡◌, ◌∷◌, [], map, option_map, option_to_list, option_copied, length, ◌<◌, IfOk, OnOk, IfSome, Ok, Err, Some, None, is_some, is_none, true, IfErr};
+ghost use Rattle.std.specs.Prelude.{◌≡◌, ◌∷◌, [], map, option_map, option_to_list, option_copied, length, ◌<◌, IfOk, OnOk, OnErr, IfSome, Ok, Err, Some, None, is_some, is_none, true, IfErr};
 ghost use Rattle.std.specs.List.{AllZip};
 ghost use Rattle.comp_bytes.specs.Refusal.{IsMemoryOrSize};
 ghost use Rattle.wit_model.specs.declared.error.Error.TheVariants.{Size};
@@ -18,7 +21,7 @@ ghost use Rattle.wit_model.specs.{Text.text_of, Lookup.type_at, Meant.signature_
 ghost use Rattle.encode_types.specs.{Known.ReachesAround, Formed.IsFormed, Kinds.parts_of, Kinds.kind_of, Kinds.kind_tree, Kinds.named_tree, Fits.CanEncode, Fits.CanImport, Fits.is_foreign, Maps.IsReady, Maps.AllReady, Counts.one_type_more, Room.value_type, Room.import_of, Aliases.ImportsMet, Aliases.MakesMet};
 ghost use Rattle.encode_types.specs.Slots.{tree, function, StandsFor, StandsForOptional, NamedStands, Follows};
 ghost use Rattle.encode_types.specs.View.{Agrees, Grows, ImportsOne, HoldsMore, HoldsIf, HoldsLearnt, Refuses, WritesLearnt};
-ghost use Rattle.encode_types.specs.Leaves.{Leaves, LeavesSlots, LearnsFrom, CountsTypes, CanDefine, DefinesKind, DefinesValue, DefinesIf, LacksRoom};
+ghost use Rattle.encode_types.specs.Leaves.{Leaves, LeavesSlots, LearnsFrom, CountsTypes, CountsInPart, CanDefine, DefinesKind, DefinesValue, DefinesIf, LacksRoom};
 
 use crate::define::{define_parts, define_shape};
 use comp_bytes::{ComponentDefinedType, ComponentValType};
@@ -68,6 +71,7 @@ pub fn encode_valtype<'a, E: ValtypeEncoder<'a>>(
     ensures aliases { MakesMet resolve.now (ty.now ∷ []) (E.view enc.old) (E.view enc.new) }
     ensures imports { ImportsMet resolve.now (ty.now ∷ []) (E.view enc.old) (E.view enc.new) }
     ensures counts { OnOk result (CountsTypes resolve.now (E.view enc.old) (E.view enc.new)) }
+    ensures stopped { OnErr result (CountsInPart resolve.now (E.view enc.old) (E.view enc.new)) }
     ensures knows { OnOk result (IsReady (E.view enc.new).maps ty.now) }
     ensures held { OnOk result (HoldsLearnt resolve.now 0 (E.view enc.old) (E.view enc.new)) }
     ensures written { OnOk result (WritesLearnt resolve.now 0 (E.view enc.old) (E.view enc.new)) }
@@ -95,6 +99,7 @@ pub fn encode_optional_valtype<'a, E: ValtypeEncoder<'a>>(
     ensures aliases { MakesMet resolve.now (option_to_list (option_copied ty.entry)) (E.view enc.old) (E.view enc.new) }
     ensures imports { ImportsMet resolve.now (option_to_list (option_copied ty.entry)) (E.view enc.old) (E.view enc.new) }
     ensures counts { OnOk result (CountsTypes resolve.now (E.view enc.old) (E.view enc.new)) }
+    ensures stopped { OnErr result (CountsInPart resolve.now (E.view enc.old) (E.view enc.new)) }
     ensures knows { OnOk result (AllReady (E.view enc.new).maps (option_to_list (option_copied ty.entry))) }
     ensures held { OnOk result (HoldsLearnt resolve.now 0 (E.view enc.old) (E.view enc.new)) }
     ensures written { OnOk result (WritesLearnt resolve.now 0 (E.view enc.old) (E.view enc.new)) }
@@ -127,6 +132,7 @@ pub fn encode_params<'a, E: ValtypeEncoder<'a>>(
     ensures aliases { MakesMet resolve.now (map (λ p. p.ty) params.now) (E.view enc.old) (E.view enc.new) }
     ensures imports { ImportsMet resolve.now (map (λ p. p.ty) params.now) (E.view enc.old) (E.view enc.new) }
     ensures counts { OnOk result (CountsTypes resolve.now (E.view enc.old) (E.view enc.new)) }
+    ensures stopped { OnErr result (CountsInPart resolve.now (E.view enc.old) (E.view enc.new)) }
     ensures knows { OnOk result (AllReady (E.view enc.new).maps (map (λ p. p.ty) params.now)) }
     ensures held { OnOk result (HoldsLearnt resolve.now 0 (E.view enc.old) (E.view enc.new)) }
     ensures written { OnOk result (WritesLearnt resolve.now 0 (E.view enc.old) (E.view enc.new)) }
@@ -257,6 +263,7 @@ fn define<'a, E: ValtypeEncoder<'a>>(
     ensures imports_stay { (E.view enc.new).imports ≡ (E.view enc.old).imports }
     ensures maps_stay { (E.view enc.new).maps ≡ (E.view enc.old).maps }
     ensures counts { IfOk result (DefinesValue (E.view enc.old) (E.view enc.new)) }
+    ensures err { OnErr result ((E.view enc.new).definitions ≡ (E.view enc.old).definitions) }
     ensures held { HoldsMore 1 (E.view enc.old) (E.view enc.new) }
     ensures size { result ≡ Err Size → (t : Tree) → Follows (E.view enc.old).stands def.entry t → Refuses (E.view enc.old) (E.view enc.new) (value_type t) }
     ensures refuses { IfErr result IsMemoryOrSize }
@@ -281,6 +288,7 @@ pub fn encode_flags<'a, E: ValtypeEncoder<'a>>(
     ensures imports_stay { (E.view enc.new).imports ≡ (E.view enc.old).imports }
     ensures maps_stay { (E.view enc.new).maps ≡ (E.view enc.old).maps }
     ensures counts { IfOk result (DefinesValue (E.view enc.old) (E.view enc.new)) }
+    ensures err { OnErr result ((E.view enc.new).definitions ≡ (E.view enc.old).definitions) }
     ensures held { HoldsMore 1 (E.view enc.old) (E.view enc.new) }
     ensures size { result ≡ Err Size → Refuses (E.view enc.old) (E.view enc.new) (value_type (flags_tree (map (λ x. text_of x.name) ty.now.flags.items))) }
     ensures refuses { IfErr result IsMemoryOrSize }
@@ -305,6 +313,7 @@ pub fn encode_enum<'a, E: ValtypeEncoder<'a>>(
     ensures imports_stay { (E.view enc.new).imports ≡ (E.view enc.old).imports }
     ensures maps_stay { (E.view enc.new).maps ≡ (E.view enc.old).maps }
     ensures counts { IfOk result (DefinesValue (E.view enc.old) (E.view enc.new)) }
+    ensures err { OnErr result ((E.view enc.new).definitions ≡ (E.view enc.old).definitions) }
     ensures held { HoldsMore 1 (E.view enc.old) (E.view enc.new) }
     ensures size { result ≡ Err Size → Refuses (E.view enc.old) (E.view enc.new) (value_type (enum_tree (map (λ x. text_of x.name) ty.now.cases.items))) }
     ensures refuses { IfErr result IsMemoryOrSize }
@@ -330,6 +339,7 @@ pub fn encode_unit_future<'a, E: ValtypeEncoder<'a>>(
     ensures around_stays { (E.view enc.new).around ≡ (E.view enc.old).around }
     ensures imports_stay { (E.view enc.new).imports ≡ (E.view enc.old).imports }
     ensures counts { IfOk result (DefinesIf (is_none (E.view enc.old).maps.unit_future) (E.view enc.old) (E.view enc.new)) }
+    ensures err { OnErr result ((E.view enc.new).definitions ≡ (E.view enc.old).definitions) }
     ensures held { HoldsIf (is_none (E.view enc.old).maps.unit_future) (E.view enc.old) (E.view enc.new) }
     ensures size { result ≡ Err Size → Refuses (E.view enc.old) (E.view enc.new) (value_type (future_tree None)) }
     ensures refuses { IfErr result IsMemoryOrSize }
@@ -352,6 +362,7 @@ fn define_unit_future<'a, E: ValtypeEncoder<'a>>(enc: &mut E) -> Result<u32, Err
     ensures around_stays { (E.view enc.new).around ≡ (E.view enc.old).around }
     ensures imports_stay { (E.view enc.new).imports ≡ (E.view enc.old).imports }
     ensures counts { IfOk result (λ i. (E.view enc.new).definitions ≡ one_type_more i (E.view enc.old).definitions) }
+    ensures err { OnErr result ((E.view enc.new).definitions ≡ (E.view enc.old).definitions) }
     ensures held { HoldsMore 1 (E.view enc.old) (E.view enc.new) }
     ensures size { result ≡ Err Size → Refuses (E.view enc.old) (E.view enc.new) (value_type (future_tree None)) }
     ensures refuses { IfErr result IsMemoryOrSize }
@@ -378,6 +389,7 @@ pub fn encode_unit_stream<'a, E: ValtypeEncoder<'a>>(
     ensures around_stays { (E.view enc.new).around ≡ (E.view enc.old).around }
     ensures imports_stay { (E.view enc.new).imports ≡ (E.view enc.old).imports }
     ensures counts { IfOk result (DefinesIf (is_none (E.view enc.old).maps.unit_stream) (E.view enc.old) (E.view enc.new)) }
+    ensures err { OnErr result ((E.view enc.new).definitions ≡ (E.view enc.old).definitions) }
     ensures held { HoldsIf (is_none (E.view enc.old).maps.unit_stream) (E.view enc.old) (E.view enc.new) }
     ensures size { result ≡ Err Size → Refuses (E.view enc.old) (E.view enc.new) (value_type (stream_tree None)) }
     ensures refuses { IfErr result IsMemoryOrSize }
@@ -400,6 +412,7 @@ fn define_unit_stream<'a, E: ValtypeEncoder<'a>>(enc: &mut E) -> Result<u32, Err
     ensures around_stays { (E.view enc.new).around ≡ (E.view enc.old).around }
     ensures imports_stay { (E.view enc.new).imports ≡ (E.view enc.old).imports }
     ensures counts { IfOk result (λ i. (E.view enc.new).definitions ≡ one_type_more i (E.view enc.old).definitions) }
+    ensures err { OnErr result ((E.view enc.new).definitions ≡ (E.view enc.old).definitions) }
     ensures held { HoldsMore 1 (E.view enc.old) (E.view enc.new) }
     ensures size { result ≡ Err Size → Refuses (E.view enc.old) (E.view enc.new) (value_type (stream_tree None)) }
     ensures refuses { IfErr result IsMemoryOrSize }
@@ -430,6 +443,7 @@ pub fn maybe_import_type<'a, E: ValtypeEncoder<'a>>(
     ensures scope_stays { (E.view enc.new).scope ≡ (E.view enc.old).scope }
     ensures maps_stay { (E.view enc.new).maps ≡ (E.view enc.old).maps }
     ensures counts { OnOk result ((E.view enc.new).definitions ≡ (E.view enc.old).definitions) }
+    ensures err { OnErr result ((E.view enc.new).definitions ≡ (E.view enc.old).definitions) }
     ensures held { HoldsMore 1 (E.view enc.old) (E.view enc.new) }
     ensures size { result ≡ Err Size → Refuses (E.view enc.old) (E.view enc.new) (import_of id.0) }
     ensures refuses { IfErr result IsMemoryOrSize }

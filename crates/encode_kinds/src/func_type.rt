@@ -1,11 +1,11 @@
 //! Encodes the types of functions by any encoder that keeps the law.
 
-ghost use Rattle.std.specs.Prelude.{◌≡◌, [], Err, IfOk, OnOk, IfErr};
+ghost use Rattle.std.specs.Prelude.{◌≡◌, [], Err, IfOk, OnOk, OnErr, IfErr};
 ghost use Rattle.comp_bytes.specs.Refusal.{IsMemoryOrSize};
 ghost use Rattle.wit_model.specs.declared.error.Error.TheVariants.{Size};
 ghost use Rattle.wit_model.specs.{Meant.signature_of, Parts.function_types};
 ghost use Rattle.encode_types.specs.{Slots.function, Slots.FollowsFunction, Codes.names_of, Codes.IsKeyList, View.Agrees, View.HoldsLearnt, View.WritesLearnt, Key.IsKeyOf, Fits.CanEncode, Maps.AllReady, Maps.LacksKey, Formed.IsFormedSignature, Extents.signature_extent, Aliases.ImportsMet, Aliases.MakesMet};
-ghost use Rattle.encode_types.specs.Leaves.{Leaves, LearnsFrom, CountsTypes, CountsFunction, DefinesFunctionLast, DefinesLast, LacksRoom, FunctionLacksRoom};
+ghost use Rattle.encode_types.specs.Leaves.{Leaves, LearnsFrom, CountsTypes, CountsInPart, CountsFunction, DefinesFunctionLast, DefinesLast, LacksRoom, FunctionLacksRoom};
 ghost use Rattle.encode_types.specs.declared.key.FunctionKey.{FunctionKey as KeyValue};
 
 use crate::encode::{encode_optional_valtype, encode_params};
@@ -34,6 +34,7 @@ fn function_of<'a, E: ValtypeEncoder<'a>>(
     ensures aliases { MakesMet resolve.now (function_types func.now) (E.view enc.old) (E.view enc.new) }
     ensures imports { ImportsMet resolve.now (function_types func.now) (E.view enc.old) (E.view enc.new) }
     ensures counts { OnOk result (CountsTypes resolve.now (E.view enc.old) (E.view enc.new)) }
+    ensures stopped { OnErr result (CountsInPart resolve.now (E.view enc.old) (E.view enc.new)) }
     ensures knows { OnOk result (AllReady (E.view enc.new).maps (function_types func.now)) }
     ensures held { OnOk result (HoldsLearnt resolve.now 0 (E.view enc.old) (E.view enc.new)) }
     ensures written { OnOk result (WritesLearnt resolve.now 0 (E.view enc.old) (E.view enc.new)) }
@@ -70,6 +71,7 @@ fn define_key<'a, E: ValtypeEncoder<'a>>(
     ensures aliases { MakesMet resolve.now (function_types func.now) (E.view enc.old) (E.view enc.new) }
     ensures imports { ImportsMet resolve.now (function_types func.now) (E.view enc.old) (E.view enc.new) }
     ensures counts { IfOk result (CountsFunction resolve.now (E.view enc.old) (E.view enc.new) key.entry) }
+    ensures stopped { OnErr result (CountsInPart resolve.now (E.view enc.old) (E.view enc.new)) }
     ensures last { IfOk result (DefinesFunctionLast (E.view enc.old) (E.view enc.new)) }
     ensures held { OnOk result (HoldsLearnt resolve.now 0 (E.view enc.old) (E.view enc.new)) }
     ensures written { OnOk result (WritesLearnt resolve.now (signature_extent (signature_of resolve.now func.now)) (E.view enc.old) (E.view enc.new)) }
@@ -100,6 +102,7 @@ pub fn encode_func_type<'a, E: ValtypeEncoder<'a>>(
     ensures aliases { MakesMet resolve.now (function_types func.now) (E.view enc.old) (E.view enc.new) }
     ensures imports { ImportsMet resolve.now (function_types func.now) (E.view enc.old) (E.view enc.new) }
     ensures counts { IfOk result (λ i. (key : KeyValue) × IsKeyOf key func.now × CountsFunction resolve.now (E.view enc.old) (E.view enc.new) key i) }
+    ensures stopped { OnErr result (CountsInPart resolve.now (E.view enc.old) (E.view enc.new)) }
     ensures last { IfOk result (DefinesLast (E.view enc.old) (E.view enc.new)) }
     ensures held { OnOk result (HoldsLearnt resolve.now 0 (E.view enc.old) (E.view enc.new)) }
     ensures written { OnOk result (WritesLearnt resolve.now (signature_extent (signature_of resolve.now func.now)) (E.view enc.old) (E.view enc.new)) }

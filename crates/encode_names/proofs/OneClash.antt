@@ -5,7 +5,7 @@ use Rattle.std.specs.List.{AllByRecursion, Contains, IsDistinct}
 use Rattle.wit_model.specs.Text.{Text, text_eq}
 use Rattle.wit_model.proofs.{VersionLaws.same_text, Elements.none-in}
 use Rattle.encode_names.proofs.Lists.{head-of, tail-of}
-use Rattle.encode_names.specs.Clashes.{canonical_names_of, AreDifferent, IsClash, IsFirstRepeat}
+use Rattle.encode_names.specs.Clashes.{canonical_names_of, AreDifferent, IsNameClash, IsFirstRepeatedName}
 use Rattle.encode_names.specs.ClashLaws.{NoClashWithout, OneClash}
 use Rattle.base_lemmas.proofs.Elements.{contains-one, last_of as one-contained}
 
@@ -52,20 +52,20 @@ split-twice (z ∷ before) after (u ∷ other) rest x y e = go (ap (λ l. head-o
 
 -- ---- first repeats
 
-pub one-repeat : (texts : List Text) (x y : Text) → IsFirstRepeat texts x → IsFirstRepeat texts y → x ≡ y
+pub one-repeat : (texts : List Text) (x y : Text) → IsFirstRepeatedName texts x → IsFirstRepeatedName texts y → x ≡ y
 one-repeat texts x y a b = search (std_rules, split-twice, same, sooner, stands-once, later)
 
-pub no-repeat : (texts : List Text) (x : Text) → AreDifferent texts → IsFirstRepeat texts x → ⊥
+pub no-repeat : (texts : List Text) (x : Text) → AreDifferent texts → IsFirstRepeatedName texts x → ⊥
 no-repeat texts x d a = stands-once a.before a.after x (subst AreDifferent a.is d) a.repeats
 
 -- ---- worlds
 
 pub one_clash : OneClash
-one_clash r w x y (IsClash.of_imports a) (IsClash.of_imports b) = one-repeat (canonical_names_of r w.imports.entries) x y a b
-one_clash r w x y (IsClash.of_imports a) (IsClash.of_exports d b) = absurd (no-repeat (canonical_names_of r w.imports.entries) x d a)
-one_clash r w x y (IsClash.of_exports d a) (IsClash.of_imports b) = absurd (no-repeat (canonical_names_of r w.imports.entries) y d b)
-one_clash r w x y (IsClash.of_exports d a) (IsClash.of_exports e b) = one-repeat (canonical_names_of r w.exports.entries) x y a b
+one_clash r w x y (IsNameClash.of_imports a) (IsNameClash.of_imports b) = one-repeat (canonical_names_of r w.imports.entries) x y a b
+one_clash r w x y (IsNameClash.of_imports a) (IsNameClash.of_exports d b) = absurd (no-repeat (canonical_names_of r w.imports.entries) x d a)
+one_clash r w x y (IsNameClash.of_exports d a) (IsNameClash.of_imports b) = absurd (no-repeat (canonical_names_of r w.imports.entries) y d b)
+one_clash r w x y (IsNameClash.of_exports d a) (IsNameClash.of_exports e b) = one-repeat (canonical_names_of r w.exports.entries) x y a b
 
 pub no_clash_without : NoClashWithout
-no_clash_without r w x h (IsClash.of_imports a) = no-repeat (canonical_names_of r w.imports.entries) x h.imports a
-no_clash_without r w x h (IsClash.of_exports d a) = no-repeat (canonical_names_of r w.exports.entries) x h.exports a
+no_clash_without r w x h (IsNameClash.of_imports a) = no-repeat (canonical_names_of r w.imports.entries) x h.imports a
+no_clash_without r w x h (IsNameClash.of_exports d a) = no-repeat (canonical_names_of r w.exports.entries) x h.exports a

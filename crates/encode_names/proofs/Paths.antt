@@ -7,7 +7,7 @@ use Rattle.wit_model.specs.Text.{Text, text_of}
 use Rattle.wit_model.specs.declared.error.Error.{Error}
 use Rattle.wit_model.specs.declared.model.{Resolve.Resolve, InterfaceId.InterfaceId, WorldKey.WorldKey, WorldItem.WorldItem}
 use Rattle.encode_names.specs.WorldNames.{written_path}
-use Rattle.encode_names.specs.Clashes.{canonical_names_of, canonical_paths_of, AreDifferent, IsFirstRepeat, RefusesItems, RefusesPaths, RefusesText}
+use Rattle.encode_names.specs.Clashes.{canonical_names_of, canonical_paths_of, AreDifferent, IsFirstRepeatedName, RefusesItems, RefusesPaths, RefusesText}
 
 -- ---- the next name
 
@@ -31,8 +31,8 @@ module _ (r : Resolve) (xs : List InterfaceId) (i : ℕ) where
 -- ---- a name that was seen
 
 module _ (names before rest : List Text) (x : Text) (split : names ≡ before ++ (x ∷ rest)) (different : AreDifferent before) where
-  first-repeat : (name : String Global) → text_of name ≡ x → Contains before x → IsFirstRepeat names (text_of name)
-  first-repeat name is seen = subst (IsFirstRepeat names) (sym is) (record { before = before; after = rest; is = split; repeats = seen; different = different })
+  first-repeat : (name : String Global) → text_of name ≡ x → Contains before x → IsFirstRepeatedName names (text_of name)
+  first-repeat name is seen = subst (IsFirstRepeatedName names) (sym is) (record { before = before; after = rest; is = split; repeats = seen; different = different })
 
 items-refused : (r : Resolve) (items : List (WorldKey × WorldItem)) (before rest : List Text) (x : Text) (e : Error) → canonical_names_of r items ≡ before ++ (x ∷ rest) → AreDifferent before
     → RefusesText before x e → RefusesItems r items e

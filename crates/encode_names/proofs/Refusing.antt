@@ -2,16 +2,16 @@
 use Rattle.std.proofs.Common.{◌≡◌, sym, subst, true, Bool, Result, Ok, Err, IfErr}
 use Rattle.std.specs.Prelude.{IsErrAnd}
 use Rattle.wit_model.specs.declared.{error.Error.Error, model.Resolve.Resolve, model.World.World}
-use Rattle.encode_names.specs.Clashes.{canonical_names_of, AreDifferent, IsClash, RefusesItems, RefusesNames}
+use Rattle.encode_names.specs.Clashes.{canonical_names_of, AreDifferent, IsNameClash, RefusesItems, RefusesNames}
 
 module _ (r : Resolve) (w : World) (canonical : Bool) (is : canonical ≡ true) where
   of_imports : (e : Error) → RefusesItems r w.imports.entries e → RefusesNames r w canonical e
   of_imports e (RefusesItems.memory h) = RefusesNames.memory h
-  of_imports e (RefusesItems.clash name repeats h) = RefusesNames.clash is name (IsClash.of_imports repeats) h
+  of_imports e (RefusesItems.clash name repeats h) = RefusesNames.clash is name (IsNameClash.of_imports repeats) h
 
   of_exports : AreDifferent (canonical_names_of r w.imports.entries) → (e : Error) → RefusesItems r w.exports.entries e → RefusesNames r w canonical e
   of_exports different e (RefusesItems.memory h) = RefusesNames.memory h
-  of_exports different e (RefusesItems.clash name repeats h) = RefusesNames.clash is name (IsClash.of_exports different repeats) h
+  of_exports different e (RefusesItems.clash name repeats h) = RefusesNames.clash is name (IsNameClash.of_exports different repeats) h
 
   pub imports_refused : {X : Type 0} (e : Error) (given : Result X Error) → RefusesItems r w.imports.entries e → IsErrAnd given (λ f. f ≡ e) → IfErr given (RefusesNames r w canonical)
   imports_refused e (Ok x) refuses h = tt

@@ -130,22 +130,23 @@ functions_are_shown r canonical direction done scope k f n v is h e =
 
 -- ---- types
 
-abbrev named-as : Place → Text → Slot → tree.Declaration → Option (tree.Declaration × Slot)
+abbrev named-as : Place → Text → Slot → tree.TypeDeclaration → Option (tree.TypeDeclaration × Slot)
 named-as place name slot d = Some (d, named_like slot place name)
 
 -- the slot of a named type is no instance type
-pub named-slot : (slots : List Slot) (place : Place) (name : Text) (described : ComponentTypeRef) (d : tree.Declaration) (x : Slot) → named_type slots place name described ≡ Some (d, x)
+pub named-slot : (slots : List Slot) (place : Place) (name : Text) (described : ComponentTypeRef) (d : tree.TypeDeclaration) (x : Slot) → named_type slots place name described ≡ Some (d, x)
     → instance_types (x ∷ []) ≡ 0
 named-slot slots place name z d x e = search std_rules
 
-abbrev seen_next : ExternName → Scope → tree.Declaration × Slot → Option Scope
+abbrev seen_next : ExternName → Scope → tree.TypeDeclaration × Slot → Option Scope
 seen_next name scope found = provided (is_simple name) (see import_ (seen_type name found.0) (in_scope found.1 scope))
 
-type-seen : (name : ExternName) (described : ComponentTypeRef) (scope : Scope) (d : tree.Declaration) (x : Slot) → named_type scope.slots here name.text described ≡ Some (d, x) → is_simple name ≡ true
+type-seen : (name : ExternName) (described : ComponentTypeRef) (scope : Scope) (d : tree.TypeDeclaration) (x : Slot) → named_type scope.slots here name.text described ≡ Some (d, x)
+    → is_simple name ≡ true
     → follow.see_type name described scope ≡ Some (see import_ (seen_type name d) (in_scope x scope))
 type-seen name described scope d x e simple = ap (λ o. o >>= seen_next name scope) e ∙ ap (λ b. provided b (see import_ (seen_type name d) (in_scope x scope))) simple
 
-pub type-step : (name : ExternName) (described : ComponentTypeRef) (scope : Scope) (d : tree.Declaration) (x : Slot) → named_type scope.slots here name.text described ≡ Some (d, x)
+pub type-step : (name : ExternName) (described : ComponentTypeRef) (scope : Scope) (d : tree.TypeDeclaration) (x : Slot) → named_type scope.slots here name.text described ≡ Some (d, x)
     → is_simple name ≡ true → component_step scope (Declaration.imported name described) ≡ Some (see import_ (seen_type name d) (in_scope x scope))
 type-step name y scope d x e simple = search std_rules
 
@@ -170,11 +171,12 @@ module _ (name : ExternName) (n : ℕ) (scope : Scope) where
   seen-by direction k view = Some (see direction (seen_instance name k view) (with_instance k view n scope))
 
   abbrev after : Direction → Key → Option Scope
-  after direction k = when (not (list_any (λ m. m == n) scope.used)) (used_view scope.slots (follow.place_of (interface_of k)) (slice_get scope.slots n)) >>= seen-by direction k
+  after direction k = when (not (list_any (λ m. m == n) scope.used)) (used_view scope.slots (follow.instance_place (interface_of k)) (slice_get scope.slots n)) >>= seen-by direction k
 
-  module _ (k : Key) (view : View) (named : key_of name ≡ Some k) (fresh : list_any (λ m. m == n) scope.used ≡ false) (used : used_view scope.slots (follow.place_of (interface_of k)) (slice_get scope.slots n) ≡ Some view) where
+  module _ (k : Key) (view : View) (named : key_of name ≡ Some k) (fresh : list_any (λ m. m == n) scope.used ≡ false) (used : used_view scope.slots (follow.instance_place (interface_of k)) (slice_get scope.slots n) ≡ Some view) where
     instance-seen : (direction : Direction) → follow.see_instance direction name n scope ≡ seen-by direction k view
-    instance-seen direction = ap (λ o. o >>= after direction) named ∙ ap (λ b. when (not b) (used_view scope.slots (follow.place_of (interface_of k)) (slice_get scope.slots n)) >>= seen-by direction
+    instance-seen direction = ap (λ o. o >>= after direction) named ∙ ap (λ b. when (not b) (used_view scope.slots (follow.instance_place (interface_of k)) (slice_get scope.slots n)) >>=
+        seen-by direction
         k) fresh ∙ ap (λ o. o >>= seen-by direction k) used
 
     pub instance-step : (direction : Direction) → component_step scope (declared_towards direction name (refs.Instance n)) ≡ seen-by direction k view
@@ -183,11 +185,11 @@ module _ (name : ExternName) (n : ℕ) (scope : Scope) where
 
 -- the key of an instance has the text of the item's key
 key-shown : (r : Resolve) (k : WorldKey) (i : ℕ) → has_home k (interface_path r i) ≡ true → ((j : ℕ) → k ≡ key.Interface (record { 0 = j }) → j ≡ i)
-    → follow.key_text (instance_key k (interface_path r i)) ≡ key_text r k
+    → follow.text_of_key (instance_key k (interface_path r i)) ≡ key_text r k
 key-shown r (key.Name name) i h same = search std_rules
 key-shown r (key.Interface id) i h same = go (interface_path r i) h ∙ ap (λ j. unwrap_or (interface_path r j) []) (sym (same id.0 refl))
   where
-    go : (o : Option Text) → is_some o ≡ true → follow.key_text (instance_key (key.Interface id) o) ≡ unwrap_or o []
+    go : (o : Option Text) → is_some o ≡ true → follow.text_of_key (instance_key (key.Interface id) o) ≡ unwrap_or o []
     go None h = let wrong : ⊥ = cc in absurd wrong
     go (Some path) h = refl
 
@@ -254,9 +256,9 @@ interfaces_are_shown r canonical direction done scope e i ds view v is at h turn
     let home = entry-home r v is.number e.0 e.1 entry i at in
     let x = Slot.instance ds (length scope.slots) in
     let sight = interface-shown r e.0 e.1 i view at shows in
-    let place : follow.place_of (interface_of k) ≡ home_of r i = ap follow.place_of (instance-home e.0 (interface_path r i) home) ∙ path-home (interface_path r i) in
-    let slots : used_view (scope.slots ++ x ∷ []) (follow.place_of (interface_of k)) (slice_get (scope.slots ++ x ∷ []) (length scope.slots)) ≡ Some view =
-    ap (used_view (scope.slots ++ x ∷ []) (follow.place_of (interface_of k))) (slot-behind scope.slots x) ∙ ap (λ p. instance_view p (take (length scope.slots) (scope.slots ++ x ∷ [])) ds) place
+    let place : follow.instance_place (interface_of k) ≡ home_of r i = ap follow.instance_place (instance-home e.0 (interface_path r i) home) ∙ path-home (interface_path r i) in
+    let slots : used_view (scope.slots ++ x ∷ []) (follow.instance_place (interface_of k)) (slice_get (scope.slots ++ x ∷ []) (length scope.slots)) ≡ Some view =
+    ap (used_view (scope.slots ++ x ∷ []) (follow.instance_place (interface_of k))) (slot-behind scope.slots x) ∙ ap (λ p. instance_view p (take (length scope.slots) (scope.slots ++ x ∷ [])) ds) place
     ∙ ap (λ around. instance_view (home_of r i) around ds) (take-append_seam scope.slots (x ∷ [])) ∙ viewed in
     record {
       step = instance-step name (length scope.slots) (in_scope x scope) k view (interface-named r e.0 e.1 i name at read.says) (unused (length scope.slots) scope.used h.in_range) slots direction;

@@ -20,7 +20,7 @@ abbrev pub AreDifferent : List Text → Type 0
 AreDifferent texts = IsDistinct text_eq texts
 
 -- the first text that repeats an earlier one: those before it are different, and it is one of them
-pub record IsFirstRepeat (texts : List Text) (x : Text) : Type 0 where
+pub record IsFirstRepeatedName (texts : List Text) (x : Text) : Type 0 where
   pub before : List Text
   pub after : List Text
   pub is : texts ≡ before ++ (x ∷ after)
@@ -30,7 +30,7 @@ pub record IsFirstRepeat (texts : List Text) (x : Text) : Type 0 where
 -- Want of memory, or the first canonical name of these items that repeats an earlier one.
 pub data RefusesItems (r : Resolve) (items : List (WorldKey × WorldItem)) (e : Error) : Type 0 where
   memory : e ≡ errors.Memory → RefusesItems r items e
-  clash : (name : String Global) → IsFirstRepeat (canonical_names_of r items) (text_of name) → e ≡ errors.CanonicalClash name → RefusesItems r items e
+  clash : (name : String Global) → IsFirstRepeatedName (canonical_names_of r items) (text_of name) → e ≡ errors.CanonicalClash name → RefusesItems r items e
 
 -- Want of memory, or this name where it is one of those before it.
 pub data RefusesText (before : List Text) (x : Text) (e : Error) : Type 0 where
@@ -40,7 +40,7 @@ pub data RefusesText (before : List Text) (x : Text) (e : Error) : Type 0 where
 -- Want of memory, or, where canonical names are asked for, the first canonical path of these interfaces that repeats an earlier one.
 pub data RefusesPaths (r : Resolve) (numbers : List ℕ) (canonical : Bool) (e : Error) : Type 0 where
   memory : e ≡ errors.Memory → RefusesPaths r numbers canonical e
-  clash : canonical ≡ true → (name : String Global) → IsFirstRepeat (canonical_paths_of r numbers) (text_of name) → e ≡ errors.CanonicalClash name
+  clash : canonical ≡ true → (name : String Global) → IsFirstRepeatedName (canonical_paths_of r numbers) (text_of name) → e ≡ errors.CanonicalClash name
       → RefusesPaths r numbers canonical e
 
 -- no two imports and no two exports have one canonical name
@@ -50,11 +50,11 @@ pub record HasNoClash (r : Resolve) (w : World) : Type 0 where
 
 -- The canonical name at which a world clashes: the first that repeats an earlier one, imports before exports. An import and an export
 -- may have one name.
-pub data IsClash (r : Resolve) (w : World) (x : Text) : Type 0 where
-  of_imports : IsFirstRepeat (canonical_names_of r w.imports.entries) x → IsClash r w x
-  of_exports : AreDifferent (canonical_names_of r w.imports.entries) → IsFirstRepeat (canonical_names_of r w.exports.entries) x → IsClash r w x
+pub data IsNameClash (r : Resolve) (w : World) (x : Text) : Type 0 where
+  of_imports : IsFirstRepeatedName (canonical_names_of r w.imports.entries) x → IsNameClash r w x
+  of_exports : AreDifferent (canonical_names_of r w.imports.entries) → IsFirstRepeatedName (canonical_names_of r w.exports.entries) x → IsNameClash r w x
 
 -- Want of memory, or, where canonical names are asked for, the one at which the world clashes.
 pub data RefusesNames (r : Resolve) (w : World) (canonical : Bool) (e : Error) : Type 0 where
   memory : e ≡ errors.Memory → RefusesNames r w canonical e
-  clash : canonical ≡ true → (name : String Global) → IsClash r w (text_of name) → e ≡ errors.CanonicalClash name → RefusesNames r w canonical e
+  clash : canonical ≡ true → (name : String Global) → IsNameClash r w (text_of name) → e ≡ errors.CanonicalClash name → RefusesNames r w canonical e

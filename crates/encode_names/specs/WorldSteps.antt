@@ -9,7 +9,7 @@ use Rattle.wit_model.specs.declared.model.{Resolve.Resolve, TypeDef.TypeDef, Typ
 use Rattle.wit_model.specs.declared.model.{World.World, WorldKey.WorldKey, WorldItem.WorldItem, Function.Function, Interface.Interface, InterfaceId.InterfaceId}
 use Rattle.comp_bytes.specs.Raw.{Alias, Declaration, Declarations, ExternName}
 use Rattle.comp_bytes.specs.declared.forms.ComponentTypeRef.{ComponentTypeRef}
-use Rattle.comp_meaning.specs.Follow.{Direction, import_, export_, Instance, Key, Scope, Seen, Shown, Slot, View, component_scope, component_step, component_steps, find_type, function_in, in_scope, instance_types, instance_view, interface_of, key_text, named_type, new_scope, see}
+use Rattle.comp_meaning.specs.Follow.{Direction, import_, export_, Instance, Key, Scope, Seen, Shown, Slot, View, component_scope, component_step, component_steps, find_type, function_in, in_scope, instance_types, instance_view, interface_of, text_of_key, named_type, new_scope, see}
 use Rattle.encode_shown.specs.Views.{ShowsInterface, ShowsItem, ShowsWorld, home_of, instance_key, instances_of, name_slot}
 use Rattle.encode_names.specs.{WorldNames.name_of_item, Rebuilt.others_seen, Rebuilt.types_seen}
 use Rattle.wit_model.specs.Tree as tree
@@ -70,11 +70,11 @@ pub record StandsAs (r : Resolve) (i : ℕ) (instance : Instance) : Type 0 where
 abbrev pub seen_function : ExternName → Signature → Seen
 seen_function name f = record { key = name.text; shown = Shown.function f; external_id = name.external_id }
 
-abbrev pub seen_type : ExternName → tree.Declaration → Seen
+abbrev pub seen_type : ExternName → tree.TypeDeclaration → Seen
 seen_type name d = record { key = name.text; shown = Shown.declares d; external_id = name.external_id }
 
 abbrev pub seen_instance : ExternName → Key → View → Seen
-seen_instance name k view = record { key = key_text k; shown = Shown.instance k view; external_id = name.external_id }
+seen_instance name k view = record { key = text_of_key k; shown = Shown.instance k view; external_id = name.external_id }
 
 -- a scope in which the instance type of this index has been used
 abbrev pub with_instance : Key → View → ℕ → Scope → Scope

@@ -3,7 +3,7 @@ use Rattle.std.proofs.Common.{rules as std_rules, ◌≡◌, refl, ◌∙◌, �
 use Rattle.std.proofs.lemmas.{Simd.map-map, Bool.and_from as both}
 use Rattle.std.specs.{Prelude.filter_map, List.list_all, List.cons_option}
 use Rattle.wit_model.specs.Text.{Text, text_of}
-use Rattle.wit_model.specs.Tree.{Tree, Trees, Place, Declaration, type_, node, no_children, child, child_list, given, levels, deepest}
+use Rattle.wit_model.specs.Tree.{Tree, Trees, Place, TypeDeclaration, type_, node, no_children, child, child_list, given_trees, levels, deepest}
 use Rattle.wit_model.specs.{Types.declared_by, Types.tree_of, Types.tree_at, Parts.member_types, Parts.handled, Rules.kind_labels, Rules.is_named_kind}
 use Rattle.wit_model.specs.declared.model.{Case.Case, TypeDefKind.TypeDefKind, «Type».«Type» as ValueType}
 use Rattle.comp_meaning.specs.Rules.{is_part, are_parts, is_declared, is_named_form, form_labels, are_labels}
@@ -11,16 +11,16 @@ use Rattle.base_lemmas.proofs.Bools.{left_of as first_true, right_of as second_t
 use Rattle.wit_model.proofs.TreeLemmas.{child_list_of_children as listed}
 use Rattle.wit_model.specs.declared.model.TypeDefKind.TheVariants as kind
 
-abbrev pub child_trees : Declaration → List Tree
+abbrev pub child_trees : TypeDeclaration → List Tree
 child_trees (type_ (node form ts)) = child_list ts
 child_trees _ = []
 
-abbrev pub declared_labels : Declaration → List Text
+abbrev pub declared_labels : TypeDeclaration → List Text
 declared_labels (type_ (node form ts)) = form_labels form
 declared_labels _ = []
 
 -- a form that needs no name
-abbrev pub is_unnamed_form : Declaration → Bool
+abbrev pub is_unnamed_form : TypeDeclaration → Bool
 is_unnamed_form (type_ (node form ts)) = not (is_named_form form)
 is_unnamed_form _ = false
 
@@ -30,12 +30,12 @@ is_alias (kind.Type_ t) = true
 is_alias _ = false
 
 -- what is given, listed
-given-one : (f : ValueType → Tree) (o : Option ValueType) (os : List (Option Tree)) (ts : List ValueType) → child_list (given os) ≡ map f ts
-    → child_list (given (option_map f o ∷ os)) ≡ map f (cons_option o ts)
+given-one : (f : ValueType → Tree) (o : Option ValueType) (os : List (Option Tree)) (ts : List ValueType) → child_list (given_trees os) ≡ map f ts
+    → child_list (given_trees (option_map f o ∷ os)) ≡ map f (cons_option o ts)
 given-one f x os ts e = search std_rules
 
 cases-listed : (trees : List Tree) (cs : List Case)
-    → child_list (given (map (λ c. c.1) (map {B = Text × Option Tree} (λ c. (text_of c.name, option_map (tree_of trees) c.ty)) cs))) ≡ map (tree_of trees) (filter_map (λ c. c.ty) cs)
+    → child_list (given_trees (map (λ c. c.1) (map {B = Text × Option Tree} (λ c. (text_of c.name, option_map (tree_of trees) c.ty)) cs))) ≡ map (tree_of trees) (filter_map (λ c. c.ty) cs)
 cases-listed trees [] = refl
 cases-listed trees (c ∷ cs) = given-one (tree_of trees) c.ty _ _ (cases-listed trees cs)
 
@@ -64,6 +64,6 @@ deepest-from no_children h = refl
 deepest-from (child t ts) h = max-within (levels t) (deepest ts) 100 (first_true _ _ h) (deepest-from ts (second_true (nat_le (levels t) 100) _ h))
 
 -- A declared form may stand where its labels and its parts may.
-pub declared-from : (place : Place) (d : Declaration) → are_labels (declared_labels d) ≡ true → list_all (is_part place) (child_trees d) ≡ true
+pub declared-from : (place : Place) (d : TypeDeclaration) → are_labels (declared_labels d) ≡ true → list_all (is_part place) (child_trees d) ≡ true
     → list_all (λ t. nat_le (levels t) 100) (child_trees d) ≡ true → is_declared place d ≡ true
 declared-from place x l p s = search (std_rules, both, parts-from, deepest-from)

@@ -12,7 +12,7 @@ use Rattle.wit_model.specs.Rules.{passes, in_list, after_prefix, function_in_ran
 use Rattle.wit_model.specs.declared.model.{Resolve.Resolve, FunctionKind.FunctionKind, TypeDefKind.TypeDefKind, TypeOwner.TypeOwner, «Type».«Type» as ValueType}
 use Rattle.wit_model.specs.declared.model.{Function.Function, Param.Param, TypeDef.TypeDef}
 use Rattle.comp_meaning.specs.Same.{same_tree}
-use Rattle.comp_meaning.specs.Rules.{is_part, is_parameter_type, is_result_type, is_signature, own_name, borrow_name, is_label_behind, begins_with_self, is_function_of, is_function}
+use Rattle.comp_meaning.specs.Rules.{is_part, is_parameter_type, is_result_type, is_signature, own_of_name, borrow_name, is_label_behind, begins_with_self, is_function_of, is_function}
 use Rattle.comp_meaning.proofs.SameLaws.{tree_itself}
 use Rattle.encode_shown.proofs.{Basics.or-cases, Basics.given-by, Basics.passed, Parts.labels-from, Parts.named-tree, Parts.unnamed-tree, Parts.values-part}
 use Rattle.base_lemmas.proofs.{Elements.all_two, Elements.any-at, Options.none_is, Bools.given-not, Bools.left_of as first_true, Bools.right_of as second_true}
@@ -65,22 +65,22 @@ module _ (r : Resolve) (v : IsValid r) where
   -- ---- functions of resources
 
   module _ (place : Place) (name : Text) (n : ℕ) (tree_is : number_tree r n ≡ named place name) where
-    own-named : (t : ValueType) → type_is r (is_own_of n) t ≡ true → type_tree r t ≡ own_name place name
+    own-named : (t : ValueType) → type_is r (is_own_of n) t ≡ true → type_tree r t ≡ own_of_name place name
     own-named t h = let k = unnamed-type (is_own_kind n) t h in k.1 ∙ own-kind n k.0 k.2 ∙ ap own_tree tree_is
 
-    constructs-result : (k : TypeDefKind) → has_own_ok r n k ≡ true → shown.constructs (own_name place name) (Some (tree_of_declaration (declared_by (trees_of r) k))) ≡ true
+    constructs-result : (k : TypeDefKind) → has_own_ok r n k ≡ true → shown.may_construct (own_of_name place name) (Some (tree_of_declaration (declared_by (trees_of r) k))) ≡ true
     constructs-result (kind.Result x) h =
         let ok = passed (type_is r (is_own_of n)) x.ok h in
-        ap (λ o. shown.constructs (own_name place name) (Some (result_tree (option_map (type_tree r) o) (option_map (type_tree r) x.err)))) ok.1
-        ∙ ap (λ u. same_tree u (own_name place name)) (own-named ok.0 ok.2) ∙ tree_itself (own_name place name)
+        ap (λ o. shown.may_construct (own_of_name place name) (Some (result_tree (option_map (type_tree r) o) (option_map (type_tree r) x.err)))) ok.1
+        ∙ ap (λ u. same_tree u (own_of_name place name)) (own-named ok.0 ok.2) ∙ tree_itself (own_of_name place name)
     constructs-result _ h = absurd cc
 
     constructs-shown : (o : Option ValueType) → option_map_or (λ t. type_is r (is_own_of n) t || type_is r (is_result_of_own r n) t) o false ≡ true
-        → shown.constructs (own_name place name) (option_map (type_tree r) o) ≡ true
+        → shown.may_construct (own_of_name place name) (option_map (type_tree r) o) ≡ true
     constructs-shown None h = absurd cc
     constructs-shown (Some t) h = or-cases (type_is r (is_own_of n) t) (type_is r (is_result_of_own r n) t) h
-        (λ e. ap (λ u. shown.constructs (own_name place name) (Some u)) (own-named t e) ∙ tree_itself (own_name place name))
-        (λ e. let k = unnamed-type (has_own_ok r n) t e in ap (λ u. shown.constructs (own_name place name) (Some u)) k.1 ∙ constructs-result k.0 k.2)
+        (λ e. ap (λ u. shown.may_construct (own_of_name place name) (Some u)) (own-named t e) ∙ tree_itself (own_of_name place name))
+        (λ e. let k = unnamed-type (has_own_ok r n) t e in ap (λ u. shown.may_construct (own_of_name place name) (Some u)) k.1 ∙ constructs-result k.0 k.2)
 
     self-shown : (ps : List Param) → option_map_or (λ p. text_eq (text_of p.name) (codes "self") && type_is r (is_borrow_of n) p.ty) (slice_get ps 0) false ≡ true
         → begins_with_self (borrow_name place name) (map (shown_param place r) ps) ≡ true
@@ -95,7 +95,7 @@ module _ (r : Resolve) (v : IsValid r) where
     member-shown f some h = go f.kind refl some h
       where
         constructor_ : Bool
-        constructor_ = (text_eq (text_of f.name) (constructor_name name) && not (is_async f.kind)) && shown.constructs (own_name place name) (option_map (type_tree r) f.result)
+        constructor_ = (text_eq (text_of f.name) (constructor_name name) && not (is_async f.kind)) && shown.may_construct (own_of_name place name) (option_map (type_tree r) f.result)
 
         method_ : Bool
         method_ = is_label_behind (method_name name []) (text_of f.name) && begins_with_self (borrow_name place name) (signature_of r f).params

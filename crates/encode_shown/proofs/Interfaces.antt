@@ -13,8 +13,8 @@ use Rattle.wit_model.specs.Valid.{IsValid, as_interface, is_place, functions_of_
 use Rattle.wit_model.specs.declared.model.{Resolve.Resolve, Interface.Interface, Function.Function, TypeOwner.TypeOwner}
 use Rattle.wit_model.specs.declared.model.TypeDef.{TypeDef}
 use Rattle.wit_model.proofs.{AnyOrder.distinct-texts, AnyOrder.same-map, OnePath.interface-passes, TextLemmas.text_same as text-same}
-use Rattle.comp_meaning.specs.{Follow.View, Follow.ShownType, Reads.interface_meaning}
-use Rattle.comp_meaning.specs.Rules.{distinct, is_interface, is_declared, is_function, resources_of, is_resource}
+use Rattle.comp_meaning.specs.{Follow.View, Follow.ShownType, Reads.meaning_of_view}
+use Rattle.comp_meaning.specs.Rules.{distinct, is_interface, is_declared, is_function, resources_of, declares_a_resource}
 use Rattle.encode_shown.specs.Views.{shown_type, home_of, types_of, functions_of, ShowsTypes, ShowsInterface}
 use Rattle.encode_shown.proofs.{Apart.distinct-from, Apart.distinct-both, Functions.IsResourceOf, Functions.function-shown}
 use Rattle.encode_shown.proofs.{Parts.number-declared, Members.IsNamedType, Members.entry-type, Members.entry-of, Members.meaning-there, Members.name-label}
@@ -29,14 +29,14 @@ one-more-resource true name names t c = contains-later name names t c
 one-more-resource false name names t c = c
 
 -- a resource of the list is one of its resources
-pub resource-listed : (ts : List ShownType) (t : ShownType) → Contains ts t → is_resource t.meaning.declaration ≡ true → Contains (resources_of ts) t.name
+pub resource-listed : (ts : List ShownType) (t : ShownType) → Contains ts t → declares_a_resource t.meaning.declaration ≡ true → Contains (resources_of ts) t.name
 resource-listed [] t c h = absurd (let l = c.1 in omega (arith, l))
 resource-listed (x ∷ ts) t (Prim.Native.Nat.zero, l, e) h = search std_rules
 resource-listed (x ∷ ts) t (Prim.Native.Nat.suc k, l, e) h = search (std_rules, one-more-resource, resource-listed ts t (k, omega (arith, l), e) h)
 
 -- a resource itself is declared as one
-pub resource-declared : (r : Resolve) (n : ℕ) (def : TypeDef) → type_at r n ≡ Some def → is_resource_itself def.kind ≡ true → is_resource (type_meaning_at r n).declaration ≡ true
-resource-declared r n def at h = ap (λ m. is_resource m.declaration) (meaning-there r n def at) ∙ (search std_rules)
+pub resource-declared : (r : Resolve) (n : ℕ) (def : TypeDef) → type_at r n ≡ Some def → is_resource_itself def.kind ≡ true → declares_a_resource (type_meaning_at r n).declaration ≡ true
+resource-declared r n def at h = ap (λ m. declares_a_resource m.declaration) (meaning-there r n def at) ∙ (search std_rules)
 
 -- a named type of an owner obeys the rules in the owner's place
 pub named-type-obeys : (r : Resolve) → IsValid r → (o : TypeOwner) → same_owner o owner.None ≡ false → (n : ℕ) (name : Text) → IsNamedType r o n name
@@ -61,8 +61,8 @@ module _ (r : Resolve) (v : IsValid r) (n : ℕ) (i : Interface) (there : interf
   resource-home : (m : ℕ) (name : Text) → IsResourceOf r v (as_interface n) m name → Contains resources name
   resource-home m name is =
       let e = entry-of r v n i there m is.def is.string is.there is.named_ is.owned in
-      let declared : is_resource (type_meaning_at r e.entry.1.0).declaration ≡ true =
-      ap (λ k. is_resource (type_meaning_at r k).declaration) e.number ∙ resource-declared r m is.def is.there is.itself in
+      let declared : declares_a_resource (type_meaning_at r e.entry.1.0).declaration ≡ true =
+      ap (λ k. declares_a_resource (type_meaning_at r k).declaration) e.number ∙ resource-declared r m is.def is.there is.itself in
       subst (λ (t : Text). Contains resources t) (e.text ∙ sym is.text)
       (resource-listed (types_of r n i) (shown_type r (home_of r n) e.entry) (contains-map (shown_type r (home_of r n)) i.types.entries e.entry e.there) declared)
 
@@ -151,7 +151,7 @@ types-obey r n view shows v = search (std_rules, both, types-pass, append-nil, t
 types-meant : (r : Resolve) (n : ℕ) (o : Option Interface) → map (λ t. (t.name, t.meaning)) (option_map_or (types_of r n) o []) ≡ (option_map_or (meant.interface_meaning r) o no_interface).types
 types-meant r n x = search (std_rules, map-map)
 
-pub types-mean : (r : Resolve) (n : ℕ) (view : View) → ShowsTypes r n view → interface_meaning view view.functions ≡ meant.types_alone (interface_meaning_at r n)
+pub types-mean : (r : Resolve) (n : ℕ) (view : View) → ShowsTypes r n view → meaning_of_view view view.functions ≡ meant.types_alone (interface_meaning_at r n)
 types-mean r n view shows = λ j. record { types = (ap (map (λ t. (t.name, t.meaning))) shows.types ∙ types-meant r n (interface_at r n)) j; functions = from_entries (shows.functions j) }
 
 -- the functions, in any order
@@ -161,5 +161,5 @@ unfolding IsDistinct
 functions-meant r v n None e fs p = same-map [] fs p tt
 functions-meant r v n (Some i) e fs p = same-map (functions_of r i) fs p (functions-distinct r v n i e)
 
-pub interface-means : (r : Resolve) → IsValid r → (n : ℕ) (view : View) → ShowsInterface r n view → interface_meaning view view.functions ≡ interface_meaning_at r n
+pub interface-means : (r : Resolve) → IsValid r → (n : ℕ) (view : View) → ShowsInterface r n view → meaning_of_view view view.functions ≡ interface_meaning_at r n
 interface-means r v n view shows = search (std_rules, types-meant, functions-meant)

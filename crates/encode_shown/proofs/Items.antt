@@ -10,7 +10,7 @@ use Rattle.wit_model.specs.declared.model.{Resolve.Resolve, TypeDef.TypeDef, Typ
 use Rattle.wit_model.proofs.{Owners.met_step, TextLemmas.text_named as text-named}
 use Rattle.wit_model.proofs.{Elements.contains-flat, Elements.none-in, Elements.has-contains, OnePath.found-in, PartsLemmas.owner_same as same-owner}
 use Rattle.comp_meaning.specs.Follow.{View, Seen, Shown, interface_of}
-use Rattle.comp_meaning.specs.Rules.{is_interface, is_function, is_item, is_resource, resources_seen}
+use Rattle.comp_meaning.specs.Rules.{is_interface, is_function, is_item, declares_a_resource, resources_seen}
 use Rattle.encode_shown.specs.Views.{instance_key, shown_item, IsViewOf, ShowsItem}
 use Rattle.encode_shown.proofs.{Basics.valid-references, Functions.IsResourceOf, Functions.function-shown, Entries.IsEntry, Entries.interface-key-path}
 use Rattle.encode_shown.proofs.{Members.IsNamedType, Keys.named-key, Zips.zip-right, Zips.given-contains}
@@ -32,14 +32,14 @@ has_home (key.Name name) o = true
 pub instance-home : (k : WorldKey) (o : Option Text) → has_home k o ≡ true → interface_of (instance_key k o) ≡ o
 instance-home x y h = search std_rules
 
-pub path-home : (o : Option Text) → follow.place_of o ≡ place_of_path o
+pub path-home : (o : Option Text) → follow.instance_place o ≡ place_of_path o
 path-home x = search std_rules
 
 pub typed-item : (i : WorldItem) (m : ℕ) → item_type i ≡ Some m → (id : TypeId) × (i ≡ item.Type_ id) × (id.0 ≡ m)
 typed-item x m e = search std_rules
 
 -- a resource that is seen
-pub resource-among : (ss : List Seen) (s : Seen) (d : tree.Declaration) → Contains ss s → s.shown ≡ Shown.declares d → is_resource d ≡ true → Contains (resources_seen ss) s.key
+pub resource-among : (ss : List Seen) (s : Seen) (d : tree.TypeDeclaration) → Contains ss s → s.shown ≡ Shown.declares d → declares_a_resource d ≡ true → Contains (resources_seen ss) s.key
 resource-among [] s d c e h = none-in s c
 resource-among (x ∷ ss) s d (zero, l, q) e h = search std_rules
 resource-among (x ∷ ss) s d (suc k, l, q) e h = search (std_rules, one-more-resource, resource-among ss s d (k, omega (arith, l), q) e h)
@@ -72,7 +72,7 @@ module _ (r : Resolve) (v : IsValid r) (n : ℕ) where
   pub item-obeys : (resources : List Text) (k : WorldKey) (i : WorldItem) (view : View) → IsEntry r n (k, i) → IsViewOf r i view → HasHome resources i
       → is_item resources (key_text r k) (shown_item r k i view) ≡ true
   item-obeys resources k (item.Interface id stability docs external_id) view is shows home =
-      ap (λ o. is_interface (follow.place_of o) view) (instance-home k (interface_path r id.0) (entry-home k (item.Interface id stability docs external_id) is id.0 refl))
+      ap (λ o. is_interface (follow.instance_place o) view) (instance-home k (interface_path r id.0) (entry-home k (item.Interface id stability docs external_id) is id.0 refl))
       ∙ ap (λ p. is_interface p view) (path-home (interface_path r id.0)) ∙ interface-obeys r v id.0 view shows
   item-obeys resources k (item.Function f) view is shows home =
       let named = named-key k (text_of f.name) (first_true (is_name_key (text_of f.name) k) _ is.named_) in
@@ -114,7 +114,8 @@ module _ (r : Resolve) (v : IsValid r) (n : ℕ) where
           let string : t.string ≡ is.string = same-some t.string is.string (sym t.named_ ∙ ap (λ (d : TypeDef). d.name) same ∙ is.named_) in
           let text : s.key ≡ name = ap (λ (x : Seen). x.key) shows.is ∙ t.name ∙ ap text_of string ∙ sym is.text in
           let shown : s.shown ≡ Shown.declares (type_meaning_at r id.0).declaration = ap (λ (x : Seen). x.shown) shows.is ∙ ap (λ x. shown_item r k x shows.view) e in
-          let resource : is_resource (type_meaning_at r id.0).declaration ≡ true = ap (λ j. is_resource (type_meaning_at r j).declaration) q ∙ resource-declared r m is.def is.there is.itself in
+          let resource : declares_a_resource (type_meaning_at r id.0).declaration ≡ true =
+          ap (λ j. declares_a_resource (type_meaning_at r j).declaration) q ∙ resource-declared r m is.def is.there is.itself in
           subst (λ (u : Text). Contains (resources_seen ss) u) text (resource-among ss s (type_meaning_at r id.0).declaration c shown resource)
 
   pub import-home : (before : List (WorldKey × WorldItem)) (ss : List Seen) → AllZip (ShowsItem r) before ss → ((e : WorldKey × WorldItem) → Contains before e → IsEntry r n e)

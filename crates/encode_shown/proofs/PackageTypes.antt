@@ -69,7 +69,7 @@ module _ (r : Resolve) (v : IsValid r) (n : ℕ) (p : Package) (at : package_at 
   wrapper-read m label x is name = ap member is.is ∙ ap (as_member label) (world-read r v n p at m is.world is.there label name is.inner is.scope is.follows is.shows)
 
   pub sections-mean : (xs : List (Text × Declarations)) (sections : List Section) → ArePackageTypes r p xs → is_filled xs ≡ true → exported_types sections ≡ Some xs
-      → reads.package_meaning sections ≡ Some (meant.package_meaning r n p)
+      → reads.package_of_sections sections ≡ Some (meant.package_meaning r n p)
   sections-mean xs sections types some e =
       let interfaces = all-read (IsInterfaceType r p) (ShowsInterfaceMember r named) p.interfaces.entries types.interface_types types.interfaces (λ e x c is.
       (_, interface-read e x c is, record { imports = is.imports; exported = is.exported; reached = is.shows.reached; is = refl })) in
@@ -112,7 +112,7 @@ module _ (r : Resolve) (v : IsValid r) (n : ℕ) (p : Package) (at : package_at 
 -- ---- one world
 
 pub world-sections-mean : (r : Resolve) → IsValid r → (n : ℕ) (w : World) (p : Package) → world_at r n ≡ Some w → package_of_world r w ≡ Some p → (x : Text × Declarations) (sections : List Section)
-    → IsWorldType r p n (text_of w.name) x → exported_types sections ≡ Some (x ∷ []) → reads.world_package sections ≡ Some (meant.world_package r p w)
+    → IsWorldType r p n (text_of w.name) x → exported_types sections ≡ Some (x ∷ []) → reads.world_of_sections sections ≡ Some (meant.world_package r p w)
 world-sections-mean r v n w p there home x sections is e =
     let same : is.world ≡ w = same-some is.world w (sym is.there ∙ there) in
     let id = given-by (λ (q : PackageId). package_at r q.0) w.package p home in

@@ -10,7 +10,7 @@ use Rattle.wit_model.specs.{Meant.interface_meaning_at, Meant.world_meaning_at, 
 use Rattle.wit_model.specs.declared.model.{Resolve.Resolve, Package.Package, InterfaceId.InterfaceId, WorldId.WorldId}
 use Rattle.wit_model.proofs.{OnePath.path-once, TextLemmas.text_alike as text-alike}
 use Rattle.comp_meaning.specs.{Follow.provided, Follow.is_filled, Same.same_identity}
-use Rattle.comp_meaning.specs.Reads.{Sight, Member, sights, is_of, stands_at_top, is_interface_part, seen_meaning, interfaces_of, worlds_of, package_with, package_of_members}
+use Rattle.comp_meaning.specs.Reads.{Sight, Member, sights, is_of, stands_at_top, is_interface_part, seen_meaning, interfaces_of, worlds_of_member, package_with, package_of_members}
 use Rattle.encode_shown.specs.Views.{ShowsPackage, ShowsInterfaceMember, ShowsWorldMember}
 use Rattle.comp_meaning.proofs.{AgreementLaws.implied, SameLaws.identities_decide}
 use Rattle.encode_shown.proofs.{Interfaces.interface-means, WorldMeans.world-means, SameEntries.same-entries, Zips.zip-all, Zips.zip-left}
@@ -75,16 +75,16 @@ module _ (r : Resolve) (v : IsValid r) (n : ℕ) (p : Package) (at : package_at 
   no-interface : (e : String Global × WorldId) (m : Member) → ShowsWorldMember r named e m → interfaces_of m ≡ []
   no-interface e m shown = ap interfaces_of shown.is
 
-  no-world : (e : String Global × InterfaceId) (m : Member) → ShowsInterfaceMember r named e m → worlds_of m ≡ []
-  no-world e m shown = ap worlds_of shown.is
+  no-world : (e : String Global × InterfaceId) (m : Member) → ShowsInterfaceMember r named e m → worlds_of_member m ≡ []
+  no-world e m shown = ap worlds_of_member shown.is
 
-  world-meant : (e : String Global × WorldId) (m : Member) → ShowsWorldMember r named e m → worlds_of m ≡ world_named e ∷ []
+  world-meant : (e : String Global × WorldId) (m : Member) → ShowsWorldMember r named e m → worlds_of_member m ≡ world_named e ∷ []
   world-meant e m shown = search (std_rules, world-means)
 
   interfaces-meant : flat_map interfaces_of members ≡ map interface_named p.interfaces.entries
   interfaces-meant = grind (arith, flat_map-append, zip-flat, interface-meant, zip-empty, no-interface, append-nil)
 
-  worlds-meant : flat_map worlds_of members ≡ map world_named p.worlds.entries
+  worlds-meant : flat_map worlds_of_member members ≡ map world_named p.worlds.entries
   worlds-meant = grind (arith, flat_map-append, zip-empty, no-world, zip-flat, world-meant)
 
   -- ---- interfaces of other packages
@@ -146,7 +146,7 @@ module _ (r : Resolve) (v : IsValid r) (n : ℕ) (p : Package) (at : package_at 
 
   pub package-means : package_with named members ≡ Some (meant.package_meaning r n p)
   package-means =
-      ap (λ b. provided b (record { identity = named; interfaces = flat_map interfaces_of members; worlds = flat_map worlds_of members; foreign = from_entries seen_entries }))
+      ap (λ b. provided b (record { identity = named; interfaces = flat_map interfaces_of members; worlds = flat_map worlds_of_member members; foreign = from_entries seen_entries }))
       (both _ _ one-package (both _ _ (all-from (stands_at_top named members) seen sight-at-top)
       (both _ _ (all-sights-agree r v numbered.0 seen numbered.1) (all-sights-obey r v numbered.0 seen numbered.1))))
       ∙ (λ j. Some (record { identity = named; interfaces = interfaces-meant j; worlds = worlds-meant j; foreign = (same-entries seen_entries foreign_entries forth back one-meaning) j }))

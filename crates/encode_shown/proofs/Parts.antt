@@ -32,7 +32,7 @@ place-alike a = (places_decide a a).1 refl
 
 -- labels that keep the rule
 pub labels-from : (ts : List Text) → are_member_labels ts ≡ true → are_labels ts ≡ true
-labels-from ts h = both _ _ (first_true (rules.are_labels ts) _ h) (sym (distinct-same ts) ∙ second_true (rules.are_labels ts) _ h)
+labels-from ts h = both _ _ (first_true (rules.each_is_label ts) _ h) (sym (distinct-same ts) ∙ second_true (rules.each_is_label ts) _ h)
 
 module _ (r : Resolve) (v : IsValid r) where
   -- ---- trees by number

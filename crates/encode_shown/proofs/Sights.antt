@@ -8,7 +8,7 @@ use Rattle.wit_model.specs.{Lookup.interface_at, Lookup.interface_path, Lookup.p
 use Rattle.wit_model.specs.declared.model.Resolve.{Resolve}
 use Rattle.wit_model.proofs.{OnePath.path-once, TextLemmas.text_alike as text-alike, TextLemmas.text_same as text-same}
 use Rattle.comp_meaning.specs.{Follow.View, Rules.is_interface, Same.same_function, Same.stand_in, SameLaws.named_meaning}
-use Rattle.comp_meaning.specs.Reads.{Sight, same_functions, agree, all_agree, are_interfaces, functions_of, interface_meaning, seen_meaning}
+use Rattle.comp_meaning.specs.Reads.{Sight, same_functions, agree, all_agree, are_interfaces, functions_of, meaning_of_view, seen_meaning}
 use Rattle.encode_shown.specs.Views.{home_of, ShowsTypes, ShowsInterface}
 use Rattle.comp_meaning.proofs.{SameLaws.functions_decide, SameLaws.shown_types_decide, AgreementLaws.implied}
 use Rattle.encode_shown.proofs.{Interfaces.interface-obeys, Interfaces.interface-means, Interfaces.types-obey, Interfaces.types-mean, Zips.zip-left}
@@ -109,4 +109,4 @@ module _ (r : Resolve) where
         λ j. (s.path, interface-means r v n (record { types = s.view.types; functions = functions_of s.path ss }) shows j)
     sight-means ns ss z n s is false h =
         let shows : ShowsTypes r n (record { types = s.view.types; functions = [] }) = record { types = sight-types n s.whole s.view is.shows; functions = refl } in
-        λ j. (s.path, (ap (interface_meaning s.view) (functions-missing ss s.path h) ∙ types-mean r n (record { types = s.view.types; functions = [] }) shows) j)
+        λ j. (s.path, (ap (meaning_of_view s.view) (functions-missing ss s.path h) ∙ types-mean r n (record { types = s.view.types; functions = [] }) shows) j)

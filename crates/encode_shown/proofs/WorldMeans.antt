@@ -15,7 +15,7 @@ use Rattle.wit_model.proofs.{Lists.lookup_any, TextLemmas.text_alike as text-ali
 use Rattle.wit_model.proofs.{NameLaws.one_path, VersionLaws.same_name}
 use Rattle.wit_model.proofs.OnePath.{HasPath, has-path, path-label, package-name, package-once, given-test}
 use Rattle.comp_meaning.specs.Follow.{View, Seen, Shown, Instance, Scope, provided}
-use Rattle.comp_meaning.specs.Reads.{Sight, of_instance, item_of, entry, world_meaning, seen_meaning, world_with, interface_meaning}
+use Rattle.comp_meaning.specs.Reads.{Sight, of_instance, item_of, entry, meaning_of_scope, seen_meaning, world_with, meaning_of_view}
 use Rattle.encode_shown.specs.Views.{instance_key, shown_item, instances_of, IsViewOf, ShowsItem, ShowsInterface, ShowsWorld}
 use Rattle.encode_shown.proofs.{Interfaces.interface-means, Worlds.imports-are, Worlds.exports-are, Worlds.all-shown, Worlds.all-entries, Basics.given-by}
 use Rattle.encode_shown.proofs.{Entries.IsEntry, Sights.IsSight, Sights.all-sights-agree, Sights.all-sights-obey, Sights.is_seen_whole, Sights.sight-means}
@@ -27,7 +27,7 @@ use Rattle.wit_model.specs.declared.model.WorldItem.TheVariants as item
 module _ (r : Resolve) (v : IsValid r) (n : ℕ) where
   -- ---- entries
 
-  instance-means : (k : WorldKey) (o : Option Text) (view : View) (i : InterfaceMeaning) → has_home k o ≡ true → interface_meaning view view.functions ≡ i
+  instance-means : (k : WorldKey) (o : Option Text) (view : View) (i : InterfaceMeaning) → has_home k o ≡ true → meaning_of_view view view.functions ≡ i
       → item_of (Shown.instance (instance_key k o) view) ≡ option_map_or Item.interface o (Item.inline i)
   instance-means x y view i h e = search std_rules
 
@@ -93,7 +93,7 @@ module _ (r : Resolve) (v : IsValid r) (n : ℕ) where
   -- ---- the world
 
   module _ (w : World) (there : world_at r n ≡ Some w) (scope : Scope) (shows : ShowsWorld r w scope) where
-    pub world-means : world_meaning scope ≡ meant.world_meaning r w
+    pub world-means : meaning_of_scope scope ≡ meant.world_meaning r w
     world-means = λ j. record {
       imports = entries-mean w.imports.entries scope.imports shows.imports (imports-are r v n w there scope shows) j;
       exports = entries-mean w.exports.entries scope.exports shows.exports (exports-are r v n w there scope shows) j;
@@ -154,7 +154,7 @@ module _ (r : Resolve) (v : IsValid r) (n : ℕ) where
 
       package-means : world_with (identity_of p.name) (text_of w.name) scope ≡ Some (meant.world_package r p w)
       package-means =
-          ap (λ b. provided b (record { identity = identity_of p.name; name = text_of w.name; world = world_meaning scope; shown = from_entries (map (seen_meaning seen) seen) }))
+          ap (λ b. provided b (record { identity = identity_of p.name; name = text_of w.name; world = meaning_of_scope scope; shown = from_entries (map (seen_meaning seen) seen) }))
           (both _ _ (all-sights-agree r v (shown_by r w) seen seen-sights) (both _ _ (all-sights-obey r v (shown_by r w) seen seen-sights) (ap not (none-named (shown_by r w) seen seen-sights))))
           ∙ (λ j. Some (record { identity = identity_of p.name; name = text_of w.name; world = world-means j; shown = from_entries (shown-mean j) }))
 

@@ -8,7 +8,7 @@ use Rattle.wit_model.specs.Valid.{IsValid}
 use Rattle.wit_model.specs.declared.model.{Resolve.Resolve, Package.Package, InterfaceId.InterfaceId, WorldId.WorldId, World.World}
 use Rattle.comp_bytes.specs.{Raw.Declarations, Raw.Section, Spelling.IsComponent}
 use Rattle.comp_meaning.specs.{Follow.View, Follow.Scope, Follow.component_scope, Follow.is_filled, Rules.distinct, Rules.is_interface, Rules.is_world}
-use Rattle.comp_meaning.specs.Reads.{interface_meaning, world_meaning, world_with, Part, Member, interface_part, world_part, package_of_members, exported_types, Reads, ReadsWorld}
+use Rattle.comp_meaning.specs.Reads.{meaning_of_view, meaning_of_scope, world_with, Part, Member, interface_part, world_part, package_of_members, exported_types, Reads, ReadsWorld}
 use Rattle.encode_shown.specs.PackageTypes.{plain_name, IsWorldType, ArePackageTypes}
 use Rattle.encode_shown.specs.Views.{home_of, ShowsTypes, ShowsInterface, ShowsWorld, ShowsDependencies, ShowsPackage}
 use Rattle.wit_model.specs.Meant as meant
@@ -19,14 +19,14 @@ abbrev pub InterfacesObey : Type 0
 InterfacesObey = (r : Resolve) (n : ℕ) (view : View) → IsValid r → ShowsInterface r n view → is_interface (home_of r n) view ≡ true
 
 abbrev pub InterfacesMean : Type 0
-InterfacesMean = (r : Resolve) (n : ℕ) (view : View) → IsValid r → ShowsInterface r n view → interface_meaning view view.functions ≡ interface_meaning_at r n
+InterfacesMean = (r : Resolve) (n : ℕ) (view : View) → IsValid r → ShowsInterface r n view → meaning_of_view view view.functions ≡ interface_meaning_at r n
 
 -- So it is with the types alone.
 abbrev pub TypesObey : Type 0
 TypesObey = (r : Resolve) (n : ℕ) (view : View) → IsValid r → ShowsTypes r n view → is_interface (home_of r n) view ≡ true
 
 abbrev pub TypesMean : Type 0
-TypesMean = (r : Resolve) (n : ℕ) (view : View) → ShowsTypes r n view → interface_meaning view view.functions ≡ types_alone (interface_meaning_at r n)
+TypesMean = (r : Resolve) (n : ℕ) (view : View) → ShowsTypes r n view → meaning_of_view view view.functions ≡ types_alone (interface_meaning_at r n)
 
 -- What shows a world obeys the rules of worlds, and means the world.
 abbrev pub WorldsObey : Type 0
@@ -34,7 +34,7 @@ WorldsObey = (r : Resolve) (n : ℕ) (w : World) (scope : Scope) → IsValid r �
 
 abbrev pub WorldsMean : Type 0
 WorldsMean = (r : Resolve) (n : ℕ) (w : World) (scope : Scope) → IsValid r → world_at r n ≡ Some w → ShowsWorld r w scope
-    → world_meaning scope ≡ meant.world_meaning r w
+    → meaning_of_scope scope ≡ meant.world_meaning r w
 
 -- By itself it means the world of its package, with each interface that it shows.
 abbrev pub WorldsAloneMean : Type 0
@@ -68,13 +68,13 @@ PackagesMean = (r : Resolve) (n : ℕ) (p : Package) (members : List Member) →
 abbrev pub SectionsMean : Type 0
 SectionsMean = (r : Resolve) (n : ℕ) (p : Package) (xs : List (Text × Declarations)) (sections : List Section) → IsValid r → package_at r n ≡ Some p
     → ArePackageTypes r p xs
-    → is_filled xs ≡ true → exported_types sections ≡ Some xs → reads.package_meaning sections ≡ Some (meant.package_meaning r n p)
+    → is_filled xs ≡ true → exported_types sections ≡ Some xs → reads.package_of_sections sections ≡ Some (meant.package_meaning r n p)
 
 -- A component that exports the wrapper of one world alone, under its name, means the world.
 abbrev pub WorldSectionsMean : Type 0
 WorldSectionsMean = (r : Resolve) (n : ℕ) (w : World) (p : Package) (x : Text × Declarations) (sections : List Section) → IsValid r → world_at r n ≡ Some w
     → package_of_world r w ≡ Some p → IsWorldType r p n (text_of w.name) x → exported_types sections ≡ Some (x ∷ [])
-    → reads.world_package sections ≡ Some (meant.world_package r p w)
+    → reads.world_of_sections sections ≡ Some (meant.world_package r p w)
 
 -- So bytes that spell such a component mean exactly what the package means, or what the world means.
 abbrev pub BytesMean : Type 0

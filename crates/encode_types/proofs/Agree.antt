@@ -2,7 +2,7 @@
 use Rattle.std.proofs.Common.{rules as std_rules, ◌≡◌, refl, sym, subst, ap, ◌∙◌, ℕ, true, false, List, ◌⊎◌, inl, inr, Result, OnOk, OnErr, Option, Some, None, nat_eq, [], ◌∷◌, ◌++◌, map, get_or}
 use Rattle.std.proofs.lemmas.{Cmp.nat_eq_equiv, List.Elements.Contains-get_or, List.Quantifiers.all_pairs_push, Bool.eqb-true, Bool.false_from_ne_true}
 use Rattle.std.specs.{Prelude.is_some, Prelude.IsSome, Prelude.IsPermutation, List.Contains, List.AllPairs, Borrow.Bor}
-use Rattle.wit_model.specs.{Text.Text, Tree.Declaration, Rules.is_named_kind, Types.trees_of, Types.tree_of_declaration, Meaning.Signature}
+use Rattle.wit_model.specs.{Text.Text, Tree.TypeDeclaration, Rules.is_named_kind, Types.trees_of, Types.tree_of_declaration, Meaning.Signature}
 use Rattle.wit_model.specs.declared.model.{Resolve.Resolve, TypeDefKind.TypeDefKind, TypeId.TypeId}
 use Rattle.encode_types.specs.declared.{maps.TypeEncodingMaps.TypeEncodingMaps, key.FunctionKey.FunctionKey}
 use Rattle.encode_types.specs.{Codes.kind_code, Codes.names_of, Codes.lists_of, Codes.IsKeyList, Codes.ListKey, Leaves.Leaves, Leaves.LeavesSlots, Slots.Pairs, Slots.Standing, Slots.tree, Slots.function, Slots.Keeps, View.View, View.Agrees, View.SameRest, Counts.SameUnits}
@@ -128,7 +128,7 @@ learns-kind r m m' kind xs i unnamed is lacks l = record { grow = grow; only = �
     grow k j h = same-holds m (record m' { def_to_index = m.def_to_index }) l.rest k j h
 
     same : (k : TypeDefKind) → is_named_kind k ≡ false → kind_code k ≡ kind_code kind → standing_of r (by_kind k) ≡ standing_of r (by_kind kind)
-    same k n e = ap (λ (d : Declaration). tree (tree_of_declaration d)) (same_tree (trees_of r) k kind n (kinds-of-lists k kind n unnamed e))
+    same k n e = ap (λ (d : TypeDeclaration). tree (tree_of_declaration d)) (same_tree (trees_of r) k kind n (kinds-of-lists k kind n unnamed e))
 
     only : (k : Known) (j : ℕ) → Holds m' k j → Holds m k j ⊎ ((standing_of r k ≡ standing_of r (by_kind kind)) × (j ≡ i))
     only (by_kind k) j h = elim (entry-more (lists_of m.def_to_index) (lists_of m'.def_to_index) xs i l.more (kind_code k) j h.1) [ inl q ↦ inl (h.0, q) | inr e ↦ inr (same k h.0 (e.0 ∙ is), e.1) ]

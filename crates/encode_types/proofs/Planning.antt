@@ -15,7 +15,7 @@ use Rattle.wit_model.proofs.Elements.{contains-filter_map}
 use Rattle.base_lemmas.proofs.{Elements.all-contained, Elements.contains-one, Elements.last_of as one-contained, Numbers.none-twice}
 use Rattle.wit_model.specs.declared.model.«Type».TheVariants as ty
 
-none-of : {A : Type 0} (o : Option A) → is_some o ≡ false → o ≡ None
+pub none-of : {A : Type 0} (o : Option A) → is_some o ≡ false → o ≡ None
 none-of x e = search std_rules
 
 -- ---- parts have smaller numbers

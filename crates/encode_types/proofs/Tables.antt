@@ -123,7 +123,7 @@ none-when x y f = search std_rules
 pub some-where : {X : Type 0} (o : Option X) (P : X → Type 0) → IfNone o ((x : X) → P x → ⊥) → (x : X) × P x → IsSome o
 some-where x y h k = search std_rules
 
-none-or : {X : Type 0} (o : Option X) → ((v : X) → o ≡ Some v → ⊥) → o ≡ None
+pub none-or : {X : Type 0} (o : Option X) → ((v : X) → o ≡ Some v → ⊥) → o ≡ None
 none-or x f = search std_rules
 
 -- ---- orders
@@ -144,10 +144,6 @@ at-none o Q e h = rw e at h
 
 pub number-found : (es : List (ℕ × ℕ)) (n : ℕ) (o : Option ℕ) → o ≡ lookup (is_at (nat_cmp n)) es → IfSome o (λ i. Contains es (n, i))
 number-found es n o q = some-when o _ (λ v e. let f = found (is_at (nat_cmp n)) es v (sym q ∙ e) in subst (λ k. Contains es (k, v)) (sym (exact_unsigned n f.0 (equal-is _ f.2))) f.1)
-
-pub number-inserted : (es fs : List (ℕ × ℕ)) (n i : ℕ) → ((j : ℕ) → Contains es (n, j) → ⊥) → fs ≡ insert_entry nat_cmp es n i → IsPermutation (es ++ (n, i) ∷ []) fs
-number-inserted es fs n i lacks e = inserted nat_cmp n i es fs
-    (none-or (lookup (is_at (nat_cmp n)) es) (λ v h. let f = found (is_at (nat_cmp n)) es v h in lacks v (subst (λ k. Contains es (k, v)) (sym (exact_unsigned n f.0 (equal-is _ f.2))) f.1))) e
 
 -- ---- entries by a list of numbers that is read from the key
 

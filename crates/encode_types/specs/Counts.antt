@@ -141,6 +141,22 @@ pub record AddsTypes (r : Resolve) (scope : Scope) (m m' : TypeEncodingMaps) (d 
   pub keys : SameKeys m m'
   pub shows : Shows r scope m m' d d'
 
+-- this has been defined, or one definition more: of a value type, or of the type of a function
+pub data OneMoreAtMost (d d' : Definitions) : Type 0 where
+  no_more : d' ≡ d → OneMoreAtMost d d'
+  a_type : (i : ℕ) → d' ≡ one_type_more i d → OneMoreAtMost d d'
+  a_function : (i : ℕ) → d' ≡ one_function_more i d → OneMoreAtMost d d'
+
+-- What a refused call leaves. What has been exported is what the maps have learnt. So is what has been defined, but for one definition at most.
+-- The maps know the same types of functions.
+pub record AddsInPart (r : Resolve) (scope : Scope) (m m' : TypeEncodingMaps) (d d' : Definitions) : Type 0 where
+  pub known : Definitions
+  pub slots : AddsSlots r scope m m' d known
+  pub functions : known.functions ≡ d.functions
+  pub lists : m'.func_type_map.entries ≡ m.func_type_map.entries
+  pub shows : Shows r scope m m' d known
+  pub more : OneMoreAtMost known d'
+
 -- The key of a function was in the maps already, and no type of a function has been defined; or the key is there now at a new index, in which
 -- its type has been defined, and no other. What else has been defined is what the maps have learnt.
 pub record AddsFunction (r : Resolve) (scope : Scope) (m m' : TypeEncodingMaps) (d d' : Definitions) (key : FunctionKey) (i : ℕ) : Type 0 where

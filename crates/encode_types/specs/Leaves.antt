@@ -1,12 +1,12 @@
 -- What a call leaves, also where it is refused, and what it has learnt and defined.
-use Rattle.std.specs.Prelude.{ℕ, ◌≡◌, ◌+◌, ◌++◌, ◌⊎◌, Bool, List, [], ◌∷◌, length, Result, Err, IfOk, OnOk, IfErr}
+use Rattle.std.specs.Prelude.{ℕ, ◌≡◌, ◌+◌, ◌++◌, ◌⊎◌, Bool, List, [], ◌∷◌, length, Result, Err, IfOk, OnOk, OnErr, IfErr}
 use Rattle.comp_bytes.specs.Refusal.{IsMemoryOrSize}
 use Rattle.comp_bytes.specs.declared.forms.ComponentValType.{ComponentValType}
 use Rattle.wit_model.specs.declared.{error.Error.Error, model.Resolve.Resolve, error.Error.TheVariants.Size, model.TypeDefKind.TypeDefKind, model.«Type».«Type» as ValueType, model.Function.Function}
 use Rattle.wit_model.specs.{Meant.signature_of, Parts.function_types}
 use Rattle.encode_types.specs.declared.key.FunctionKey.{FunctionKey}
 use Rattle.encode_types.specs.{MetKinds.Learns, MetKinds.LearnsMet, View.View, View.Agrees, View.Grows, View.HoldsLearnt, Aliases.ImportsMet, Aliases.MakesMet, Maps.MapsGrow, Fits.CanEncode, Formed.IsFormed, Slots.StandsFor, Kinds.parts_of, Kinds.kind_tree, Distinct.KnowsKey, Distinct.key_of, Distinct.AddsFunctions, Room.Request, Room.value_type, Room.function_type, Room.FindsNoRoom}
-use Rattle.encode_types.specs.Counts.{Definitions, SameUnits, one_type_more, type_more_if, AddsTypes, AddsFunction}
+use Rattle.encode_types.specs.Counts.{Definitions, SameUnits, one_type_more, type_more_if, AddsTypes, AddsInPart, AddsFunction}
 use Rattle.comp_bytes.specs.declared.forms.ComponentValType.TheVariants as value
 
 -- The maps agree with the slots and have lost no entry, old slots stand for what they did, and the surroundings are the same.
@@ -48,6 +48,10 @@ pub record FunctionLacksRoom (r : Resolve) (f : Function) (v v' : View) : Type 0
 -- what has been defined is what the maps have learnt, and no type of a function is among it
 abbrev pub CountsTypes : Resolve → View → View → Type 0
 CountsTypes r v v' = AddsTypes r v.scope v.maps v'.maps v.definitions v'.definitions
+
+-- Where a call is refused, what has been exported is what the maps have learnt, and what has been defined is that and one definition more at most.
+abbrev pub CountsInPart : Resolve → View → View → Type 0
+CountsInPart r v v' = AddsInPart r v.scope v.maps v'.maps v.definitions v'.definitions
 
 -- what has been defined is what the maps have learnt, and behind it one value type, which this is
 pub record CountsOneMore (r : Resolve) (v v' : View) (x : ComponentValType) : Type 0 where
@@ -101,6 +105,7 @@ pub record DefinesKind (r : Resolve) (kind : TypeDefKind) (v v' : View) (result 
   pub aliases : MakesMet r (parts_of kind) v v'
   pub imports : ImportsMet r (parts_of kind) v v'
   pub counts : IfOk result (CountsOneMore r v v')
+  pub stopped : OnErr result (CountsInPart r v v')
   pub held : OnOk result (HoldsLearnt r 1 v v')
   pub size : result ≡ Err Size → KindLacksRoom r kind v v'
   pub refuses : IfErr result IsMemoryOrSize

@@ -1,12 +1,12 @@
 -- What the maps of an encoder hold, and what they say of its slots.
-use Rattle.std.specs.Prelude.{ℕ, ◌≡◌, ◌<◌, ◌++◌, Bool, false, List, [], ◌∷◌, length, Some, None, AllPairs, IsPermutation, nat_eq, ◌⊎◌}
+use Rattle.std.specs.Prelude.{ℕ, ◌≡◌, ◌<◌, ◌++◌, Bool, true, false, List, [], ◌∷◌, length, Some, None, AllPairs, IsPermutation, nat_eq, ◌⊎◌}
 use Rattle.std.specs.List.{Contains}
 use Rattle.wit_model.specs.{Rules.is_named_kind, Text.Text, Tree.future_tree, Tree.stream_tree, Types.number_tree}
 use Rattle.wit_model.specs.declared.model.{Resolve.Resolve, TypeId.TypeId, TypeDefKind.TypeDefKind, «Type».«Type» as ValueType}
 use Rattle.comp_bytes.specs.declared.forms.ComponentValType.{ComponentValType}
 use Rattle.encode_types.specs.declared.{key.FunctionKey.FunctionKey, maps.TypeEncodingMaps.TypeEncodingMaps}
 use Rattle.encode_types.specs.Codes.{Names, IsTable, kind_code, IsKeyList, HaveNumbers, names_of, lists_of}
-use Rattle.encode_types.specs.{Key.key_signature, Kinds.kind_tree, Slots.Standing, Slots.tree, Slots.function, Slots.Pairs}
+use Rattle.encode_types.specs.{NumberMaps.has_room, Key.key_signature, Kinds.kind_tree, Slots.Standing, Slots.tree, Slots.function, Slots.Pairs}
 use Rattle.wit_model.specs.declared.model.«Type».TheVariants as ty
 use Rattle.wit_model.specs.contracts.model.TypeDefKindPartialEq.TheImpl as kind_eq
 use Rattle.comp_bytes.specs.declared.forms.ComponentValType.TheVariants as v
@@ -81,6 +81,10 @@ pub record MapsGrow (m m' : TypeEncodingMaps) : Type 0 where
 -- a type number has an index
 abbrev pub IsKnown : TypeEncodingMaps → ℕ → Type 0
 IsKnown m n = (i : ℕ) × Contains m.id_to_index.entries (n, i)
+
+-- there is room for this type number, so that it can be remembered without memory
+abbrev pub HasRoomFor : TypeEncodingMaps → ℕ → Type 0
+HasRoomFor m n = has_room m.id_to_index n ≡ true
 
 -- no such list stands there
 abbrev pub LacksList : List (List ℕ × ℕ) → List ℕ → Type 0

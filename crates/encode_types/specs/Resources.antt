@@ -2,7 +2,7 @@
 use Rattle.std.specs.Prelude.{ℕ, Bool, true, false, ◌&&◌, ◌||◌, is_some}
 use Rattle.std.specs.List.{list_any}
 use Rattle.wit_model.specs.{Text.Text, Lookup.place_of, Lookup.interface_path, Rules.text_is, Parts.is_resource, Parts.numbered_from, Parts.same_owner}
-use Rattle.wit_model.specs.Tree.{Tree, Place, primitive, named, node, Declaration, type_, resource}
+use Rattle.wit_model.specs.Tree.{Tree, Place, primitive, named, node, TypeDeclaration, type_, resource}
 use Rattle.wit_model.specs.declared.model.{Resolve.Resolve, TypeDef.TypeDef, TypeOwner.TypeOwner}
 use Rattle.comp_meaning.specs.Same.{same_place}
 use Rattle.wit_model.specs.declared.model.TypeOwner.TheVariants as owner
@@ -18,7 +18,7 @@ is_resource_tree resources (named place name) = resources place name
 is_resource_tree resources (node form ts) = false
 
 -- whether a name that is declared so stands for a resource: it is a fresh one, or another name for one
-abbrev pub is_resource_declaration : Names → Declaration → Bool
+abbrev pub is_resource_declaration : Names → TypeDeclaration → Bool
 is_resource_declaration resources (type_ t) = is_resource_tree resources t
 is_resource_declaration resources resource = true
 

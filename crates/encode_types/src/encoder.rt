@@ -1,6 +1,6 @@
 //! What defines types in a scope, and the law that it keeps.
 
-ghost use Rattle.std.specs.Prelude.{◌≡◌, ◌<◌, ℕ, Err, Some, None, IfOk, OnOk, IfErr};
+ghost use Rattle.std.specs.Prelude.{◌≡◌, ◌<◌, ℕ, Err, Some, None, IfOk, OnOk, OnErr, IfErr};
 ghost use Rattle.std.specs.Borrow.{sem, Lends};
 ghost use Rattle.wit_model.specs.declared.error.Error.TheVariants.{Size};
 ghost use Rattle.wit_model.specs.{Tree.Tree, Tree.named, Meaning.Signature, Types.number_tree};
@@ -43,7 +43,7 @@ pub trait LendsMaps<M> {
 /// of its own, which each call raises by one at most, and one that answers `Error::Size` not at all. It says there how much it has written,
 /// too (`View::extent`): a number of its own, which a call raises by no more than the bytes that what it is asked to add takes at most.
 /// And it says in which slots it has defined value types and types of functions, and which slots it has exported under names, in order
-/// (`View::definitions`).
+/// (`View::definitions`). A call that is refused defines and exports nothing.
 pub trait ValtypeEncoder<'a>: LendsMaps<TypeEncodingMaps<'a>> {
     // what it holds: what is around, its slots, how much has been defined, its maps, and what has no room
     ghost view: { Self → View };
@@ -58,6 +58,7 @@ pub trait ValtypeEncoder<'a>: LendsMaps<TypeEncodingMaps<'a>> {
         ensures imports_stay { (view self.new).imports ≡ (view self.old).imports }
         ensures maps_stay { (view self.new).maps ≡ (view self.old).maps }
         ensures counts { IfOk result (λ i. (view self.new).definitions ≡ one_type_more i (view self.old).definitions) }
+        ensures err { OnErr result ((view self.new).definitions ≡ (view self.old).definitions) }
         ensures held { HoldsMore 1 (view self.old) (view self.new) }
         ensures written { OnOk result (WritesDefinition (view self.old) (view self.new) def.entry) }
         ensures size { result ≡ Err Size → LacksDefinition (view self.old) (view self.new) def.entry }
@@ -73,6 +74,7 @@ pub trait ValtypeEncoder<'a>: LendsMaps<TypeEncodingMaps<'a>> {
         ensures imports_stay { (view self.new).imports ≡ (view self.old).imports }
         ensures maps_stay { (view self.new).maps ≡ (view self.old).maps }
         ensures counts { IfOk result (λ i. (view self.new).definitions ≡ one_function_more i (view self.old).definitions) }
+        ensures err { OnErr result ((view self.new).definitions ≡ (view self.old).definitions) }
         ensures held { HoldsMore 1 (view self.old) (view self.new) }
         ensures written { OnOk result (WritesFunctionType (view self.old) (view self.new) def.entry) }
         ensures size { result ≡ Err Size → LacksFunctionType (view self.old) (view self.new) def.entry }
@@ -93,6 +95,7 @@ pub trait ValtypeEncoder<'a>: LendsMaps<TypeEncodingMaps<'a>> {
         ensures imports_stay { (view self.new).imports ≡ (view self.old).imports }
         ensures maps_stay { (view self.new).maps ≡ (view self.old).maps }
         ensures counts { OnOk result (ExportsName (view self.old) (view self.new) (Some index) (raw_name name.entry)) }
+        ensures err { OnErr result ((view self.new).definitions ≡ (view self.old).definitions) }
         ensures held { HoldsMore 1 (view self.old) (view self.new) }
         ensures written { OnOk result (Writes (name_extent (raw_name name.entry)) (view self.old) (view self.new)) }
         ensures size { result ≡ Err Size → Refuses (view self.old) (view self.new) (export_name (raw_name name.entry)) }
@@ -108,6 +111,7 @@ pub trait ValtypeEncoder<'a>: LendsMaps<TypeEncodingMaps<'a>> {
         ensures imports_stay { (view self.new).imports ≡ (view self.old).imports }
         ensures maps_stay { (view self.new).maps ≡ (view self.old).maps }
         ensures counts { OnOk result (ExportsName (view self.old) (view self.new) None (raw_name name.entry)) }
+        ensures err { OnErr result ((view self.new).definitions ≡ (view self.old).definitions) }
         ensures held { HoldsMore 1 (view self.old) (view self.new) }
         ensures written { OnOk result (Writes (name_extent (raw_name name.entry)) (view self.old) (view self.new)) }
         ensures size { result ≡ Err Size → Refuses (view self.old) (view self.new) (export_name (raw_name name.entry)) }
@@ -123,6 +127,7 @@ pub trait ValtypeEncoder<'a>: LendsMaps<TypeEncodingMaps<'a>> {
         ensures scope_stays { (view self.new).scope ≡ (view self.old).scope }
         ensures maps_stay { (view self.new).maps ≡ (view self.old).maps }
         ensures counts { OnOk result ((view self.new).definitions ≡ (view self.old).definitions) }
+        ensures err { OnErr result ((view self.new).definitions ≡ (view self.old).definitions) }
         ensures held { HoldsMore 1 (view self.old) (view self.new) }
         ensures written { OnOk result (WritesImport (view self.old) (view self.new) id.0) }
         ensures size { result ≡ Err Size → Refuses (view self.old) (view self.new) (import_of id.0) }

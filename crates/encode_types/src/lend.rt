@@ -1,13 +1,13 @@
 //! The maps of an encoder: read, where it stays as it is, and written, where the rest of it does.
 
-ghost use Rattle.std.specs.Prelude.{◌≡◌, Err, IfOk, OnOk, IfSome, IfNone, IsSome, map, IfErr};
+ghost use Rattle.std.specs.Prelude.{◌≡◌, Err, IfOk, OnOk, OnErr, IsOk, IfSome, IfNone, IsSome, map, IfErr};
 ghost use Rattle.std.specs.List.{Contains, AllZip};
 ghost use Rattle.comp_bytes.specs.Refusal.{IsMemoryOrSize};
 ghost use Rattle.wit_model.specs.declared.error.Error.TheVariants.{Size};
 ghost use Rattle.wit_model.specs.{Types.number_tree, Tree.future_tree, Tree.stream_tree};
 ghost use Rattle.encode_types.specs.Slots.{tree};
 ghost use Rattle.encode_types.specs.{Kinds.kind_of, Kinds.parts_of, Plan.IsLayered, Plan.AllInRange, Plan.IsOrderOf, Leaves.Leaves, Leaves.LeavesSlots, Codes.names_of, Codes.lists_of, Codes.IsKeyList, Definition.IsWrittenParam, Definition.FollowsKind, View.Agrees};
-ghost use Rattle.encode_types.specs.Maps.{IsKnown, LacksList, StandsAsKind, StandsAsKey, IsReady, AllReady, IsWritten, AddsNames, KeepsKnownNames, LearnsNumber, LearnsList, LearnsKeyList};
+ghost use Rattle.encode_types.specs.Maps.{IsKnown, HasRoomFor, SameMaps, LacksList, StandsAsKind, StandsAsKey, IsReady, AllReady, IsWritten, AddsNames, KeepsKnownNames, LearnsNumber, LearnsList, LearnsKeyList};
 
 use crate::codes::ListKey;
 use crate::definition::{definition, params_in};
@@ -128,6 +128,27 @@ pub fn list_of_key<'a, E: ValtypeEncoder<'a>>(
     enc.type_encoding_maps().list_of_key(alloc, key)
 }
 
+/// Makes room for a type number in the maps, so that remembering it isn't refused.
+pub fn reserve_id<'a, E: ValtypeEncoder<'a>>(
+    enc: &mut E,
+    resolve: &'a Resolve,
+    id: TypeId,
+) -> Result<(), Error>
+    requires { Agrees resolve.now (E.view enc.old) }
+    ensures ok { OnOk result (HasRoomFor (E.view enc.new).maps id.0) }
+    ensures same { SameMaps (E.view enc.old).maps (E.view enc.new).maps }
+    ensures leaves { Leaves resolve.now (E.view enc.old) (E.view enc.new) }
+    ensures around_stays { (E.view enc.new).around ≡ (E.view enc.old).around }
+    ensures imports_stay { (E.view enc.new).imports ≡ (E.view enc.old).imports }
+    ensures counts { (E.view enc.new).definitions ≡ (E.view enc.old).definitions }
+    ensures held { (E.view enc.new).held ≡ (E.view enc.old).held }
+    ensures written { (E.view enc.new).extent ≡ (E.view enc.old).extent }
+    ensures size { result ≡ Err Size → ⊥ }
+    ensures refuses { IfErr result IsMemoryOrSize }
+{
+    enc.type_encoding_maps().reserve_id(id)
+}
+
 pub fn remember_id<'a, E: ValtypeEncoder<'a>>(
     enc: &mut E,
     resolve: &'a Resolve,
@@ -138,6 +159,8 @@ pub fn remember_id<'a, E: ValtypeEncoder<'a>>(
     requires fresh { IsKnown (E.view enc.old).maps id.0 → ⊥ }
     requires agree { Agrees resolve.now (E.view enc.old) }
     ensures ok { OnOk result (LearnsNumber (E.view enc.old).maps (E.view enc.new).maps id index) }
+    ensures err { OnErr result (SameMaps (E.view enc.old).maps (E.view enc.new).maps) }
+    ensures succeeds { HasRoomFor (E.view enc.old).maps id.0 → IsOk result }
     ensures leaves { Leaves resolve.now (E.view enc.old) (E.view enc.new) }
     ensures around_stays { (E.view enc.new).around ≡ (E.view enc.old).around }
     ensures imports_stay { (E.view enc.new).imports ≡ (E.view enc.old).imports }
@@ -160,6 +183,7 @@ pub fn remember_kind<'a, E: ValtypeEncoder<'a>>(
     requires fresh { LacksList (lists_of (E.view enc.old).maps.def_to_index) list.0.items }
     requires agree { Agrees resolve.now (E.view enc.old) }
     ensures ok { OnOk result (LearnsList (E.view enc.old).maps (E.view enc.new).maps list.0.items index) }
+    ensures err { OnErr result (SameMaps (E.view enc.old).maps (E.view enc.new).maps) }
     ensures leaves { Leaves resolve.now (E.view enc.old) (E.view enc.new) }
     ensures around_stays { (E.view enc.new).around ≡ (E.view enc.old).around }
     ensures imports_stay { (E.view enc.new).imports ≡ (E.view enc.old).imports }
@@ -182,6 +206,7 @@ pub fn remember_key<'a, E: ValtypeEncoder<'a>>(
     requires fresh { LacksList (lists_of (E.view enc.old).maps.func_type_map) list.0.items }
     requires agree { Agrees resolve.now (E.view enc.old) }
     ensures ok { OnOk result (LearnsKeyList (E.view enc.old).maps (E.view enc.new).maps list.0.items index) }
+    ensures err { OnErr result (SameMaps (E.view enc.old).maps (E.view enc.new).maps) }
     ensures leaves { Leaves resolve.now (E.view enc.old) (E.view enc.new) }
     ensures around_stays { (E.view enc.new).around ≡ (E.view enc.old).around }
     ensures imports_stay { (E.view enc.new).imports ≡ (E.view enc.old).imports }

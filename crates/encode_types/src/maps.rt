@@ -1,6 +1,6 @@
 //! Which index stands for what in a scope.
 
-ghost use Rattle.std.specs.Prelude.{◌≡◌, Err, [], IfOk, IfSome, IsSome, IfNone, OnOk, OnErr, IfErr};
+ghost use Rattle.std.specs.Prelude.{◌≡◌, Err, [], IfOk, IfSome, IsSome, IfNone, IsOk, OnOk, OnErr, IfErr};
 ghost use Rattle.comp_bytes.specs.Refusal.{IsMemoryOrSize};
 ghost use Rattle.wit_model.specs.Text.{text_of};
 ghost use Rattle.wit_model.specs.declared.error.Error.TheVariants.{Size};
@@ -16,7 +16,7 @@ use std::cmp::Reverse;
 use std::collections::BTreeMap;
 use wit_model::{Error, Param, Type, TypeId};
 
-/// The indexes of what a scope has defined, in ordered maps.
+/// The indexes of what a scope has defined.
 ///
 /// Unnamed kinds and the types of functions are found by lists of numbers (`laws::equal_lists`), which stand in falling order: what is new mostly
 /// has the greatest numbers, and so stands first. Types mostly come by ascending numbers, and are found by their distance from the first.
@@ -38,7 +38,7 @@ pub struct TypeEncodingMaps<'a> {
 
 impl<'a> TypeEncodingMaps<'a> {
     ghost use Rattle.encode_types.specs.Codes.{names_of, lists_of, HasNumber, HaveNumbers, IsKeyList, AddsParam};
-    ghost use Rattle.encode_types.specs.Maps.{IsKnown, LacksList, AddsNames, KeepsKnownNames, LearnsNumber, LearnsList, LearnsKeyList, SameMaps};
+    ghost use Rattle.encode_types.specs.Maps.{IsKnown, HasRoomFor, LacksList, AddsNames, KeepsKnownNames, LearnsNumber, LearnsList, LearnsKeyList, SameMaps};
     ghost use Rattle.std.specs.List.{Contains};
 
     /// Maps that hold nothing. Takes constant time and no memory.
@@ -125,10 +125,22 @@ impl<'a> TypeEncodingMaps<'a> {
         Ok(Reverse(list))
     }
 
+    /// Makes room for a type number, so that it can be remembered without memory.
+    pub(crate) fn reserve_id(&mut self, id: TypeId) -> Result<(), Error>
+        ensures ok { OnOk result (HasRoomFor self.new id.0) }
+        ensures same { SameMaps self.old self.new }
+        ensures size { result ≡ Err Size → ⊥ }
+        ensures refuses { IfErr result IsMemoryOrSize }
+    {
+        self.id_to_index.reserve(id.0)?;
+        Ok(())
+    }
+
     pub(crate) fn remember_id(&mut self, id: TypeId, index: u32) -> Result<(), Error>
         requires { IsKnown self.old id.0 → ⊥ }
         ensures ok { OnOk result (LearnsNumber self.old self.new id index) }
         ensures err { OnErr result (SameMaps self.old self.new) }
+        ensures succeeds { HasRoomFor self.old id.0 → IsOk result }
         ensures size { result ≡ Err Size → ⊥ }
         ensures refuses { IfErr result IsMemoryOrSize }
     {

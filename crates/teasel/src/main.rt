@@ -5,7 +5,8 @@ use std::io::IsTerminal;
 use std::process::ExitCode;
 use teasel_files::Setting;
 use teasel_host::{Host, is_dumb, is_set, words};
-use teasel_run::{REFUSED, run_words};
+use teasel_messages::Refusal;
+use teasel_run::{run_words, status_of};
 
 fn main(rt: HostRuntime) -> ExitCode {
     let alloc = rt.alloc();
@@ -20,7 +21,7 @@ fn main(rt: HostRuntime) -> ExitCode {
         rt: &rt,
         input: &mut input,
     };
-    let status = match words(&rt, alloc) {
+    let done = match words(&rt, alloc) {
         Ok(words) => run_words(
             alloc,
             &words,
@@ -29,7 +30,7 @@ fn main(rt: HostRuntime) -> ExitCode {
             &mut rt.stdout(),
             &mut rt.stderr(),
         ),
-        Err(_) => REFUSED,
+        Err(_) => Err(Refusal::Memory),
     };
-    ExitCode::from(status)
+    ExitCode::from(status_of(setting, done, &mut rt.stderr()))
 }

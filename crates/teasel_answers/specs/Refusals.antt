@@ -1,13 +1,15 @@
 -- Why a word answers nothing to its files.
-use Rattle.std.specs.Prelude.{◌≡◌, ◌⊎◌, ℕ, Bool, true, false, Any, List, [], ◌∷◌, length, nat_eq, None, Vec}
+use Rattle.std.specs.Prelude.{◌≡◌, ◌⊎◌, ◌++◌, ℕ, Bool, true, false, Any, List, [], ◌∷◌, length, nat_eq, None, Option, Some, Vec}
+use Rattle.std.specs.Borrow.{Bor}
 use Rattle.std.specs.declared.alloc.Global.{Global}
-use Rattle.wit_component.specs.Reached.{OutgrowsLists}
+use Rattle.wit_component.specs.{DecodedWorlds.RefusesWorldBytes, Reached.OutgrowsLists}
+use Rattle.wit_metadata.specs.Modules.{IsFrontData, IsFrontless, IsNoModule, module_preamble}
 use Rattle.wit_model.specs.declared.error.Error.{Error}
 use Rattle.teasel_answers.specs.{Answers.encoding_of, Answers.is_answer_no, Answers.pair_of, Checks.RefusesModule, Forms.Shows, Forms.ShowsNothing, Worlds.HasNoOneWorld, Worlds.IsChosen, Worlds.last_of}
 use Rattle.teasel_answers.specs.declared.forms.Form.TheVariants as forms
 use Rattle.teasel_files.specs.declared.answer.Input.{Input}
 use Rattle.teasel_messages.specs.{Looks.begins_as_module, Reasons.is_memory}
-use Rattle.teasel_words.specs.{Given.Given, Table.Text, Table.all_words, Table.first_word}
+use Rattle.teasel_words.specs.{Choices.shell_named, Given.Given, Table.Text, Table.all_words, Table.first_word}
 use Rattle.teasel_words.specs.declared.table.Word.{Word}
 use Rattle.teasel_words.specs.declared.table.Word.TheVariants as words
 use Rattle.witc_texts.specs.Worlds.{ComparesBytes, RefusesCompared}
@@ -63,12 +65,38 @@ pub data EmbedsNothing (g : Given) (m p : Input) : Type 0 where
   nothing_brought : BringsNothing p → EmbedsNothing g m p
   nothing_attached : (bytes : Vec ℕ Global) → Shows forms.Wasm None p bytes → AttachesNothing g m bytes.items → EmbedsNothing g m p
 
+-- These bytes are left of others once some sections in front are taken away.
+pub data IsLeft (bytes : List ℕ) : List ℕ → Type 0 where
+  all_left : IsLeft bytes bytes
+  one_less : {rest behind : List ℕ} (found : Option (Bor (List ℕ))) → IsLeft bytes rest → IsFrontData rest found behind → IsLeft bytes behind
+
+-- No section is listed of what is left: none stands in front; or the first one contains a world that can't be read, and not for want of memory.
+pub data ListsNoFront (rest : List ℕ) : Type 0 where
+  frontless : IsFrontless rest → ListsNoFront rest
+  unreadable : (world : Bor (List ℕ)) (behind : List ℕ) (e : Error) → IsFrontData rest (Some world) behind → is_memory e ≡ false → RefusesWorldBytes world.now e
+      → ListsNoFront rest
+
+-- The sections of these bytes aren't listed: they don't begin as a core module; or something is left of which no section is listed.
+pub data HasNoList (bytes : List ℕ) : Type 0 where
+  no_preamble : IsNoModule bytes → HasNoList bytes
+  no_front : (sections rest : List ℕ) → bytes ≡ module_preamble ++ sections → IsLeft sections rest → ListsNoFront rest → HasNoList bytes
+
+-- `sections`: the file is no WebAssembly, or its sections aren't listed
+pub data ListsNothing (i : Input) : Type 0 where
+  foreign_file : i.whole ≡ false → ListsNothing i
+  no_list : HasNoList i.bytes.items → ListsNothing i
+
 -- `help`: the file names no word
 abbrev pub ExplainsNothing : List Text → Type 0
 ExplainsNothing [] = ⊥
 ExplainsNothing (name ∷ names) = first_word all_words name ≡ None
 
--- Why a word answers nothing to the files that it takes. Of what `sections` and `completion` refuse nothing is said.
+-- `completion`: no shell is named, or there is none of the name
+abbrev pub CompletesNothing : List Text → Type 0
+CompletesNothing [] = Unit {0}
+CompletesNothing (name ∷ names) = shell_named name ≡ None
+
+-- Why a word answers nothing to the files that it takes.
 abbrev pub AnswersNothingTo : Word → Given → List Input → Type 0
 AnswersNothingTo words.Text g (i ∷ []) = ShowsNothing (forms.Text g.most) g.kind i
 AnswersNothingTo words.Json g (i ∷ []) = ShowsNothing forms.Json g.kind i
@@ -78,9 +106,9 @@ AnswersNothingTo words.Compat g (i ∷ []) = ComparesNothing g i
 AnswersNothingTo words.Diff g (old ∷ new ∷ []) = DiffersFromNothing g old new
 AnswersNothingTo words.Embed g (m ∷ p ∷ []) = EmbedsNothing g m p
 AnswersNothingTo words.Strip g (i ∷ []) = StripsNothing i
-AnswersNothingTo words.Sections g is = Unit {0}
+AnswersNothingTo words.Sections g (i ∷ []) = ListsNothing i
 AnswersNothingTo words.Help g is = ExplainsNothing g.files
-AnswersNothingTo words.Completion g is = Unit {0}
+AnswersNothingTo words.Completion g is = CompletesNothing g.files
 AnswersNothingTo _ g is = ⊥
 
 -- the same where the word isn't to be explained, which is refused for want of memory alone

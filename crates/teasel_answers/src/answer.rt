@@ -2,7 +2,7 @@
 
 ghost use Rattle.std.specs.Prelude.{◌≡◌, true, false, [], ◌∷◌, length, nat_eq, IfErr, IfOk};
 ghost use Rattle.teasel_answers.specs.{Answers.Answers, Answers.AnswersTo, Answers.Writes, Forms.Shows, Forms.ShowsNothing};
-ghost use Rattle.teasel_answers.specs.Refusals.{AnswersNothing, AnswersNothingTo, ExplainsNothing, HasItsFiles, takes};
+ghost use Rattle.teasel_answers.specs.Refusals.{AnswersNothing, AnswersNothingTo, CompletesNothing, ExplainsNothing, HasItsFiles, takes};
 ghost use Rattle.teasel_messages.specs.Reasons.{RefusedFor};
 ghost use Rattle.teasel_messages.specs.declared.refusal.Refusal.TheVariants.{Memory};
 ghost use Rattle.teasel_words.specs.Given.{given_of, texts_of};
@@ -104,9 +104,13 @@ fn help(alloc: Global, files: &[&str]) -> Result<Answer, Refusal>
 }
 
 fn completions(alloc: Global, files: &[&str]) -> Result<Answer, Refusal>
-    ensures { IfOk result (λ a. a.yes ≡ true) }
+    ensures yes { IfOk result (λ a. a.yes ≡ true) }
+    ensures refused { IfErr result (RefusedFor (CompletesNothing (texts_of files.now))) }
 {
-    let name = files.first().copied().unwrap_or("");
+    let name = match files.first() {
+        Some(name) => *name,
+        None => "",
+    };
     match shell_named(name) {
         Some(shell) => Ok(Answer::told(completion(alloc, shell)?.into_bytes(), true)),
         None => Err(told(

@@ -1,8 +1,12 @@
 //! The sections of a core module that contain worlds.
 
-ghost use Rattle.std.specs.Prelude.{◌≡◌, true, false, IfOk};
-ghost use Rattle.teasel_answers.specs.Answers.{IsListed};
+ghost use Rattle.std.specs.Prelude.{◌≡◌, ℕ, List, Option, true, false, IfErr, IfOk};
+ghost use Rattle.std.specs.Borrow.{Bor};
+ghost use Rattle.wit_component.specs.DecodedWorlds.{RefusesWorldBytes};
+ghost use Rattle.wit_metadata.specs.Modules.{IsFrontData};
+ghost use Rattle.teasel_answers.specs.{Answers.IsListed, Refusals.HasNoList, Refusals.ListsNoFront, Refusals.ListsNothing};
 ghost use Rattle.teasel_messages.specs.Reasons.{RefusedFor, is_memory};
+ghost use Rattle.teasel_messages.specs.declared.refusal.Refusal.TheVariants.{Memory};
 
 use crate::names::world_name;
 use crate::report::{Report, Value, put_object};
@@ -21,7 +25,9 @@ struct Section {
 }
 
 /// A refusal of bytes that stand behind so many others.
-fn moved(error: Error, by: usize) -> Error {
+fn moved(error: Error, by: usize) -> Error
+    ensures { is_memory result ≡ is_memory error }
+{
     match error {
         Error::NoReading(cause, offset) => Error::NoReading(cause, offset.saturating_add(by)),
         other => other,
@@ -29,32 +35,53 @@ fn moved(error: Error, by: usize) -> Error {
 }
 
 /// A section of these data, which begin at this offset.
-fn section_of(alloc: Global, data: &[u8], offset: usize) -> Result<Section, Error> {
-    match world_name(alloc, data) {
+fn section_of(alloc: Global, bytes: &[u8], offset: usize) -> Result<Section, Error>
+    ensures { IfErr result (λ e. is_memory e ≡ false → (of_bytes : Error) × (is_memory of_bytes ≡ false) × RefusesWorldBytes bytes.now of_bytes) }
+{
+    match world_name(alloc, bytes) {
         Ok(world) => Ok(Section {
-            length: data.len(),
+            length: bytes.len(),
             world,
         }),
         Err(error) => Err(moved(error, offset)),
     }
 }
 
+/// Puts the section in front of what is left into the list, where it contains a world. Returns what is left behind it. So many bytes are there in all.
+fn put_front<'a>(
+    alloc: Global,
+    found: &mut Vec<Section>,
+    rest: &'a [u8],
+    all: usize,
+) -> Result<&'a [u8], Error>
+    ensures ok { IfOk result (λ behind. (world : Option (Bor (List ℕ))) × IsFrontData rest.now world behind.now) }
+    ensures refused { IfErr result (λ e. is_memory e ≡ false → ListsNoFront rest.now) }
+{
+    let (carried, behind) = carried_in(rest, all.saturating_sub(rest.len()))?;
+    if let Some(data) = carried {
+        let length = data.len().saturating_add(behind.len());
+        match section_of(alloc, data, all.saturating_sub(length)) {
+            Ok(section) => found.push(section)?,
+            Err(error) => return Err(error),
+        }
+    }
+    Ok(behind)
+}
+
 /// The sections, in order.
-fn all_sections(alloc: Global, bytes: &[u8]) -> Result<Vec<Section>, Error> {
+fn all_sections(alloc: Global, bytes: &[u8]) -> Result<Vec<Section>, Error>
+    ensures { IfErr result (λ e. is_memory e ≡ false → HasNoList bytes.now) }
+{
     let mut found = Vec::new(alloc);
     let mut rest = sections_of(bytes)?;
     for _ in 0..bytes.len() {
         if rest.is_empty() {
             break;
         }
-        let offset = bytes.len().saturating_sub(rest.len());
-        let (carried, behind) = carried_in(rest, offset)?;
-        if let Some(data) = carried {
-            let length = data.len().saturating_add(behind.len());
-            let offset = bytes.len().saturating_sub(length);
-            found.push(section_of(alloc, data, offset)?)?;
+        match put_front(alloc, &mut found, rest, bytes.len()) {
+            Ok(behind) => rest = behind,
+            Err(error) => return Err(error),
         }
-        rest = behind;
     }
     Ok(found)
 }
@@ -110,7 +137,8 @@ fn tell_section(
 }
 
 fn told(alloc: Global, sections: &[Section], json: bool) -> Result<Answer, Refusal>
-    ensures { IfOk result (λ a. a.yes ≡ true) }
+    ensures yes { IfOk result (λ a. a.yes ≡ true) }
+    ensures memory { IfErr result (λ refusal. refusal ≡ Memory) }
 {
     let mut report = Report::begin(alloc, json)?;
     for (number, section) in sections.iter().enumerate() {
@@ -121,7 +149,8 @@ fn told(alloc: Global, sections: &[Section], json: bool) -> Result<Answer, Refus
 
 /// A list of the sections that contain worlds.
 pub fn sections(alloc: Global, asked: &Asked<'_>, input: &Input<'_>) -> Result<Answer, Refusal>
-    ensures { IfOk result (IsListed input.now) }
+    ensures ok { IfOk result (IsListed input.now) }
+    ensures refused { IfErr result (RefusedFor (ListsNothing input.now)) }
 {
     if !input.whole {
         return Err(foreign(alloc, input.name, &input.bytes));

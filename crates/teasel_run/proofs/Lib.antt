@@ -1,2 +1,2 @@
--- The status of what a run comes to, and why it stops. Serves run::carry_out, run::run_texts, run::run_words.
+-- The status of what a run comes to, and why it stops. Serves run::carry_out, run::run_texts.
 mod RunLaws

@@ -1,6 +1,6 @@
 -- The status of what a run comes to, and why it stops.
 use Rattle.std.proofs.lemmas.Bool.{leb-true}
-use Rattle.std.proofs.Common.{◌≡◌, ◌≤◌, ◌&&◌, ◌||◌, IfErr, IfOk, OnErr, arith, suc, ap, sym, subst, true, false, refl, ℕ, Bool, List, [], ◌∷◌, length, nat_le, Option, Result, Ok, Err, if◌then◌else◌}
+use Rattle.std.proofs.Common.{◌≡◌, ◌≤◌, ◌&&◌, ◌||◌, IfErr, IfOk, OnErr, arith, suc, ap, true, false, refl, ℕ, Bool, List, [], ◌∷◌, length, nat_le, Option, Result, Ok, Err, if◌then◌else◌}
 use Rattle.teasel_answers.specs.Refusals.{HasItsFiles, takes}
 use Rattle.teasel_files.specs.Contents.{AreRead, files_of, has_files, or_input}
 use Rattle.teasel_files.specs.declared.{answer.Input.Input, setting.Setting.Setting}
@@ -9,23 +9,10 @@ use Rattle.teasel_words.specs.{Given.Given, Spelling.Spells, Spelling.fits, Tabl
 use Rattle.teasel_words.specs.declared.table.Word.{Word}
 use Rattle.teasel_words.specs.declared.table.Word.TheVariants as words
 use Rattle.teasel_messages.proofs.ReasonLaws.{refused-by}
-use Rattle.teasel_run.specs.Runs.{Carries, Ends, Runs, Stops, answered, refused, status_by, stopped}
+use Rattle.teasel_run.specs.Runs.{Carries, Runs, Stops, stopped}
 
 module _ {State : Type 0} (holds : State → Text → List ℕ → Type 0) (fails : State → Text → Type 0) (puts : State → Text → List ℕ → State → Type 0) (s : Setting)
     (words_ : List Text) (old new : State) (before after : Option (List ℕ)) where
-  ends : (done : Result Bool Refusal) → Runs holds fails puts s words_ old new before after done → Ends holds puts s words_ old new before after (status_by done)
-  ends (Ok fits) h = answered h.0 fits h.1 h.2
-  ends (Err refusal) h = refused h.0
-
-  -- a run ends with the status of what came of it
-  pub ends-so : (done : Result Bool Refusal) (status : ℕ) → status ≡ status_by done → Runs holds fails puts s words_ old new before after done
-      → Ends holds puts s words_ old new before after status
-  ends-so done status is h = subst (λ n. Ends holds puts s words_ old new before after n) (sym is) (ends done h)
-
-  -- one that is refused, where nothing changed
-  pub ends-refused : (status : ℕ) → status ≡ 2 → new ≡ old → Ends holds puts s words_ old new before after status
-  ends-refused status is same = subst (λ n. Ends holds puts s words_ old new before after n) (sym is) (refused same)
-
   -- what comes of what the words spell
   pub runs-so : (g : Given) → Spells words_ g → (done : Result Bool Refusal) → IfOk done (Carries holds puts s g old new before after) → OnErr done (new ≡ old)
       → IfErr done (RefusedFor (Stops holds fails s g old)) → Runs holds fails puts s words_ old new before after done

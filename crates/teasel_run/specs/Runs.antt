@@ -1,6 +1,7 @@
 -- What a run answers, writes and returns.
 use Rattle.std.specs.Prelude.{◌≡◌, ◌⊎◌, ◌<◌, ℕ, Bool, true, false, ◌&&◌, is_none, Any, List, codes, count_by, length, map, Option, Some, Result, Ok, Err, Vec}
 use Rattle.std.specs.declared.alloc.Global.{Global}
+use Rattle.std.specs.Str.{IsUtf8}
 use Rattle.teasel_answers.specs.{Answers.Answers, Refusals.AnswersNothing}
 use Rattle.teasel_files.specs.{Contents.AreRead, Contents.files_of, Delivered.IsDelivered}
 use Rattle.teasel_files.specs.declared.{answer.Answer.Answer, answer.Input.Input, setting.Setting.Setting}
@@ -50,9 +51,14 @@ pub data Stops {State : Type 0} (holds : State → Text → List ℕ → Type 0)
   unwritten : (inputs : List Input) (a : Answer) → AreRead (holds old) (files_of g) inputs → Answers g (colored_by g.color g.output s) inputs a
       → Stops holds fails s g old
 
--- Why words aren't answered: they ask for nothing, or for something that isn't done.
+-- a word is no text
+abbrev pub IsNoText : Text → Type 0
+IsNoText word = IsUtf8 word → ⊥
+
+-- Why words aren't answered: one is no text; they ask for nothing; or they ask for something that isn't done.
 pub data IsStopped {State : Type 0} (holds : State → Text → List ℕ → Type 0) (fails : State → Text → Type 0) (s : Setting) (words : List Text) (old : State)
     : Type 0 where
+  no_text : Any IsNoText words → IsStopped holds fails s words old
   misspelt : IsMisspelt words → IsStopped holds fails s words old
   stopped : (g : Given) → Spells words g → Stops holds fails s g old → IsStopped holds fails s words old
 
@@ -62,7 +68,7 @@ abbrev pub Runs : {State : Type 0} → (State → Text → List ℕ → Type 0) 
 Runs holds fails puts s words old new before after (Ok fits) = (g : Given) × Spells words g × Carries holds puts s g old new before after fits
 Runs holds fails puts s words old new before after (Err refusal) = (new ≡ old) × RefusedFor (IsStopped holds fails s words old) refusal
 
--- the status of what came of it
+-- the exit status of what came of it: 0 for yes, 1 for no, and 2 where something is refused
 abbrev pub status_by : Result Bool Refusal → ℕ
 status_by (Ok fits) = status_of fits
 status_by (Err refusal) = 2
@@ -70,10 +76,3 @@ status_by (Err refusal) = 2
 -- words as texts
 abbrev pub bytes_of : List (Vec ℕ Global) → List Text
 bytes_of words = map (λ w. w.items) words
-
--- A run of these words ends with this status: 0 or 1 where they ask for something that is answered, yes or no; or 2, where all files are as they were.
-pub data Ends {State : Type 0} (holds : State → Text → List ℕ → Type 0) (puts : State → Text → List ℕ → State → Type 0) (s : Setting) (words : List Text)
-    (old new : State) (before after : Option (List ℕ)) : ℕ → Type 0 where
-  answered : (g : Given) (fits : Bool) → Spells words g → Carries holds puts s g old new before after fits
-      → Ends holds puts s words old new before after (status_of fits)
-  refused : new ≡ old → Ends holds puts s words old new before after 2

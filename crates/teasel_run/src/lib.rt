@@ -3,4 +3,4 @@
 
 mod run;
 
-pub use run::{NO, REFUSED, YES, run_texts, run_words};
+pub use run::{NO, REFUSED, YES, run_texts, run_words, status_of};

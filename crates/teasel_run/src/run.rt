@@ -1,8 +1,8 @@
 //! A run of the program, over any files and streams.
 
-ghost use Rattle.std.specs.Prelude.{◌≡◌, ◌≤◌, ◌<◌, ◌⊎◌, true, count_by, IfErr, IfOk, IfSome, OnErr};
+ghost use Rattle.std.specs.Prelude.{◌≡◌, ◌≤◌, ◌<◌, ◌⊎◌, Any, true, count_by, IfErr, IfNone, IfOk, IfSome, OnErr};
 ghost use Rattle.teasel_messages.specs.Reasons.{RefusedFor};
-ghost use Rattle.teasel_run.specs.Runs.{Carries, Ends, HasNameless, Runs, Stops, bytes_of, colored_by, is_input, status_by};
+ghost use Rattle.teasel_run.specs.Runs.{Carries, HasNameless, IsNoText, Runs, Stops, bytes_of, colored_by, is_input, status_by};
 ghost use Rattle.teasel_words.specs.{Given.given_of, Given.text_if, Given.texts_of as texts_in, Spelling.fits};
 
 use std::alloc::{AllocError, Global};
@@ -111,7 +111,8 @@ fn carry_out<S: Store, W: Write, E: Write>(
 
 /// The words as text, or none where one isn't UTF-8.
 fn texts_of<'a>(alloc: Global, words: &'a [Vec<u8>]) -> Result<Option<Vec<&'a str>>, AllocError>
-    ensures { IfOk result (λ found. IfSome found (λ texts. texts_in texts.items ≡ bytes_of words.now)) }
+    ensures some { IfOk result (λ found. IfSome found (λ texts. texts_in texts.items ≡ bytes_of words.now)) }
+    ensures none { IfOk result (λ found. IfNone found (Any IsNoText (bytes_of words.now))) }
 {
     let mut texts = Vec::new(alloc);
     for word in words {
@@ -141,22 +142,8 @@ pub fn run_texts<S: Store, W: Write, E: Write>(
     }
 }
 
-/// The exit status of a run. Why something is refused is told.
-fn status_of<E: Write>(setting: Setting, done: Result<bool, Refusal>, errors: &mut E) -> u8
-    ensures { result ≡ status_by done }
-{
-    match done {
-        Ok(true) => YES,
-        Ok(false) => NO,
-        Err(refusal) => {
-            tell(errors, setting.color && setting.error_terminal, &refusal);
-            REFUSED
-        }
-    }
-}
-
-/// Carries out what the words behind the program's name ask for, and returns the exit status: `YES`, `NO` or `REFUSED`. Answers go to the writer, or to the
-/// file that is named; messages to `errors`.
+/// Carries out what the words behind the program's name ask for, and returns whether the answer is yes. Answers go to the writer, or to the file that is
+/// named; what is told of long work, to `errors`.
 ///
 /// Words that aren't UTF-8 or ask for nothing are refused before anything is read. Then come the files, in order, the answer, and where it goes.
 pub fn run_words<S: Store, W: Write, E: Write>(
@@ -166,22 +153,30 @@ pub fn run_words<S: Store, W: Write, E: Write>(
     store: &mut S,
     writer: &mut W,
     errors: &mut E,
-) -> u8
-    ensures { Ends S.holds S.puts setting (bytes_of words.now) (S.state store.old) (S.state store.new) (W.contents writer.old) (W.contents writer.new) result }
+) -> Result<bool, Refusal>
+    ensures { Runs S.holds S.fails S.puts setting (bytes_of words.now) (S.state store.old) (S.state store.new) (W.contents writer.old)
+        (W.contents writer.new) result }
 {
-    match texts_of(alloc, words) {
-        Ok(Some(texts)) => {
-            let done = run_texts(alloc, &texts, setting, store, writer, errors);
-            status_of(setting, done, errors)
+    match texts_of(alloc, words)? {
+        Some(texts) => run_texts(alloc, &texts, setting, store, writer, errors),
+        None => Err(plain(
+            alloc,
+            "a word isn't UTF-8",
+            "a file whose name isn't can be given as standard input",
+        )),
+    }
+}
+
+/// The exit status of what a run has come to: `YES`, `NO` or `REFUSED`. Why something is refused is told to `errors`.
+pub fn status_of<E: Write>(setting: Setting, done: Result<bool, Refusal>, errors: &mut E) -> u8
+    ensures { result ≡ status_by done }
+{
+    match done {
+        Ok(true) => YES,
+        Ok(false) => NO,
+        Err(refusal) => {
+            tell(errors, setting.color && setting.error_terminal, &refusal);
+            REFUSED
         }
-        Ok(None) => {
-            let refusal = plain(
-                alloc,
-                "a word isn't UTF-8",
-                "a file whose name isn't can be given as standard input",
-            );
-            status_of(setting, Err(refusal), errors)
-        }
-        Err(_) => status_of(setting, Err(Refusal::Memory), errors),
     }
 }

@@ -1,10 +1,12 @@
--- The values of options.
+-- The values of options, and the shells that are named.
 use Rattle.std.specs.Prelude.{ℕ, ◌+◌, ◌-◌, ◌*◌, nat_lt, nat_eq, ◌||◌, Bool, [], ◌∷◌, codes, length, Option, Some, None, if◌then◌else◌}
 use Rattle.teasel_words.specs.Table.{Text, is_same}
 use Rattle.teasel_words.specs.declared.choices.{Color.Color, Encoding.Encoding, Kind.Kind}
 use Rattle.teasel_words.specs.declared.choices.Color.TheVariants as colors
 use Rattle.teasel_words.specs.declared.choices.Encoding.TheVariants as encodings
 use Rattle.teasel_words.specs.declared.choices.Kind.TheVariants as kinds
+use Rattle.teasel_words.specs.declared.pages.Shell.{Shell}
+use Rattle.teasel_words.specs.declared.pages.Shell.TheVariants as shells
 
 -- the kind of this name
 unfoldable pub kind_named : Text → Option Kind
@@ -20,6 +22,11 @@ encoding_named t = if is_same t (codes "utf8") then Some encodings.Utf8 else
 unfoldable pub color_named : Text → Option Color
 color_named t = if is_same t (codes "auto") then Some colors.Auto else
     (if is_same t (codes "always") then Some colors.Always else (if is_same t (codes "never") then Some colors.Never else None))
+
+-- the shell of this name
+unfoldable pub shell_named : Text → Option Shell
+shell_named t = if is_same t (codes "bash") then Some shells.Bash else
+    (if is_same t (codes "zsh") then Some shells.Zsh else (if is_same t (codes "fish") then Some shells.Fish else None))
 
 -- whether a byte is no decimal digit
 abbrev pub is_no_digit : ℕ → Bool

@@ -82,13 +82,31 @@ is_equals c = nat_eq c 61
 abbrev pub has_equals : Text → Bool
 has_equals t = nat_lt (position_or_len is_equals t) (length t)
 
--- what stands in front of its first `=`
-unfoldable pub name_part : Text → Text
-name_part t = if has_equals t then before_first is_equals t else t
+-- what stands behind a beginning, where a text has it
+abbrev pub behind : Text → Text → Option Text
+behind [] t = Some t
+behind (c ∷ cs) [] = None
+behind (c ∷ cs) (d ∷ ds) = if nat_eq c d then behind cs ds else None
 
--- what stands behind it
+-- a value that is joined to a short name, as in `-oFILE`: it isn't empty, and no `=` is in front of it
+abbrev pub joined_value : Option Text → Option Text
+joined_value None = None
+joined_value (Some []) = None
+joined_value (Some (c ∷ cs)) = if is_equals c then None else Some (c ∷ cs)
+
+-- the name of an option and its value: what is joined to `-o` or to `-w`; else what stands in front of the first `=`, and behind it
+abbrev pub parts_by : Option Text → Option Text → Text → Text × Option Text
+parts_by (Some file) world t = (codes "-o", Some file)
+parts_by None (Some world) t = (codes "-w", Some world)
+parts_by None None t = if has_equals t then (before_first is_equals t, Some (after_first is_equals t)) else (t, None)
+
+-- a word as the name of an option
+unfoldable pub name_part : Text → Text
+name_part t = (parts_by (joined_value (behind (codes "-o") t)) (joined_value (behind (codes "-w") t)) t).0
+
+-- the value that it has in the same word
 unfoldable pub value_part : Text → Option Text
-value_part t = if has_equals t then Some (after_first is_equals t) else None
+value_part t = (parts_by (joined_value (behind (codes "-o") t)) (joined_value (behind (codes "-w") t)) t).1
 
 -- whether a dash is the first byte
 abbrev pub begins_with_dash : Text → Bool

@@ -1,7 +1,7 @@
 //! What a command line asks for.
 
 ghost use Rattle.std.specs.Prelude.{◌≡◌, ◌<◌, ◌≤◌, ◌+◌, if◌then◌else◌, drop, length, IfErr, IfOk};
-ghost use Rattle.teasel_words.specs.{Given.Given, Given.given_of, Given.set_flag, Given.set_value, Given.IsSet, Given.IsPut, Given.IsPutSome, Given.text_if, Given.texts_of, Given.value_part, Given.name_part, Given.is_file, Given.fresh};
+ghost use Rattle.teasel_words.specs.{Given.Given, Given.given_of, Given.set_flag, Given.set_value, Given.IsSet, Given.IsPut, Given.IsPutSome, Given.text_if, Given.texts_of, Given.value_part, Given.name_part, Given.behind, Given.joined_value, Given.is_file, Given.fresh};
 ghost use Rattle.teasel_words.specs.{Table.all_options, Table.first_option, Spelling.HasFollowed, Spelling.IsRead, Spelling.IsRest, Spelling.IsTaken, Spelling.IsWhole, Spelling.fits, Spelling.head_of, Spelling.start_named, Spelling.counted, Spelling.taken, Spelling.with_option, Spelling.with_value, Spelling.without_value};
 
 use crate::choices::{Color, Encoding, Kind, color_named, encoding_named, kind_named, size_named};
@@ -70,12 +70,29 @@ impl<'a, T: Drop> From<AllocFailed<T>> for Misuse<'a> {
     }
 }
 
-/// A word and its value, where it has one behind a `=`.
+/// The value that is joined to a short name, as in `-oFILE`.
+fn joined<'a>(word: &'a str, name: &str) -> Option<&'a str>
+    ensures { text_if result ≡ joined_value (behind name.now word.now) }
+{
+    let value = word.strip_prefix(name)?;
+    match value.as_bytes().first() {
+        None => None,
+        Some(byte) => { if *byte == b'=' { None } else { Some(value) } }
+    }
+}
+
+/// The name of an option and its value, where the word has one: joined to `-o` or `-w`, or behind a `=`.
 #[tactic(auto, unfolding(crate::specs::Given::name_part, crate::specs::Given::value_part))]
 fn cut(word: &str) -> (&str, Option<&str>)
     ensures name { result.0.now ≡ name_part word.now }
     ensures value { text_if result.1 ≡ value_part word.now }
 {
+    if let Some(file) = joined(word, "-o") {
+        return ("-o", Some(file));
+    }
+    if let Some(world) = joined(word, "-w") {
+        return ("-w", Some(world));
+    }
     match word.split_once('=') {
         Some((name, value)) => (name, Some(value)),
         None => (word, None),

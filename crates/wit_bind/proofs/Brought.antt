@@ -1,27 +1,33 @@
 -- What both passes copy has its own documentation, stability and external ids in what is merged.
 use Rattle.std.proofs.Common.{rules as std_rules, ◌≡◌, refl, sym, ap, subst, ◌∙◌, ◌⊎◌, inl, inr, arith, ℕ, zero, suc, Bool, true, false, not, cond, List, [], ◌∷◌, ◌++◌, map, Option, Some, None, is_none, option_map, option_to_list, String, Contains, ◌+◌, ◌≤◌, ◌<◌, length, append-nil, is_some, slice_get, take, nat_lt, ltb→lt, ltb-true, T}
-use Rattle.std.proofs.lemmas.{List.map-append, List.length-map, Bool.and_from as both, List.Elements.Contains-append_right, Map.Made.IsDistinct-keys_filter, Simd.map-map, List.Folds.list_all-append, Map.Keys.any_passes_from_place as any_at, Option.same_Some as same-some, Option.slice_get-map, Option.slice_get_within}
+use Rattle.std.proofs.lemmas.{List.map-append, List.length-append, List.length-map, Bool.and_from as both, List.Elements.Contains-append_right, Map.Made.IsDistinct-keys_filter, Simd.map-map, List.Folds.list_all-append, Map.Keys.any_passes_from_place as any_at, Option.same_Some as same-some, Option.slice_get-map, Option.slice_get_within}
 use Rattle.std.specs.Prelude.{if◌then◌else◌, unwrap_or, option_and_then}
 use Rattle.std.specs.{List.filter, List.filter_map, List.list_all, List.AllZip, List.IsDistinct, Map.keys_of, Option.option_map_or}
 use Rattle.std.specs.declared.alloc.Global.{Global}
 use Rattle.wit_model.specs.declared.model.{Function.Function, Resolve.Resolve, TypeDef.TypeDef, WorldKey.WorldKey, TypeOwner.TypeOwner, Package.Package, Interface.Interface, PackageId.PackageId, «Type».«Type» as ValueType, WorldItem.WorldItem, InterfaceId.InterfaceId, TypeId.TypeId, World.World}
 use Rattle.wit_model.specs.Lookup.{interface_at, interface_path, key_text, resource_of, type_at, identity_of, package_at, path_in_package, path_of_interface, path_of_world, world_at}
 use Rattle.wit_model.specs.{Parts.function_types, Parts.kind_numbers, Valid.IsValid, Valid.Keeps, Checks.references, Text.Text, Text.optional_text, Text.text_of, Text.text_eq, Types.number_of, Types.declaration_of, Types.number_tree, Types.grow, Names.path_in}
+use Rattle.wit_model.specs.{Meaning.Entry, Meaning.InterfaceMeaning, Meaning.Item, Meant.interface_item}
+use Rattle.bind_meaning.proofs.WorldBindings.{world-path}
 use Rattle.wit_model.proofs.{Checks.below_at, Elements.contains-get, VersionLaws.same_text, OnePath.named-path, Tables.grow_at}
 use Rattle.bind_copy.specs.Copies.{is_new_under, number_under, IsEntryUnder, IsFunctionUnder, IsInterfaceUnder, IsItemUnder, IsFunctionEntry as IsFunctionEntryUnder, become_one, IsTypeUnder, member_docs}
 use Rattle.bind_union.specs.Carried.{stability_view, EntryBecomes, IsCarried, IsFunctionCopy, IsFunctionEntry, IsInterface, IsInterfaceCopy, IsType, ItemBecomes, KeyBecomes, Renumbering}
 use Rattle.bind_union.specs.{Views.renamed_type, Merged.AreCopies, Joined.same_key, Joined.none, Joined.met, Joined.added, Joined.Joined, Joined.IsJoined}
-use Rattle.bind_carry.specs.{ReadyItems.IsKeyReady, BoundGains.bound_fates, FirstPass.IsFirstPass, Fates.is_carried, Marked.AreChosen, Packaged.IsPackageCarried, Renumbered.first_of, Renumbered.is_copied, TooLong.CarriedThings, TooLong.TypeFates, First.first_fates, First.flag_under, Numbers.interface_number, Numbers.numbers_of, Numbers.package_number, Numbers.world_number, SecondPass.second_pass_of, SecondPass.IsSecondPass, Whole.home_under, Whole.IsInterfaceCarried, Whole.IsWorldCarried}
-use Rattle.bind_carry.proofs.{Joined.new_same, FirstNumbers.names, FirstWorlds.first_is_copied, SecondCarried.type_from, SecondCarried.second_is_copied, UnionKeys.carried_path, CopiesPlaced.copied_home, CopiesPlaced.copy_placed, WorldEntries.export_keyed, WorldEntries.import_keyed, InsertedBehind.all_behind, InsertedBehind.filter_passes, SecondPass.known as second_known, SecondPass.stood_how as second_stood, FirstInterfaces.stood_how as first_stood, FirstWorlds.first_worlds_are_copied, KeptPlaced.kept_placed, KeptPlaced.IsKeptAt, SecondCarried.carried_number, SecondCarried.inline_at, SecondCarried.inline_place, SecondPass.chosen, SecondPass.long}
-use Rattle.bind_union.proofs.{ViewTests.numbers_under, ViewTests.one_given, ViewTests.numbers_same, Images.same_declarations, Lists.by_less, Lists.no_true}
+use Rattle.bind_carry.specs.{ReadyItems.IsKeyReady, BoundGains.bound_fates, FirstPass.IsFirstPass, Fates.copies, Fates.is_carried, Fates.numbers_by, Fates.stood, Numbers.copied_count, Marked.AreChosen, Packaged.IsPackageCarried, Renumbered.first_of, Renumbered.is_copied, TooLong.CarriedThings, TooLong.TypeFates, First.first_fates, First.flag_under, Numbers.interface_number, Numbers.numbers_of, Numbers.package_number, Numbers.world_number, SecondPass.second_pass_of, SecondPass.IsSecondPass, Whole.home_under, Whole.IsInterfaceCarried, Whole.IsWorldCarried}
+use Rattle.bind_carry.proofs.{Joined.new_same, FirstNumbers.names, FirstWorlds.first_is_copied, SecondCarried.type_from, SecondCarried.second_is_copied, UnionKeys.carried_path, CopiesPlaced.copied_home, CopiesPlaced.copy_placed, CopiesPlaced.flag_is_copied, Counting.carried_all, Counting.copied_long, Counting.inline_all, WorldEntries.export_keyed, WorldEntries.import_keyed, InsertedBehind.all_behind, InsertedBehind.filter_passes, SecondPass.known as second_known, SecondPass.stood_how as second_stood, FirstInterfaces.stood_how as first_stood, FirstWorlds.first_worlds_are_copied, KeptPlaced.kept_placed, KeptPlaced.IsKeptAt, SecondCarried.carried_number, SecondCarried.inline_at, SecondCarried.inline_place, SecondPass.chosen, SecondPass.long}
+use Rattle.bind_union.proofs.{BoundMeanings.joined_mean, ViewTests.numbers_under, ViewTests.one_given, ViewTests.numbers_same, Images.same_declarations, Lists.by_less, Lists.no_true}
 use Rattle.bind_union.proofs.Carrying.{carried_types, kind_carried, references_of, refers_below, same_identity, tree_same}
 use Rattle.wit_bind.specs.Brings.{entry_notes, inline_notes, interface_notes, item_notes, noted, noted_by, noted_function, noted_number, noted_of, noted_parts, of_name, part, InterfaceNotes, NotedTree, Notes, key_texts, world_notes, BringsEntries, IsTypeOf}
-use Rattle.wit_bind.specs.Comes.{is_one_of}
+use Rattle.wit_bind.specs.{Comes.is_one_of, OthersOrder.IsInterfaceBrought, OthersOrder.IsTypeBrought, OthersOrder.IsWorldBrought, OthersOrder.StandInOrder, OthersOrder.StandInTurn}
+use Rattle.wit_bind.proofs.InOrder.{stand_in_order}
 use Rattle.base_lemmas.proofs.{Bools.left_of as first_true, Bools.right_of as second_true, Elements.contains-later, Elements.get-contains, Lists.slice_take as slice_get-take, Numbers.same-number, Options.nameless as named_none, Options.there as some-of}
 use Rattle.bind_clash.proofs.PathsMatched.{world-path-of, IsPathOf}
 use Rattle.bind_match.specs.declared.matches.Matches.{Matches}
 use Rattle.wit_model.specs.declared.model.WorldKey.TheVariants as key
 use Rattle.bind_carry.proofs.SecondCarried as second_joined
+use Rattle.bind_carry.proofs.SecondPass as second_pass
+use Rattle.wit_model.specs.declared.model.Stability.TheVariants as stability
+use Rattle.wit_model.specs.declared.model.WorldItem.TheVariants as item
 
 -- ---- What is copied keeps its documentation, its stability and its external ids, in its order.
 
@@ -54,6 +60,11 @@ noted_here r n t at small = ap (λ o. unwrap_or o of_name) (grow_at noted_step r
 -- interfaces are both inline, or neither is
 inline_same : (a b : Option (String Global)) → optional_text b ≡ optional_text a → is_none b ≡ is_none a
 inline_same x y e = search std_rules
+
+-- one text is told from no other
+one-distinct : (t : Text) → IsDistinct text_eq (t ∷ [])
+unfolding IsDistinct
+one-distinct t = (tt, tt)
 
 -- ---- what is carried of one `Resolve` into another
 
@@ -414,7 +425,57 @@ module _ (own other merged : Resolve) (valid_own : IsValid own) (valid_other : I
         | inr x ↦ (copy_brought second second_copies second_noted x.0 x.1 n x.2 y at, inr x.1)
       ]
 
+  -- what is copied stands under its number
+  pub first_type_numbered : (k : ℕ) → is_copied fates k ≡ true → IsTypeBrought other merged k (number_under first_numbers k)
+  unfolding copy_brought
+  first_type_numbered k h =
+      let t = first_copies.carried.types k (first_copies.carried.copied_types k h) in
+      (t.image, t.at_image, copy_brought first first_copies first_noted k h (number_under first_numbers k) refl t.image t.at_image, refl)
+
+  pub second_type_numbered : (k : ℕ) → is_copied later_fates k ≡ true → IsTypeBrought other merged k (number_under types k)
+  unfolding copy_brought
+  second_type_numbered k h =
+      let t = second_copies.carried.types k (second_copies.carried.copied_types k h) in
+      (t.image, t.at_image, copy_brought second second_copies second_noted k h (number_under types k) refl t.image t.at_image, refl)
+
   -- ---- interfaces that come
+
+  -- what is carried is shown as the other's: by its path, or by what it means
+  interface_shown : (f : Renumbering) → AreCopies own other merged f → (n : ℕ) → f.carries_interface n ≡ true → interface_item merged (f.interfaces n) ≡ interface_item other n
+  interface_shown f is n h = ap shown (joined_mean other merged f valid_other.rules is.carried below is.inline_copied with_path [] [] refl (entry n ∷ []) (entry (f.interfaces n) ∷ [])
+      (entry (f.interfaces n) ∷ []) refl (added (entry n) (entry (f.interfaces n)) [] [] refl ((refl, h), (refl, h, refl, refl)) none) (one-distinct (key_text merged (entry (f.interfaces n)).0)))
+    where
+      entry : ℕ → WorldKey × WorldItem
+      entry k = (key.Interface (record { 0 = k }), item.Interface (record { 0 = k }) stability.Unknown (record { contents = None }) None)
+
+      shown : List (Text × Entry InterfaceMeaning) → Item InterfaceMeaning
+      shown [] = interface_item other n
+      shown (e ∷ es) = e.1.item
+
+      with_path : (k : ℕ) (i : Interface) → interface_at other k ≡ Some i → is_some i.name ≡ true → interface_path other k ≡ None → ⊥
+      with_path k i at named without = no_true (sym (ap is_some without) ∙ named-path other valid_other k (ap (λ o. option_map_or (λ (z : Interface). is_some z.name) o false) at ∙ named))
+
+  -- an interface that is copied stands under its number
+  interface_numbered : (f : Renumbering) (is : AreCopies own other merged f) → ((n : ℕ) (i : Interface) → interface_at other n ≡ Some i → f.copies_interface n ≡ true
+      → (j : Interface) × (interface_at merged (f.interfaces n) ≡ Some j) × (interface_notes merged j ≡ interface_notes other i)) → (n : ℕ) → f.copies_interface n ≡ true
+      → IsInterfaceBrought other merged n (f.interfaces n)
+  interface_numbered f is keeps n copy =
+      let carries = is.carried.copied_interfaces n copy in
+      let x = is.carried.interfaces n carries in
+      let y = keeps n x.old x.found copy in
+      record {
+        shown = interface_shown f is n carries;
+        notes = ap (option_map (interface_notes merged)) y.1 ∙ (ap Some y.2 ∙ sym (ap (option_map (interface_notes other)) x.found));
+      }
+
+  pub first_interface_numbered : (n : ℕ) → flag_under c.copied_interfaces.items n ≡ true → IsInterfaceBrought other merged n (number_under c.interfaces.items n)
+  first_interface_numbered = interface_numbered first first_copies (interface_noted other merged first c.interfaces.items first_numbers valid_other first_copies.carried below (λ k h. refl)
+      refl first_type first_named first_interface first_copies.inline_copied)
+
+  pub second_interface_numbered : (n : ℕ) → flag_under copied n ≡ true → IsInterfaceBrought other merged n (number_under interfaces n)
+  second_interface_numbered n set = subst (IsInterfaceBrought other merged n) (sym (handed_on n (second_copies.carried.copied_interfaces n set)))
+      (interface_numbered second second_copies (interface_noted other merged second interfaces types valid_other second_copies.carried below handed_on refl second_type second_named
+      second_interface second_copies.inline_copied) n set)
 
   -- an interface that is carried by path, with its notes
   pub interface_brought : (n : ℕ) (i : Interface) (path : Text) → interface_at other n ≡ Some i → flag_under c.copied_interfaces.items n ≡ true → path_of_interface other i ≡ Some path
@@ -492,19 +553,24 @@ module _ (own other merged : Resolve) (valid_own : IsValid own) (valid_other : I
     all_noted = entries_noted other merged first c.interfaces.items first_numbers valid_other first_copies.carried below (λ k h. refl) refl first_type first_named first_interface
         first_copies.inline_copied
 
+    world_noted : world_notes merged place.image ≡ world_notes other x
+    world_noted = λ i. record {
+      docs = place.is.docs i;
+      stability = place.is.stability i;
+      imports = all_noted x.imports.entries place.image.imports.entries joined_imports (place.is.imports apart.0) i;
+      exports = all_noted x.exports.entries place.image.exports.entries joined_exports (place.is.exports apart.1) i;
+    }
+
     -- a world that is copied, with its notes
     pub world_brought : (y : World) × Contains merged.worlds.items y × (path_of_world merged y ≡ Some path) × (world_notes merged y ≡ world_notes other x)
-    world_brought = (
-      place.image,
-      get-contains merged.worlds.items (number_under c.worlds.items n) place.image at_place,
-      world_here n x place.image path at path_is place.is,
-      λ i. record {
-        docs = place.is.docs i;
-        stability = place.is.stability i;
-        imports = all_noted x.imports.entries place.image.imports.entries joined_imports (place.is.imports apart.0) i;
-        exports = all_noted x.exports.entries place.image.exports.entries joined_exports (place.is.exports apart.1) i;
-      },
-    )
+    world_brought = (place.image, get-contains merged.worlds.items (number_under c.worlds.items n) place.image at_place, world_here n x place.image path at path_is place.is, world_noted)
+
+    -- it stands under its number
+    pub world_numbered : IsWorldBrought other merged n (number_under c.worlds.items n)
+    world_numbered = record {
+      path = ap (option_and_then (path_of_world merged)) at_place ∙ (world_here n x place.image path at path_is place.is ∙ sym (ap (option_and_then (path_of_world other)) at ∙ path_is));
+      notes = ap (option_map (world_notes merged)) at_place ∙ (ap Some world_noted ∙ sym (ap (option_map (world_notes other)) at));
+    }
 
   -- ---- the bound world
 
@@ -568,3 +634,63 @@ module _ (own other merged : Resolve) (valid_own : IsValid own) (valid_other : I
               (second_joined.exports_join own other merged valid_own valid_other world other_world w v m c first_numbers p copied interfaces types s)
               (s.exports (second_joined.exports_apart own other merged valid_own valid_other world other_world w v m c first_numbers p copied interfaces types s)),
         )
+
+  -- ---- the order of what comes
+
+  pub types_in_turn : (First Second : ℕ → Type 0) → ((k : ℕ) → is_copied fates k ≡ true → First k) → ((k : ℕ) → is_copied later_fates k ≡ true → Second k)
+      → StandInTurn First Second (IsTypeBrought other merged) (length own.types.items) (length merged.types.items)
+  types_in_turn First Second come gain =
+      let none : length own.types.items + length {A = TypeDef} [] ≡ length own.types.items = omega arith in
+      let many = copied_long (length own.types.items) first_numbers other.types.items fates [] p.new_types (second_pass.long_fates _ _ _ valid_own valid_other _ _ _ _ _ _ _ _ _ _ _ s) p.types in
+      let more = copied_long (length own.types.items) types other.types.items later_fates p.new_types s.all_types (second_pass.fates_many _ _ _ valid_own valid_other _ _ _ _ _ _ _ _ _ _ _ s)
+      s.types_copied in
+      let all = ap length s.types_here ∙ length-append own.types.items s.all_types in
+      record {
+        between = length own.types.items + length p.new_types;
+        first = stand_in_order First (IsTypeBrought other merged) (map copies fates) (map stood fates) first_numbers (length own.types.items) (length own.types.items + length p.new_types)
+            (flagged fates) (p.types.numbers_are ∙ ap (λ k. numbers_by k fates) none) (omega (arith, many)) (λ k h. come k (sym (flag_is_copied fates k) ∙ h))
+            (λ k h. first_type_numbered k (sym (flag_is_copied fates k) ∙ h));
+        second = stand_in_order Second (IsTypeBrought other merged) (map copies later_fates) (map stood later_fates) types (length own.types.items + length p.new_types)
+            (length merged.types.items) (flagged later_fates) s.types_copied.numbers_are (omega (arith, more, all)) (λ k h. gain k (sym (flag_is_copied later_fates k) ∙ h))
+            (λ k h. second_type_numbered k (sym (flag_is_copied later_fates k) ∙ h));
+      }
+    where
+      flagged : (fs : TypeFates) → length (map copies fs) ≡ length (map stood fs)
+      flagged fs = length-map fs copies ∙ sym (length-map fs stood)
+
+  pub interfaces_in_turn : (First Second : ℕ → Type 0) → ((n : ℕ) → flag_under c.copied_interfaces.items n ≡ true → First n) → ((n : ℕ) → flag_under copied n ≡ true → Second n)
+      → StandInTurn First Second (IsInterfaceBrought other merged) (length own.interfaces.items) (length merged.interfaces.items)
+  interfaces_in_turn First Second come gain =
+      let long = second_pass.copied_long _ _ _ valid_own valid_other _ _ _ _ _ _ _ _ _ _ _ s in
+      let many = carried_all (IsInterfaceCarried c first_numbers) c.copied_interfaces.items other.interfaces.items p.new_interfaces p.numbered.interface_count p.interfaces in
+      let more = inline_all types w.«package» copied other.interfaces.items p.new_interfaces s.all_interfaces
+      (long ∙ (sym p.numbered.whole.interfaces ∙ p.numbered.interface_count)) s.inline_copied in
+      let all = ap length s.interfaces_here ∙ length-append own.interfaces.items s.all_interfaces in
+      record {
+        between = length own.interfaces.items + length p.new_interfaces;
+        first = stand_in_order First (IsInterfaceBrought other merged) c.copied_interfaces.items (map interface_number m.interfaces.items) c.interfaces.items (length own.interfaces.items)
+            (length own.interfaces.items + length p.new_interfaces) (p.numbered.interface_count ∙ (sym p.all.interfaces ∙ sym (length-map m.interfaces.items interface_number)))
+            p.numbered.interfaces (omega (arith, many)) come first_interface_numbered;
+        second = stand_in_order Second (IsInterfaceBrought other merged) copied c.interfaces.items interfaces (length own.interfaces.items + length p.new_interfaces)
+            (length merged.interfaces.items) long s.interfaces_are (omega (arith, more, all)) gain second_interface_numbered;
+      }
+
+  pub worlds_in_order : (Comes : ℕ → Type 0) → ((n : ℕ) → flag_under c.copied_worlds.items n ≡ true → Comes n)
+      → ((n : ℕ) (x : World) → world_at other n ≡ Some x
+      → IsDistinct (become_one c.interfaces.items) (keys_of x.imports.entries) × IsDistinct (become_one c.interfaces.items) (keys_of x.exports.entries))
+      → StandInOrder Comes (IsWorldBrought other merged) (length own.worlds.items) (length merged.worlds.items)
+  worlds_in_order Comes come apart = stand_in_order Comes (IsWorldBrought other merged) c.copied_worlds.items (map world_number m.worlds.items) c.worlds.items (length own.worlds.items)
+      (length merged.worlds.items) (p.numbered.world_count ∙ (sym p.all.worlds ∙ sym (length-map m.worlds.items world_number))) p.numbered.worlds count come one
+    where
+      count : length merged.worlds.items ≡ length own.worlds.items + copied_count c.copied_worlds.items
+      count =
+          let many = carried_all (IsWorldCarried c first_numbers) c.copied_worlds.items other.worlds.items p.new_worlds p.numbered.world_count p.worlds in
+          let all = ap length p.worlds_here ∙ length-append p.own_worlds p.new_worlds in
+          let same = p.own_count in
+          omega (arith, many, all, same)
+
+      one : (n : ℕ) → flag_under c.copied_worlds.items n ≡ true → IsWorldBrought other merged n (number_under c.worlds.items n)
+      one n set =
+          let x = (first_worlds_are_copied own other merged m c first_numbers valid_own valid_other p n set).0.joined in
+          let path = world-path other valid_other n x.old x.found in
+          world_numbered n x.old path.0 x.found set (sym (ap (option_and_then (path_of_world other)) x.found) ∙ path.1) (apart n x.old x.found)

@@ -119,7 +119,7 @@ module _ (own other : Bindgen) (o : IsBindgen own) (t : IsBindgen other) (can : 
     pub interfaces-are : c.copied_interfaces.items ≡ carried_interfaces s m
     interfaces-are = numbered.copied_interfaces ∙ ap (λ (l : List Bool). mark_worlds s (new_interfaces m.interfaces.items s.interfaces.items) l s.worlds.items) worlds-are
 
-    copied-interface : (n : ℕ) → flag_under c.copied_interfaces.items n ≡ true → InterfaceComes r s n
+    pub copied-interface : (n : ℕ) → flag_under c.copied_interfaces.items n ≡ true → InterfaceComes r s n
     copied-interface n h = interface-comes n (ap (λ (l : List Bool). flag_under l n) (sym interfaces-are) ∙ h)
 
     pub copied-world : (n : ℕ) → flag_under c.copied_worlds.items n ≡ true → WorldComes r s n
@@ -232,7 +232,7 @@ module _ (own other : Bindgen) (o : IsBindgen own) (t : IsBindgen other) (can : 
             shown = some_id n (item_interface e.1) (second_true (is_new_under numbers here e.0) (is_id n (item_interface e.1)) p.passes_it);
           }
 
-      inline-gained : (n : ℕ) → flag_under gained n ≡ true → InlineIsGained own other n
+      pub inline-gained : (n : ℕ) → flag_under gained n ≡ true → InlineIsGained own other n
       inline-gained n h =
           let both = sym (gained_flag s numbers w v below.0 below.1 n) ∙ h in
           let inline = first_true (is_inline_at s n) (is_gained s numbers w v below.0 below.1 n) both in

@@ -4,6 +4,8 @@ pub mod AsItWas
 pub mod BoundWorlds
 -- What is new by name or path is copied. Serves Growth, Merging.
 pub mod Bringing
+-- Copies that are numbered one behind the other stand in the order of what they are copies of. Serves Brought.
+pub mod InOrder
 -- What both passes copy has its own documentation, stability and external ids in what is merged. Serves Merging.
 pub mod Brought
 -- Where nothing clashes, what is matched has one path and one sense. Serves bindgen::merge_matched, laws::matches_have_paths.

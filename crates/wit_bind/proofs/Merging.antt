@@ -14,22 +14,22 @@ use Rattle.bind_copy.specs.Copies.{become_one, is_new_under, member_docs, IsEntr
 use Rattle.bind_match.specs.declared.matches.Matches.{Matches}
 use Rattle.bind_union.specs.Carried.{stability_view}
 use Rattle.bind_union.proofs.{BoundMeanings.bound_means, Valid.merged_is_valid}
-use Rattle.bind_carry.specs.{MatchedSame.AreMatchedAt, MatchedSame.NoneOfPath, SecondPass.is_left_out, SecondPass.second_pass_of, SecondPass.IsSecondPass, Which.AreMatchedAll, TooLong.CarriedThings, AddedKeys.key_view, FirstPass.IsFirstPass, Renumbered.first_of, First.first_fates, Whole.kept, Whole.IsInterfaceCarried, Whole.IsWorldCarried, Packaged.IsPackageCarried, AddedApart.AreMatchedByName, Apart.IsApart}
+use Rattle.bind_carry.specs.{MatchedSame.AreMatchedAt, MatchedSame.NoneOfPath, SecondPass.is_left_out, SecondPass.second_pass_of, SecondPass.IsSecondPass, Which.AreMatchedAll, TooLong.CarriedThings, AddedKeys.key_view, FirstPass.IsFirstPass, Renumbered.first_of, First.first_fates, First.flag_under, Whole.kept, Whole.IsInterfaceCarried, Whole.IsWorldCarried, Packaged.IsPackageCarried, AddedApart.AreMatchedByName, Apart.IsApart}
 use Rattle.bind_carry.specs.{Bound.bound_interfaces, BoundGains.bound_fates, Fates.copies, Renumbered.is_copied, TooLong.gained_fates, TooLong.TypeFates, Union.IsUnionOf}
 use Rattle.bind_carry.proofs.{MetTypes.copied_mark, Ready.fates_long, Ready.numbers_count}
-use Rattle.wit_bind.specs.Comes.{TypeComes, TypeIsGained}
-use Rattle.wit_bind.proofs.Coming.{type-comes, type-gained}
+use Rattle.wit_bind.specs.Comes.{InlineIsGained, InterfaceComes, TypeComes, TypeIsGained, WorldComes}
+use Rattle.wit_bind.proofs.Coming.{copied-interface, copied-world, inline-gained, type-comes, type-gained}
 use Rattle.bind_carry.proofs.KeysGained.{by_path_apart, exports_apart, exports_behind, imports_apart, imports_behind}
 use Rattle.bind_carry.proofs.{FirstOfUnion.unions_have_the_second, NamesMerged.names_are_merged, MergedUnion.unions_are_merged, UnionDistinct.unions_are_apart, UnionDistinct.unions_have_distinct_keys, UnionKeys.exports_come_behind, UnionKeys.keys_keep_texts}
 use Rattle.wit_bind.specs.Brings.{noted, key_texts, BringsEntries, BringsItsOwn, IsTypeOf, NotedTree, Notes}
-use Rattle.wit_bind.specs.{Extends.Extends, Extends.listed_names, Extends.merged_names, Merges.export_keys, Merges.IsGrownBy, Merges.IsPlanOf, Bindings.binding_of, Bindings.IsBindgen, MergedLaws.AgreeByNumbers, MergedLaws.IsUnited}
+use Rattle.wit_bind.specs.{Extends.Extends, Extends.listed_names, Extends.merged_names, Merges.export_keys, Merges.IsGrownBy, Merges.IsPlanOf, Bindings.binding_of, Bindings.IsBindgen, MergedLaws.AgreeByNumbers, MergedLaws.IsUnited, OthersOrder.KeepsOthersOrder}
 use Rattle.base_lemmas.proofs.{Bools.left_of as first_true, Bools.right_of as second_true, Lists.front_at, Lists.within_there as element_at}
 use Rattle.base_lemmas.proofs.Elements.{all-contained, all_by_number as all_by, all_get as at_all, contains-later, contains-map, filter_kept as from-filter, joined_well as joined_all}
 use Rattle.bind_match.specs.Matching.{is_root_world}
 use Rattle.bind_meaning.specs.{Clash.CanUnite, Union.union}
 use Rattle.wit_bind.specs.declared.bindgen.Bindgen.{Bindgen}
 use Rattle.wit_bind.proofs.{Extending.grown_extend, MatchedPaths.matches_have_paths, UnionBound.united_are_the_union, Bringing.new_interface_copied, Bringing.new_package_copied, Bringing.new_world_copied, NumbersAgree.united_agree_by_numbers}
-use Rattle.wit_bind.proofs.Brought.{bound_brought, interface_brought, package_brought, type_brought, type_notes, world_brought}
+use Rattle.wit_bind.proofs.Brought.{bound_brought, interface_brought, interfaces_in_turn, package_brought, type_brought, type_notes, types_in_turn, world_brought, worlds_in_order}
 use Rattle.wit_model.specs.declared.model.TypeDefKind.TheVariants as kind
 
 -- ---- Where there is no documentation and no known stability on either side, there is none in what is merged.
@@ -413,6 +413,21 @@ module _ (own other new : Bindgen) (o : IsBindgen own) (t : IsBindgen other) (ca
         (bound_brought r s new.resolve o.valid t.valid own.world.0 other.world.0 w v p.matches planned.carried planned.types passes.0 planned.second.copied planned.second.interfaces
         planned.second.types passes.1 merged_are_the_union.0.valid own-paths x (sym (ap (world_at new.resolve) number) ∙ at_x)));
     types = type_comes;
+  }
+
+  -- ---- the order of what is new
+
+  pub merged_in_order : KeepsOthersOrder own other new
+  merged_in_order = record {
+    worlds = worlds_in_order r s new.resolve o.valid t.valid own.world.0 other.world.0 w v p.matches planned.carried planned.types passes.0 planned.second.copied planned.second.interfaces
+        planned.second.types passes.1 merged_are_the_union.0.valid (WorldComes r s) (copied-world own other o t can p.matches p.matched planned.carried planned.numbered)
+        (by_path_apart r s o.valid t.valid own.world.0 other.world.0 p.matches w v added keys planned other-bound.1 paths.0 paths.1 paths.2);
+    interfaces = interfaces_in_turn r s new.resolve o.valid t.valid own.world.0 other.world.0 w v p.matches planned.carried planned.types passes.0 planned.second.copied
+        planned.second.interfaces planned.second.types passes.1 merged_are_the_union.0.valid (InterfaceComes r s) (InlineIsGained own other)
+        (copied-interface own other o t can p.matches p.matched planned.carried planned.numbered)
+        (λ n h. inline-gained own other o t can p.matches p.matched planned.carried planned.numbered w v bound.1 other-bound.1 n (ap (λ l. flag_under l n) (sym planned.second.copied_are) ∙ h));
+    types = types_in_turn r s new.resolve o.valid t.valid own.world.0 other.world.0 w v p.matches planned.carried planned.types passes.0 planned.second.copied planned.second.interfaces
+        planned.second.types passes.1 merged_are_the_union.0.valid (TypeComes r s) (TypeIsGained own other) copied_comes copied_gained;
   }
 
   -- where neither side has documentation or a known stability, there is none

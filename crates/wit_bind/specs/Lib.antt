@@ -6,6 +6,7 @@ pub mod Bindings
 pub mod Extends
 pub mod Brings
 pub mod Comes
+pub mod OthersOrder
 pub use Rattle.bind_carry.specs.MadeOf
 pub mod Merged
 pub mod Merges

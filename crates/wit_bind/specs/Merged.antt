@@ -6,14 +6,14 @@ use Rattle.plan_meaning.specs.Built.{IsBare}
 use Rattle.bind_carry.specs.AddedKeys.{key_view}
 use Rattle.bind_meaning.specs.{Clash.CanUnite, Union.union}
 use Rattle.wit_bind.specs.declared.bindgen.Bindgen.{Bindgen}
-use Rattle.wit_bind.specs.{Bindings.IsBindgen, Bindings.binding_of, Brings.BringsItsOwn, Comes.BringsNothing, Extends.Extends, Extends.listed_names, Extends.merged_names, Merges.export_keys, Merges.AddsNothing, Merges.GrowsWithin}
+use Rattle.wit_bind.specs.{Bindings.IsBindgen, Bindings.binding_of, Brings.BringsItsOwn, Comes.BringsNothing, Extends.Extends, Extends.listed_names, Extends.merged_names, Merges.export_keys, Merges.AddsNothing, Merges.GrowsWithin, OthersOrder.KeepsOthersOrder}
 
 -- What the bound world exports is what it exported, followed by what stands under these keys.
 abbrev pub ExportsGrowBy : Bindgen → Bindgen → List WorldKey → Type 0
 ExportsGrowBy old new keys = map key_view (export_keys new.resolve new.world.0) ≡ map key_view (export_keys old.resolve old.world.0 ++ keys)
 
 -- The two unite, and the own bindings have become their union. Own numbers stay, and what is new stands behind what was there, with its own documentation and
--- stability; no more than comes, and nothing where nothing is new.
+-- stability and in the other's order; no more than comes, and nothing where nothing is new.
 -- The answer is the keys of the other's exports, as they stand here.
 pub record IsMerge (own other new : Bindgen) (answer : List WorldKey) : Type 0 where
   pub united : CanUnite (binding_of own) (binding_of other)
@@ -21,6 +21,7 @@ pub record IsMerge (own other new : Bindgen) (answer : List WorldKey) : Type 0 w
   pub valid : IsBindgen new
   pub extends : Extends own.resolve new.resolve own.world.0
   pub brings : BringsItsOwn own other new
+  pub in_order : KeepsOthersOrder own other new
   pub bare : IsBare own.resolve → IsBare other.resolve → IsBare new.resolve
   pub grows : GrowsWithin own other new
   pub nothing : BringsNothing (binding_of own) (binding_of other) → AddsNothing own.resolve new.resolve

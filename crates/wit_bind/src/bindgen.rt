@@ -7,7 +7,7 @@ ghost use Rattle.bind_add.specs.Growth.{IsAddable};
 ghost use Rattle.bind_clash.specs.Faults.{HaveNoClash, IsMatched};
 ghost use Rattle.bind_match.specs.Matching.{own_package_of};
 ghost use Rattle.bind_meaning.specs.{Clash.CanUnite, Union.union};
-ghost use Rattle.wit_bind.specs.{Bindings.IsBindgen, Bindings.binding_of, Extends.Extends, Extends.IsKept, Extends.listed_names, Extends.merged_names, Brings.BringsItsOwn, Merges.AddsNothing, Merges.GrowsWithin, Merges.IsGrownBy, Merges.IsMergeRefusal, Merges.export_keys, Merged.ExportsGrowBy, Merged.IsMerge, Roots.IsRoot, Roots.IsRootPackage, Roots.IsRootResolve, Roots.IsRootWorld};
+ghost use Rattle.wit_bind.specs.{Bindings.IsBindgen, Bindings.binding_of, Extends.Extends, Extends.IsKept, Extends.listed_names, Extends.merged_names, Brings.BringsItsOwn, Merges.AddsNothing, Merges.GrowsWithin, Merges.IsGrownBy, Merges.IsMergeRefusal, Merges.export_keys, Merged.ExportsGrowBy, Merged.IsMerge, OthersOrder.KeepsOthersOrder, Roots.IsRoot, Roots.IsRootPackage, Roots.IsRootResolve, Roots.IsRootWorld};
 ghost use Rattle.wit_bind.specs.Comes.{BringsNothing};
 
 use crate::metadata::ModuleMetadata;
@@ -148,8 +148,9 @@ impl Bindgen {
     /// not carried over. What wasn't here keeps the other's documentation and stability. Own numbers stay, and lists get longer by what comes
     /// alone. What comes is packages, interfaces and worlds that aren't here by name or path, with their types and inline interfaces. The inline
     /// interfaces and types of what the own bound world gains come once more. A type without a name comes if a function or a type refers to it
-    /// that comes. Where nothing of the other is new, no interface, world or type comes. The answer is the keys of the other's exports, as they
-    /// stand here, in their order.
+    /// that comes. New worlds, interfaces and types are numbered in the other's order: first all that comes by path or with a world, then what the
+    /// own bound world gains. Where nothing of the other is new, no interface, world or type comes. The answer is the keys of the other's exports,
+    /// as they stand here, in their order.
     ///
     /// Both `Resolve`s are valid, and each world is one of its own. Refuses with `Clash` where the two clash, and names the first fault; with `Memory`;
     /// and with `Size` only where a list would pass 4,294,967,295 with what comes. Takes time and memory linear in both, with hashed look-ups.
@@ -165,6 +166,7 @@ impl Bindgen {
         ensures world { self.new.world ≡ self.old.world }
         ensures extends { OnOk result (Extends self.old.resolve self.new.resolve self.old.world.0) }
         ensures brings { OnOk result (BringsItsOwn self.old other self.new) }
+        ensures in_order { OnOk result (KeepsOthersOrder self.old other self.new) }
         ensures bare { OnOk result (IsBare self.old.resolve → IsBare other.resolve → IsBare self.new.resolve) }
         ensures growth { OnOk result (GrowsWithin self.old other self.new) }
         ensures nothing { OnOk result (BringsNothing (binding_of self.old) (binding_of other) → AddsNothing self.old.resolve self.new.resolve) }

@@ -4,7 +4,7 @@ use Rattle.std.specs.List.{flat_map}
 use Rattle.wit_model.specs.{Lookup.package_at, Meaning.PackageMeaning, Meant.package_meaning as meaning_of, Meant.Meant}
 use Rattle.comp_bytes.specs.{Spelling.IsComponent, Spelling.preamble}
 use Rattle.comp_bytes.proofs.{ComponentLaws.one_component}
-use Rattle.comp_meaning.specs.{Follow.is_filled, Reads.interfaces_of, Reads.package_meaning, Reads.worlds_of, Reads.Member, Reads.Reads}
+use Rattle.comp_meaning.specs.{Follow.is_filled, Reads.interfaces_of, Reads.package_of_sections, Reads.worlds_of_member, Reads.Member, Reads.Reads}
 use Rattle.wit_component.specs.ReadBack.{DecodedHaveMembers}
 use Rattle.base_lemmas.proofs.{Options.some_is}
 use Rattle.wit_model.proofs.RulesLemmas.{items_of_map as mapped}
@@ -16,13 +16,13 @@ no_sections = let short : length preamble < 2 ^ 32 = omega arith in ((preamble, 
 
 pub preamble_means_nothing : (m : PackageMeaning) → Reads preamble m → ⊥
 preamble_means_nothing m read =
-    let means : package_meaning [] ≡ Some m = ap package_meaning (one_component preamble [] read.sections no_sections read.spelled) ∙ read.means in
+    let means : package_of_sections [] ≡ Some m = ap package_of_sections (one_component preamble [] read.sections no_sections read.spelled) ∙ read.means in
     absurd (let z : ⊥ = cc in z)
 
 -- ---- what is shown
 
 -- a part is an interface or a world
-shown : (m : Member) (ms : List Member) → (is_filled (flat_map interfaces_of (m ∷ ms)) || is_filled (flat_map worlds_of (m ∷ ms))) ≡ true
+shown : (m : Member) (ms : List Member) → (is_filled (flat_map interfaces_of (m ∷ ms)) || is_filled (flat_map worlds_of_member (m ∷ ms))) ≡ true
 shown m ms = search std_rules
 
 read_show : (bytes : List ℕ) (m : PackageMeaning) → Reads bytes m → (is_filled m.interfaces || is_filled m.worlds) ≡ true

@@ -70,6 +70,7 @@ pub use Rattle.wit_encode.specs.Scopes
 pub use Rattle.wit_encode.specs.WholeWorlds
 pub use Rattle.wit_encode.specs.WorldAliases
 pub use Rattle.wit_encode.specs.WorldCounts
+pub use Rattle.wit_encode.specs.WorldRoom
 pub use Rattle.wit_encode.specs.WorldUses
 pub use Rattle.wit_encode.specs.WrittenNames
 pub use Rattle.wit_interfaces.specs.InterfaceEncoders

@@ -14,8 +14,8 @@ pub use wit_bind::laws::roots_are_roots;
 pub use wit_compat::laws::{reflexive, refusals_are_exact, semver_check_counted, transitive};
 pub use wit_encode::laws::{
     equal_lists, exports_end, functions_encode, imports_grow, imports_stand,
-    interface_uses_dependencies, items_meet_standing, lacking_interfaces_are_heavy, names_encode,
-    table_scope_is_of_owner, types_encode,
+    interface_uses_dependencies, items_meet_standing, lacking_interfaces_are_heavy,
+    lacking_worlds_are_heavy, names_encode, table_scope_is_of_owner, types_encode,
 };
 pub use wit_interfaces::laws::{definitions_leave_interfaces, interface_scope_is_of_owner};
 pub use wit_model::laws::canonical_paths_join;

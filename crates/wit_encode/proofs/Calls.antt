@@ -98,7 +98,7 @@ pub formed-value : (resources : Names) (t : Tree) → is_formed resources t ≡ 
 formed-value resources x h = search std_rules
 
 -- a scope in which a named type has been found and shown
-abbrev shown-next : ExternName → InstanceScope → tree_of_types.Declaration × Slot → Option InstanceScope
+abbrev shown-next : ExternName → InstanceScope → tree_of_types.TypeDeclaration × Slot → Option InstanceScope
 shown-next name scope found = Some (record {
   slots = scope.slots ++ found.1 ∷ [];
   shown = record {

@@ -5,7 +5,7 @@ use Rattle.comp_bytes.specs.declared.forms.ComponentTypeRef.{ComponentTypeRef}
 use Rattle.comp_bytes.specs.Raw.{Declaration, Declarations, ExternName, append, from_list}
 use Rattle.comp_bytes.specs.{Held.declaration_slots, Held.type_slots_of, Reading.◌>>=◌}
 use Rattle.encode_types.proofs.Marking.{count-push}
-use Rattle.comp_meaning.specs.Follow.{View, Shown, Key, key_text, interface_of, Slot, Scope, Seen, Direction, import_, export_, see, see_instance, see_function, see_type, in_scope, component_step, component_steps, flat}
+use Rattle.comp_meaning.specs.Follow.{View, Shown, Key, text_of_key, interface_of, Slot, Scope, Seen, Direction, import_, export_, see, see_instance, see_function, see_type, in_scope, component_step, component_steps, flat}
 use Rattle.wit_encode.specs.Instance.{count_declared}
 use Rattle.wit_encode.proofs.Steps.{unbind}
 use Rattle.comp_meaning.proofs.{EntryLaws.flat_list as flat-list, FollowLemmas.provided_is as unprovided}
@@ -21,7 +21,7 @@ none-more : (s s' : Scope) → s.slots ≡ s'.slots → length s'.slots ≡ leng
 none-more s s' e = ap length (sym e) ∙ (let y : length s.slots ≡ length s.slots + 0 = omega arith in y)
 
 seen-as : (direction : Direction) (name : ExternName) (n : ℕ) (s s' : Scope) (key : Key) (o : Option View)
-    → (o >>= λ view. Some (see direction (record { key = key_text key; shown = Shown.instance key view; external_id = name.external_id })
+    → (o >>= λ view. Some (see direction (record { key = text_of_key key; shown = Shown.instance key view; external_id = name.external_id })
     (record s { instances = s.instances ++ record { interface = interface_of key; view = view } ∷ []; used = s.used ++ n ∷ [] }))) ≡ Some s' → length s'.slots ≡ length s.slots + 0
 seen-as direction name n s s' key x e = search std_rules
 

@@ -4,7 +4,7 @@ use Rattle.std.specs.List.{list_all}
 use Rattle.wit_model.specs.{Text.Text, Tree.named, Meaning.TypeMeaning}
 use Rattle.comp_bytes.specs.{Raw.ExternName, Reading.◌>>=◌}
 use Rattle.comp_bytes.specs.declared.forms.ComponentTypeRef.{ComponentTypeRef}
-use Rattle.comp_meaning.specs.Follow.{Slot, declared_by, named_like, named_type}
+use Rattle.comp_meaning.specs.Follow.{Slot, declared_by_slot, named_like, named_type}
 use Rattle.encode_types.specs.{Slots.tree, Scope.Scope, Scope.DeclaresSlot, Scope.DeclaresResource}
 use Rattle.encode_types.specs.{Resources.is_resource_tree, Resources.is_resource_declaration, Standing.SlotsStand, Standing.is_slot_of, Standing.standing_at}
 use Rattle.wit_encode.proofs.Strict.{bind, slot-at}
@@ -25,10 +25,10 @@ module _ (scope : Scope) (slots : List Slot) (sound : list_all (is_slot_of scope
       alike : scope.resources scope.place name.text ≡ is_resource_tree scope.resources s.type_tree
       alike = ap (λ (n : ExternName). scope.resources scope.place n.text) s.named_ ∙ s.declared.alike ∙ ap (is_resource_declaration scope.resources) s.is_type
 
-      found : (x y : Slot) → slice_get slots k ≡ Some x → declared_by x ≡ Some (tree_of_types.type_ s.type_tree) → named_like x scope.place name.text ≡ y
+      found : (x y : Slot) → slice_get slots k ≡ Some x → declared_by_slot x ≡ Some (tree_of_types.type_ s.type_tree) → named_like x scope.place name.text ≡ y
           → named_type slots scope.place name.text (refs.TypeEq k) ≡ Some (s.declaration.1.declaration, y)
-      found x y at by like = bind (slice_get slots k) x (λ slot. declared_by slot >>= λ d. Some (d, named_like slot scope.place name.text)) at
-          ∙ bind (declared_by x) (tree_of_types.type_ s.type_tree) (λ d. Some (d, named_like x scope.place name.text)) by ∙ (λ j. Some (sym s.is_type j, like j))
+      found x y at by like = bind (slice_get slots k) x (λ slot. declared_by_slot slot >>= λ d. Some (d, named_like slot scope.place name.text)) at
+          ∙ bind (declared_by_slot x) (tree_of_types.type_ s.type_tree) (λ d. Some (d, named_like x scope.place name.text)) by ∙ (λ j. Some (sym s.is_type j, like j))
 
       go : (o : Option Slot) → slice_get slots k ≡ o → standing_at o ≡ Some (tree s.type_tree) → DeclaredAs scope slots name (refs.TypeEq k) s.declaration
       go (Some (Slot.value u)) at q =

@@ -7,7 +7,7 @@ use Rattle.wit_model.specs.Tree.{Place}
 use Rattle.wit_model.specs.declared.model.{Resolve.Resolve, World.World}
 use Rattle.comp_bytes.specs.declared.forms.ComponentTypeRef.{ComponentTypeRef}
 use Rattle.comp_bytes.specs.{Raw.Alias, Raw.Declaration, Raw.Declarations, Raw.ExternName, Raw.append, Reading.◌>>=◌}
-use Rattle.comp_meaning.specs.Follow.{Direction, import_, export_, Key, Scope, Seen, Shown, Slot, View, component_step, component_steps, definition, exported_slot, flat, function_in, function_signature, in_scope, interface_of, key_of, key_text, named_type, place_of, see, see_function, see_instance, see_type, used_view, when}
+use Rattle.comp_meaning.specs.Follow.{Direction, import_, export_, Key, Scope, Seen, Shown, Slot, View, component_step, component_steps, definition, exported_slot, flat, function_in, function_signature, in_scope, interface_of, key_of, text_of_key, named_type, instance_place, see, see_function, see_instance, see_type, used_view, when}
 use Rattle.comp_meaning.proofs.FollowLemmas.{provided_is as unprovided}
 use Rattle.encode_types.specs.{Known.Around, View.Told}
 use Rattle.encode_names.specs.WorldSteps.{Entry, Entries, declared_towards, with_entry}
@@ -88,18 +88,18 @@ sees-left : (s t s' : Scope) → t ≡ s' → s.imports ≡ t.imports → s.expo
 sees-left s t s' same i e = (omega (arith, ap (λ (z : Scope). length z.imports) same, ap length i), omega (arith, ap (λ (z : Scope). length z.exports) same, ap length e))
 
 view-seen : (direction : Direction) (name : ExternName) (n : ℕ) (s s' : Scope) (key : Key) (o : Option View)
-    → (o >>= λ view. Some (see direction (record { key = key_text key; shown = Shown.instance key view; external_id = name.external_id })
+    → (o >>= λ view. Some (see direction (record { key = text_of_key key; shown = Shown.instance key view; external_id = name.external_id })
     (record s { instances = s.instances ++ record { interface = interface_of key; view = view } ∷ []; used = s.used ++ n ∷ [] }))) ≡ Some s' → Sees s s' (direction ∷ [])
 view-seen direction name n s s' key None e = absurd cc
 view-seen direction name n s s' key (Some view) e =
     let t : Scope = record s { instances = s.instances ++ record { interface = interface_of key; view = view } ∷ []; used = s.used ++ n ∷ [] } in
-    let seen : Seen = record { key = key_text key; shown = Shown.instance key view; external_id = name.external_id } in
+    let seen : Seen = record { key = text_of_key key; shown = Shown.instance key view; external_id = name.external_id } in
     subst (λ (z : Scope). Sees s z (direction ∷ [])) (some-same (see direction seen t) s' e) (sees direction seen t)
 
 instance-seen : (direction : Direction) (name : ExternName) (n : ℕ) (s s' : Scope) → see_instance direction name n s ≡ Some s' → Sees s s' (direction ∷ [])
 instance-seen direction name n s s' e =
     let a = unbind (key_of name) _ s' e in
-    view-seen direction name n s s' a.item (when (not (list_any (λ m. m == n) s.used)) (used_view s.slots (place_of (interface_of a.item)) (slice_get s.slots n))) a.then
+    view-seen direction name n s s' a.item (when (not (list_any (λ m. m == n) s.used)) (used_view s.slots (instance_place (interface_of a.item)) (slice_get s.slots n))) a.then
 
 function-seen : (direction : Direction) (name : ExternName) (n : ℕ) (s s' : Scope) → see_function direction name n s ≡ Some s' → Sees s s' (direction ∷ [])
 function-seen direction name n s s' e = subst (λ (z : Scope). Sees s z (direction ∷ [])) (unprovided _ _ s' (unbind (function_in (slice_get s.slots n)) _ s' e).then) (sees direction _ s)

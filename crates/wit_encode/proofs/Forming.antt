@@ -3,7 +3,7 @@ use Rattle.std.proofs.Common.{rules as std_rules, ◌≡◌, refl, ap, ◌∙◌
 use Rattle.std.proofs.lemmas.Bool.{and_from as both}
 use Rattle.std.specs.List.{Contains, list_all}
 use Rattle.wit_model.specs.{Text.Text, Text.text_of, Parts.member_types, Parts.handled, Parts.is_resource, Parts.is_resource_type, Parts.is_resource_kind}
-use Rattle.wit_model.specs.{Tree.Tree, Tree.child_list, Tree.children, Tree.given, Tree.is_given, Types.type_tree, Types.declared_by, Types.trees_of}
+use Rattle.wit_model.specs.{Tree.Tree, Tree.child_list, Tree.children, Tree.given_trees, Tree.is_given, Types.type_tree, Types.declared_by, Types.trees_of}
 use Rattle.wit_model.specs.Rules.{has_shape, has_items, is_map_key, passes}
 use Rattle.wit_model.specs.declared.model.{Resolve.Resolve, Field.Field, Case.Case, TypeDefKind.TypeDefKind, «Type».«Type» as ValueType}
 use Rattle.comp_meaning.specs.Follow.{is_key, is_filled}
@@ -25,7 +25,7 @@ field-children r [] = refl
 field-children r (x ∷ xs) = ap (λ us. type_tree r x.ty ∷ us) (field-children r xs)
 
 case-children : (r : Resolve) (xs : List Case)
-    → child_list (given (map (λ c. c.1) (map {B = Text × Option Tree} (λ c. (text_of c.name, option_map (type_tree r) c.ty)) xs))) ≡ map (type_tree r) (filter_map (λ c. c.ty) xs)
+    → child_list (given_trees (map (λ c. c.1) (map {B = Text × Option Tree} (λ c. (text_of c.name, option_map (type_tree r) c.ty)) xs))) ≡ map (type_tree r) (filter_map (λ c. c.ty) xs)
 case-children r [] = refl
 case-children r (x ∷ xs) = search (std_rules, case-children r xs)
 
@@ -82,7 +82,7 @@ module _ (r : Resolve) (resources : Names) where
   kind-formed (kind.Result q) d s v h a = result-values q.ok q.err v a
     where
       result-values : (x y : Option ValueType) → Values (option_to_list x ++ option_to_list y) → Agree r resources (option_to_list x ++ option_to_list y)
-          → are_values resources (child_list (given (option_map (type_tree r) x ∷ option_map (type_tree r) y ∷ []))) ≡ true
+          → are_values resources (child_list (given_trees (option_map (type_tree r) x ∷ option_map (type_tree r) y ∷ []))) ≡ true
       result-values None None v a = refl
       result-values None (Some y) v a = values-of (y ∷ []) v a
       result-values (Some x) None v a = values-of (x ∷ []) v a

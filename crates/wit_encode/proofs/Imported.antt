@@ -120,9 +120,9 @@ module _ (r : Resolve) (v : IsValid r) (canonical : Bool) (a a' : Around) (ns : 
       let count : length s.slots ≡ length new_scope.slots + type_slots_of e.before.declared = steps-count new_scope s e.before.declared before.followed in
       e.index ∙ (let same : type_slots_of e.before.declared ≡ length s.slots = omega (arith, count) in same)
 
-  viewed : used_view (in_scope x s).slots (follow.place_of (Some path)) (slice_get (in_scope x s).slots (length s.slots)) ≡ Some view
-  viewed = ap (used_view (in_scope x s).slots (follow.place_of (Some path))) (slot-behind s.slots x)
-      ∙ ap (λ slots. instance_view (follow.place_of (Some path)) slots e.declared) (take-append_seam s.slots (x ∷ []) ∙ sym around-slots)
+  viewed : used_view (in_scope x s).slots (follow.instance_place (Some path)) (slice_get (in_scope x s).slots (length s.slots)) ≡ Some view
+  viewed = ap (used_view (in_scope x s).slots (follow.instance_place (Some path))) (slot-behind s.slots x)
+      ∙ ap (λ slots. instance_view (follow.instance_place (Some path)) slots e.declared) (take-append_seam s.slots (x ∷ []) ∙ sym around-slots)
       ∙ ap (λ o. instance_view (place_of_path o) (outer_slots e.before.declared) e.declared) (sym is) ∙ e.is_instance.followed
 
   abbrev next : Direction → Scope

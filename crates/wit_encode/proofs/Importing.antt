@@ -323,6 +323,12 @@ module _ (r : Resolve) (i : InterfaceId) (a : Around) (ds : List Declaration) (j
       (definitions_with after ≡ definitions_with c)) h.contents
       (alias-inside res r i a' ds ds' sound k h.known.slot (number_tree r id.0) h.known.at h.known.foreign h.known.kept h.known.stands ok err))
 
+  -- where it is refused, nothing has been defined
+  pub alias-refused : {E : Type 0} (res : Result ℕ E) (a' : Around) (k : ℕ) (ds' : List Declaration) → ReachesAround r id a a' → known_slot a'.known id.0 ≡ Some k → OnErr res (ds' ≡ ds)
+      → OnErr res (definitions_with (inner_contents (place_in r (Some i)) a'.declared ds') ≡ definitions_with before)
+  alias-refused (Ok v) a' k ds' reaches e err = tt
+  alias-refused (Err x) a' k ds' reaches e err = ap definitions_with ((λ q. inner_contents (place_in r (Some i)) a'.declared (err q)) ∙ (reached a' k reaches e).contents)
+
 -- ---- the call
 
 module _ {E : Type 0} (res : Result ℕ E) (r : Resolve) (outer outer' : Declarations) (inner : Option OpenInterface) (current : OpenInterface) (foreign : Foreign) (ds' : List Declaration) (is : inner ≡ Some current) where
@@ -337,6 +343,14 @@ module _ {E : Type 0} (res : Result ℕ E) (r : Resolve) (outer outer' : Declara
       → IfOk res (λ k'. (k' ≡ type_slots current.declared) × (ds' ≡ current.declared ++ Declaration.alias_of (Alias.of_outer 1 k) ∷ [])) → OnErr res (ds' ≡ current.declared) → ImportsTo inner id.0
   imported j id k m reaches known ok err = subst (λ (o : Option OpenInterface). IsImportable (encoder_scope r outer o) j id.0 → ImportsTo o id.0) (sym is)
       (λ m. alias-reached r current.interface (around_at outer current.foreign) current.declared j id m res (around_at outer' foreign) k ds' reaches known ok err) m
+
+  pub import-refused : (j : ℕ) (id : TypeId) (k : ℕ) → IsImportable (encoder_scope r outer inner) j id.0 → ReachesAround r id (around_at outer current.foreign) (around_at outer' foreign)
+      → known_slot foreign.known.entries id.0 ≡ Some k → OnErr res (ds' ≡ current.declared)
+      → OnErr res (definitions_with (contents_of r outer' afterwards) ≡ definitions_with (contents_of r outer inner))
+  import-refused j id k m reaches known err =
+      subst (λ (o : Option OpenInterface). IsImportable (encoder_scope r outer o) j id.0
+      → OnErr res (definitions_with (contents_of r outer' afterwards) ≡ definitions_with (contents_of r outer o))) (sym is)
+      (λ m. alias-refused r current.interface (around_at outer current.foreign) current.declared j id m res (around_at outer' foreign) k ds' reaches known err) m
 
   pub imported-stands : (n : ℕ) → ImportsTo inner n → IfOk res (λ k. SlotsStand (contents_of r outer' afterwards).slots k (tree (number_tree r n)))
   imported-stands n q = search std_rules

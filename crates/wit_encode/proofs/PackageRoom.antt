@@ -12,7 +12,7 @@ use Rattle.encode_exports.specs.ExportedParts.{one_exported, exporting_from}
 use Rattle.encode_exports.proofs.Exports.{one_more}
 use Rattle.encode_types.specs.Room.{limit}
 use Rattle.wit_encode.specs.{Dependencies.ShowsComponent, Instance.declared_extent, WrittenNames.WritesPaths, DependencyCounts.DefinesComponent}
-use Rattle.wit_encode.specs.Packages.{HoldsMembers, Listed, ListedWorld, WrapsWorld, HoldsInterfaces, HoldsPackage, IsTypeOf, IsWrapperOf}
+use Rattle.wit_encode.specs.Packages.{HoldsMembers, ListedInterface, ListedWorld, WrapsWorld, HoldsInterfaces, HoldsPackage, IsTypeOf, IsWrapperOf}
 use Rattle.wit_encode.specs.PackageRoom.{InterfacesLackRoom, LacksInterface, LacksWorld, WorldsLackRoom, parts_extent, AreLong, part_extent}
 use Rattle.wit_encode.proofs.{Lengths.long-parts, Lengths.long-component, Lengths.name-short, Lengths.u32-short, Weighing.one-of}
 use Rattle.wit_encode.proofs.Packages.{IsBegun, WorldsBegun, next-listed, next-world, type-added, world-added}
@@ -41,7 +41,7 @@ module _ (old : List Part) (x : Text × Declarations) where
   long-export e = subst (λ (ps : List Part). limit < 8 + parts_extent ps) whole
       (long-parts (old ++ typed ∷ []) (export ∷ []) (ap (λ (ps : List Part). fits_component (old ++ typed ∷ []) && fits_component ps) whole ∙ e))
 
-pub interface-long : (r : Resolve) (canonical : Bool) (e : Listed) (declared : Declarations) (old : List Part)
+pub interface-long : (r : Resolve) (canonical : Bool) (e : ListedInterface) (declared : Declarations) (old : List Part)
     → ((path : Text) → interface_path r e.1.0 ≡ Some path → ShowsComponent r e.1.0 path declared) → WritesPaths r canonical e.1.0 declared → DefinesComponent r e.1.0 declared
     → declared_extent declared ≤ interface_weight r e.1.0
     → (fits_component (old ++ Part.top_type (TopType.component declared) ∷ []) && fits_component (old ++ one_exported (top_slots old) (text_of e.0, declared))) ≡ false
@@ -63,15 +63,15 @@ world-long r canonical p e w declared old there wraps long = inr (λ interfaces 
 
 -- ---- one after the other
 
-pub next-lacks : (r : Resolve) (canonical : Bool) (entries left rest : List Listed) (parts : List Part) (e : Listed) → IsBegun r canonical entries left parts → left ≡ e ∷ rest
+pub next-lacks : (r : Resolve) (canonical : Bool) (entries left rest : List ListedInterface) (parts : List Part) (e : ListedInterface) → IsBegun r canonical entries left parts → left ≡ e ∷ rest
     → LacksInterface r canonical e parts → InterfacesLackRoom r canonical entries
 next-lacks r canonical entries left rest parts e h is (inl heavy) = InterfacesLackRoom.too_heavy e (next-listed r canonical entries left rest parts e h is) heavy
 next-lacks r canonical entries left rest parts e h is (inr long) =
-    InterfacesLackRoom.too_long (h.done ++ e ∷ []) rest (h.split ∙ ap (λ (es : List Listed). h.done ++ es) is ∙ sym (append_assoc h.done (e ∷ []) rest)) (long h.done h.holds)
+    InterfacesLackRoom.too_long (h.done ++ e ∷ []) rest (h.split ∙ ap (λ (es : List ListedInterface). h.done ++ es) is ∙ sym (append_assoc h.done (e ∷ []) rest)) (long h.done h.holds)
 
 pub next-world_lacks : (r : Resolve) (p : PackageIdentity) (canonical : Bool) (entries left rest : List ListedWorld) (parts middle : List Part) (e : ListedWorld)
     → WorldsBegun r p canonical entries left parts middle
-    → left ≡ e ∷ rest → LacksWorld r canonical p e middle → (interfaces : List Listed) → HoldsMembers r canonical p interfaces [] parts → WorldsLackRoom r canonical p interfaces entries
+    → left ≡ e ∷ rest → LacksWorld r canonical p e middle → (interfaces : List ListedInterface) → HoldsMembers r canonical p interfaces [] parts → WorldsLackRoom r canonical p interfaces entries
 next-world_lacks r p canonical entries left rest parts middle e h is (inl heavy) = λ interfaces held. WorldsLackRoom.too_heavy e (next-world r p canonical entries left rest parts middle e h is) heavy
 next-world_lacks r p canonical entries left rest parts middle e h is (inr long) = λ interfaces held.
     WorldsLackRoom.too_long (h.done ++ e ∷ []) rest (h.split ∙ ap (λ (es : List ListedWorld). h.done ++ es) is ∙ sym (append_assoc h.done (e ∷ []) rest))
@@ -112,7 +112,7 @@ extent-is ds = refl
 -- ---- packages
 
 module _ (r : Resolve) (v : IsValid r) (n : ℕ) (p : Package) (at : package_at r n ≡ Some p) where
-  abbrev interface-weight : Listed → ℕ
+  abbrev interface-weight : ListedInterface → ℕ
   interface-weight e = exported_weight (text_of e.0) (interface_weight r e.1.0)
 
   abbrev world-weight : ListedWorld → ℕ
@@ -122,7 +122,7 @@ module _ (r : Resolve) (v : IsValid r) (n : ℕ) (p : Package) (at : package_at 
   unfolding package_weight
   weight-is = search std_rules
 
-  interface-within : (e : Listed) → Contains p.interfaces.entries e → interface_weight r e.1.0 ≤ package_weight r n
+  interface-within : (e : ListedInterface) → Contains p.interfaces.entries e → interface_weight r e.1.0 ≤ package_weight r n
   interface-within e c = omega (arith, one-of interface-weight p.interfaces.entries e c, weight-is)
 
   path-is : (e : ListedWorld) → Contains p.worlds.entries e → (w : World) → world_at r e.1.0 ≡ Some w → path_of_world r w ≡ Some (path_in (identity_of p.name) (text_of w.name))
@@ -143,7 +143,7 @@ module _ (r : Resolve) (v : IsValid r) (n : ℕ) (p : Package) (at : package_at 
   one-text t = omega (arith, sum_by-cons length t [])
 
   -- the component types of interfaces are light together
-  interfaces-light : (canonical : Bool) (es : List Listed) (xs : List (Text × Declarations)) → AllZip (IsTypeOf r canonical) es xs → sum_by type-extent xs ≤ sum_by interface-weight es
+  interfaces-light : (canonical : Bool) (es : List ListedInterface) (xs : List (Text × Declarations)) → AllZip (IsTypeOf r canonical) es xs → sum_by type-extent xs ≤ sum_by interface-weight es
   interfaces-light canonical [] [] h = omega arith
   interfaces-light canonical [] (x ∷ xs) h = absurd h
   interfaces-light canonical (e ∷ es) [] h = absurd h
@@ -171,7 +171,7 @@ module _ (r : Resolve) (v : IsValid r) (n : ℕ) (p : Package) (at : package_at 
       let a = sum_by-cons type-extent x xs in
       omega (arith, short, inner, ap length h.0.label, wrapped, is, named, a, sum_by-cons world-weight e es, one-text (text_of e.0), one-text path, rest)
 
-  long-lacks : (canonical : Bool) (interfaces more_interfaces : List Listed) (worlds more_worlds : List ListedWorld) → p.interfaces.entries ≡ interfaces ++ more_interfaces
+  long-lacks : (canonical : Bool) (interfaces more_interfaces : List ListedInterface) (worlds more_worlds : List ListedWorld) → p.interfaces.entries ≡ interfaces ++ more_interfaces
       → p.worlds.entries ≡ worlds ++ more_worlds → AreLong (HoldsMembers r canonical (identity_of p.name) interfaces worlds) → limit < package_weight r n
   long-lacks canonical interfaces more_interfaces worlds more_worlds are those h =
       let a = interfaces-light canonical interfaces h.hold.interface_types h.hold.interfaces_are in

@@ -1,5 +1,5 @@
 -- What has no room in an encoder of interfaces, where a call has refused it.
-use Rattle.std.proofs.Common.{rules as std_rules, ◌≡◌, refl, sym, subst, ap, ◌∙◌, ◌&&◌, ℕ, ◌+◌, ◌≤◌, ◌^◌, ◌⊎◌, inl, inr, Bool, false, nat_lt, arith, List, [], ◌∷◌, ◌++◌, map, length, length-append, Result, Err, OnOk, OnErr, IfErr, Option, Some, None, String}
+use Rattle.std.proofs.Common.{rules as std_rules, ◌≡◌, refl, sym, subst, ap, ◌∙◌, ◌&&◌, ℕ, ◌+◌, ◌≤◌, ◌^◌, ◌⊎◌, inl, inr, Bool, false, nat_lt, arith, List, [], ◌∷◌, ◌++◌, map, length, length-append, Result, Ok, Err, OnOk, OnErr, IfErr, Option, Some, None, String}
 use Rattle.std.specs.{List.AllZip, List.flat_map, Set.distinct_count, Borrow.Bor}
 use Rattle.std.specs.declared.alloc.Global.{Global}
 use Rattle.wit_model.specs.{Text.Text, Text.optional_text, Text.text_of as text_at, Tree.Tree, Meaning.Signature, Meant.type_meaning}
@@ -15,7 +15,7 @@ use Rattle.encode_types.specs.declared.maps.TypeEncodingMaps.{TypeEncodingMaps}
 use Rattle.encode_types.specs.Slots.{Pairs, NamedStands, Follows, FollowsFunction}
 use Rattle.encode_types.specs.Room.{Request, IsUnfit, LacksRoomBehind, its_definition, its_name, its_import, LacksOne, a_type, a_request, HasNoRoom, fits_tree, fits_type_name, limit, value_type, function_type, export_name, import_of, function_name, function_requests}
 use Rattle.encode_types.specs.{Scope.exported_name, Kinds.kind_tree, MetKinds.referred, Distinct.are_same, Distinct.key_of}
-use Rattle.wit_encode.specs.{FunctionRoom.LacksFunctions, Instance.held_in, Instance.lacks_room_in, Instance.placed_function}
+use Rattle.wit_encode.specs.{FunctionRoom.LacksFunctions, Instance.defined_in, Instance.held_in, Instance.lacks_room_in, Instance.placed_function}
 use Rattle.wit_encode.proofs.{FunctionRoom.keys-few, HeldKeys.knows-none}
 use Rattle.base_lemmas.proofs.{Elements.zip_long as zip-length, Lists.map_of_map as map-twice}
 use Rattle.std.proofs.lemmas.List.{Folds.list_all-map, length-map}
@@ -176,6 +176,16 @@ no-room {r} {r'} {own} {own'} {ts} {fs} {m} {before} {Q} outer inner e none fres
       | inl h ↦ inl (record { numbers = p.room.numbers; apart = p.room.new.apart; met = p.room.met; lacks = elim h [ inl u ↦ inl u | inr l ↦ inr (omega (arith, l, p.room.held, none, few)) ] })
       | inr full ↦ inr (around full)
     ]
+
+-- what is read of what a refused call leaves is the same
+pub undone : {T E X Y : Type 0} (f : X → Y) (x x' : X) (res : Result T E) → OnErr res (x' ≡ x) → OnErr res (f x' ≡ f x)
+undone f x x' (Ok v) h = tt
+undone f x x' (Err e) h = ap f h
+
+pub undone-inside : {T E : Type 0} (r : Resolve) (outer : Declarations) (inner : Option OpenInterface) (current : OpenInterface) (ds : List Declaration) (res : Result T E) → inner ≡ Some current
+    → OnErr res (ds ≡ current.declared) → OnErr res (defined_in r outer (Some (record current { declared = ds })) ≡ defined_in r outer inner)
+undone-inside r outer inner current ds (Ok v) is h = tt
+undone-inside r outer inner current ds (Err e) is h = ap (defined_in r outer) ((λ i. Some (record current { declared = h i })) ∙ sym is)
 
 -- one declaration more, or none
 pub one-pushed : {A E : Type 0} (res : Result A E) (ds ds' : List Declaration) (d : Declaration) → OnOk res (ds' ≡ ds ++ d ∷ []) → OnErr res (ds' ≡ ds) → length ds' ≤ length ds + 1

@@ -26,7 +26,7 @@ module _ (place : Place) where
   abbrev IsNameSlot : Text → Slot → Type 0
   IsNameSlot name slot = (slot ≡ Slot.value (named place name)) ⊎ (slot ≡ Slot.resource place name)
 
-  named-slot : (slots : List Slot) (name : Text) (described : ComponentTypeRef) (found : tree.Declaration × Slot) → named_type slots place name described ≡ Some found → IsNameSlot name found.1
+  named-slot : (slots : List Slot) (name : Text) (described : ComponentTypeRef) (found : tree.TypeDeclaration × Slot) → named_type slots place name described ≡ Some found → IsNameSlot name found.1
   named-slot slots name x found e = search std_rules
 
   -- ---- each type that is shown has a slot of its name
@@ -45,7 +45,7 @@ module _ (place : Place) where
       let found = unbind (named_type s.slots place name.text described) _ s' e in
       subst AllNamed (some-same _ s' found.then) (λ t c. by found.item (named-slot s.slots name.text described found.item found.is) t (Contains-append_cases s.shown.types _ t c))
     where
-      by : (found : tree.Declaration × Slot) → IsNameSlot name.text found.1 → (t : ShownType)
+      by : (found : tree.TypeDeclaration × Slot) → IsNameSlot name.text found.1 → (t : ShownType)
           → (Contains s.shown.types t ⊎ Contains (record { name = name.text; meaning = record { declaration = found.0; external_id = name.external_id }; slot = found.1 } ∷ []) t)
           → IsNameSlot t.name t.slot × Contains (s.slots ++ found.1 ∷ []) t.slot
       by found ok t (inl c) = let h = all t c in (h.0, Contains-append_left s.slots (found.1 ∷ []) t.slot h.1)

@@ -3,7 +3,7 @@ use Rattle.std.proofs.Common.{rules as std_rules, ◌≡◌, refl, sym, ap, ◌�
 use Rattle.std.proofs.lemmas.Bool.{not-true as not-false}
 use Rattle.std.specs.{List.AllZip, List.list_all, Borrow.Bor}
 use Rattle.wit_model.specs.{Text.Text, Meaning.Signature}
-use Rattle.wit_model.specs.Tree.{Tree, primitive, children, child_list, given, is_given, variant_tree, flags_tree, enum_tree, tuple_tree}
+use Rattle.wit_model.specs.Tree.{Tree, primitive, children, child_list, given_trees, is_given, variant_tree, flags_tree, enum_tree, tuple_tree}
 use Rattle.comp_bytes.specs.declared.forms.{PrimitiveValType.PrimitiveValType, ComponentDefinedType.ComponentDefinedType, ComponentFuncType.ComponentFuncType}
 use Rattle.comp_bytes.specs.declared.forms.ComponentValType.{ComponentValType}
 use Rattle.comp_bytes.specs.{RawOf.labeled, RawOf.raw_defined, RawOf.raw_function, Reading.◌>>=◌}
@@ -74,7 +74,7 @@ module _ (resources : Names) (slots : List Slot) (sound : list_all (is_slot_of r
       search (std_rules, bind, value-strict, first_true, second_true, fields-strict xs ts h.1 (second_true (not (is_resource_tree resources t.1)) (are_values resources (map (λ f. f.1) ts)) f))
 
   pub cases-strict : (xs : List (Bor Text × Option ComponentValType)) (cs : List (Text × Option Tree)) → AllZip (CaseStands (SlotsStand slots)) xs cs
-      → are_values resources (child_list (given (map (λ c. c.1) cs))) ≡ true → each (case_type slots) (map labeled xs) ≡ Some cs
+      → are_values resources (child_list (given_trees (map (λ c. c.1) cs))) ≡ true → each (case_type slots) (map labeled xs) ≡ Some cs
   cases-strict [] [] h f = refl
   cases-strict [] (t ∷ ts) h f = absurd h
   cases-strict (x ∷ xs) [] h f = absurd h
@@ -84,12 +84,12 @@ module _ (resources : Names) (slots : List Slot) (sound : list_all (is_slot_of r
       bind (case_type slots (labeled x)) t (λ y. each (case_type slots) (map labeled xs) >>= λ ys. Some (y ∷ ys)) one
       ∙ bind (each (case_type slots) (map labeled xs)) ts (λ ys. Some (t ∷ ys)) (cases-strict xs ts h.1 both.1)
     where
-      parted : (o : Option Tree) → are_values resources (child_list (given (o ∷ map (λ c. c.1) ts))) ≡ true → (are_values resources (option_to_list o) ≡ true)
-          × (are_values resources (child_list (given (map (λ c. c.1) ts))) ≡ true)
+      parted : (o : Option Tree) → are_values resources (child_list (given_trees (o ∷ map (λ c. c.1) ts))) ≡ true → (are_values resources (option_to_list o) ≡ true)
+          × (are_values resources (child_list (given_trees (map (λ c. c.1) ts))) ≡ true)
       parted None f = (refl, f)
       parted (Some u) f = (
-        λ i. first_true (not (is_resource_tree resources u)) (are_values resources (child_list (given (map (λ c. c.1) ts)))) f i && true,
-        second_true (not (is_resource_tree resources u)) (are_values resources (child_list (given (map (λ c. c.1) ts)))) f,
+        λ i. first_true (not (is_resource_tree resources u)) (are_values resources (child_list (given_trees (map (λ c. c.1) ts)))) f i && true,
+        second_true (not (is_resource_tree resources u)) (are_values resources (child_list (given_trees (map (λ c. c.1) ts)))) f,
       )
 
   pub values-strict : (xs : List ComponentValType) (ts : List Tree) → AllZip (StandsFor (SlotsStand slots)) xs ts → are_values resources ts ≡ true → each (value_type slots) xs ≡ Some ts
@@ -99,7 +99,7 @@ module _ (resources : Names) (slots : List Slot) (sound : list_all (is_slot_of r
   values-strict (x ∷ xs) (t ∷ ts) h f =
       search (std_rules, bind, value-strict, first_true, second_true, values-strict xs ts h.1 (second_true (not (is_resource_tree resources t)) (are_values resources ts) f))
 
-  one-part : (u : Option Tree) → are_values resources (child_list (given (u ∷ []))) ≡ true → are_values resources (option_to_list u) ≡ true
+  one-part : (u : Option Tree) → are_values resources (child_list (given_trees (u ∷ []))) ≡ true → are_values resources (option_to_list u) ≡ true
   one-part x g = search std_rules
 
   -- ---- definitions
@@ -109,11 +109,11 @@ module _ (resources : Names) (slots : List Slot) (sound : list_all (is_slot_of r
   definition-strict (form.Record fields) t (fs, z, e) f = search (std_rules, children-list, second_true, bind, fields-strict, provided-true, zip-filled, first_true)
   definition-strict (form.Variant cases) t (cs, z, e) f =
       let g = sym (ap (is_formed resources) e) ∙ f in
-      let values = second_true (is_filled (map (λ c. (c.0, is_given c.1)) cs)) (are_values resources (child_list (given (map (λ c. c.1) cs)))) g in
+      let values = second_true (is_filled (map (λ c. (c.0, is_given c.1)) cs)) (are_values resources (child_list (given_trees (map (λ c. c.1) cs)))) g in
       bind (each (case_type slots) (map labeled cases.items)) cs (λ cs. provided (is_filled (map labeled cases.items)) (variant_tree cs)) (cases-strict cases.items cs z values)
       ∙ provided-true (is_filled (map labeled cases.items)) (variant_tree cs)
       (zip-filled (CaseStands (SlotsStand slots)) labeled (λ c. (c.0, is_given c.1)) cases.items cs z
-      (first_true (is_filled (map (λ c. (c.0, is_given c.1)) cs)) (are_values resources (child_list (given (map (λ c. c.1) cs)))) g)) ∙ ap Some (sym e)
+      (first_true (is_filled (map (λ c. (c.0, is_given c.1)) cs)) (are_values resources (child_list (given_trees (map (λ c. c.1) cs)))) g)) ∙ ap Some (sym e)
   definition-strict (form.List x) t (u, h, e) f = search (std_rules, bind, value-strict, first_true)
   definition-strict (form.FixedLengthList x n) t (u, h, e) f = search (std_rules, bind, value-strict, first_true, second_true, provided-true)
   definition-strict (form.Map x y) t (a, b, h, k, e) f = search (std_rules, second_true, bind, value-strict, first_true, provided-true)

@@ -7,7 +7,7 @@ use Rattle.comp_bytes.specs.declared.forms.ComponentTypeRef.{ComponentTypeRef}
 use Rattle.comp_bytes.specs.Raw.{Declaration, Declarations, DefinedType, Alias, ExternName, append, from_list}
 use Rattle.comp_bytes.specs.{Held.declaration_slots, Held.type_slots, Held.type_slots_of, Reading.◌>>=◌}
 use Rattle.wit_model.specs.{Tree.Place, Tree.Tree, Tree.primitive, Tree.named, Tree.node, Text.Text}
-use Rattle.comp_meaning.specs.Follow.{Slot, InstanceScope, when, definition, function_in, instance_step, instance_steps, Scope, Direction, Seen, import_, export_, see, in_scope, key_of, interface_of, place_of, used_view, see_instance, see_function, see_type, component_step, component_steps, flat}
+use Rattle.comp_meaning.specs.Follow.{Slot, InstanceScope, when, definition, function_in, instance_step, instance_steps, Scope, Direction, Seen, import_, export_, see, in_scope, key_of, interface_of, instance_place, used_view, see_instance, see_function, see_type, component_step, component_steps, flat}
 use Rattle.encode_types.specs.Distinct.{is_value_type, target_of, targets_of, slots_from}
 use Rattle.encode_types.proofs.{Marking.count-push, Lists.none-in}
 use Rattle.wit_encode.specs.{Instance.count_declared, Worlds.instances_from, Worlds.instances_declared}
@@ -226,7 +226,7 @@ front-to xs s s' e f = subst (λ (z : Scope). Front xs z.slots) e f
 instance-front : (direction : Direction) (name : ExternName) (n : ℕ) (s s' : Scope) → see_instance direction name n s ≡ Some s' → Front s.slots s'.slots
 instance-front direction name n s s' e =
     let a = unbind (key_of name) _ s' e in
-    let b = unbind (when (not (list_any (λ m. m == n) s.used)) (used_view s.slots (place_of (interface_of a.item)) (slice_get s.slots n))) _ s' a.then in
+    let b = unbind (when (not (list_any (λ m. m == n) s.used)) (used_view s.slots (instance_place (interface_of a.item)) (slice_get s.slots n))) _ s' a.then in
     front-to s.slots _ s' (some-same _ s' b.then) (seen-front direction _ _ s.slots refl)
 
 function-front : (direction : Direction) (name : ExternName) (n : ℕ) (s s' : Scope) → see_function direction name n s ≡ Some s' → Front s.slots s'.slots

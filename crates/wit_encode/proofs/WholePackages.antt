@@ -6,7 +6,7 @@ use Rattle.wit_model.specs.{Text.Text, Lookup.package_at, Lookup.identity_of, Ru
 use Rattle.wit_model.specs.declared.{error.Error.Error, model.Resolve.Resolve, model.Package.Package, model.InterfaceId.InterfaceId, model.WorldId.WorldId}
 use Rattle.comp_bytes.specs.{Raw.Declarations, Raw.Section, Parts.Part, Parts.sections_of_parts, Parts.with_part, Spelling.IsComponent, Spelling.preamble, Reading.◌>>=◌, Refusal.IsMemoryOrSize}
 use Rattle.comp_meaning.specs.{Follow.each, Follow.when, Follow.is_filled, Reads.Top, Reads.exported_types, Reads.steps, Reads.top_section, Rules.distinct}
-use Rattle.wit_encode.specs.Packages.{is_custom, AddsWorlds, AreNamed, AreWorlds, HasMembers, HasNoClashes, HasNoMembers, HaveNoEqualPaths, HoldsInterfaces, HoldsMembers, HoldsPackage, IsTypeOf, IsWrapperOf, Listed, ListedWorld, MeansPackage, PartsMean, RefusesInterfaces, RefusesPackage, RefusesPackageAt, RefusesWorlds}
+use Rattle.wit_encode.specs.Packages.{is_custom, AddsWorlds, AreNamed, AreWorlds, HasMembers, HasNoClashes, HasNoMembers, HaveNoEqualPaths, HoldsInterfaces, HoldsMembers, HoldsPackage, IsTypeOf, IsWrapperOf, ListedInterface, ListedWorld, MeansPackage, PartsMean, RefusesInterfaces, RefusesPackage, RefusesPackageAt, RefusesWorlds}
 use Rattle.wit_model.proofs.OnePath.{package-passes}
 use Rattle.indexmap.specs.IndexMap.{values}
 use Rattle.encode_exports.specs.ExportedParts.{exporting}
@@ -73,12 +73,12 @@ module _ (r : Resolve) (v : IsValid r) (n : ℕ) (p : Package) (at : package_at 
   are-worlds e c = ltb-true e.1.0 (length r.worlds.items) (all-contained (λ (id : WorldId). in_list r.worlds.items id.0) (values p.worlds) e.1
       (second_true (list_all (λ (id : InterfaceId). in_list r.interfaces.items id.0) (values p.interfaces)) _ numbers-inside) (contains-map (λ x. x.1) p.worlds.entries e c))
 
-  type-of : (canonical : Bool) (e : Listed) → Contains p.interfaces.entries e → (x : Text × Declarations) → IsTypeOf r canonical e x → IsInterfaceType r p e x
+  type-of : (canonical : Bool) (e : ListedInterface) → Contains p.interfaces.entries e → (x : Text × Declarations) → IsTypeOf r canonical e x → IsInterfaceType r p e x
   type-of canonical e c x is =
       let s = is.shows _ (own-path r v n p at e c) in
       record { label = is.label; scope = s.scope; follows = s.follows; imports = s.imports; exported = s.exported; shows = s.shows }
 
-  types-of : (canonical : Bool) (entries : List Listed) (types : List (Text × Declarations)) → ((e : Listed) → Contains entries e → Contains p.interfaces.entries e)
+  types-of : (canonical : Bool) (entries : List ListedInterface) (types : List (Text × Declarations)) → ((e : ListedInterface) → Contains entries e → Contains p.interfaces.entries e)
       → AllZip (IsTypeOf r canonical) entries types → AllZip (IsInterfaceType r p) entries types
   types-of canonical [] [] own h = tt
   types-of canonical [] (x ∷ xs) own h = absurd h
@@ -97,7 +97,8 @@ module _ (r : Resolve) (v : IsValid r) (n : ℕ) (p : Package) (at : package_at 
     shows = is.wraps.shows.shows;
   }
 
-  pub no-worlds_yet : (canonical : Bool) (entries : List Listed) (parts : List Part) → HoldsInterfaces r canonical entries parts → HoldsMembers r canonical (identity_of p.name) entries [] parts
+  pub no-worlds_yet : (canonical : Bool) (entries : List ListedInterface) (parts : List Part) → HoldsInterfaces r canonical entries parts
+      → HoldsMembers r canonical (identity_of p.name) entries [] parts
   no-worlds_yet canonical entries parts h = grind (arith, append-nil)
 
   pub package-held : (canonical : Bool) (before parts : List Part) → HoldsInterfaces r canonical p.interfaces.entries before → AddsWorlds r canonical (identity_of p.name) p.worlds.entries before parts

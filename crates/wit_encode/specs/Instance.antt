@@ -9,7 +9,7 @@ use Rattle.wit_model.specs.declared.model.{Resolve.Resolve, InterfaceId.Interfac
 use Rattle.wit_model.specs.declared.model.TypeId.{TypeId}
 use Rattle.comp_bytes.specs.{Raw.Declaration, Raw.Declarations, Raw.append, Raw.declaration_count, Raw.from_list, Held.type_slots_of, Held.fits_added}
 use Rattle.comp_bytes.specs.Writing.{declarations_bytes}
-use Rattle.comp_meaning.specs.Reads.{interface_meaning}
+use Rattle.comp_meaning.specs.Reads.{meaning_of_view}
 use Rattle.comp_meaning.specs.Follow.{Slot, View, InstanceScope, instance_view, instance_steps, new_instance}
 use Rattle.encode_shown.specs.Views.{ShowsInterface, ShowsTypes, types_of}
 use Rattle.wit_encode.specs.declared.interface.{OpenInterface.OpenInterface, Foreign.Foreign}
@@ -307,7 +307,7 @@ pub record EncodesPart (r : Resolve) (around around' : Around) (i : InterfaceId)
 pub record EncodesInterface (r : Resolve) (around around' : Around) (i : InterfaceId) (def : Interface) (k : ℕ) : Type 0 where
   pub part : EncodesPart r around around' i def (functions_in_order def) (values def.functions) k
   pub shows : ShowsInterface r i.0 part.is_instance.view
-  pub means : interface_meaning part.is_instance.view part.is_instance.view.functions ≡ interface_meaning_at r i.0
+  pub means : meaning_of_view part.is_instance.view part.is_instance.view.functions ≡ interface_meaning_at r i.0
   -- how many types of functions are defined
   pub function_types : count_by is_function_type part.declared ≡ distinct_count are_same (map key_of (values def.functions))
 
@@ -315,5 +315,5 @@ pub record EncodesInterface (r : Resolve) (around around' : Around) (i : Interfa
 pub record EncodesDependency (r : Resolve) (around around' : Around) (i : InterfaceId) (def : Interface) (k : ℕ) : Type 0 where
   pub part : EncodesPart r around around' i def [] [] k
   pub shows : ShowsTypes r i.0 part.is_instance.view
-  pub means : interface_meaning part.is_instance.view part.is_instance.view.functions ≡ types_alone (interface_meaning_at r i.0)
+  pub means : meaning_of_view part.is_instance.view part.is_instance.view.functions ≡ types_alone (interface_meaning_at r i.0)
   pub function_types : count_by is_function_type part.declared ≡ 0

@@ -7,7 +7,7 @@ use Rattle.wit_model.specs.{Text.text_of, Names.PackageIdentity, Names.path_in, 
 use Rattle.wit_model.specs.declared.model.{Resolve.Resolve, World.World}
 use Rattle.comp_bytes.specs.{Parts.Part, Writing.top_type_bytes, Writing.top_export_bytes}
 use Rattle.encode_types.specs.Room.{limit}
-use Rattle.wit_encode.specs.Packages.{HoldsInterfaces, HoldsMembers, Listed, ListedWorld}
+use Rattle.wit_encode.specs.Packages.{HoldsInterfaces, HoldsMembers, ListedInterface, ListedWorld}
 
 -- ---- how long parts are
 
@@ -29,14 +29,15 @@ pub record AreLong (P : List Part → Type 0) : Type 0 where
 -- ---- interfaces
 
 -- Behind the component types of other interfaces, the interface has no room: it is too heavy by itself, or too long behind them.
-abbrev pub LacksInterface : Resolve → Bool → Listed → List Part → Type 0
+abbrev pub LacksInterface : Resolve → Bool → ListedInterface → List Part → Type 0
 LacksInterface r canonical e old = (limit < interface_weight r e.1.0)
-    ⊎ ((entries : List Listed) → HoldsInterfaces r canonical entries old → AreLong (HoldsInterfaces r canonical (entries ++ e ∷ [])))
+    ⊎ ((entries : List ListedInterface) → HoldsInterfaces r canonical entries old → AreLong (HoldsInterfaces r canonical (entries ++ e ∷ [])))
 
 -- One of these interfaces is too heavy, or the component types of the first of them are too long together.
-pub data InterfacesLackRoom (r : Resolve) (canonical : Bool) (entries : List Listed) : Type 0 where
-  too_heavy : (e : Listed) → Contains entries e → limit < interface_weight r e.1.0 → InterfacesLackRoom r canonical entries
-  too_long : (first rest : List Listed) → entries ≡ first ++ rest → AreLong (HoldsInterfaces r canonical first) → InterfacesLackRoom r canonical entries
+pub data InterfacesLackRoom (r : Resolve) (canonical : Bool) (entries : List ListedInterface) : Type 0 where
+  too_heavy : (e : ListedInterface) → Contains entries e → limit < interface_weight r e.1.0 → InterfacesLackRoom r canonical entries
+  too_long : (first rest : List ListedInterface) → entries ≡ first ++ rest → AreLong (HoldsInterfaces r canonical first)
+      → InterfacesLackRoom r canonical entries
 
 -- ---- worlds
 
@@ -46,16 +47,16 @@ IsHeavyWorld r p n = (w : World) → world_at r n ≡ Some w → limit < length 
 
 abbrev pub LacksWorld : Resolve → Bool → PackageIdentity → ListedWorld → List Part → Type 0
 LacksWorld r canonical p e old =
-    IsHeavyWorld r p e.1.0 ⊎ ((interfaces : List Listed) (worlds : List ListedWorld) → HoldsMembers r canonical p interfaces worlds old
+    IsHeavyWorld r p e.1.0 ⊎ ((interfaces : List ListedInterface) (worlds : List ListedWorld) → HoldsMembers r canonical p interfaces worlds old
     → AreLong (HoldsMembers r canonical p interfaces (worlds ++ e ∷ [])))
 
 -- One of these worlds is too heavy, or the component types of the interfaces and of the first of these worlds are too long together.
-pub data WorldsLackRoom (r : Resolve) (canonical : Bool) (p : PackageIdentity) (interfaces : List Listed) (entries : List ListedWorld) : Type 0 where
+pub data WorldsLackRoom (r : Resolve) (canonical : Bool) (p : PackageIdentity) (interfaces : List ListedInterface) (entries : List ListedWorld) : Type 0 where
   too_heavy : (e : ListedWorld) → Contains entries e → IsHeavyWorld r p e.1.0 → WorldsLackRoom r canonical p interfaces entries
   too_long : (first rest : List ListedWorld) → entries ≡ first ++ rest → AreLong (HoldsMembers r canonical p interfaces first)
       → WorldsLackRoom r canonical p interfaces entries
 
 -- so it is behind whichever interfaces these parts hold
 abbrev pub WorldsLackRoomBehind : Resolve → Bool → PackageIdentity → List Part → List ListedWorld → Type 0
-WorldsLackRoomBehind r canonical p parts entries = (interfaces : List Listed) → HoldsMembers r canonical p interfaces [] parts
+WorldsLackRoomBehind r canonical p parts entries = (interfaces : List ListedInterface) → HoldsMembers r canonical p interfaces [] parts
     → WorldsLackRoom r canonical p interfaces entries

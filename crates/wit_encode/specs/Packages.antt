@@ -18,29 +18,29 @@ use Rattle.wit_encode.specs.{Instance.declared_extent, WholeWorlds.RefusesWorld,
 use Rattle.wit_encode.specs.{WorldCounts.DefinesOnce, WorldRoom.entries_in}
 
 -- an interface of a package, by its name
-abbrev pub Listed : Type 0
-Listed = String Global × InterfaceId
+abbrev pub ListedInterface : Type 0
+ListedInterface = String Global × InterfaceId
 
 -- each of these interfaces has a path
-abbrev pub AreNamed : Resolve → List Listed → Type 0
-AreNamed r entries = (e : Listed) → Contains entries e → is_some (interface_path r e.1.0) ≡ true
+abbrev pub AreNamed : Resolve → List ListedInterface → Type 0
+AreNamed r entries = (e : ListedInterface) → Contains entries e → is_some (interface_path r e.1.0) ≡ true
 
 -- in the component type of none of these interfaces two imports have one canonical path
-abbrev pub HaveNoEqualPaths : Resolve → List Listed → Type 0
-HaveNoEqualPaths r entries = (e : Listed) → Contains entries e → HasNoEqualPaths r e.1.0
+abbrev pub HaveNoEqualPaths : Resolve → List ListedInterface → Type 0
+HaveNoEqualPaths r entries = (e : ListedInterface) → Contains entries e → HasNoEqualPaths r e.1.0
 
 -- What these interfaces, one after the other, are refused for: what the first one is that is refused.
-pub record RefusesInterfaces (r : Resolve) (entries : List Listed) (canonical : Bool) (e : Error) : Type 0 where
-  pub before : List Listed
-  pub refused : Listed
-  pub after : List Listed
+pub record RefusesInterfaces (r : Resolve) (entries : List ListedInterface) (canonical : Bool) (e : Error) : Type 0 where
+  pub before : List ListedInterface
+  pub refused : ListedInterface
+  pub after : List ListedInterface
   pub are : entries ≡ before ++ (refused ∷ after)
   pub differ : canonical ≡ true → HaveNoEqualPaths r before
   pub refuses : RefusesInterface r refused.1.0 canonical e
 
 -- the component type of an interface, under its name, with its paths whole or canonical and each definition once: it takes no more bytes than the
 -- interface weighs with what it reaches
-pub record IsTypeOf (r : Resolve) (canonical : Bool) (e : Listed) (x : Text × Declarations) : Type 0 where
+pub record IsTypeOf (r : Resolve) (canonical : Bool) (e : ListedInterface) (x : Text × Declarations) : Type 0 where
   pub label : x.0 ≡ text_of e.0
   pub shows : (path : Text) → interface_path r e.1.0 ≡ Some path → ShowsComponent r e.1.0 path x.1
   pub names : WritesPaths r canonical e.1.0 x.1
@@ -48,14 +48,15 @@ pub record IsTypeOf (r : Resolve) (canonical : Bool) (e : Listed) (x : Text × D
   pub light : declared_extent x.1 ≤ interface_weight r e.1.0
 
 -- a component that exports the component types of these interfaces, in order, and nothing else
-pub record HoldsInterfaces (r : Resolve) (canonical : Bool) (entries : List Listed) (parts : List Part) : Type 0 where
+pub record HoldsInterfaces (r : Resolve) (canonical : Bool) (entries : List ListedInterface) (parts : List Part) : Type 0 where
   pub types : List (Text × Declarations)
   pub are : AllZip (IsTypeOf r canonical) entries types
   pub is : parts ≡ exporting types
 
 -- behind what is exported already, the component type of an interface, exported under its name
-abbrev pub AddsInterface : Resolve → Bool → Listed → List Part → List Part → Type 0
-AddsInterface r canonical e old new = (entries : List Listed) → HoldsInterfaces r canonical entries old → HoldsInterfaces r canonical (entries ++ e ∷ []) new
+abbrev pub AddsInterface : Resolve → Bool → ListedInterface → List Part → List Part → Type 0
+AddsInterface r canonical e old new = (entries : List ListedInterface) → HoldsInterfaces r canonical entries old
+    → HoldsInterfaces r canonical (entries ++ e ∷ []) new
 
 -- ---- worlds
 
@@ -81,7 +82,7 @@ pub record IsWrapperOf (r : Resolve) (canonical : Bool) (p : PackageIdentity) (e
   pub wraps : WrapsWorld r canonical p e.1.0 world x.1
 
 -- a component that exports the component types of these interfaces, in order, then the wrappers of these worlds, in order, and nothing else
-pub record HoldsMembers (r : Resolve) (canonical : Bool) (p : PackageIdentity) (interfaces : List Listed) (worlds : List ListedWorld)
+pub record HoldsMembers (r : Resolve) (canonical : Bool) (p : PackageIdentity) (interfaces : List ListedInterface) (worlds : List ListedWorld)
     (parts : List Part) : Type 0 where
   pub interface_types : List (Text × Declarations)
   pub world_types : List (Text × Declarations)
@@ -91,12 +92,12 @@ pub record HoldsMembers (r : Resolve) (canonical : Bool) (p : PackageIdentity) (
 
 -- behind what is exported already, the wrapper of a world, exported under its name
 abbrev pub AddsWorld : Resolve → Bool → PackageIdentity → ListedWorld → List Part → List Part → Type 0
-AddsWorld r canonical p e old new = (interfaces : List Listed) (worlds : List ListedWorld) → HoldsMembers r canonical p interfaces worlds old
+AddsWorld r canonical p e old new = (interfaces : List ListedInterface) (worlds : List ListedWorld) → HoldsMembers r canonical p interfaces worlds old
     → HoldsMembers r canonical p interfaces (worlds ++ e ∷ []) new
 
 -- behind the component types of some interfaces, the wrappers of these worlds
 abbrev pub AddsWorlds : Resolve → Bool → PackageIdentity → List ListedWorld → List Part → List Part → Type 0
-AddsWorlds r canonical p worlds old new = (interfaces : List Listed) → HoldsMembers r canonical p interfaces [] old
+AddsWorlds r canonical p worlds old new = (interfaces : List ListedInterface) → HoldsMembers r canonical p interfaces [] old
     → HoldsMembers r canonical p interfaces worlds new
 
 -- each of these worlds is in range

@@ -4,7 +4,7 @@ use Rattle.std.specs.Prelude.{◌≡◌, ◌++◌, Bool, true, List, [], ◌∷�
 use Rattle.wit_model.specs.{Text.text_of, Lookup.identity_of, Meant.package_of_world}
 use Rattle.wit_model.specs.declared.{error.Error.Error, model.Package.Package, model.Resolve.Resolve, model.World.World}
 use Rattle.comp_bytes.specs.{Raw.Declaration, Raw.Declarations, Refusal.IsMemoryOrSize}
-use Rattle.comp_meaning.specs.{Follow.Direction, Follow.import_, Follow.export_, Follow.Scope, Follow.component_scope, Reads.world_meaning, Reads.world_with}
+use Rattle.comp_meaning.specs.{Follow.Direction, Follow.import_, Follow.export_, Follow.Scope, Follow.component_scope, Reads.meaning_of_scope, Reads.world_with}
 use Rattle.comp_meaning.specs.Rules.{is_world}
 use Rattle.encode_shown.specs.Views.{ShowsWorld}
 use Rattle.encode_names.specs.{Clashes.HasNoClash, Clashes.RefusesNames, WorldSteps.Entry}
@@ -36,7 +36,7 @@ pub record ShowsWorldType (r : Resolve) (w : World) (declared : Declarations) : 
   pub follows : component_scope declared ≡ Some scope
   pub shows : ShowsWorld r w scope
   pub obeys : is_world scope ≡ true
-  pub means : world_meaning scope ≡ meant.world_meaning r w
+  pub means : meaning_of_scope scope ≡ meant.world_meaning r w
   pub order : directions_of declared ≡ imports_first w.imports.entries w.exports.entries
   pub alone : (p : Package) → package_of_world r w ≡ Some p → world_with (identity_of p.name) (text_of w.name) scope ≡ Some (meant.world_package r p w)
 

@@ -39,6 +39,7 @@ pub record IsNamedTypeOf (r : Resolve) (interfaces : List ℕ) (n : ℕ) : Type 
   pub named_ : is_some def.name ≡ true
   pub owned : def.owner ≡ owner.Interface interface
 
+-- a named type of one of the interfaces that these entries show
 abbrev pub IsTypeAmong : Resolve → List Entry → ℕ → Type 0
 IsTypeAmong r es n = IsNamedTypeOf r (interfaces_among es) n
 

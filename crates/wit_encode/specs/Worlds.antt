@@ -2,7 +2,7 @@
 use Rattle.std.specs.Prelude.{ℕ, ◌≡◌, ◌-◌, ◌++◌, Bool, false, ◌&&◌, if◌then◌else◌, List, [], ◌∷◌, Option, Some, None, length, map, filter_map, is_some}
 use Prim.Native.Nat.{zero, suc}
 use Rattle.std.specs.{Option.option_map_or, List.filter, List.list_all}
-use Rattle.wit_model.specs.{Text.Text, Tree.Declaration, Lookup.type_at, Meaning.TypeMeaning, Uses.owner_interface}
+use Rattle.wit_model.specs.{Text.Text, Tree.TypeDeclaration, Lookup.type_at, Meaning.TypeMeaning, Uses.owner_interface}
 use Rattle.wit_model.specs.declared.model.{Resolve.Resolve, TypeDef.TypeDef, WorldId.WorldId}
 use Rattle.comp_bytes.specs.Raw.{Declarations, append, declaration_count}
 use Rattle.comp_meaning.specs.Follow.{Direction, import_, export_, Seen, Shown, instance_types}
@@ -36,7 +36,7 @@ abbrev pub used_types : Declarations → List ℕ
 used_types outer = option_map_or (λ s. s.used) (outer_scope outer) []
 
 -- the declaration of a type, if that is what is imported
-abbrev pub declaration_shown : Shown → Option Declaration
+abbrev pub declaration_shown : Shown → Option TypeDeclaration
 declaration_shown (Shown.instance key view) = None
 declaration_shown (Shown.function f) = None
 declaration_shown (Shown.declares d) = Some d

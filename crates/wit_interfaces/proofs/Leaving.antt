@@ -168,9 +168,9 @@ module _ (r : Resolve) (w : WorldId) (count : ℕ) (maps : TypeEncodingMaps) whe
       in-range = subst (λ (xs : List Slot). list_all (λ n. nat_lt n (length xs)) s.scope.used ≡ true) slots-there
           (ap (list_all (λ n. nat_lt n (length (outer_slots a.declared)))) (sym used-there) ∙ h.used)
 
-      seen-as : used_view (in_scope x s.scope).slots (follow.place_of (Some path)) (slice_get (in_scope x s.scope).slots number) ≡ Some view
-      seen-as = ap (used_view (in_scope x s.scope).slots (follow.place_of (Some path))) (slot-behind s.scope.slots x)
-          ∙ ap (λ slots. instance_view (follow.place_of (Some path)) slots es) (take-append_seam s.scope.slots (x ∷ []) ∙ sym slots-there)
+      seen-as : used_view (in_scope x s.scope).slots (follow.instance_place (Some path)) (slice_get (in_scope x s.scope).slots number) ≡ Some view
+      seen-as = ap (used_view (in_scope x s.scope).slots (follow.instance_place (Some path))) (slot-behind s.scope.slots x)
+          ∙ ap (λ slots. instance_view (follow.instance_place (Some path)) slots es) (take-append_seam s.scope.slots (x ∷ []) ∙ sym slots-there)
           ∙ ap (λ o. instance_view (place_of_path o) (outer_slots a.declared) es) (sym is) ∙ viewed
 
       stepped : component_step (in_scope x s.scope) (declared_towards import_ name (refs.Instance k)) ≡ Some next

@@ -69,8 +69,8 @@ pub record CanEncodeInterfaces (v : View) : Type 0 where
 
 -- ---- what a call leaves, also where it is refused
 
--- The packages, the kind of names and the maps are the same, old slots stand for what they did, the same interfaces stand, and the encoder can
--- be used on.
+-- The packages, the kind of names and the maps are the same, old slots stand for what they did, the same interfaces stand, and what the calls
+-- require holds.
 pub record LeavesInterfaces (e e' : InterfaceEncoder) : Type 0 where
   pub packages_ : packages_of e' ≡ packages_of e
   pub names : has_canonical_names e' ≡ has_canonical_names e
@@ -105,7 +105,8 @@ pub data Imports (e e' : InterfaceEncoder) (i : InterfaceId) : Type 0 where
       → ImportsTypes (packages_of e) (has_canonical_names e) (component_of e) (component_of e') i (length (interface_encoder_view e).scope.others.instances)
       → Imports e e' i
 
--- Nothing is new but aliases that the interface's types ask for, and one instance type of them at most.
+-- Nothing is new but aliases that the interface's types ask for, and one instance type of them at most. Nothing uses that one, so a component
+-- type with it isn't read.
 pub data ImportsInPart (e e' : InterfaceEncoder) (i : InterfaceId) : Type 0 where
   aliases : AddsAliasesForTypes e e' i → ImportsInPart e e' i
   unused : (def : Interface) (k : ℕ) → interface_at (packages_of e) i.0 ≡ Some def

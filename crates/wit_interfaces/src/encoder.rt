@@ -205,11 +205,12 @@ impl<'a> InterfaceEncoder<'a> {
     /// (WIT.md, "Package Format"). From then on an instance of it stands. Of one that has been imported nothing is done.
     ///
     /// Of each interface that it uses itself, an instance stands: so interfaces are imported in the order in which they use
-    /// each other. After a refusal the encoder can be used on: then nothing has been declared but aliases that its types ask
-    /// for, and one instance type at most that nothing uses. `Size` comes only where one of these holds. A type that is met
-    /// from the types of the interface doesn't fit in 32 bits by itself, or there are too many of them. The path of the
-    /// interface doesn't fit. The component type, after such aliases have been made, has no room for the instance type and its
-    /// import.
+    /// each other. After a refusal nothing has been declared but aliases that its types ask for, and one instance type at most
+    /// that nothing uses. With such a one, what the encoder ends in isn't read. So begin a new one.
+    ///
+    /// `Size` comes only where one of these holds. A type that is met from the types of the interface doesn't fit in 32 bits by
+    /// itself, or there are too many of them. The path of the interface doesn't fit. The component type, after such aliases have
+    /// been made, has no room for the instance type and its import.
     ///
     /// Takes as long as encoding the types.
     pub fn import_interface(&mut self, interface: InterfaceId) -> Result<(), Error>
@@ -249,9 +250,10 @@ impl<'a> InterfaceEncoder<'a> {
     /// Imports the types of each interface that an interface reaches along uses, each behind those that it uses itself, but for those that have
     /// been imported. Then an instance stands of each that it uses, and it can be encoded or imported.
     ///
-    /// After a refusal the encoder can be used on: then some first ones of these have been imported, and of the next one nothing has been
-    /// declared but aliases, and one instance type at most that nothing uses. `Size` comes only where `import_interface` answers it for one of
-    /// these, behind those in front of it.
+    /// After a refusal some first ones of these have been imported, and of the next one nothing has been declared but aliases, and one
+    /// instance type at most that nothing uses. With such a one, what the encoder ends in isn't read. So begin a new one.
+    ///
+    /// `Size` comes only where `import_interface` answers it for one of these, behind those in front of it.
     ///
     /// Takes as long as encoding the types of these interfaces.
     pub fn import_used(&mut self, interface: InterfaceId) -> Result<(), Error>

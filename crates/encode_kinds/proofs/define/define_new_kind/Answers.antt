@@ -2,6 +2,9 @@ use Rattle.std.proofs.Common.{refl, sym, ◌∙◌, subst}
 use Rattle.encode_types.specs.{Codes.lists_of, Maps.LacksList, Leaves.Leaves}
 use Rattle.encode_types.proofs.{Learning.kind-learnt, Defining.leaves-kept, Defining.counts-kind, Defining.leaves-trans, Writing.written-on}
 use Rattle.encode_kinds.proofs.define.define_new_kind.{Given.Over, Goals.In_ok-index}
+use Rattle.encode_types.specs.Counts.{a_type}
+use Rattle.encode_types.proofs.Stopping.{part-same, part-beside, same-when}
+use Rattle.base_lemmas.proofs.Options.{at_err}
 use Rattle.encode_kinds.proofs.define.define_new_kind.Goals as goal
 
 kept : (g : Over) (c : In_ok-index g) → Leaves c.args.resolve.now (g.E.ValtypeEncoder.view c.args.enc.now) (g.E.ValtypeEncoder.view c.define_shape.new.enc)
@@ -38,3 +41,10 @@ returns-in_err-remember_kind-clause-leaves g c = leaves-trans (kept g (goal.at.r
 
 pub returns-clause-written : goal.returns-clause-written
 returns-clause-written g c = written-on (rw c.shape_of.ensures at c.in_ok-index.ensures.written) c.remember_kind.ensures.written
+
+pub returns-in_err-index-clause-stopped : goal.returns-in_err-index-clause-stopped
+returns-in_err-index-clause-stopped g c = at_err _ (part-same _ _ _ _ _ _ (same-when c.define_shape.ensures.maps_stay) c.in_err-index.ensures.err)
+
+pub returns-in_err-remember_kind-clause-stopped : goal.returns-in_err-remember_kind-clause-stopped
+returns-in_err-remember_kind-clause-stopped g c = at_err _ (part-beside _ _ _ _ _ _ (rw c.define_shape.ensures.maps_stay at c.in_err-remember_kind.ensures.err)
+    (a_type c.in_ok-index.index (c.remember_kind.ensures.counts ∙ c.in_ok-index.ensures.counts)))

@@ -64,6 +64,7 @@ returns-then-is_some g c =
       aliases = met-none refl;
       imports = imports-none refl;
       counts = counts-none _ _ _ _;
+      stopped = tt;
       learns = learns-none _ _ _;
       held = holds-none _ _ _ _;
       written = writes-nothing _ _ _;
@@ -143,3 +144,9 @@ returns-in-Some-clause-imports g c =
 
 pub returns-clause-imports : goal.returns-clause-imports
 returns-clause-imports g c = imports-none (rw c.index_of.ensures.same at c.define_own.ensures.imports_stay)
+
+pub returns-in-Some-clause-stopped : goal.returns-in-Some-clause-stopped
+returns-in-Some-clause-stopped g c = rw c.index_of.ensures.same at c.import.ensures.stopped
+
+pub returns-clause-stopped : goal.returns-clause-stopped
+returns-clause-stopped g c = rw c.index_of.ensures.same at c.define_own.ensures.stopped

@@ -6,6 +6,8 @@ use Rattle.encode_types.proofs.{Defining.leaves-trans, Defining.leaves-none, Def
 use Rattle.encode_types.proofs.Encoding.{ready-now, known-more, ready-at-last, reaches-in_range, meets-reaches, learns-more, learns-at-last, learns-nothing}
 use Rattle.encode_types.proofs.Aliasing.{met-none, met-number, makes-number, imports-none, imports-number}
 use Rattle.encode_kinds.proofs.{define.define_parts.Given.Over, define.define_parts.Goals.After-deref-n-items}
+use Rattle.encode_types.proofs.Stopping.{part-same, part-then, same-when}
+use Rattle.base_lemmas.proofs.Options.{at_err}
 use Rattle.encode_kinds.proofs.define.define_parts.Goals as goal
 
 ordered : (g : Over) (c : After-deref-n-items g)
@@ -103,3 +105,9 @@ returns-in_err-define_number-clause-imports g c = imports-number (ap (λ (x : Sc
 
 pub returns-in_err-order-clause-imports : goal.returns-in_err-order-clause-imports
 returns-in_err-order-clause-imports g c = rw c.order_of.ensures.same (imports-none refl)
+
+pub returns-in_err-order-clause-stopped : goal.returns-in_err-order-clause-stopped
+returns-in_err-order-clause-stopped g c = rw c.order_of.ensures.same (at_err _ (part-same _ _ _ _ _ _ (same-when refl) refl))
+
+pub returns-in_err-define_number-clause-stopped : goal.returns-in_err-define_number-clause-stopped
+returns-in_err-define_number-clause-stopped g c = at_err _ (part-then c.loop-n.invariant.leaves.scope_stays c.loop-n.invariant.counts c.in_err-define_number.ensures.stopped)

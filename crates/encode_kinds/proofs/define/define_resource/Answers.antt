@@ -1,25 +1,61 @@
-use Rattle.std.proofs.Common.{refl, sym, subst, None}
-use Rattle.comp_bytes.specs.RawOf.{raw_name}
-use Rattle.encode_types.specs.declared.maps.TypeEncodingMaps.{TypeEncodingMaps}
-use Rattle.encode_types.specs.{Maps.LearnsNumber, Counts.Definitions, Counts.ExportsOne}
-use Rattle.encode_types.proofs.{Agree.on_ok, Agree.learnt-one, Defining.counts-resource, Defining.leaves-before, Writing.written-on}
+use Rattle.std.proofs.Common.{refl, ◌∙◌, rules, arith}
+use Rattle.encode_types.proofs.{Agree.on_ok, Defining.counts-trans, Defining.leaves-trans}
+use Rattle.std.proofs.lemmas.Result.{on_err_weaker}
+use Rattle.encode_types.proofs.Stopping.{counts-same, learnt-behind, refuses-behind, part-same, part-then, unknown-same, written-behind}
+use Rattle.base_lemmas.proofs.Options.{at_err}
 use Rattle.encode_kinds.proofs.define.define_resource.Goals as goal
 
+pub define_resource_in_room-requires : goal.define_resource_in_room-requires
+define_resource_in_room-requires g c = λ _. (
+  (refl, tt),
+  rw c.reserve_id.ensures.leaves.scope_stays (
+    c.requires.declared,
+    (
+      c.requires.shown,
+      (c.requires.same_tree, (c.requires.no_definition, (unknown-same c.reserve_id.ensures.same c.requires.fresh, (c.reserve_id.ensures.leaves.agree, c.in_ok-reserve_id.ensures.ok)))),
+    ),
+  ),
+)
+
 pub returns-clause-ok : goal.returns-clause-ok
-returns-clause-ok g c = on_ok c.remember_id.result _ _ (λ l. learnt-one _ _ _ c.args.id _ refl (rw c.export_resource.ensures.maps_stay at l)) c.remember_id.ensures.ok
-
-pub returns-clause-counts : goal.returns-clause-counts
-returns-clause-counts g c = on_ok c.remember_id.result _ _ (λ l. counts-resource c.args.resolve.now (g.E.ValtypeEncoder.view c.args.enc.now).scope (g.E.ValtypeEncoder.view c.args.enc.now).maps _
-    (g.E.ValtypeEncoder.view c.args.enc.now).definitions _ c.args.id c.in_ok-index.index (raw_name c.args.name)
-    (subst (λ (z : TypeEncodingMaps). LearnsNumber z (g.E.ValtypeEncoder.view c.remember_id.new.enc).maps c.args.id c.in_ok-index.index) c.export_resource.ensures.maps_stay l) c.requires.shown
-    c.requires.no_definition (subst (λ (z : Definitions). ExportsOne (g.E.ValtypeEncoder.view c.args.enc.now).scope (g.E.ValtypeEncoder.view c.args.enc.now).definitions z None (raw_name c.args.name))
-    (sym c.remember_id.ensures.counts) c.in_ok-index.ensures.counts)) c.remember_id.ensures.ok
-
-pub returns-clause-kinds : goal.returns-clause-kinds
-returns-clause-kinds g c = on_ok c.remember_id.result _ _ (λ l. (rw c.export_resource.ensures.maps_stay at l).rest.kinds) c.remember_id.ensures.ok
+returns-clause-ok g c = on_ok c.define_resource_in_room.result _ _ (λ l. learnt-behind c.reserve_id.ensures.same l) c.define_resource_in_room.ensures.ok
 
 pub returns-clause-leaves : goal.returns-clause-leaves
-returns-clause-leaves g c = leaves-before c.remember_id.ensures.leaves c.requires.agree c.export_resource.ensures.grows c.export_resource.ensures.scope_stays c.export_resource.ensures.maps_stay
+returns-clause-leaves g c = leaves-trans c.reserve_id.ensures.leaves c.define_resource_in_room.ensures.leaves
+
+pub returns-clause-around_stays : goal.returns-clause-around_stays
+returns-clause-around_stays g c = c.define_resource_in_room.ensures.around_stays ∙ c.reserve_id.ensures.around_stays
+
+pub returns-clause-imports_stay : goal.returns-clause-imports_stay
+returns-clause-imports_stay g c = c.define_resource_in_room.ensures.imports_stay ∙ c.reserve_id.ensures.imports_stay
+
+pub returns-clause-counts : goal.returns-clause-counts
+returns-clause-counts g c = on_ok c.define_resource_in_room.result _ _
+    (λ k. counts-trans c.reserve_id.ensures.leaves.scope_stays (counts-same _ _ _ _ _ _ c.reserve_id.ensures.same c.reserve_id.ensures.counts) k) c.define_resource_in_room.ensures.counts
+
+pub returns-clause-stopped : goal.returns-clause-stopped
+returns-clause-stopped g c = on_err_weaker c.define_resource_in_room.result
+    (λ k. part-then c.reserve_id.ensures.leaves.scope_stays (counts-same _ _ _ _ _ _ c.reserve_id.ensures.same c.reserve_id.ensures.counts) k) c.define_resource_in_room.ensures.stopped
+
+pub returns-clause-kinds : goal.returns-clause-kinds
+returns-clause-kinds g c = on_ok c.define_resource_in_room.result _ _ (λ k. k ∙ c.reserve_id.ensures.same.kinds) c.define_resource_in_room.ensures.kinds
+
+pub returns-clause-held : goal.returns-clause-held
+returns-clause-held g c = (let x = c.define_resource_in_room.ensures.held in let e = c.reserve_id.ensures.held in omega (arith, x, e))
 
 pub returns-clause-written : goal.returns-clause-written
-returns-clause-written g c = on_ok c.remember_id.result _ _ (λ l. written-on c.in_ok-index.ensures.written c.remember_id.ensures.written) c.remember_id.ensures.ok
+returns-clause-written g c = on_ok c.define_resource_in_room.result _ _ (λ w. written-behind c.reserve_id.ensures.written w) c.define_resource_in_room.ensures.written
+
+pub returns-clause-size : goal.returns-clause-size
+returns-clause-size g c = λ h. refuses-behind c.reserve_id.ensures.held (c.define_resource_in_room.ensures.size h)
+
+-- ---- where there is no memory for it in the maps
+
+pub returns-in_err-reserve_id-clause-stopped : goal.returns-in_err-reserve_id-clause-stopped
+returns-in_err-reserve_id-clause-stopped g c = at_err _ (part-same _ _ _ _ _ _ c.reserve_id.ensures.same c.reserve_id.ensures.counts)
+
+pub returns-in_err-reserve_id-clause-held : goal.returns-in_err-reserve_id-clause-held
+returns-in_err-reserve_id-clause-held g c = (let e = c.reserve_id.ensures.held in omega (arith, e))
+
+pub returns-in_err-reserve_id-clause-size : goal.returns-in_err-reserve_id-clause-size
+returns-in_err-reserve_id-clause-size g c = λ h. absurd (c.reserve_id.ensures.size (search rules))

@@ -1,6 +1,8 @@
 use Rattle.std.proofs.Common.{rules, inl, inr, arith}
 use Rattle.encode_types.proofs.{Learning.kind-same, Agree.on_ok, Agree.learnt-one, Defining.counts-number, Defining.counts-trans, Defining.leaves-trans}
 use Rattle.encode_types.proofs.Writing.{written-on}
+use Rattle.std.proofs.lemmas.Result.{on_err_weaker}
+use Rattle.encode_types.proofs.Stopping.{part-same, part-then}
 use Rattle.encode_kinds.proofs.define.define_unnamed.Goals as goal
 
 pub returns : goal.returns
@@ -14,6 +16,8 @@ returns g c = record {
       on_ok c.remember_id.result _ _ (λ l. counts-trans s c.in_ok-index.ensures.counts
       (counts-number _ _ _ _ _ _ c.args.id c.in_ok-index.index l (rw s c.requires.not_shown) (rw s c.requires.no_name) c.remember_id.ensures.counts))
       c.remember_id.ensures.ok;
+  stopped = on_err_weaker c.remember_id.result (λ s. part-then c.define_unnamed_kind.ensures.leaves.scope_stays c.in_ok-index.ensures.counts (part-same _ _ _ _ _ _ s c.remember_id.ensures.counts))
+      c.remember_id.ensures.err;
   kinds = on_ok c.remember_id.result _ _ (λ l. kind-same _ _ _ _ l.rest.kinds c.in_ok-index.ensures.kinds) c.remember_id.ensures.ok;
   held =
       let same = c.remember_id.ensures.held in

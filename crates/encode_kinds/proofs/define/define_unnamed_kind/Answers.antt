@@ -3,7 +3,8 @@ use Rattle.std.specs.List.{Contains}
 use Rattle.encode_types.specs.{Codes.lists_of, Maps.HasKind, Maps.LacksKind, Maps.LacksList}
 use Rattle.encode_types.proofs.{Learning.kind-had, Defining.kind-stands, Defining.counts-none, Writing.written-none}
 use Rattle.encode_kinds.proofs.define.define_unnamed_kind.{Given.Over, Goals.In-Some, Goals.In_default}
-use Rattle.base_lemmas.proofs.Options.{at_ok}
+use Rattle.base_lemmas.proofs.Options.{at_err, at_ok}
+use Rattle.encode_types.proofs.Stopping.{part-same, same-when}
 use Rattle.encode_kinds.proofs.define.define_unnamed_kind.Goals as goal
 
 had : (g : Over) (c : In-Some g) → HasKind (g.E.ValtypeEncoder.view c.args.enc.now).maps c.args.kind.now c.in-Some.index
@@ -50,3 +51,9 @@ returns-clause-held g c = at_ok c.define_new_kind.result (inr (lacks g (goal.at.
 
 pub returns-clause-size : goal.returns-clause-size
 returns-clause-size g c = λ h. record { new = lacks g (goal.at.returns-clause-size g c).In_default; refuses = (rw c.index_of_kind.ensures.same at (c.define_new_kind.ensures.size h)) }
+
+pub returns-in_err-kind_list-clause-stopped : goal.returns-in_err-kind_list-clause-stopped
+returns-in_err-kind_list-clause-stopped g c = at_err _ (part-same _ _ _ _ _ _ (same-when refl) refl)
+
+pub returns-clause-stopped : goal.returns-clause-stopped
+returns-clause-stopped g c = rw c.index_of_kind.ensures.same at c.define_new_kind.ensures.stopped

@@ -1,5 +1,7 @@
 use Rattle.std.proofs.Common.{refl}
 use Rattle.encode_types.proofs.{Defining.params-stand, Aliasing.met-none, Aliasing.imports-none}
+use Rattle.encode_types.proofs.Stopping.{part-same, part-whole, same-when}
+use Rattle.base_lemmas.proofs.Options.{at_err}
 use Rattle.encode_kinds.proofs.encode.encode_params.Goals as goal
 
 pub params_of-requires : goal.params_of-requires
@@ -37,3 +39,9 @@ returns-in_err-define_parts-clause-imports g c = rw (c.deref.ensures.value, c.in
 
 pub returns-in_err-types-clause-imports : goal.returns-in_err-types-clause-imports
 returns-in_err-types-clause-imports g c = imports-none refl
+
+pub returns-in_err-types-clause-stopped : goal.returns-in_err-types-clause-stopped
+returns-in_err-types-clause-stopped g c = at_err _ (part-same _ _ _ _ _ _ (same-when refl) refl)
+
+pub returns-in_err-values-clause-stopped : goal.returns-in_err-values-clause-stopped
+returns-in_err-values-clause-stopped g c = rw c.params_of.ensures.same (at_err _ (part-whole c.in_ok-define_parts.ensures.counts))

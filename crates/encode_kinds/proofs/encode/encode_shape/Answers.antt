@@ -3,11 +3,12 @@ use Rattle.std.specs.Result.{IsErr}
 use Rattle.wit_model.specs.declared.{error.Error.Error, error.Error.TheVariants.Size, model.Resolve.Resolve, model.TypeDefKind.TypeDefKind}
 use Rattle.comp_bytes.specs.Refusal.{IsMemoryOrSize}
 use Rattle.comp_bytes.specs.declared.forms.ComponentValType.{ComponentValType}
-use Rattle.encode_types.specs.{Kinds.parts_of, Kinds.kind_of, Kinds.kind_tree, View.View, Aliases.ImportsMet, Aliases.MakesMet, Scope.Scope, Room.value_type, Leaves.Leaves, Leaves.LearnsFrom, Leaves.KindLacksRoom, Leaves.DefinesKind}
+use Rattle.encode_types.specs.{Kinds.parts_of, Kinds.kind_of, Kinds.kind_tree, View.View, Aliases.ImportsMet, Aliases.MakesMet, Scope.Scope, Room.value_type, Leaves.Leaves, Leaves.LearnsFrom, Leaves.CountsInPart, Leaves.KindLacksRoom, Leaves.DefinesKind}
 use Rattle.encode_types.proofs.{Aliasing.met-none, Aliasing.makes-same, Aliasing.imports-none, Aliasing.imports-same, Lists.none-in, Rooms.room-more, Rooms.room-after, Rooms.only-reached, Rooms.lacks-request, Rooms.holds-same}
 use Rattle.encode_types.proofs.Defining.{leaves-none, leaves-beside}
 use Rattle.encode_kinds.proofs.encode.encode_shape.Given.{Over}
 use Rattle.encode_kinds.proofs.encode.encode_shape.Goals.{After-define_parts, In_ok-define_parts, After-branch-index}
+use Rattle.encode_types.proofs.Stopping.{part-same, part-then, same-when}
 use Rattle.encode_kinds.proofs.encode.encode_shape.Goals as goal
 
 pub define_parts-requires : goal.define_parts-requires
@@ -35,9 +36,9 @@ imported g c = rw (c.deref.ensures.value, c.in_ok-parts.ensures) at c.define_par
 
 -- what a refusal leaves
 refused : (r : Resolve) (kind : TypeDefKind) (v v' : View) (res : Result ComponentValType Error) → IsErr res → Leaves r v v' → MakesMet r (parts_of kind) v v' → ImportsMet r (parts_of kind) v v'
-    → (res ≡ Err Size → KindLacksRoom r kind v v') → IfErr res IsMemoryOrSize → DefinesKind r kind v v' res
-refused r kind v v' (Ok x) h l a i s f = absurd (let z : ⊥ = cc in z)
-refused r kind v v' (Err e) h l a i s f = record { ok = tt; learns = tt; leaves = l; aliases = a; imports = i; counts = tt; held = tt; size = s; refuses = f }
+    → CountsInPart r v v' → (res ≡ Err Size → KindLacksRoom r kind v v') → IfErr res IsMemoryOrSize → DefinesKind r kind v v' res
+refused r kind v v' (Ok x) h l a i p s f = absurd (let z : ⊥ = cc in z)
+refused r kind v v' (Err e) h l a i p s f = record { ok = tt; learns = tt; leaves = l; aliases = a; imports = i; counts = tt; stopped = p; held = tt; size = s; refuses = f }
 
 pub returns : goal.returns
 returns g c =
@@ -55,6 +56,7 @@ returns g c =
         adds = rw c.define_shape.ensures.maps_stay c.in_ok-define_parts.ensures.counts;
         one_more = c.in_ok-index.ensures.counts;
       };
+      stopped = tt;
       held = holds-same 0 1 c.define_shape.ensures.maps_stay c.define_shape.ensures.held c.in_ok-define_parts.ensures.held;
       size = λ h. absurd (let z : ⊥ = cc in z);
       refuses = tt;
@@ -62,11 +64,12 @@ returns g c =
 
 pub returns-in_err-parts : goal.returns-in_err-parts
 returns-in_err-parts g c =
-    refused _ _ _ _ c.from_residual.result (search rules) (leaves-none c.requires.agree) (met-none refl) (imports-none refl) (λ h. absurd (let z : ⊥ = search rules in z)) (search rules)
+    refused _ _ _ _ c.from_residual.result (search rules) (leaves-none c.requires.agree) (met-none refl) (imports-none refl)
+    (part-same _ _ _ _ _ _ (same-when refl) refl) (λ h. absurd (let z : ⊥ = search rules in z)) (search rules)
 
 pub returns-in_err-define_parts : goal.returns-in_err-define_parts
 returns-in_err-define_parts g c = refused c.args.resolve.now (kind_of c.args.shape) _ _ c.from_residual-in_err-define_parts.result (search rules) c.define_parts.ensures.leaves
-    (made g (goal.at.returns-in_err-define_parts g c).After-define_parts) (imported g (goal.at.returns-in_err-define_parts g c).After-define_parts)
+    (made g (goal.at.returns-in_err-define_parts g c).After-define_parts) (imported g (goal.at.returns-in_err-define_parts g c).After-define_parts) c.in_err-define_parts.ensures.stopped
     (λ h. room-more refl (λ n x. x) (λ q k. none-in q k) (omega arith) (rw (c.deref.ensures.value, c.in_ok-parts.ensures) at (c.define_parts.ensures.size (search rules)))) (search rules)
 
 pub returns-in_err-index : goal.returns-in_err-index
@@ -76,7 +79,8 @@ returns-in_err-index g c =
     let between = g.E.ValtypeEncoder.view c.define_parts.new.enc in
     let after = g.E.ValtypeEncoder.view c.define_shape.new.enc in
     refused c.args.resolve.now (kind_of c.args.shape) before after c.from_residual-in_err-index.result (search rules) (leaves g at.After-branch-index)
-    (makes-same c.define_shape.ensures.around_stays (made g at.After-define_parts)) (imports-same c.define_shape.ensures.imports_stay (imported g at.After-define_parts)) (λ h.
+    (makes-same c.define_shape.ensures.around_stays (made g at.After-define_parts)) (imports-same c.define_shape.ensures.imports_stay (imported g at.After-define_parts))
+    (part-then c.define_parts.ensures.leaves.scope_stays c.in_ok-define_parts.ensures.counts (part-same _ _ _ _ _ _ (same-when c.define_shape.ensures.maps_stay) c.in_err-index.ensures.err)) (λ h.
     let keys : length between.maps.func_type_map.entries ≡ length before.maps.func_type_map.entries = ap length c.in_ok-define_parts.ensures.counts.keys.lists in
     let lacks = c.define_shape.ensures.size (search rules) in
     room-after (ap (λ (s : Scope). s.own_interface) c.define_parts.ensures.leaves.scope_stays) c.define_parts.ensures.leaves.maps_grow c.in_ok-define_parts.ensures.held

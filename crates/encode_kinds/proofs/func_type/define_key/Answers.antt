@@ -4,6 +4,9 @@ use Rattle.encode_types.specs.{Scope.Scope, Maps.LacksList, Maps.LearnsKeyList, 
 use Rattle.encode_types.proofs.{Rooms.room-more, Rooms.room-after, Rooms.only-reached, Rooms.lacks-request, Rooms.holds-key, Defining.leaves-kept, Defining.leaves-trans, Defining.lists-longer, Lists.none-in, Writing.writes-beside, Writing.writes-most, Learning.met-key, Functions.key-signature, Functions.key-new, Functions.counts-key, Functions.lacks-same, Functions.list-same, Aliasing.makes-same, Aliasing.imports-same}
 use Rattle.encode_kinds.proofs.{func_type.define_key.Given.Over, func_type.define_key.Goals.In_ok-index}
 use Rattle.encode_types.specs.declared.maps.TypeEncodingMaps.{TypeEncodingMaps}
+use Rattle.encode_types.specs.Counts.{a_function}
+use Rattle.encode_types.proofs.Stopping.{part-beside, part-same, part-then, same-when}
+use Rattle.base_lemmas.proofs.Options.{at_err}
 use Rattle.encode_kinds.proofs.func_type.define_key.Goals as goal
 
 pub function_of-requires : goal.function_of-requires
@@ -56,6 +59,7 @@ returns g c =
       counts = counts-key _ _ _ _ _ _ _ _ _ c.args.list.0.items _ c.requires.lacks c.in_ok-def.ensures.counts (listed g at.In_ok-index)
           (subst (λ (z : TypeEncodingMaps). LearnsKeyList z (g.E.ValtypeEncoder.view c.remember_key.new.enc).maps c.args.list.0.items c.in_ok-index.index) c.define_function_type.ensures.maps_stay
           c.in_ok-remember_key.ensures.ok) (c.remember_key.ensures.counts ∙ c.in_ok-index.ensures.counts);
+      stopped = tt;
       last =
           let new = c.in_ok-index.ensures.ok in
           record {
@@ -128,3 +132,12 @@ returns-in_err-remember_key-clause-imports g c = imports-same (c.remember_key.en
 
 pub returns-in_err-index-clause-imports : goal.returns-in_err-index-clause-imports
 returns-in_err-index-clause-imports g c = imports-same c.define_function_type.ensures.imports_stay c.function_of.ensures.imports
+
+pub returns-in_err-index-clause-stopped : goal.returns-in_err-index-clause-stopped
+returns-in_err-index-clause-stopped g c = at_err _ (part-then c.function_of.ensures.leaves.scope_stays c.in_ok-def.ensures.counts
+    (part-same _ _ _ _ _ _ (same-when c.define_function_type.ensures.maps_stay) c.in_err-index.ensures.err))
+
+pub returns-in_err-remember_key-clause-stopped : goal.returns-in_err-remember_key-clause-stopped
+returns-in_err-remember_key-clause-stopped g c = at_err _ (part-then c.function_of.ensures.leaves.scope_stays c.in_ok-def.ensures.counts
+    (part-beside _ _ _ _ _ _ (rw c.define_function_type.ensures.maps_stay at c.in_err-remember_key.ensures.err)
+    (a_function c.in_ok-index.index (c.remember_key.ensures.counts ∙ c.in_ok-index.ensures.counts))))

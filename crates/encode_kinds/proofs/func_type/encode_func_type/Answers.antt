@@ -1,9 +1,11 @@
 use Rattle.std.proofs.Common.{◌≡◌, ◌∙◌, ◌+◌, ◌++◌, ◌∷◌, inl, inr, refl, sym, subst, ap, [], length, arith}
-use Rattle.std.proofs.lemmas.Result.{IfOk-weaker as ok-map}
+use Rattle.std.proofs.lemmas.Result.{IfOk-weaker as ok-map, on_err_weaker}
 use Rattle.wit_model.specs.{Meant.signature_of, Parts.function_types}
 use Rattle.encode_types.specs.{Counts.Definitions, Extents.signature_extent, Fits.CanEncode, Formed.IsFormedSignature, Maps.LacksKey, View.WritesLearnt, Scope.Scope, Room.HoldsFor}
 use Rattle.encode_types.proofs.{Agree.on_ok, Aliasing.met-none, Aliasing.makes-then, Aliasing.imports-none, Aliasing.imports-then, Defining.leaves-trans, Encoding.learns-nothing, Encoding.learns-same, Rooms.holds-shared, Rooms.holds-then, Rooms.room-after, Functions.key-stands, Functions.counts-found, Functions.counts-behind, Functions.knows-more, Tables.at-none, Tables.key-lacking, Learning.met-both, Learning.met-names, Writing.writes-nothing, Writing.writes-beside, Writing.writes-most, Writing.writes-then}
 use Rattle.encode_kinds.proofs.{func_type.encode_func_type.Goals.In_ok-list, func_type.encode_func_type.Goals.In_default, func_type.encode_func_type.Given.Over}
+use Rattle.encode_types.proofs.Stopping.{part-behind, part-names}
+use Rattle.base_lemmas.proofs.Options.{at_err}
 use Rattle.encode_kinds.proofs.func_type.encode_func_type.Goals as goal
 
 -- ---- names may have been added
@@ -42,6 +44,7 @@ returns-in-Some g c =
         c.key_of-key.ensures,
         counts-found _ _ _ _ _ _ _ c.in_ok-list.list.0.items _ c.requires.agree.once list.names list.known c.in_ok-list.ensures.list c.in-Some.ensures.some list.counts,
       );
+      stopped = tt;
       last = inl (ap (λ (d : Definitions). d.functions) list.counts);
       held = held g at.In_ok-list;
       written = writes-most (omega arith) (written g at.In_ok-list);
@@ -140,3 +143,12 @@ returns-in_err-list-clause-imports g c = imports-none c.list_of_key.ensures.impo
 pub returns-clause-last : goal.returns-clause-last
 returns-clause-last g c = ok-map c.define_key.result _ _ (λ i h. inr (record { one_more = h.one_more ∙ ap (λ (d : Definitions). d.functions ++ i ∷ []) c.list_of_key.ensures.counts; last = h.last }))
     (rw c.index_of_key.ensures.same at c.define_key.ensures.last)
+
+-- ---- where it is refused
+
+pub returns-in_err-list-clause-stopped : goal.returns-in_err-list-clause-stopped
+returns-in_err-list-clause-stopped g c = at_err _ (part-names _ _ _ _ _ _ c.list_of_key.ensures.names c.list_of_key.ensures.counts)
+
+pub returns-clause-stopped : goal.returns-clause-stopped
+returns-clause-stopped g c = on_err_weaker c.define_key.result (λ a. part-behind _ _ _ _ _ _ _ _ _ c.list_of_key.ensures.leaves.scope_stays c.list_of_key.ensures.names c.list_of_key.ensures.counts a)
+    (rw c.index_of_key.ensures.same at c.define_key.ensures.stopped)

@@ -4,6 +4,8 @@ use Rattle.encode_types.proofs.Rooms.{room-more, room-after, holds-then, only-mo
 use Rattle.encode_types.proofs.{Learning.met-both, Learning.ready-both, Aliasing.met-more, Aliasing.makes-both, Aliasing.imports-more, Aliasing.imports-both, Functions.encode-left, Functions.encode-right, Defining.leaves-trans, Defining.counts-trans, Defining.stands-more}
 use Rattle.encode_types.proofs.Writing.{writes-then}
 use Rattle.base_lemmas.proofs.Elements.{zip-kept}
+use Rattle.encode_types.proofs.Stopping.{part-then}
+use Rattle.base_lemmas.proofs.Options.{at_err}
 use Rattle.encode_kinds.proofs.func_type.function_of.Goals as goal
 
 pub encode_params-requires : goal.encode_params-requires
@@ -36,6 +38,7 @@ returns g c =
       aliases = makes-both own (rw c.deref.ensures.value at first.aliases) (rw c.as_ref.ensures.value at second.aliases);
       imports = imports-both own (rw c.deref.ensures.value at first.imports) (rw c.as_ref.ensures.value at second.imports);
       counts = counts-trans first.leaves.scope_stays c.in_ok-params.ensures.counts c.in_ok-result.ensures.counts;
+      stopped = tt;
       knows = ready-both _ _ _ _ second.leaves.maps_grow (rw c.deref.ensures.value at c.in_ok-params.ensures.knows) (rw c.as_ref.ensures.value at c.in_ok-result.ensures.knows);
       held = holds-then own first.leaves.maps_grow second.leaves.maps_grow c.in_ok-params.ensures.held c.in_ok-result.ensures.held;
       written = writes-then first.leaves.scope_stays c.in_ok-params.ensures.written c.in_ok-result.ensures.written;
@@ -77,3 +80,6 @@ returns-in_err-params-clause-imports g c = imports-more (reached-left _ (option_
 pub returns-in_err-result-clause-imports : goal.returns-in_err-result-clause-imports
 returns-in_err-result-clause-imports g c = imports-both (ap (λ (z : Scope). z.own_interface) c.encode_params.ensures.leaves.scope_stays)
     (rw c.deref.ensures.value at c.encode_params.ensures.imports) (rw c.as_ref.ensures.value at c.encode_optional_valtype.ensures.imports)
+
+pub returns-in_err-result-clause-stopped : goal.returns-in_err-result-clause-stopped
+returns-in_err-result-clause-stopped g c = at_err _ (part-then c.encode_params.ensures.leaves.scope_stays c.in_ok-params.ensures.counts c.in_err-result.ensures.stopped)

@@ -1,6 +1,6 @@
 use Rattle.wit_bind.specs.Merges.{IsMergeRefusal, IsPlanOf}
 use Rattle.wit_bind.proofs.{AsItWas.kept_itself, Growing.on_err, Growing.plan_addable, Growth.merged_grows, Growth.merged_nothing, MatchedPaths.all-matched}
-use Rattle.wit_bind.proofs.Merging.{merged_answer, merged_bare, merged_brings, merged_are_the_union, merged_exports, merged_extend, merged_order}
+use Rattle.wit_bind.proofs.Merging.{merged_answer, merged_bare, merged_brings, merged_are_the_union, merged_exports, merged_extend, merged_in_order, merged_order}
 use Rattle.wit_bind.proofs.Outgrown.{refused-so}
 use Rattle.base_lemmas.proofs.Options.{passed as err_is}
 use Rattle.wit_bind.proofs.bindgen.merge_matched.Goals as goal
@@ -42,6 +42,7 @@ returns-clause-merged c =
       valid = all.0;
       extends = merged_extend own other new c.requires.own c.requires.others unites added keys plan grown;
       brings = merged_brings own other new c.requires.own c.requires.others unites added keys plan grown;
+      in_order = merged_in_order own other new c.requires.own c.requires.others unites added keys plan grown;
       bare = merged_bare own other new c.requires.own c.requires.others unites added keys plan grown;
       grows = merged_grows own other new c.requires.own c.requires.others unites added keys plan grown;
       nothing = merged_nothing own other new c.requires.own c.requires.others unites added keys plan grown;

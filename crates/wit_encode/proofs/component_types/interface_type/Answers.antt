@@ -1,4 +1,4 @@
-use Rattle.std.proofs.Common.{◌≤◌, ◌<◌, ◌⊎◌, sym, subst, ap, ◌∙◌, length, map, List, [], arith, rules}
+use Rattle.std.proofs.Common.{◌≡◌, true, ℕ, ◌≤◌, ◌<◌, ◌⊎◌, sym, subst, ap, ◌∙◌, length, map, List, [], arith, rules}
 use Rattle.std.proofs.{Math.ListN.length-map, lemmas.Bool.lt-ltb}
 use Rattle.wit_model.specs.{Lookup.interface_at, Weight.whole_instance_weight}
 use Rattle.wit_model.specs.declared.{model.Resolve.Resolve, model.InterfaceId.InterfaceId}
@@ -9,7 +9,9 @@ use Rattle.wit_encode.specs.{DependencyAliases.HasImportAliases, DependencyAlias
 use Rattle.wit_encode.proofs.{DependencyAliases.nothing-aliased, DependencyWeighing.lacking-components-heavy, Scopes.paths-fit, Scopes.refused-by_paths, Imported.nothing_is_imported, Imported.exports_end, BytesWritten.adds-described, BytesWritten.component-few, Extents.bytes-few, ImportsStand.imports_stand, WrittenNames.all-named}
 use Rattle.wit_encode.proofs.DependencyHolding.{export-defines, export-lacks, nothing-defined, nothing-held, own-lacks}
 use Rattle.wit_encode.proofs.ImportLoop.{few-importable, moved, moved-held, path-in-range, reached-importable, reached-used}
-use Rattle.encode_names.specs.WorldNames.{name_of_interface}
+use Rattle.encode_names.specs.{Clashes.canonical_paths_of, Clashes.AreDifferent, WorldNames.name_of_interface}
+use Rattle.wit_encode.specs.Scopes.{HasNoEqualPaths, RefusesInterface}
+use Rattle.base_lemmas.proofs.Options.{passed}
 use Rattle.comp_bytes.specs.declared.forms.ComponentTypeRef.TheVariants as refs
 use Rattle.wit_encode.proofs.component_types.interface_type.Goals as goal
 
@@ -133,3 +135,11 @@ returns-in_err-export-clause-size c = λ h.
     (c.in_ok-slot.ensures.ok found.0 (ap (λ (q : Resolve). interface_at q c.args.interface.0) same ∙ found.1)) in
     lacking-components-heavy r c.args.interface ns c.requires.valid c.requires.named c.in_ok-reached.ensures.reached
     (export-lacks r ns (outside before) imported held c.args.interface found.0 c.args.canonical_names (outside after) c.in_ok-slot.slot encodes _ c.in_ok-name.ensures.ok refused)
+
+pub returns-in_err-export-clause-refuses : goal.returns-in_err-export-clause-refuses
+returns-in_err-export-clause-refuses c =
+    let order = ap (map (λ (id : InterfaceId). id.0)) c.deref.ensures.value ∙ c.in_ok-reached.ensures.order in
+    let differ : c.args.canonical_names ≡ true → HasNoEqualPaths c.args.resolve.now c.args.interface.0 =
+    λ h. subst (λ (ns : List ℕ). AreDifferent (canonical_paths_of c.args.resolve.now ns)) order (c.in_ok-refuse_equal_paths.ensures.ok h) in
+    passed (RefusesInterface c.args.resolve.now c.args.interface.0 c.args.canonical_names) c.from_residual-in_err-export.result c.in_err-export.field-0.0
+    c.from_residual-in_err-export.ensures.1 (RefusesInterface.of_room differ c.in_err-export.ensures.refuses)

@@ -1,6 +1,6 @@
 use Rattle.encode_flat.specs.declared.forms.Form.TheVariants as form
 use Rattle.encode_types.specs.Table.{table_scope}
-use Rattle.encode_flat.proofs.FlatSteps.{form-imports, resource-exported}
+use Rattle.encode_flat.proofs.FlatSteps.{nothing-added, form-imports, resource-exported}
 use Rattle.encode_flat.proofs.encoder.FlatEncoderOfTypeEncodingMapsValtypeEncoder.export_resource.Goals as goal
 
 pub returns-clause-counts : goal.returns-clause-counts
@@ -10,3 +10,7 @@ returns-clause-counts c = resource-exported c.add_form.result (table_scope c.arg
 pub returns-clause-imports_stay : goal.returns-clause-imports_stay
 returns-clause-imports_stay c = form-imports c.add_form.result c.args.self.now.marks c.add_form.new.marks c.args.self.now.forms.items c.add_form.new.forms.items (form.Resource c.args.name)
     c.add_form.ensures.ok c.add_form.ensures.err
+
+pub returns-clause-err : goal.returns-clause-err
+returns-clause-err c = nothing-added c.add_form.result (table_scope c.args.self.now.resolve.now c.args.self.now.owner).declarations c.args.self.now.marks c.add_form.new.marks
+    c.args.self.now.forms.items c.add_form.new.forms.items c.add_form.ensures.err c.add_form.ensures.err_forms

@@ -25,6 +25,9 @@ returns-clause-extends c = so_ok _ _ (λ answer h. h.extends) c.merge_matched.re
 pub returns-clause-brings : goal.returns-clause-brings
 returns-clause-brings c = so_ok _ _ (λ answer h. h.brings) c.merge_matched.result c.merge_matched.ensures.merged
 
+pub returns-clause-in_order : goal.returns-clause-in_order
+returns-clause-in_order c = so_ok _ _ (λ answer h. h.in_order) c.merge_matched.result c.merge_matched.ensures.merged
+
 pub returns-clause-bare : goal.returns-clause-bare
 returns-clause-bare c = so_ok _ _ (λ answer h. h.bare) c.merge_matched.result c.merge_matched.ensures.merged
 

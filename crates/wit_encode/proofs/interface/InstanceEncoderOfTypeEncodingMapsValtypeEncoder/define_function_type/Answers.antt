@@ -1,8 +1,9 @@
 use Rattle.std.proofs.Common.{rules, inl, refl, sym, ap, ◌∙◌}
 use Rattle.wit_encode.proofs.{Placed.inside-called, Extents.bytes-few, BytesWritten.inside-more, BytesWritten.outside-more, BytesWritten.when-ok}
 use Rattle.wit_encode.proofs.Within.{function-within, function-without, slot-function}
-use Rattle.wit_encode.proofs.Refusing.{function-inside, function-outside, held-inside, held-outside, on-size, kept-inside, kept-outside}
-use Rattle.wit_encode.specs.Instance.{around_of, stands_in}
+use Rattle.wit_encode.proofs.Refusing.{function-inside, function-outside, held-inside, held-outside, on-size, undone, undone-inside, kept-inside, kept-outside}
+use Rattle.wit_encode.specs.Instance.{around_of, defined_in, stands_in}
+use Rattle.comp_bytes.specs.Raw.{Declarations}
 use Rattle.encode_types.proofs.Around.{slots-grow}
 use Rattle.wit_encode.proofs.interface.InstanceEncoderOfTypeEncodingMapsValtypeEncoder.define_function_type.Goals as goal
 
@@ -19,6 +20,7 @@ returns-in-Some c =
       imports_stay = search rules;
       maps_stay = search rules;
       counts = slot-function call.result _ _ _ _ _ _ _ calls.ok calls.counted;
+      err = undone-inside r start inner current c.define_function_inside.new.inner c.define_function_inside.result c.in-Some.is c.define_function_inside.ensures.err;
       held = held-inside start inner current call.new.inner c.in-Some.is call.ensures.held;
       written = when-ok call.result _ _ (λ i made s f. record { extent = inside-more start inner current call.new.inner _ _ c.in-Some.is made.1 (bytes-few.functions _ c.args.def s f) })
           call.ensures.ok;
@@ -41,6 +43,7 @@ returns c =
       imports_stay = search rules;
       maps_stay = search rules;
       counts = slot-function call.result _ _ _ _ _ _ _ calls.ok calls.counted;
+      err = undone (λ (o : Declarations). defined_in r o inner) start c.define_function_outside.new.outer c.define_function_outside.result c.define_function_outside.ensures.err;
       held = held-outside start call.new.outer inner c.in-None.is call.ensures.held;
       written = when-ok call.result _ _ (λ i made s f. record { extent = outside-more start call.new.outer inner _ _ c.in-None.is made.1 (bytes-few.functions _ c.args.def s f) }) call.ensures.ok;
       size = λ h s f. record {

@@ -1,8 +1,9 @@
 use Rattle.std.proofs.Common.{rules, inl, refl, sym, ap, ◌∙◌}
 use Rattle.wit_encode.proofs.{Placed.inside-called, Extents.bytes-few, BytesWritten.inside-more, BytesWritten.outside-more, BytesWritten.when-ok}
 use Rattle.wit_encode.proofs.Within.{defined-within, defined-without, slot-defined}
-use Rattle.wit_encode.proofs.Refusing.{value-inside, value-outside, held-inside, held-outside, on-size, kept-inside, kept-outside}
-use Rattle.wit_encode.specs.Instance.{around_of, stands_in}
+use Rattle.wit_encode.proofs.Refusing.{value-inside, value-outside, held-inside, held-outside, on-size, undone, undone-inside, kept-inside, kept-outside}
+use Rattle.wit_encode.specs.Instance.{around_of, defined_in, stands_in}
+use Rattle.comp_bytes.specs.Raw.{Declarations}
 use Rattle.encode_types.proofs.Around.{slots-grow}
 use Rattle.wit_encode.proofs.interface.InstanceEncoderOfTypeEncodingMapsValtypeEncoder.defined_type.Goals as goal
 
@@ -19,6 +20,7 @@ returns-in-Some c =
       imports_stay = search rules;
       maps_stay = search rules;
       counts = slot-defined c.define_inside.result _ _ _ _ _ _ _ calls.ok calls.counted;
+      err = undone-inside r start inner current c.define_inside.new.inner c.define_inside.result c.in-Some.is c.define_inside.ensures.err;
       held = held-inside start inner current c.define_inside.new.inner c.in-Some.is c.define_inside.ensures.held;
       written = when-ok c.define_inside.result _ _ (λ i made t f. record {
         extent = inside-more start inner current c.define_inside.new.inner _ _ c.in-Some.is made.1 (bytes-few.definitions _ c.args.def t f);
@@ -42,6 +44,7 @@ returns c =
       imports_stay = search rules;
       maps_stay = search rules;
       counts = slot-defined c.define_outside.result _ _ _ _ _ _ _ calls.ok calls.counted;
+      err = undone (λ (o : Declarations). defined_in r o inner) start c.define_outside.new.outer c.define_outside.result c.define_outside.ensures.err;
       held = held-outside start c.define_outside.new.outer inner c.in-None.is c.define_outside.ensures.held;
       written = when-ok c.define_outside.result _ _ (λ i made t f. record {
         extent = outside-more start c.define_outside.new.outer inner _ _ c.in-None.is made.1 (bytes-few.definitions _ c.args.def t f);

@@ -1,5 +1,5 @@
 use Rattle.std.proofs.Common.{rules, refl, inl, sym, ap}
-use Rattle.wit_encode.proofs.{Placed.inside-called, Refusing.name-inside, Refusing.held-inside, Refusing.on-size, Refusing.kept-inside, Within.resource-within, Extents.bytes-few, BytesWritten.inside-more, BytesWritten.when-ok}
+use Rattle.wit_encode.proofs.{Placed.inside-called, Refusing.name-inside, Refusing.held-inside, Refusing.on-size, Refusing.undone-inside, Refusing.kept-inside, Within.resource-within, Extents.bytes-few, BytesWritten.inside-more, BytesWritten.when-ok}
 use Rattle.wit_encode.specs.Instance.{around_of}
 use Rattle.encode_types.proofs.Around.{slots-grow}
 use Rattle.comp_bytes.specs.RawOf.{raw_name}
@@ -20,6 +20,8 @@ returns c =
       imports_stay = search rules;
       maps_stay = search rules;
       counts = calls.counted;
+      err = undone-inside c.args.self.now.resolve.now c.args.self.now.outer c.args.self.now.inner
+          c.in-Some.current c.export_inside.new.inner c.export_inside.result c.in-Some.is c.export_inside.ensures.err;
       held = held-inside c.args.self.now.outer c.args.self.now.inner c.in-Some.current c.export_inside.new.inner c.in-Some.is c.export_inside.ensures.held;
       written = when-ok c.export_inside.result _ _ (λ i made. record {
         extent = inside-more c.args.self.now.outer c.args.self.now.inner c.in-Some.current c.export_inside.new.inner _ _ c.in-Some.is made.1

@@ -2,10 +2,11 @@ use Rattle.std.proofs.Common.{refl, ◌≡◌, inl, sym, ap, ◌∙◌, ℕ, Res
 use Rattle.wit_encode.proofs.{Placed.inside-called, Refusing.name-inside, Refusing.held-inside, Refusing.kept-inside, BytesWritten.inside-more, Within.type-within, Extents.bytes-few}
 use Rattle.wit_model.specs.declared.error.Error.{Error}
 use Rattle.comp_bytes.specs.RawOf.{raw_name}
-use Rattle.wit_encode.specs.Instance.{encoder_scope, around_of}
+use Rattle.wit_encode.specs.Instance.{encoder_scope, around_of, defined_in}
 use Rattle.encode_types.proofs.Around.{slots-grow}
 use Rattle.comp_bytes.specs.declared.forms.ComponentTypeRef.TheVariants as refs
 use Rattle.wit_model.specs.declared.error.Error.TheVariants as errors
+use Rattle.base_lemmas.proofs.Options.{at_err}
 use Rattle.wit_encode.proofs.interface.InstanceEncoderOfTypeEncodingMapsValtypeEncoder.export_type.Goals as goal
 
 pub returns : goal.returns
@@ -22,6 +23,7 @@ returns c =
       imports_stay = search rules;
       maps_stay = search rules;
       counts = made.counted;
+      err = search rules;
       held = held-inside start inner current end c.in-Some.is c.export_inside.ensures.held;
       written = record { extent = inside-more start inner current end _ _ c.in-Some.is c.in_ok-slot-in-Some.ensures.ok.1 (bytes-few.exports (raw_name c.args.name) (refs.TypeEq c.args.index)) };
       size = search rules;
@@ -31,6 +33,10 @@ returns c =
 pub returns-in_err-slot-in-Some-clause-scope_stays : goal.returns-in_err-slot-in-Some-clause-scope_stays
 returns-in_err-slot-in-Some-clause-scope_stays c = ap (encoder_scope c.args.self.now.resolve.now c.args.self.now.outer)
     ((λ i. Some (record c.in-Some.current { declared = c.in_err-slot-in-Some.ensures.err i })) ∙ sym c.in-Some.is)
+
+pub returns-in_err-slot-in-Some-clause-err : goal.returns-in_err-slot-in-Some-clause-err
+returns-in_err-slot-in-Some-clause-err c = at_err _ (ap (defined_in c.args.self.now.resolve.now c.args.self.now.outer)
+    ((λ i. Some (record c.in-Some.current { declared = c.in_err-slot-in-Some.ensures.err i })) ∙ sym c.in-Some.is))
 
 pub returns-in_err-slot-in-Some-clause-size : goal.returns-in_err-slot-in-Some-clause-size
 returns-in_err-slot-in-Some-clause-size c = λ h.

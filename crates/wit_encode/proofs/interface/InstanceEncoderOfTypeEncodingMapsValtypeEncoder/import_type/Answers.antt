@@ -1,12 +1,13 @@
 use Rattle.std.proofs.Common.{inl, sym, ap, ◌∙◌, subst, arith, Option, Some, rules, refl}
 use Rattle.std.proofs.lemmas.Option.{slice_get_within}
 use Rattle.wit_encode.{proofs.Placed.inside-called, proofs.BytesWritten.imported-more, proofs.BytesWritten.when-ok}
-use Rattle.wit_encode.proofs.Importing.{imported, imported-stands, import-source, none-outside}
+use Rattle.wit_encode.proofs.Importing.{import-refused, imported, imported-stands, import-source, none-outside}
 use Rattle.wit_encode.proofs.Refusing.{alias-inside, alias-outside, held-inside, on-size, kept-inside}
 use Rattle.wit_encode.specs.declared.interface.OpenInterface.{OpenInterface}
 use Rattle.encode_types.specs.{Scope.IsImportable, Known.Around, Known.GrowsAround, Known.ReachesAround}
-use Rattle.wit_encode.specs.Instance.{encoder_scope, scope_with, inner_contents, place_in, around_at, around_of}
+use Rattle.wit_encode.specs.Instance.{defined_in, definitions_with, encoder_scope, scope_with, inner_contents, place_in, around_at, around_of}
 use Rattle.encode_types.proofs.Around.{reaches-grows}
+use Rattle.base_lemmas.proofs.Options.{at_err}
 use Rattle.wit_encode.proofs.interface.InstanceEncoderOfTypeEncodingMapsValtypeEncoder.import_type.Goals as goal
 
 pub reach-requires-clause-in_range : goal.reach-requires-clause-in_range
@@ -40,6 +41,8 @@ returns c =
       scope_stays = imports.scope_stays;
       maps_stay = search rules;
       counts = imports.counted;
+      err = import-refused c.alias_inside.result e₀.resolve.now e₀.outer c.reach.new.outer e₀.inner c.in-Some.current c.reach.new.foreign inner c.in-Some.is c.args.interface.0 c.args.id
+          c.in_ok-slot-in-Some.slot c.requires c.reach.ensures.reaches c.in_ok-slot-in-Some.ensures.slot c.alias_inside.ensures.err;
       held = held-inside e₀.outer e₀.inner c.in-Some.current inner c.in-Some.is c.alias_inside.ensures.held;
       written = when-ok c.alias_inside.result _ _ (λ i made def at. record {
         extent = imported-more (around_at e₀.outer c.in-Some.current.foreign) around e₀.inner c.in-Some.current inner c.in_ok-slot-in-Some.slot def c.reach.ensures.reaches at c.in-Some.is made.1;
@@ -63,6 +66,9 @@ returns-in_err-slot-in-Some c = record {
       ∙ ap (encoder_scope c.args.self.now.resolve.now c.args.self.now.outer) (sym c.in-Some.is);
   maps_stay = search rules;
   counts = search rules;
+  err = at_err _ (ap (λ (z : Around). definitions_with (inner_contents (place_in c.args.self.now.resolve.now (Some c.in-Some.current.interface)) z.declared c.in-Some.current.declared))
+      c.in_err-slot-in-Some.ensures.err
+      ∙ ap (defined_in c.args.self.now.resolve.now c.args.self.now.outer) (sym c.in-Some.is));
   held = held-inside c.args.self.now.outer c.args.self.now.inner c.in-Some.current c.in-Some.current.declared c.in-Some.is (omega arith);
   written = search rules;
   size = λ h. record {

@@ -1,7 +1,7 @@
 use Rattle.std.proofs.Common.{rules, refl, None}
-use Rattle.wit_encode.proofs.{Within.slot-function, WorldHolding.beside-more, WorldHolding.beside-kept, WorldCalls.defines-function, Extents.bytes-few, Refusing.function-outside, Refusing.on-size, BytesWritten.one-more, BytesWritten.when-ok}
+use Rattle.wit_encode.proofs.{Within.slot-function, WorldHolding.beside-more, WorldHolding.beside-kept, WorldCalls.defines-function, Extents.bytes-few, Refusing.function-outside, Refusing.on-size, Refusing.undone, BytesWritten.one-more, BytesWritten.when-ok}
 use Rattle.encode_types.specs.{Known.outer_slots, Standing.SlotsStand}
-use Rattle.wit_encode.specs.Worlds.{world_around}
+use Rattle.wit_encode.specs.Worlds.{world_around, world_definitions}
 use Rattle.wit_encode.proofs.world.WorldEncoderOfTypeEncodingMapsValtypeEncoder.define_function_type.Goals as goal
 
 pub returns : goal.returns
@@ -17,6 +17,7 @@ returns c =
       imports_stay = search rules;
       maps_stay = search rules;
       counts = let made = calls in slot-function c.define_function_outside.result _ _ _ _ _ _ _ made.ok made.counted;
+      err = undone world_definitions c.args.self.now.outer c.define_function_outside.new.outer c.define_function_outside.result c.define_function_outside.ensures.err;
       held = beside-more c.args.self.now.resolve.now (world_around c.args.self.now) c.define_function_outside.new.outer c.define_function_outside.ensures.held;
       written = when-ok c.define_function_outside.result _ _
           (λ i made s f. record { extent = one-more c.args.self.now.outer c.define_function_outside.new.outer _ _ made.1 (bytes-few.functions _ c.args.def s f) }) c.define_function_outside.ensures.ok;

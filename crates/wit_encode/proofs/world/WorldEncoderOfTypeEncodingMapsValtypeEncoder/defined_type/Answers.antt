@@ -1,7 +1,7 @@
 use Rattle.std.proofs.Common.{rules, refl, None}
-use Rattle.wit_encode.proofs.{Within.slot-defined, WorldHolding.beside-more, WorldHolding.beside-kept, WorldCalls.defines-value, Refusing.value-outside, Refusing.on-size, Extents.bytes-few, BytesWritten.one-more, BytesWritten.when-ok}
+use Rattle.wit_encode.proofs.{Within.slot-defined, WorldHolding.beside-more, WorldHolding.beside-kept, WorldCalls.defines-value, Refusing.value-outside, Refusing.on-size, Refusing.undone, Extents.bytes-few, BytesWritten.one-more, BytesWritten.when-ok}
 use Rattle.encode_types.specs.{Known.outer_slots, Standing.SlotsStand}
-use Rattle.wit_encode.specs.Worlds.{world_around}
+use Rattle.wit_encode.specs.Worlds.{world_around, world_definitions}
 use Rattle.wit_encode.proofs.world.WorldEncoderOfTypeEncodingMapsValtypeEncoder.defined_type.Goals as goal
 
 pub returns : goal.returns
@@ -16,6 +16,7 @@ returns c =
       imports_stay = search rules;
       maps_stay = search rules;
       counts = let made = calls in slot-defined c.define_outside.result _ _ _ _ _ _ _ made.ok made.counted;
+      err = undone world_definitions c.args.self.now.outer c.define_outside.new.outer c.define_outside.result c.define_outside.ensures.err;
       held = beside-more c.args.self.now.resolve.now (world_around c.args.self.now) c.define_outside.new.outer c.define_outside.ensures.held;
       written = when-ok c.define_outside.result _ _
           (λ i made t f. record { extent = one-more c.args.self.now.outer c.define_outside.new.outer _ _ made.1 (bytes-few.definitions _ c.args.def t f) }) c.define_outside.ensures.ok;

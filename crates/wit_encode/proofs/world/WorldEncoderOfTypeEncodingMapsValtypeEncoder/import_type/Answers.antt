@@ -1,5 +1,5 @@
 use Rattle.std.proofs.{Common.rules, Common.arith, lemmas.Option.slice_get_within}
-use Rattle.base_lemmas.proofs.Options.{at_ok, if_ok}
+use Rattle.base_lemmas.proofs.Options.{at_err, at_ok, if_ok}
 use Rattle.encode_types.specs.Known.{as_before}
 use Rattle.wit_encode.specs.{Instance.around_at, Worlds.world_around}
 use Rattle.wit_encode.proofs.{Aliases.known-reached, WorldCalls.world-imports, WorldCalls.world-source, BytesWritten.reached-more, Refusing.alias-behind, Refusing.on-size}
@@ -25,6 +25,7 @@ returns c =
       scope_stays = imports.scope_stays;
       maps_stay = search rules;
       counts = at_ok c.reach.result imports.counted;
+      err = at_err c.reach.result imports.counted;
       held = reached-beside c.reach.ensures.reaches;
       written = at_ok c.reach.result (λ def at. record { extent = omega (arith, reached-more c.reach.ensures.reaches def at) });
       size = λ h. record {

@@ -1,0 +1,28 @@
+-- Blanks and comments at a place of a text. Serves lexer::comment_end.
+pub mod CommentFacts
+-- Runs of a machine over bytes, and what two tests of parts say of them. Serves MarkScans, NumberScans, PartScans, QuoteScans and 2 more.
+pub mod Runs
+-- A scan of strings is what the grammar says of them. Serves MarkScans, TokenScans.
+pub mod QuoteScans
+-- A scan of marks is what the grammar says of them. Serves TokenScans.
+pub mod MarkScans
+-- What stands between two dots of a version, byte by byte: numerals and identifiers. Serves NumberScans, TokenScans.
+pub mod PartScans
+-- A scan of digits and versions is what the grammar says of them. Serves TokenScans.
+pub mod NumberScans
+-- A scan of fragments is what the grammar says of them. Serves TokenScans.
+pub mod WordScans
+-- A scan finds the longest token. Serves CutTexts, EndFacts, PlaceFacts.
+pub mod TokenScans
+-- The loop of a scan: where the longest token ends. Serves state::token_end.
+pub mod EndFacts
+-- Tokens with their places: more of them, and what a text with a place where none begins is. Serves lexer::token_front, lexer::tokens.
+pub mod PlaceFacts
+-- The tokens up to a place are those of the text that is cut there. Serves lexer::tokens.
+pub mod CutTexts
+-- The keyword of a word. Serves keyword::keyword_of.
+pub mod KeywordFacts
+-- What a token is, by its text. Serves keyword::keyword_of, lexer::kind_of, lexer::number_kind, lexer::word_kind.
+pub mod KindFacts
+-- A text has its tokens at one list of places, and one first byte at most at which none begins. Serves laws::one_answer.
+pub mod OneAnswer
