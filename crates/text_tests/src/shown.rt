@@ -1,0 +1,408 @@
+//! Trees, written with brackets.
+
+use std::alloc::{AllocError, Global};
+use text_trees::{
+    CaseTree, Declared, ExternTree, FieldTree, FileTree, Gates, ItemTree, LabelTree, MemberTree,
+    PackageHead, PackageTree, ParamTree, PathTree, Prefix, ResourceMember, SignatureTree, Span,
+    TypeTree, UsedName, WorldMember,
+};
+
+// A text, and what has been written of its tree.
+#[derive(Drop)]
+struct Page<'a> {
+    text: &'a str,
+    written: String,
+}
+
+type Written = Result<(), AllocError>;
+
+// What a span has.
+fn put_span(alloc: Global, page: &mut Page<'_>, span: Span) -> Written {
+    let bytes = page.text.as_bytes();
+    let (start, end) = (span.start as usize, span.end as usize);
+    if start > end || end > bytes.len() {
+        return page.written.push_str("?");
+    }
+    let part = String::from_utf8_lossy(alloc, &bytes[start..end])?;
+    page.written.push_str(&part)
+}
+
+// What a span has, behind some words and in front of others.
+fn put_with(alloc: Global, page: &mut Page<'_>, before: &str, span: Span, after: &str) -> Written {
+    page.written.push_str(before)?;
+    put_span(alloc, page, span)?;
+    page.written.push_str(after)
+}
+
+// What a span has, if there is one, behind some words.
+fn put_option(alloc: Global, page: &mut Page<'_>, before: &str, span: Option<Span>) -> Written {
+    match span {
+        Some(span) => put_with(alloc, page, before, span, ""),
+        None => Ok(()),
+    }
+}
+
+// A blank in front of all but the first.
+fn put_between(page: &mut Page<'_>, index: usize) -> Written {
+    if index == 0 {
+        Ok(())
+    } else {
+        page.written.push_str(" ")
+    }
+}
+
+// ---- types
+
+fn put_type(alloc: Global, page: &mut Page<'_>, ty: &TypeTree) -> Written {
+    match ty {
+        TypeTree::PrimitiveType(primitive) => {
+            let primitive = *primitive;
+            let word = format!(in alloc; "{primitive:?}")?;
+            page.written.push_str(&word)
+        }
+        TypeTree::Name(name) => put_span(alloc, page, *name),
+        TypeTree::Own(name) => put_with(alloc, page, "own[", *name, "]"),
+        TypeTree::Borrow(name) => put_with(alloc, page, "borrow[", *name, "]"),
+        TypeTree::TupleOf(types) => {
+            page.written.push_str("tuple[")?;
+            for (index, ty) in types.iter().enumerate() {
+                put_between(page, index)?;
+                put_type(alloc, page, ty)?;
+            }
+            page.written.push_str("]")
+        }
+        TypeTree::OptionOf(ty) => {
+            page.written.push_str("option[")?;
+            put_type(alloc, page, ty)?;
+            page.written.push_str("]")
+        }
+        TypeTree::ListOf(ty) => {
+            page.written.push_str("list[")?;
+            put_type(alloc, page, ty)?;
+            page.written.push_str("]")
+        }
+        TypeTree::FixedListOf(ty, digits) => {
+            page.written.push_str("list[")?;
+            put_type(alloc, page, ty)?;
+            put_with(alloc, page, " ", *digits, "]")
+        }
+        TypeTree::MapOf(key, value) => {
+            page.written.push_str("map[")?;
+            put_type(alloc, page, key)?;
+            page.written.push_str(" ")?;
+            put_type(alloc, page, value)?;
+            page.written.push_str("]")
+        }
+        TypeTree::Result => page.written.push_str("result"),
+        TypeTree::ResultOk(ok) => {
+            page.written.push_str("result[")?;
+            put_type(alloc, page, ok)?;
+            page.written.push_str("]")
+        }
+        TypeTree::ResultErr(err) => {
+            page.written.push_str("result[_ ")?;
+            put_type(alloc, page, err)?;
+            page.written.push_str("]")
+        }
+        TypeTree::ResultOf(ok, err) => {
+            page.written.push_str("result[")?;
+            put_type(alloc, page, ok)?;
+            page.written.push_str(" ")?;
+            put_type(alloc, page, err)?;
+            page.written.push_str("]")
+        }
+        TypeTree::Future => page.written.push_str("future"),
+        TypeTree::FutureOf(ty) => {
+            page.written.push_str("future[")?;
+            put_type(alloc, page, ty)?;
+            page.written.push_str("]")
+        }
+        TypeTree::Stream => page.written.push_str("stream"),
+        TypeTree::StreamOf(ty) => {
+            page.written.push_str("stream[")?;
+            put_type(alloc, page, ty)?;
+            page.written.push_str("]")
+        }
+    }
+}
+
+fn put_params(alloc: Global, page: &mut Page<'_>, params: &[ParamTree]) -> Written {
+    page.written.push_str("(")?;
+    for (index, param) in params.iter().enumerate() {
+        put_between(page, index)?;
+        put_with(alloc, page, "", param.name, "=")?;
+        put_type(alloc, page, &param.ty)?;
+    }
+    page.written.push_str(")")
+}
+
+fn put_result(alloc: Global, page: &mut Page<'_>, result: &Option<TypeTree>) -> Written {
+    match result {
+        Some(ty) => {
+            page.written.push_str("->")?;
+            put_type(alloc, page, ty)
+        }
+        None => Ok(()),
+    }
+}
+
+fn put_signature(alloc: Global, page: &mut Page<'_>, signature: &SignatureTree) -> Written {
+    page.written
+        .push_str(if signature.is_async { "async" } else { "" })?;
+    put_params(alloc, page, &signature.params)?;
+    put_result(alloc, page, &signature.result)
+}
+
+// ---- what stands in front of an item, paths, uses
+
+fn put_gates(alloc: Global, page: &mut Page<'_>, gates: Gates) -> Written {
+    match gates {
+        Gates::Ungated => Ok(()),
+        Gates::Since(version, deprecated) => {
+            put_with(alloc, page, "since ", version, " ")?;
+            put_option(alloc, page, "until ", deprecated)
+        }
+        Gates::Unstable(feature, deprecated) => {
+            put_with(alloc, page, "unstable ", feature, " ")?;
+            put_option(alloc, page, "until ", deprecated)
+        }
+    }
+}
+
+fn put_prefix(alloc: Global, page: &mut Page<'_>, prefix: Prefix) -> Written {
+    put_gates(alloc, page, prefix.gates)?;
+    put_option(alloc, page, "id ", prefix.external_id)
+}
+
+fn put_path(alloc: Global, page: &mut Page<'_>, path: PathTree) -> Written {
+    match path {
+        PathTree::Local(name) => put_span(alloc, page, name),
+        PathTree::Full(namespace, name, interface, version) => {
+            put_with(alloc, page, "[", namespace, " ")?;
+            put_with(alloc, page, "", name, " ")?;
+            put_span(alloc, page, interface)?;
+            put_option(alloc, page, " ", version)?;
+            page.written.push_str("]")
+        }
+    }
+}
+
+fn put_use(alloc: Global, page: &mut Page<'_>, path: PathTree, names: &[UsedName]) -> Written {
+    page.written.push_str("use ")?;
+    put_path(alloc, page, path)?;
+    for used in names {
+        put_with(alloc, page, " ", used.other, "")?;
+        put_option(alloc, page, "=", used.own)?;
+    }
+    Ok(())
+}
+
+// ---- declared types
+
+fn put_fields(alloc: Global, page: &mut Page<'_>, fields: &[FieldTree]) -> Written {
+    for field in fields {
+        put_with(alloc, page, " ", field.name, "=")?;
+        put_type(alloc, page, &field.ty)?;
+    }
+    Ok(())
+}
+
+fn put_cases(alloc: Global, page: &mut Page<'_>, cases: &[CaseTree]) -> Written {
+    for case in cases {
+        put_with(alloc, page, " ", case.name, "")?;
+        put_result(alloc, page, &case.payload)?;
+    }
+    Ok(())
+}
+
+fn put_labels(alloc: Global, page: &mut Page<'_>, labels: &[LabelTree]) -> Written {
+    for label in labels {
+        put_with(alloc, page, " ", label.name, "")?;
+    }
+    Ok(())
+}
+
+fn put_function(alloc: Global, page: &mut Page<'_>, member: &ResourceMember) -> Written {
+    match member {
+        ResourceMember::Constructor(prefix, params, result) => {
+            put_prefix(alloc, page, *prefix)?;
+            page.written.push_str("new")?;
+            put_params(alloc, page, params)?;
+            put_result(alloc, page, result)
+        }
+        ResourceMember::Method(prefix, name, signature) => {
+            put_prefix(alloc, page, *prefix)?;
+            put_with(alloc, page, "method ", *name, " ")?;
+            put_signature(alloc, page, signature)
+        }
+        ResourceMember::Static(prefix, name, signature) => {
+            put_prefix(alloc, page, *prefix)?;
+            put_with(alloc, page, "static ", *name, " ")?;
+            put_signature(alloc, page, signature)
+        }
+    }
+}
+
+fn put_functions(alloc: Global, page: &mut Page<'_>, members: &[ResourceMember]) -> Written {
+    for member in members {
+        page.written.push_str(" {")?;
+        put_function(alloc, page, member)?;
+        page.written.push_str("}")?;
+    }
+    Ok(())
+}
+
+fn put_declared(alloc: Global, page: &mut Page<'_>, declared: &Declared) -> Written {
+    match declared {
+        Declared::RecordOf(name, fields) => {
+            put_with(alloc, page, "record ", *name, "")?;
+            put_fields(alloc, page, fields)
+        }
+        Declared::VariantOf(name, cases) => {
+            put_with(alloc, page, "variant ", *name, "")?;
+            put_cases(alloc, page, cases)
+        }
+        Declared::FlagsOf(name, flags) => {
+            put_with(alloc, page, "flags ", *name, "")?;
+            put_labels(alloc, page, flags)
+        }
+        Declared::EnumOf(name, cases) => {
+            put_with(alloc, page, "enum ", *name, "")?;
+            put_labels(alloc, page, cases)
+        }
+        Declared::AliasOf(name, ty) => {
+            put_with(alloc, page, "type ", *name, "=")?;
+            put_type(alloc, page, ty)
+        }
+        Declared::ResourceOf(name, members) => {
+            put_with(alloc, page, "resource ", *name, "")?;
+            put_functions(alloc, page, members)
+        }
+    }
+}
+
+// ---- interfaces and worlds
+
+fn put_member(alloc: Global, page: &mut Page<'_>, member: &MemberTree) -> Written {
+    match member {
+        MemberTree::UseMember(prefix, path, names) => {
+            put_prefix(alloc, page, *prefix)?;
+            put_use(alloc, page, *path, names)
+        }
+        MemberTree::TypeMember(prefix, declared) => {
+            put_prefix(alloc, page, *prefix)?;
+            put_declared(alloc, page, declared)
+        }
+        MemberTree::FunctionMember(prefix, name, signature) => {
+            put_prefix(alloc, page, *prefix)?;
+            put_with(alloc, page, "func ", *name, " ")?;
+            put_signature(alloc, page, signature)
+        }
+    }
+}
+
+fn put_members(alloc: Global, page: &mut Page<'_>, members: &[MemberTree]) -> Written {
+    for member in members {
+        page.written.push_str(" {")?;
+        put_member(alloc, page, member)?;
+        page.written.push_str("}")?;
+    }
+    Ok(())
+}
+
+fn put_extern(alloc: Global, page: &mut Page<'_>, item: &ExternTree) -> Written {
+    match item {
+        ExternTree::Path(path) => put_path(alloc, page, *path),
+        ExternTree::NamedFunction(name, signature) => {
+            put_with(alloc, page, "func ", *name, " ")?;
+            put_signature(alloc, page, signature)
+        }
+        ExternTree::NamedPath(name, path) => {
+            put_with(alloc, page, "", *name, "=")?;
+            put_path(alloc, page, *path)
+        }
+        ExternTree::NamedInterface(name, members) => {
+            put_with(alloc, page, "interface ", *name, "")?;
+            put_members(alloc, page, members)
+        }
+    }
+}
+
+fn put_world_member(alloc: Global, page: &mut Page<'_>, member: &WorldMember) -> Written {
+    match member {
+        WorldMember::WorldUse(prefix, path, names) => {
+            put_prefix(alloc, page, *prefix)?;
+            put_use(alloc, page, *path, names)
+        }
+        WorldMember::WorldType(prefix, declared) => {
+            put_prefix(alloc, page, *prefix)?;
+            put_declared(alloc, page, declared)
+        }
+        WorldMember::WorldImport(prefix, item) => {
+            put_prefix(alloc, page, *prefix)?;
+            page.written.push_str("import ")?;
+            put_extern(alloc, page, item)
+        }
+        WorldMember::WorldExport(prefix, item) => {
+            put_prefix(alloc, page, *prefix)?;
+            page.written.push_str("export ")?;
+            put_extern(alloc, page, item)
+        }
+    }
+}
+
+fn put_world_members(alloc: Global, page: &mut Page<'_>, members: &[WorldMember]) -> Written {
+    for member in members {
+        page.written.push_str(" {")?;
+        put_world_member(alloc, page, member)?;
+        page.written.push_str("}")?;
+    }
+    Ok(())
+}
+
+fn put_item(alloc: Global, page: &mut Page<'_>, item: &ItemTree) -> Written {
+    match item {
+        ItemTree::InterfaceItem(gates, name, members) => {
+            put_gates(alloc, page, *gates)?;
+            put_with(alloc, page, "interface ", *name, "")?;
+            put_members(alloc, page, members)
+        }
+        ItemTree::WorldItem(gates, name, members) => {
+            put_gates(alloc, page, *gates)?;
+            put_with(alloc, page, "world ", *name, "")?;
+            put_world_members(alloc, page, members)
+        }
+    }
+}
+
+// ---- packages and files
+
+fn put_head(alloc: Global, page: &mut Page<'_>, head: PackageHead) -> Written {
+    put_with(alloc, page, "", head.namespace, " ")?;
+    put_span(alloc, page, head.name)?;
+    put_option(alloc, page, " ", head.version)
+}
+
+fn put_package(alloc: Global, page: &mut Page<'_>, package: &PackageTree) -> Written {
+    put_head(alloc, page, package.head)?;
+    for item in &package.items {
+        page.written.push_str(" {")?;
+        put_item(alloc, page, item)?;
+        page.written.push_str("}")?;
+    }
+    Ok(())
+}
+
+/// The tree of a text: its package, and then the nested ones, each behind a `|`.
+pub(crate) fn shown(alloc: Global, text: &str, file: &FileTree) -> Result<String, AllocError> {
+    let mut page = Page {
+        text,
+        written: String::new(alloc),
+    };
+    put_package(alloc, &mut page, &file.main)?;
+    for package in &file.nested {
+        page.written.push_str(" | ")?;
+        put_package(alloc, &mut page, package)?;
+    }
+    Ok(page.written)
+}

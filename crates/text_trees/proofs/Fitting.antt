@@ -1,0 +1,203 @@
+-- No type that a reader finds has more levels than there is room for.
+use Rattle.std.proofs.Common.{◌≡◌, refl, ℕ, ◌≤◌, Bool, true, List, [], ◌∷◌, arith, zero, suc}
+use Rattle.std.specs.List.{list_all}
+use Rattle.std.proofs.lemmas.Bool.{and_from, le-leb, leb-true}
+use Rattle.base_lemmas.proofs.Bools.{left_of, right_of}
+use Rattle.wit_model.specs.{Rules.passes}
+use Rattle.print_grammar.specs.{Keyword.Keyword, Token.Token, Token.Mark, Grammar.CommaList, Grammar.Repeated}
+use Rattle.print_grammar.specs.Grammar.CommaList.{last, last_with_comma, next}
+use Rattle.print_grammar.specs.Grammar.Repeated.{closed, again}
+use Rattle.print_grammar.specs.Token.Token.{Word, Escaped, Key}
+use Rattle.print_grammar.specs.Tree.{TypeTree, SignatureTree, PathTree, UsedName}
+use Rattle.text_trees.specs.Reading.{Reading, until, repeated, listed}
+use Rattle.text_trees.specs.ReadTypes.{tuple_types, payload_in_front, result_parts_in_front, form_in_front, type_by, level_in_front, type_in_front, param_in_front, params_in_front, result_in_front, signature_in_front}
+use Rattle.text_trees.specs.ReadDeclared.{prefix_in_front, gates_in_front, full_path_behind, path_behind, path_in_front, use_behind, used_name_in_front, field_in_front, case_in_front, label_in_front, function_behind, resource_member_in_front, declared_in_front}
+use Rattle.text_trees.specs.ReadFiles.{member_in_front, extern_in_front, world_member_in_front, item_in_front, head_in_front, nested_in_front, file_in_front}
+use Rattle.text_trees.specs.Levels.{levels, deepest, fits_type, fits_param, fits_signature, fits_field, fits_case, fits_resource_member, fits_declared, fits_member, fits_extern, fits_world_member, fits_item, fits_package, fits_file}
+use Rattle.text_trees.proofs.Finding.{Sound, Finds, finds, refuses, found_sound, refused_sound, then_sound, made_sound, sound_as, mark_sound, if_mark_sound, key_sound, if_key_sound, either_sound, id_sound, if_id_sound, digits_sound, until_sound, repeated_sound, listed_sound}
+
+-- what is found passes a test
+abbrev pub Passes : {X : Type 0} → (X → Bool) → List Token → X → List Token → Type 0
+Passes test ts x rest = test x ≡ true
+
+-- whatever is found
+abbrev Any : {X : Type 0} → List Token → X → List Token → Type 0
+Any ts x rest = Unit {0}
+
+anything : {X : Type 0} (read : List Token → Reading X) → Sound Any read
+anything read = record { at = λ ts. record { found = λ x rest e. tt } }
+
+-- ---- lists
+
+all_listed : {X : Type 0} {test : X → Bool} {close : Token} {ts rest : List Token} {xs : List X} → CommaList (Passes test) close ts xs rest → list_all test xs ≡ true
+all_listed (last p) = and_from _ _ p refl
+all_listed (last_with_comma p) = and_from _ _ p refl
+all_listed (next p l) = and_from _ _ p (all_listed l)
+
+all_repeated : {X : Type 0} {test : X → Bool} {close : Token} {ts rest : List Token} {xs : List X} → Repeated (Passes test) close ts xs rest → list_all test xs ≡ true
+all_repeated closed = refl
+all_repeated (again p l) = and_from _ _ p (all_repeated l)
+
+module _ {X : Type 0} (test : X → Bool) {read : List Token → Reading X} (fit : Sound (Passes test) read) where
+  listed-fit : (close : Mark) → Sound (Passes (list_all test)) (listed read close)
+  listed-fit close = sound_as (listed_sound fit) (λ ts rest xs l. all_listed l)
+
+  repeated-fit : (close : Mark) → Sound (Passes (list_all test)) (repeated read close)
+  repeated-fit close = sound_as (repeated_sound fit) (λ ts rest xs l. all_repeated l)
+
+  until-fit : (ends : List Token → Bool) → Sound (Passes (list_all test)) (until ends read)
+  until-fit ends = until_sound (Passes (list_all test)) fit (λ ts h. refl) (λ ts between rest x xs p q. and_from _ _ p q)
+
+-- ---- types
+
+-- the type that is found has at most so many levels
+abbrev Within : ℕ → List Token → TypeTree → List Token → Type 0
+Within room ts ty rest = levels ty ≤ room
+
+deepest_within : (room : ℕ) (types : List TypeTree) → list_all (fits_type room) types ≡ true → deepest (tuple_types types) ≤ room
+deepest_within room [] h = omega arith
+deepest_within room (ty ∷ types) h =
+    let first = leb-true (levels ty) room (left_of (fits_type room ty) _ h) in
+    let others = deepest_within room types (right_of (fits_type room ty) _ h) in omega (arith, first, others)
+
+module _ (room : ℕ) {read : List Token → Reading TypeTree} (fit : Sound (Within room) read) where
+  payload-fits : (alone : TypeTree) (of : TypeTree → TypeTree) → levels alone ≤ suc room → ((ty : TypeTree) → levels ty ≤ room → levels (of ty) ≤ suc room)
+      → Sound (Within (suc room)) (payload_in_front alone of read)
+  payload-fits alone of a f = if_mark_sound _ (then_sound fit (λ ty. mark_sound _ (found_sound (λ rest ts h. f ty h)))) (found_sound (λ rest. a))
+
+  result-fits : Sound (Within (suc room)) (result_parts_in_front read)
+  result-fits =
+      if_key_sound _ (mark_sound _ (then_sound fit (λ err. mark_sound _ (found_sound (λ rest ts h. omega (arith, h))))))
+      (then_sound fit (λ ok. if_mark_sound _ (then_sound fit (λ err. mark_sound _ (found_sound (λ rest us k ts h. omega (arith, h, k)))))
+      (mark_sound _ (found_sound (λ rest ts h. omega (arith, h))))))
+
+  form-fits : Sound (Within (suc room)) (form_in_front read)
+  form-fits =
+      if_key_sound _ (made_sound _ (mark_sound _ (id_sound (λ t label i. mark_sound _ (found_sound (λ rest. omega arith))))))
+      (if_key_sound _ (made_sound _ (mark_sound _ (id_sound (λ t label i. mark_sound _ (found_sound (λ rest. omega arith))))))
+      (if_key_sound _ (mark_sound _ (made_sound _ (sound_as (listed-fit (fits_type room) (sound_as fit (λ ts rest ty h. le-leb (levels ty) room h)) _)
+      (λ ts rest types h. let k = deepest_within room types h in omega (arith, k)))))
+      (if_key_sound _ (made_sound _ (mark_sound _ (then_sound fit (λ ty. mark_sound _ (found_sound (λ rest ts h. omega (arith, h)))))))
+      (if_key_sound _ (mark_sound _ (then_sound fit (λ ty.
+      if_mark_sound _ (digits_sound (λ n. mark_sound _ (found_sound (λ rest ts h. omega (arith, h))))) (mark_sound _ (found_sound (λ rest ts h. omega (arith, h)))))))
+      (if_key_sound _ (mark_sound _ (then_sound fit (λ k. mark_sound _ (then_sound fit (λ v. mark_sound _ (found_sound (λ rest us i ts h. omega (arith, h, i))))))))
+      (if_key_sound _ (if_mark_sound _ result-fits (found_sound (λ rest. omega arith)))
+      (if_key_sound _ (payload-fits _ _ (omega arith) (λ ty h. omega (arith, h)))
+      (if_key_sound _ (payload-fits _ _ (omega arith) (λ ty h. omega (arith, h))) refused_sound))))))))
+
+by-fits : (room : ℕ) {form : List Token → Reading TypeTree} → Sound (Within room) form → Sound (Within room) (type_by form)
+by-fits room {form} fit = record { at = go }
+  where
+    go : (ts : List Token) → Finds (type_by form ts) (Within room ts)
+    go (Word label ∷ ts) = finds (omega arith)
+    go (Escaped label ∷ ts) = finds (omega arith)
+    go (Key (Keyword.PrimitiveWord p) ∷ ts) = finds (omega arith)
+    go (Key Keyword.Use ∷ ts) = fit.at _
+    go (Key keyword ∷ ts) = fit.at _
+    go _ = refuses
+
+level-fits : (room : ℕ) → Sound (Within room) (level_in_front room)
+unfolding level_in_front
+level-fits zero = refused_sound
+level-fits (suc room) = form-fits room (by-fits room (level-fits room))
+
+module _ (room : ℕ) where
+  -- A type that is found has no more levels than there is room for.
+  pub type-fits : Sound (Passes (fits_type room)) (type_in_front room)
+  type-fits = sound_as (by-fits room (level-fits room)) (λ ts rest ty h. le-leb (levels ty) room h)
+
+  -- ---- signatures
+
+  param-fits : Sound (Passes (fits_param room)) (param_in_front room)
+  param-fits = id_sound (λ t name i. mark_sound _ (then_sound type-fits (λ ty. found_sound (λ rest ts h. h))))
+
+  params-fit : Sound (Passes (list_all (fits_param room))) (params_in_front room)
+  params-fit = mark_sound _ (if_mark_sound _ (found_sound (λ rest. refl)) (listed-fit (fits_param room) param-fits _))
+
+  result-fit : Sound (Passes (passes (fits_type room))) (result_in_front room)
+  result-fit = if_mark_sound _ (made_sound _ (sound_as type-fits (λ ts rest ty h. h))) (found_sound (λ rest. refl))
+
+  pub signature-fits : Sound (Passes (fits_signature room)) (signature_in_front room)
+  signature-fits =
+      if_key_sound _ (key_sound _ (then_sound params-fit (λ params. then_sound result-fit (λ result. found_sound (λ rest us k ts h. and_from _ _ h k)))))
+      (key_sound _ (then_sound params-fit (λ params. then_sound result-fit (λ result. found_sound (λ rest us k ts h. and_from _ _ h k)))))
+
+  function-fits : {X : Type 0} {test : X → Bool} (function_of : SignatureTree → X) → ((signature : SignatureTree) → fits_signature room signature ≡ true → test (function_of signature) ≡ true)
+      → Sound (Passes test) (function_behind room function_of)
+  function-fits function_of f = then_sound signature-fits (λ signature. mark_sound _ (found_sound (λ rest ts h. f signature h)))
+
+  -- ---- declared types
+
+  use-fits : {X : Type 0} {test : X → Bool} (use_of : PathTree → List UsedName → X) → ((path : PathTree) (names : List UsedName) → test (use_of path names) ≡ true)
+      → Sound (Passes test) (use_behind use_of)
+  use-fits use_of f =
+      then_sound (anything path_in_front) (λ path. mark_sound _ (mark_sound _ (then_sound (anything (listed used_name_in_front _)) (λ names.
+      mark_sound _ (found_sound (λ rest us k ts h. f path names))))))
+
+  field-fits : Sound (Passes (fits_field room)) (field_in_front room)
+  field-fits = id_sound (λ t name i. mark_sound _ (then_sound type-fits (λ ty. found_sound (λ rest ts h. h))))
+
+  case-fits : Sound (Passes (fits_case room)) (case_in_front room)
+  case-fits = id_sound (λ t name i. if_mark_sound _ (then_sound type-fits (λ ty. mark_sound _ (found_sound (λ rest ts h. h)))) (found_sound (λ rest. refl)))
+
+  pub resource_member-fits : Sound (Passes (fits_resource_member room)) (resource_member_in_front room)
+  resource_member-fits =
+      then_sound (anything prefix_in_front) (λ pre.
+      if_key_sound _ (then_sound params-fit (λ params. then_sound result-fit (λ result. mark_sound _ (found_sound (λ rest vs k us h ts u. and_from _ _ h k)))))
+      (id_sound (λ t name i. mark_sound _ (if_key_sound _
+      (sound_as (function-fits {test = fits_resource_member room} _ (λ signature h. h)) (λ us rest member h ts u. h))
+      (sound_as (function-fits {test = fits_resource_member room} _ (λ signature h. h)) (λ us rest member h ts u. h))))))
+
+  pub declared-fits : Sound (Passes (fits_declared room)) (declared_in_front room)
+  declared-fits =
+      if_key_sound _ (id_sound (λ t name i. mark_sound _ (made_sound _ (sound_as (listed-fit (fits_field room) field-fits _) (λ ts rest xs h. h)))))
+      (if_key_sound _ (id_sound (λ t name i. mark_sound _ (made_sound _ (sound_as (listed-fit (fits_case room) case-fits _) (λ ts rest xs h. h)))))
+      (if_key_sound _ (id_sound (λ t name i. mark_sound _ (made_sound _ (sound_as (anything (listed label_in_front _)) (λ ts rest xs h. refl)))))
+      (if_key_sound _ (id_sound (λ t name i. mark_sound _ (made_sound _ (sound_as (anything (listed label_in_front _)) (λ ts rest xs h. refl)))))
+      (if_key_sound _ (id_sound (λ t name i. mark_sound _ (then_sound type-fits (λ ty. mark_sound _ (found_sound (λ rest ts h. h))))))
+      (if_key_sound _ (id_sound (λ t name i. if_mark_sound _ (found_sound (λ rest. refl))
+      (mark_sound _ (made_sound _ (sound_as (repeated-fit (fits_resource_member room) resource_member-fits _) (λ ts rest xs h. h)))))) refused_sound)))))
+
+  -- ---- what interfaces, worlds and packages have
+
+  pub member-fits : Sound (Passes (fits_member room)) (member_in_front room)
+  member-fits =
+      then_sound (anything prefix_in_front) (λ pre.
+      if_id_sound (λ t name i. mark_sound _ (sound_as (function-fits {test = fits_member room} _ (λ signature h. h)) (λ us rest member h ts u. h)))
+      (if_key_sound _ (sound_as (use-fits {test = fits_member room} _ (λ path names. refl)) (λ us rest member h ts u. h))
+      (made_sound _ (sound_as declared-fits (λ us rest declared h ts u. h)))))
+
+  pub extern-fits : Sound (Passes (fits_extern room)) (extern_in_front room)
+  extern-fits =
+      id_sound (λ t name i.
+      if_mark_sound _ (found_sound (λ rest. refl))
+      (mark_sound _ (either_sound _ (function-fits {test = fits_extern room} _ (λ signature h. h))
+      (if_key_sound _ (made_sound _ (mark_sound _ (sound_as (repeated-fit (fits_member room) member-fits _) (λ ts rest xs h. h))))
+      (id_sound (λ u second j.
+      either_sound _ (then_sound (anything (full_path_behind name second)) (λ path. mark_sound _ (found_sound (λ rest ts u. refl))))
+      (then_sound (anything (path_behind second)) (λ path. mark_sound _ (found_sound (λ rest ts u. refl))))))))))
+
+  pub world_member-fits : Sound (Passes (fits_world_member room)) (world_member_in_front room)
+  world_member-fits =
+      then_sound (anything prefix_in_front) (λ pre.
+      if_key_sound _ (made_sound _ (sound_as extern-fits (λ us rest e h ts u. h)))
+      (if_key_sound _ (made_sound _ (sound_as extern-fits (λ us rest e h ts u. h)))
+      (if_key_sound _ (sound_as (use-fits {test = fits_world_member room} _ (λ path names. refl)) (λ us rest member h ts u. h))
+      (made_sound _ (sound_as declared-fits (λ us rest declared h ts u. h))))))
+
+  pub item-fits : Sound (Passes (fits_item room)) (item_in_front room)
+  item-fits =
+      then_sound (anything gates_in_front) (λ gates.
+      if_key_sound _ (id_sound (λ t name i. made_sound _ (mark_sound _ (sound_as (repeated-fit (fits_member room) member-fits _) (λ us rest xs h ts u. h)))))
+      (if_key_sound _ (id_sound (λ t name i. made_sound _ (mark_sound _ (sound_as (repeated-fit (fits_world_member room) world_member-fits _) (λ us rest xs h ts u. h)))))
+      (if_mark_sound _ refused_sound refused_sound)))
+
+  pub nested-fits : Sound (Passes (fits_package room)) (nested_in_front room)
+  nested-fits =
+      key_sound _ (then_sound (anything head_in_front) (λ head. mark_sound _ (made_sound _ (sound_as (repeated-fit (fits_item room) item-fits _) (λ us rest items h ts u. h)))))
+
+  -- No type of a file that is found has more levels than there is room for.
+  pub file-fits : Sound (Passes (fits_file room)) (file_in_front room)
+  file-fits =
+      key_sound _ (then_sound (anything head_in_front) (λ head. mark_sound _ (then_sound (until-fit (fits_item room) item-fits _) (λ items.
+      made_sound _ (sound_as (until-fit (fits_package room) nested-fits _) (λ vs rest nested k us h ts u. and_from _ _ h k))))))

@@ -1,0 +1,80 @@
+-- Worked examples: what is found in front of tokens, and what is wanted where.
+use Rattle.std.proofs.Common.{◌≡◌, refl, ℕ, false, List, [], ◌∷◌, None, Some, codes}
+use Rattle.print_grammar.specs.{Keyword.Keyword, Keyword.PrimitiveName.U8, Token.Token}
+use Rattle.print_grammar.specs.Token.Mark.{OpenBrace, CloseBrace, OpenParen, CloseParen, Less, Greater, Colon, Semi, Comma, Slash, At}
+use Rattle.print_grammar.specs.Token.Token.{Word, Escaped, Key, VersionText, Punctuation}
+use Rattle.print_grammar.specs.Tree.{FileTree, Gates.Ungated, PathTree.Full, ExternTree.Path, MemberTree.FunctionMember, WorldMember.WorldImport, ItemTree.InterfaceItem, ItemTree.WorldItem, TypeTree.ListOf, TypeTree.PrimitiveType, TypeTree.Future}
+use Rattle.text_trees.specs.Reading.{Wanted, Reading.Found, Reading.Refused, then_read, made, behind_mark, if_mark, behind_key, if_key, if_id, if_word, if_attribute, id_in_front, version_in_front, digits_in_front, quoted_in_front, things_in_front, until, repeated, listed_in_front, listed}
+use Rattle.text_trees.specs.{ReadTypes.level_in_front, ReadTypes.type_in_front, ReadFiles.file_in_front}
+
+-- what computes in the examples
+computes : ℕ
+unfolding then_read made behind_mark if_mark behind_key if_key if_id if_word if_attribute id_in_front version_in_front digits_in_front quoted_in_front things_in_front until repeated
+    listed_in_front listed level_in_front
+computes = 0
+
+-- `list<u8>` has one level
+list_of_bytes : List Token
+list_of_bytes = Key Keyword.List_ ∷ Punctuation Less ∷ Key (Keyword.PrimitiveWord U8) ∷ Punctuation Greater ∷ []
+
+list_found : type_in_front 1 list_of_bytes ≡ Found (ListOf (PrimitiveType U8)) []
+unfolding computes list_of_bytes
+list_found = refl
+
+list_too_deep : type_in_front 0 list_of_bytes ≡ Refused Wanted.Shallower list_of_bytes
+unfolding computes list_of_bytes
+list_too_deep = refl
+
+-- `future` before `>`
+future_found : type_in_front 1 (Key Keyword.Future ∷ Punctuation Greater ∷ []) ≡ Found Future (Punctuation Greater ∷ [])
+unfolding computes
+future_found = refl
+
+-- `tuple<>`: a type is wanted at `>`
+no_empty_tuple : type_in_front 1 (Key Keyword.Tuple ∷ Punctuation Less ∷ Punctuation Greater ∷ []) ≡ Refused Wanted.AType (Punctuation Greater ∷ [])
+unfolding computes
+no_empty_tuple = refl
+
+-- package a:b; interface c { f: func(%g: list<u8>,); } world w { import d:e/h@1.0.0; }
+whole_file : List Token
+whole_file =
+    Key Keyword.Package ∷ Word (codes "a") ∷ Punctuation Colon ∷ Word (codes "b") ∷ Punctuation Semi
+    ∷ Key Keyword.Interface ∷ Word (codes "c") ∷ Punctuation OpenBrace
+    ∷ Word (codes "f") ∷ Punctuation Colon ∷ Key Keyword.Func ∷ Punctuation OpenParen
+    ∷ Escaped (codes "g") ∷ Punctuation Colon ∷ Key Keyword.List_ ∷ Punctuation Less ∷ Key (Keyword.PrimitiveWord U8) ∷ Punctuation Greater ∷ Punctuation Comma
+    ∷ Punctuation CloseParen ∷ Punctuation Semi ∷ Punctuation CloseBrace
+    ∷ Key Keyword.World ∷ Word (codes "w") ∷ Punctuation OpenBrace
+    ∷ Key Keyword.Import ∷ Word (codes "d") ∷ Punctuation Colon ∷ Word (codes "e") ∷ Punctuation Slash ∷ Word (codes "h")
+    ∷ Punctuation At ∷ VersionText (codes "1.0.0") ∷ Punctuation Semi ∷ Punctuation CloseBrace ∷ []
+
+whole_tree : FileTree
+whole_tree = record {
+  main = record {
+    head = record { docs = []; namespace = codes "a"; name = codes "b"; version = None };
+    items =
+        InterfaceItem [] Ungated (codes "c")
+        (FunctionMember (record { docs = []; gates = Ungated; external_id = None }) (codes "f")
+        (record { is_async = false; params = record { name = codes "g"; ty = ListOf (PrimitiveType U8) } ∷ []; result = None }) ∷ [])
+        ∷ WorldItem [] Ungated (codes "w")
+        (WorldImport (record { docs = []; gates = Ungated; external_id = None }) (Path (Full (codes "d") (codes "e") (codes "h") (Some (codes "1.0.0")))) ∷ []) ∷ [];
+  };
+  nested = [];
+}
+
+file_found : file_in_front 1 whole_file ≡ Found whole_tree []
+unfolding computes whole_file whole_tree
+file_found = refl
+
+-- package a:b; interface c { f: }: `func` is wanted at `}`
+func_wanted :
+    file_in_front 1 (Key Keyword.Package ∷ Word (codes "a") ∷ Punctuation Colon ∷ Word (codes "b") ∷ Punctuation Semi ∷ Key Keyword.Interface ∷ Word (codes "c") ∷ Punctuation OpenBrace
+    ∷ Word (codes "f") ∷ Punctuation Colon ∷ Punctuation CloseBrace ∷ []) ≡ Refused (Wanted.AKeyword Keyword.Func) (Punctuation CloseBrace ∷ [])
+unfolding computes
+func_wanted = refl
+
+-- package a:b; @until: a gate is wanted behind `@`
+gate_wanted :
+    file_in_front 1 (Key Keyword.Package ∷ Word (codes "a") ∷ Punctuation Colon ∷ Word (codes "b") ∷ Punctuation Semi ∷ Punctuation At ∷ Word (codes "until") ∷ [])
+    ≡ Refused Wanted.AnAttribute (Word (codes "until") ∷ [])
+unfolding computes
+gate_wanted = refl

@@ -1,0 +1,57 @@
+-- A tree that is found is what the text's tokens are by the grammar.
+use Rattle.std.proofs.Common.{◌≡◌, sym, ap, ◌∙◌, subst, ℕ, List, length, map, drop}
+use Rattle.print_grammar.specs.{Token.Token, Tree.FileTree, Grammar.ReadsFile, Reading.IsReading, Reading.OneReading}
+use Rattle.text_tokens.specs.Places.{HasTokensAt, Placed}
+use Rattle.text_trees.specs.declared.front.Tokens.{Tokens}
+use Rattle.text_trees.specs.Reading.{Reading.Found, Reading.Refused}
+use Rattle.text_trees.specs.ReadFiles.{file_in_front}
+use Rattle.text_trees.specs.declared.refusal.Refusal.{Refusal}
+use Rattle.text_trees.specs.declared.refusal.Refusal.TheVariants.{Wanted as Wants}
+use Rattle.text_trees.specs.declared.refusal.Wanted.{Wanted as CodeWanted}
+use Rattle.text_trees.specs.Seen.{RefusesAs, ahead, said, text_of, wanted_there}
+use Rattle.text_tokens.specs.declared.token.Token.{Token as PlacedToken}
+use Rattle.text_trees.specs.declared.refusal.TreeError.{TreeError}
+use Rattle.text_trees.specs.declared.refusal.TreeError.TheVariants.{Memory, Size, NoToken, Wanted as NotThere}
+use Rattle.text_trees.specs.Reads.{RefusesPlaces, RefusesText, StopsAt, first_byte}
+use Rattle.text_trees.proofs.Exact.{files_are_read, shallow_files_are_found}
+use Rattle.text_trees.proofs.Saying.{placed_said}
+
+pub tree_found : (them : Tokens) (file : FileTree) (rest : List Token) → file_in_front 100 (ahead them 0) ≡ Found file rest
+    → (tokens : List Token) → Placed (text_of them) 0 (length (text_of them)) them.places.now tokens → ReadsFile tokens file
+unfolding ahead
+tree_found them file rest e tokens p =
+    let same : tokens ≡ map (said (text_of them)) them.places.now = placed_said (text_of them) 0 (length (text_of them)) them.places.now tokens p in
+    ((files_are_read 100 tokens rest file).0 (ap (file_in_front 100) same ∙ e)).0
+
+pub tree_refused : (them : Tokens) (w : CodeWanted) (n at : ℕ) → file_in_front 100 (ahead them 0) ≡ Refused (wanted_there w) (ahead them n)
+    → at ≡ first_byte (text_of them) (drop n them.places.now)
+    → (tokens : List Token) → Placed (text_of them) 0 (length (text_of them)) them.places.now tokens → StopsAt (text_of them) them.places.now tokens w at
+unfolding ahead
+tree_refused them w n at e b tokens p =
+    let same : tokens ≡ map (said (text_of them)) them.places.now = placed_said (text_of them) 0 (length (text_of them)) them.places.now tokens p in
+    record { before = n; refused = ap (file_in_front 100) same ∙ e ∙ ap (λ ts. Refused (wanted_there w) (drop n ts)) (sym same); byte = b }
+
+pub tree_refused_as : (them : Tokens) (e : Refusal) (w : CodeWanted) (n at : ℕ) → RefusesAs them e (file_in_front 100 (ahead them 0)) → e ≡ Wants w n
+    → at ≡ first_byte (text_of them) (drop n them.places.now)
+    → (tokens : List Token) → Placed (text_of them) 0 (length (text_of them)) them.places.now tokens → StopsAt (text_of them) them.places.now tokens w at
+tree_refused_as them e w n at h f b = tree_refused them w n at (subst (λ x. RefusesAs them x (file_in_front 100 (ahead them 0))) f h) b
+
+pub ruleset trees = (tree_found, tree_refused)
+
+pub text_found : (text : List ℕ) (places : List PlacedToken) (file : FileTree) → HasTokensAt text places
+    → ((tokens : List Token) → Placed text 0 (length text) places tokens → ReadsFile tokens file) → IsReading text file
+text_found text places file has f = record { tokens = has.tokens; spelled = has.spelled; parsed = f has.tokens has.placed }
+
+pub text_refused : OneReading → (text : List ℕ) (places : List PlacedToken) (e : TreeError) → HasTokensAt text places → RefusesPlaces text places e → RefusesText text e
+text_refused one text places Memory has h = tt
+text_refused one text places Size has h = absurd h
+text_refused one text places (NoToken at) has h = absurd h
+text_refused one text places (NotThere w at) has h = let stops = h has.tokens has.placed in record {
+  places = places;
+  has = has;
+  stops = stops;
+  none = λ file r k. shallow_files_are_found 100 has.tokens (drop stops.before has.tokens) (wanted_there w) file stops.refused
+      (subst (λ ts. ReadsFile ts file) (one.0 text r.tokens has.tokens r.spelled has.spelled) r.parsed) k;
+}
+
+pub ruleset texts = (text_found, text_refused)

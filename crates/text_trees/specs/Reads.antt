@@ -1,0 +1,46 @@
+-- What reading a text says of it.
+use Rattle.std.specs.Prelude.{◌≡◌, ◌≤◌, ◌^◌, true, ℕ, List, [], ◌∷◌, drop, length}
+use Rattle.print_grammar.specs.{Token.Token, Tree.FileTree, Reading.IsReading}
+use Rattle.text_tokens.specs.Places.{HasNoTokenAt, HasTokensAt, Placed}
+use Rattle.text_tokens.specs.declared.token.Token.{Token as PlacedToken}
+use Rattle.text_trees.specs.Levels.{fits_file}
+use Rattle.text_trees.specs.{Reading.Reading.Refused, ReadFiles.file_in_front}
+use Rattle.text_trees.specs.Seen.{wanted_there}
+use Rattle.text_trees.specs.declared.refusal.Wanted.{Wanted as CodeWanted}
+use Rattle.text_trees.specs.declared.refusal.TreeError.{TreeError}
+use Rattle.text_trees.specs.declared.refusal.TreeError.TheVariants.{Memory, Size, NoToken, Wanted}
+
+-- the byte where the first of these tokens of a text begins, or where the text ends if there is none
+abbrev pub first_byte : List ℕ → List PlacedToken → ℕ
+first_byte text [] = length text
+first_byte text (place ∷ places) = place.start
+
+-- Reading these tokens as a file whose types have at most 100 levels stops at the token that begins at this byte, or at the end of the text, since this is
+-- wanted there. The reader is a function of tokens, and laws say what its refusals mean (`files_are_read`, `refusals_stand`). So no file begins with the tokens
+-- before the place and then with the one there, or with `@` and the one behind it. Where a type of fewer levels is wanted, a file may.
+pub record StopsAt (text : List ℕ) (places : List PlacedToken) (tokens : List Token) (w : CodeWanted) (at : ℕ) : Type 0 where
+  -- how many tokens stand before the place
+  pub before : ℕ
+  pub refused : file_in_front 100 tokens ≡ Refused (wanted_there w) (drop before tokens)
+  pub byte : at ≡ first_byte text (drop before places)
+
+-- Reading the text stops at this byte, since this is wanted there, and the text is no file whose types have at most 100 levels.
+pub record StopsReading (text : List ℕ) (w : CodeWanted) (at : ℕ) : Type 0 where
+  pub places : List PlacedToken
+  pub has : HasTokensAt text places
+  pub stops : StopsAt text places has.tokens w at
+  pub none : (file : FileTree) → IsReading text file → fits_file 100 file ≡ true → ⊥
+
+-- what a refusal of a text with tokens at these places says: what is wanted, and where
+abbrev pub RefusesPlaces : List ℕ → List PlacedToken → TreeError → Type 0
+RefusesPlaces text places Memory = Unit {0}
+RefusesPlaces text places Size = ⊥
+RefusesPlaces text places (NoToken at) = ⊥
+RefusesPlaces text places (Wanted w at) = (tokens : List Token) → Placed text 0 (length text) places tokens → StopsAt text places tokens w at
+
+-- what a refusal of a text says: want of memory nothing, and else why it has no tree, and where
+abbrev pub RefusesText : List ℕ → TreeError → Type 0
+RefusesText text Memory = Unit {0}
+RefusesText text Size = 2 ^ 32 ≤ length text
+RefusesText text (NoToken at) = HasNoTokenAt text at
+RefusesText text (Wanted w at) = StopsReading text w at

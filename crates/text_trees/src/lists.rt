@@ -1,0 +1,131 @@
+//! Things one after the other: with commas between, or up to what ends them.
+
+ghost use Rattle.std.specs.Prelude.{◌≡◌, ◌<◌, ◌≤◌, ℕ, List, IfErr, IfOk, map, true};
+ghost use Rattle.print_grammar.specs.Token.{Token as GrammarToken};
+ghost use Rattle.text_trees.specs.Reading.{Reading, Reading.Found, listed, repeated, until};
+ghost use Rattle.text_trees.specs.Seen.{RefusesAs, ahead, count_of, mark_there, text_of};
+ghost use Rattle.text_trees.specs.TreesSeen.{ends_as};
+
+use crate::front::{Tokens, begins, begins_key, is_end, mark_at, more_at};
+use crate::refusal::Refusal;
+use std::alloc::Global;
+use text_tokens::{Keyword, Mark};
+
+/// What is read from the front of tokens.
+pub(crate) trait Form {
+    /// What it is by the grammar.
+    ghost Tree: { Type 0 };
+
+    /// The reader that finds it.
+    ghost reader: { List GrammarToken → Reading Tree };
+
+    /// What a value of it is by the grammar, in a text.
+    ghost view: { List ℕ → Self → Tree };
+
+    fn read(alloc: Global, tokens: &Tokens<'_>, at: usize) -> Result<(Self, usize), Refusal>
+        requires { at ≤ count_of tokens.now }
+        ensures ok { IfOk result (λ r. reader (ahead tokens.now at) ≡ Found (view (text_of tokens.now) r.0) (ahead tokens.now r.1)) }
+        ensures err { IfErr result (λ e. RefusesAs tokens.now e (reader (ahead tokens.now at))) }
+        ensures goes { IfOk result (λ r. at < r.1) }
+        ensures within { IfOk result (λ r. r.1 ≤ count_of tokens.now) };
+}
+
+/// Things with commas between, at least one, and a comma more allowed, up to a closing mark; and the place behind it.
+pub(crate) fn listed_at<T: Form + Drop>(
+    alloc: Global,
+    tokens: &Tokens<'_>,
+    close: Mark,
+    at: usize,
+) -> Result<(Vec<T>, usize), Refusal>
+    requires { at ≤ count_of tokens.now }
+    ensures ok { IfOk result (λ r. listed T.reader (mark_there close) (ahead tokens.now at)
+        ≡ Found (map (T.view (text_of tokens.now)) r.0.items) (ahead tokens.now r.1)) }
+    ensures err { IfErr result (λ e. RefusesAs tokens.now e (listed T.reader (mark_there close) (ahead tokens.now at))) }
+    ensures goes { IfOk result (λ r. at < r.1) }
+    ensures within { IfOk result (λ r. r.1 ≤ count_of tokens.now) }
+{
+    let mut items = Vec::new(alloc);
+    let mut from = at;
+    'items: loop {
+        let (item, end) = T::read(alloc, tokens, from)?;
+        items.push(item)?;
+        let (goes_on, behind) = more_at(tokens, close, end)?;
+        if !goes_on {
+            return Ok((items, behind));
+        }
+        from = behind;
+    }
+}
+
+/// What ends things that stand one after the other.
+#[derive(Clone, Copy)]
+pub(crate) enum Ends {
+    Mark(Mark),
+    /// The word `package`, or the end of the text.
+    Package,
+    /// The end of the text.
+    Text,
+}
+
+fn ends_at(tokens: &Tokens<'_>, ends: Ends, at: usize) -> bool
+    ensures { result ≡ ends_as ends (ahead tokens.now at) }
+{
+    match ends {
+        Ends::Mark(mark) => begins(tokens, mark, at),
+        Ends::Package => {
+            if is_end(tokens, at) {
+                true
+            } else {
+                begins_key(tokens, Keyword::Package, at)
+            }
+        }
+        Ends::Text => is_end(tokens, at),
+    }
+}
+
+/// Things one after the other, up to what ends them, and the place where that stands.
+pub(crate) fn until_at<T: Form + Drop>(
+    alloc: Global,
+    tokens: &Tokens<'_>,
+    ends: Ends,
+    at: usize,
+) -> Result<(Vec<T>, usize), Refusal>
+    requires { at ≤ count_of tokens.now }
+    ensures ok { IfOk result (λ r. until (ends_as ends) T.reader (ahead tokens.now at)
+        ≡ Found (map (T.view (text_of tokens.now)) r.0.items) (ahead tokens.now r.1)) }
+    ensures err { IfErr result (λ e. RefusesAs tokens.now e (until (ends_as ends) T.reader (ahead tokens.now at))) }
+    ensures ended { IfOk result (λ r. ends_as ends (ahead tokens.now r.1) ≡ true) }
+    ensures goes { IfOk result (λ r. at ≤ r.1) }
+    ensures within { IfOk result (λ r. r.1 ≤ count_of tokens.now) }
+{
+    let mut items = Vec::new(alloc);
+    let mut from = at;
+    'items: loop {
+        if ends_at(tokens, ends, from) {
+            return Ok((items, from));
+        }
+        let (item, behind) = T::read(alloc, tokens, from)?;
+        items.push(item)?;
+        from = behind;
+    }
+}
+
+/// Things one after the other, up to a closing mark, and the place behind it.
+#[tactic(auto, using(crate::proofs::Going::going), unfolding(crate::specs::Reading::then_read, crate::specs::Reading::repeated))]
+pub(crate) fn repeated_at<T: Form + Drop>(
+    alloc: Global,
+    tokens: &Tokens<'_>,
+    close: Mark,
+    at: usize,
+) -> Result<(Vec<T>, usize), Refusal>
+    requires { at ≤ count_of tokens.now }
+    ensures ok { IfOk result (λ r. repeated T.reader (mark_there close) (ahead tokens.now at)
+        ≡ Found (map (T.view (text_of tokens.now)) r.0.items) (ahead tokens.now r.1)) }
+    ensures err { IfErr result (λ e. RefusesAs tokens.now e (repeated T.reader (mark_there close) (ahead tokens.now at))) }
+    ensures goes { IfOk result (λ r. at < r.1) }
+    ensures within { IfOk result (λ r. r.1 ≤ count_of tokens.now) }
+{
+    let (items, end) = until_at(alloc, tokens, Ends::Mark(close), at)?;
+    let behind = mark_at(tokens, close, end)?;
+    Ok((items, behind))
+}

@@ -1,0 +1,56 @@
+//! Reading a text as a tree.
+
+ghost use Rattle.std.specs.Prelude.{◌≡◌, List, IfErr, IfOk, length};
+ghost use Rattle.print_grammar.specs.Token.{Token as GrammarToken};
+ghost use Rattle.print_grammar.specs.Grammar.{ReadsFile};
+ghost use Rattle.text_tokens.specs.Places.{Placed};
+ghost use Rattle.text_trees.specs.TreesSeen.{file_of};
+ghost use Rattle.text_trees.specs.Reads.{RefusesPlaces, RefusesText};
+ghost use Rattle.print_grammar.specs.Reading.{IsReading};
+
+use crate::files::file_at;
+use crate::front::{Tokens, byte_at};
+use crate::refusal::{Refusal, TreeError};
+use crate::tree::FileTree;
+use print_grammar::laws::one_reading;
+use std::alloc::Global;
+use text_tokens::{Token, TokenError, tokens};
+
+/// The tree of a text with tokens at these places.
+#[tactic(auto, using(crate::proofs::Trees::trees))]
+pub(crate) fn tree_of(alloc: Global, text: &str, places: &[Token]) -> Result<FileTree, TreeError>
+    ensures ok { IfOk result (λ file. (tokens : List GrammarToken) → Placed text.now 0 (length text.now) places.now tokens
+        → ReadsFile tokens (file_of text.now file)) }
+    ensures err { IfErr result (λ e. RefusesPlaces text.now places.now e) }
+{
+    let tokens = Tokens { text, places };
+    match file_at(alloc, &tokens, 0) {
+        Ok((file, _)) => Ok(file),
+        Err(Refusal::Memory) => Err(TreeError::Memory),
+        Err(Refusal::Wanted(wanted, at)) => Err(TreeError::Wanted(wanted, byte_at(&tokens, at))),
+    }
+}
+
+/// The tree of a WIT text, or why it has none.
+///
+/// Shape: a file with its package, interfaces, worlds and nested packages; names, numbers, versions and strings are spans of the text in bytes, a name
+/// without its `%`. Comments are left out, documentation too. Cost: time linear in the text, memory for its tokens and the answer alone, and a stack of 100
+/// levels. Errors: `Memory` where a growth is refused, `Size` for a text of 2^32 bytes or more, `NoToken` with the first byte at which no token begins, and
+/// `Wanted` with what is wanted at the first place where no file goes on as the text does, by the byte where the token there begins. A type of more than 100
+/// levels is refused so too. Source: WIT.md, Top-level items.
+#[tactic(auto, using(crate::proofs::Trees::texts))]
+pub fn read_tree(alloc: Global, text: &str) -> Result<FileTree, TreeError>
+    ensures ok { IfOk result (λ file. IsReading text.now (file_of text.now file)) }
+    ensures err { IfErr result (λ e. RefusesText text.now e) }
+{
+    one_reading();
+    match tokens(alloc, text) {
+        Ok(places) => match tree_of(alloc, text, &places) {
+            Ok(file) => Ok(file),
+            Err(error) => Err(error),
+        },
+        Err(TokenError::Memory) => Err(TreeError::Memory),
+        Err(TokenError::Size) => Err(TreeError::Size),
+        Err(TokenError::NoToken(at)) => Err(TreeError::NoToken(at)),
+    }
+}
