@@ -34,10 +34,16 @@ fn put_with(alloc: Global, page: &mut Page<'_>, before: &str, span: Span, after:
     page.written.push_str(after)
 }
 
-// What a span has, if there is one, behind some words.
-fn put_option(alloc: Global, page: &mut Page<'_>, before: &str, span: Option<Span>) -> Written {
+// What a span has, if there is one, behind some words and in front of others.
+fn put_option(
+    alloc: Global,
+    page: &mut Page<'_>,
+    before: &str,
+    span: Option<Span>,
+    after: &str,
+) -> Written {
     match span {
-        Some(span) => put_with(alloc, page, before, span, ""),
+        Some(span) => put_with(alloc, page, before, span, after),
         None => Ok(()),
     }
 }
@@ -136,8 +142,9 @@ fn put_params(alloc: Global, page: &mut Page<'_>, params: &[ParamTree]) -> Writt
     page.written.push_str(")")
 }
 
-fn put_result(alloc: Global, page: &mut Page<'_>, result: &Option<TypeTree>) -> Written {
-    match result {
+// An arrow and a type, if there is one.
+fn put_arrow(alloc: Global, page: &mut Page<'_>, ty: &Option<TypeTree>) -> Written {
+    match ty {
         Some(ty) => {
             page.written.push_str("->")?;
             put_type(alloc, page, ty)
@@ -150,7 +157,7 @@ fn put_signature(alloc: Global, page: &mut Page<'_>, signature: &SignatureTree) 
     page.written
         .push_str(if signature.is_async { "async" } else { "" })?;
     put_params(alloc, page, &signature.params)?;
-    put_result(alloc, page, &signature.result)
+    put_arrow(alloc, page, &signature.result)
 }
 
 // ---- what stands in front of an item, paths, uses
@@ -160,18 +167,18 @@ fn put_gates(alloc: Global, page: &mut Page<'_>, gates: Gates) -> Written {
         Gates::Ungated => Ok(()),
         Gates::Since(version, deprecated) => {
             put_with(alloc, page, "since ", version, " ")?;
-            put_option(alloc, page, "until ", deprecated)
+            put_option(alloc, page, "until ", deprecated, " ")
         }
         Gates::Unstable(feature, deprecated) => {
             put_with(alloc, page, "unstable ", feature, " ")?;
-            put_option(alloc, page, "until ", deprecated)
+            put_option(alloc, page, "until ", deprecated, " ")
         }
     }
 }
 
 fn put_prefix(alloc: Global, page: &mut Page<'_>, prefix: Prefix) -> Written {
     put_gates(alloc, page, prefix.gates)?;
-    put_option(alloc, page, "id ", prefix.external_id)
+    put_option(alloc, page, "id ", prefix.external_id, " ")
 }
 
 fn put_path(alloc: Global, page: &mut Page<'_>, path: PathTree) -> Written {
@@ -181,7 +188,7 @@ fn put_path(alloc: Global, page: &mut Page<'_>, path: PathTree) -> Written {
             put_with(alloc, page, "[", namespace, " ")?;
             put_with(alloc, page, "", name, " ")?;
             put_span(alloc, page, interface)?;
-            put_option(alloc, page, " ", version)?;
+            put_option(alloc, page, " ", version, "")?;
             page.written.push_str("]")
         }
     }
@@ -192,7 +199,7 @@ fn put_use(alloc: Global, page: &mut Page<'_>, path: PathTree, names: &[UsedName
     put_path(alloc, page, path)?;
     for used in names {
         put_with(alloc, page, " ", used.other, "")?;
-        put_option(alloc, page, "=", used.own)?;
+        put_option(alloc, page, "=", used.own, "")?;
     }
     Ok(())
 }
@@ -210,7 +217,7 @@ fn put_fields(alloc: Global, page: &mut Page<'_>, fields: &[FieldTree]) -> Writt
 fn put_cases(alloc: Global, page: &mut Page<'_>, cases: &[CaseTree]) -> Written {
     for case in cases {
         put_with(alloc, page, " ", case.name, "")?;
-        put_result(alloc, page, &case.payload)?;
+        put_arrow(alloc, page, &case.payload)?;
     }
     Ok(())
 }
@@ -228,7 +235,7 @@ fn put_function(alloc: Global, page: &mut Page<'_>, member: &ResourceMember) -> 
             put_prefix(alloc, page, *prefix)?;
             page.written.push_str("new")?;
             put_params(alloc, page, params)?;
-            put_result(alloc, page, result)
+            put_arrow(alloc, page, result)
         }
         ResourceMember::Method(prefix, name, signature) => {
             put_prefix(alloc, page, *prefix)?;
@@ -380,7 +387,7 @@ fn put_item(alloc: Global, page: &mut Page<'_>, item: &ItemTree) -> Written {
 fn put_head(alloc: Global, page: &mut Page<'_>, head: PackageHead) -> Written {
     put_with(alloc, page, "", head.namespace, " ")?;
     put_span(alloc, page, head.name)?;
-    put_option(alloc, page, " ", head.version)
+    put_option(alloc, page, " ", head.version, "")
 }
 
 fn put_package(alloc: Global, page: &mut Page<'_>, package: &PackageTree) -> Written {

@@ -1,9 +1,10 @@
 -- A tree that is found is what the text's tokens are by the grammar.
-use Rattle.std.proofs.Common.{◌≡◌, sym, ap, ◌∙◌, subst, ℕ, List, length, map, drop}
+use Rattle.std.proofs.Common.{◌≡◌, sym, ap, ◌∙◌, subst, true, ℕ, List, length, map, drop}
 use Rattle.print_grammar.specs.{Token.Token, Tree.FileTree, Grammar.ReadsFile, Reading.IsReading, Reading.OneReading}
 use Rattle.text_tokens.specs.Places.{HasTokensAt, Placed}
 use Rattle.text_trees.specs.declared.front.Tokens.{Tokens}
 use Rattle.text_trees.specs.Reading.{Reading.Found, Reading.Refused}
+use Rattle.text_trees.specs.Levels.{fits_file}
 use Rattle.text_trees.specs.ReadFiles.{file_in_front}
 use Rattle.text_trees.specs.declared.refusal.Refusal.{Refusal}
 use Rattle.text_trees.specs.declared.refusal.Refusal.TheVariants.{Wanted as Wants}
@@ -23,6 +24,13 @@ tree_found them file rest e tokens p =
     let same : tokens ≡ map (said (text_of them)) them.places.now = placed_said (text_of them) 0 (length (text_of them)) them.places.now tokens p in
     ((files_are_read 100 tokens rest file).0 (ap (file_in_front 100) same ∙ e)).0
 
+pub tree_shallow : (them : Tokens) (file : FileTree) (rest : List Token) → file_in_front 100 (ahead them 0) ≡ Found file rest
+    → (tokens : List Token) → Placed (text_of them) 0 (length (text_of them)) them.places.now tokens → fits_file 100 file ≡ true
+unfolding ahead
+tree_shallow them file rest e tokens p =
+    let same : tokens ≡ map (said (text_of them)) them.places.now = placed_said (text_of them) 0 (length (text_of them)) them.places.now tokens p in
+    ((files_are_read 100 tokens rest file).0 (ap (file_in_front 100) same ∙ e)).1
+
 pub tree_refused : (them : Tokens) (w : CodeWanted) (n at : ℕ) → file_in_front 100 (ahead them 0) ≡ Refused (wanted_there w) (ahead them n)
     → at ≡ first_byte (text_of them) (drop n them.places.now)
     → (tokens : List Token) → Placed (text_of them) 0 (length (text_of them)) them.places.now tokens → StopsAt (text_of them) them.places.now tokens w at
@@ -36,11 +44,15 @@ pub tree_refused_as : (them : Tokens) (e : Refusal) (w : CodeWanted) (n at : ℕ
     → (tokens : List Token) → Placed (text_of them) 0 (length (text_of them)) them.places.now tokens → StopsAt (text_of them) them.places.now tokens w at
 tree_refused_as them e w n at h f b = tree_refused them w n at (subst (λ x. RefusesAs them x (file_in_front 100 (ahead them 0))) f h) b
 
-pub ruleset trees = (tree_found, tree_refused)
+pub ruleset trees = (tree_found, tree_shallow, tree_refused)
 
 pub text_found : (text : List ℕ) (places : List PlacedToken) (file : FileTree) → HasTokensAt text places
     → ((tokens : List Token) → Placed text 0 (length text) places tokens → ReadsFile tokens file) → IsReading text file
 text_found text places file has f = record { tokens = has.tokens; spelled = has.spelled; parsed = f has.tokens has.placed }
+
+pub text_shallow : (text : List ℕ) (places : List PlacedToken) (file : FileTree) → HasTokensAt text places
+    → ((tokens : List Token) → Placed text 0 (length text) places tokens → fits_file 100 file ≡ true) → fits_file 100 file ≡ true
+text_shallow text places file has f = f has.tokens has.placed
 
 pub text_refused : OneReading → (text : List ℕ) (places : List PlacedToken) (e : TreeError) → HasTokensAt text places → RefusesPlaces text places e → RefusesText text e
 text_refused one text places Memory has h = tt
@@ -54,4 +66,4 @@ text_refused one text places (NotThere w at) has h = let stops = h has.tokens ha
       (subst (λ ts. ReadsFile ts file) (one.0 text r.tokens has.tokens r.spelled has.spelled) r.parsed) k;
 }
 
-pub ruleset texts = (text_found, text_refused)
+pub ruleset texts = (text_found, text_shallow, text_refused)

@@ -1,9 +1,10 @@
 //! Reading a text as a tree.
 
-ghost use Rattle.std.specs.Prelude.{◌≡◌, List, IfErr, IfOk, length};
+ghost use Rattle.std.specs.Prelude.{◌≡◌, List, IfErr, IfOk, length, true};
 ghost use Rattle.print_grammar.specs.Token.{Token as GrammarToken};
 ghost use Rattle.print_grammar.specs.Grammar.{ReadsFile};
 ghost use Rattle.text_tokens.specs.Places.{Placed};
+ghost use Rattle.text_trees.specs.Levels.{fits_file};
 ghost use Rattle.text_trees.specs.TreesSeen.{file_of};
 ghost use Rattle.text_trees.specs.Reads.{RefusesPlaces, RefusesText};
 ghost use Rattle.print_grammar.specs.Reading.{IsReading};
@@ -21,6 +22,8 @@ use text_tokens::{Token, TokenError, tokens};
 pub(crate) fn tree_of(alloc: Global, text: &str, places: &[Token]) -> Result<FileTree, TreeError>
     ensures ok { IfOk result (λ file. (tokens : List GrammarToken) → Placed text.now 0 (length text.now) places.now tokens
         → ReadsFile tokens (file_of text.now file)) }
+    ensures shallow { IfOk result (λ file. (tokens : List GrammarToken) → Placed text.now 0 (length text.now) places.now tokens
+        → fits_file 100 (file_of text.now file) ≡ true) }
     ensures err { IfErr result (λ e. RefusesPlaces text.now places.now e) }
 {
     let tokens = Tokens { text, places };
@@ -41,6 +44,8 @@ pub(crate) fn tree_of(alloc: Global, text: &str, places: &[Token]) -> Result<Fil
 #[tactic(auto, using(crate::proofs::Trees::texts))]
 pub fn read_tree(alloc: Global, text: &str) -> Result<FileTree, TreeError>
     ensures ok { IfOk result (λ file. IsReading text.now (file_of text.now file)) }
+    // No type has more than 100 levels.
+    ensures shallow { IfOk result (λ file. fits_file 100 (file_of text.now file) ≡ true) }
     ensures err { IfErr result (λ e. RefusesText text.now e) }
 {
     one_reading();

@@ -148,7 +148,7 @@ fn wanted_text(wanted: Wanted) -> &'static str {
         Wanted::Type => "a type",
         Wanted::Member => "an item of an interface, a world or a resource",
         Wanted::Item => "an interface or a world",
-        Wanted::Attribute => "`since`, `unstable` or `external-id`",
+        Wanted::Attribute => "an attribute that may stand here",
         Wanted::Shallower => "a type of fewer levels",
     }
 }
