@@ -15,15 +15,12 @@ use Rattle.text_trees.specs.Reading.{if_id, Wanted.AnId, Reading, id_in_front, l
 use Rattle.text_trees.specs.declared.refusal.Wanted.{Wanted as CodeWanted}
 use Rattle.text_trees.specs.Seen.{RefusesAs, ahead, wanted_there}
 use Rattle.text_trees.proofs.Ahead.{behind_ahead}
+use Rattle.text_trees.proofs.Complete.{made_gives}
 
 pub made-refuses : {X Y : Type 0} (them : Tokens) (f : X → Y) (r : Reading X) (e : Refusal) → RefusesAs them e r → RefusesAs them e (made f r)
 unfolding made
 made-refuses them f r Memory h = tt
 made-refuses them f r (NotThere w n) h = ap (made f) h
-
-pub made-gives : {X Y : Type 0} (f : X → Y) (r : Reading X) (x : X) (rest : List Token) → r ≡ Found x rest → made f r ≡ Found (f x) rest
-unfolding made
-made-gives f r x rest e = ap (made f) e
 
 pub then-refuses : {X Y : Type 0} (them : Tokens) (r : Reading X) (next : X → List Token → Reading Y) (e : Refusal) → RefusesAs them e r → RefusesAs them e (then_read r next)
 unfolding then_read
@@ -94,7 +91,7 @@ level_none ts = refl
 
 pub ruleset levels = (level_room, level_none)
 
-pub ruleset going = (made-refuses, made-gives, then-refuses, behind_ahead)
+pub ruleset going = (made-refuses, made_gives, then-refuses, behind_ahead)
 
 pub ruleset ids = (if_id_found, if_id_not)
 

@@ -6,7 +6,7 @@ pub mod Attributes
 pub mod Fronts
 -- What follows a thing is shorter than what it stands in front of. Serves Complete, DeclaredComplete, FilesComplete, SteadyFiles and 1 more.
 pub mod Lengths
--- What is there is found: the steps that readers are made of, and lists. Serves DeclaredComplete, FilesComplete, TypesComplete.
+-- What is there is found: the steps that readers are made of, and lists. Serves DeclaredComplete, FilesComplete, Going, TypesComplete.
 pub mod Complete
 -- A type or signature that is there by the grammar is found. Serves DeclaredComplete, Exact.
 pub mod TypesComplete
@@ -42,12 +42,14 @@ pub mod Going
 pub mod Listings
 -- Lists are read thing by thing: how far the number in their definitions counts makes no difference. Serves laws::lists_are_read_one_by_one.
 pub mod OneByOne
+-- Tokens that stand at places are those that the places say. Serves laws::places_say_tokens.
+pub mod Saying
+-- Reading a text stops at one byte, for one want. Serves laws::one_refusal.
+pub mod OneRefusal
 -- Worked examples: what is found in front of tokens, and what is wanted where. Serves no function.
 mod ReaderExamples
 -- The types of a tuple, as a row and as a list. Serves types::tuple_of.
 pub mod Rows
--- Tokens that stand at places are those that the places say. Serves laws::places_say_tokens.
-pub mod Saying
 -- A tree that is found is what the text's tokens are by the grammar. Serves read::read_tree, read::tree_of.
 pub mod Trees
 -- Loops over things up to what ends them. Serves lists::until_at.

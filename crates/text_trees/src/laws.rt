@@ -3,7 +3,8 @@
 ghost use Rattle.std.specs.Prelude.{◌≡◌, ℕ, List, false, map, true};
 ghost use Rattle.text_tokens.specs.Places.{Placed};
 ghost use Rattle.text_tokens.specs.declared.token.Token.{Token as PlacedToken};
-ghost use Rattle.text_trees.specs.Seen.{said};
+ghost use Rattle.text_trees.specs.{Reads.StopsReading, Seen.said};
+ghost use Rattle.text_trees.specs.declared.refusal.Wanted.{Wanted};
 ghost use Rattle.print_grammar.specs.{Token.Mark.Arrow, Token.Mark.At, Token.Mark.CloseBrace, Token.Mark.CloseParen, Token.Mark.Colon, Token.Mark.Greater, Token.Mark.Less, Token.Token};
 ghost use Rattle.print_grammar.specs.Grammar.{ReadsDeclared, ReadsExtern, ReadsItem, ReadsMember, ReadsNested, ReadsPath, ReadsPrefix, ReadsResourceMember, ReadsSignature, ReadsType, ReadsWorldMember};
 ghost use Rattle.text_trees.specs.{Reading.begins, ReadTypes.param_in_front, ReadTypes.signature_in_front, ReadTypes.type_in_front};
@@ -13,6 +14,7 @@ ghost use Rattle.text_trees.specs.Levels.{fits_declared, fits_extern, fits_item,
 ghost use Rattle.text_trees.specs.Laws.{FilesAreRead, FindsBefore, FindsNothingElse, FindsWhatIsRead, FoundFilesAreOnly, ListedOneByOne, NoFileBeginsSo, OneByOne, PrintedFilesAreFound, RefusalsStandAtPlaces, RefusedAreNoFiles, RefusedTextsAreNotRead, ShallowFilesAreFound, TextsAreRead};
 
 use print_grammar::laws::{one_reading, well_named_file_reads};
+use text_tokens::laws::one_answer;
 
 /// A type that is found is there and has at most so many levels, and one that is there is found, where no `<` goes on with it.
 pub fn types_are_read()
@@ -96,6 +98,14 @@ pub fn printed_files_are_found()
 {
     one_reading();
     well_named_file_reads();
+}
+
+/// Reading a text stops at one byte at most, and for one want.
+pub fn one_refusal()
+    ensures { (text : List ℕ) (w v : Wanted) (a b : ℕ) → StopsReading text w a → StopsReading text v b → (w ≡ v) × (a ≡ b) }
+{
+    one_answer();
+    one_reading();
 }
 
 /// Tokens that stand at places of a text are those that the places say.

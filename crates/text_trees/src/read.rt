@@ -38,9 +38,9 @@ pub(crate) fn tree_of(alloc: Global, text: &str, places: &[Token]) -> Result<Fil
 ///
 /// Shape: a file with its package, interfaces, worlds and nested packages; names, numbers, versions and strings are spans of the text in bytes, a name
 /// without its `%`. Comments are left out, documentation too. Cost: time linear in the text, memory for its tokens and the answer alone, and a stack of 100
-/// levels. Errors: `Memory` where a growth is refused, `Size` for a text of 2^32 bytes or more, `NoToken` with the first byte at which no token begins, and
-/// `Wanted` with what is wanted at the first place where no file goes on as the text does, by the byte where the token there begins. A type of more than 100
-/// levels is refused so too. Source: WIT.md, Top-level items.
+/// levels of types. Errors: `Memory` where a growth is refused, `Size` for a text of 2^32 bytes or more, and `NoToken` with the first byte at which no token
+/// begins. Else `Wanted` says what is wanted in place of the token that begins at a byte, or at the end: no file goes on as the text does there. A type of
+/// more than 100 levels is refused so too. Source: WIT.md, Top-level items.
 #[tactic(auto, using(crate::proofs::Trees::texts))]
 pub fn read_tree(alloc: Global, text: &str) -> Result<FileTree, TreeError>
     ensures ok { IfOk result (λ file. IsReading text.now (file_of text.now file)) }
