@@ -1,6 +1,7 @@
 //! Trees, written with brackets.
 
 use std::alloc::{AllocError, Global};
+use text_tokens::Primitive;
 use text_trees::{
     CaseTree, Declared, ExternTree, FieldTree, FileTree, Gates, ItemTree, LabelTree, MemberTree,
     PackageHead, PackageTree, ParamTree, PathTree, Prefix, ResourceMember, SignatureTree, Span,
@@ -59,76 +60,64 @@ fn put_between(page: &mut Page<'_>, index: usize) -> Written {
 
 // ---- types
 
-fn put_type(alloc: Global, page: &mut Page<'_>, ty: &TypeTree) -> Written {
+// What a type begins with.
+fn head_of(ty: &TypeTree) -> &'static str {
     match ty {
-        TypeTree::PrimitiveType(primitive) => {
-            let primitive = *primitive;
-            let word = format!(in alloc; "{primitive:?}")?;
-            page.written.push_str(&word)
-        }
+        TypeTree::PrimitiveType(_) | TypeTree::Name(_) => "",
+        TypeTree::Own(_) => "own[",
+        TypeTree::Borrow(_) => "borrow[",
+        TypeTree::TupleOf(_) => "tuple[",
+        TypeTree::OptionOf(_) => "option[",
+        TypeTree::ListOf(_) | TypeTree::FixedListOf(_, _) => "list[",
+        TypeTree::MapOf(_, _) => "map[",
+        TypeTree::Result => "result",
+        TypeTree::ResultOk(_) | TypeTree::ResultOf(_, _) => "result[",
+        TypeTree::ResultErr(_) => "result[_ ",
+        TypeTree::Future => "future",
+        TypeTree::FutureOf(_) => "future[",
+        TypeTree::Stream => "stream",
+        TypeTree::StreamOf(_) => "stream[",
+    }
+}
+
+fn put_primitive(alloc: Global, page: &mut Page<'_>, primitive: Primitive) -> Written {
+    let word = format!(in alloc; "{primitive:?}")?;
+    page.written.push_str(&word)
+}
+
+fn put_type(alloc: Global, page: &mut Page<'_>, ty: &TypeTree) -> Written {
+    page.written.push_str(head_of(ty))?;
+    match ty {
+        TypeTree::PrimitiveType(primitive) => put_primitive(alloc, page, *primitive),
         TypeTree::Name(name) => put_span(alloc, page, *name),
-        TypeTree::Own(name) => put_with(alloc, page, "own[", *name, "]"),
-        TypeTree::Borrow(name) => put_with(alloc, page, "borrow[", *name, "]"),
+        TypeTree::Own(name) | TypeTree::Borrow(name) => put_with(alloc, page, "", *name, "]"),
         TypeTree::TupleOf(types) => {
-            page.written.push_str("tuple[")?;
             for (index, ty) in types.iter().enumerate() {
                 put_between(page, index)?;
                 put_type(alloc, page, ty)?;
             }
             page.written.push_str("]")
         }
-        TypeTree::OptionOf(ty) => {
-            page.written.push_str("option[")?;
-            put_type(alloc, page, ty)?;
-            page.written.push_str("]")
-        }
-        TypeTree::ListOf(ty) => {
-            page.written.push_str("list[")?;
+        TypeTree::OptionOf(ty)
+        | TypeTree::ListOf(ty)
+        | TypeTree::ResultOk(ty)
+        | TypeTree::ResultErr(ty)
+        | TypeTree::FutureOf(ty)
+        | TypeTree::StreamOf(ty) => {
             put_type(alloc, page, ty)?;
             page.written.push_str("]")
         }
         TypeTree::FixedListOf(ty, digits) => {
-            page.written.push_str("list[")?;
             put_type(alloc, page, ty)?;
             put_with(alloc, page, " ", *digits, "]")
         }
-        TypeTree::MapOf(key, value) => {
-            page.written.push_str("map[")?;
-            put_type(alloc, page, key)?;
+        TypeTree::MapOf(one, other) | TypeTree::ResultOf(one, other) => {
+            put_type(alloc, page, one)?;
             page.written.push_str(" ")?;
-            put_type(alloc, page, value)?;
+            put_type(alloc, page, other)?;
             page.written.push_str("]")
         }
-        TypeTree::Result => page.written.push_str("result"),
-        TypeTree::ResultOk(ok) => {
-            page.written.push_str("result[")?;
-            put_type(alloc, page, ok)?;
-            page.written.push_str("]")
-        }
-        TypeTree::ResultErr(err) => {
-            page.written.push_str("result[_ ")?;
-            put_type(alloc, page, err)?;
-            page.written.push_str("]")
-        }
-        TypeTree::ResultOf(ok, err) => {
-            page.written.push_str("result[")?;
-            put_type(alloc, page, ok)?;
-            page.written.push_str(" ")?;
-            put_type(alloc, page, err)?;
-            page.written.push_str("]")
-        }
-        TypeTree::Future => page.written.push_str("future"),
-        TypeTree::FutureOf(ty) => {
-            page.written.push_str("future[")?;
-            put_type(alloc, page, ty)?;
-            page.written.push_str("]")
-        }
-        TypeTree::Stream => page.written.push_str("stream"),
-        TypeTree::StreamOf(ty) => {
-            page.written.push_str("stream[")?;
-            put_type(alloc, page, ty)?;
-            page.written.push_str("]")
-        }
+        TypeTree::Result | TypeTree::Future | TypeTree::Stream => Ok(()),
     }
 }
 
