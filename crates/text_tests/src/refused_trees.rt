@@ -376,3 +376,12 @@ pub static REFUSED_TREES: [(&str, &str, &str); 121] = [
         "`>`",
     ),
 ];
+
+/// A text before and behind a type of options of so many levels, and the byte where the first level too many begins: 7 bytes for each level before it.
+pub static REFUSED_TOWERS: [(&str, &str, u32, u32); 5] = [
+    ("package a:b; interface i { type t = ", "; }", 102, 743),
+    ("package a:b; interface i { type t = ", "; }", 5000, 743),
+    ("package a:b; interface i { f: func(p: ", "); }", 101, 738),
+    ("package a:b; interface i { f: func(p: ", "); }", 5000, 738),
+    ("package a:b; interface i { record r { f: ", "} }", 101, 741),
+];

@@ -162,3 +162,11 @@ pub static WORLD_MEMBERS: [(&str, &str); 16] = [
     ),
     ("@unstable(feature = x) use i.{a};", "{unstable x use i a}"),
 ];
+
+/// A text before and behind a type of options of so many levels.
+pub static TOWERS: [(&str, &str, u32); 4] = [
+    ("package a:b; interface i { type t = ", "; }", 100),
+    ("package a:b; interface i { type t = ", "; }", 101),
+    ("package a:b; interface i { f: func(p: ", "); }", 100),
+    ("package a:b; interface i { record r { f: ", "} }", 100),
+];

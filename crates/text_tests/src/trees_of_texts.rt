@@ -1,8 +1,8 @@
 //! Each text has the tree that the table says, or is refused at the place and for the want that the table says.
 
-use crate::refused_trees::REFUSED_TREES;
+use crate::refused_trees::{REFUSED_TOWERS, REFUSED_TREES};
 use crate::shown::shown;
-use crate::trees::{FILES, MEMBERS, TYPES, WORLD_MEMBERS};
+use crate::trees::{FILES, MEMBERS, TOWERS, TYPES, WORLD_MEMBERS};
 use std::alloc::{AllocError, Global};
 use std::test::Fail;
 use text_trees::{TreeError, read_tree};
@@ -87,10 +87,10 @@ fn each_refusal(rt: HostRuntime) -> Result<(), Fail> {
     Ok(())
 }
 
-// A text with a type of so many levels.
-fn tower(alloc: Global, levels: u32) -> Result<String, AllocError> {
+// A text with a type of so many levels between two parts.
+fn tower(alloc: Global, before: &str, behind: &str, levels: u32) -> Result<String, AllocError> {
     let mut text = String::new(alloc);
-    text.push_str("package a:b; interface i { type t = ")?;
+    text.push_str(before)?;
     for _ in 0..levels {
         text.push_str("option<")?;
     }
@@ -98,22 +98,26 @@ fn tower(alloc: Global, levels: u32) -> Result<String, AllocError> {
     for _ in 0..levels {
         text.push_str(">")?;
     }
-    text.push_str("; }")?;
+    text.push_str(behind)?;
     Ok(text)
 }
 
-// A type has at most 100 levels, and what is above is refused where the first level too many begins, at byte 36 + 100 * 7.
+// A type has at most 100 levels where it is used, and an alias at most 101. What is above is refused where the first level too many begins.
 #[test]
 fn a_hundred_levels(rt: HostRuntime) -> Result<(), Fail> {
     let alloc = rt.alloc();
-    let most = tower(alloc, 100)?;
-    assert!(rt; read_tree(alloc, most.as_str()).is_ok());
-    for levels in [101, 5000] {
-        let more = tower(alloc, levels)?;
-        let found = answer(alloc, more.as_str())?;
+    for (before, behind, levels) in &TOWERS {
+        let text = tower(alloc, *before, *behind, *levels)?;
+        assert!(rt; read_tree(alloc, text.as_str()).is_ok(), "{}", *levels);
+    }
+    for (before, behind, levels, place) in &REFUSED_TOWERS {
+        let text = tower(alloc, *before, *behind, *levels)?;
+        let expected = format!(in alloc; "expected a type of fewer levels at byte {}", *place)?;
+        let found = answer(alloc, text.as_str())?;
         assert!(rt;
-            found.as_str() == "expected a type of fewer levels at byte 736",
-            "{}",
+            found.as_str() == expected.as_str(),
+            "{}: {}",
+            *levels,
             found.as_str()
         );
     }

@@ -1,5 +1,5 @@
 -- Gates, paths, uses and declared types that are there by the grammar are found.
-use Rattle.std.proofs.Common.{◌≡◌, refl, ℕ, true, false, List, [], ◌∷◌, Option, codes}
+use Rattle.std.proofs.Common.{◌≡◌, refl, ℕ, true, false, List, [], ◌∷◌, suc, Option, codes}
 use Rattle.std.specs.List.{list_all}
 use Rattle.base_lemmas.proofs.Bools.{left_of, right_of}
 use Rattle.wit_model.specs.{Text.Text}
@@ -181,7 +181,7 @@ module _ (room : ℕ) where
       rw (id_gives _ i, listed-complete CloseBrace (case_in_front room) (fits_case room) case-shortens case-shut refl case-complete l h) refl
   declared-complete (flags i l) h = rw (id_gives _ i, labels-complete l) refl
   declared-complete (enum i l) h = rw (id_gives _ i, labels-complete l) refl
-  declared-complete (alias i r) h = rw (id_gives _ i, type-found room r refl h) refl
+  declared-complete (alias i r) h = rw (id_gives _ i, type-found (suc room) r refl h) refl
   declared-complete (resource i) h = rw (id_gives _ i) refl
   declared-complete (resource_with i l) h =
       rw (

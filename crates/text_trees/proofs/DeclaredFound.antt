@@ -1,5 +1,5 @@
 -- What readers of gates, paths, uses and declared types find is there by the grammar.
-use Rattle.std.proofs.Common.{refl, ℕ, List, ◌∷◌}
+use Rattle.std.proofs.Common.{refl, ℕ, List, ◌∷◌, suc}
 use Rattle.wit_model.specs.Text.{Text}
 use Rattle.print_grammar.specs.{Keyword.Keyword, Token.Token}
 use Rattle.print_grammar.specs.Token.Mark.{Colon, Semi}
@@ -92,6 +92,6 @@ module _ (room : ℕ) where
       (if_key_sound _ (id_sound (λ t name i. mark_sound _ (made_sound _ (sound_as (listed_sound case-sound) (λ ts rest xs l. variant i l)))))
       (if_key_sound _ (id_sound (λ t name i. mark_sound _ (made_sound _ (sound_as (listed_sound label-sound) (λ ts rest xs l. flags i l)))))
       (if_key_sound _ (id_sound (λ t name i. mark_sound _ (made_sound _ (sound_as (listed_sound label-sound) (λ ts rest xs l. enum i l)))))
-      (if_key_sound _ (id_sound (λ t name i. mark_sound _ (then_sound (type-sound room) (λ ty. mark_sound _ (found_sound (λ rest ts r. alias i r))))))
+      (if_key_sound _ (id_sound (λ t name i. mark_sound _ (then_sound (type-sound (suc room)) (λ ty. mark_sound _ (found_sound (λ rest ts r. alias i r))))))
       (if_key_sound _ (id_sound (λ t name i. if_mark_sound _ (found_sound (λ rest. resource i))
       (mark_sound _ (made_sound _ (sound_as (repeated_sound resource_member-sound) (λ ts rest xs l. resource_with i l)))))) refused_sound)))))

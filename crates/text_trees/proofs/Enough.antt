@@ -1,5 +1,5 @@
 -- Each file has room enough for its types.
-use Rattle.std.proofs.Common.{◌≡◌, refl, ℕ, ◌≤◌, ◌&&◌, Bool, true, List, [], ◌∷◌, arith, max, Option, Some, None}
+use Rattle.std.proofs.Common.{◌≡◌, refl, ℕ, ◌≤◌, ◌&&◌, Bool, true, List, [], ◌∷◌, arith, max, suc, Option, Some, None}
 use Rattle.std.specs.List.{list_all}
 use Rattle.std.proofs.lemmas.Bool.{le-leb}
 use Rattle.wit_model.specs.Rules.{passes}
@@ -52,7 +52,7 @@ declared-enough (RecordOf name fields) = from_all (λ field. type-enough field.t
 declared-enough (VariantOf name cases) = from_all case-enough cases
 declared-enough (FlagsOf name flags) = at_once
 declared-enough (EnumOf name cases) = at_once
-declared-enough (AliasOf name ty) = type-enough ty
+declared-enough (AliasOf name ty) = record { least = levels ty; passes_from = λ room h. le-leb (levels ty) (suc room) (omega arith) }
 declared-enough (ResourceOf name members) = from_all resource_member-enough members
 
 member-enough : (member : MemberTree) → FromSome (λ room. fits_member room member)

@@ -142,6 +142,9 @@ module _ (room more : ℕ) (h : room ≤ more) where
   type-extends : Extended (type_in_front room) (type_in_front more)
   type-extends = by-extends (level-extends room more h)
 
+  alias-extends : Extended (type_in_front (suc room)) (type_in_front (suc more))
+  alias-extends = by-extends (level-extends (suc room) (suc more) (omega (arith, h)))
+
   -- ---- signatures and declared types
 
   params-extend : Extended (params_in_front room) (params_in_front more)
@@ -173,7 +176,7 @@ module _ (room more : ℕ) (h : room ≤ more) where
       (then_read_on as_it_is (λ name. if_a_mark _ (then_read_on type-extends (λ ty. as_it_is)) as_it_is)) _))))
       (if_a_key _ as_it_is
       (if_a_key _ as_it_is
-      (if_a_key _ (then_read_on as_it_is (λ name. behind_a_mark _ (then_read_on type-extends (λ ty. as_it_is))))
+      (if_a_key _ (then_read_on as_it_is (λ name. behind_a_mark _ (then_read_on alias-extends (λ ty. as_it_is))))
       (if_a_key _ (then_read_on as_it_is (λ name. if_a_mark _ as_it_is (behind_a_mark _ (making _ (repeated_extends resource_member-extends _))))) as_it_is)))))
 
   -- ---- what interfaces, worlds and packages have

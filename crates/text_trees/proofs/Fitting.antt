@@ -106,6 +106,9 @@ module _ (room : ℕ) where
   pub type-fits : Sound (Passes (fits_type room)) (type_in_front room)
   type-fits = sound_as (by-fits room (level-fits room)) (λ ts rest ty h. le-leb (levels ty) room h)
 
+  alias-fits : Sound (Passes (fits_type (suc room))) (type_in_front (suc room))
+  alias-fits = sound_as (by-fits (suc room) (level-fits (suc room))) (λ ts rest ty h. le-leb (levels ty) (suc room) h)
+
   -- ---- signatures
 
   param-fits : Sound (Passes (fits_param room)) (param_in_front room)
@@ -154,7 +157,7 @@ module _ (room : ℕ) where
       (if_key_sound _ (id_sound (λ t name i. mark_sound _ (made_sound _ (sound_as (listed-fit (fits_case room) case-fits _) (λ ts rest xs h. h)))))
       (if_key_sound _ (id_sound (λ t name i. mark_sound _ (made_sound _ (sound_as (anything (listed label_in_front _)) (λ ts rest xs h. refl)))))
       (if_key_sound _ (id_sound (λ t name i. mark_sound _ (made_sound _ (sound_as (anything (listed label_in_front _)) (λ ts rest xs h. refl)))))
-      (if_key_sound _ (id_sound (λ t name i. mark_sound _ (then_sound type-fits (λ ty. mark_sound _ (found_sound (λ rest ts h. h))))))
+      (if_key_sound _ (id_sound (λ t name i. mark_sound _ (then_sound alias-fits (λ ty. mark_sound _ (found_sound (λ rest ts h. h))))))
       (if_key_sound _ (id_sound (λ t name i. if_mark_sound _ (found_sound (λ rest. refl))
       (mark_sound _ (made_sound _ (sound_as (repeated-fit (fits_resource_member room) resource_member-fits _) (λ ts rest xs h. h)))))) refused_sound)))))
 

@@ -160,6 +160,9 @@ module _ (room : ℕ) where
   type-steady : Steady (type_in_front room)
   type-steady = by-steady (level-steady room)
 
+  alias-steady : Steady (type_in_front (suc room))
+  alias-steady = by-steady (level-steady (suc room))
+
   pub type-shrinks : Shrinks (type_in_front room)
   type-shrinks = shrinks (type-sound room) (λ ts rest ty r. type-shortens r)
 
@@ -210,7 +213,7 @@ module _ (room : ℕ) where
       (if_key_steady _ (then_steady id_steady (λ name. mark_steady _ (made_steady _ (listed_steady case-steady case-shrinks _))))
       (if_key_steady _ (then_steady id_steady (λ name. mark_steady _ (made_steady _ labels-steady)))
       (if_key_steady _ (then_steady id_steady (λ name. mark_steady _ (made_steady _ labels-steady)))
-      (if_key_steady _ (then_steady id_steady (λ name. mark_steady _ (then_steady type-steady (λ ty. mark_steady _ found_steady))))
+      (if_key_steady _ (then_steady id_steady (λ name. mark_steady _ (then_steady alias-steady (λ ty. mark_steady _ found_steady))))
       (if_key_steady _ (then_steady id_steady (λ name. if_mark_steady _ found_steady (mark_steady _ (made_steady _
       (repeated_steady resource_member-steady resource_member-shrinks _))))) refused_steady)))))
 

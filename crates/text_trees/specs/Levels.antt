@@ -1,4 +1,6 @@
 -- How many levels the types of a tree have (WIT.md, Types): none a primitive type and a name, and one more than its deepest part every other form.
+-- `room` is how many levels a type may have where it is used. What `type NAME = ..` declares may have one more: validity bounds the levels without a name,
+-- and the outermost level of a named type has one. So a valid package can be printed with an alias of 101 levels, and its text is read again.
 use Rattle.std.specs.Prelude.{Bool, true, ◌&&◌, ℕ, nat_le, suc, max}
 use Rattle.std.specs.List.{list_all}
 use Rattle.wit_model.specs.Rules.{passes}
@@ -38,7 +40,7 @@ abbrev mutual
   deepest NoTypes = 0
   deepest (AndTypes ty types) = max (levels ty) (deepest types)
 
--- ---- whether no type has more levels than `room`
+-- ---- whether no type has more levels than `room` where it is used, and no alias more than one beyond
 
 abbrev pub fits_type : ℕ → TypeTree → Bool
 fits_type room ty = nat_le (levels ty) room
@@ -65,7 +67,7 @@ fits_declared room (RecordOf name fields) = list_all (fits_field room) fields
 fits_declared room (VariantOf name cases) = list_all (fits_case room) cases
 fits_declared room (FlagsOf name flags) = true
 fits_declared room (EnumOf name cases) = true
-fits_declared room (AliasOf name ty) = fits_type room ty
+fits_declared room (AliasOf name ty) = fits_type (suc room) ty
 fits_declared room (ResourceOf name members) = list_all (fits_resource_member room) members
 
 abbrev pub fits_member : ℕ → MemberTree → Bool
@@ -92,6 +94,6 @@ fits_item room (WorldItem docs gates name members) = list_all (fits_world_member
 abbrev pub fits_package : ℕ → PackageTree → Bool
 fits_package room tree = list_all (fits_item room) tree.items
 
--- No type of the file has more levels than `room`.
+-- No type of the file has more levels than `room` where it is used, and no alias more than one beyond.
 abbrev pub fits_file : ℕ → FileTree → Bool
 fits_file room file = fits_package room file.main && list_all (fits_package room) file.nested

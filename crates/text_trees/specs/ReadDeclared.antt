@@ -1,5 +1,5 @@
 -- Reading what stands in front of items, paths, uses and declared types (WIT.md, Item: use, Feature gates, Item: type).
-use Rattle.std.specs.Prelude.{List, [], ℕ, Option, Some, None, codes}
+use Rattle.std.specs.Prelude.{List, [], ℕ, suc, Option, Some, None, codes}
 use Rattle.wit_model.specs.Text.{Text}
 use Rattle.print_grammar.specs.{Keyword.Keyword, Token.Token}
 use Rattle.print_grammar.specs.Token.Mark.{OpenBrace, CloseBrace, OpenParen, CloseParen, Colon, Semi, Dot, Equals, Slash, At}
@@ -137,7 +137,7 @@ resource_behind room name =
     if_mark Semi (Found (ResourceOf name [])) (behind_mark OpenBrace
     (λ rest. made (ResourceOf name) (repeated (resource_member_in_front room) CloseBrace rest)))
 
--- A declared type.
+-- A declared type. What `type` gives a name may have one level more than a type where it is used (`fits_declared`).
 abbrev pub declared_in_front : ℕ → List Token → Reading Declared
 declared_in_front room =
     if_key Keyword.Record (named (λ name. behind_mark OpenBrace (λ rest. made (RecordOf name) (listed (field_in_front room) CloseBrace rest))))
@@ -145,5 +145,5 @@ declared_in_front room =
     (if_key Keyword.Flags (named (λ name. behind_mark OpenBrace (λ rest. made (FlagsOf name) (listed label_in_front CloseBrace rest))))
     (if_key Keyword.Enum (named (λ name. behind_mark OpenBrace (λ rest. made (EnumOf name) (listed label_in_front CloseBrace rest))))
     (if_key Keyword.Type_ (named (λ name. behind_mark Equals (λ rest.
-    then_read (type_in_front room rest) (λ ty rest. behind_mark Semi (Found (AliasOf name ty)) rest))))
+    then_read (type_in_front (suc room) rest) (λ ty rest. behind_mark Semi (Found (AliasOf name ty)) rest))))
     (if_key Keyword.Resource (named (resource_behind room)) (Refused Wanted.AMember))))))

@@ -15,16 +15,18 @@ abbrev pub first_byte : List ℕ → List PlacedToken → ℕ
 first_byte text [] = length text
 first_byte text (place ∷ places) = place.start
 
--- Reading these tokens as a file whose types have at most 100 levels stops at the token that begins at this byte, or at the end of the text, since this is
--- wanted there. The reader is a function of tokens, and laws say what its refusals mean (`files_are_read`, `refusals_stand`). So no file begins with the tokens
--- before the place and then with the one there, or with `@` and the one behind it. Where a type of fewer levels is wanted, a file may.
+-- Reading these tokens as a file stops at the token that begins at this byte, or at the end of the text, since this is wanted there. No type of the file may
+-- have more than 100 levels where it is used, and no alias more than 101. The reader is a function of tokens, and laws say what its refusals mean
+-- (`files_are_read`, `refusals_stand`). So no file begins with the tokens before the place and then with the one there, or with `@` and the one behind it.
+-- Where a type of fewer levels is wanted, a file may.
 pub record StopsAt (text : List ℕ) (places : List PlacedToken) (tokens : List Token) (w : CodeWanted) (at : ℕ) : Type 0 where
   -- how many tokens stand before the place
   pub before : ℕ
   pub refused : file_in_front 100 tokens ≡ Refused (wanted_there w) (drop before tokens)
   pub byte : at ≡ first_byte text (drop before places)
 
--- Reading the text stops at this byte, since this is wanted there, and the text is no file whose types have at most 100 levels.
+-- Reading the text stops at this byte, since this is wanted there. The text is no file in which no type has more than 100 levels where it is used, and no
+-- alias more than 101.
 pub record StopsReading (text : List ℕ) (w : CodeWanted) (at : ℕ) : Type 0 where
   pub places : List PlacedToken
   pub has : HasTokensAt text places

@@ -1,5 +1,5 @@
 -- What trees of the code are by the grammar, in the text that their spans are of.
-use Rattle.std.specs.Prelude.{Bool, ℕ, List, [], map}
+use Rattle.std.specs.Prelude.{Bool, ℕ, suc, List, [], map}
 use Rattle.std.specs.Option.{option_map}
 use Rattle.wit_model.specs.Text.{Text}
 use Rattle.print_grammar.specs.Tree.{TypeTree, TypeTrees, Gates, Prefix, ParamTree, SignatureTree, PathTree, UsedName, FieldTree, CaseTree, LabelTree, ResourceMember, Declared, MemberTree, ExternTree, WorldMember, ItemTree, PackageHead, PackageTree, FileTree}
@@ -179,7 +179,7 @@ braced of read = named (λ name. behind_mark OpenBrace (λ rest. made (of name) 
 -- what follows `type`
 abbrev pub alias_in_front : ℕ → List Token → Reading Declared
 alias_in_front room =
-    named (λ name. behind_mark Equals (λ rest. then_read (type_in_front room rest) (λ ty rest. behind_mark Semi (Found (AliasOf name ty)) rest)))
+    named (λ name. behind_mark Equals (λ rest. then_read (type_in_front (suc room) rest) (λ ty rest. behind_mark Semi (Found (AliasOf name ty)) rest)))
 
 -- what follows `resource`
 abbrev pub resource_in_front : ℕ → List Token → Reading Declared

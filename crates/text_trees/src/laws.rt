@@ -1,4 +1,5 @@
-//! Laws of reading: what readers find is what the grammar says is there. `room` is how many levels a type may have.
+//! Laws of reading: what readers find is what the grammar says is there. `room` is how many levels a type may have where
+//! it is used. An alias may have one more.
 
 ghost use Rattle.std.specs.Prelude.{◌≡◌, ℕ, List, false, map, true};
 ghost use Rattle.text_tokens.specs.Places.{Placed};

@@ -37,14 +37,15 @@ pub(crate) fn tree_of(alloc: Global, text: &str, places: &[Token]) -> Result<Fil
 /// The tree of a WIT text, or why it has none.
 ///
 /// Shape: a file with its package, interfaces, worlds and nested packages; names, numbers, versions and strings are spans of the text in bytes, a name
-/// without its `%`. Comments are left out, documentation too. Cost: time linear in the text, memory for its tokens and the answer alone, and a stack of 100
+/// without its `%`. Comments are left out, documentation too. Cost: time linear in the text, memory for its tokens and the answer alone, and a stack of 101
 /// levels of types. Errors: `Memory` where a growth is refused, `Size` for a text of 2^32 bytes or more, and `NoToken` with the first byte at which no token
 /// begins. Else `Wanted` says what is wanted in place of the token that begins at a byte, or at the end: no file goes on as the text does there. A type of
-/// more than 100 levels is refused so too. Source: WIT.md, Top-level items.
+/// more than 100 levels where it is used, and an alias of more than 101, is refused so too. The grammar is that of printed text: it has no `include`, no
+/// `use` in front of items, no file without `package` and no comment in `/* */`. Source: WIT.md, Top-level items.
 #[tactic(auto, using(crate::proofs::Trees::texts))]
 pub fn read_tree(alloc: Global, text: &str) -> Result<FileTree, TreeError>
     ensures ok { IfOk result (λ file. IsReading text.now (file_of text.now file)) }
-    // No type has more than 100 levels.
+    // No type has more than 100 levels where it is used, and no alias more than 101.
     ensures shallow { IfOk result (λ file. fits_file 100 (file_of text.now file) ≡ true) }
     ensures err { IfErr result (λ e. RefusesText text.now e) }
 {

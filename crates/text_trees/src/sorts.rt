@@ -76,7 +76,7 @@ fn enum_at(alloc: Global, tokens: &Tokens<'_>, at: usize) -> Result<(Declared, u
     Ok((Declared::EnumOf(name, cases), behind))
 }
 
-/// What follows `type`: a name and the type that it stands for.
+/// What follows `type`: a name and the type that it stands for, which may have one level more than a type where it is used.
 fn alias_at(alloc: Global, tokens: &Tokens<'_>, at: usize) -> Result<(Declared, usize), Refusal>
     requires { at ≤ count_of tokens.now }
     ensures ok { IfOk result (λ r. alias_in_front 100 (ahead tokens.now at)
@@ -87,7 +87,7 @@ fn alias_at(alloc: Global, tokens: &Tokens<'_>, at: usize) -> Result<(Declared, 
 {
     let (name, end) = name_at(tokens, at)?;
     let from = mark_at(tokens, Mark::Equals, end)?;
-    let (ty, end) = type_at(alloc, tokens, from, LEVELS)?;
+    let (ty, end) = type_at(alloc, tokens, from, LEVELS + 1)?;
     let behind = mark_at(tokens, Mark::Semi, end)?;
     Ok((Declared::AliasOf(name, ty), behind))
 }

@@ -21,7 +21,7 @@ use crate::tree::{Span, TypeTree};
 use std::alloc::Global;
 use text_tokens::{Keyword, Kind, Mark, Primitive};
 
-/// How many levels a type may have.
+/// How many levels a type may have where it is used.
 pub(crate) const LEVELS: u32 = 100;
 
 /// An id in angle brackets.
