@@ -1,0 +1,18 @@
+-- Lists whose entries belong to each other, as they grow. Serves declared, declared::cases_of, declared::enum_cases_of, declared::fields_of and 3 more.
+pub mod EachLaws
+-- What stands by a list of definitions stands by a longer one. Serves declared, declared::cases_of, declared::fields_of, functions and 10 more.
+pub mod Growth
+-- What is declared, as definitions grow. Serves declared::add_declared, declared::cases_of, declared::fields_of, declared::kind_of_declared.
+pub mod DeclaredLaws
+-- What trees of types are, by what is met of them. Serves lowering::kind_of, lowering::lowered_if_given, lowering::types.
+pub mod FormLaws
+-- What functions are, by their parts, and as definitions grow. Serves functions::constructed, functions::constructor_of, functions::function_of, functions::functions_of_resource and 3 more.
+pub mod FunctionLaws
+-- What types need, by their places. Serves needs, scope::all_needs.
+pub mod NeedLaws
+-- Strings as they are read, byte by byte. Serves strings::characters_of, strings::read_on.
+pub mod Quotes
+-- The types of a tuple, as a row and as a list. Serves lowering::types.
+pub mod Rows
+-- What names stand for, as types are made. Serves members, members::members_of, scope, scope::add and 5 more.
+pub mod ScopeLaws

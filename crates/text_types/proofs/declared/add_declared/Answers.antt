@@ -1,0 +1,8 @@
+use Rattle.text_types.specs.Scopes.{text_in}
+use Rattle.text_types.proofs.DeclaredLaws.{declared_added}
+use Rattle.text_types.proofs.declared.add_declared.Goals as goal
+
+pub returns-clause-added : goal.returns-clause-added
+returns-clause-added c =
+    declared_added c.args.scope.now.owner _ c.add_named.result c.add_named.ensures.grows c.in_ok-kind.ensures.is (c.name_of.ensures.name (text_in
+    c.args.scope.now)) c.add_named.ensures.added

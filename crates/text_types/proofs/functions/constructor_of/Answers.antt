@@ -1,0 +1,11 @@
+use Rattle.text_trees.specs.Seen.{cut}
+use Rattle.text_types.specs.{Scopes.text_in}
+use Rattle.text_types.proofs.FunctionLaws.{constructor_made, params_on}
+use Rattle.text_types.proofs.functions.constructor_of.Goals as goal
+
+pub returns-clause-stands : goal.returns-clause-stands
+returns-clause-stands c =
+    constructor_made (text_in c.args.scope.now) (cut (text_in c.args.scope.now) c.args.resource) c.args.id c.args.prefix.now _ _ _ _ c.args.returned.now
+    c.made.result c.made.ensures.made
+    c.in_ok-name.ensures.text (params_on (text_in c.args.scope.now) c.in_ok-returned.ensures.grows c.in_ok-params.ensures.each)
+    c.in_ok-returned.ensures.constructs

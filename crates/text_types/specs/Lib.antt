@@ -1,0 +1,15 @@
+pub mod Plain
+pub mod Begins
+pub mod Stands
+pub mod Kept
+pub mod Scopes
+pub mod Needed
+pub mod Refusals
+pub mod Forms
+pub mod Each
+pub mod Declares
+pub mod Functions
+pub mod Seen
+pub mod Strings
+pub mod Used
+pub mod Made
