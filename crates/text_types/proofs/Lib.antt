@@ -1,6 +1,6 @@
 -- Lists whose entries belong to each other, as they grow. Serves declared, declared::cases_of, declared::enum_cases_of, declared::fields_of and 3 more.
 pub mod EachLaws
--- What stands by a list of definitions stands by a longer one. Serves declared, declared::cases_of, declared::fields_of, functions and 10 more.
+-- What stands by a list of definitions stands by a longer one. Serves declared, declared::cases_of, declared::fields_of, functions and 10 more; crates above.
 pub mod Growth
 -- What is declared, as definitions grow. Serves declared::add_declared, declared::cases_of, declared::fields_of, declared::kind_of_declared.
 pub mod DeclaredLaws
@@ -14,5 +14,5 @@ pub mod NeedLaws
 pub mod Quotes
 -- The types of a tuple, as a row and as a list. Serves lowering::types.
 pub mod Rows
--- What names stand for, as types are made. Serves members, members::members_of, scope, scope::add and 5 more.
+-- What names stand for, as types are made. Serves members, members::members_of, scope, scope::add and 5 more; crates above.
 pub mod ScopeLaws

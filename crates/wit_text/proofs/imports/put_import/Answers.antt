@@ -1,0 +1,9 @@
+use Rattle.std.proofs.Common.{refl}
+use Rattle.wit_text.proofs.Walking.{on_ok}
+use Rattle.wit_text.proofs.imports.put_import.Goals as goal
+
+pub returns : goal.returns
+returns c =
+    on_ok _ _ c.put.result
+    (λ puts. record { walk = _; is = record { text = refl; needs = refl; numbers = c.as_slice.ensures.value }; mine = refl; away = refl; alone = refl; puts = puts })
+    c.put.ensures

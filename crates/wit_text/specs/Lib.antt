@@ -1,0 +1,12 @@
+pub mod Added
+pub mod Grounds
+pub mod Items
+pub mod Mains
+pub mod Places
+pub mod Puts
+pub mod Refusals
+pub mod Rules
+pub mod Steps
+pub mod Texts
+pub mod Weights
+pub mod WorldWalks

@@ -1,0 +1,23 @@
+-- Places of a text, as lines and columns.
+use Rattle.std.specs.Prelude.{◌+◌, ◌==◌, ◌||◌, not, ℕ, Bool, nat_lt, List, take, count_by, if◌then◌else◌}
+use Rattle.std.specs.List.{fold}
+
+-- whether a byte is a line feed
+abbrev pub is_line_feed : ℕ → Bool
+is_line_feed b = b == 10
+
+-- whether a character of UTF-8 begins with this byte
+abbrev pub begins_character : ℕ → Bool
+begins_character b = nat_lt b 128 || not (nat_lt b 192)
+
+-- how many characters have begun since the last line feed, with one byte more
+abbrev pub since_line_feed : ℕ → ℕ → ℕ
+since_line_feed n b = if is_line_feed b then 0 else (if begins_character b then n + 1 else n)
+
+-- the line of this byte: the line feeds before it, and one
+abbrev pub line_of : List ℕ → ℕ → ℕ
+line_of text at = count_by is_line_feed (take at text) + 1
+
+-- the column of this byte: the characters since the last line feed before it, and one
+abbrev pub column_of : List ℕ → ℕ → ℕ
+column_of text at = fold since_line_feed 0 (take at text) + 1

@@ -1,0 +1,87 @@
+//! Interfaces: those of the texts, and those that stand in worlds.
+#![tactic(auto, using(text_types::proofs::Growth::growing, text_types::proofs::ScopeLaws::keeping))]
+
+ghost use Rattle.text_names.specs.Tables.{IsIndex};
+ghost use Rattle.text_types.specs.Kept.{Grows};
+
+use std::alloc::Global;
+use text_names::{Fault, InterfaceSource, Sources, WorldSource};
+use text_trees::MemberTree;
+use text_types::{Interfaces, Scope, Text, Types, members_of, no_docs, stability_of, string_of};
+use wit_model::{Interface, InterfaceId, PackageId, Stability, TypeOwner};
+
+fn next(interfaces: &Interfaces) -> Result<u32, Fault> {
+    match u32::try_from(interfaces.list.len()) {
+        Ok(number) => Ok(number),
+        Err(_) => Err(Fault::Size),
+    }
+}
+
+/// The text of this number.
+pub(crate) fn text_of<'t>(sources: &Sources<'t>, number: u32) -> Text<'t> {
+    Text {
+        number,
+        text: sources.text(number),
+    }
+}
+
+/// Makes an interface of the texts.
+pub(crate) fn add_interface<'t>(
+    alloc: Global,
+    sources: &Sources<'t>,
+    interfaces: &mut Interfaces,
+    types: &mut Types,
+    source: &InterfaceSource<'t>,
+) -> Result<u32, Fault>
+    requires { IsIndex sources.now }
+{
+    let number = next(interfaces)?;
+    let text = text_of(sources, source.text);
+    let owner = TypeOwner::Interface(InterfaceId(number));
+    let mut scope = Scope::new(alloc, sources.hash, text, source.package, owner);
+    let members = members_of(
+        alloc,
+        sources,
+        interfaces,
+        &mut scope,
+        types,
+        source.members.as_slice(),
+    )?;
+    interfaces.list.push(Interface {
+        name: Some(string_of(alloc, &text, source.name)?),
+        types: members.types,
+        functions: members.functions,
+        docs: no_docs(),
+        stability: stability_of(alloc, &text, source.gates)?,
+        package: Some(PackageId(source.package)),
+    })?;
+    Ok(number)
+}
+
+/// Makes an interface that stands in a world.
+pub(crate) fn add_inline<'t>(
+    alloc: Global,
+    sources: &Sources<'t>,
+    interfaces: &mut Interfaces,
+    types: &mut Types,
+    world: &WorldSource<'t>,
+    members: &'t [MemberTree],
+) -> Result<u32, Fault>
+    requires { IsIndex sources.now }
+    ensures grows { Grows types.old types.new }
+{
+    let number = next(interfaces)?;
+    let text = text_of(sources, world.text);
+    let owner = TypeOwner::Interface(InterfaceId(number));
+    let mut scope = Scope::new(alloc, sources.hash, text, world.package, owner);
+    let members = members_of(alloc, sources, interfaces, &mut scope, types, members)?;
+    interfaces.list.push(Interface {
+        name: None,
+        types: members.types,
+        functions: members.functions,
+        docs: no_docs(),
+        stability: Stability::Unknown,
+        package: Some(PackageId(world.package)),
+    })?;
+    Ok(number)
+}
