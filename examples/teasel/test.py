@@ -124,6 +124,57 @@ class Room(unittest.TestCase):
         return file
 
 
+class Texts(Room):
+    """WIT text in the place of a package."""
+
+    def test_a_text_is_its_package(self):
+        for path in CLOCK, SERVICES:
+            text = path.with_suffix(".wit")
+            self.assertEqual(self.answer("wasm", text), path.read_bytes())
+            for word in "text", "json", "wasm":
+                self.assertEqual(self.answer(word, text), self.answer(word, path))
+                self.assertEqual(self.answer(word, stdin=text.read_bytes()), self.answer(word, path))
+            self.assertEqual(self.answer("diff", text, path), b"")
+            self.assertEqual(self.answer("kind", text), f"{text}: package\n".encode())
+            self.assertEqual(self.answer("check", text).split(b": ", 1)[1], self.answer("check", path).split(b": ", 1)[1])
+        self.assertEqual(self.answer("embed", STRIPPED, CLOCK.with_suffix(".wit")), self.answer("embed", STRIPPED, CLOCK))
+
+    def test_a_text_that_is_typed(self):
+        bytes_ = self.answer("wasm", stdin=b"package a:b; interface i { f: func(); }")
+        self.assertEqual(self.answer("text", stdin=bytes_), b"package a:b;\n\ninterface i {\n  f: func();\n}\n\n")
+
+    def test_a_text_is_written_in_one_way(self):
+        text = b"// a\n@since(version = 1.0.0)\ninterface i {}\n"
+        self.refused("standard input: line 2, column 1: expected `package`", "@since(version = 1.0.0)\n  ^", "text", stdin=text)
+        text = b"/// a\npackage %a : b@1.0.0-rc.1 ;\ninterface %bool{type t=own<r>;f:func(a:own<r>,)->r;resource r{}}"
+        wanted = b"package a:b@1.0.0-rc.1;\n\ninterface %bool {\n  resource r;\n\n  type t = own<r>;\n\n  f: func(a: r) -> r;\n}\n\n"
+        self.assertEqual(self.answer("text", stdin=text), wanted)
+
+    def test_golden_texts(self):
+        """The texts of packages without gates that the golden tests have are read: written again, they have the same lines, in another order at most."""
+        golden = (TOP.parent / "crates/cases/stdout").read_text().splitlines()
+        unquoted = re.compile(r"\\u\{([0-9a-f]+)\}|\\(.)")
+        ends = {"n": "\n", "r": "\r", "t": "\t", "0": "\0"}
+        count = 0
+        for line in golden:
+            if not line.startswith('text "package ') or re.search(r"\\npackage |[\w-]+:%?[\w-]+/|@since|@unstable", line):
+                continue
+            text = unquoted.sub(lambda it: chr(int(it[1], 16)) if it[1] else ends.get(it[2], it[2]), line[6:-1])
+            bare = [it for it in text.splitlines() if not it.strip().startswith("///")]
+            if any(it.lstrip("%").startswith(("interface ", "world ")) for it in bare):
+                written = self.answer("text", stdin=self.answer("wasm", stdin=text.encode())).decode()
+                self.assertEqual(sorted(written.splitlines()), sorted(bare), text)
+                count += 1
+        self.assertGreater(count, 200)
+
+    def test_packages_of_one_text(self):
+        text = b"package a:b; world w { import c:d/i; export f: func(); } package c:d { interface i { use j.{t}; f: func() -> t; } interface j { type t = u8; } }"
+        file = self.store("both.wit", text)
+        wanted = b"package a:b;\n\nworld w {\n  import c:d/j;\n  import c:d/i;\n\n  export f: func();\n}\n"
+        self.assertEqual(self.answer("text", file), wanted)
+        self.assertEqual(self.answer("compat", file, "-w", "w"), b"ok   w\n")
+
+
 class Misuse(Room):
     def test_no_word(self):
         self.refused("there is no word", "`teasel help` lists the words")
@@ -218,11 +269,9 @@ class Inputs(Room):
             self.refused("standard input: the file is empty", "", word)
 
     def test_what_is_no_webassembly(self):
-        wit, wat = "make it binary by `wasm-tools component wit -w`", "make it binary by `wasm-tools parse`"
+        wat = "make it binary by `wasm-tools parse`"
         for data, message, hint in (
-            (CLOCK.with_suffix(".wit").read_bytes(), "it is WIT text, which isn't read yet", wit),
-            (b"\n  // a comment\npackage a:b;\n", "it is WIT text, which isn't read yet", wit),
-            (b"interface i {}\n", "it is WIT text, which isn't read yet", wit),
+            (b"package a:b; // caf\xe9\n", "it is WIT text that isn't UTF-8", "write it as UTF-8"),
             (b"(module)", "it is WAT text", wat),
             (b"\n(component)\n", "it is WAT text", wat),
             (b"\x1f\x8b\x08" + bytes(20), "it is compressed (gzip)", "decompress it first"),
@@ -235,6 +284,29 @@ class Inputs(Room):
                 self.refused(f"given: {message}", hint, *words)
             self.refused(f"given: {message}", hint, "embed", STRIPPED, file)
             self.assertEqual(self.answer("kind", file, status=1), b"given: unknown\n")
+
+    def test_texts_that_are_refused(self):
+        for text, place, message, line, marks in (
+            ("interface i {}\n", "line 1, column 1", "expected `package`", "interface i {}", "^"),
+            ("\n  // é\npackage a:b;\n\ninterface i {\n\tf: func() -> ;\n}\n", "line 6, column 15", "expected a type", "\tf: func() -> ;", "\t             ^"),
+            ("package a:b;\ninterface i {\n  f: func(x: lst);\n}\n", "line 3, column 14", "there is no type of this name here", "  f: func(x: lst);", "             ^^^"),
+            ("package a:b; interface i { use c:d/e.{t}; }", "line 1, column 32", "no text has this package", None, " " * 31 + "^^^"),
+            ("package a:b; interface i { use j.{t}; }", "line 1, column 32", "the package has no interface of this name", None, " " * 31 + "^"),
+            ("package a:b; interface i { type t = u8; type t = u8; }", "line 1, column 46", "the name is taken", None, " " * 45 + "^"),
+            ("package a:b; interface i { type t = option<t>; }", "line 1, column 44", "what has this name needs itself", None, " " * 43 + "^"),
+            ("package a:b; interface i { type t = borrow<u>; type u = u8; }", "line 1, column 44", "the type of this name is no resource", None, " " * 43 + "^"),
+            ("package a:b; interface i { type t = list<u8, 0>; }", "line 1, column 46", "a length is 1 to 4294967295", None, " " * 45 + "^"),
+            ("package a:b; interface ï {}", "line 1, column 24", "no token begins here", None, " " * 23 + "^"),
+            ("package a:b;\r\ninterface i {\r\n  f func();\r\n}\r\n", "line 3, column 5", "expected `:`", "  f func();", "    ^"),
+        ):
+            file = self.store("given.wit", text.encode())
+            hint = f"{text if line is None else line}\n  {marks}"
+            for words in ["text", file], ["json", file], ["wasm", file, "-o", "new.wasm"], ["strip", file], ["compat", file, "-w", "a"], ["diff", CLOCK, file]:
+                self.refused(f"given.wit: {place}: {message}", hint, *words)
+            self.refused(f"standard input: {place}: {message}", hint, "wasm", stdin=text.encode())
+            shown = self.answer("check", file, status=1).decode()
+            self.assertEqual(shown, f"no   given.wit: {place}: {message}\n" + "".join(f"       {it}\n" for it in hint.split("\n  ", 1)))
+            self.assertEqual(self.answer("kind", file, status=1), b"given.wit: unknown\n")
 
     def test_each_kind_in_the_place_of_another(self):
         world = self.store("world.wasm", forms.world_in(MODULE.read_bytes(), "component-type:clock"))
@@ -580,11 +652,12 @@ class Answers(Room):
         self.assertEqual(self.answer("kind", "-", stdin=CLOCK.read_bytes()), b"standard input: package\n")
 
     def test_checks(self):
-        wit = self.store("clock.wit", CLOCK.with_suffix(".wit").read_bytes())
+        wit = self.store("other.wit", b"package a:b;\ninterface i {\n  f: func(x: t);\n}\n")
         shown = self.answer("check", CLOCK, wit, MODULE, status=1).decode().splitlines()
-        self.assertEqual([it[:4] for it in shown], ["ok  ", "no  ", "    ", "ok  "])
+        self.assertEqual([it[:4] for it in shown], ["ok  ", "no  ", "    ", "    ", "ok  "])
         self.assertIn("worlds: clock", shown[0])
-        self.assertEqual(shown[1:3], ["no   clock.wit: it is WIT text, which isn't read yet", "       make it binary by `wasm-tools component wit -w`"])
+        wanted = ["no   other.wit: line 3, column 14: there is no type of this name here", "         f: func(x: t);", " " * 20 + "^"]
+        self.assertEqual(shown[1:4], wanted)
         self.refused("nowhere: there is no such file", "", "check", CLOCK, "nowhere")
         self.assertEqual(self.answer("check", "-q", CLOCK, wit, status=1), b"")
         self.assertEqual(self.answer("check", "--quiet", CLOCK), b"")

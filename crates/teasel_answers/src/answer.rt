@@ -16,7 +16,8 @@ use crate::kinds::kinds;
 use crate::sections::{refusal_of, sections};
 use std::alloc::Global;
 use teasel_files::{Answer, Input};
-use teasel_messages::{Refusal, foreign, told};
+use teasel_messages::{Refusal, told};
+use teasel_texts::unmade;
 use teasel_words::{Asked, Word, completion, man, shell_named, usage, usage_of, word_named};
 use witc_within::Within;
 
@@ -34,7 +35,7 @@ pub fn made(
     ensures refused { IfErr result (RefusedFor (ShowsNothing form (given_of asked.now).kind input.now)) }
 {
     if !input.whole {
-        return Err(foreign(alloc, input.name, &input.bytes));
+        return Err(unmade(alloc, input));
     }
     match shown(alloc, form, asked.kind, &input.bytes) {
         Ok(Within::Text(text)) => Ok(text),

@@ -14,7 +14,8 @@ use crate::report::{Report, Value, both, put_object};
 use crate::sections::refusal_of;
 use std::alloc::{AllocError, Global};
 use teasel_files::{Answer, Input};
-use teasel_messages::{Refusal, about, foreign, is_module, push, push_mark};
+use teasel_messages::{Refusal, about, is_module, push, push_mark};
+use teasel_texts::unmade;
 use wit_component::Error;
 use witc_texts::strip;
 
@@ -129,7 +130,7 @@ fn check(alloc: Global, input: &Input<'_>) -> Result<Checked, AllocError>
     ensures { IfOk result (λ c. IsChecked input.now c.ok) }
 {
     if !input.whole {
-        return refused(foreign(alloc, input.name, &input.bytes));
+        return refused(unmade(alloc, input));
     }
     match summary(alloc, &input.bytes) {
         Ok(words) => Ok(Checked {
@@ -151,7 +152,9 @@ fn push_checked(text: &mut String, checked: &Checked, color: bool) -> Result<(),
     push_mark(text, checked.ok, color)?;
     push(text, &[checked.words.as_str(), "\n"])?;
     if !checked.hint.is_empty() {
-        push(text, &["       ", checked.hint.as_str(), "\n"])?;
+        for line in checked.hint.split('\n') {
+            push(text, &["       ", line, "\n"])?;
+        }
     }
     Ok(())
 }

@@ -12,7 +12,8 @@ use crate::report::{Report, Value, both, put_object};
 use crate::sections::refusal_of;
 use std::alloc::{AllocError, Global};
 use teasel_files::{Answer, Input};
-use teasel_messages::{Refusal, foreign, of_error, push, push_mark};
+use teasel_messages::{Refusal, of_error, push, push_mark};
+use teasel_texts::unmade;
 use teasel_words::Asked;
 use wit_component::Error;
 use witc_refusals::message;
@@ -139,7 +140,7 @@ pub fn compared(
     ensures refused { IfErr result (RefusedFor (ComparesNothing (given_of asked.now) input.now)) }
 {
     if !input.whole {
-        return Err(foreign(alloc, input.name, &input.bytes));
+        return Err(unmade(alloc, input));
     }
     if asked.worlds.is_empty() {
         return Err(no_choice(alloc, input.name, &input.bytes));

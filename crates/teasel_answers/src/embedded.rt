@@ -13,7 +13,8 @@ use crate::names::{Names, package_names};
 use crate::sections::refusal_of;
 use std::alloc::Global;
 use teasel_files::{Answer, Input};
-use teasel_messages::{Refusal, foreign, is_module, of_error, told};
+use teasel_messages::{Refusal, is_module, of_error, told};
+use teasel_texts::unmade;
 use teasel_words::{Asked, Encoding};
 use wit_component::{Error, StringEncoding};
 use witc_refusals::message;
@@ -38,7 +39,7 @@ pub fn stripped(alloc: Global, input: &Input<'_>) -> Result<Answer, Refusal>
     ensures refused { IfErr result (RefusedFor (StripsNothing input.now)) }
 {
     if !input.whole {
-        return Err(foreign(alloc, input.name, &input.bytes));
+        return Err(unmade(alloc, input));
     }
     match strip(alloc, &input.bytes) {
         Ok(Some(text)) => Ok(answered(text)),
@@ -105,7 +106,7 @@ fn package_of(alloc: Global, input: &Input<'_>) -> Result<Vec<u8>, Refusal>
     ensures refused { IfErr result (RefusedFor (BringsNothing input.now)) }
 {
     if !input.whole {
-        return Err(foreign(alloc, input.name, &input.bytes));
+        return Err(unmade(alloc, input));
     }
     if is_module(&input.bytes) {
         return Err(told(
@@ -171,7 +172,7 @@ pub fn embedded(
     ensures refused { IfErr result (RefusedFor (EmbedsNothing (given_of asked.now) «module».now «package».now)) }
 {
     if !module.whole {
-        return Err(foreign(alloc, module.name, &module.bytes));
+        return Err(unmade(alloc, module));
     }
     if !is_module(&module.bytes) {
         return Err(told(

@@ -12,7 +12,8 @@ use crate::names::world_name;
 use crate::report::{Report, Value, put_object};
 use std::alloc::{AllocError, Global};
 use teasel_files::{Answer, Input};
-use teasel_messages::{Refusal, foreign, is_module, of_error};
+use teasel_messages::{Refusal, is_module, of_error};
+use teasel_texts::unmade;
 use teasel_words::Asked;
 use wit_component::Error;
 use wit_metadata::{carried_in, sections_of};
@@ -153,7 +154,7 @@ pub fn sections(alloc: Global, asked: &Asked<'_>, input: &Input<'_>) -> Result<A
     ensures refused { IfErr result (RefusedFor (ListsNothing input.now)) }
 {
     if !input.whole {
-        return Err(foreign(alloc, input.name, &input.bytes));
+        return Err(unmade(alloc, input));
     }
     match all_sections(alloc, &input.bytes) {
         Ok(found) => told(alloc, &found, asked.json),

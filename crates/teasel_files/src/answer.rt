@@ -2,7 +2,7 @@
 
 ghost use Rattle.std.specs.Prelude.{◌≡◌};
 
-/// What is read of a file: its bytes; or, where it is no WebAssembly, some of the first ones.
+/// What is read of a file: its bytes; or, where it is neither WebAssembly nor WIT text, some of the first ones.
 #[derive(Drop)]
 pub struct Input<'a> {
     pub name: &'a str,

@@ -123,7 +123,17 @@ pub fn deliver<S: Store, W: Write>(
     }
 }
 
-/// Writes a message, and what to do on a second line.
+/// Writes lines, each behind two spaces.
+fn write_hint<E: Write>(errors: &mut E, hint: &str) -> IoResult<()> {
+    for line in hint.split('\n') {
+        errors.write_all(b"  ")?;
+        errors.write_all(line.as_bytes())?;
+        errors.write_all(b"\n")?;
+    }
+    Ok(())
+}
+
+/// Writes a message, and below it what to do.
 fn write_message<'a, E: Write>(
     errors: &mut E,
     color: bool,
@@ -135,13 +145,11 @@ fn write_message<'a, E: Write>(
     } else {
         "teasel: "
     };
-    let (gap, end) = if hint.is_empty() {
-        ("", "")
-    } else {
-        ("  ", "\n")
-    };
-    for part in [name, message, "\n", gap, hint, end] {
+    for part in [name, message, "\n"] {
         errors.write_all(part.as_bytes())?;
+    }
+    if !hint.is_empty() {
+        write_hint(errors, hint)?;
     }
     errors.flush()
 }

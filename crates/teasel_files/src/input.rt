@@ -6,9 +6,9 @@ ghost use Rattle.teasel_files.specs.Readings.{IsReading, ReadsWhole, may_begin a
 
 use std::alloc::Global;
 use std::io::{ErrorKind, Read};
-use teasel_messages::{ReadFault, has_preamble, is_wasm};
+use teasel_messages::{ReadFault, has_preamble, is_text, is_wasm, may_be_text};
 
-/// The bytes of a file; or, where it doesn't begin as WebAssembly does or has less than eight, some of the first ones.
+/// The bytes of a file; or, where it begins neither as WebAssembly does, with eight bytes at least, nor as WIT text does, some of the first ones.
 #[derive(Drop)]
 pub struct Content {
     pub bytes: Vec<u8>,
@@ -26,7 +26,7 @@ const MOST_CALLS: u64 = 4_294_967_296;
 enum Reading {
     More,
     Ended,
-    /// It doesn't begin as WebAssembly does.
+    /// It begins neither as WebAssembly does nor as WIT text does.
     Foreign,
 }
 
@@ -35,6 +35,11 @@ fn may_be_wasm(bytes: &[u8]) -> bool
     ensures { result ≡ may_begin_so bytes.now }
 {
     b"\0asm".starts_with(bytes) || is_wasm(bytes)
+}
+
+/// The first bytes, by which it is decided whether more is read.
+fn front(bytes: &[u8]) -> &[u8] {
+    bytes.split_at(bytes.len().min(ROOM)).0
 }
 
 /// Appends what one call gives, by way of this room. A call that was interrupted gives nothing.
@@ -51,7 +56,7 @@ fn read_more<R: Read>(
     match reader.read(room) {
         Ok(count) => {
             bytes.extend_from_slice(&room[..count])?;
-            if !may_be_wasm(bytes) {
+            if !may_be_wasm(bytes) && !may_be_text(front(bytes)) {
                 Ok(Reading::Foreign)
             } else if bytes.len() as u64 > most {
                 Err(ReadFault::TooLong)
@@ -78,8 +83,8 @@ fn room(alloc: Global) -> Result<Vec<u8>, ReadFault>
     Ok(vec![in alloc; 0u8; ROOM]?)
 }
 
-/// All that the reader gives up to its end; or, where it doesn't begin as WebAssembly does, what came of the first calls. A read that was interrupted is
-/// tried again.
+/// All that the reader gives up to its end; or, where it begins neither as WebAssembly does nor as WIT text does, what came of the first calls. A read that was
+/// interrupted is tried again.
 pub fn read_within<R: Read>(alloc: Global, reader: &mut R, most: u64) -> Result<Content, ReadFault>
     ensures { IfOk result (IsContent (ReadsWhole (R.remaining reader.old) (R.remaining reader.new))) }
 {
@@ -89,7 +94,7 @@ pub fn read_within<R: Read>(alloc: Global, reader: &mut R, most: u64) -> Result<
         match read_more(reader, &mut room, &mut bytes, most)? {
             Reading::More => {}
             Reading::Ended => {
-                let whole = has_preamble(&bytes);
+                let whole = has_preamble(&bytes) || is_text(&bytes);
                 return Ok(Content { bytes, whole });
             }
             Reading::Foreign => return Ok(Content {

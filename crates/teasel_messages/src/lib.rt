@@ -10,7 +10,9 @@ mod refusal;
 
 pub use faults::{ReadFault, WriteFault, unread, unwritten};
 pub use lines::{push, push_mark};
-pub use looks::{Look, has_preamble, is_component, is_module, is_wasm, look_of};
+pub use looks::{
+    Look, has_preamble, is_component, is_module, is_text, is_wasm, look_of, may_be_text,
+};
 pub use messages::{about, foreign, of_error, plain, told};
 pub use misuse::of_misuse;
 pub use refusal::Refusal;

@@ -101,10 +101,7 @@ pub fn foreign(alloc: Global, name: &str, head: &[u8]) -> Refusal {
         Look::Gzip => ("it is compressed (gzip)", "decompress it first"),
         Look::Zip => ("it is a zip archive", "unpack it first"),
         Look::Wat => ("it is WAT text", "make it binary by `wasm-tools parse`"),
-        Look::Wit => (
-            "it is WIT text, which isn't read yet",
-            "make it binary by `wasm-tools component wit -w`",
-        ),
+        Look::Wit => ("it is WIT text that isn't UTF-8", "write it as UTF-8"),
         Look::Other => ("it is no WebAssembly file", ""),
     };
     told(alloc, name, words, hint)

@@ -1,6 +1,6 @@
 -- The status of what a run comes to, and why it stops.
 use Rattle.std.proofs.lemmas.Bool.{leb-true}
-use Rattle.std.proofs.Common.{◌≡◌, ◌≤◌, ◌&&◌, ◌||◌, IfErr, IfOk, OnErr, arith, suc, ap, true, false, refl, ℕ, Bool, List, [], ◌∷◌, length, nat_le, Option, Result, Ok, Err, if◌then◌else◌}
+use Rattle.std.proofs.Common.{◌≡◌, ◌≤◌, ◌&&◌, ◌||◌, ◌∙◌, IfErr, IfOk, OnErr, arith, suc, ap, true, false, refl, ℕ, Bool, List, [], ◌∷◌, length, nat_le, Option, Result, Ok, Err, if◌then◌else◌}
 use Rattle.teasel_answers.specs.Refusals.{HasItsFiles, takes}
 use Rattle.teasel_files.specs.Contents.{AreRead, files_of, has_files, or_input}
 use Rattle.teasel_files.specs.declared.{answer.Input.Input, setting.Setting.Setting}
@@ -9,7 +9,8 @@ use Rattle.teasel_words.specs.{Given.Given, Spelling.Spells, Spelling.fits, Tabl
 use Rattle.teasel_words.specs.declared.table.Word.{Word}
 use Rattle.teasel_words.specs.declared.table.Word.TheVariants as words
 use Rattle.teasel_messages.proofs.ReasonLaws.{refused-by}
-use Rattle.teasel_run.specs.Runs.{Carries, Runs, Stops, stopped}
+use Rattle.teasel_texts.specs.Made.{AreTaken}
+use Rattle.teasel_run.specs.Runs.{AreInputs, Carries, Runs, Stops, stopped}
 
 module _ {State : Type 0} (holds : State → Text → List ℕ → Type 0) (fails : State → Text → Type 0) (puts : State → Text → List ℕ → State → Type 0) (s : Setting)
     (words_ : List Text) (old new : State) (before after : Option (List ℕ)) where
@@ -27,6 +28,13 @@ as-many holds [] [] h = refl
 as-many holds [] (i ∷ is) h = absurd h
 as-many holds (name ∷ names) [] h = absurd h
 as-many holds (name ∷ names) (i ∷ is) h = ap suc (as-many holds names is h.1)
+
+-- there is an input for each of those in whose place they stand
+pub taken-as-many : (is taken : List Input) → AreTaken is taken → length taken ≡ length is
+taken-as-many [] [] h = refl
+taken-as-many [] (i ∷ is) h = absurd h
+taken-as-many (i ∷ is) [] h = absurd h
+taken-as-many (i ∷ is) (t ∷ taken) h = ap suc (taken-as-many is taken h.1)
 
 parts : (a b : Bool) (A B : Type 0) → (a ≡ true → A) → (b ≡ true → B) → (a && b) ≡ true → A × B
 parts true b A B f g h = (f refl, g h)
@@ -74,6 +82,7 @@ has-files-so true w files is asked = let wrong : ⊥ = cc in absurd wrong
 has-files-so false w files is asked = so-many w files is
 
 -- what the words spell has as many inputs as its word takes
-pub has-its-files : (holds : Text → List ℕ → Type 0) (g : Given) (is : List Input) → fits g ≡ true → AreRead holds (files_of g) is → HasItsFiles g is
+pub has-its-files : (holds : Text → List ℕ → Type 0) (g : Given) (is : List Input) → fits g ≡ true → AreInputs holds (files_of g) is → HasItsFiles g is
 unfolding fits
-has-its-files holds g is fit read asked = rw (as-many holds (files_of g) is read) (has-files-so g.help g.word_ g.files fit asked)
+has-its-files holds g is fit inputs asked =
+    rw (taken-as-many inputs.files is inputs.taken ∙ as-many holds (files_of g) inputs.files inputs.read) (has-files-so g.help g.word_ g.files fit asked)

@@ -6,6 +6,7 @@ use Rattle.teasel_answers.specs.{Answers.Answers, Refusals.AnswersNothing}
 use Rattle.teasel_files.specs.{Contents.AreRead, Contents.files_of, Delivered.IsDelivered}
 use Rattle.teasel_files.specs.declared.{answer.Answer.Answer, answer.Input.Input, setting.Setting.Setting}
 use Rattle.teasel_messages.specs.{Reasons.RefusedFor, declared.refusal.Refusal.Refusal}
+use Rattle.teasel_texts.specs.Made.{AreTaken}
 use Rattle.teasel_words.specs.{Given.Given, Spelling.IsMisspelt, Spelling.Spells, Table.Text, Table.is_same}
 use Rattle.teasel_words.specs.declared.choices.Color.{Color}
 use Rattle.teasel_words.specs.declared.choices.Color.TheVariants as colors
@@ -21,11 +22,17 @@ colored_by colors.Always output s = true
 colored_by colors.Never output s = false
 colored_by colors.Auto output s = s.color && (s.out_terminal && is_none output)
 
+-- The inputs are what is read of the files of these names, with the package that it declares in the place of each text.
+pub record AreInputs (holds : Text → List ℕ → Type 0) (names : List Text) (inputs : List Input) : Type 0 where
+  pub files : List Input
+  pub read : AreRead holds names files
+  pub taken : AreTaken files inputs
+
 -- What is asked for is answered: its files are read, the word answers to them, yes or no, and the answer goes where it is to go.
 pub record Carries {State : Type 0} (holds : State → Text → List ℕ → Type 0) (puts : State → Text → List ℕ → State → Type 0) (s : Setting) (g : Given)
     (old new : State) (before after : Option (List ℕ)) (fits : Bool) : Type 0 where
   pub inputs : List Input
-  pub read : AreRead (holds old) (files_of g) inputs
+  pub read : AreInputs (holds old) (files_of g) inputs
   pub answer : Answer
   pub answers : Answers g (colored_by g.color g.output s) inputs answer
   pub is : answer.yes ≡ fits
@@ -47,8 +54,8 @@ pub data Stops {State : Type 0} (holds : State → Text → List ℕ → Type 0)
   nameless : HasNameless g → Stops holds fails s g old
   named_twice : 1 < count_by is_input g.files → Stops holds fails s g old
   unread : Any (fails old) (files_of g) → Stops holds fails s g old
-  unanswered : (inputs : List Input) → AreRead (holds old) (files_of g) inputs → AnswersNothing g inputs → Stops holds fails s g old
-  unwritten : (inputs : List Input) (a : Answer) → AreRead (holds old) (files_of g) inputs → Answers g (colored_by g.color g.output s) inputs a
+  unanswered : (inputs : List Input) → AreInputs (holds old) (files_of g) inputs → AnswersNothing g inputs → Stops holds fails s g old
+  unwritten : (inputs : List Input) (a : Answer) → AreInputs (holds old) (files_of g) inputs → Answers g (colored_by g.color g.output s) inputs a
       → Stops holds fails s g old
 
 -- a word is no text

@@ -2,14 +2,16 @@
 
 ghost use Rattle.std.specs.Prelude.{◌≡◌, ◌≤◌, ◌<◌, ◌⊎◌, Any, true, count_by, IfErr, IfNone, IfOk, IfSome, OnErr};
 ghost use Rattle.teasel_messages.specs.Reasons.{RefusedFor};
-ghost use Rattle.teasel_run.specs.Runs.{Carries, HasNameless, IsNoText, Runs, Stops, bytes_of, colored_by, is_input, status_by};
+ghost use Rattle.teasel_files.specs.Contents.{files_of};
+ghost use Rattle.teasel_run.specs.Runs.{AreInputs, Carries, HasNameless, IsNoText, Runs, Stops, bytes_of, colored_by, is_input, status_by};
 ghost use Rattle.teasel_words.specs.{Given.given_of, Given.text_if, Given.texts_of as texts_in, Spelling.fits};
 
 use std::alloc::{AllocError, Global};
 use std::io::Write;
 use teasel_answers::answer_of;
-use teasel_files::{Answer, Setting, Store, deliver, note, read_inputs, tell};
+use teasel_files::{Answer, Input, Setting, Store, deliver, note, read_inputs, tell};
 use teasel_messages::{Refusal, of_misuse, plain};
+use teasel_texts::made_of_texts;
 use teasel_words::{Asked, Color, read_words};
 
 /// The exit status where the work is done, or the answer is yes.
@@ -85,6 +87,22 @@ fn note_made<E: Write>(errors: &mut E, setting: Setting, answer: &Answer) {
     }
 }
 
+/// What is read of the files that are asked for, with the package that it declares in the place of each text.
+fn take_inputs<'a, S: Store, E: Write>(
+    alloc: Global,
+    asked: &Asked<'a>,
+    setting: Setting,
+    store: &mut S,
+    errors: &mut E,
+) -> Result<Vec<Input<'a>>, Refusal>
+    ensures inputs { IfOk result (λ inputs. AreInputs (S.holds (S.state store.old)) (files_of (given_of asked.now)) inputs.items) }
+    ensures refused { IfErr result (RefusedFor (Any (S.fails (S.state store.old)) (files_of (given_of asked.now)))) }
+    ensures kept { S.state store.new ≡ S.state store.old }
+{
+    let files = read_inputs(alloc, asked, setting, store, errors)?;
+    Ok(made_of_texts(alloc, files)?)
+}
+
 /// Carries out what is asked for, and returns whether the answer is yes.
 fn carry_out<S: Store, W: Write, E: Write>(
     alloc: Global,
@@ -101,7 +119,7 @@ fn carry_out<S: Store, W: Write, E: Write>(
     ensures stops { IfErr result (RefusedFor (Stops S.holds S.fails setting (given_of asked.now) (S.state store.old))) }
 {
     check_names(alloc, asked)?;
-    let inputs = read_inputs(alloc, asked, setting, store, errors)?;
+    let inputs = take_inputs(alloc, asked, setting, store, errors)?;
     let color = is_colored(asked.color, asked.output, setting);
     let answer = answer_of(alloc, asked, &inputs, color)?;
     note_made(errors, setting, &answer);

@@ -12,8 +12,8 @@ pub returns-clause-embeds : goal.returns-clause-embeds
 returns-clause-embeds c =
     let g = given_of c.args.asked.now in
     let m = c.args.«module».now in
-    if-ok (Attaches g m c.deref-3.result.now) (Embeds g m c.args.«package».now)
-    (λ a is. record { whole = c.if-not-module.false; bytes = c.in_ok-bytes.bytes; is = c.in_ok-bytes.ensures.shows; attaches = subst (λ (xs : List ℕ). Attaches g m xs a) c.deref-3.ensures.value is })
+    if-ok (Attaches g m c.deref-2.result.now) (Embeds g m c.args.«package».now)
+    (λ a is. record { whole = c.if-not-module.false; bytes = c.in_ok-bytes.bytes; is = c.in_ok-bytes.ensures.shows; attaches = subst (λ (xs : List ℕ). Attaches g m xs a) c.deref-2.ensures.value is })
     c.attached.result c.attached.ensures.attaches
 
 pub returns-in_err-bytes-clause-refused : goal.returns-in_err-bytes-clause-refused
@@ -25,6 +25,6 @@ pub returns-clause-refused : goal.returns-clause-refused
 returns-clause-refused c =
     let g = given_of c.args.asked.now in
     let m = c.args.«module».now in
-    err-said (RefusedFor (AttachesNothing g m c.deref-3.result.now)) (RefusedFor (EmbedsNothing g m c.args.«package».now))
+    err-said (RefusedFor (AttachesNothing g m c.deref-2.result.now)) (RefusedFor (EmbedsNothing g m c.args.«package».now))
     (λ (r : Refusal) is. refused-by _ _ _ (λ none. nothing_attached c.in_ok-bytes.bytes c.in_ok-bytes.ensures.shows
-    (subst (λ (xs : List ℕ). AttachesNothing g m xs) c.deref-3.ensures.value none)) is) c.attached.result c.attached.ensures.refused
+    (subst (λ (xs : List ℕ). AttachesNothing g m xs) c.deref-2.ensures.value none)) is) c.attached.result c.attached.ensures.refused

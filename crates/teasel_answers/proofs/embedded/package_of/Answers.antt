@@ -6,4 +6,4 @@ use Rattle.teasel_answers.proofs.embedded.package_of.Goals as goal
 
 pub returns-in-Err-clause-refused : goal.returns-in-Err-clause-refused
 returns-in-Err-clause-refused c = refused-by _ _ _ (λ other. no_bytes (refused c.in-Err.error other
-    (subst (λ (xs : List ℕ). RefusesShown Wasm None xs c.in-Err.error) c.deref-3.ensures.value c.in-Err.ensures.refused))) c.refusal_of.ensures
+    (subst (λ (xs : List ℕ). RefusesShown Wasm None xs c.in-Err.error) c.deref-2.ensures.value c.in-Err.ensures.refused))) c.refusal_of.ensures

@@ -4,4 +4,4 @@ use Rattle.teasel_messages.proofs.ReasonLaws.{refused-by}
 use Rattle.teasel_answers.proofs.sections.sections.Goals as goal
 
 pub returns-in-Err-clause-refused : goal.returns-in-Err-clause-refused
-returns-in-Err-clause-refused c = refused-by _ _ _ (λ other. no_list (subst HasNoList c.deref-2.ensures.value (c.in-Err.ensures other))) c.of_error.ensures
+returns-in-Err-clause-refused c = refused-by _ _ _ (λ other. no_list (subst HasNoList c.deref.ensures.value (c.in-Err.ensures other))) c.of_error.ensures
