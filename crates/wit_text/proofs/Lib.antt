@@ -1,3 +1,5 @@
+-- The characters since the last line feed, counted from the front. Serves places::column_behind.
+pub mod Columns
 -- A walk comes to its end: each step makes what is left smaller. Serves walk::put.
 pub mod Falling
 -- Paths as keys of maps. Serves externs::state_one, parts::add_new, walk::has, walk::put_one and 1 more.

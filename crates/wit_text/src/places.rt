@@ -1,8 +1,9 @@
 //! Places of a text, as lines and columns.
 
-ghost use Rattle.std.specs.Prelude.{◌≡◌, ◌+◌, ◌≤◌, ◌<◌, ◌^◌, count_by, length};
-ghost use Rattle.std.specs.List.{fold};
-ghost use Rattle.wit_text.specs.Places.{begins_character as begins_character_lem, column_of, is_line_feed, line_of, since_line_feed as since_lem};
+ghost use Rattle.std.specs.Prelude.{◌≡◌, ◌+◌, ◌<◌, ◌^◌, count_by, reverse};
+ghost use Rattle.std.specs.List.{take_while};
+ghost use Rattle.wit_text.specs.Places.{begins_character as begins_character_lem, column_of, is_in_line, is_line_feed, line_of};
+ghost use Rattle.wit_text.specs.Places.{since_line_feed as since_lem};
 
 fn begins_character(byte: u8) -> bool
     ensures { result ≡ begins_character_lem byte }
@@ -31,7 +32,7 @@ fn line_behind(before: &[u8]) -> usize
 }
 
 fn column_behind(before: &[u8]) -> usize
-    ensures { result ≡ fold since_lem 0 before.now + 1 }
+    ensures { result ≡ count_by begins_character_lem (take_while is_in_line (reverse before.now)) + 1 }
 {
     let mut count = 0usize;
     for byte in before {
