@@ -1,4 +1,6 @@
 """The calls that are measured, each on its shapes."""
+import ast
+
 import forms
 import shapes
 from programs import on_lines
@@ -45,6 +47,21 @@ class Maker:
     def on_bytes(self, make, encode, call):
         return lambda n: (["bytes ." + self.bytes_of(self.value(make, n), encode).hex()], call)
 
+    def text_of(self, value, call):
+        """The text that a call prints, as a word of a line."""
+        answer = on_lines(self.plain, ["resolve " + value, call])[1]
+        if not answer.startswith('text "'):
+            raise RuntimeError(f"no text: {answer[:80]}")
+        return "." + ast.literal_eval(answer[5:]).encode().hex()
+
+    def on_texts(self, make, own):
+        """The texts of the packages up to this one."""
+        def made(n):
+            value = self.value(make, n)
+            words = [self.text_of(value, f"print {number} 1 0") for number in range(own + 1)]
+            return [f"texts {len(words)} " + " ".join(words)], "read"
+        return made
+
     def module(self, sides):
         """A core module with a section for each world."""
         return forms.module([self.bytes_of(side, "metadata 0 8 0") for side in sides])
@@ -66,6 +83,7 @@ def rows(plain):
         out.append(Row("decode", name, title, maker.on_bytes(make, encode, "decode")))
         out.append(Row("print", name, title, maker.on_value(make, show), checks=1))
         out.append(Row("check", name, title, maker.on_value(make, "check"), has_plain=False))
+        out.append(Row("read_texts", name, title, maker.on_texts(make, own)))
     for name, (make, title) in shapes.WORLDS.items():
         encode = "metadata 0 8 0"
         out.append(Row("metadata::encode", name, title, maker.on_value(make, encode), checks=1))
@@ -82,7 +100,7 @@ def rows(plain):
     return sorted(out, key=lambda row: ORDER.index(row.call))
 
 
-ORDER = ["encode", "metadata::encode", "decode", "decode_world", "print", "semver_check", "same_sense", "check", "Bindgen::merge", "metadata::decode"]
+ORDER = ["encode", "metadata::encode", "decode", "decode_world", "print", "semver_check", "same_sense", "check", "read_texts", "Bindgen::merge", "metadata::decode"]
 
 
 def answers_for(row, n):

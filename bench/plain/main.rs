@@ -2,7 +2,7 @@
 //! hash maps, lists and strings of the standard library, and nothing else.
 //!
 //! It does less than the library where that is said: `decode` checks frames, forms, indexes, labels, names that stand twice and that views of an
-//! interface agree, and no other rule of validity. It knows no canonical names, no nested packages and no `check`.
+//! interface agree, and no other rule of validity. It knows no canonical names, no nested packages in what it prints, and no `check`.
 
 mod bound;
 mod collide;
@@ -10,11 +10,14 @@ mod compare;
 mod decode;
 mod encode;
 mod forms;
+mod lexer;
 mod map;
 mod merge;
 mod model;
 mod print;
 mod senses;
+mod texts;
+mod trees;
 mod words;
 
 use model::Resolve;
@@ -29,6 +32,8 @@ enum Answer {
     Bytes(Vec<u8>),
     Text(String),
     Resolved(u32, usize),
+    /// The package of each text, and how many types there are.
+    Packages(Vec<u32>, usize),
 }
 
 /// An answer, or why it is refused.
@@ -39,6 +44,7 @@ struct State {
     current: Option<Resolve>,
     other: Option<Resolve>,
     kept: Vec<u8>,
+    texts: Vec<String>,
 }
 
 impl State {
@@ -64,6 +70,15 @@ impl State {
                 Ok(left.map_or(Answer::Word("nothing"), Answer::Bytes))
             }
         }
+    }
+
+    /// The packages of the texts that were kept, which lines are asked on from now on.
+    fn on_texts(&mut self) -> Asked {
+        self.current = None;
+        let (r, mains) = texts::read(&self.texts)?;
+        let types = r.types.len();
+        self.current = Some(r);
+        Ok(Answer::Packages(mains, types))
     }
 
     fn on_current(&mut self, word: &str, t: &mut Tokens) -> Asked {
@@ -106,6 +121,11 @@ impl State {
                 self.kept = unhex(t.word());
                 ok
             }
+            "texts" => {
+                self.texts = t.list(Tokens::text);
+                ok
+            }
+            "read" => self.on_texts(),
             "decode" | "text" | "world-text" | "stripped" => self.on_bytes(word, &mut t),
             _ => self.on_current(word, &mut t),
         };
@@ -135,6 +155,14 @@ fn line_of(answer: &Answer, brief: bool) -> String {
         Answer::Word(word) => word.to_string(),
         Answer::Refused(why) => format!("refused {why}"),
         Answer::Resolved(own, types) => format!("resolved {own} {types}"),
+        Answer::Packages(mains, types) => {
+            let mut out = String::from("words");
+            for number in mains {
+                let _ = write!(out, " {number}");
+            }
+            let _ = write!(out, " {types}");
+            out
+        }
         Answer::Bytes(bytes) if brief => format!("bytes {}", bytes.len()),
         Answer::Text(text) if brief => format!("text {}", text.len()),
         Answer::Text(text) => format!("text {}", quoted(text)),

@@ -4,6 +4,7 @@ use case_words::Bad;
 use case_words::quoted::{put_bytes, put_text};
 use std::alloc::{AllocError, Global};
 use std::time::Duration;
+use text_names::Fault as TextFault;
 use wit_component::{Cause, EntryList, Error, Fault, StringEncoding};
 
 #[derive(Drop)]
@@ -21,6 +22,8 @@ pub enum Answer {
     Words(String),
     /// The number of what was decoded, and how many types its `Resolve` has.
     Decoded(u32, usize),
+    /// Why texts aren't read.
+    Misread(TextFault),
     /// Why bytes have no reading, and at which offset where that is asked.
     NoReading(Cause, Option<usize>),
     Fault(Fault),
@@ -42,6 +45,15 @@ impl From<Error> for Answer {
 impl From<AllocError> for Answer {
     fn from(_error: AllocError) -> Answer {
         Answer::Refused(Error::Memory)
+    }
+}
+
+impl From<TextFault> for Answer {
+    fn from(fault: TextFault) -> Answer {
+        match fault {
+            TextFault::Memory => Answer::Refused(Error::Memory),
+            other => Answer::Misread(other),
+        }
     }
 }
 
@@ -130,6 +142,7 @@ impl Answer {
             Answer::Encoding(encoding) => encoding_line(alloc, *encoding),
             Answer::Words(words) => format!(in alloc; "words{words}"),
             Answer::Decoded(number, types) => format!(in alloc; "resolved {number} {types}"),
+            Answer::Misread(fault) => format!(in alloc; "misread {fault}"),
             Answer::NoReading(cause, at) => cause_line(alloc, *cause, *at),
             Answer::Fault(fault) => fault_line(alloc, *fault),
             Answer::Rule(rule) => format!(in alloc; "rule {rule}"),

@@ -52,6 +52,7 @@ pub enum Setting {
     Resolve,
     Other,
     Bytes,
+    Texts,
     Brief,
     Full,
     Bind,
@@ -77,11 +78,13 @@ pub enum Asked {
     Marked(Marked),
     Validity(Validity),
     OnBytes(OnBytes),
+    /// The call on texts.
+    Read,
     Setting(Setting),
     OnAny(OnAny),
 }
 
-static WORDS: [(&[u8], Asked); 40] = [
+static WORDS: [(&[u8], Asked); 42] = [
     (b"encode", Asked::OnValid(OnValid::Encode)),
     (b"world", Asked::OnValid(OnValid::World)),
     (b"metadata", Asked::OnValid(OnValid::Metadata)),
@@ -108,9 +111,11 @@ static WORDS: [(&[u8], Asked); 40] = [
     (b"bound", Asked::OnBytes(OnBytes::Bound)),
     (b"stripped", Asked::OnBytes(OnBytes::Stripped)),
     (b"refused-section", Asked::OnBytes(OnBytes::RefusedSection)),
+    (b"read", Asked::Read),
     (b"resolve", Asked::Setting(Setting::Resolve)),
     (b"other", Asked::Setting(Setting::Other)),
     (b"bytes", Asked::Setting(Setting::Bytes)),
+    (b"texts", Asked::Setting(Setting::Texts)),
     (b"brief", Asked::Setting(Setting::Brief)),
     (b"full", Asked::Setting(Setting::Full)),
     (b"bind", Asked::Setting(Setting::Bind)),

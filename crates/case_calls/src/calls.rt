@@ -21,6 +21,7 @@ use wit_component::{
 use wit_encode::wrapped_world;
 use wit_json::{package_listing, world_listing};
 use wit_metadata::{encoding_in, stripped};
+use wit_text::read_texts;
 
 // ---- conditions
 
@@ -261,6 +262,32 @@ pub fn decode_package(alloc: Global, bytes: &[u8], shows_offset: bool) -> Answer
         Ok((resolve, package)) => Answer::Decoded(package.0, resolve.types.len()),
         Err(error) => unread(error, shows_offset),
     }
+}
+
+// The numbers of packages as words, and behind them how many types there are.
+fn numbers(alloc: Global, mains: &[PackageId], types: usize) -> Result<String, AllocError> {
+    let mut words = String::new(alloc);
+    for main in mains {
+        words.push_str(&format!(in alloc; " {}", main.0)?)?;
+    }
+    words.push_str(&format!(in alloc; " {types}")?)?;
+    Ok(words)
+}
+
+fn lent(alloc: Global, texts: &[String]) -> Result<Vec<&str>, AllocError> {
+    let mut all = Vec::with_capacity(alloc, texts.len())?;
+    for text in texts {
+        all.push(text.as_str())?;
+    }
+    Ok(all)
+}
+
+/// The packages of texts; and the number of the one that each text begins with, and how many types there are.
+pub fn packages_of_texts(alloc: Global, texts: &[String]) -> Result<(Resolve, Answer), Answer> {
+    let all = lent(alloc, texts)?;
+    let (resolve, mains) = read_texts(alloc, &all)?;
+    let words = numbers(alloc, &mains, resolve.types.len())?;
+    Ok((resolve, Answer::Words(words)))
 }
 
 /// A module without the sections that carry worlds.

@@ -35,6 +35,8 @@ pub struct Interpreter {
     marks: Marks,
     /// The bytes that were kept last.
     kept: Option<Vec<u8>>,
+    /// The texts that were kept last.
+    texts: Option<Vec<String>>,
     is_brief: bool,
 }
 
@@ -245,6 +247,7 @@ impl Interpreter {
             bound: None,
             marks: Marks { are_made: false },
             kept: None,
+            texts: None,
             is_brief: false,
         }
     }
@@ -274,6 +277,26 @@ impl Interpreter {
         words.end()?;
         self.kept = Some(bytes);
         Ok(Answer::Yes)
+    }
+
+    fn keep_texts(&mut self, words: &mut Words<'_>) -> Result<Answer, Answer> {
+        self.texts = None;
+        let texts = words.list();
+        words.end()?;
+        self.texts = Some(texts);
+        Ok(Answer::Yes)
+    }
+
+    // The `Resolve` of the texts that were kept is the one that lines are asked on from now on.
+    fn read_texts(&mut self, alloc: Global, words: &mut Words<'_>) -> Result<Answer, Answer> {
+        words.end()?;
+        self.current = None;
+        let Some(texts) = &self.texts else {
+            return Err(Answer::Unmet("texts"));
+        };
+        let (resolve, answer) = calls::packages_of_texts(alloc, texts)?;
+        self.current = Some(resolve);
+        Ok(answer)
     }
 
     // ---- calls that need no valid `Resolve`
@@ -492,6 +515,7 @@ impl Interpreter {
             Setting::Resolve => self.read(words),
             Setting::Other => self.read_other(words),
             Setting::Bytes => self.keep(words),
+            Setting::Texts => self.keep_texts(words),
             Setting::Brief => Ok(self.set_brief(true)),
             Setting::Full => Ok(self.set_brief(false)),
             Setting::Bind => self.bind(alloc, words),
@@ -525,6 +549,7 @@ impl Interpreter {
         match asked {
             Asked::Validity(call) => Ok(self.validity(alloc, call)),
             Asked::OnBytes(call) => self.with_bytes(alloc, call, words),
+            Asked::Read => self.read_texts(alloc, words),
             Asked::Setting(setting) => self.set(alloc, setting, words),
             Asked::OnAny(call) => self.on_any(alloc, call, words),
             _ => Err(Answer::Bad),
