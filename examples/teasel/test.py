@@ -84,7 +84,7 @@ class Room(unittest.TestCase):
             given[stream] = more.pop(stream, subprocess.PIPE)
         kept = {it: value for it, value in os.environ.items() if it not in ("NO_COLOR", "TERM")}
         return subprocess.run(
-            [program or PROGRAM, *words], **given, **more, env={**kept, **(environment or {})}, cwd=self.room, timeout=120
+            [program or PROGRAM, *words], **given, **{"cwd": self.room, **more}, env={**kept, **(environment or {})}, timeout=120
         )
 
     def answer(self, *words, status=0, **more):
@@ -175,6 +175,199 @@ class Texts(Room):
         self.assertEqual(self.answer("compat", file, "-w", "w"), b"ok   w\n")
 
 
+class Folders(Room):
+    """Folders of WIT texts in the place of a package."""
+
+    # Texts of one package, in two files, that use two others; the text that is read of them; and one text with all of them.
+    OWN = {"b.wit": "package a:b;\ninterface i {\n  use c:d/x.{t};\n  f: func() -> t;\n}\n", "a.wit": "package a:b;\nworld w {\n  import i;\n  import e:f/y;\n}\n"}
+    USED = {"deps/c/x.wit": "package c:d;\ninterface x {\n  type t = u8;\n}\n", "deps/e.wit": "package e:f;\ninterface y {\n  g: func();\n}\n"}
+    WANTED = """package a:b;
+
+interface i {
+  use c:d/x.{t};
+
+  f: func() -> t;
+}
+
+world w {
+  import c:d/x;
+  import i;
+  import e:f/y;
+}
+"""
+
+    def folder(self, texts, name="wit"):
+        """A folder of these texts."""
+        for path, text in texts.items():
+            file = self.room / name / path
+            file.parent.mkdir(parents=True, exist_ok=True)
+            file.write_bytes(text if isinstance(text, bytes) else text.encode())
+        return name
+
+    def test_a_folder_is_its_package(self):
+        wit = self.folder({**self.OWN, **self.USED})
+        for name in wit, f"{wit}/", f"./{wit}", self.room / wit:
+            self.assertEqual(self.answer("text", name).decode(), self.WANTED)
+        self.assertEqual(self.answer("text", ".", cwd=self.room / wit).decode(), self.WANTED)
+        self.assertEqual(self.answer("wasm", wit, "-o", "wit.wasm"), b"")
+        for word in "text", "json", "wasm":
+            self.assertEqual(self.answer(word, wit), self.answer(word, "wit.wasm"))
+        self.assertEqual(self.answer("kind", wit, "wit.wasm"), b"wit: package\nwit.wasm: package\n")
+        shown = "a package; interfaces: 1; worlds: w\n"
+        self.assertEqual(self.answer("check", wit, "wit.wasm").decode(), f"ok   wit: {shown}ok   wit.wasm: {shown}")
+        self.assertEqual(self.answer("diff", wit, "wit.wasm"), b"")
+        self.assertEqual(self.answer("compat", wit, "-w", "w"), b"ok   w\n")
+        self.assertEqual(self.answer("embed", STRIPPED, wit), self.answer("embed", STRIPPED, "wit.wasm"))
+        for words in ["strip", wit], ["sections", wit], ["embed", wit, CLOCK]:
+            hint = "the files stand as MODULE PACKAGE" if words[0] == "embed" else "`teasel kind` says what a file is"
+            self.refused(f"wit: {NO_CORE}", hint, *words)
+
+    def test_it_is_one_text_with_all(self):
+        own = "".join(self.OWN.values()).replace("package a:b;\n", "")
+        nested = "".join(re.sub(r"package (.*);((?s:.*))", r"package \1 {\2}\n", it) for it in self.USED.values())
+        text = self.store("all.wit", f"package a:b;\n{own}{nested}".encode())
+        self.assertEqual(self.answer("wasm", self.folder({**self.OWN, **self.USED})), self.answer("wasm", text))
+
+    def test_the_order_of_names(self):
+        """Interfaces come in the order of the names of their files, as bytes."""
+        names = ["B", "a-b", "a.b", "a", "a0", "\u00e9", "\u65e5"]
+        texts = {f"{it}.wit": f"package a:b;\ninterface i{number} {{\n  f: func();\n}}\n" for number, it in enumerate(names)}
+        self.folder(dict(reversed(texts.items())))
+        self.assertEqual(re.findall(r"interface i(\d)", self.answer("text", "wit").decode()), [str(it) for it in range(len(names))])
+        # The first of the texts that is refused is told: own ones come first, then the others in the order of their paths.
+        bad = "package a:b"
+        for path in "deps/b/a.wit", "deps/a/c.wit", "deps/a.wit", "z.wit", "B.wit":
+            self.folder({path: bad})
+            self.refused(f"wit/{path}: line 1, column 12: expected `;`", f"{bad}\n             ^", "text", "wit")
+
+    def test_what_is_passed_over(self):
+        wit = self.folder({**self.OWN, **self.USED})
+        bad = "no text"
+        others = ["readme.md", ".x.wit", "x.wit.bak", "wit", "sub/x.wit", "deps/x.wasm", "deps/.x.wit", "deps/.x/x.wit", "deps/c/sub/x.wit", "deps/c/.x.wit", "deps/c/x.txt"]
+        self.folder({it: bad for it in others})
+        (self.room / wit / "folder.wit").mkdir()
+        (self.room / wit / "deps/c/folder.wit").mkdir()
+        (Path(os.fsencode(self.room / wit).decode()) / os.fsdecode(b"caf\xe9.wit")).write_bytes(b"no text")
+        self.assertEqual(self.answer("text", wit).decode(), self.WANTED)
+        # A folder in deps is read also where its name is that of a text.
+        self.folder({"deps/folder.wit/x.wit": "package a:b"})
+        self.refused("wit/deps/folder.wit/x.wit: line 1, column 12: expected `;`", "package a:b\n             ^", "text", wit)
+
+    def test_deps_that_is_a_file(self):
+        self.folder({"a.wit": "package a:b;\ninterface i {\n  f: func();\n}\n", "deps": "no folder"})
+        self.assertEqual(self.answer("text", "wit"), b"package a:b;\n\ninterface i {\n  f: func();\n}\n\n")
+
+    def test_links(self):
+        """Links to texts and to folders are followed, and one that leads nowhere is a text that isn't there."""
+        self.folder(self.OWN, "own")
+        self.folder({Path(it).name: text for it, text in self.USED.items()}, "used")
+        (self.room / "wit/deps").mkdir(parents=True)
+        for path in self.OWN:
+            (self.room / "wit" / path).symlink_to(f"../own/{path}")
+        (self.room / "wit/deps/all").symlink_to("../../used")
+        (self.room / "other").symlink_to("wit")
+        for name in "wit", "other":
+            self.assertEqual(self.answer("text", name).decode(), self.WANTED)
+        (self.room / "wit/c.wit").symlink_to("nowhere")
+        self.refused("wit/c.wit: there is no such file", "", "text", "wit")
+
+    def test_two_packages(self):
+        texts = {"a.wit": "package a:b;", "b.wit": "package a:b@1.0.0;"}
+        wit = self.folder({**texts, "deps/c.wit": "package c:d;"})
+        message, hint = "wit: wit/a.wit and wit/b.wit begin with two packages", "texts of other packages stand in deps in it"
+        for words in ["text", wit], ["json", wit], ["wasm", wit, "-o", "new.wasm"], ["strip", wit], ["sections", wit], ["compat", wit, "-w", "a"], ["diff", CLOCK, wit]:
+            self.refused(message, hint, *words)
+        self.refused(message, hint, "embed", STRIPPED, wit)
+        self.assertEqual(self.answer("kind", wit, status=1), b"wit: unknown\n")
+        self.assertEqual(self.answer("check", wit, status=1).decode(), f"no   {message}\n       {hint}\n")
+        listed = [{"file": "wit", "ok": False, "message": message, "hint": hint}]
+        self.assertEqual(json.loads(self.answer("check", "--json", wit, status=1)), listed)
+
+    def test_a_package_nested_in_a_text(self):
+        """A text begins with its own package, though another is nested in it."""
+        self.folder({"a.wit": "package a:b;\npackage c:d { interface x {} }", "b.wit": "package a:b;\ninterface i {\n  f: func();\n}"})
+        self.assertEqual(self.answer("text", "wit"), b"package a:b;\n\ninterface i {\n  f: func();\n}\n\n")
+
+    def test_the_package_of_its_own_texts(self):
+        """What is in deps is no package of the folder, also where it is read first."""
+        self.folder({"z.wit": "package z:z;\ninterface i {\n  use a:a/x.{t};\n}", "deps/a.wit": "package a:a;\ninterface x {\n  type t = u8;\n}"})
+        self.assertEqual(self.answer("text", "wit"), b"package z:z;\n\ninterface i {\n  use a:a/x.{t};\n}\n\n")
+
+    def test_no_text(self):
+        message = "wit: there is no WIT text in it"
+        (self.room / "wit").mkdir()
+        self.refused(message, "", "text", "wit")
+        self.folder({**self.USED, "x.txt": "package a:b;"})
+        for words in ["text", "wit"], ["check", CLOCK, "wit"], ["kind", "wit"], ["diff", CLOCK, "wit"], ["embed", STRIPPED, "wit"], ["strip", "wit"]:
+            self.refused(message, "", *words)
+
+    def test_texts_that_are_refused(self):
+        wit = self.folder({**self.OWN, **self.USED})
+        for path in "a.wit", "c.wit", "deps/c/x.wit", "deps/e.wit", "deps/g/h.wit":
+            file = self.room / wit / path
+            kept = file.read_bytes() if file.exists() else None
+            for data, message, hint in (
+                (b"package a:b;\n\ninterface j {\n  f: func() -> ;\n}\n", ": line 4, column 16: expected a type", "  f: func() -> ;\n" + " " * 17 + "^"),
+                (b"package a:b;\n// caf\xe9\n", ": it is WIT text that isn't UTF-8", "write it as UTF-8"),
+                (b"", ": the file is empty", ""),
+                (b"no text", ": it is no WIT text", ""),
+                (CLOCK.read_bytes(), ": it is no WIT text", ""),
+            ):
+                self.folder({path: data})
+                self.refused(f"wit/{path}{message}", hint, "text", wit)
+                shown = "".join(f"       {it}\n" for it in hint.split("\n  ", 1) if hint)
+                self.assertEqual(self.answer("check", wit, status=1).decode(), f"no   wit/{path}{message}\n{shown}")
+            file.unlink()
+            if kept is not None:
+                file.write_bytes(kept)
+
+    def test_without_permission(self):
+        program = shutil.copy(PROGRAM, self.room / "program")
+        wit = self.folder({**self.OWN, **self.USED})
+        for path, message in (
+            ("a.wit", "wit/a.wit: permission to read it is denied"),
+            ("deps/c/x.wit", "wit/deps/c/x.wit: permission to read it is denied"),
+            ("deps/c", "wit/deps/c: permission to read it is denied"),
+            ("deps", "wit/deps: permission to read it is denied"),
+            ("", "wit: permission to read it is denied"),
+        ):
+            place = self.room / wit / path
+            mode = place.stat().st_mode
+            place.chmod(0)
+            # What is kept isn't looked at here, where nobody may look into a folder.
+            done = self.run_("text", wit, program=program, preexec_fn=as_nobody)
+            self.assertEqual((done.returncode, done.stdout, done.stderr.decode()), (2, b"", f"teasel: {message}\n"))
+            place.chmod(mode)
+
+    def test_the_bound_of_what_is_read(self):
+        """A folder's texts have the bytes of one file at most, all together."""
+        wit = self.folder({**self.OWN, **self.USED})
+        length = sum(len(it) for it in [*self.OWN.values(), *self.USED.values()])
+        self.assertEqual(self.answer("text", wit, "--most-read", str(length)).decode(), self.WANTED)
+        long, hint = "it is longer than what is read", "--most-read SIZE allows more"
+        self.refused(f"wit/deps/e.wit: {long}", hint, "text", wit, "--most-read", str(length - 1))
+        self.refused(f"wit/a.wit: {long}", hint, "text", wit, "--most-read", "10")
+
+    def test_many_texts(self):
+        count = 1000
+        text = "package a:b;\ninterface i{0} {{\n  use c:d{0}/x.{{t}};\n}}\n"
+        self.folder({f"{it:04}.wit": text.format(it) for it in range(count)})
+        self.folder({f"deps/d{it}/x.wit": f"package c:d{it};\ninterface x {{\n  type t = u8;\n}}\n" for it in range(count)})
+        self.assertEqual(self.answer("text", "wit").count(b"interface i"), count)
+
+    def test_output_into_it(self):
+        wit = self.folder({**self.OWN, **self.USED})
+        self.assertEqual(self.answer("wasm", wit, "-o", "wit/wit.wasm"), b"")
+        self.assertEqual(self.answer("text", "wit/wit.wasm").decode(), self.WANTED)
+        self.assertEqual(self.answer("text", wit, "-o", "wit/deps/wit.txt"), b"")
+        (self.room / "link").symlink_to("wit/deps/e.wit")
+        for path in "wit/a.wit", "wit/deps/c/x.wit", "wit/deps/../b.wit", "link", "wit":
+            self.refused(f"{path}: it is the file that is read", "name another file by --output", "text", wit, "-o", path)
+        # A file beside those that are read is written, also a text that isn't there yet.
+        self.assertEqual(self.answer("text", wit, "-o", "wit/deps/c/sub.wit"), b"")
+        self.assertEqual((self.room / "wit/deps/c/sub.wit").read_text(), self.WANTED)
+
+
 class Misuse(Room):
     def test_no_word(self):
         self.refused("there is no word", "`teasel help` lists the words")
@@ -251,7 +444,7 @@ class Inputs(Room):
         self.refused("nowhere.wasm: there is no such file", "", "diff", CLOCK, "nowhere.wasm")
 
     def test_a_folder(self):
-        self.refused(f"{TOP}: it is a folder", "", "text", TOP)
+        self.refused(f"{TOP}: there is no WIT text in it", "", "text", TOP)
         folder = os.open(TOP, os.O_RDONLY)
         self.addCleanup(os.close, folder)
         self.refused("standard input: it is a folder", "", "text", stdin=folder)
@@ -648,7 +841,7 @@ class Answers(Room):
         self.assertEqual(self.answer("kind", CLOCK, MODULE, world, whole).decode(), f"{CLOCK}: package\n{MODULE}: module\nworld.wasm: world\nwhole.wasm: component\n")
         self.assertEqual(self.answer("kind", other, world, status=1), b"other: unknown\nworld.wasm: world\n")
         self.refused("nowhere: there is no such file", "", "kind", world, "nowhere", whole)
-        self.refused("folder: it is a folder", "", "kind", world, "folder")
+        self.refused("folder: there is no WIT text in it", "", "kind", world, "folder")
         self.assertEqual(self.answer("kind", "-", stdin=CLOCK.read_bytes()), b"standard input: package\n")
 
     def test_checks(self):

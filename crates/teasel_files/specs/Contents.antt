@@ -19,9 +19,9 @@ IsContent Holds c = AreBytes Holds c.bytes.items c.whole
 abbrev pub IsInput : (List ℕ → Type 0) → Input → Type 0
 IsInput Holds i = AreBytes Holds i.bytes.items i.whole
 
--- memory was wanting, or this is why a file isn't read
-abbrev pub UnreadFor : Type 0 → ReadFault → Type 0
-UnreadFor Why fault = is_memory_fault fault ≡ false → Why
+-- memory was wanting, or this is so of the fault for which a file or a folder isn't read
+abbrev pub UnreadFor : (ReadFault → Type 0) → ReadFault → Type 0
+UnreadFor Why fault = is_memory_fault fault ≡ false → Why fault
 
 -- whether a word is about files
 abbrev pub has_files : Word → Bool
@@ -36,12 +36,6 @@ abbrev pub or_input : List Text → List Text
 or_input [] = codes "-" ∷ []
 or_input (name ∷ names) = name ∷ names
 
--- the files that are read: those that are named, or standard input, or none where the word is to be explained, or is about none
+-- the files and folders that are read: those that are named, or standard input, or none where the word is to be explained, or is about none
 abbrev pub files_of : Given → List Text
 files_of g = if g.help then [] else (if has_files g.word_ then or_input g.files else [])
-
--- The inputs are what is read of the files of these names, one by one.
-abbrev pub AreRead : (Text → List ℕ → Type 0) → List Text → List Input → Type 0
-AreRead holds [] [] = Unit {0}
-AreRead holds (name ∷ names) (i ∷ is) = IsInput (holds name) i × AreRead holds names is
-AreRead holds _ _ = ⊥

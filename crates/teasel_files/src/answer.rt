@@ -1,14 +1,19 @@
-//! What is read of a file, and what a word answers.
+//! What a word is given, and what it answers.
 
 ghost use Rattle.std.specs.Prelude.{◌≡◌};
 
-/// What is read of a file: its bytes; or, where it is neither WebAssembly nor WIT text, some of the first ones.
+use teasel_messages::Refusal;
+
+/// What is read of a file: its bytes; or, where it is neither WebAssembly nor WIT text, some of the first ones. Or the package that stands in the place of
+/// WIT text, or of a folder of texts.
 #[derive(Drop)]
 pub struct Input<'a> {
     pub name: &'a str,
     pub bytes: Vec<u8>,
     /// Whether these are all of its bytes.
     pub whole: bool,
+    /// Why no package is made of the WIT text, or the folder, in whose place this is.
+    pub refusal: Option<Refusal>,
 }
 
 /// What a word answers: yes or no, and a text or bytes.

@@ -8,9 +8,9 @@ ghost use Rattle.teasel_words.specs.Given.{given_of};
 use crate::answer::Answer;
 use crate::setting::Setting;
 use crate::store::Store;
-use std::alloc::Global;
+use std::alloc::{AllocError, Global};
 use std::io::{Error, ErrorKind, Result as IoResult, Write};
-use teasel_messages::{Refusal, plain, unwritten};
+use teasel_messages::{ReadFault, Refusal, plain, unwritten};
 use teasel_words::Asked;
 
 /// Writes bytes and flushes, or says why not.
@@ -43,14 +43,47 @@ fn unwritten_out(alloc: Global, error: &Error) -> Refusal {
     }
 }
 
-/// Whether one of these files is the one that is to be written.
-fn is_input<S: Store>(store: &S, files: &[&str], name: &str) -> bool {
-    for file in files {
-        if *file != "-" && store.is_same(file, name) {
+/// Whether one of these paths is a name of this file.
+fn is_among<S: Store>(store: &S, paths: &[String], name: &str) -> bool {
+    for path in paths {
+        if store.is_same(path, name) {
             return true;
         }
     }
     false
+}
+
+/// Whether a file is one of a folder's texts.
+fn is_text_of<S: Store>(
+    alloc: Global,
+    store: &S,
+    folder: &str,
+    name: &str,
+) -> Result<bool, AllocError> {
+    match store.list(alloc, folder) {
+        Ok(listed) => {
+            Ok(is_among(store, &listed.own, name) || is_among(store, &listed.used, name))
+        }
+        Err(unlisted) => match unlisted.fault {
+            ReadFault::Memory => Err(AllocError),
+            _ => Ok(false),
+        },
+    }
+}
+
+/// Whether one of these files, or a text of one of these folders, is the one that is to be written.
+fn is_input<S: Store>(
+    alloc: Global,
+    store: &S,
+    files: &[&str],
+    name: &str,
+) -> Result<bool, AllocError> {
+    for file in files {
+        if *file != "-" && (store.is_same(file, name) || is_text_of(alloc, store, file, name)?) {
+            return Ok(true);
+        }
+    }
+    Ok(false)
 }
 
 fn write_file<S: Store>(
@@ -63,7 +96,7 @@ fn write_file<S: Store>(
     ensures put { OnOk result (S.puts (S.state store.old) name.now answer.now.text.items (S.state store.new)) }
     ensures kept { OnErr result (S.state store.new ≡ S.state store.old) }
 {
-    if is_input(store, &asked.files, name) {
+    if is_input(alloc, store, &asked.files, name)? {
         return Err(Refusal::of(
             format!(in alloc; "{name}: it is the file that is read"),
             String::from_str(alloc, "name another file by --output"),

@@ -6,6 +6,7 @@ mod delivery;
 mod input;
 mod inputs;
 mod setting;
+mod source;
 mod store;
 
 pub use answer::{Answer, Input};
@@ -13,4 +14,5 @@ pub use delivery::{deliver, note, tell};
 pub use input::{Content, read_within};
 pub use inputs::read_inputs;
 pub use setting::Setting;
-pub use store::Store;
+pub use source::{Folder, FolderText, Source};
+pub use store::{Listed, Store, Unlisted};

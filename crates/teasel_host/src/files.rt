@@ -1,12 +1,13 @@
 //! The files of this machine.
 
+use crate::folders::listed;
 use std::alloc::Global;
 use std::fs;
 use std::fs::{File, Metadata, OpenFile};
 use std::io::{Error, ErrorKind, Read, Result as IoResult, Write};
 use std::os::unix::fs::MetadataExt;
 use std::rt::Files;
-use teasel_files::{Content, Store, read_within};
+use teasel_files::{Content, Listed, Store, Unlisted, read_within};
 use teasel_messages::{ReadFault, WriteFault};
 
 /// The files of this machine, and its standard input.
@@ -93,7 +94,7 @@ impl<'a, R: Files, I: Read> Host<'a, R, I> {
     }
 }
 
-impl<'a, R: Files, I: Read> Store for Host<'a, R, I> {
+impl<'a, R: Files + Alloc + Clone + Drop, I: Read> Store for Host<'a, R, I> {
     // Nothing is claimed of what a machine's files hold.
     ghost State = { Unit {0} };
 
@@ -101,7 +102,11 @@ impl<'a, R: Files, I: Read> Store for Host<'a, R, I> {
 
     ghost holds = { λ state name bytes. Unit {0} };
 
-    ghost fails = { λ state name. Unit {0} };
+    ghost fails = { λ state name fault. Unit {0} };
+
+    ghost lists = { λ state name own used. Unit {0} };
+
+    ghost unlisted = { λ state name fault. Unit {0} };
 
     ghost puts = { λ old name bytes new. Unit {0} };
 
@@ -113,6 +118,10 @@ impl<'a, R: Files, I: Read> Store for Host<'a, R, I> {
             Ok(mut file) => read_within(alloc, &mut file, most),
             Err(error) => Err(ReadFault::of(&error)),
         }
+    }
+
+    fn list(&self, alloc: Global, name: &str) -> Result<Listed, Unlisted> {
+        listed(alloc, self.rt, name)
     }
 
     fn replace(&mut self, alloc: Global, name: &str, bytes: &[u8]) -> Result<(), WriteFault> {

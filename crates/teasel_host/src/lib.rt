@@ -3,6 +3,7 @@
 
 mod environment;
 mod files;
+mod folders;
 
 pub use environment::{is_dumb, is_set, words};
 pub use files::Host;

@@ -1,40 +1,29 @@
 -- The status of what a run comes to, and why it stops.
-use Rattle.std.proofs.lemmas.Bool.{leb-true}
-use Rattle.std.proofs.Common.{◌≡◌, ◌≤◌, ◌&&◌, ◌||◌, ◌∙◌, IfErr, IfOk, OnErr, arith, suc, ap, true, false, refl, ℕ, Bool, List, [], ◌∷◌, length, nat_le, Option, Result, Ok, Err, if◌then◌else◌}
+use Rattle.std.proofs.lemmas.{Bool.leb-true, Slice.Zip.AllZip-long}
+use Rattle.std.proofs.Common.{◌≡◌, ◌≤◌, ◌&&◌, ◌||◌, ◌∙◌, IfErr, IfOk, OnErr, arith, true, false, refl, ℕ, Bool, List, [], ◌∷◌, length, nat_le, Option, Result, Ok, Err, if◌then◌else◌}
 use Rattle.teasel_answers.specs.Refusals.{HasItsFiles, takes}
-use Rattle.teasel_files.specs.Contents.{AreRead, files_of, has_files, or_input}
+use Rattle.teasel_files.specs.Contents.{files_of, has_files, or_input}
+use Rattle.teasel_files.specs.Folders.{IsRead}
 use Rattle.teasel_files.specs.declared.{answer.Input.Input, setting.Setting.Setting}
-use Rattle.teasel_messages.specs.{Reasons.RefusedFor, declared.refusal.Refusal.Refusal}
+use Rattle.teasel_messages.specs.{Reasons.RefusedFor, declared.faults.ReadFault.ReadFault, declared.refusal.Refusal.Refusal}
 use Rattle.teasel_words.specs.{Given.Given, Spelling.Spells, Spelling.fits, Table.Text, Table.least_of, Table.most_of}
 use Rattle.teasel_words.specs.declared.table.Word.{Word}
 use Rattle.teasel_words.specs.declared.table.Word.TheVariants as words
 use Rattle.teasel_messages.proofs.ReasonLaws.{refused-by}
-use Rattle.teasel_texts.specs.Made.{AreTaken}
+use Rattle.teasel_texts.specs.Made.{IsTaken}
 use Rattle.teasel_run.specs.Runs.{AreInputs, Carries, Runs, Stops, stopped}
 
-module _ {State : Type 0} (holds : State → Text → List ℕ → Type 0) (fails : State → Text → Type 0) (puts : State → Text → List ℕ → State → Type 0) (s : Setting)
-    (words_ : List Text) (old new : State) (before after : Option (List ℕ)) where
+module _ {State : Type 0} (holds : State → Text → List ℕ → Type 0) (fails : State → Text → ReadFault → Type 0)
+    (lists : State → Text → List Text → List Text → Type 0) (unlisted : State → Text → ReadFault → Type 0) (puts : State → Text → List ℕ → State → Type 0)
+    (s : Setting) (words_ : List Text) (old new : State) (before after : Option (List ℕ)) where
   -- what comes of what the words spell
-  pub runs-so : (g : Given) → Spells words_ g → (done : Result Bool Refusal) → IfOk done (Carries holds puts s g old new before after) → OnErr done (new ≡ old)
-      → IfErr done (RefusedFor (Stops holds fails s g old)) → Runs holds fails puts s words_ old new before after done
+  pub runs-so : (g : Given) → Spells words_ g → (done : Result Bool Refusal) → IfOk done (Carries holds lists puts s g old new before after)
+      → OnErr done (new ≡ old) → IfErr done (RefusedFor (Stops holds fails lists unlisted s g old))
+      → Runs holds fails lists unlisted puts s words_ old new before after done
   runs-so g spells (Ok fits) carries kept stops = (g, spells, carries)
   runs-so g spells (Err refusal) carries kept stops = (kept, refused-by _ _ refusal (λ why. stopped g spells why) stops)
 
 -- ---- as many files as the word takes
-
--- there is an input for each file
-pub as-many : (holds : Text → List ℕ → Type 0) (names : List Text) (is : List Input) → AreRead holds names is → length is ≡ length names
-as-many holds [] [] h = refl
-as-many holds [] (i ∷ is) h = absurd h
-as-many holds (name ∷ names) [] h = absurd h
-as-many holds (name ∷ names) (i ∷ is) h = ap suc (as-many holds names is h.1)
-
--- there is an input for each of those in whose place they stand
-pub taken-as-many : (is taken : List Input) → AreTaken is taken → length taken ≡ length is
-taken-as-many [] [] h = refl
-taken-as-many [] (i ∷ is) h = absurd h
-taken-as-many (i ∷ is) [] h = absurd h
-taken-as-many (i ∷ is) (t ∷ taken) h = ap suc (taken-as-many is taken h.1)
 
 parts : (a b : Bool) (A B : Type 0) → (a ≡ true → A) → (b ≡ true → B) → (a && b) ≡ true → A × B
 parts true b A B f g h = (f refl, g h)
@@ -82,7 +71,9 @@ has-files-so true w files is asked = let wrong : ⊥ = cc in absurd wrong
 has-files-so false w files is asked = so-many w files is
 
 -- what the words spell has as many inputs as its word takes
-pub has-its-files : (holds : Text → List ℕ → Type 0) (g : Given) (is : List Input) → fits g ≡ true → AreInputs holds (files_of g) is → HasItsFiles g is
+pub has-its-files : (holds : Text → List ℕ → Type 0) (lists : Text → List Text → List Text → Type 0) (g : Given) (is : List Input) → fits g ≡ true
+    → AreInputs holds lists (files_of g) is → HasItsFiles g is
 unfolding fits
-has-its-files holds g is fit inputs asked =
-    rw (taken-as-many inputs.files is inputs.taken ∙ as-many holds (files_of g) inputs.files inputs.read) (has-files-so g.help g.word_ g.files fit asked)
+has-its-files holds lists g is fit inputs asked =
+    rw (AllZip-long IsTaken inputs.found is inputs.taken ∙ AllZip-long (IsRead holds lists) (files_of g) inputs.found inputs.read)
+    (has-files-so g.help g.word_ g.files fit asked)

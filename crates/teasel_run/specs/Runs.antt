@@ -3,9 +3,9 @@ use Rattle.std.specs.Prelude.{◌≡◌, ◌⊎◌, ◌<◌, ℕ, Bool, true, fa
 use Rattle.std.specs.declared.alloc.Global.{Global}
 use Rattle.std.specs.Str.{IsUtf8}
 use Rattle.teasel_answers.specs.{Answers.Answers, Refusals.AnswersNothing}
-use Rattle.teasel_files.specs.{Contents.AreRead, Contents.files_of, Delivered.IsDelivered}
-use Rattle.teasel_files.specs.declared.{answer.Answer.Answer, answer.Input.Input, setting.Setting.Setting}
-use Rattle.teasel_messages.specs.{Reasons.RefusedFor, declared.refusal.Refusal.Refusal}
+use Rattle.teasel_files.specs.{Contents.files_of, Delivered.IsDelivered, Folders.AreRead, Folders.IsUnread}
+use Rattle.teasel_files.specs.declared.{answer.Answer.Answer, answer.Input.Input, setting.Setting.Setting, source.Source.Source}
+use Rattle.teasel_messages.specs.{Reasons.RefusedFor, declared.faults.ReadFault.ReadFault, declared.refusal.Refusal.Refusal}
 use Rattle.teasel_texts.specs.Made.{AreTaken}
 use Rattle.teasel_words.specs.{Given.Given, Spelling.IsMisspelt, Spelling.Spells, Table.Text, Table.is_same}
 use Rattle.teasel_words.specs.declared.choices.Color.{Color}
@@ -22,17 +22,18 @@ colored_by colors.Always output s = true
 colored_by colors.Never output s = false
 colored_by colors.Auto output s = s.color && (s.out_terminal && is_none output)
 
--- The inputs are what is read of the files of these names, with the package that it declares in the place of each text.
-pub record AreInputs (holds : Text → List ℕ → Type 0) (names : List Text) (inputs : List Input) : Type 0 where
-  pub files : List Input
-  pub read : AreRead holds names files
-  pub taken : AreTaken files inputs
+-- The inputs are what is read of the files and folders of these names, with the package that they declare in the place of each text and each folder.
+pub record AreInputs (holds : Text → List ℕ → Type 0) (lists : Text → List Text → List Text → Type 0) (names : List Text) (inputs : List Input)
+    : Type 0 where
+  pub found : List Source
+  pub read : AreRead holds lists names found
+  pub taken : AreTaken found inputs
 
 -- What is asked for is answered: its files are read, the word answers to them, yes or no, and the answer goes where it is to go.
-pub record Carries {State : Type 0} (holds : State → Text → List ℕ → Type 0) (puts : State → Text → List ℕ → State → Type 0) (s : Setting) (g : Given)
-    (old new : State) (before after : Option (List ℕ)) (fits : Bool) : Type 0 where
+pub record Carries {State : Type 0} (holds : State → Text → List ℕ → Type 0) (lists : State → Text → List Text → List Text → Type 0)
+    (puts : State → Text → List ℕ → State → Type 0) (s : Setting) (g : Given) (old new : State) (before after : Option (List ℕ)) (fits : Bool) : Type 0 where
   pub inputs : List Input
-  pub read : AreInputs (holds old) (files_of g) inputs
+  pub read : AreInputs (holds old) (lists old) (files_of g) inputs
   pub answer : Answer
   pub answers : Answers g (colored_by g.color g.output s) inputs answer
   pub is : answer.yes ≡ fits
@@ -48,32 +49,39 @@ is_input name = is_same name (codes "-")
 abbrev pub HasNameless : Given → Type 0
 HasNameless g = Any (λ name. length name ≡ 0) g.files ⊎ ((name : Text) × (g.output ≡ Some name) × (length name ≡ 0))
 
--- Why what is asked for isn't done: a name is empty; standard input is named twice; a file can't be read; the word answers nothing to the files; or it
--- answers, and that isn't written.
-pub data Stops {State : Type 0} (holds : State → Text → List ℕ → Type 0) (fails : State → Text → Type 0) (s : Setting) (g : Given) (old : State) : Type 0 where
-  nameless : HasNameless g → Stops holds fails s g old
-  named_twice : 1 < count_by is_input g.files → Stops holds fails s g old
-  unread : Any (fails old) (files_of g) → Stops holds fails s g old
-  unanswered : (inputs : List Input) → AreInputs (holds old) (files_of g) inputs → AnswersNothing g inputs → Stops holds fails s g old
-  unwritten : (inputs : List Input) (a : Answer) → AreInputs (holds old) (files_of g) inputs → Answers g (colored_by g.color g.output s) inputs a
-      → Stops holds fails s g old
+-- Why what is asked for isn't done: a name is empty; standard input is named twice; a file or a folder can't be read; the word answers nothing to the files;
+-- or it answers, and that isn't written.
+pub data Stops {State : Type 0} (holds : State → Text → List ℕ → Type 0) (fails : State → Text → ReadFault → Type 0)
+    (lists : State → Text → List Text → List Text → Type 0) (unlisted : State → Text → ReadFault → Type 0) (s : Setting) (g : Given) (old : State)
+    : Type 0 where
+  nameless : HasNameless g → Stops holds fails lists unlisted s g old
+  named_twice : 1 < count_by is_input g.files → Stops holds fails lists unlisted s g old
+  unread : Any (IsUnread (fails old) (lists old) (unlisted old)) (files_of g) → Stops holds fails lists unlisted s g old
+  unanswered : (inputs : List Input) → AreInputs (holds old) (lists old) (files_of g) inputs → AnswersNothing g inputs
+      → Stops holds fails lists unlisted s g old
+  unwritten : (inputs : List Input) (a : Answer) → AreInputs (holds old) (lists old) (files_of g) inputs → Answers g (colored_by g.color g.output s) inputs a
+      → Stops holds fails lists unlisted s g old
 
 -- a word is no text
 abbrev pub IsNoText : Text → Type 0
 IsNoText word = IsUtf8 word → ⊥
 
 -- Why words aren't answered: one is no text; they ask for nothing; or they ask for something that isn't done.
-pub data IsStopped {State : Type 0} (holds : State → Text → List ℕ → Type 0) (fails : State → Text → Type 0) (s : Setting) (words : List Text) (old : State)
+pub data IsStopped {State : Type 0} (holds : State → Text → List ℕ → Type 0) (fails : State → Text → ReadFault → Type 0)
+    (lists : State → Text → List Text → List Text → Type 0) (unlisted : State → Text → ReadFault → Type 0) (s : Setting) (words : List Text) (old : State)
     : Type 0 where
-  no_text : Any IsNoText words → IsStopped holds fails s words old
-  misspelt : IsMisspelt words → IsStopped holds fails s words old
-  stopped : (g : Given) → Spells words g → Stops holds fails s g old → IsStopped holds fails s words old
+  no_text : Any IsNoText words → IsStopped holds fails lists unlisted s words old
+  misspelt : IsMisspelt words → IsStopped holds fails lists unlisted s words old
+  stopped : (g : Given) → Spells words g → Stops holds fails lists unlisted s g old → IsStopped holds fails lists unlisted s words old
 
 -- The words ask for something that is answered so; or something is refused, for want of memory or for such a reason, and all files are as they were.
-abbrev pub Runs : {State : Type 0} → (State → Text → List ℕ → Type 0) → (State → Text → Type 0) → (State → Text → List ℕ → State → Type 0) → Setting
-    → List Text → State → State → Option (List ℕ) → Option (List ℕ) → Result Bool Refusal → Type 0
-Runs holds fails puts s words old new before after (Ok fits) = (g : Given) × Spells words g × Carries holds puts s g old new before after fits
-Runs holds fails puts s words old new before after (Err refusal) = (new ≡ old) × RefusedFor (IsStopped holds fails s words old) refusal
+abbrev pub Runs : {State : Type 0} → (State → Text → List ℕ → Type 0) → (State → Text → ReadFault → Type 0) → (State → Text → List Text → List Text → Type 0)
+    → (State → Text → ReadFault → Type 0) → (State → Text → List ℕ → State → Type 0) → Setting → List Text → State → State → Option (List ℕ)
+    → Option (List ℕ) → Result Bool Refusal → Type 0
+Runs holds fails lists unlisted puts s words old new before after (Ok fits) =
+    (g : Given) × Spells words g × Carries holds lists puts s g old new before after fits
+Runs holds fails lists unlisted puts s words old new before after (Err refusal) =
+    (new ≡ old) × RefusedFor (IsStopped holds fails lists unlisted s words old) refusal
 
 -- the exit status of what came of it: 0 for yes, 1 for no, and 2 where something is refused
 abbrev pub status_by : Result Bool Refusal → ℕ

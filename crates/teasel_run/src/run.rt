@@ -2,7 +2,7 @@
 
 ghost use Rattle.std.specs.Prelude.{◌≡◌, ◌≤◌, ◌<◌, ◌⊎◌, Any, true, count_by, IfErr, IfNone, IfOk, IfSome, OnErr};
 ghost use Rattle.teasel_messages.specs.Reasons.{RefusedFor};
-ghost use Rattle.teasel_files.specs.Contents.{files_of};
+ghost use Rattle.teasel_files.specs.{Contents.files_of, Folders.IsUnread};
 ghost use Rattle.teasel_run.specs.Runs.{AreInputs, Carries, HasNameless, IsNoText, Runs, Stops, bytes_of, colored_by, is_input, status_by};
 ghost use Rattle.teasel_words.specs.{Given.given_of, Given.text_if, Given.texts_of as texts_in, Spelling.fits};
 
@@ -11,7 +11,7 @@ use std::io::Write;
 use teasel_answers::answer_of;
 use teasel_files::{Answer, Input, Setting, Store, deliver, note, read_inputs, tell};
 use teasel_messages::{Refusal, of_misuse, plain};
-use teasel_texts::made_of_texts;
+use teasel_texts::made_of_sources;
 use teasel_words::{Asked, Color, read_words};
 
 /// The exit status where the work is done, or the answer is yes.
@@ -87,7 +87,7 @@ fn note_made<E: Write>(errors: &mut E, setting: Setting, answer: &Answer) {
     }
 }
 
-/// What is read of the files that are asked for, with the package that it declares in the place of each text.
+/// What is read of the files and folders that are asked for, with the package that they declare in the place of each text and each folder.
 fn take_inputs<'a, S: Store, E: Write>(
     alloc: Global,
     asked: &Asked<'a>,
@@ -95,12 +95,14 @@ fn take_inputs<'a, S: Store, E: Write>(
     store: &mut S,
     errors: &mut E,
 ) -> Result<Vec<Input<'a>>, Refusal>
-    ensures inputs { IfOk result (λ inputs. AreInputs (S.holds (S.state store.old)) (files_of (given_of asked.now)) inputs.items) }
-    ensures refused { IfErr result (RefusedFor (Any (S.fails (S.state store.old)) (files_of (given_of asked.now)))) }
+    ensures inputs { IfOk result (λ inputs. AreInputs (S.holds (S.state store.old)) (S.lists (S.state store.old)) (files_of (given_of asked.now))
+        inputs.items) }
+    ensures refused { IfErr result (RefusedFor (Any (IsUnread (S.fails (S.state store.old)) (S.lists (S.state store.old)) (S.unlisted (S.state store.old)))
+        (files_of (given_of asked.now)))) }
     ensures kept { S.state store.new ≡ S.state store.old }
 {
-    let files = read_inputs(alloc, asked, setting, store, errors)?;
-    Ok(made_of_texts(alloc, files)?)
+    let sources = read_inputs(alloc, asked, setting, store, errors)?;
+    Ok(made_of_sources(alloc, sources)?)
 }
 
 /// Carries out what is asked for, and returns whether the answer is yes.
@@ -113,10 +115,10 @@ fn carry_out<S: Store, W: Write, E: Write>(
     errors: &mut E,
 ) -> Result<bool, Refusal>
     requires { fits (given_of asked.now) ≡ true }
-    ensures carries { IfOk result (Carries S.holds S.puts setting (given_of asked.now) (S.state store.old) (S.state store.new) (W.contents writer.old)
+    ensures carries { IfOk result (Carries S.holds S.lists S.puts setting (given_of asked.now) (S.state store.old) (S.state store.new) (W.contents writer.old)
         (W.contents writer.new)) }
     ensures kept { OnErr result (S.state store.new ≡ S.state store.old) }
-    ensures stops { IfErr result (RefusedFor (Stops S.holds S.fails setting (given_of asked.now) (S.state store.old))) }
+    ensures stops { IfErr result (RefusedFor (Stops S.holds S.fails S.lists S.unlisted setting (given_of asked.now) (S.state store.old))) }
 {
     check_names(alloc, asked)?;
     let inputs = take_inputs(alloc, asked, setting, store, errors)?;
@@ -151,7 +153,7 @@ pub fn run_texts<S: Store, W: Write, E: Write>(
     writer: &mut W,
     errors: &mut E,
 ) -> Result<bool, Refusal>
-    ensures { Runs S.holds S.fails S.puts setting (texts_in words.now) (S.state store.old) (S.state store.new) (W.contents writer.old)
+    ensures { Runs S.holds S.fails S.lists S.unlisted S.puts setting (texts_in words.now) (S.state store.old) (S.state store.new) (W.contents writer.old)
         (W.contents writer.new) result }
 {
     match read_words(alloc, words) {
@@ -172,7 +174,7 @@ pub fn run_words<S: Store, W: Write, E: Write>(
     writer: &mut W,
     errors: &mut E,
 ) -> Result<bool, Refusal>
-    ensures { Runs S.holds S.fails S.puts setting (bytes_of words.now) (S.state store.old) (S.state store.new) (W.contents writer.old)
+    ensures { Runs S.holds S.fails S.lists S.unlisted S.puts setting (bytes_of words.now) (S.state store.old) (S.state store.new) (W.contents writer.old)
         (W.contents writer.new) result }
 {
     match texts_of(alloc, words)? {

@@ -1,4 +1,4 @@
--- Inputs taken one by one. Serves made::made_of_texts.
-pub mod Takings
--- What stands in the way of a text's package. Serves made::encoded.
+-- The package that texts begin with. Serves packages::main_of, packages::read.
+pub mod Mains
+-- What stands in the way of a package of texts. Serves packages::encoded, packages::read.
 pub mod Troubles

@@ -1,186 +1,173 @@
-//! The packages that texts declare.
+//! What stands in the place of texts: their packages.
 
-ghost use Rattle.std.specs.Prelude.{◌≡◌, ◌<◌, ◌∷◌, [], length, false, true, ℕ, List, IfErr, IfNone, IfOk, IfSome};
-ghost use Rattle.wit_model.specs.Valid.{IsValid};
-ghost use Rattle.wit_text.specs.Texts.{RefusesTexts};
-ghost use Rattle.teasel_messages.specs.Reasons.{RefusedFor, is_memory as is_want_of_memory};
-ghost use Rattle.teasel_texts.specs.Made.{AreTaken, IsPackageOf, IsReadOf, IsTaken, IsTroubleOf, IsUnmade, is_memory_of_text};
-ghost use Rattle.teasel_texts.specs.declared.made.Trouble.TheVariants as troubles;
+ghost use Rattle.std.specs.Prelude.{◌≡◌, ◌++◌, ℕ, List, length, false, true, IfNone, IfOk, IfSome, OnOk};
+ghost use Rattle.std.specs.List.{list_any};
+ghost use Rattle.teasel_texts.specs.Made.{AreTaken, IsFileTaken, IsFolderTaken, IsMade, IsTaken, IsTroubleOf, IsUnmade, bytes_in, bytes_of, is_foreign as is_foreign_so};
 
-use crate::marked::caret;
+use crate::packages::{Named, Trouble, package_of};
+use crate::refusals::{again, no_text, refusal_of};
 use std::alloc::{AllocError, Global};
-use teasel_files::Input;
-use teasel_messages::{Refusal, foreign, is_text, of_error, told};
-use text_names::{Fault, Refused};
-use wit_encode::encode;
-use wit_model::{Error, PackageId, Resolve};
-use wit_text::{line_and_column, read_texts};
-
-/// Why no package is made of a text.
-#[derive(Drop)]
-enum Trouble {
-    Memory,
-    /// It isn't UTF-8.
-    NoText,
-    Text(Fault),
-    Bytes(Error),
-}
-
-/// The packages of a text, and the one that it begins with.
-fn read(alloc: Global, text: &str) -> Result<(Resolve, PackageId), Fault>
-    ensures read { IfOk result (λ r. IsReadOf text.now r.0 r.1) }
-    ensures valid { IfOk result (λ r. IsValid r.0) }
-    ensures in_range { IfOk result (λ r. r.1.0 < length r.0.packages.items) }
-    ensures refuses { IfErr result (RefusesTexts (text.now ∷ [])) }
-{
-    let (resolve, mains) = read_texts(alloc, &[text])?;
-    Ok((resolve, mains[0]))
-}
-
-/// A fault of a text, as what stands in the way of its package.
-fn of_fault(fault: Fault) -> Trouble
-    ensures memory { is_memory_of_text fault ≡ true → result ≡ troubles.Memory }
-    ensures text { is_memory_of_text fault ≡ false → result ≡ troubles.Text fault }
-{
-    match fault {
-        Fault::Memory => Trouble::Memory,
-        other => Trouble::Text(other),
-    }
-}
-
-/// The same of a package that isn't encoded.
-fn of_encoding(error: Error) -> Trouble
-    ensures memory { is_want_of_memory error ≡ true → result ≡ troubles.Memory }
-    ensures bytes { is_want_of_memory error ≡ false → result ≡ troubles.Bytes error }
-{
-    match error {
-        Error::Memory => Trouble::Memory,
-        other => Trouble::Bytes(other),
-    }
-}
-
-/// The bytes of the package with which a text begins.
-fn encoded(alloc: Global, text: &str) -> Result<Vec<u8>, Trouble>
-    ensures ok { IfOk result (λ bytes. IsPackageOf text.now bytes.items) }
-    ensures err { IfErr result (IsTroubleOf text.now) }
-{
-    match read(alloc, text) {
-        Ok((resolve, main)) => match encode(alloc, &resolve, main, false) {
-            Ok(bytes) => Ok(bytes),
-            Err(error) => Err(of_encoding(error)),
-        },
-        Err(fault) => Err(of_fault(fault)),
-    }
-}
-
-/// The same of bytes, which have to be UTF-8.
-fn package_of(alloc: Global, bytes: &[u8]) -> Result<Vec<u8>, Trouble>
-    ensures ok { IfOk result (λ made. IsPackageOf bytes.now made.items) }
-    ensures err { IfErr result (IsTroubleOf bytes.now) }
-{
-    match str::from_utf8(bytes) {
-        Ok(text) => encoded(alloc, text),
-        Err(_) => Err(Trouble::NoText),
-    }
-}
+use teasel_files::{Folder, FolderText, Input, Source};
+use teasel_messages::{Refusal, foreign, is_text};
 
 /// Whether memory was wanting.
 fn is_memory(trouble: &Trouble) -> bool
-    ensures { (text : List ℕ) → result ≡ false → IsTroubleOf text trouble.now → IsUnmade text }
+    ensures { (texts : List (List ℕ)) (own : ℕ) → result ≡ false → IsTroubleOf texts own trouble.now → IsUnmade texts own }
 {
     match trouble {
         Trouble::Memory => true,
-        Trouble::NoText => false,
+        Trouble::NoText(_) => false,
         Trouble::Text(_) => false,
+        Trouble::Nothing => false,
+        Trouble::Apart(_) => false,
         Trouble::Bytes(_) => false,
     }
 }
 
-/// The bytes of the package with which a text begins, or nothing where none is made of it.
-fn package_if_made(alloc: Global, bytes: &[u8]) -> Result<Option<Vec<u8>>, AllocError>
-    ensures made { IfOk result (λ found. IfSome found (λ made. IsPackageOf bytes.now made.items)) }
-    ensures unmade { IfOk result (λ found. IfNone found (IsUnmade bytes.now)) }
+/// An input that isn't whole, in the place of texts of which no package is made.
+fn without_package<'a>(alloc: Global, name: &'a str, refusal: Refusal) -> Input<'a>
+    ensures { result.whole ≡ false }
 {
-    match package_of(alloc, bytes) {
-        Ok(made) => Ok(Some(made)),
+    Input {
+        name,
+        bytes: Vec::new(alloc),
+        whole: false,
+        refusal: Some(refusal),
+    }
+}
+
+/// The package with which so many of the texts begin, or an input that isn't whole where none is made.
+fn made_of<'a>(
+    alloc: Global,
+    name: &'a str,
+    texts: &[Named<'_>],
+    own: usize,
+) -> Result<Input<'a>, AllocError>
+    ensures { IfOk result (IsMade (bytes_of texts.now) own) }
+{
+    match package_of(alloc, texts, own) {
+        Ok(bytes) => Ok(Input {
+            name,
+            bytes,
+            whole: true,
+            refusal: None,
+        }),
         Err(trouble) => {
             if is_memory(&trouble) {
                 Err(AllocError)
             } else {
-                Ok(None)
+                Ok(without_package(alloc, name, refusal_of(alloc, name, texts, &trouble)))
             }
         }
     }
 }
 
-/// The input with the bytes of the package that its text declares, if it is a text; an input that isn't whole, where none is made of it.
-fn made_of_text<'a>(alloc: Global, input: Input<'a>) -> Result<Input<'a>, AllocError>
-    ensures { IfOk result (IsTaken input.entry) }
+/// The input with the package that its text declares, if it is a text.
+fn made_of_file<'a>(alloc: Global, input: Input<'a>) -> Result<Input<'a>, AllocError>
+    ensures { IfOk result (IsFileTaken input.entry) }
 {
     if !input.whole || !is_text(&input.bytes) {
         return Ok(input);
     }
-    match package_if_made(alloc, &input.bytes)? {
-        Some(bytes) => Ok(Input {
-            name: input.name,
-            bytes,
-            whole: true,
-        }),
-        None => Ok(Input {
-            name: input.name,
-            bytes: input.bytes,
-            whole: false,
-        }),
+    let text = Named {
+        path: input.name,
+        bytes: &input.bytes,
+    };
+    made_of(alloc, input.name, &[text], 1)
+}
+
+/// Whether a file of a folder is no WIT text by its first bytes.
+fn is_foreign(text: &FolderText) -> bool
+    ensures { result ≡ is_foreign_so text.now }
+{
+    !text.whole || !is_text(&text.bytes)
+}
+
+/// The first of a folder's files that is no WIT text.
+fn foreign_in(texts: &[FolderText]) -> Option<&FolderText>
+    ensures some { IfSome result (λ text. list_any is_foreign_so texts.now ≡ true) }
+    ensures none { IfNone result (list_any is_foreign_so texts.now ≡ false) }
+{
+    for text in texts {
+        if is_foreign(text) {
+            return Some(text);
+        }
+    }
+    None
+}
+
+/// The same of all files of the folder.
+fn foreign_among<'b>(folder: &'b Folder<'_>) -> Option<&'b FolderText>
+    ensures some { IfSome result (λ text. list_any is_foreign_so (folder.now.own.items ++ folder.now.used.items) ≡ true) }
+    ensures none { IfNone result (list_any is_foreign_so (folder.now.own.items ++ folder.now.used.items) ≡ false) }
+{
+    match foreign_in(&folder.own) {
+        Some(text) => Some(text),
+        None => foreign_in(&folder.used),
     }
 }
 
-/// The inputs with the package in place of each text, as far as one is made of it.
-pub fn made_of_texts<'a>(
+/// Appends texts with their paths.
+fn put_named<'b>(named: &mut Vec<Named<'b>>, texts: &'b [FolderText]) -> Result<(), AllocError>
+    ensures { OnOk result (bytes_of named.new.items ≡ bytes_of named.old.items ++ bytes_in texts.now) }
+{
+    for text in texts {
+        named.push(Named {
+            path: &text.path,
+            bytes: &text.bytes,
+        })?;
+    }
+    Ok(())
+}
+
+/// The texts of a folder with their paths: its own ones, and those that they use.
+fn named_in<'b>(alloc: Global, folder: &'b Folder<'_>) -> Result<Vec<Named<'b>>, AllocError>
+    ensures { IfOk result (λ named. bytes_of named.items ≡ bytes_in folder.now.own.items ++ bytes_in folder.now.used.items) }
+{
+    let mut named = Vec::new(alloc);
+    put_named(&mut named, &folder.own)?;
+    put_named(&mut named, &folder.used)?;
+    Ok(named)
+}
+
+/// The package with which the own texts of a folder begin, or an input that isn't whole where none is made.
+fn made_of_folder<'a>(alloc: Global, folder: Folder<'a>) -> Result<Input<'a>, AllocError>
+    ensures { IfOk result (IsFolderTaken folder.entry) }
+{
+    if let Some(text) = foreign_among(&folder) {
+        return Ok(without_package(alloc, folder.name, no_text(alloc, &text.path, &text.bytes)));
+    }
+    let named = named_in(alloc, &folder)?;
+    made_of(alloc, folder.name, &named, folder.own.len())
+}
+
+fn made_of_source<'a>(alloc: Global, source: Source<'a>) -> Result<Input<'a>, AllocError>
+    ensures { IfOk result (IsTaken source.entry) }
+{
+    match source {
+        Source::File(input) => made_of_file(alloc, input),
+        Source::Folder(folder) => made_of_folder(alloc, folder),
+    }
+}
+
+/// The inputs of what is read, with the package in place of each text and of each folder, as far as one is made of it.
+pub fn made_of_sources<'a>(
     alloc: Global,
-    inputs: Vec<Input<'a>>,
+    sources: Vec<Source<'a>>,
 ) -> Result<Vec<Input<'a>>, AllocError>
-    ensures { IfOk result (λ made. AreTaken inputs.entry.items made.items) }
+    ensures { IfOk result (λ made. AreTaken sources.entry.items made.items) }
 {
     let mut made = Vec::new(alloc);
-    for input in inputs {
-        made.push(made_of_text(alloc, input)?)?;
+    for source in sources {
+        made.push(made_of_source(alloc, source)?)?;
     }
     Ok(made)
 }
 
-/// The refusal of a text at a place.
-fn refused_at(alloc: Global, name: &str, text: &str, refused: &Refused) -> Refusal {
-    let (line, column) = line_and_column(text, refused.at.start as usize);
-    let why = refused.why;
-    Refusal::of(
-        format!(in alloc; "{name}: line {line}, column {column}: {why}"),
-        caret(alloc, text, refused.at),
-    )
-}
-
-fn refusal_of(alloc: Global, name: &str, text: &str, trouble: &Trouble) -> Refusal {
-    match trouble {
-        Trouble::Memory => Refusal::Memory,
-        Trouble::NoText => told(alloc, name, "it is WIT text that isn't UTF-8", ""),
-        Trouble::Text(Fault::Refused(refused)) => refused_at(alloc, name, text, refused),
-        Trouble::Text(fault) => Refusal::of(
-            format!(in alloc; "{name}: {fault}"),
-            Ok(String::new(alloc)),
-        ),
-        Trouble::Bytes(error) => of_error(alloc, name, error),
-    }
-}
-
 /// Why an input isn't whole: no package is made of its text, for a reason at a place; or it is neither WebAssembly nor WIT text.
 pub fn unmade(alloc: Global, input: &Input<'_>) -> Refusal {
-    if !is_text(&input.bytes) {
-        return foreign(alloc, input.name, &input.bytes);
-    }
-    match str::from_utf8(&input.bytes) {
-        Ok(text) => match encoded(alloc, text) {
-            Ok(_) => Refusal::Memory,
-            Err(trouble) => refusal_of(alloc, input.name, text, &trouble),
-        },
-        Err(_) => foreign(alloc, input.name, &input.bytes),
+    match &input.refusal {
+        Some(refusal) => again(alloc, refusal),
+        None => foreign(alloc, input.name, &input.bytes),
     }
 }

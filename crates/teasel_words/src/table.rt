@@ -305,7 +305,7 @@ impl Opt {
                     Word::Strip,
                     Word::Sections,
                 ],
-                does: "read at most SIZE bytes of a file; 1G unless you say",
+                does: "read at most SIZE bytes of a file or a folder; 1G unless you say",
             },
             Opt::Help => OptionLine {
                 name: "--help",

@@ -26,9 +26,11 @@ returns-clause-carries g c =
     }
 
 pub answer_of-requires : goal.answer_of-requires
-answer_of-requires g c = λ asked. has-its-files (g.S.Store.holds (g.S.Store.state c.args.store.now)) (given_of c.args.asked.now) c.deref.result.now c.requires
-    (subst (λ (is : List Input). AreInputs (g.S.Store.holds (g.S.Store.state c.args.store.now)) (files_of (given_of c.args.asked.now)) is) (sym c.deref.ensures.value)
-    c.in_ok-inputs.ensures.inputs) asked
+answer_of-requires g c = λ asked.
+    let holds = g.S.Store.holds (g.S.Store.state c.args.store.now) in
+    let lists = g.S.Store.lists (g.S.Store.state c.args.store.now) in
+    has-its-files holds lists (given_of c.args.asked.now) c.deref.result.now c.requires
+    (subst (λ (is : List Input). AreInputs holds lists (files_of (given_of c.args.asked.now)) is) (sym c.deref.ensures.value) c.in_ok-inputs.ensures.inputs) asked
 
 pub returns-in_err-check_names-clause-stops : goal.returns-in_err-check_names-clause-stops
 returns-in_err-check_names-clause-stops g c =

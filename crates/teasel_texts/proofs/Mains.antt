@@ -1,0 +1,35 @@
+-- The package that texts begin with.
+use Rattle.std.proofs.Common.{◌≡◌, ◌∙◌, ◌<◌, sym, subst, arith, min, ℕ, List, length, take, slice_get, Some}
+use Rattle.std.proofs.lemmas.List.{length-take, take_min}
+use Rattle.std.proofs.lemmas.{Bool.ltb-true, Option.slice_get_within}
+use Rattle.base_lemmas.proofs.{Elements.all_get, Lists.slice_take}
+use Rattle.wit_model.specs.Rules.{in_list}
+use Rattle.wit_model.specs.declared.model.{PackageId.PackageId, Resolve.Resolve}
+use Rattle.wit_text.specs.Texts.{ReadsTexts}
+use Rattle.teasel_texts.specs.Made.{AreApart, IsNoMainOf, IsOther, IsTroubleOf, IsUnmade.apart, IsUnmade.nothing}
+use Rattle.teasel_texts.specs.declared.packages.Trouble.{Trouble}
+use Rattle.teasel_texts.specs.declared.packages.Trouble.TheVariants as troubles
+
+-- another one among the first ones, which are no more than there are
+pub apart-in : (mains : List PackageId) (own : ℕ) (main : PackageId) (n : ℕ) → slice_get mains 0 ≡ Some main → IsOther main (take (min own (length mains)) mains) n
+    → AreApart mains own
+apart-in mains own main n first among =
+    let other = subst (λ (xs : List PackageId). IsOther main xs n) (take_min own mains) among in
+    let below : n < min own (length mains) = subst (λ (k : ℕ). n < k) (length-take own mains) (slice_get_within (take own mains) n other.0 other.1) in
+    let within : n < own = omega (arith, below) in
+    record { main = main; first = first; number = n; within = within; other = (other.0, sym (slice_take mains own n within) ∙ other.1, other.2) }
+
+-- what stands in the way of the package, where texts are read
+pub no-main : (texts : List (List ℕ)) (own : ℕ) (r : Resolve) (mains : List PackageId) → ReadsTexts texts r mains → (t : Trouble) → IsNoMainOf mains own t
+    → IsTroubleOf texts own t
+no-main texts own r mains reads troubles.Memory h = absurd h
+no-main texts own r mains reads (troubles.NoText n) h = absurd h
+no-main texts own r mains reads (troubles.Text fault) h = absurd h
+no-main texts own r mains reads troubles.Nothing h = nothing r (subst (λ (ids : List PackageId). ReadsTexts texts r ids) h reads)
+no-main texts own r mains reads (troubles.Apart n) h = apart r mains reads h
+no-main texts own r mains reads (troubles.Bytes e) h = absurd h
+
+-- a package that texts begin with is one of those that are read
+pub main-in-range : (texts : List (List ℕ)) (r : Resolve) (mains : List PackageId) (n : ℕ) (main : PackageId) → ReadsTexts texts r mains → slice_get mains n ≡ Some main
+    → main.0 < length r.packages.items
+main-in-range texts r mains n main reads is = ltb-true main.0 (length r.packages.items) (all_get (λ id. in_list r.packages.items id.0) mains n main reads.in_range is)

@@ -1,0 +1,156 @@
+//! The packages that texts declare, in binary form.
+
+ghost use Rattle.std.specs.Prelude.{◌≡◌, ◌<◌, ℕ, true, false, length, map, IfErr, IfNone, IfOk, IfSome};
+ghost use Rattle.std.specs.List.{list_all};
+ghost use Rattle.wit_model.specs.Valid.{IsValid};
+ghost use Rattle.teasel_messages.specs.Reasons.{is_memory as is_want_of_memory};
+ghost use Rattle.teasel_texts.specs.Made.{IsMainOf, IsNoMainOf, IsOther, IsPackageOf, IsReadOf, IsTroubleOf, bytes_of, is_memory_of_text, is_package};
+ghost use Rattle.teasel_texts.specs.declared.packages.Trouble.TheVariants as troubles;
+
+use std::alloc::{AllocError, AllocFailed, Global};
+use text_names::Fault;
+use wit_encode::encode;
+use wit_model::{Error, PackageId, Resolve};
+use wit_text::read_texts;
+
+/// A text, with the path by which messages name it.
+#[derive(Clone, Copy)]
+pub(crate) struct Named<'b> {
+    pub(crate) path: &'b str,
+    pub(crate) bytes: &'b [u8],
+}
+
+/// Why no package is made of texts.
+#[derive(Drop)]
+pub(crate) enum Trouble {
+    Memory,
+    /// The text of this number isn't UTF-8.
+    NoText(usize),
+    Text(Fault),
+    /// There is no text.
+    Nothing,
+    /// The text of this number begins with another package than the first.
+    Apart(usize),
+    Bytes(Error),
+}
+
+impl From<AllocError> for Trouble {
+    ghost from_gives = { λ _ t. t ≡ troubles.Memory };
+
+    fn from(_error: AllocError) -> Trouble {
+        Trouble::Memory
+    }
+}
+
+impl<T: Drop> From<AllocFailed<T>> for Trouble {
+    ghost from_gives = { λ _ t. t ≡ troubles.Memory };
+
+    fn from(_error: AllocFailed<T>) -> Trouble {
+        Trouble::Memory
+    }
+}
+
+/// The texts, which have to be UTF-8.
+fn texts_of<'b>(alloc: Global, texts: &[Named<'b>]) -> Result<Vec<&'b str>, Trouble>
+    ensures ok { IfOk result (λ found. map (λ t. t.now) found.items ≡ bytes_of texts.now) }
+    ensures err { (own : ℕ) → IfErr result (IsTroubleOf (bytes_of texts.now) own) }
+{
+    let mut found = Vec::with_capacity(alloc, texts.len())?;
+    for (number, text) in texts.iter().enumerate() {
+        match str::from_utf8(text.bytes) {
+            Ok(text) => found.push(text)?,
+            Err(_) => return Err(Trouble::NoText(number)),
+        }
+    }
+    Ok(found)
+}
+
+/// The number of the first of these packages that isn't this one.
+fn other_among(mains: &[PackageId], main: PackageId) -> Option<usize>
+    ensures none { IfNone result (list_all (is_package main) mains.now ≡ true) }
+    ensures some { IfSome result (IsOther main mains.now) }
+{
+    for (number, other) in mains.iter().enumerate() {
+        if other.0 != main.0 {
+            return Some(number);
+        }
+    }
+    None
+}
+
+/// The package with which all of so many texts begin.
+fn main_of(mains: &[PackageId], own: usize) -> Result<PackageId, Trouble>
+    ensures ok { IfOk result (IsMainOf mains.now own) }
+    ensures err { IfErr result (IsNoMainOf mains.now own) }
+{
+    match mains.first() {
+        Some(main) => match other_among(mains.split_at(own.min(mains.len())).0, *main) {
+            Some(number) => Err(Trouble::Apart(number)),
+            None => Ok(*main),
+        },
+        None => Err(Trouble::Nothing),
+    }
+}
+
+/// A fault of texts, as what stands in the way of their package.
+fn of_fault(fault: Fault) -> Trouble
+    ensures memory { is_memory_of_text fault ≡ true → result ≡ troubles.Memory }
+    ensures text { is_memory_of_text fault ≡ false → result ≡ troubles.Text fault }
+{
+    match fault {
+        Fault::Memory => Trouble::Memory,
+        other => Trouble::Text(other),
+    }
+}
+
+/// The same of a package that isn't encoded.
+fn of_encoding(error: Error) -> Trouble
+    ensures memory { is_want_of_memory error ≡ true → result ≡ troubles.Memory }
+    ensures bytes { is_want_of_memory error ≡ false → result ≡ troubles.Bytes error }
+{
+    match error {
+        Error::Memory => Trouble::Memory,
+        other => Trouble::Bytes(other),
+    }
+}
+
+/// The packages of texts, and the one with which so many of them begin.
+fn read(alloc: Global, texts: &[&str], own: usize) -> Result<(Resolve, PackageId), Trouble>
+    ensures read { IfOk result (λ r. IsReadOf (map (λ t. t.now) texts.now) own r.0 r.1) }
+    ensures valid { IfOk result (λ r. IsValid r.0) }
+    ensures in_range { IfOk result (λ r. r.1.0 < length r.0.packages.items) }
+    ensures err { IfErr result (IsTroubleOf (map (λ t. t.now) texts.now) own) }
+{
+    match read_texts(alloc, texts) {
+        Ok((resolve, mains)) => match main_of(&mains, own) {
+            Ok(main) => Ok((resolve, main)),
+            Err(trouble) => Err(trouble),
+        },
+        Err(fault) => Err(of_fault(fault)),
+    }
+}
+
+/// The bytes of the package with which so many of the texts begin.
+fn encoded(alloc: Global, texts: &[&str], own: usize) -> Result<Vec<u8>, Trouble>
+    ensures ok { IfOk result (λ bytes. IsPackageOf (map (λ t. t.now) texts.now) own bytes.items) }
+    ensures err { IfErr result (IsTroubleOf (map (λ t. t.now) texts.now) own) }
+{
+    match read(alloc, texts, own) {
+        Ok((resolve, main)) => match encode(alloc, &resolve, main, false) {
+            Ok(bytes) => Ok(bytes),
+            Err(error) => Err(of_encoding(error)),
+        },
+        Err(trouble) => Err(trouble),
+    }
+}
+
+/// The same of bytes, which have to be UTF-8.
+pub(crate) fn package_of(alloc: Global, texts: &[Named<'_>], own: usize) -> Result<Vec<u8>, Trouble>
+    ensures ok { IfOk result (λ made. IsPackageOf (bytes_of texts.now) own made.items) }
+    ensures err { IfErr result (IsTroubleOf (bytes_of texts.now) own) }
+{
+    match texts_of(alloc, texts) {
+        Ok(found) => encoded(alloc, &found, own),
+        Err(trouble) => Err(trouble),
+    }
+}
