@@ -1,5 +1,5 @@
 -- What is declared, as definitions grow. Serves declared.
-use Rattle.std.proofs.Common.{◌≡◌, sym, subst, List, Result, Ok, Err, IfOk, Vec, Global}
+use Rattle.std.proofs.Common.{◌≡◌, sym, subst, refl, List, Result, Ok, Err, IfOk, Vec, Global}
 use Rattle.wit_model.specs.Text.{Text}
 use Rattle.wit_model.specs.declared.model.{TypeDef.TypeDef, TypeDefKind.TypeDefKind, TypeId.TypeId, TypeOwner.TypeOwner, Field.Field, Case.Case}
 use Rattle.print_grammar.specs.Tree.{Prefix, FieldTree, CaseTree, Declared}
@@ -41,6 +41,14 @@ module _ {old new : List TypeDef} (h : Begins old new) where
     there = entry_stays id.0 k.def h k.there;
     stands = record { front = k.stands.front; kind = declared_kind_stays k.stands.kind };
   }
+
+pub plain_name : (declared : Declared) → declared_name (plain_declared declared) ≡ declared_name declared
+plain_name (Declared.RecordOf name fields) = refl
+plain_name (Declared.VariantOf name cases) = refl
+plain_name (Declared.FlagsOf name flags) = refl
+plain_name (Declared.EnumOf name cases) = refl
+plain_name (Declared.AliasOf name ty) = refl
+plain_name (Declared.ResourceOf name members) = refl
 
 -- a definition that is added under its name is what the tree declares
 pub declared_added : {a b : Types} (owner : TypeOwner) (prefix : Prefix) {declared : Declared} {name : Text} {kind : TypeDefKind} {E : Type 0}

@@ -20,7 +20,11 @@ pub maybe_weaker : {X Y : Type 0} {A B : X → Y → Type 0} → ((x : X) (y : Y
 maybe_weaker w MaybeIs.neither = MaybeIs.neither
 maybe_weaker w (MaybeIs.both {x = x} {y = y} k) = MaybeIs.both (w x y k)
 
-push_each : {X Y : Type 0} {Is : X → Y → Type 0} {xs : List X} {ys : List Y} (x : X) (y : Y) → EachIs Is xs ys → Is x y
+pub each_append : {X Y : Type 0} {Is : X → Y → Type 0} {xs us : List X} {ys vs : List Y} → EachIs Is xs ys → EachIs Is us vs → EachIs Is (xs ++ us) (ys ++ vs)
+each_append EachIs.no_more k = k
+each_append (EachIs.one_more h hs) k = EachIs.one_more h (each_append hs k)
+
+pub push_each : {X Y : Type 0} {Is : X → Y → Type 0} {xs : List X} {ys : List Y} (x : X) (y : Y) → EachIs Is xs ys → Is x y
     → EachIs Is (xs ++ x ∷ []) (ys ++ y ∷ [])
 push_each x y EachIs.no_more k = EachIs.one_more k EachIs.no_more
 push_each x y (EachIs.one_more h hs) k = EachIs.one_more h (push_each x y hs k)

@@ -1,18 +1,17 @@
 -- What names stand for, as types are made. Serves scope, members.
 use Rattle.std.proofs.Common.{◌≡◌, ◌∙◌, ◌+◌, arith, if◌then◌else◌, true≢false, sym, subst, refl, Bool, true, false, cond, ◌⊎◌, inl}
-use Rattle.std.proofs.Common.{inr, List, Option, Some, None, Result, Ok, Err, OnOk, String, Global, slice_get, ℕ, length, get_or, is_some, nat_lt, IfSome}
-use Rattle.std.proofs.lemmas.Option.{slice_get_past, slice_get_read}
-use Rattle.std.specs.Option.{option_copied}
-use borrow.Author.Tests.{ltb-true, ltb-false}
+use Rattle.std.proofs.Common.{inr, List, [], ◌∷◌, ◌++◌, Option, Some, None, Result, Ok, Err, OnOk, slice_get, ℕ, length, is_some, ap}
+use Rattle.std.specs.Option.{option_and_then}
 use Rattle.std.specs.Borrow.{Bor}
 use Rattle.std.proofs.lemmas.Slice.Eq.{bytes_eq-Decides}
 use Rattle.wit_model.specs.Text.{Text, text_eq}
 use Rattle.wit_model.specs.declared.model.{TypeDef.TypeDef, TypeDefKind.TypeDefKind, TypeId.TypeId, TypeOwner.TypeOwner}
-use Rattle.print_grammar.specs.Tree.{Prefix, Declared}
+use Rattle.wit_model.proofs.TextLemmas.{text_alike}
+use Rattle.base_lemmas.proofs.Lists.{front_or_end}
+use Rattle.print_grammar.specs.Tree.{Prefix, Declared, MemberTree}
 use Rattle.text_types.specs.declared.scope.Scope.{Scope}
-use Rattle.text_types.specs.{Scopes.id_under, Scopes.IsCounted, Scopes.IsPlaced, Scopes.KeepsPlaced, Scopes.Places, Scopes.StaysIn, Stands.NameAt, Kept.defs_of, Kept.Grows}
-use Rattle.text_types.specs.declared.scope.Own.{Own}
-use Rattle.text_types.specs.{Each.MaybeIs, Made.IsOwn}
+use Rattle.text_types.specs.Scopes.{id_under, made_under, type_name, types_in, AreApartByName, IsCounted, IsFresh, IsPlaced, KeepsPlaced, Places, StaysIn}
+use Rattle.text_types.specs.{Stands.NameAt, Kept.defs_of, Kept.Grows}
 use Rattle.text_types.specs.declared.types.Types.{Types}
 use Rattle.text_types.proofs.Growth.{placed}
 use Rattle.text_types.specs.Declares.{declared_name, DeclaredAt, NamedAt}
@@ -20,28 +19,34 @@ use Rattle.text_types.specs.Declares.{declared_name, DeclaredAt, NamedAt}
 -- ---- scopes that keep what is placed
 
 pub keeps_none : (a : Scope) → KeepsPlaced a a
-keeps_none a = record { text = refl; owner = refl; placed = λ defs h. h; counted = λ h. h }
+keeps_none a = record { text = refl; home = refl; owner = refl; placed = λ defs h. h; fresh = λ h. h }
 
 pub keeps_join : {a b c : Scope} → KeepsPlaced a b → KeepsPlaced b c → KeepsPlaced a c
-keeps_join h k = record { text = k.text ∙ h.text; owner = k.owner ∙ h.owner; placed = λ defs p. k.placed defs (h.placed defs p); counted = λ n. k.counted (h.counted n) }
+keeps_join h k = record {
+  text = k.text ∙ h.text;
+  home = k.home ∙ h.home;
+  owner = k.owner ∙ h.owner;
+  placed = λ defs p. k.placed defs (h.placed defs p);
+  fresh = λ n. k.fresh (h.fresh n);
+}
 
 pub still_placed : {a b : Scope} (defs : List TypeDef) → KeepsPlaced a b → IsPlaced a defs → IsPlaced b defs
 still_placed defs h p = h.placed defs p
 
-pub still_counted : {a b : Scope} → KeepsPlaced a b → IsCounted a → IsCounted b
-still_counted h n = h.counted n
+pub still_fresh : {a b : Scope} → KeepsPlaced a b → IsFresh a → IsFresh b
+still_fresh h n = h.fresh n
 
 pub stays_here : {a : Scope} {defs : List TypeDef} → IsPlaced a defs → StaysIn a a defs
-stays_here p = record { text = refl; owner = refl; placed = p }
+stays_here p = record { text = refl; home = refl; owner = refl; placed = p }
 
 pub stays_join : {a b c : Scope} {defs more : List TypeDef} → StaysIn a b defs → StaysIn b c more → StaysIn a c more
-stays_join h k = record { text = k.text ∙ h.text; owner = k.owner ∙ h.owner; placed = k.placed }
+stays_join h k = record { text = k.text ∙ h.text; home = k.home ∙ h.home; owner = k.owner ∙ h.owner; placed = k.placed }
 
 pub stays_from : {a b c : Scope} {defs : List TypeDef} → KeepsPlaced a b → StaysIn b c defs → StaysIn a c defs
-stays_from h k = record { text = k.text ∙ h.text; owner = k.owner ∙ h.owner; placed = k.placed }
+stays_from h k = record { text = k.text ∙ h.text; home = k.home ∙ h.home; owner = k.owner ∙ h.owner; placed = k.placed }
 
 pub stays_grown : {a b : Scope} {x y : Types} → Grows x y → StaysIn a b (defs_of x) → StaysIn a b (defs_of y)
-stays_grown g k = record { text = k.text; owner = k.owner; placed = placed g k.placed }
+stays_grown g k = record { text = k.text; home = k.home; owner = k.owner; placed = placed g k.placed }
 
 pub is_placed : {a b : Scope} {defs : List TypeDef} → StaysIn a b defs → IsPlaced b defs
 is_placed k = k.placed
@@ -50,10 +55,10 @@ is_placed k = k.placed
 pub placed_made : (a b : Scope) {X E : Type 0} (defs : List TypeDef) (name : Text) (id : TypeId) (r : Result X E) → OnOk r (Places a b name id)
     → NameAt defs id name → IsPlaced a defs
     → OnOk r (StaysIn a b defs)
-placed_made a b defs name id (Ok x) h n p = record { text = h.text; owner = h.owner; placed = h.placed defs n p }
+placed_made a b defs name id (Ok x) h n p = record { text = h.text; home = h.home; owner = h.owner; placed = h.placed defs n p }
 placed_made a b defs name id (Err x) h n p = tt
 
-pub ruleset keeping = (keeps_none, keeps_join, still_placed, still_counted, stays_here, stays_from, stays_grown, is_placed)
+pub ruleset keeping = (keeps_none, keeps_join, still_placed, still_fresh, stays_here, stays_from, stays_grown, is_placed)
 
 -- ---- one name more
 
@@ -103,18 +108,68 @@ pub named_there : {defs : List TypeDef} {owner : TypeOwner} {prefix : Prefix} {n
     → NamedAt defs owner prefix name kind id → NameAt defs id name
 named_there k = record { def = k.def; there = k.there; named = k.front.named }
 
--- ---- types that are made
+-- ---- what is made, and what isn't
 
-pub own_made : (defs : List TypeDef) (text : Text) (owner : TypeOwner) (o : Option Own) (own : Own) (e : String Global × TypeId) → o ≡ Some own
-    → IsOwn defs text owner own e
-    → MaybeIs (IsOwn defs text owner) o (Some e)
-own_made defs text owner o own e is k = subst (λ x. MaybeIs (IsOwn defs text owner) x (Some e)) (sym is) (MaybeIs.both k)
+unmade_case : (b : Bool) (o : Option (Option TypeId)) → option_and_then (λ made. made) o ≡ None → option_and_then (λ made. made) (cond b (Some None) o) ≡ None
+unmade_case true o e = refl
+unmade_case false o e = e
 
-pub none_made : (defs : List TypeDef) (text : Text) (owner : TypeOwner) (o : Option Own) → o ≡ None → MaybeIs (IsOwn defs text owner) o None
-none_made defs text owner o is = subst (λ x. MaybeIs (IsOwn defs text owner) x None) (sym is) MaybeIs.neither
+known_case : (b : Bool) (v : Option TypeId) (o : Option (Option TypeId)) → is_some o ≡ true → is_some (cond b (Some v) o) ≡ true
+known_case true v o e = refl
+known_case false v o e = e
 
--- what is looked up in a slice, copied
-pub item_copied : {X : Type 0} (xs : List X) (i : ℕ) (r : Option (Bor X)) → is_some r ≡ nat_lt i (length xs) → IfSome r (λ x. x.now ≡ get_or xs i x.now)
-    → option_copied r ≡ slice_get xs i
-item_copied xs i None h k = sym (slice_get_past xs i (ltb-false i (length xs) (sym h)))
-item_copied xs i (Some x) h k = sym (slice_get_read xs (length xs) i x.now refl (ltb-true i (length xs) (sym h)) k)
+found_case : (b : Bool) (id : TypeId) (o : Option (Option TypeId)) → option_and_then (λ made. made) (cond b (Some (Some id)) o)
+    ≡ (if b then Some id else option_and_then (λ made. made) o)
+found_case true id o = refl
+found_case false id o = refl
+
+module _ (old new : Scope) (key : Bor Text) where
+  pub none_made : Puts old new key None → ((name : Text) → made_under old name ≡ None) → (name : Text) → made_under new name ≡ None
+  none_made u h n = ap (option_and_then (λ made. made)) (u (record key { now = n })) ∙ unmade_case (text_eq key.now n) (id_under old n) (h n)
+
+  pub some_made : (id : TypeId) → Puts old new key (Some id) → (name : Text)
+      → made_under new name ≡ (if text_eq key.now name then Some id else made_under old name)
+  some_made id u n = ap (option_and_then (λ made. made)) (u (record key { now = n })) ∙ found_case (text_eq key.now n) id (id_under old n)
+
+  still_known : (v : Option TypeId) → Puts old new key v → (name : Text) → is_some (id_under old name) ≡ true → is_some (id_under new name) ≡ true
+  still_known v u n h = ap is_some (u (record key { now = n })) ∙ known_case (text_eq key.now n) v (id_under old n) h
+
+  now_known : (v : Option TypeId) → Puts old new key v → is_some (id_under new key.now) ≡ true
+  now_known v u = ap is_some (u key) ∙ ap (λ b. is_some (cond b (Some v) (id_under old key.now))) (text_alike key.now)
+
+-- one name more, which no other type has
+apart_more : (types : List MemberTree) (member : MemberTree) (has : Text → Bool)
+    → ((place : ℕ) (other : MemberTree) → slice_get types place ≡ Some other → has (type_name other) ≡ true) → has (type_name member) ≡ false
+    → AreApartByName types → AreApartByName (types ++ member ∷ [])
+apart_more types member has known none apart i j a b there here same = go (front_or_end types member i a there) (front_or_end types member j b here)
+  where
+    go : (slice_get types i ≡ Some a) ⊎ ((i ≡ length types) × (member ≡ a)) → (slice_get types j ≡ Some b) ⊎ ((j ≡ length types) × (member ≡ b)) → i ≡ j
+    go (inl x) (inl y) = apart i j a b x y same
+    go (inl x) (inr y) = absurd (true≢false (sym (known i a x) ∙ ap has (same ∙ ap type_name (sym y.1)) ∙ none))
+    go (inr x) (inl y) = absurd (true≢false (sym (known j b y) ∙ ap has (sym same ∙ ap type_name (sym x.1)) ∙ none))
+    go (inr x) (inr y) = x.0 ∙ sym y.0
+
+known_more : (types : List MemberTree) (member : MemberTree) (has : Text → Bool)
+    → ((place : ℕ) (other : MemberTree) → slice_get types place ≡ Some other → has (type_name other) ≡ true) → has (type_name member) ≡ true
+    → (place : ℕ) (other : MemberTree) → slice_get (types ++ member ∷ []) place ≡ Some other → has (type_name other) ≡ true
+known_more types member has known there place other at = go (front_or_end types member place other at)
+  where
+    go : (slice_get types place ≡ Some other) ⊎ ((place ≡ length types) × (member ≡ other)) → has (type_name other) ≡ true
+    go (inl x) = known place other x
+    go (inr x) = ap (λ m. has (type_name m)) (sym x.1) ∙ there
+
+pub fresh_more : (old new : Scope) (key : Bor Text) (member : MemberTree) → Puts old new key None → is_some (id_under old key.now) ≡ false
+    → types_in new ≡ types_in old ++ member ∷ [] → key.now ≡ type_name member → (IsCounted old → IsCounted new) → IsFresh old → IsFresh new
+fresh_more old new key member u none types named counted h =
+    let has = λ (name : Text). is_some (id_under new name) in
+    let known : (place : ℕ) (other : MemberTree) → slice_get (types_in old) place ≡ Some other → has (type_name other) ≡ true =
+    λ place other at. still_known old new key None u (type_name other) (h.known place other at) in
+    record {
+      counted = counted h.counted;
+      known = λ place other at. known_more (types_in old) member has known (ap has (sym named) ∙ now_known old new key None u) place other
+          (ap (λ l. slice_get l place) (sym types) ∙ at);
+      apart = λ i j a b there here same. apart_more (types_in old) member (λ name. is_some (id_under old name)) h.known
+          (ap (λ name. is_some (id_under old name)) (sym named) ∙ none) h.apart i j a b (ap (λ l. slice_get l i) (sym types) ∙ there)
+          (ap (λ l. slice_get l j) (sym types) ∙ here) same;
+      unmade = none_made old new key u h.unmade;
+    }

@@ -1,5 +1,5 @@
 -- Which trees functions are, by the list of definitions alone.
-use Rattle.std.specs.Prelude.{◌≡◌, List, Option, Some, None, drop, if◌then◌else◌, Bool, true, false, String}
+use Rattle.std.specs.Prelude.{◌≡◌, List, Option, Some, None, if◌then◌else◌, Bool, true, false, String}
 use Rattle.std.specs.declared.alloc.Global.{Global}
 use Rattle.wit_model.specs.Text.{Text, text_of}
 use Rattle.wit_model.specs.{Lookup.is_async, Rules.is_freestanding, Names.constructor_name, Names.method_name, Names.static_name}
@@ -11,7 +11,7 @@ use Rattle.wit_model.specs.declared.model.Handle.TheVariants as handle
 use Rattle.print_grammar.specs.Tree.{TypeTree, Prefix, ParamTree, SignatureTree, ResourceMember}
 use Rattle.print_grammar.specs.Tree.ResourceMember.{Constructor, Method, Static}
 use Rattle.print_grammar.specs.Tree.TypeTree.{ResultOk, ResultOf}
-use Rattle.print_items.specs.Shown.{is_method, shown_gates, shown_external_id}
+use Rattle.print_items.specs.Shown.{shown_gates, shown_external_id}
 use Rattle.print_items.specs.ItemCalls.{written_params}
 use Rattle.text_types.specs.{Each.EachIs, Each.MaybeIs, Stands.Stands, Kept.IsUnnamed}
 

@@ -11,5 +11,6 @@ pub mod Declares
 pub mod Functions
 pub mod Seen
 pub mod Strings
-pub mod Used
+pub mod Targets
 pub mod Made
+pub mod Making

@@ -1,13 +1,18 @@
 //! What an interface has.
 #![tactic(auto, using(crate::proofs::Growth::growing, crate::proofs::ScopeLaws::keeping))]
 
-ghost use Rattle.std.specs.Prelude.{◌≡◌, slice_get, IfOk, OnOk};
+ghost use Rattle.std.specs.Prelude.{◌≡◌, ◌<◌, ◌∷◌, [], length, map, None, IfOk, OnOk};
+ghost use Rattle.std.specs.{HashMap.get_by_text, List.flat_map};
 ghost use Rattle.wit_model.specs.Text.{text_of};
-ghost use Rattle.text_names.specs.Tables.{IsIndex};
-ghost use Rattle.text_trees.specs.{Seen.cut, TreesSeen.declared_of, TreesSeen.prefix_of};
-ghost use Rattle.text_types.specs.{Declares.declared_name, Declares.DeclaredAt, Each.MaybeIs, Made.IsOwn};
-ghost use Rattle.text_types.specs.{Kept.defs_of, Kept.Grows, Plain.plain_declared, Scopes.text_in};
-ghost use Rattle.text_types.specs.{Scopes.IsCounted, Scopes.IsPlaced, Scopes.KeepsPlaced, Scopes.Places, Scopes.StaysIn, Used.here_name, Used.UsedAt};
+ghost use Rattle.print_grammar.specs.Tree.{MemberTree.UseMember, MemberTree.TypeMember};
+ghost use Rattle.text_names.specs.{Contents.text_at, Tables.IsIndex};
+ghost use Rattle.text_trees.specs.{Seen.cut, TreesSeen.declared_of, TreesSeen.member_of, TreesSeen.path_of, TreesSeen.prefix_of, TreesSeen.used_name_of};
+ghost use Rattle.text_types.specs.{Declares.declared_name, Declares.DeclaredAt};
+ghost use Rattle.text_types.specs.{Kept.defs_of, Kept.Grows, Plain.plain_declared, Scopes.text_in, Scopes.types_in};
+ghost use Rattle.text_types.specs.Made.{functions_of, functions_of_declared, types_of, IsOfPlace};
+ghost use Rattle.text_types.specs.Making.{AddsAll, AddsEntry, AddsFunctions, AreTypesOf, IsHere, IsTypeOf, MakesMembers, MakesUnder, UsesType};
+ghost use Rattle.text_types.specs.Scopes.{made_under, AddsTypes, Agrees, IsFresh, IsPlaced, Places, StaysIn};
+ghost use Rattle.text_types.specs.Targets.{HasType};
 
 use crate::declared::{add_declared, add_named};
 use crate::functions::{Callable, function_of, functions_of_resource};
@@ -28,7 +33,9 @@ pub struct Interfaces {
 
 impl Interfaces {
     /// The type of this name of an interface of the texts.
-    fn type_of(&self, scope: &Scope<'_>, interface: u32, used: UsedName) -> Result<TypeId, Fault> {
+    fn type_of(&self, scope: &Scope<'_>, interface: u32, used: UsedName) -> Result<TypeId, Fault>
+        ensures found { IfOk result (HasType self.now interface (cut (text_in scope.now) used.other)) }
+    {
         match self.numbers.get(interface as usize) {
             Some(Some(number)) => match self.list.get(*number as usize) {
                 Some(interface) => match interface.types.get(scope.text.part(used.other)?) {
@@ -59,10 +66,11 @@ fn add_used<'t>(
     path: PathTree,
     used: UsedName,
 ) -> Result<TypeId, Fault>
-    requires { IsIndex sources.now }
+    requires index { IsIndex sources.now }
+    requires here { IsHere sources.now scope.now }
     ensures grows { Grows types.old types.new }
-    ensures added { IfOk result (UsedAt (defs_of types.new) scope.now.owner (prefix_of (text_in scope.now) prefix.now)
-        (cut (text_in scope.now) (here_name used))) }
+    ensures added { IfOk result (UsesType sources.now interfaces.now (defs_of types.new) scope.now (prefix_of (text_in scope.now) prefix.now)
+        (path_of (text_in scope.now) path) (used_name_of (text_in scope.now) used)) }
 {
     let interface = sources.interface_of(scope.text.number, scope.package, path)?;
     let target = interfaces.type_of(scope, interface, used)?;
@@ -95,11 +103,12 @@ impl<'t> Scope<'t> {
     ) -> Result<(String, TypeId), Fault>
         requires placed { IsPlaced self.old (defs_of types.old) }
         requires index { IsIndex sources.now }
+        requires here { IsHere sources.now self.old }
         ensures grows { Grows types.old types.new }
         ensures placed { OnOk result (StaysIn self.old self.new (defs_of types.new)) }
-        ensures named { IfOk result (λ r. text_of r.0 ≡ cut (text_in self.old) (here_name used)) }
-        ensures made { IfOk result (λ r. UsedAt (defs_of types.new) self.old.owner (prefix_of (text_in self.old) prefix.now)
-            (cut (text_in self.old) (here_name used)) r.1) }
+        ensures made { IfOk result (IsTypeOf sources.now interfaces.now (defs_of types.new) self.old (UseMember (prefix_of (text_in self.old) prefix.now)
+            (path_of (text_in self.old) path) (used_name_of (text_in self.old) used ∷ []))) }
+        ensures under { IfOk result (MakesUnder self.old self.new) }
     {
         let id = add_used(alloc, sources, interfaces, self, types, prefix, path, used)?;
         self.place(alloc, own_name(used), id)
@@ -117,9 +126,10 @@ impl<'t> Scope<'t> {
         requires { IsPlaced self.old (defs_of types.old) }
         ensures grows { Grows types.old types.new }
         ensures placed { OnOk result (StaysIn self.old self.new (defs_of types.new)) }
-        ensures named { IfOk result (λ r. text_of r.0 ≡ declared_name (plain_declared (declared_of (text_in self.old) declared.now))) }
+        ensures named { IfOk result (λ r. text_of r.0 ≡ declared_name (declared_of (text_in self.old) declared.now)) }
         ensures made { IfOk result (λ r. DeclaredAt (defs_of types.new) self.old.owner (prefix_of (text_in self.old) prefix.now)
             (plain_declared (declared_of (text_in self.old) declared.now)) r.1) }
+        ensures under { IfOk result (MakesUnder self.old self.new) }
     {
         let id = add_declared(alloc, sources.hash, self, types, prefix, declared)?;
         self.place(alloc, name_of(declared), id)
@@ -133,21 +143,23 @@ impl<'t> Scope<'t> {
         interfaces: &Interfaces,
         types: &mut Types,
         place: usize,
-    ) -> Result<Option<(String, TypeId)>, Fault>
+    ) -> Result<(String, TypeId), Fault>
+        requires within { place < length self.old.types.items }
         requires placed { IsPlaced self.old (defs_of types.old) }
         requires index { IsIndex sources.now }
+        requires here { IsHere sources.now self.old }
         ensures grows { Grows types.old types.new }
         ensures placed { OnOk result (StaysIn self.old self.new (defs_of types.new)) }
-        ensures made { IfOk result (MaybeIs (IsOwn (defs_of types.new) (text_in self.old) self.old.owner) (slice_get self.old.types.items place)) }
+        ensures made { IfOk result (IsOfPlace (IsTypeOf sources.now interfaces.now (defs_of types.new) self.old) (types_in self.old) place) }
+        ensures under { IfOk result (MakesUnder self.old self.new) }
     {
-        match self.types.get(place).copied() {
-            Some(Own::Used(prefix, path, used)) => Ok(Some(self.make_used(
-                alloc, sources, interfaces, types, prefix, path, used,
-            )?)),
-            Some(Own::Declared(prefix, declared)) => Ok(Some(self.make_declared(
-                alloc, sources, types, prefix, declared,
-            )?)),
-            None => Ok(None),
+        match self.types[place] {
+            Own::Used(prefix, path, used) => {
+                self.make_used(alloc, sources, interfaces, types, prefix, path, used)
+            }
+            Own::Declared(prefix, declared) => {
+                self.make_declared(alloc, sources, types, prefix, declared)
+            }
         }
     }
 
@@ -161,33 +173,42 @@ impl<'t> Scope<'t> {
     ) -> Result<Map<String, TypeId>, Fault>
         requires placed { IsPlaced self.old (defs_of types.old) }
         requires index { IsIndex sources.now }
-        requires counted { IsCounted self.old }
+        requires here { IsHere sources.now self.old }
+        requires fresh { IsFresh self.old }
         ensures grows { Grows types.old types.new }
         ensures placed { OnOk result (StaysIn self.old self.new (defs_of types.new)) }
+        ensures made { IfOk result (AreTypesOf sources.now interfaces.now (defs_of types.new) self.old) }
+        ensures agrees { IfOk result (λ all. Agrees all self.new) }
     {
         let order = self.order(alloc)?;
         let mut all = Map::new(alloc);
         for place in &order {
-            let made = self.make(alloc, sources, interfaces, types, *place as usize)?;
-            add_entry(&mut all, made)?;
+            let entry = self.make(alloc, sources, interfaces, types, *place as usize)?;
+            add_entry(&mut all, entry)?;
         }
         Ok(all)
     }
 }
 
-fn add_entry(all: &mut Map<String, TypeId>, made: Option<(String, TypeId)>) -> Result<(), Fault> {
-    if let Some((name, id)) = made {
-        all.insert(name, id)?;
-    }
+/// Adds a type. No other has its name.
+fn add_entry(all: &mut Map<String, TypeId>, entry: (String, TypeId)) -> Result<(), Fault>
+    requires { get_by_text all.old (text_of entry.0) ≡ None }
+    ensures adds { OnOk result (AddsEntry entry all.old all.new) }
+{
+    let (name, id) = entry;
+    all.insert(name, id)?;
     Ok(())
 }
 
+/// Adds a function. Refuses a name that is there.
 fn add_function(
     alloc: Global,
     scope: &Scope<'_>,
     functions: &mut Map<String, Function>,
     callable: Callable,
-) -> Result<(), Fault> {
+) -> Result<(), Fault>
+    ensures adds { OnOk result (AddsAll (callable ∷ []) functions.old functions.new) }
+{
     let at = callable.at;
     let key = String::from_str(alloc, &callable.function.name)?;
     if functions.insert(key, callable.function)?.is_some() {
@@ -196,9 +217,23 @@ fn add_function(
     Ok(())
 }
 
+fn add_all(
+    alloc: Global,
+    scope: &Scope<'_>,
+    functions: &mut Map<String, Function>,
+    callables: Vec<Callable>,
+) -> Result<(), Fault>
+    ensures adds { OnOk result (AddsAll callables.items functions.old functions.new) }
+{
+    for callable in callables {
+        add_function(alloc, scope, functions, callable)?;
+    }
+    Ok(())
+}
+
 /// Adds what types a member is.
 fn add_types_of<'t>(scope: &mut Scope<'t>, member: &'t MemberTree) -> Result<(), Fault>
-    ensures keeps { OnOk result (KeepsPlaced scope.old scope.new) }
+    ensures adds { OnOk result (AddsTypes scope.old scope.new (types_of (member_of (text_in scope.old) member.now))) }
 {
     match member {
         MemberTree::UseMember(prefix, path, names) => scope.add_use(prefix, *path, names),
@@ -208,12 +243,39 @@ fn add_types_of<'t>(scope: &mut Scope<'t>, member: &'t MemberTree) -> Result<(),
 }
 
 fn add_types<'t>(scope: &mut Scope<'t>, members: &'t [MemberTree]) -> Result<(), Fault>
-    ensures keeps { OnOk result (KeepsPlaced scope.old scope.new) }
+    ensures adds { OnOk result (AddsTypes scope.old scope.new (flat_map types_of (map (member_of (text_in scope.old)) members.now))) }
 {
     for member in members {
         add_types_of(scope, member)?;
     }
     Ok(())
+}
+
+/// Adds the functions of a declared type.
+fn add_declared_functions<'t>(
+    alloc: Global,
+    sources: &Sources<'t>,
+    scope: &Scope<'t>,
+    types: &mut Types,
+    functions: &mut Map<String, Function>,
+    declared: &Declared,
+) -> Result<(), Fault>
+    requires { IsPlaced scope.now (defs_of types.old) }
+    ensures grows { Grows types.old types.new }
+    ensures adds { OnOk result (AddsFunctions (defs_of types.new) (λ name. made_under scope.now name)
+        (functions_of_declared (declared_of (text_in scope.now) declared.now)) functions.old functions.new) }
+{
+    match declared {
+        Declared::ResourceOf(name, inner) => {
+            let callables = functions_of_resource(alloc, sources.hash, scope, types, *name, inner)?;
+            add_all(alloc, scope, functions, callables)
+        }
+        Declared::RecordOf(_, _) => Ok(()),
+        Declared::VariantOf(_, _) => Ok(()),
+        Declared::FlagsOf(_, _) => Ok(()),
+        Declared::EnumOf(_, _) => Ok(()),
+        Declared::AliasOf(_, _) => Ok(()),
+    }
 }
 
 /// Adds what functions a member is.
@@ -227,14 +289,12 @@ fn add_functions<'t>(
 ) -> Result<(), Fault>
     requires { IsPlaced scope.now (defs_of types.old) }
     ensures grows { Grows types.old types.new }
+    ensures adds { OnOk result (AddsFunctions (defs_of types.new) (λ name. made_under scope.now name)
+        (functions_of (member_of (text_in scope.now) member.now)) functions.old functions.new) }
 {
     match member {
-        MemberTree::TypeMember(_, Declared::ResourceOf(name, inner)) => {
-            let callables = functions_of_resource(alloc, sources.hash, scope, types, *name, inner)?;
-            for callable in callables {
-                add_function(alloc, scope, functions, callable)?;
-            }
-            Ok(())
+        MemberTree::TypeMember(_, declared) => {
+            add_declared_functions(alloc, sources, scope, types, functions, declared)
         }
         MemberTree::FunctionMember(prefix, name, signature) => {
             if scope.has(*name) {
@@ -255,7 +315,7 @@ fn add_functions<'t>(
             };
             add_function(alloc, scope, functions, callable)
         }
-        _ => Ok(()),
+        MemberTree::UseMember(_, _, _) => Ok(()),
     }
 }
 
@@ -270,9 +330,11 @@ pub fn members_of<'t>(
 ) -> Result<Members, Fault>
     requires placed { IsPlaced scope.old (defs_of types.old) }
     requires index { IsIndex sources.now }
-    requires counted { IsCounted scope.old }
+    requires here { IsHere sources.now scope.old }
+    requires fresh { IsFresh scope.old }
+    requires empty { types_in scope.old ≡ [] }
     ensures grows { Grows types.old types.new }
-    ensures placed { OnOk result (StaysIn scope.old scope.new (defs_of types.new)) }
+    ensures made { IfOk result (MakesMembers sources.now interfaces.now (defs_of types.new) scope.old (map (member_of (text_in scope.old)) members.now)) }
 {
     add_types(scope, members)?;
     let own = scope.make_all(alloc, sources, interfaces, types)?;

@@ -1,14 +1,16 @@
 //! The types that an interface or a world has, by name.
 #![tactic(auto, using(crate::proofs::ScopeLaws::keeping))]
 
-ghost use Rattle.std.specs.Prelude.{◌≡◌, ◌<◌, List, Some, IfOk, OnOk};
+ghost use Rattle.std.specs.Prelude.{◌≡◌, ◌<◌, ℕ, [], ◌∷◌, List, Some, length, map, IfOk, OnOk};
 ghost use Rattle.wit_model.specs.Text.{Text as TextModel};
-ghost use Rattle.text_trees.specs.{Seen.cut, TreesSeen.declared_of, TreesSeen.used_name_of};
-ghost use Rattle.text_types.specs.{Declares.declared_name, Plain.plain_declared, Used.here_name};
+ghost use Rattle.print_grammar.specs.Tree.{MemberTree.UseMember, MemberTree.TypeMember};
+ghost use Rattle.text_trees.specs.{Seen.cut, TreesSeen.declared_of, TreesSeen.path_of, TreesSeen.prefix_of, TreesSeen.used_name_of};
+ghost use Rattle.text_types.specs.{Declares.declared_name, Made.name_here, Made.types_of};
 ghost use Rattle.wit_model.specs.declared.model.TypeDef.{TypeDef as TypeDefModel};
-ghost use Rattle.text_names.specs.Orders.{links_of, AreWithin};
+ghost use Rattle.text_names.specs.Orders.{links_of, AreWithin, IsOrder};
 ghost use Rattle.text_types.specs.Needed.{AreAllBelow, AreBelow};
-ghost use Rattle.text_types.specs.Scopes.{id_under, name_count, text_in, IsCounted, IsPlaced, KeepsPlaced, Places};
+ghost use Rattle.text_types.specs.Scopes.{id_under, member_of_own, name_count, text_in, type_name, types_in, AddsTypes, IsCounted, IsFresh};
+ghost use Rattle.text_types.specs.Scopes.{IsPlaced, KeepsPlaced, OrdersTypes, Places};
 
 use crate::needs::needs_of_declared;
 use crate::texts::Text;
@@ -39,7 +41,7 @@ pub struct Scope<'t> {
 
 /// The name of a declared type.
 pub(crate) fn name_of(declared: &Declared) -> Span
-    ensures name { (text : TextModel) → cut text result ≡ declared_name (plain_declared (declared_of text declared.now)) }
+    ensures name { (text : TextModel) → cut text result ≡ declared_name (declared_of text declared.now) }
 {
     match declared {
         Declared::RecordOf(name, _) => *name,
@@ -53,7 +55,7 @@ pub(crate) fn name_of(declared: &Declared) -> Span
 
 /// What a used name is called here.
 pub(crate) fn own_name(used: UsedName) -> Span
-    ensures { result ≡ here_name used }
+    ensures { (text : TextModel) → cut text result ≡ name_here (used_name_of text used) }
 {
     match used.own {
         Some(own) => own,
@@ -71,8 +73,10 @@ impl<'t> Scope<'t> {
         owner: TypeOwner,
     ) -> Scope<'t>
         ensures empty { (defs : List TypeDefModel) → IsPlaced result defs }
-        ensures counted { IsCounted result }
+        ensures fresh { IsFresh result }
+        ensures types { types_in result ≡ [] }
         ensures text { result.text ≡ text.entry }
+        ensures home { result.«package» ≡ «package» }
         ensures owner { result.owner ≡ owner }
     {
         Scope {
@@ -84,8 +88,10 @@ impl<'t> Scope<'t> {
         }
     }
 
+    /// Adds a type of this name. Refuses a name that is there.
     fn add(&mut self, name: Span, own: Own<'t>) -> Result<(), Fault>
-        ensures keeps { OnOk result (KeepsPlaced self.old self.new) }
+        requires named { cut (text_in self.old) name ≡ type_name (member_of_own (text_in self.old) own) }
+        ensures adds { OnOk result (AddsTypes self.old self.new (member_of_own (text_in self.old) own.entry ∷ [])) }
     {
         let key = self.text.cut(name);
         if self.names.contains_key(&key) {
@@ -103,7 +109,8 @@ impl<'t> Scope<'t> {
         path: PathTree,
         names: &[UsedName],
     ) -> Result<(), Fault>
-        ensures keeps { OnOk result (KeepsPlaced self.old self.new) }
+        ensures adds { OnOk result (AddsTypes self.old self.new (types_of (UseMember (prefix_of (text_in self.old) prefix.now)
+            (path_of (text_in self.old) path) (map (used_name_of (text_in self.old)) names.now)))) }
     {
         for used in names {
             self.add(own_name(*used), Own::Used(prefix, path, *used))?;
@@ -113,7 +120,8 @@ impl<'t> Scope<'t> {
 
     /// Adds a declared type. Refuses a name that is there.
     pub fn add_type(&mut self, prefix: &'t Prefix, declared: &'t Declared) -> Result<(), Fault>
-        ensures keeps { OnOk result (KeepsPlaced self.old self.new) }
+        ensures adds { OnOk result (AddsTypes self.old self.new (TypeMember (prefix_of (text_in self.old) prefix.now)
+            (declared_of (text_in self.old) declared.now) ∷ [])) }
     {
         self.add(name_of(declared), Own::Declared(prefix, declared))
     }
@@ -167,7 +175,8 @@ impl<'t> Scope<'t> {
     /// What each type of the scope needs.
     fn all_needs(&self, alloc: Global) -> Result<Vec<Vec<Need>>, Fault>
         requires { IsCounted self.now }
-        ensures { IfOk result (λ all. AreWithin (links_of all.items)) }
+        ensures within { IfOk result (λ all. AreWithin (links_of all.items)) }
+        ensures long { IfOk result (λ all. length all.items ≡ length self.now.types.items) }
     {
         let mut all = Vec::with_capacity(alloc, self.types.len())?;
         for own in &self.types {
@@ -179,6 +188,7 @@ impl<'t> Scope<'t> {
     /// The places of the types, in an order in which they can be made.
     pub(crate) fn order(&self, alloc: Global) -> Result<Vec<u32>, Fault>
         requires { IsCounted self.now }
+        ensures order { IfOk result (λ order. OrdersTypes self.now order.items) }
     {
         let all = self.all_needs(alloc)?;
         match order_of(alloc, &all)? {
