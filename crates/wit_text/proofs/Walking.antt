@@ -110,6 +110,7 @@ goes_keeps walk first old es path n at _ _ (is_put fs none end put) u =
     let last : List WorldEntry = (path_key number, put.item) ∷ [] in
     let follows : MayFollow walk (first ∷ []) es n put.item = record {
       reached = reached walk first es (reverse path) n u.path.1;
+      declared = put.declared;
       fronted = put.fronted;
       new = none;
       behind = needs_stand walk es n at end u.path.0;
@@ -141,7 +142,7 @@ puts_wider : (walk : Walk) (xs ys : List ℕ) (old new : List WorldEntry) → ((
 puts_wider walk xs ys old _ among (nothing es) = nothing old
 puts_wider walk xs ys old _ among (and_one es fs n item p f) =
     and_one old fs n item (puts_wider walk xs ys old fs among p)
-    (record { reached = wider walk xs ys among n f.reached; fronted = f.fronted; new = f.new; behind = f.behind })
+    (record { reached = wider walk xs ys among n f.reached; declared = f.declared; fronted = f.fronted; new = f.new; behind = f.behind })
 
 puts_then : (walk : Walk) (xs : List ℕ) (a b c : List WorldEntry) → Puts walk xs a b → Puts walk xs b c → Puts walk xs a c
 puts_then walk xs a b _ p (nothing es) = p

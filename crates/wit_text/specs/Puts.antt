@@ -1,5 +1,5 @@
 -- What is put among the imports, or the exports, of a world: interfaces by path, each behind those that it needs.
-use Rattle.std.specs.Prelude.{◌≡◌, ◌&&◌, ◌||◌, not, Bool, true, false, ℕ, nat_eq, List, [], ◌∷◌, ◌++◌, Contains}
+use Rattle.std.specs.Prelude.{◌≡◌, ◌<◌, ◌&&◌, ◌||◌, not, Bool, true, false, ℕ, nat_eq, List, [], ◌∷◌, ◌++◌, length, Contains}
 use Rattle.std.specs.Prelude.{Option, Some, None, is_some, slice_get, unwrap_or}
 use Rattle.std.specs.{Borrow.Bor, Option.option_and_then}
 use Rattle.indexmap.specs.IndexMap.{get}
@@ -26,9 +26,17 @@ abbrev pub stands : Walk → List WorldEntry → ℕ → Bool
 stands walk es n = has_path es (number_at walk.numbers.now n)
 
 -- what stands in front of an interface, as an item of this number: bare where nothing does
+abbrev pub IsFrontedBy : List ℕ → Option (Bor Prefix) → ℕ → WorldItem → Type 0
+IsFrontedBy text (Some prefix) n item = IsStated text prefix.now n item
+IsFrontedBy text None n item = item ≡ bare_item n
+
+-- the same by the text of a walk
 abbrev pub IsFronted : Walk → Option (Bor Prefix) → ℕ → WorldItem → Type 0
-IsFronted walk (Some prefix) n item = IsStated walk.text.text.now prefix.now n item
-IsFronted walk None n item = item ≡ bare_item n
+IsFronted walk prefix n item = IsFrontedBy walk.text.text.now prefix n item
+
+-- The texts have an interface of this number.
+abbrev pub IsDeclared : Walk → ℕ → Type 0
+IsDeclared walk n = n < length walk.sources.now.interfaces.items
 
 -- From one of the first, this interface is reached through needs that the walk goes to.
 pub data Reaches (walk : Walk) (firsts : List ℕ) : ℕ → Type 0 where
@@ -42,6 +50,7 @@ NeedsStand walk es n = (m : ℕ) → Needs (links walk) n m → goes_to walk m �
 -- An interface that is reached may be put behind these entries, as this item.
 pub record MayFollow (walk : Walk) (firsts : List ℕ) (es : List WorldEntry) (n : ℕ) (item : WorldItem) : Type 0 where
   pub reached : Reaches walk firsts n
+  pub declared : IsDeclared walk n
   pub fronted : IsFronted walk (get nat_eq walk.mine.now n) (number_at walk.numbers.now n) item
   pub new : stands walk es n ≡ false
   pub behind : NeedsStand walk es n

@@ -5,7 +5,7 @@ use Rattle.text_names.specs.Orders.{needed}
 use Rattle.text_names.specs.declared.needs.Need.{Need}
 use Rattle.wit_model.specs.declared.model.WorldItem.{WorldItem}
 use Rattle.wit_text.specs.Items.{WorldEntry, path_key}
-use Rattle.wit_text.specs.Puts.{goes_to, links, number_at, stands, IsFronted}
+use Rattle.wit_text.specs.Puts.{goes_to, links, number_at, stands, IsDeclared, IsFronted}
 use Rattle.wit_text.specs.declared.shown.Walk.{Walk}
 
 -- an interface on the path of a walk, and how many of its needs are done
@@ -19,6 +19,7 @@ numbers_of needs = map (λ need. need.number) needs
 -- The interface is put behind all entries.
 pub record PutsOne (walk : Walk) (n : ℕ) (old new : List WorldEntry) : Type 0 where
   pub item : WorldItem
+  pub declared : IsDeclared walk n
   pub fronted : IsFronted walk (get nat_eq walk.mine.now n) (number_at walk.numbers.now n) item
   pub grows : new ≡ old ++ (path_key (number_at walk.numbers.now n), item) ∷ []
 

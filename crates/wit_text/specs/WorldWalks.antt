@@ -4,8 +4,9 @@ use Rattle.text_types.specs.declared.members.Interfaces.{Interfaces}
 use Rattle.wit_text.specs.{Items.WorldEntry, Puts.PutsAll}
 use Rattle.wit_text.specs.declared.{given.Given.Given, imports.Labelled.Labelled, shown.Walk.Walk}
 
--- A walk in a world, by its text, by what the texts' interfaces need, and by their numbers.
+-- A walk in a world, by its text, by the texts' interfaces, by what they need, and by their numbers.
 pub record IsWalkIn (given : Given) (interfaces : Interfaces) (walk : Walk) : Type 0 where
+  pub sources : walk.sources.now ≡ given.around.now.sources.now
   pub text : walk.text.text.now ≡ given.text.text.now
   pub needs : walk.needs.now ≡ given.around.now.needs.now
   pub numbers : walk.numbers.now ≡ interfaces.numbers.items

@@ -1,6 +1,9 @@
 //! A world that is made: its text, and what it states by path.
 
-ghost use Rattle.text_names.specs.Tables.{IsIndex};
+ghost use Rattle.std.specs.Prelude.{IfOk};
+ghost use Rattle.text_trees.specs.TreesSeen.{path_of};
+ghost use Rattle.text_types.specs.Targets.{MeansInterface};
+ghost use Rattle.wit_text.specs.Sides.{home_in, sources_in, text_of_world, IsInText};
 
 use crate::externs::Paths;
 use crate::shown::Around;
@@ -21,7 +24,8 @@ pub(crate) struct Given<'b, 't> {
 impl<'b, 't> Given<'b, 't> {
     /// The interface of a path in the world.
     pub(crate) fn interface_of(&self, path: PathTree) -> Result<u32, Fault>
-        requires { IsIndex self.now.around.now.sources.now }
+        requires { IsInText self.now }
+        ensures means { IfOk result (MeansInterface (sources_in self.now) (home_in self.now) (path_of (text_of_world self.now) path)) }
     {
         let world = self.world;
         self.around
@@ -35,7 +39,7 @@ impl<'b, 't> Given<'b, 't> {
         alloc: Global,
         members: &[MemberTree],
     ) -> Result<Vec<Need>, Fault>
-        requires { IsIndex self.now.around.now.sources.now }
+        requires { IsInText self.now }
     {
         let world = self.world;
         needs_of_members(

@@ -1,8 +1,11 @@
 //! Interfaces: those of the texts, and those that stand in worlds.
 #![tactic(auto, using(text_types::proofs::Growth::growing, text_types::proofs::ScopeLaws::keeping))]
 
-ghost use Rattle.text_names.specs.Tables.{IsIndex};
-ghost use Rattle.text_types.specs.Kept.{Grows};
+ghost use Rattle.std.specs.Prelude.{◌≡◌, length, map, IfOk};
+ghost use Rattle.text_names.specs.{Contents.text_at, Tables.IsIndex};
+ghost use Rattle.text_trees.specs.TreesSeen.{member_of};
+ghost use Rattle.text_types.specs.Kept.{defs_of, Grows};
+ghost use Rattle.wit_text.specs.MadeInterfaces.{AddsInline, AddsInterface};
 
 use std::alloc::Global;
 use text_names::{Fault, InterfaceSource, Sources, WorldSource};
@@ -10,7 +13,9 @@ use text_trees::MemberTree;
 use text_types::{Interfaces, Scope, Text, Types, members_of, no_docs, stability_of, string_of};
 use wit_model::{Interface, InterfaceId, PackageId, Stability, TypeOwner};
 
-fn next(interfaces: &Interfaces) -> Result<u32, Fault> {
+fn next(interfaces: &Interfaces) -> Result<u32, Fault>
+    ensures { IfOk result (λ n. n ≡ length interfaces.now.list.items) }
+{
     match u32::try_from(interfaces.list.len()) {
         Ok(number) => Ok(number),
         Err(_) => Err(Fault::Size),
@@ -18,7 +23,10 @@ fn next(interfaces: &Interfaces) -> Result<u32, Fault> {
 }
 
 /// The text of this number.
-pub(crate) fn text_of<'t>(sources: &Sources<'t>, number: u32) -> Text<'t> {
+pub(crate) fn text_of<'t>(sources: &Sources<'t>, number: u32) -> Text<'t>
+    ensures number { result.number ≡ number }
+    ensures text { result.text.now ≡ text_at sources.now.texts.now number }
+{
     Text {
         number,
         text: sources.text(number),
@@ -34,6 +42,8 @@ pub(crate) fn add_interface<'t>(
     source: &InterfaceSource<'t>,
 ) -> Result<u32, Fault>
     requires { IsIndex sources.now }
+    ensures grows { Grows types.old types.new }
+    ensures added { IfOk result (AddsInterface sources.now interfaces.old interfaces.new (defs_of types.new) source.now) }
 {
     let number = next(interfaces)?;
     let text = text_of(sources, source.text);
@@ -69,6 +79,8 @@ pub(crate) fn add_inline<'t>(
 ) -> Result<u32, Fault>
     requires { IsIndex sources.now }
     ensures grows { Grows types.old types.new }
+    ensures added { IfOk result (AddsInline sources.now interfaces.old interfaces.new (defs_of types.new) world.now.«package»
+        (map (member_of (text_at sources.now.texts.now world.now.text)) members.now)) }
 {
     let number = next(interfaces)?;
     let text = text_of(sources, world.text);

@@ -2,7 +2,9 @@
 
 ghost use Rattle.std.specs.Prelude.{◌≡◌, ◌∷◌, ◌++◌, [], is_some, IfErr, IfOk, OnOk};
 ghost use Rattle.indexmap.specs.IndexMap.{get};
+ghost use Rattle.text_trees.specs.Seen.{cut};
 ghost use Rattle.wit_text.specs.{Added.IsTwice, Items.bare_item, Items.key_test, Items.path_key, Items.IsStated};
+ghost use Rattle.wit_text.specs.Sides.{AddsLabel, AddsNamed};
 
 use std::alloc::Global;
 use text_names::{Fault, Why};
@@ -67,7 +69,9 @@ pub(crate) fn add_named(
     name: &str,
     item: WorldItem,
     at: Span,
-) -> Result<(), Fault> {
+) -> Result<(), Fault>
+    ensures adds { OnOk result (AddsNamed name.now item entries.old.entries entries.new.entries) }
+{
     let key = WorldKey::Name(String::from_str(alloc, name)?);
     add_new(text, entries, key, item, at)
 }
@@ -80,7 +84,9 @@ pub(crate) fn add_stated(
     prefix: &Prefix,
     name: Span,
     number: u32,
-) -> Result<(), Fault> {
+) -> Result<(), Fault>
+    ensures adds { OnOk result (AddsLabel text.now.text.now prefix.now (cut text.now.text.now name) number entries.old.entries entries.new.entries) }
+{
     let item = stated(alloc, text, number, prefix)?;
     add_named(alloc, text, entries, text.part(name)?, item, name)
 }

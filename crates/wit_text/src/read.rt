@@ -1,10 +1,14 @@
 //! Reading texts.
 
-ghost use Rattle.std.specs.Prelude.{◌≡◌, true, length, map, IfErr, IfOk, OnOk};
-ghost use Rattle.std.specs.List.{list_all};
-ghost use Rattle.text_names.specs.{Orders.links_of, Orders.AreWithin, Orders.IsOrder, Tables.IsIndex};
-ghost use Rattle.wit_model.specs.{Rules.in_list, Valid.IsValid};
-ghost use Rattle.wit_text.specs.{Mains.numbers_of, Texts.ReadsTexts, Texts.RefusesTexts, Rules.SaysBroken};
+ghost use Rattle.std.specs.Prelude.{◌≡◌, ◌<◌, ℕ, [], length, map, Contains, IfErr, IfOk, OnOk};
+ghost use Rattle.text_names.specs.{Orders.links_of, Orders.AreApart, Orders.AreWithin, Orders.IsOrder, Tables.IsIndex};
+ghost use Rattle.text_types.specs.Kept.{defs_of, Grows};
+ghost use Rattle.wit_model.specs.Valid.{IsValid};
+ghost use Rattle.wit_text.specs.MadeInterfaces.{AreAllMade, GrowsInterfaces};
+ghost use Rattle.wit_text.specs.MadeWorlds.{AreWorldsMade};
+ghost use Rattle.wit_text.specs.SoFar.{AreMadeSoFar, IsResolveOf, MakesNext};
+ghost use Rattle.wit_text.specs.{Mains.files_of, Mains.numbers_of, Refusals.AreTreesOf, Rules.SaysBroken, Shows.ShowsFiles};
+ghost use Rattle.wit_text.specs.Texts.{ReadsTexts, RefusesTexts};
 
 use crate::interfaces::add_interface;
 use crate::packages::packages_of;
@@ -26,7 +30,8 @@ fn sources_of<'t>(
     trees: &'t [FileTree],
 ) -> Result<Vec<Source<'t>>, Fault>
     requires { length trees.now ≡ length texts.now }
-    ensures { IfOk result (λ sources. length sources.items ≡ length texts.now) }
+    ensures texts { IfOk result (λ sources. map (λ s. s.text.now) sources.items ≡ map (λ t. t.now) texts.now) }
+    ensures files { IfOk result (λ sources. map (λ s. s.file.now) sources.items ≡ trees.now) }
 {
     let mut sources = Vec::with_capacity(alloc, texts.len())?;
     for (number, text) in texts.iter().enumerate() {
@@ -58,6 +63,27 @@ fn order_of_interfaces(
     }
 }
 
+/// Makes the interface of this number, if there is one.
+fn make_interface(
+    alloc: Global,
+    sources: &Sources<'_>,
+    interfaces: &mut Interfaces,
+    types: &mut Types,
+    own: u32,
+) -> Result<(), Fault>
+    requires { IsIndex sources.now }
+    ensures made { OnOk result (MakesNext sources.now own interfaces.old (defs_of types.old) interfaces.new (defs_of types.new)) }
+{
+    let place = own as usize;
+    if let Some(source) = sources.interfaces.get(place) {
+        let number = add_interface(alloc, sources, interfaces, types, source)?;
+        if place < interfaces.numbers.len() {
+            interfaces.numbers[place] = Some(number);
+        }
+    }
+    Ok(())
+}
+
 fn add_interfaces(
     alloc: Global,
     sources: &Sources<'_>,
@@ -65,15 +91,13 @@ fn add_interfaces(
     interfaces: &mut Interfaces,
     types: &mut Types,
 ) -> Result<(), Fault>
-    requires { IsIndex sources.now }
+    requires index { IsIndex sources.now }
+    requires apart { AreApart order.now }
+    requires start { AreMadeSoFar sources.now [] interfaces.old (defs_of types.old) }
+    ensures made { OnOk result (AreMadeSoFar sources.now order.now interfaces.new (defs_of types.new)) }
 {
     for own in order {
-        if let Some(source) = sources.interfaces.get(*own as usize) {
-            let number = add_interface(alloc, sources, interfaces, types, source)?;
-            if let Some(place) = interfaces.numbers.get_mut(*own as usize) {
-                *place = Some(number);
-            }
-        }
+        make_interface(alloc, sources, interfaces, types, *own)?;
     }
     Ok(())
 }
@@ -84,7 +108,10 @@ fn interfaces_of(
     order: &[u32],
     types: &mut Types,
 ) -> Result<Interfaces, Fault>
-    requires { IsIndex sources.now }
+    requires index { IsIndex sources.now }
+    requires apart { AreApart order.now }
+    requires all { (n : ℕ) → n < length sources.now.interfaces.items → Contains order.now n }
+    ensures made { IfOk result (λ interfaces. AreAllMade sources.now interfaces (defs_of types.new)) }
 {
     let mut interfaces = Interfaces {
         list: Vec::new(alloc),
@@ -100,7 +127,11 @@ fn worlds_of(
     interfaces: &mut Interfaces,
     types: &mut Types,
 ) -> Result<Vec<World>, Fault>
-    requires { IsIndex around.now.sources.now }
+    requires index { IsIndex around.now.sources.now }
+    requires made { AreAllMade around.now.sources.now interfaces.old (defs_of types.old) }
+    ensures grows { Grows types.old types.new }
+    ensures made { OnOk result (GrowsInterfaces interfaces.old interfaces.new) }
+    ensures worlds { IfOk result (λ worlds. AreWorldsMade around.now.sources.now interfaces.new (defs_of types.new) worlds.items) }
 {
     let sources = around.sources;
     let mut worlds = Vec::with_capacity(alloc, sources.worlds.len())?;
@@ -123,8 +154,9 @@ fn resolve_in(
     order: &[u32],
 ) -> Result<Resolve, Fault>
     requires order { IsOrder (links_of needs.now) order.now }
+    requires many { length needs.now ≡ length sources.now.interfaces.items }
     requires index { IsIndex sources.now }
-    ensures { IfOk result (λ r. length r.packages.items ≡ length sources.now.packages.items) }
+    ensures { IfOk result (IsResolveOf sources.now) }
 {
     let around = Around { sources, needs };
     let mut types = Types::new(alloc);
@@ -141,7 +173,7 @@ fn resolve_in(
 
 fn resolve_of(alloc: Global, sources: &Sources<'_>) -> Result<Resolve, Fault>
     requires { IsIndex sources.now }
-    ensures { IfOk result (λ r. length r.packages.items ≡ length sources.now.packages.items) }
+    ensures { IfOk result (IsResolveOf sources.now) }
 {
     let needs = needs_of_interfaces(alloc, sources)?;
     let order = order_of_interfaces(alloc, sources, &needs)?;
@@ -173,8 +205,7 @@ fn validate(alloc: Global, resolve: &Resolve) -> Result<(), Fault>
 /// The packages of texts with their trees.
 fn read_sources(alloc: Global, list: &[Source<'_>]) -> Result<(Resolve, Vec<PackageId>), Fault>
     ensures valid { IfOk result (λ r. IsValid r.0) }
-    ensures count { IfOk result (λ r. length r.1.items ≡ length list.now) }
-    ensures in_range { IfOk result (λ r. list_all (λ id. in_list r.0.packages.items id.0) r.1.items ≡ true) }
+    ensures shows { IfOk result (λ r. ShowsFiles (files_of list.now) r.0 r.1.items) }
 {
     let sources = Sources::of(alloc, list)?;
     let resolve = resolve_of(alloc, &sources)?;
@@ -188,7 +219,7 @@ fn read_trees(
     texts: &[&str],
     trees: &[FileTree],
 ) -> Result<(Resolve, Vec<PackageId>), Fault>
-    requires { length trees.now ≡ length texts.now }
+    requires { AreTreesOf (map (λ t. t.now) texts.now) trees.now }
     ensures reads { IfOk result (λ r. ReadsTexts (map (λ t. t.now) texts.now) r.0 r.1.items) }
 {
     let list = sources_of(alloc, texts, trees)?;

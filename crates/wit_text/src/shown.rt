@@ -11,6 +11,9 @@ use text_types::Text;
 /// Interfaces by their number among those of the texts.
 pub(crate) type Marks = IndexMap<u32, ()>;
 
+/// Places of interfaces, by their number among those of the texts.
+pub(crate) type Places = IndexMap<u32, usize>;
+
 /// The interfaces that a world states by path, with what stands in front of each.
 pub(crate) type Stated<'t> = IndexMap<u32, &'t Prefix>;
 
@@ -27,6 +30,7 @@ pub(crate) struct Around<'b, 't> {
 #[derive(Clone, Copy)]
 pub(crate) struct Walk<'b, 't> {
     pub(crate) text: Text<'t>,
+    pub(crate) sources: &'b Sources<'t>,
     pub(crate) needs: &'b [Vec<Need>],
     pub(crate) numbers: &'b [Option<u32>],
     pub(crate) mine: &'b Stated<'t>,

@@ -10,6 +10,7 @@ use crate::parts::{Entries, bare, key_of, stated};
 use crate::shown::Walk;
 use std::alloc::Global;
 use text_names::{Fault, Need};
+use text_types::Interfaces;
 use wit_model::WorldItem;
 
 /// The number of an interface of the texts among those that are made.
@@ -21,6 +22,13 @@ pub(crate) fn made_number(numbers: &[Option<u32>], interface: u32) -> u32
         Some(None) => 0,
         None => 0,
     }
+}
+
+/// The same of interfaces.
+pub(crate) fn number_of(interfaces: &Interfaces, interface: u32) -> u32
+    ensures { result ≡ number_at interfaces.now.numbers.items interface }
+{
+    made_number(interfaces.numbers.as_slice(), interface)
 }
 
 /// The need at a place of those that an interface has.
@@ -67,7 +75,7 @@ fn item_of(alloc: Global, walk: &Walk<'_, '_>, interface: u32) -> Result<WorldIt
     }
 }
 
-/// Puts an interface that isn't there.
+/// Puts an interface that isn't there. Refused where the texts have none of this number.
 fn put_one(
     alloc: Global,
     walk: &Walk<'_, '_>,
@@ -77,6 +85,9 @@ fn put_one(
     requires { stands_lem walk.now entries.old.entries interface ≡ false }
     ensures { OnOk result (PutsOne walk.now interface entries.old.entries entries.new.entries) }
 {
+    if interface as usize >= walk.sources.interfaces.len() {
+        return Err(Fault::Size);
+    }
     let item = item_of(alloc, walk, interface)?;
     entries.insert(key_of(made_number(walk.numbers, interface)), item)?;
     Ok(())

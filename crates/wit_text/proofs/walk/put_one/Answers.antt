@@ -1,4 +1,4 @@
-use Rattle.std.proofs.Common.{◌∙◌, ap}
+use Rattle.std.proofs.Common.{◌∙◌, ap, arith}
 use Rattle.wit_text.specs.{Items.path_key, Puts.number_at}
 use Rattle.wit_text.proofs.Keys.{put_last}
 use Rattle.wit_text.proofs.walk.put_one.Goals as goal
@@ -6,6 +6,7 @@ use Rattle.wit_text.proofs.walk.put_one.Goals as goal
 pub returns : goal.returns
 returns c = record {
   item = c.in_ok-item.item;
+  declared = omega (arith, c.len.ensures);
   fronted = c.in_ok-item.ensures;
   grows =
       c.in_ok-insert.ensures.entries

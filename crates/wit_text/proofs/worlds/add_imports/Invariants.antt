@@ -1,0 +1,16 @@
+use Rattle.std.proofs.Common.{map, take}
+use Rattle.std.specs.List.{filter_map}
+use Rattle.text_trees.specs.TreesSeen.{world_member_of}
+use Rattle.text_types.specs.Kept.{defs_of, Grows}
+use Rattle.wit_text.specs.ShowsWorlds.{import_of}
+use Rattle.wit_text.specs.Sides.{imports_in, text_of_world, Continues, GrowsInline}
+use Rattle.wit_text.proofs.worlds.add_imports.Given as goal
+
+abbrev pub invariant-loop-member : goal.invariant-loop-member
+invariant-loop-member l = record {
+  grows : Grows l.initial.types l.types;
+  keeps : GrowsInline l.initial.interfaces l.interfaces;
+  adds : Continues l.given (imports_in l.given) l.initial.interfaces l.interfaces (defs_of l.initial.types) (defs_of l.types) l.initial.imports.entries
+      l.imports.entries
+      (filter_map import_of (map (world_member_of (text_of_world l.given)) (take l.member-index l.given.world.now.members.now.items)));
+}
