@@ -1,10 +1,14 @@
 -- The package that texts begin with.
-use Rattle.std.proofs.Common.{◌≡◌, ◌∙◌, ◌<◌, sym, subst, arith, min, ℕ, List, length, take, slice_get, Some}
-use Rattle.std.proofs.lemmas.List.{length-take, take_min}
-use Rattle.std.proofs.lemmas.{Bool.ltb-true, Option.slice_get_within}
+use Rattle.std.proofs.Common.{◌≡◌, ◌∙◌, ◌<◌, ◌&&◌, refl, sym, ap, subst, arith, min, ℕ, true, List, length, map, take, slice_get, Some}
+use Rattle.std.proofs.lemmas.List.{length-map, length-take, take_min}
+use Rattle.std.proofs.lemmas.{Bool.lt-ltb, Bool.ltb-true, Option.slice_get_within}
+use Rattle.std.specs.List.{list_all}
 use Rattle.base_lemmas.proofs.{Elements.all_get, Lists.slice_take}
 use Rattle.wit_model.specs.Rules.{in_list}
 use Rattle.wit_model.specs.declared.model.{PackageId.PackageId, Resolve.Resolve}
+use Rattle.print_grammar.specs.Tree.{FileTree}
+use Rattle.print_items.specs.Shown.{shown_head}
+use Rattle.text_types.specs.Each.{EachIs}
 use Rattle.wit_text.specs.Texts.{ReadsTexts}
 use Rattle.teasel_texts.specs.Made.{AreApart, IsNoMainOf, IsOther, IsTroubleOf, IsUnmade.apart, IsUnmade.nothing}
 use Rattle.teasel_texts.specs.declared.packages.Trouble.{Trouble}
@@ -29,7 +33,18 @@ no-main texts own r mains reads troubles.Nothing h = nothing r (subst (λ (ids :
 no-main texts own r mains reads (troubles.Apart n) h = apart r mains reads h
 no-main texts own r mains reads (troubles.Bytes e) h = absurd h
 
--- a package that texts begin with is one of those that are read
+-- the packages that texts begin with are among those that are read
+ranged : (r : Resolve) {files : List FileTree} {mains : List PackageId}
+    → EachIs (λ file id. slice_get (map shown_head r.packages.items) id.0 ≡ Some file.main.head) files mains
+    → list_all (λ id. in_list r.packages.items id.0) mains ≡ true
+ranged r EachIs.no_more = refl
+ranged r (EachIs.one_more {y = m} {ys = ms} h hs) =
+    let low : m.0 < length r.packages.items =
+            subst (λ (k : ℕ). m.0 < k) (length-map r.packages.items shown_head) (slice_get_within (map shown_head r.packages.items) m.0 _ h) in
+    let first : in_list r.packages.items m.0 ≡ true = lt-ltb m.0 (length r.packages.items) low in
+    ap (λ b. b && list_all (λ (id : PackageId). in_list r.packages.items id.0) ms) first ∙ ranged r hs
+
 pub main-in-range : (texts : List (List ℕ)) (r : Resolve) (mains : List PackageId) (n : ℕ) (main : PackageId) → ReadsTexts texts r mains → slice_get mains n ≡ Some main
     → main.0 < length r.packages.items
-main-in-range texts r mains n main reads is = ltb-true main.0 (length r.packages.items) (all_get (λ id. in_list r.packages.items id.0) mains n main reads.in_range is)
+main-in-range texts r mains n main reads is =
+    ltb-true main.0 (length r.packages.items) (all_get (λ id. in_list r.packages.items id.0) mains n main (ranged r reads.shows.mains_are) is)
