@@ -100,6 +100,19 @@ impl<K: Hash + Eq, V> Map<K, V> {
             entry => Some(&self.entries[entry as usize].1),
         }
     }
+    /// The place of a key's entry.
+    pub fn index_of<Q: Hash + Eq + ?Sized>(&self, key: &Q) -> Option<usize>
+    where
+        K: Borrow<Q>,
+    {
+        if self.entries.is_empty() {
+            return None;
+        }
+        match self.table[self.place(self.hash(key), key)].1 {
+            FREE => None,
+            entry => Some(entry as usize),
+        }
+    }
     pub fn contains_key<Q: Hash + Eq + ?Sized>(&self, key: &Q) -> bool
     where
         K: Borrow<Q>,

@@ -388,7 +388,8 @@ struct WorldMaker<'m, 'a> {
     imports: HashMap<u32, &'a Front>,
     exports: HashMap<u32, &'a Front>,
     labelled: HashSet<u32>,
-    labelled_exports: HashSet<u32>,
+    /// For each, how many exports by path stand before it.
+    labelled_exports: HashMap<u32, usize>,
 }
 
 fn item(number: u32, front: &Front) -> Entry {
@@ -470,10 +471,12 @@ impl<'a> WorldMaker<'_, 'a> {
             Extern::Function(..) => Ok(()),
         }
     }
+    /// Imports what uses and exports need. An export under a label serves those that stand behind it.
     fn put_needed(&mut self, entries: &mut Map<Key, Entry>) -> Told<()> {
         let home = self.world.package;
+        let mut pulled = Map::new();
         for member in self.world.members {
-            let needs = match member {
+            let (needs, place) = match member {
                 WorldMember::Own(Member::Use(_, path, _)) => {
                     let id = self.sources.interface_of(home, path)?;
                     if !self.labelled.contains(&id) {
@@ -481,18 +484,33 @@ impl<'a> WorldMaker<'_, 'a> {
                     }
                     continue;
                 }
-                WorldMember::Export(_, Extern::Path(path) | Extern::Named(_, path)) => self.needs[self.sources.interface_of(home, path)? as usize].clone(),
-                WorldMember::Export(_, Extern::Inline(_, members)) => self.sources.needs_of(home, members)?,
+                WorldMember::Export(_, Extern::Path(path)) => {
+                    let id = self.sources.interface_of(home, path)?;
+                    self.put(&mut pulled, id, false);
+                    let own = Key::Interface(self.maker.numbers[id as usize]);
+                    (self.needs[id as usize].clone(), pulled.index_of(&own).unwrap_or(pulled.len()))
+                }
+                WorldMember::Export(_, Extern::Named(_, path)) => {
+                    let id = self.sources.interface_of(home, path)?;
+                    self.put_needs(&mut pulled, &self.needs[id as usize], false);
+                    (self.needs[id as usize].clone(), pulled.len())
+                }
+                WorldMember::Export(_, Extern::Inline(_, members)) => {
+                    let needs = self.sources.needs_of(home, members)?;
+                    self.put_needs(&mut pulled, &needs, false);
+                    (needs, pulled.len())
+                }
                 _ => continue,
             };
             for n in needs {
-                if !self.exports.contains_key(&n) && !self.labelled.contains(&n) && !self.labelled_exports.contains(&n) {
+                let is_served = self.labelled_exports.get(&n).is_some_and(|before| *before <= place);
+                if !self.exports.contains_key(&n) && !self.labelled.contains(&n) && !is_served {
                     self.put(entries, n, true);
                 }
             }
             if let WorldMember::Export(_, Extern::Named(_, path)) = member {
                 let id = self.sources.interface_of(home, path)?;
-                self.labelled_exports.insert(id);
+                self.labelled_exports.entry(id).or_insert(place);
             }
         }
         Ok(())
@@ -585,7 +603,7 @@ pub fn read(texts: &[String]) -> Told<(Resolve, Vec<u32>)> {
             imports: HashMap::new(),
             exports: HashMap::new(),
             labelled: HashSet::new(),
-            labelled_exports: HashSet::new(),
+            labelled_exports: HashMap::new(),
         };
         worlds.push(made.make(number as u32)?);
     }
