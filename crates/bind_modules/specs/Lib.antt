@@ -1,2 +1,0 @@
-pub mod BoundTo
-pub mod Reached

@@ -1,6 +1,0 @@
-pub mod SectionBindings
-pub mod Bound
-pub mod BoundLaws
-pub mod Orders
-pub mod Steps
-pub mod Blamed

@@ -1,4 +1,0 @@
-pub mod Carried
-pub mod Encoded
-pub mod Merged
-pub mod Printed

@@ -1,6 +1,0 @@
-use Rattle.wit_model.specs.Checks.{list_orders}
-use Rattle.check_rules.proofs.Found.{WorldsKeep}
-use Rattle.check_rules.proofs.list_orders.check_worlds.Given as goal
-
-abbrev pub invariant-loop-number : goal.invariant-loop-number
-invariant-loop-number l = WorldsKeep list_orders l.resolve l.number

@@ -1,9 +1,0 @@
-use Rattle.wit_model.proofs.Listings.{interface_breaks}
-use Rattle.check_rules.proofs.Found.{walked}
-use Rattle.check_rules.proofs.listings.check_interfaces.Goals as goal
-
-pub returns-clause-kept : goal.returns-clause-kept
-returns-clause-kept c = search walked
-
-pub returns-then-not-interface_keeps-clause-broken : goal.returns-then-not-interface_keeps-clause-broken
-returns-then-not-interface_keeps-clause-broken c = interface_breaks c.args.resolve.now c.loop-number.number (search walked)

@@ -1,7 +1,0 @@
-use Rattle.std.proofs.Common.{rules}
-use Rattle.wit_model.specs.Valid.{function_names}
-use Rattle.check_rules.proofs.Found.{found_interfaces}
-use Rattle.check_rules.proofs.members.first_interface.Goals as goal
-
-pub returns : goal.returns
-returns c = found_interfaces function_names c.args.resolve.now c.deref.result.now c.deref.ensures.value c.first_failing.result (c.first_failing.ensures _ (λ n x b post. search rules))

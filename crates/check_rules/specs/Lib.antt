@@ -1,4 +1,0 @@
-pub mod Owners
-pub mod Members
-pub mod PackageNames
-pub mod Places

@@ -1,2 +1,0 @@
-pub mod ExportedParts
-pub mod ExportLaws

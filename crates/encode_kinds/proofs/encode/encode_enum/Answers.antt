@@ -1,6 +1,0 @@
-use Rattle.std.proofs.Common.{ap, sym}
-use Rattle.wit_model.specs.Tree.{enum_tree}
-use Rattle.encode_kinds.proofs.encode.encode_enum.Goals as goal
-
-pub returns-clause-size : goal.returns-clause-size
-returns-clause-size g c = λ h. let names = (rw c.deref.ensures.value at c.in_ok-names.ensures) in c.define.ensures.size h _ (ap enum_tree (sym names))

@@ -1,3 +1,0 @@
-pub mod Buildable
-pub mod MeansPlan
-pub mod PlanOf

@@ -1,9 +1,0 @@
-pub mod FormsObeyed
-pub mod KeptMarks
-pub mod MembersStand
-pub mod PlanTypes
-pub mod ReadTypes
-pub mod ShownForms
-pub mod ShownMarks
-pub mod ShownRules
-pub mod UsedParts

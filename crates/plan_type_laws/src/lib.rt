@@ -1,4 +1,0 @@
-//! Laws of plans that are made of what was followed; no code.
-#![tactic(auto)]
-
-pub mod laws;

@@ -1,6 +1,0 @@
-use Rattle.std.proofs.Common.{refl}
-use Rattle.print_items.proofs.Driven.{call_made}
-use Rattle.print_items.proofs.driver.Driver.keyword.Goals as goal
-
-pub returns-then-not-self-clause-calls : goal.returns-then-not-self-clause-calls
-returns-then-not-self-clause-calls g c = call_made _ _ c.keyword.result _ refl c.if-not-self.true c.is_err-self.ensures.value c.keyword.ensures.ok c.keyword.ensures.err

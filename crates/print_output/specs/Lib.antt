@@ -1,3 +1,0 @@
-pub mod OutputCall
-pub mod Render
-pub mod Expansion

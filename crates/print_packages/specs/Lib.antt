@@ -1,3 +1,0 @@
-pub mod GivenTypes
-pub mod Heads
-pub mod Members

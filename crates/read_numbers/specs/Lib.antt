@@ -1,9 +1,0 @@
-pub mod FactLaws
-pub mod Facts
-pub mod ImportParts
-pub mod KnownScopes
-pub mod NumberLaws
-pub mod NumberedInput
-pub mod NumberedParts
-pub mod OwnedViews
-pub mod PlacedNumbers

@@ -1,6 +1,0 @@
-pub mod Answers
-pub mod Checks
-pub mod Forms
-pub mod Kinds
-pub mod Refusals
-pub mod Worlds

@@ -1,9 +1,0 @@
-//! WIT text among the files of the program `teasel`: in its place, or in that of a folder of texts, comes the package that it declares, in binary form.
-#![tactic(auto)]
-
-mod made;
-mod marked;
-mod packages;
-mod refusals;
-
-pub use made::{made_of_sources, unmade};

@@ -1,4 +1,0 @@
-pub mod Choices
-pub mod Given
-pub mod Spelling
-pub mod Table

@@ -1,9 +1,0 @@
-use Rattle.std.proofs.Common.{take}
-use Rattle.text_types.specs.{Each.EachIs, Kept.defs_of, Kept.Grows, Scopes.text_in, Seen.SeenParam}
-use Rattle.text_types.proofs.functions.params_of.Given as goal
-
-abbrev pub invariant-loop-tree : goal.invariant-loop-tree
-invariant-loop-tree l = record {
-  grows : Grows l.initial.types l.types;
-  each : EachIs (SeenParam (defs_of l.types) (text_in l.scope)) (take l.tree-index l.trees) l.params.items;
-}

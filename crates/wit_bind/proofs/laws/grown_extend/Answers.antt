@@ -1,5 +1,0 @@
-use Rattle.wit_bind.proofs.Extending as laws
-use Rattle.wit_bind.proofs.laws.grown_extend.Goals as goal
-
-pub returns : goal.returns
-returns c = laws.grown_extend

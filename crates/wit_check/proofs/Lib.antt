@@ -1,2 +1,0 @@
--- What an answer of `check` says. Serves ResolveCheck::check.
-pub mod Answers

@@ -1,8 +1,0 @@
--- Those so far are written.
-use Rattle.indexmap.specs.IndexMap.{values}
-use Rattle.wit_json.specs.Listed.{number_entry}
-use Rattle.wit_json.proofs.Adding.{Lists}
-use Rattle.wit_json.proofs.functions.put_type_numbers.Given as goal
-
-abbrev pub invariant-loop-id : goal.invariant-loop-id
-invariant-loop-id l = Lists (λ id. number_entry id.0) (values l.types) l.id-iterator l.initial.w l.w

@@ -1,4 +1,0 @@
-pub mod Carried
-pub mod Encodings
-pub mod Modules
-pub mod Said

@@ -1,5 +1,0 @@
-use Rattle.wit_model.proofs.NameLaws as lemmas
-use Rattle.wit_model.proofs.laws.path_grammar.Goals as goal
-
-pub returns : goal.returns
-returns c = lemmas.path_grammar
