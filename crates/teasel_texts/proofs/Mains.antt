@@ -40,7 +40,7 @@ ranged : (r : Resolve) {files : List FileTree} {mains : List PackageId}
 ranged r EachIs.no_more = refl
 ranged r (EachIs.one_more {y = m} {ys = ms} h hs) =
     let low : m.0 < length r.packages.items =
-            subst (λ (k : ℕ). m.0 < k) (length-map r.packages.items shown_head) (slice_get_within (map shown_head r.packages.items) m.0 _ h) in
+    subst (λ (k : ℕ). m.0 < k) (length-map r.packages.items shown_head) (slice_get_within (map shown_head r.packages.items) m.0 _ h) in
     let first : in_list r.packages.items m.0 ≡ true = lt-ltb m.0 (length r.packages.items) low in
     ap (λ b. b && list_all (λ (id : PackageId). in_list r.packages.items id.0) ms) first ∙ ranged r hs
 
