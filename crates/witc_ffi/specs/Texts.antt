@@ -48,8 +48,11 @@ no_text_of names n = label_of names n ++ codes " isn't UTF-8"
 abbrev pub bad_count : List ℕ
 bad_count = codes "the number of own texts isn't 1 to the number of all texts"
 
+abbrev pub two_packages : List ℕ → List ℕ → List ℕ
+two_packages first other = first ++ (codes " and " ++ (other ++ codes " begin with two packages"))
+
 abbrev pub two_packages_of : List (List ℕ) → ℕ → List ℕ
-two_packages_of names n = label_of names 0 ++ (codes " and " ++ (label_of names n ++ codes " begin with two packages"))
+two_packages_of names n = two_packages (label_of names 0) (label_of names n)
 
 -- The bytes are the package with which the own texts begin.
 pub record IsTextsPackage (names texts : List (List ℕ)) (own : ℕ) (bytes : List ℕ) : Type 0 where
