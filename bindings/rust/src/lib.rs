@@ -197,7 +197,10 @@ pub fn package_bytes(package: &[u8], canonical: bool) -> Result<Vec<u8>, Refusal
 /// # Ok::<(), witc::Refusal>(())
 /// ```
 pub fn texts_package(texts: &[(&str, &str)], own: usize) -> Result<Vec<u8>, Refusal> {
-    let raw: Vec<sys::Text> = texts.iter().map(|(name, text)| raw_text(name, text)).collect();
+    let raw: Vec<sys::Text> = texts
+        .iter()
+        .map(|(name, text)| raw_text(name, text))
+        .collect();
     // SAFETY: each pointer and its length are of one text, which is borrowed for the call, and so is the list of them.
     ask(|answer, why| unsafe {
         sys::witc_texts_package_slice(raw.as_ptr(), raw.len(), own, answer, why)

@@ -240,6 +240,9 @@ mod tests {
         assert_eq!(Cause::of(14), Cause::Unknown(14));
         assert_eq!(ClashKind::of(6).number(), 6);
         assert_eq!(Code::of(22, 0), Code::Unknown(22));
+        assert_eq!(Code::of(23, 7), Code::BadText(7));
+        assert_eq!(Code::of(24, 1), Code::TwoPackages(1));
+        assert_eq!(Code::of(26, 0), Code::Unknown(26));
     }
 
     #[test]
