@@ -15,7 +15,8 @@
  *   - a module: a core module, with what its `component-type` sections bind together.
  *
  * witc_kinds tells which of them bytes are. Each can be turned into WIT text, and into the bytes of a package, which every call on packages takes.
- * Each can be listed as JSON, too. Documentation and stability are not read, text is not parsed, and other components are refused.
+ * Each can be listed as JSON, too. witc_texts_package turns WIT texts into the bytes of a package. Documentation and stability are not read, and other
+ * components are refused.
  *
  * Bound the text of bytes from strangers. A package of 160 bytes can have a text of 46 MB: 22 tuples, each with the one before twice. With 100 tuples a text
  * would never end. The calls with `within` in their name take the greatest length that you want. JSON and bytes stay small, so they need no bound.
@@ -38,6 +39,7 @@
 
 #include <stddef.h>
 #include <stdint.h>
+#include <stdlib.h>
 
 #ifdef __cplusplus
 extern "C" {
@@ -48,9 +50,9 @@ extern "C" {
 
 /* The statuses. Names, and the number of an encoding, are looked at before any bytes. */
 #define WITC_DONE 0         /* The call succeeded. The answer is the result. */
-#define WITC_REFUSED 1      /* The bytes, the worlds, or what would come of them, are refused. `why.code` says why, and the answer is a message. */
-#define WITC_BAD_ARGUMENT 2 /* A world, a section or an encoding doesn't exist, a name isn't UTF-8, or a pointer is null: `why.code` is 17 to 20, or 22. The
-                             * answer is a message. */
+#define WITC_REFUSED 1      /* The bytes, the texts, the worlds, or what would come of them, are refused. `why.code` says why, and the answer is a message. */
+#define WITC_BAD_ARGUMENT 2 /* A world, a section or an encoding doesn't exist, a name or a text isn't UTF-8, there can't be so many own texts, or a pointer is
+                             * null: `why.code` is 17 to 20, 22 or 25. The answer is a message. */
 #define WITC_NO_MEMORY 3    /* Out of memory. There is no answer. */
 
 /* The codes. In brackets: what else is set, of `detail`, `offset` and `subject`. What isn't set is 0, WITC_NOWHERE and 0. */
@@ -72,11 +74,14 @@ extern "C" {
 #define WITC_MISSING 15                /* A world lacks an item [subject]. */
 #define WITC_DIFFERS 16                /* Two worlds differ in an item [subject]; of witc_same_world: they differ [subject: the first world's name]. */
 #define WITC_NO_SUCH_WORLD 17          /* [subject] */
-#define WITC_NOT_UTF8 18
+#define WITC_NOT_UTF8 18 /* A name, or a WIT text [detail: of a text or its name, the number of the text]. */
 #define WITC_BAD_ENCODING 19
 #define WITC_NO_SUCH_SECTION 20
 #define WITC_TEXT_TOO_LONG 21    /* The text is longer than the length that the caller has set. */
 #define WITC_NULL_WITH_LENGTH 22 /* A pointer is null, and its length isn't 0. */
+#define WITC_BAD_TEXT 23         /* A WIT text is refused [detail: the number of the text; offset: in it], or all of them for a rule [no offset]. */
+#define WITC_TWO_PACKAGES 24     /* An own text begins with another package than the first [detail: the number of the text]. */
+#define WITC_BAD_COUNT 25        /* The number of own texts isn't 1 to the number of all texts. */
 
 /* The causes of WITC_NO_READING. Take them as advice: it is proved that the bytes mean nothing and that the offset is at most their length, but not that the
  * cause is the right one. */
@@ -116,7 +121,7 @@ extern "C" {
 
 /* Why a call returns its status. */
 typedef struct witc_why {
-    size_t offset;  /* in the bytes, at most their length, or WITC_NOWHERE; WITC_NO_READING of a module: in the data of the section */
+    size_t offset;  /* in the bytes, at most their length, or WITC_NOWHERE; WITC_NO_READING of a module: in the data of the section; WITC_BAD_TEXT: in the text */
     size_t subject; /* the last `subject` bytes of the message are the name that it is about */
     uint32_t code;
     uint32_t detail;
@@ -133,6 +138,15 @@ typedef struct witc_answer {
 
 #define WITC_NO_ANSWER { NULL, 0, NULL, { WITC_NOWHERE, 0, 0, 0 } }
 
+/* A WIT text: `length` bytes of UTF-8 at `at`, and the name by which messages call it, as a path. A pointer may be null if its length is 0. A text without a
+ * name is called `text N`, by its number from 0. */
+typedef struct witc_text {
+    const uint8_t *at;
+    size_t length;
+    const uint8_t *name;
+    size_t name_length;
+} witc_text;
+
 /* Frees the bytes of an answer: after it, `at` is null and `length` is 0. So calling it again does nothing. A null pointer is no answer, and nothing is done:
  * the macro looks at that, since the function of the library, which has the same name, must not be called with null. */
 void witc_free(witc_answer *answer);
@@ -144,7 +158,7 @@ static inline void witc_free_answer(witc_answer *answer) {
 /* The version of the library's interface. */
 uint32_t witc_abi(void);
 
-/* The functions of the library. Here no pointer may be null, even if its length is 0. */
+/* The functions of the library. Here no pointer may be null, even if its length is 0, and none in a witc_text. */
 uint8_t witc_package_text_slice(const uint8_t *bytes, size_t length, witc_answer *answer, witc_why *why);
 uint8_t witc_package_text_within_slice(const uint8_t *bytes, size_t length, size_t most, witc_answer *answer, witc_why *why);
 uint8_t witc_package_bytes_slice(const uint8_t *bytes, size_t length, uint32_t canonical, witc_answer *answer, witc_why *why);
@@ -168,6 +182,7 @@ uint8_t witc_compat_slices(const uint8_t *bytes, size_t length, const uint8_t *p
                            witc_answer *answer, witc_why *why);
 uint8_t witc_same_world_slices(const uint8_t *bytes, size_t length, const uint8_t *name, size_t name_length, const uint8_t *other, size_t other_length,
                                const uint8_t *other_name, size_t other_name_length, witc_answer *answer, witc_why *why);
+uint8_t witc_texts_package_slice(const witc_text *texts, size_t count, size_t own, witc_answer *answer, witc_why *why);
 uint8_t witc_kinds_slice(const uint8_t *bytes, size_t length);
 
 /* Replaces a null pointer by one that is not null. */
@@ -188,6 +203,14 @@ static inline uint8_t witc_refuse_null(witc_answer *answer) {
     refused.why.code = WITC_NULL_WITH_LENGTH;
     *answer = refused;
     return WITC_BAD_ARGUMENT;
+}
+
+/* Answers that memory ran out. */
+static inline uint8_t witc_lack_memory(witc_answer *answer) {
+    witc_answer lacking = WITC_NO_ANSWER;
+    lacking.why.code = WITC_OUT_OF_MEMORY;
+    *answer = lacking;
+    return WITC_NO_MEMORY;
 }
 
 /* Whether a code is the answer no of witc_compat: the worlds are read, and `next` can't replace `prev`. */
@@ -308,6 +331,37 @@ static inline uint8_t witc_same_world(const uint8_t *bytes, size_t length, const
         return witc_refuse_null(answer);
     return witc_same_world_slices(witc_some(bytes), length, witc_some(world), world_length, witc_some(other), other_length, witc_some(other_world),
                                   other_world_length, answer, &answer->why);
+}
+
+/* Turns WIT texts into the bytes of a package: the one with which the first `own` of them begin. The others are of packages that these use. All packages that are
+ * used stand among the texts, in any order, each as a text's own or nested in one. A text that is refused has WITC_BAD_TEXT, and the message names the text, the
+ * line and the column. The names are looked at first, then `own`, and then the texts. Without own texts the code is WITC_BAD_COUNT.
+ *
+ *     witc_text texts[] = {{clock, clock_length, (const uint8_t *)"clock.wit", 9}};
+ *     uint8_t status = witc_texts_package(texts, 1, 1, &answer);
+ */
+static inline uint8_t witc_texts_package(const witc_text *texts, size_t count, size_t own, witc_answer *answer) {
+    static const witc_text none = {(const uint8_t *)"", 0, (const uint8_t *)"", 0};
+    witc_text *whole;
+    uint8_t status;
+    size_t i, nulls = 0;
+    if (witc_lacks(texts, count)) return witc_refuse_null(answer);
+    for (i = 0; i < count; i++) {
+        if (witc_lacks(texts[i].at, texts[i].length) || witc_lacks(texts[i].name, texts[i].name_length)) return witc_refuse_null(answer);
+        if (!texts[i].at || !texts[i].name) nulls++;
+    }
+    if (nulls == 0) return witc_texts_package_slice(count > 0 ? texts : &none, count, own, answer, &answer->why);
+    /* The library takes no null pointers, so the list is copied. */
+    whole = count > SIZE_MAX / sizeof *whole ? NULL : (witc_text *)malloc(count * sizeof *whole);
+    if (!whole) return witc_lack_memory(answer);
+    for (i = 0; i < count; i++) {
+        whole[i] = texts[i];
+        whole[i].at = witc_some(texts[i].at);
+        whole[i].name = witc_some(texts[i].name);
+    }
+    status = witc_texts_package_slice(whole, count, own, answer, &answer->why);
+    free(whole);
+    return status;
 }
 
 /* Which kinds the bytes are. It has no answer, so nothing is to be freed. It reads the bytes up to three times. */

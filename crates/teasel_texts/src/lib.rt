@@ -3,7 +3,6 @@
 
 mod made;
 mod marked;
-mod packages;
 mod refusals;
 
 pub use made::{made_of_sources, unmade};

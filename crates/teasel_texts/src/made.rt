@@ -2,17 +2,18 @@
 
 ghost use Rattle.std.specs.Prelude.{◌≡◌, ◌++◌, ℕ, List, length, false, true, IfNone, IfOk, IfSome, OnOk};
 ghost use Rattle.std.specs.List.{list_any};
-ghost use Rattle.teasel_texts.specs.Made.{AreTaken, IsFileTaken, IsFolderTaken, IsMade, IsTaken, IsTroubleOf, IsUnmade, bytes_in, bytes_of, is_foreign as is_foreign_so};
+ghost use Rattle.witc_read.specs.Packages.{bytes_of, is_memory as is_memory_so};
+ghost use Rattle.teasel_texts.specs.Made.{AreTaken, IsFileTaken, IsFolderTaken, IsMade, IsTaken, bytes_in, is_foreign as is_foreign_so};
 
-use crate::packages::{Named, Trouble, package_of};
 use crate::refusals::{again, no_text, refusal_of};
 use std::alloc::{AllocError, Global};
 use teasel_files::{Folder, FolderText, Input, Source};
 use teasel_messages::{Refusal, foreign, is_text};
+use witc_read::{NamedText, Trouble, texts_package};
 
 /// Whether memory was wanting.
 fn is_memory(trouble: &Trouble) -> bool
-    ensures { (texts : List (List ℕ)) (own : ℕ) → result ≡ false → IsTroubleOf texts own trouble.now → IsUnmade texts own }
+    ensures { result ≡ is_memory_so trouble.now }
 {
     match trouble {
         Trouble::Memory => true,
@@ -40,12 +41,12 @@ fn without_package<'a>(alloc: Global, name: &'a str, refusal: Refusal) -> Input<
 fn made_of<'a>(
     alloc: Global,
     name: &'a str,
-    texts: &[Named<'_>],
+    texts: &[NamedText<'_>],
     own: usize,
 ) -> Result<Input<'a>, AllocError>
     ensures { IfOk result (IsMade (bytes_of texts.now) own) }
 {
-    match package_of(alloc, texts, own) {
+    match texts_package(alloc, texts, own) {
         Ok(bytes) => Ok(Input {
             name,
             bytes,
@@ -69,8 +70,8 @@ fn made_of_file<'a>(alloc: Global, input: Input<'a>) -> Result<Input<'a>, AllocE
     if !input.whole || !is_text(&input.bytes) {
         return Ok(input);
     }
-    let text = Named {
-        path: input.name,
+    let text = NamedText {
+        name: input.name,
         bytes: &input.bytes,
     };
     made_of(alloc, input.name, &[text], 1)
@@ -108,12 +109,12 @@ fn foreign_among<'b>(folder: &'b Folder<'_>) -> Option<&'b FolderText>
 }
 
 /// Appends texts with their paths.
-fn put_named<'b>(named: &mut Vec<Named<'b>>, texts: &'b [FolderText]) -> Result<(), AllocError>
+fn put_named<'b>(named: &mut Vec<NamedText<'b>>, texts: &'b [FolderText]) -> Result<(), AllocError>
     ensures { OnOk result (bytes_of named.new.items ≡ bytes_of named.old.items ++ bytes_in texts.now) }
 {
     for text in texts {
-        named.push(Named {
-            path: &text.path,
+        named.push(NamedText {
+            name: &text.path,
             bytes: &text.bytes,
         })?;
     }
@@ -121,7 +122,7 @@ fn put_named<'b>(named: &mut Vec<Named<'b>>, texts: &'b [FolderText]) -> Result<
 }
 
 /// The texts of a folder with their paths: its own ones, and those that they use.
-fn named_in<'b>(alloc: Global, folder: &'b Folder<'_>) -> Result<Vec<Named<'b>>, AllocError>
+fn named_in<'b>(alloc: Global, folder: &'b Folder<'_>) -> Result<Vec<NamedText<'b>>, AllocError>
     ensures { IfOk result (λ named. bytes_of named.items ≡ bytes_in folder.now.own.items ++ bytes_in folder.now.used.items) }
 {
     let mut named = Vec::new(alloc);

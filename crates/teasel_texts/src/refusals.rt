@@ -1,59 +1,38 @@
 //! Why no package is made of texts, as messages.
 
 use crate::marked::caret;
-use crate::packages::{Named, Trouble};
 use std::alloc::Global;
 use teasel_messages::{Refusal, of_error, told};
 use text_names::{Fault, Refused};
-use wit_text::line_and_column;
+use witc_read::{NamedText, Trouble, place_message, text_at};
 
 /// The refusal of a text at a place.
-fn refused_at(alloc: Global, path: &str, text: &str, refused: &Refused) -> Refusal {
-    let (line, column) = line_and_column(text, refused.at.start as usize);
-    let why = refused.why;
+fn refused_at(alloc: Global, texts: &[NamedText<'_>], refused: &Refused) -> Refusal {
+    let text = text_at(texts, refused.text as usize);
     Refusal::of(
-        format!(in alloc; "{path}: line {line}, column {column}: {why}"),
+        place_message(alloc, texts, refused),
         caret(alloc, text, refused.at),
     )
 }
 
 /// The path of the text of this number.
-fn path_at<'b>(texts: &[Named<'b>], number: usize) -> &'b str {
+fn path_at<'b>(texts: &[NamedText<'b>], number: usize) -> &'b str {
     match texts.get(number) {
-        Some(text) => text.path,
-        None => "",
-    }
-}
-
-/// The text of this number.
-fn text_at<'b>(texts: &[Named<'b>], number: usize) -> &'b str {
-    match texts.get(number) {
-        Some(text) => match str::from_utf8(text.bytes) {
-            Ok(text) => text,
-            Err(_) => "",
-        },
+        Some(text) => text.name,
         None => "",
     }
 }
 
 /// The refusal of a fault of texts.
-fn of_texts(alloc: Global, name: &str, texts: &[Named<'_>], fault: &Fault) -> Refusal {
+fn of_texts(alloc: Global, name: &str, texts: &[NamedText<'_>], fault: &Fault) -> Refusal {
     match fault {
-        Fault::Refused(refused) => {
-            let number = refused.text as usize;
-            refused_at(
-                alloc,
-                path_at(texts, number),
-                text_at(texts, number),
-                refused,
-            )
-        }
+        Fault::Refused(refused) => refused_at(alloc, texts, refused),
         other => Refusal::of(format!(in alloc; "{name}: {other}"), Ok(String::new(alloc))),
     }
 }
 
 /// The refusal of a folder of which two texts begin with two packages.
-fn of_two(alloc: Global, name: &str, texts: &[Named<'_>], number: usize) -> Refusal {
+fn of_two(alloc: Global, name: &str, texts: &[NamedText<'_>], number: usize) -> Refusal {
     let first = path_at(texts, 0);
     let other = path_at(texts, number);
     Refusal::of(
@@ -66,7 +45,7 @@ fn of_two(alloc: Global, name: &str, texts: &[Named<'_>], number: usize) -> Refu
 pub(crate) fn refusal_of(
     alloc: Global,
     name: &str,
-    texts: &[Named<'_>],
+    texts: &[NamedText<'_>],
     trouble: &Trouble,
 ) -> Refusal {
     match trouble {

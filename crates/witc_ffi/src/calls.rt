@@ -14,8 +14,8 @@ use witc_alike::{Alike, kinds_of, liken, section_data};
 use witc_texts::{Compared, compat, strip};
 use witc_written::{attach, embed};
 
-/// A name isn't UTF-8.
-const NOT_UTF8: u32 = 18;
+/// A name isn't UTF-8, or a text.
+pub const NOT_UTF8: u32 = 18;
 /// No string encoding has this number.
 const BAD_ENCODING: u32 = 19;
 /// No section of this number carries a world.
@@ -51,7 +51,7 @@ pub fn compared(
 }
 
 /// A name as text, where it is UTF-8.
-fn text_of(name: &[u8]) -> Option<&str>
+pub fn text_of(name: &[u8]) -> Option<&str>
     ensures { MatchOption result (is_utf8 name.now ≡ false) (λ text. (text.now ≡ name.now) × (is_utf8 name.now ≡ true)) }
 {
     match str::from_utf8(name) {

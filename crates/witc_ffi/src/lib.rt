@@ -7,6 +7,7 @@ ghost use Rattle.std.specs.Prelude.{◌≡◌, []};
 ghost use Rattle.wit_component.specs.{Decoded.RefusesBytes, DecodedWorlds.RefusesWorldBytes};
 ghost use Rattle.witc_alike.specs.Carried.{ListsData, RefusesSections, RefusesWalk};
 ghost use Rattle.witc_ffi.specs.Answers.{Answers, AnswersAlike, AnswersAttached, AnswersCompared, AnswersEmbedded, AnswersWithin, IsSection, KindsAnswers, LacksSection, NeverBad, RefusesBound, is_asked};
+ghost use Rattle.witc_ffi.specs.Texts.{AnswersTexts, bytes_in, names_in};
 ghost use Rattle.witc_listed.specs.Listings.{ListsModule, ListsPackage, ListsWorld};
 ghost use Rattle.witc_texts.specs.{Bindings.PrintsModule, Printed.PrintsBytes, Stripped.StripsBytes};
 ghost use Rattle.witc_written.specs.Worlds.{EncodesWorld, PrintsWorld, RefusesEncodedWorld};
@@ -17,11 +18,13 @@ mod answer;
 mod calls;
 mod loose;
 mod outcome;
+mod texts;
 
 use answer::Answer;
 use calls::{attached, compared, embedded, known_kinds, likened, section, stripped};
 use outcome::{hand_out, of_bytes, of_text_within};
 use std::alloc::Global;
+use texts::{Text, packed};
 use witc_alike::sections_data;
 use witc_listed::{module_json, package_json, world_json};
 use witc_refusals::Why;
@@ -367,6 +370,20 @@ pub extern "C" fn witc_same_world_slices(
         answer,
         why,
     )
+}
+
+/// The package with which so many of these WIT texts begin, the first ones, as bytes. All packages that they use stand among the texts.
+#[unsafe(no_mangle)]
+pub extern "C" fn witc_texts_package_slice(
+    alloc: Global,
+    texts: &[Text<'_>],
+    own: usize,
+    answer: &mut Answer,
+    why: &mut Why,
+) -> u8
+    ensures { AnswersTexts (names_in texts.now) (bytes_in texts.now) own result answer.new.text why.new }
+{
+    hand_out(alloc, packed(alloc, texts, own), answer, why)
 }
 
 /// What the bytes are: 1 for a package, 2 for one world, 4 for a core module; their sum, or 0; or 128 where that is not known.

@@ -62,7 +62,7 @@ fn told(alloc: Global, error: Error) -> Result<Outcome, AllocError>
 }
 
 /// A refusal's message and its numbers.
-fn refused(text: String, why: Why) -> Outcome
+pub fn refused(text: String, why: Why) -> Outcome
     ensures { IsOutcome 1 text.bytes.items why result }
 {
     Outcome {
@@ -125,11 +125,18 @@ pub fn no_world(alloc: Global, name: &str) -> Result<Outcome, AllocError>
     ensures { IfOk result (IsOutcome 2 (no_such_world name.now) (world_why name.now)) }
 {
     let text = format!(in alloc; "the package has no world of the name {name}")?;
-    Ok(Outcome {
+    Ok(lacking(text, Why::about(NO_SUCH_WORLD, 0, name)))
+}
+
+/// The message and the numbers where an argument is bad.
+pub fn lacking(text: String, why: Why) -> Outcome
+    ensures { IsOutcome 2 text.bytes.items why result }
+{
+    Outcome {
         status: BAD_ARGUMENT,
         text: text.into_bytes(),
-        why: Why::about(NO_SUCH_WORLD, 0, name),
-    })
+        why,
+    }
 }
 
 /// The outcome where an argument is bad that has no name: a text and a code.

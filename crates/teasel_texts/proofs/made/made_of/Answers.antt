@@ -1,5 +1,8 @@
-use Rattle.teasel_texts.specs.Made.{IsMade.for_nothing, bytes_of}
+use Rattle.std.proofs.Common.{◌∙◌, sym}
+use Rattle.teasel_texts.specs.Made.{IsMade.for_nothing}
 use Rattle.teasel_texts.proofs.made.made_of.Goals as goal
 
 pub returns : goal.returns
-returns c = for_nothing c.without_package.ensures (c.is_memory.ensures (bytes_of c.args.texts.now) c.args.own c.if-is_memory.false c.in-Err.ensures.err)
+returns c =
+    for_nothing c.without_package.ensures
+    (record { trouble = c.in-Err.trouble; no_memory = sym c.is_memory.ensures ∙ c.if-is_memory.false; is = c.in-Err.ensures.err })

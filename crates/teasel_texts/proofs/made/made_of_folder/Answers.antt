@@ -1,7 +1,8 @@
 use Rattle.std.proofs.Common.{◌≡◌, ◌∙◌, ◌++◌, ap, subst, length, false, rules, List, ℕ}
 use Rattle.std.specs.List.{list_any}
 use Rattle.base_lemmas.proofs.Options.{if_ok}
-use Rattle.teasel_texts.specs.Made.{IsFolderTaken, IsFolderTaken.for_texts, IsMade, bytes_in, bytes_of, is_foreign}
+use Rattle.witc_read.specs.Packages.{bytes_of}
+use Rattle.teasel_texts.specs.Made.{IsFolderTaken, IsFolderTaken.for_texts, IsMade, bytes_in, is_foreign}
 use Rattle.teasel_texts.proofs.made.made_of_folder.Goals as goal
 
 pub returns : goal.returns

@@ -1,5 +1,6 @@
 use Rattle.std.proofs.Common.{◌≡◌, ◌++◌, take}
-use Rattle.teasel_texts.specs.Made.{bytes_in, bytes_of}
+use Rattle.witc_read.specs.Packages.{bytes_of}
+use Rattle.teasel_texts.specs.Made.{bytes_in}
 use Rattle.teasel_texts.proofs.made.put_named.Given as goal
 
 abbrev pub invariant-loop-text : goal.invariant-loop-text

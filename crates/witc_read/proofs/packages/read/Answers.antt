@@ -1,9 +1,8 @@
-use Rattle.std.proofs.Common.{map, subst, List}
+use Rattle.std.proofs.Common.{map, subst, sym, List}
 use Rattle.wit_model.specs.declared.model.PackageId.{PackageId}
-use Rattle.teasel_texts.specs.Made.{IsMainOf, IsNoMainOf, IsUnmade.unread, is_memory_of_text}
-use Rattle.teasel_texts.specs.declared.packages.Trouble.TheVariants as troubles
-use Rattle.teasel_texts.proofs.{Mains.main-in-range, Mains.no-main, Troubles.trouble-by}
-use Rattle.teasel_texts.proofs.packages.read.Goals as goal
+use Rattle.witc_read.specs.Packages.{IsMainOf, IsNoMainOf, IsTroubleOf}
+use Rattle.witc_read.proofs.{Mains.main-in-range, Mains.no-main, Troubles.of-fault}
+use Rattle.witc_read.proofs.packages.read.Goals as goal
 
 pub returns-in-Err-main_of-clause-err : goal.returns-in-Err-main_of-clause-err
 returns-in-Err-main_of-clause-err c =
@@ -12,8 +11,8 @@ returns-in-Err-main_of-clause-err c =
 
 pub returns-in-Err-clause-err : goal.returns-in-Err-clause-err
 returns-in-Err-clause-err c =
-    trouble-by (map (λ t. t.now) c.args.texts.now) c.args.own (is_memory_of_text c.in-Err.fault) c.of_fault.result (troubles.Text c.in-Err.fault)
-    c.of_fault.ensures.memory c.of_fault.ensures.text (λ other. unread c.in-Err.fault other c.in-Err.ensures.refuses)
+    let texts = map (λ t. t.now) c.args.texts.now in
+    subst (IsTroubleOf texts c.args.own) (sym c.of_fault.ensures) (of-fault texts c.args.own c.in-Err.fault c.in-Err.ensures.refuses)
 
 pub returns-in-Ok-main_of-clause-in_range : goal.returns-in-Ok-main_of-clause-in_range
 returns-in-Ok-main_of-clause-in_range c =

@@ -1,27 +1,41 @@
 -- The package that texts begin with.
-use Rattle.std.proofs.Common.{◌≡◌, ◌∙◌, ◌<◌, ◌&&◌, refl, sym, ap, subst, arith, min, ℕ, true, List, length, map, take, slice_get, Some}
+use Rattle.std.proofs.Common.{◌≡◌, ◌∙◌, ◌<◌, ◌&&◌, refl, sym, ap, subst, arith, min, ℕ, true, List, [], ◌∷◌, length, map, take, slice_get, Some}
 use Rattle.std.proofs.lemmas.List.{length-map, length-take, take_min}
 use Rattle.std.proofs.lemmas.{Bool.lt-ltb, Bool.ltb-true, Option.slice_get_within}
-use Rattle.std.specs.List.{list_all}
+use Rattle.std.specs.List.{AllZip, list_all}
 use Rattle.base_lemmas.proofs.{Elements.all_get, Lists.slice_take}
 use Rattle.wit_model.specs.Rules.{in_list}
 use Rattle.wit_model.specs.declared.model.{PackageId.PackageId, Resolve.Resolve}
-use Rattle.print_grammar.specs.Tree.{FileTree}
+use Rattle.print_grammar.specs.{Reading.IsReading, Tree.FileTree}
 use Rattle.print_items.specs.Shown.{shown_head}
 use Rattle.text_types.specs.Each.{EachIs}
 use Rattle.wit_text.specs.Texts.{ReadsTexts}
-use Rattle.teasel_texts.specs.Made.{AreApart, IsNoMainOf, IsOther, IsTroubleOf, IsUnmade.apart, IsUnmade.nothing}
-use Rattle.teasel_texts.specs.declared.packages.Trouble.{Trouble}
-use Rattle.teasel_texts.specs.declared.packages.Trouble.TheVariants as troubles
+use Rattle.witc_read.specs.Packages.{IsApart, IsNoMainOf, IsOther, IsTroubleOf}
+use Rattle.witc_read.specs.declared.packages.Trouble.{Trouble}
+use Rattle.witc_read.specs.declared.packages.Trouble.TheVariants as troubles
 
 -- another one among the first ones, which are no more than there are
 pub apart-in : (mains : List PackageId) (own : ℕ) (main : PackageId) (n : ℕ) → slice_get mains 0 ≡ Some main → IsOther main (take (min own (length mains)) mains) n
-    → AreApart mains own
+    → IsApart mains own n
 apart-in mains own main n first among =
     let other = subst (λ (xs : List PackageId). IsOther main xs n) (take_min own mains) among in
     let below : n < min own (length mains) = subst (λ (k : ℕ). n < k) (length-take own mains) (slice_get_within (take own mains) n other.0 other.1) in
     let within : n < own = omega (arith, below) in
-    record { main = main; first = first; number = n; within = within; other = (other.0, sym (slice_take mains own n within) ∙ other.1, other.2) }
+    record { main = main; first = first; within = within; other = (other.0, sym (slice_take mains own n within) ∙ other.1, other.2) }
+
+-- texts that begin with no package are none
+none-begins : (r : Resolve) {files : List FileTree} {mains : List PackageId}
+    → EachIs (λ file id. slice_get (map shown_head r.packages.items) id.0 ≡ Some file.main.head) files mains → mains ≡ [] → files ≡ []
+none-begins r EachIs.no_more none = refl
+none-begins r (EachIs.one_more h hs) none = absurd (omega (arith, ap length none))
+
+no-texts : (texts : List (List ℕ)) (files : List FileTree) → files ≡ [] → AllZip IsReading texts files → texts ≡ []
+no-texts [] files none read = refl
+no-texts (text ∷ texts) [] none read = absurd read
+no-texts (text ∷ texts) (file ∷ files) none read = absurd (omega (arith, ap length none))
+
+nothing : (texts : List (List ℕ)) (r : Resolve) → ReadsTexts texts r [] → texts ≡ []
+nothing texts r reads = no-texts texts reads.files (none-begins r reads.shows.mains_are refl) reads.read
 
 -- what stands in the way of the package, where texts are read
 pub no-main : (texts : List (List ℕ)) (own : ℕ) (r : Resolve) (mains : List PackageId) → ReadsTexts texts r mains → (t : Trouble) → IsNoMainOf mains own t
@@ -29,8 +43,8 @@ pub no-main : (texts : List (List ℕ)) (own : ℕ) (r : Resolve) (mains : List 
 no-main texts own r mains reads troubles.Memory h = absurd h
 no-main texts own r mains reads (troubles.NoText n) h = absurd h
 no-main texts own r mains reads (troubles.Text fault) h = absurd h
-no-main texts own r mains reads troubles.Nothing h = nothing r (subst (λ (ids : List PackageId). ReadsTexts texts r ids) h reads)
-no-main texts own r mains reads (troubles.Apart n) h = apart r mains reads h
+no-main texts own r mains reads troubles.Nothing h = nothing texts r (subst (λ (ids : List PackageId). ReadsTexts texts r ids) h reads)
+no-main texts own r mains reads (troubles.Apart n) h = record { resolve = r; mains = mains; reads = reads; apart = h }
 no-main texts own r mains reads (troubles.Bytes e) h = absurd h
 
 -- the packages that texts begin with are among those that are read

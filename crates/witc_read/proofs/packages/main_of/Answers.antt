@@ -1,8 +1,8 @@
 use Rattle.std.proofs.Common.{◌∙◌, ap, subst, rules, take, List}
 use Rattle.wit_model.specs.declared.model.PackageId.{PackageId}
-use Rattle.teasel_texts.specs.Made.{IsOther}
-use Rattle.teasel_texts.proofs.Mains.{apart-in}
-use Rattle.teasel_texts.proofs.packages.main_of.Goals as goal
+use Rattle.witc_read.specs.Packages.{IsOther}
+use Rattle.witc_read.proofs.Mains.{apart-in}
+use Rattle.witc_read.proofs.packages.main_of.Goals as goal
 
 pub returns-in-Some-other_among-clause-err : goal.returns-in-Some-other_among-clause-err
 returns-in-Some-other_among-clause-err c =

@@ -1,11 +1,10 @@
 //! The packages that texts declare, in binary form.
 
-ghost use Rattle.std.specs.Prelude.{◌≡◌, ◌<◌, ℕ, true, false, length, map, IfErr, IfNone, IfOk, IfSome};
-ghost use Rattle.std.specs.List.{list_all};
+ghost use Rattle.std.specs.Prelude.{◌≡◌, ◌<◌, ℕ, false, true, length, map, IfErr, IfNone, IfOk, IfSome, MatchOption};
+ghost use Rattle.std.specs.{List.list_all, Str.is_utf8};
 ghost use Rattle.wit_model.specs.Valid.{IsValid};
-ghost use Rattle.teasel_messages.specs.Reasons.{is_memory as is_want_of_memory};
-ghost use Rattle.teasel_texts.specs.Made.{IsMainOf, IsNoMainOf, IsOther, IsPackageOf, IsReadOf, IsTroubleOf, bytes_of, is_memory_of_text, is_package};
-ghost use Rattle.teasel_texts.specs.declared.packages.Trouble.TheVariants as troubles;
+ghost use Rattle.witc_read.specs.Packages.{IsMainOf, IsNoMainOf, IsOther, IsPackageOf, IsReadOf, IsTroubleOf, bytes_of, is_package, trouble_of_error, trouble_of_fault};
+ghost use Rattle.witc_read.specs.declared.packages.Trouble.TheVariants as troubles;
 
 use std::alloc::{AllocError, AllocFailed, Global};
 use text_names::Fault;
@@ -13,24 +12,26 @@ use wit_encode::encode;
 use wit_model::{Error, PackageId, Resolve};
 use wit_text::read_texts;
 
-/// A text, with the path by which messages name it.
+/// A text, with the name by which messages call it.
 #[derive(Clone, Copy)]
-pub(crate) struct Named<'b> {
-    pub(crate) path: &'b str,
-    pub(crate) bytes: &'b [u8],
+pub struct NamedText<'b> {
+    pub name: &'b str,
+    pub bytes: &'b [u8],
 }
 
 /// Why no package is made of texts.
 #[derive(Drop)]
-pub(crate) enum Trouble {
+pub enum Trouble {
     Memory,
     /// The text of this number isn't UTF-8.
     NoText(usize),
+    /// The texts are refused, mostly at a place of one.
     Text(Fault),
     /// There is no text.
     Nothing,
-    /// The text of this number begins with another package than the first.
+    /// The text of this number is an own one, and begins with another package than the first.
     Apart(usize),
+    /// The package isn't encoded.
     Bytes(Error),
 }
 
@@ -50,16 +51,26 @@ impl<T: Drop> From<AllocFailed<T>> for Trouble {
     }
 }
 
+/// The text of bytes, where they are UTF-8.
+pub(crate) fn text_of(bytes: &[u8]) -> Option<&str>
+    ensures { MatchOption result (is_utf8 bytes.now ≡ false) (λ text. (text.now ≡ bytes.now) × (is_utf8 bytes.now ≡ true)) }
+{
+    match str::from_utf8(bytes) {
+        Ok(text) => Some(text),
+        Err(_) => None,
+    }
+}
+
 /// The texts, which have to be UTF-8.
-fn texts_of<'b>(alloc: Global, texts: &[Named<'b>]) -> Result<Vec<&'b str>, Trouble>
+fn texts_of<'b>(alloc: Global, texts: &[NamedText<'b>]) -> Result<Vec<&'b str>, Trouble>
     ensures ok { IfOk result (λ found. map (λ t. t.now) found.items ≡ bytes_of texts.now) }
     ensures err { (own : ℕ) → IfErr result (IsTroubleOf (bytes_of texts.now) own) }
 {
     let mut found = Vec::with_capacity(alloc, texts.len())?;
     for (number, text) in texts.iter().enumerate() {
-        match str::from_utf8(text.bytes) {
-            Ok(text) => found.push(text)?,
-            Err(_) => return Err(Trouble::NoText(number)),
+        match text_of(text.bytes) {
+            Some(text) => found.push(text)?,
+            None => return Err(Trouble::NoText(number)),
         }
     }
     Ok(found)
@@ -94,8 +105,7 @@ fn main_of(mains: &[PackageId], own: usize) -> Result<PackageId, Trouble>
 
 /// A fault of texts, as what stands in the way of their package.
 fn of_fault(fault: Fault) -> Trouble
-    ensures memory { is_memory_of_text fault ≡ true → result ≡ troubles.Memory }
-    ensures text { is_memory_of_text fault ≡ false → result ≡ troubles.Text fault }
+    ensures { result ≡ trouble_of_fault fault }
 {
     match fault {
         Fault::Memory => Trouble::Memory,
@@ -105,8 +115,7 @@ fn of_fault(fault: Fault) -> Trouble
 
 /// The same of a package that isn't encoded.
 fn of_encoding(error: Error) -> Trouble
-    ensures memory { is_want_of_memory error ≡ true → result ≡ troubles.Memory }
-    ensures bytes { is_want_of_memory error ≡ false → result ≡ troubles.Bytes error }
+    ensures { result ≡ trouble_of_error error }
 {
     match error {
         Error::Memory => Trouble::Memory,
@@ -144,8 +153,12 @@ fn encoded(alloc: Global, texts: &[&str], own: usize) -> Result<Vec<u8>, Trouble
     }
 }
 
-/// The same of bytes, which have to be UTF-8.
-pub(crate) fn package_of(alloc: Global, texts: &[Named<'_>], own: usize) -> Result<Vec<u8>, Trouble>
+/// The package with which so many of the texts begin, the first ones, in binary form.
+///
+/// All packages that are used stand among the texts, in any order. Errors: `Memory` where a growth is refused, and `Nothing` where there is no text.
+/// `NoText` has the first text that isn't UTF-8. `Text` is what `read_texts` refuses the texts for, and `Bytes` what `encode` refuses the package for.
+/// `Apart` has the first own text that begins with another package than the first one.
+pub fn texts_package(alloc: Global, texts: &[NamedText<'_>], own: usize) -> Result<Vec<u8>, Trouble>
     ensures ok { IfOk result (λ made. IsPackageOf (bytes_of texts.now) own made.items) }
     ensures err { IfErr result (IsTroubleOf (bytes_of texts.now) own) }
 {

@@ -1,0 +1,8 @@
+//! WIT texts to the package with which they begin, in binary form; and why there is none.
+#![tactic(auto)]
+
+mod packages;
+mod places;
+
+pub use packages::{NamedText, Trouble, texts_package};
+pub use places::{label, place_message, text_at};
