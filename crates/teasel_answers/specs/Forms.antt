@@ -1,18 +1,20 @@
 -- The text, the JSON or the bytes of a package, a world or a core module.
-use Rattle.std.specs.Prelude.{◌≡◌, ℕ, Bool, true, false, List, Option, Some, None, Vec}
+use Rattle.std.specs.Prelude.{◌≡◌, ℕ, Bool, true, false, List, [], Option, Some, None, Vec}
 use Rattle.std.specs.declared.alloc.Global.{Global}
 use Rattle.wit_component.specs.{DecodedWorlds.RefusesWorldBytes}
 use Rattle.wit_component.specs.Decoded.{IsDecoded, MeansNothing, RefusesBytes}
+use Rattle.wit_json.specs.{Listed.package_listing_tokens, Spelled.Spells}
+use Rattle.wit_model.specs.Refusals.{IsMemory}
 use Rattle.wit_model.specs.declared.{error.Error.Error, model.Resolve.Resolve}
 use Rattle.teasel_answers.specs.Checks.{RefusesModule}
 use Rattle.teasel_answers.specs.declared.forms.Form.{Form}
 use Rattle.teasel_answers.specs.declared.forms.Form.TheVariants as forms
-use Rattle.teasel_files.specs.declared.answer.Input.{Input}
+use Rattle.teasel_files.specs.declared.{answer.Input.Input, read.Read.Read}
 use Rattle.teasel_messages.specs.{Looks.begins_as_module, Reasons.is_memory}
 use Rattle.teasel_words.specs.declared.choices.Kind.{Kind}
 use Rattle.teasel_words.specs.declared.choices.Kind.TheVariants as kinds
 use Rattle.witc_listed.specs.Listings.{ListsModule, ListsPackage, ListsWorld}
-use Rattle.witc_texts.specs.{Bindings.PrintsModule, Printed.PrintsBytes}
+use Rattle.witc_texts.specs.{Bindings.PrintsModule, Printed.IsTextOf, Printed.PrintsBytes}
 use Rattle.witc_within.specs.Within.{TextWithin}
 use Rattle.witc_within.specs.declared.texts.Within.{Within}
 use Rattle.witc_within.specs.declared.texts.Within.TheVariants as within
@@ -49,16 +51,42 @@ pub data MakesFound (form : Form) (bytes : List ℕ) (w : Within) : Type 0 where
   of_world : begins_as_module bytes ≡ false → MeansNothing bytes → MakesWorld form bytes w → MakesFound form bytes w
 
 -- the same of bytes whose kind is said, or found
-abbrev pub MakesShown : Form → Option Kind → List ℕ → Within → Type 0
-MakesShown form (Some kinds.Package) bytes = MakesPackage form bytes
-MakesShown form (Some kinds.World) bytes = MakesWorld form bytes
-MakesShown form (Some kinds.Module) bytes = MakesModule form bytes
-MakesShown form None bytes = MakesFound form bytes
+abbrev pub MakesBytes : Form → Option Kind → List ℕ → Within → Type 0
+MakesBytes form (Some kinds.Package) bytes = MakesPackage form bytes
+MakesBytes form (Some kinds.World) bytes = MakesWorld form bytes
+MakesBytes form (Some kinds.Module) bytes = MakesModule form bytes
+MakesBytes form None bytes = MakesFound form bytes
+
+-- The text is the listing of the package that texts were read as.
+abbrev pub ListsRead : Read → List ℕ → Type 0
+ListsRead r text = Spells text (package_listing_tokens r.resolve r.main.0)
+
+-- what is made of the package that texts were read as: its text, with no others nested, within the bound; its listing; or its bytes, anew
+abbrev pub MakesRead : Form → Read → List ℕ → Within → Type 0
+MakesRead (forms.Text most) r bytes = TextWithin (IsTextOf r.resolve r.main []) most
+MakesRead forms.Json r bytes = IsMade (ListsRead r)
+MakesRead forms.Wasm r bytes = IsMade (EncodesPackage bytes false)
+
+-- the same of a package in the place of texts whose kind is said, or found: as a package it is what they were read as, and else its bytes
+abbrev pub MakesTexts : Form → Option Kind → Read → List ℕ → Within → Type 0
+MakesTexts form (Some kinds.Package) r bytes = MakesRead form r bytes
+MakesTexts form (Some kinds.World) r bytes = MakesWorld form bytes
+MakesTexts form (Some kinds.Module) r bytes = MakesModule form bytes
+MakesTexts form None r bytes = MakesRead form r bytes
+
+-- the same of what is in the place of texts, or isn't
+abbrev pub MakesEither : Form → Option Kind → List ℕ → Option Read → Within → Type 0
+MakesEither form kind bytes None = MakesBytes form kind bytes
+MakesEither form kind bytes (Some r) = MakesTexts form kind r bytes
+
+-- what is made of an input
+abbrev pub MakesShown : Form → Option Kind → Input → Within → Type 0
+MakesShown form kind i = MakesEither form kind i.bytes.items i.read
 
 -- The input is all of its file, and this is made of it, within the bound.
 pub record Shows (form : Form) (kind : Option Kind) (i : Input) (made : Vec ℕ Global) : Type 0 where
   pub whole : i.whole ≡ true
-  pub is : MakesShown form kind i.bytes.items (within.Text made)
+  pub is : MakesShown form kind i (within.Text made)
 
 -- ---- why nothing is made
 
@@ -98,14 +126,35 @@ pub data RefusesFound (form : Form) (bytes : List ℕ) (e : Error) : Type 0 wher
   as_component : begins_as_module bytes ≡ false → RefusesComponent form bytes e → RefusesFound form bytes e
 
 -- the same of bytes whose kind is said, or found
-abbrev pub RefusesShown : Form → Option Kind → List ℕ → Error → Type 0
-RefusesShown form (Some kinds.Package) bytes = RefusesPackage form bytes
-RefusesShown form (Some kinds.World) bytes = RefusesWorld form bytes
-RefusesShown form (Some kinds.Module) bytes = RefusesBound form bytes
-RefusesShown form None bytes = λ e. is_memory e ≡ false → RefusesFound form bytes e
+abbrev pub RefusesBytesOf : Form → Option Kind → List ℕ → Error → Type 0
+RefusesBytesOf form (Some kinds.Package) bytes = RefusesPackage form bytes
+RefusesBytesOf form (Some kinds.World) bytes = RefusesWorld form bytes
+RefusesBytesOf form (Some kinds.Module) bytes = RefusesBound form bytes
+RefusesBytesOf form None bytes = λ e. is_memory e ≡ false → RefusesFound form bytes e
+
+-- what the package that texts were read as is refused for: want of memory alone, or what its bytes are refused for
+abbrev pub RefusesRead : Form → List ℕ → Error → Type 0
+RefusesRead forms.Wasm bytes = RefusesEncoded bytes false
+RefusesRead _ bytes = IsMemory
+
+-- the same of a package in the place of texts whose kind is said, or found
+abbrev pub RefusesOfTexts : Form → Option Kind → List ℕ → Error → Type 0
+RefusesOfTexts form (Some kinds.Package) bytes = RefusesRead form bytes
+RefusesOfTexts form (Some kinds.World) bytes = RefusesWorld form bytes
+RefusesOfTexts form (Some kinds.Module) bytes = RefusesBound form bytes
+RefusesOfTexts form None bytes = RefusesRead form bytes
+
+-- the same of what is in the place of texts, or isn't
+abbrev pub RefusesEither : Form → Option Kind → List ℕ → Option Read → Error → Type 0
+RefusesEither form kind bytes None = RefusesBytesOf form kind bytes
+RefusesEither form kind bytes (Some r) = RefusesOfTexts form kind bytes
+
+-- what an input is refused for
+abbrev pub RefusesShown : Form → Option Kind → Input → Error → Type 0
+RefusesShown form kind i = RefusesEither form kind i.bytes.items i.read
 
 -- Nothing is made of the input: it is no WebAssembly; what is made of it is longer than the bound; or its bytes are refused, and not for want of memory.
 pub data ShowsNothing (form : Form) (kind : Option Kind) (i : Input) : Type 0 where
   foreign : i.whole ≡ false → ShowsNothing form kind i
-  beyond : MakesShown form kind i.bytes.items within.Beyond → ShowsNothing form kind i
-  refused : (e : Error) → is_memory e ≡ false → RefusesShown form kind i.bytes.items e → ShowsNothing form kind i
+  beyond : MakesShown form kind i within.Beyond → ShowsNothing form kind i
+  refused : (e : Error) → is_memory e ≡ false → RefusesShown form kind i e → ShowsNothing form kind i

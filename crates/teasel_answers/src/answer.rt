@@ -37,7 +37,7 @@ pub fn made(
     if !input.whole {
         return Err(unmade(alloc, input));
     }
-    match shown(alloc, form, asked.kind, &input.bytes) {
+    match shown(alloc, form, asked.kind, input) {
         Ok(Within::Text(text)) => Ok(text),
         Ok(Within::Beyond) => Err(Refusal::of(
             format!(in alloc;
