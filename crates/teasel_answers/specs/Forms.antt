@@ -3,7 +3,6 @@ use Rattle.std.specs.Prelude.{◌≡◌, ℕ, Bool, true, false, List, [], Optio
 use Rattle.std.specs.declared.alloc.Global.{Global}
 use Rattle.wit_component.specs.{DecodedWorlds.RefusesWorldBytes}
 use Rattle.wit_component.specs.Decoded.{IsDecoded, MeansNothing, RefusesBytes}
-use Rattle.wit_json.specs.{Listed.package_listing_tokens, Spelled.Spells}
 use Rattle.wit_model.specs.Refusals.{IsMemory}
 use Rattle.wit_model.specs.declared.{error.Error.Error, model.Resolve.Resolve}
 use Rattle.teasel_answers.specs.Checks.{RefusesModule}
@@ -51,42 +50,27 @@ pub data MakesFound (form : Form) (bytes : List ℕ) (w : Within) : Type 0 where
   of_world : begins_as_module bytes ≡ false → MeansNothing bytes → MakesWorld form bytes w → MakesFound form bytes w
 
 -- the same of bytes whose kind is said, or found
-abbrev pub MakesBytes : Form → Option Kind → List ℕ → Within → Type 0
-MakesBytes form (Some kinds.Package) bytes = MakesPackage form bytes
-MakesBytes form (Some kinds.World) bytes = MakesWorld form bytes
-MakesBytes form (Some kinds.Module) bytes = MakesModule form bytes
-MakesBytes form None bytes = MakesFound form bytes
+abbrev pub MakesShown : Form → Option Kind → List ℕ → Within → Type 0
+MakesShown form (Some kinds.Package) bytes = MakesPackage form bytes
+MakesShown form (Some kinds.World) bytes = MakesWorld form bytes
+MakesShown form (Some kinds.Module) bytes = MakesModule form bytes
+MakesShown form None bytes = MakesFound form bytes
 
--- The text is the listing of the package that texts were read as.
-abbrev pub ListsRead : Read → List ℕ → Type 0
-ListsRead r text = Spells text (package_listing_tokens r.resolve r.main.0)
+-- the text of a package, within the bound: where it stands in the place of texts, of the package that they were read as, with no others nested; else as of bytes
+abbrev pub MakesText : ℕ → Option Kind → List ℕ → Option Read → Within → Type 0
+MakesText most kind bytes None = MakesShown (forms.Text most) kind bytes
+MakesText most kind bytes (Some r) = TextWithin (IsTextOf r.resolve r.main []) most
 
--- what is made of the package that texts were read as: its text, with no others nested, within the bound; its listing; or its bytes, anew
-abbrev pub MakesRead : Form → Read → List ℕ → Within → Type 0
-MakesRead (forms.Text most) r bytes = TextWithin (IsTextOf r.resolve r.main []) most
-MakesRead forms.Json r bytes = IsMade (ListsRead r)
-MakesRead forms.Wasm r bytes = IsMade (EncodesPackage bytes false)
-
--- the same of a package in the place of texts whose kind is said, or found: as a package it is what they were read as, and else its bytes
-abbrev pub MakesTexts : Form → Option Kind → Read → List ℕ → Within → Type 0
-MakesTexts form (Some kinds.Package) r bytes = MakesRead form r bytes
-MakesTexts form (Some kinds.World) r bytes = MakesWorld form bytes
-MakesTexts form (Some kinds.Module) r bytes = MakesModule form bytes
-MakesTexts form None r bytes = MakesRead form r bytes
-
--- the same of what is in the place of texts, or isn't
-abbrev pub MakesEither : Form → Option Kind → List ℕ → Option Read → Within → Type 0
-MakesEither form kind bytes None = MakesBytes form kind bytes
-MakesEither form kind bytes (Some r) = MakesTexts form kind r bytes
-
--- what is made of an input
-abbrev pub MakesShown : Form → Option Kind → Input → Within → Type 0
-MakesShown form kind i = MakesEither form kind i.bytes.items i.read
+-- what is made of an input whose kind is said, or found: all but the text of a package is made of the bytes
+abbrev pub MakesInput : Form → Option Kind → Input → Within → Type 0
+MakesInput (forms.Text most) None i = MakesText most None i.bytes.items i.read
+MakesInput (forms.Text most) (Some kinds.Package) i = MakesText most (Some kinds.Package) i.bytes.items i.read
+MakesInput form kind i = MakesShown form kind i.bytes.items
 
 -- The input is all of its file, and this is made of it, within the bound.
 pub record Shows (form : Form) (kind : Option Kind) (i : Input) (made : Vec ℕ Global) : Type 0 where
   pub whole : i.whole ≡ true
-  pub is : MakesShown form kind i (within.Text made)
+  pub is : MakesInput form kind i (within.Text made)
 
 -- ---- why nothing is made
 
@@ -126,35 +110,25 @@ pub data RefusesFound (form : Form) (bytes : List ℕ) (e : Error) : Type 0 wher
   as_component : begins_as_module bytes ≡ false → RefusesComponent form bytes e → RefusesFound form bytes e
 
 -- the same of bytes whose kind is said, or found
-abbrev pub RefusesBytesOf : Form → Option Kind → List ℕ → Error → Type 0
-RefusesBytesOf form (Some kinds.Package) bytes = RefusesPackage form bytes
-RefusesBytesOf form (Some kinds.World) bytes = RefusesWorld form bytes
-RefusesBytesOf form (Some kinds.Module) bytes = RefusesBound form bytes
-RefusesBytesOf form None bytes = λ e. is_memory e ≡ false → RefusesFound form bytes e
+abbrev pub RefusesShown : Form → Option Kind → List ℕ → Error → Type 0
+RefusesShown form (Some kinds.Package) bytes = RefusesPackage form bytes
+RefusesShown form (Some kinds.World) bytes = RefusesWorld form bytes
+RefusesShown form (Some kinds.Module) bytes = RefusesBound form bytes
+RefusesShown form None bytes = λ e. is_memory e ≡ false → RefusesFound form bytes e
 
--- what the package that texts were read as is refused for: want of memory alone, or what its bytes are refused for
-abbrev pub RefusesRead : Form → List ℕ → Error → Type 0
-RefusesRead forms.Wasm bytes = RefusesEncoded bytes false
-RefusesRead _ bytes = IsMemory
+-- what the text of a package is refused for: want of memory alone, where it stands in the place of texts; else as bytes are
+abbrev pub RefusesText : ℕ → Option Kind → List ℕ → Option Read → Error → Type 0
+RefusesText most kind bytes None = RefusesShown (forms.Text most) kind bytes
+RefusesText most kind bytes (Some r) = IsMemory
 
--- the same of a package in the place of texts whose kind is said, or found
-abbrev pub RefusesOfTexts : Form → Option Kind → List ℕ → Error → Type 0
-RefusesOfTexts form (Some kinds.Package) bytes = RefusesRead form bytes
-RefusesOfTexts form (Some kinds.World) bytes = RefusesWorld form bytes
-RefusesOfTexts form (Some kinds.Module) bytes = RefusesBound form bytes
-RefusesOfTexts form None bytes = RefusesRead form bytes
+-- what an input whose kind is said, or found, is refused for
+abbrev pub RefusesInput : Form → Option Kind → Input → Error → Type 0
+RefusesInput (forms.Text most) None i = RefusesText most None i.bytes.items i.read
+RefusesInput (forms.Text most) (Some kinds.Package) i = RefusesText most (Some kinds.Package) i.bytes.items i.read
+RefusesInput form kind i = RefusesShown form kind i.bytes.items
 
--- the same of what is in the place of texts, or isn't
-abbrev pub RefusesEither : Form → Option Kind → List ℕ → Option Read → Error → Type 0
-RefusesEither form kind bytes None = RefusesBytesOf form kind bytes
-RefusesEither form kind bytes (Some r) = RefusesOfTexts form kind bytes
-
--- what an input is refused for
-abbrev pub RefusesShown : Form → Option Kind → Input → Error → Type 0
-RefusesShown form kind i = RefusesEither form kind i.bytes.items i.read
-
--- Nothing is made of the input: it is no WebAssembly; what is made of it is longer than the bound; or its bytes are refused, and not for want of memory.
+-- Nothing is made of the input: it is no WebAssembly; what is made of it is longer than the bound; or it is refused, and not for want of memory.
 pub data ShowsNothing (form : Form) (kind : Option Kind) (i : Input) : Type 0 where
   foreign : i.whole ≡ false → ShowsNothing form kind i
-  beyond : MakesShown form kind i within.Beyond → ShowsNothing form kind i
-  refused : (e : Error) → is_memory e ≡ false → RefusesShown form kind i e → ShowsNothing form kind i
+  beyond : MakesInput form kind i within.Beyond → ShowsNothing form kind i
+  refused : (e : Error) → is_memory e ≡ false → RefusesInput form kind i e → ShowsNothing form kind i

@@ -116,7 +116,7 @@ fn package_of(alloc: Global, input: &Input<'_>) -> Result<Vec<u8>, Refusal>
             "the files stand as MODULE PACKAGE",
         ));
     }
-    match shown(alloc, Form::Wasm, None, input) {
+    match shown(alloc, Form::Wasm, None, &input.bytes) {
         Ok(Within::Text(bytes)) => Ok(bytes),
         Ok(Within::Beyond) => Err(Refusal::Memory),
         Err(error) => Err(refusal_of(alloc, input, error)),

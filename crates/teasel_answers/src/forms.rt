@@ -2,18 +2,17 @@
 
 ghost use Rattle.std.specs.Prelude.{◌≡◌, true, false, IfErr, IfOk};
 ghost use Rattle.wit_component.specs.Decoded.{MeansNothing};
-ghost use Rattle.teasel_answers.specs.Forms.{DecidesPackage, MakesBytes, MakesFound, MakesModule, MakesPackage, MakesRead, MakesShown, MakesWorld};
-ghost use Rattle.teasel_answers.specs.Forms.{RefusesBound, RefusesBytesOf, RefusesComponent, RefusesFound, RefusesPackage, RefusesRead, RefusesShown, RefusesWorld, RefusesWorldFor};
+ghost use Rattle.teasel_answers.specs.Forms.{DecidesPackage, MakesFound, MakesInput, MakesModule, MakesPackage, MakesShown, MakesWorld};
+ghost use Rattle.teasel_answers.specs.Forms.{RefusesBound, RefusesComponent, RefusesFound, RefusesInput, RefusesPackage, RefusesShown, RefusesWorld, RefusesWorldFor};
 ghost use Rattle.teasel_messages.specs.Reasons.{is_memory as is_want_of_memory};
 
 use crate::checks::is_memory;
 use crate::names::package_names;
 use std::alloc::Global;
-use teasel_files::{Input, Read};
+use teasel_files::Input;
 use teasel_messages::is_module;
 use teasel_words::Kind;
 use wit_component::Error;
-use wit_json::package_listing;
 use witc_listed::{module_json, package_json, world_json};
 use witc_within::{Within, module_text_within, package_text_within, text_within, world_text_within};
 use witc_written::{module_package, package_bytes, world_package};
@@ -143,9 +142,9 @@ fn of_found(alloc: Global, form: Form, bytes: &[u8]) -> Result<Within, Error>
 }
 
 /// What is made of bytes that are of this kind, or of the kind that they are found to be.
-fn of_bytes(alloc: Global, form: Form, kind: Option<Kind>, bytes: &[u8]) -> Result<Within, Error>
-    ensures makes { IfOk result (MakesBytes form kind bytes.now) }
-    ensures refused { IfErr result (RefusesBytesOf form kind bytes.now) }
+pub fn shown(alloc: Global, form: Form, kind: Option<Kind>, bytes: &[u8]) -> Result<Within, Error>
+    ensures makes { IfOk result (MakesShown form kind bytes.now) }
+    ensures refused { IfErr result (RefusesShown form kind bytes.now) }
 {
     match kind {
         Some(Kind::Package) => of_package(alloc, form, bytes),
@@ -155,34 +154,21 @@ fn of_bytes(alloc: Global, form: Form, kind: Option<Kind>, bytes: &[u8]) -> Resu
     }
 }
 
-/// What is made of the package that texts were read as, whose bytes these are.
-fn of_read(alloc: Global, form: Form, read: &Read, bytes: &[u8]) -> Result<Within, Error>
-    ensures makes { IfOk result (MakesRead form read.now bytes.now) }
-    ensures refused { IfErr result (RefusesRead form bytes.now) }
-{
-    match form {
-        Form::Text(most) => text_within(alloc, &read.resolve, read.main, &[], most),
-        Form::Json => {
-            let listing = package_listing(alloc, &read.resolve, read.main)?;
-            Ok(Within::Text(listing.into_bytes()))
-        }
-        Form::Wasm => Ok(Within::Text(package_bytes(alloc, bytes, false)?)),
-    }
-}
-
-/// What is made of an input that is of this kind, or of the kind that it is found to be: of a package that stands in the place of texts, of what they were
-/// read as, which has their documentation and gates; else of the bytes.
-pub fn shown(
+/// What is made of an input that is of this kind, or of the kind that it is found to be. The text of a package that stands in the place of texts is that of
+/// what they were read as, which has their documentation and gates: bytes have no place for these. All else is made of the bytes.
+pub fn shown_of(
     alloc: Global,
     form: Form,
     kind: Option<Kind>,
     input: &Input<'_>,
 ) -> Result<Within, Error>
-    ensures makes { IfOk result (MakesShown form kind input.now) }
-    ensures refused { IfErr result (RefusesShown form kind input.now) }
+    ensures makes { IfOk result (MakesInput form kind input.now) }
+    ensures refused { IfErr result (RefusesInput form kind input.now) }
 {
-    match (&input.read, kind) {
-        (Some(read), None | Some(Kind::Package)) => of_read(alloc, form, read, &input.bytes),
-        _ => of_bytes(alloc, form, kind, &input.bytes),
+    match (form, kind, &input.read) {
+        (Form::Text(most), None | Some(Kind::Package), Some(read)) => {
+            text_within(alloc, &read.resolve, read.main, &[], most)
+        }
+        _ => shown(alloc, form, kind, &input.bytes),
     }
 }
