@@ -1,18 +1,19 @@
 -- The text, the JSON or the bytes of a package, a world or a core module.
-use Rattle.std.specs.Prelude.{◌≡◌, ℕ, Bool, true, false, List, Option, Some, None, Vec}
+use Rattle.std.specs.Prelude.{◌≡◌, ℕ, Bool, true, false, List, [], Option, Some, None, Vec}
 use Rattle.std.specs.declared.alloc.Global.{Global}
 use Rattle.wit_component.specs.{DecodedWorlds.RefusesWorldBytes}
 use Rattle.wit_component.specs.Decoded.{IsDecoded, MeansNothing, RefusesBytes}
+use Rattle.wit_model.specs.Refusals.{IsMemory}
 use Rattle.wit_model.specs.declared.{error.Error.Error, model.Resolve.Resolve}
 use Rattle.teasel_answers.specs.Checks.{RefusesModule}
 use Rattle.teasel_answers.specs.declared.forms.Form.{Form}
 use Rattle.teasel_answers.specs.declared.forms.Form.TheVariants as forms
-use Rattle.teasel_files.specs.declared.answer.Input.{Input}
+use Rattle.teasel_files.specs.declared.{answer.Input.Input, read.Read.Read}
 use Rattle.teasel_messages.specs.{Looks.begins_as_module, Reasons.is_memory}
 use Rattle.teasel_words.specs.declared.choices.Kind.{Kind}
 use Rattle.teasel_words.specs.declared.choices.Kind.TheVariants as kinds
 use Rattle.witc_listed.specs.Listings.{ListsModule, ListsPackage, ListsWorld}
-use Rattle.witc_texts.specs.{Bindings.PrintsModule, Printed.PrintsBytes}
+use Rattle.witc_texts.specs.{Bindings.PrintsModule, Printed.IsTextOf, Printed.PrintsBytes}
 use Rattle.witc_within.specs.Within.{TextWithin}
 use Rattle.witc_within.specs.declared.texts.Within.{Within}
 use Rattle.witc_within.specs.declared.texts.Within.TheVariants as within
@@ -55,10 +56,21 @@ MakesShown form (Some kinds.World) bytes = MakesWorld form bytes
 MakesShown form (Some kinds.Module) bytes = MakesModule form bytes
 MakesShown form None bytes = MakesFound form bytes
 
+-- the text of a package, within the bound: where it stands in the place of texts, of the package that they were read as, with no others nested; else as of bytes
+abbrev pub MakesText : ℕ → Option Kind → List ℕ → Option Read → Within → Type 0
+MakesText most kind bytes None = MakesShown (forms.Text most) kind bytes
+MakesText most kind bytes (Some r) = TextWithin (IsTextOf r.resolve r.main []) most
+
+-- what is made of an input whose kind is said, or found: all but the text of a package is made of the bytes
+abbrev pub MakesInput : Form → Option Kind → Input → Within → Type 0
+MakesInput (forms.Text most) None i = MakesText most None i.bytes.items i.read
+MakesInput (forms.Text most) (Some kinds.Package) i = MakesText most (Some kinds.Package) i.bytes.items i.read
+MakesInput form kind i = MakesShown form kind i.bytes.items
+
 -- The input is all of its file, and this is made of it, within the bound.
 pub record Shows (form : Form) (kind : Option Kind) (i : Input) (made : Vec ℕ Global) : Type 0 where
   pub whole : i.whole ≡ true
-  pub is : MakesShown form kind i.bytes.items (within.Text made)
+  pub is : MakesInput form kind i (within.Text made)
 
 -- ---- why nothing is made
 
@@ -104,8 +116,19 @@ RefusesShown form (Some kinds.World) bytes = RefusesWorld form bytes
 RefusesShown form (Some kinds.Module) bytes = RefusesBound form bytes
 RefusesShown form None bytes = λ e. is_memory e ≡ false → RefusesFound form bytes e
 
--- Nothing is made of the input: it is no WebAssembly; what is made of it is longer than the bound; or its bytes are refused, and not for want of memory.
+-- what the text of a package is refused for: want of memory alone, where it stands in the place of texts; else as bytes are
+abbrev pub RefusesText : ℕ → Option Kind → List ℕ → Option Read → Error → Type 0
+RefusesText most kind bytes None = RefusesShown (forms.Text most) kind bytes
+RefusesText most kind bytes (Some r) = IsMemory
+
+-- what an input whose kind is said, or found, is refused for
+abbrev pub RefusesInput : Form → Option Kind → Input → Error → Type 0
+RefusesInput (forms.Text most) None i = RefusesText most None i.bytes.items i.read
+RefusesInput (forms.Text most) (Some kinds.Package) i = RefusesText most (Some kinds.Package) i.bytes.items i.read
+RefusesInput form kind i = RefusesShown form kind i.bytes.items
+
+-- Nothing is made of the input: it is no WebAssembly; what is made of it is longer than the bound; or it is refused, and not for want of memory.
 pub data ShowsNothing (form : Form) (kind : Option Kind) (i : Input) : Type 0 where
   foreign : i.whole ≡ false → ShowsNothing form kind i
-  beyond : MakesShown form kind i.bytes.items within.Beyond → ShowsNothing form kind i
-  refused : (e : Error) → is_memory e ≡ false → RefusesShown form kind i.bytes.items e → ShowsNothing form kind i
+  beyond : MakesInput form kind i within.Beyond → ShowsNothing form kind i
+  refused : (e : Error) → is_memory e ≡ false → RefusesInput form kind i e → ShowsNothing form kind i

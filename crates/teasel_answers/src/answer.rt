@@ -11,7 +11,7 @@ use crate::checks::checks;
 use crate::compared::compared;
 use crate::differences::differences;
 use crate::embedded::{embedded, stripped};
-use crate::forms::{Form, shown};
+use crate::forms::{Form, shown_of};
 use crate::kinds::kinds;
 use crate::sections::{refusal_of, sections};
 use std::alloc::Global;
@@ -37,7 +37,7 @@ pub fn made(
     if !input.whole {
         return Err(unmade(alloc, input));
     }
-    match shown(alloc, form, asked.kind, &input.bytes) {
+    match shown_of(alloc, form, asked.kind, input) {
         Ok(Within::Text(text)) => Ok(text),
         Ok(Within::Beyond) => Err(Refusal::of(
             format!(in alloc;

@@ -2,18 +2,19 @@
 
 ghost use Rattle.std.specs.Prelude.{◌≡◌, true, false, IfErr, IfOk};
 ghost use Rattle.wit_component.specs.Decoded.{MeansNothing};
-ghost use Rattle.teasel_answers.specs.Forms.{DecidesPackage, MakesFound, MakesModule, MakesPackage, MakesShown, MakesWorld};
-ghost use Rattle.teasel_answers.specs.Forms.{RefusesBound, RefusesComponent, RefusesFound, RefusesPackage, RefusesShown, RefusesWorld, RefusesWorldFor};
+ghost use Rattle.teasel_answers.specs.Forms.{DecidesPackage, MakesFound, MakesInput, MakesModule, MakesPackage, MakesShown, MakesWorld};
+ghost use Rattle.teasel_answers.specs.Forms.{RefusesBound, RefusesComponent, RefusesFound, RefusesInput, RefusesPackage, RefusesShown, RefusesWorld, RefusesWorldFor};
 ghost use Rattle.teasel_messages.specs.Reasons.{is_memory as is_want_of_memory};
 
 use crate::checks::is_memory;
 use crate::names::package_names;
 use std::alloc::Global;
+use teasel_files::Input;
 use teasel_messages::is_module;
 use teasel_words::Kind;
 use wit_component::Error;
 use witc_listed::{module_json, package_json, world_json};
-use witc_within::{Within, module_text_within, package_text_within, world_text_within};
+use witc_within::{Within, module_text_within, package_text_within, text_within, world_text_within};
 use witc_written::{module_package, package_bytes, world_package};
 
 /// What is written of a file.
@@ -150,5 +151,24 @@ pub fn shown(alloc: Global, form: Form, kind: Option<Kind>, bytes: &[u8]) -> Res
         Some(Kind::World) => of_world(alloc, form, bytes),
         Some(Kind::Module) => of_module(alloc, form, bytes),
         None => of_found(alloc, form, bytes),
+    }
+}
+
+/// What is made of an input that is of this kind, or of the kind that it is found to be. The text of a package that stands in the place of texts is that of
+/// what they were read as, which has their documentation and gates: bytes have no place for these. All else is made of the bytes.
+pub fn shown_of(
+    alloc: Global,
+    form: Form,
+    kind: Option<Kind>,
+    input: &Input<'_>,
+) -> Result<Within, Error>
+    ensures makes { IfOk result (MakesInput form kind input.now) }
+    ensures refused { IfErr result (RefusesInput form kind input.now) }
+{
+    match (form, kind, &input.read) {
+        (Form::Text(most), None | Some(Kind::Package), Some(read)) => {
+            text_within(alloc, &read.resolve, read.main, &[], most)
+        }
+        _ => shown(alloc, form, kind, &input.bytes),
     }
 }

@@ -1,6 +1,6 @@
 //! The files and folders of a command line, read.
 
-ghost use Rattle.std.specs.Prelude.{◌≡◌, ◌≢◌, [], Any, IfErr, IfOk};
+ghost use Rattle.std.specs.Prelude.{◌≡◌, ◌≢◌, [], None, Any, IfErr, IfOk};
 ghost use Rattle.std.specs.List.{AllZip};
 ghost use Rattle.teasel_files.specs.Contents.{IsInput, files_of, has_files as is_about_files};
 ghost use Rattle.teasel_files.specs.Folders.{AreRead, HasUnread, IsFolder, IsRead, IsText, IsUnread, is_folder as is_folder_so, paths_of};
@@ -140,7 +140,7 @@ fn input_of<'a, E: Write>(
     setting: Setting,
     errors: &mut E,
 ) -> Input<'a>
-    ensures { (result.bytes ≡ content.bytes) × (result.whole ≡ content.whole) }
+    ensures { (result.bytes ≡ content.bytes) × (result.whole ≡ content.whole) × (result.read ≡ None) }
 {
     if setting.error_terminal && content.bytes.len() > LARGE {
         note(
@@ -153,6 +153,7 @@ fn input_of<'a, E: Write>(
         bytes: content.bytes,
         whole: content.whole,
         refusal: None,
+        read: None,
     }
 }
 

@@ -1,8 +1,8 @@
 -- What comes in the place of WIT text, and of folders of texts.
-use Rattle.std.specs.Prelude.{◌≡◌, ◌||◌, ◌++◌, not, Bool, true, false, ℕ, List, [], ◌∷◌, length, map}
+use Rattle.std.specs.Prelude.{◌≡◌, ◌||◌, ◌++◌, not, Bool, true, false, ℕ, Some, List, [], ◌∷◌, length, map}
 use Rattle.std.specs.List.{AllZip, list_any}
-use Rattle.witc_read.specs.Packages.{IsPackageOf, IsUnmade}
-use Rattle.teasel_files.specs.declared.{answer.Input.Input, source.Folder.Folder, source.FolderText.FolderText, source.Source.Source}
+use Rattle.witc_read.specs.Packages.{IsPackageAs, IsUnmade}
+use Rattle.teasel_files.specs.declared.{answer.Input.Input, read.Read.Read, source.Folder.Folder, source.FolderText.FolderText, source.Source.Source}
 use Rattle.teasel_files.specs.declared.source.Source.TheVariants as sources
 use Rattle.teasel_messages.specs.Looks.{begins_as_text}
 
@@ -10,14 +10,15 @@ use Rattle.teasel_messages.specs.Looks.{begins_as_text}
 abbrev pub bytes_in : List FolderText → List (List ℕ)
 bytes_in texts = map (λ t. t.bytes.items) texts
 
--- An input is the package of texts, or one that isn't whole where none is made.
+-- An input is the package of texts, with what they are read as; or one that isn't whole where none is made.
 pub data IsMade (texts : List (List ℕ)) (own : ℕ) (taken : Input) : Type 0 where
-  for_package : taken.whole ≡ true → IsPackageOf texts own taken.bytes.items → IsMade texts own taken
+  for_package : (read : Read) → taken.whole ≡ true → taken.read ≡ Some read → IsPackageAs texts own read.resolve read.main taken.bytes.items
+      → IsMade texts own taken
   for_nothing : taken.whole ≡ false → IsUnmade texts own → IsMade texts own taken
 
 -- One input is taken for another: for itself, where it isn't text, or isn't whole; or for what is made of its text.
 pub data IsFileTaken (i taken : Input) : Type 0 where
-  for_itself : begins_as_text i.bytes.items ≡ false → taken.bytes ≡ i.bytes → taken.whole ≡ i.whole → IsFileTaken i taken
+  for_itself : begins_as_text i.bytes.items ≡ false → taken.bytes ≡ i.bytes → taken.whole ≡ i.whole → taken.read ≡ i.read → IsFileTaken i taken
   in_part : i.whole ≡ false → taken.whole ≡ false → IsFileTaken i taken
   for_text : begins_as_text i.bytes.items ≡ true → IsMade (i.bytes.items ∷ []) 1 taken → IsFileTaken i taken
 

@@ -7,9 +7,9 @@ ghost use Rattle.teasel_texts.specs.Made.{AreTaken, IsFileTaken, IsFolderTaken, 
 
 use crate::refusals::{again, no_text, refusal_of};
 use std::alloc::{AllocError, Global};
-use teasel_files::{Folder, FolderText, Input, Source};
+use teasel_files::{Folder, FolderText, Input, Read, Source};
 use teasel_messages::{Refusal, foreign, is_text};
-use witc_read::{NamedText, Trouble, texts_package};
+use witc_read::{NamedText, ReadPackage, Trouble, read_package};
 
 /// Whether memory was wanting.
 fn is_memory(trouble: &Trouble) -> bool
@@ -34,6 +34,7 @@ fn without_package<'a>(alloc: Global, name: &'a str, refusal: Refusal) -> Input<
         bytes: Vec::new(alloc),
         whole: false,
         refusal: Some(refusal),
+        read: None,
     }
 }
 
@@ -46,12 +47,19 @@ fn made_of<'a>(
 ) -> Result<Input<'a>, AllocError>
     ensures { IfOk result (IsMade (bytes_of texts.now) own) }
 {
-    match texts_package(alloc, texts, own) {
-        Ok(bytes) => Ok(Input {
+    match read_package(alloc, texts, own) {
+        Ok(
+            ReadPackage {
+                resolve,
+                main,
+                bytes,
+            },
+        ) => Ok(Input {
             name,
             bytes,
             whole: true,
             refusal: None,
+            read: Some(Read { resolve, main }),
         }),
         Err(trouble) => {
             if is_memory(&trouble) {

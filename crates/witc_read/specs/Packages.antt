@@ -8,7 +8,7 @@ use Rattle.wit_model.specs.declared.error.Error.TheVariants as errors
 use Rattle.text_names.specs.declared.error.Fault.{Fault}
 use Rattle.text_names.specs.declared.error.Fault.TheVariants as faults
 use Rattle.wit_text.specs.Texts.{ReadsTexts, RefusesTexts}
-use Rattle.witc_read.specs.declared.packages.{NamedText.NamedText, Trouble.Trouble}
+use Rattle.witc_read.specs.declared.packages.{NamedText.NamedText, ReadPackage.ReadPackage, Trouble.Trouble}
 use Rattle.witc_read.specs.declared.packages.Trouble.TheVariants as troubles
 
 -- the bytes of texts that have a name
@@ -49,6 +49,14 @@ pub record IsPackageOf (texts : List (List ℕ)) (own : ℕ) (bytes : List ℕ) 
   pub means : MeansPackageAt resolve main.0 bytes
   pub spelled : SpellsPackageAt resolve false main.0 bytes
   pub empty : IsPreambleAt resolve main.0 bytes
+
+-- the same of this very package, as the texts are read
+abbrev pub IsPackageAs : List (List ℕ) → ℕ → Resolve → PackageId → List ℕ → Type 0
+IsPackageAs texts own r main bytes = (p : IsPackageOf texts own bytes) × (p.resolve ≡ r) × (p.main ≡ main)
+
+-- the same of what is read
+abbrev pub IsReadPackage : List (List ℕ) → ℕ → ReadPackage → Type 0
+IsReadPackage texts own r = IsPackageAs texts own r.resolve r.main r.bytes.items
 
 -- ---- why there is none
 

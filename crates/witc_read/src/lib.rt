@@ -4,5 +4,5 @@
 mod packages;
 mod places;
 
-pub use packages::{NamedText, Trouble, texts_package};
+pub use packages::{NamedText, ReadPackage, Trouble, read_package, texts_package};
 pub use places::{label, place_message, text_at};

@@ -3,7 +3,7 @@
 ghost use Rattle.std.specs.Prelude.{◌≡◌, ◌<◌, ℕ, false, true, length, map, IfErr, IfNone, IfOk, IfSome, MatchOption};
 ghost use Rattle.std.specs.{List.list_all, Str.is_utf8};
 ghost use Rattle.wit_model.specs.Valid.{IsValid};
-ghost use Rattle.witc_read.specs.Packages.{IsMainOf, IsNoMainOf, IsOther, IsPackageOf, IsReadOf, IsTroubleOf, bytes_of, is_package, trouble_of_error, trouble_of_fault};
+ghost use Rattle.witc_read.specs.Packages.{IsMainOf, IsNoMainOf, IsOther, IsPackageOf, IsReadOf, IsReadPackage, IsTroubleOf, bytes_of, is_package, trouble_of_error, trouble_of_fault};
 ghost use Rattle.witc_read.specs.declared.packages.Trouble.TheVariants as troubles;
 
 use std::alloc::{AllocError, AllocFailed, Global};
@@ -17,6 +17,14 @@ use wit_text::read_texts;
 pub struct NamedText<'b> {
     pub name: &'b str,
     pub bytes: &'b [u8],
+}
+
+/// A package that texts begin with: what they are read as, its number in that, and the package in binary form.
+#[derive(Drop)]
+pub struct ReadPackage {
+    pub resolve: Resolve,
+    pub main: PackageId,
+    pub bytes: Vec<u8>,
 }
 
 /// Why no package is made of texts.
@@ -139,16 +147,42 @@ fn read(alloc: Global, texts: &[&str], own: usize) -> Result<(Resolve, PackageId
     }
 }
 
-/// The bytes of the package with which so many of the texts begin.
-fn encoded(alloc: Global, texts: &[&str], own: usize) -> Result<Vec<u8>, Trouble>
-    ensures ok { IfOk result (λ bytes. IsPackageOf (map (λ t. t.now) texts.now) own bytes.items) }
+/// The package with which so many of the texts begin.
+fn encoded(alloc: Global, texts: &[&str], own: usize) -> Result<ReadPackage, Trouble>
+    ensures ok { IfOk result (IsReadPackage (map (λ t. t.now) texts.now) own) }
+    ensures valid { IfOk result (λ r. IsValid r.resolve) }
+    ensures in_range { IfOk result (λ r. r.main.0 < length r.resolve.packages.items) }
     ensures err { IfErr result (IsTroubleOf (map (λ t. t.now) texts.now) own) }
 {
     match read(alloc, texts, own) {
         Ok((resolve, main)) => match encode(alloc, &resolve, main, false) {
-            Ok(bytes) => Ok(bytes),
+            Ok(bytes) => Ok(ReadPackage {
+                resolve,
+                main,
+                bytes,
+            }),
             Err(error) => Err(of_encoding(error)),
         },
+        Err(trouble) => Err(trouble),
+    }
+}
+
+/// The package with which so many of the texts begin, the first ones: as it is read, and in binary form. The `Resolve` has the documentation and the gates
+/// of the texts, which the bytes have no place for.
+///
+/// Refused as `texts_package` refuses.
+pub fn read_package(
+    alloc: Global,
+    texts: &[NamedText<'_>],
+    own: usize,
+) -> Result<ReadPackage, Trouble>
+    ensures ok { IfOk result (IsReadPackage (bytes_of texts.now) own) }
+    ensures valid { IfOk result (λ r. IsValid r.resolve) }
+    ensures in_range { IfOk result (λ r. r.main.0 < length r.resolve.packages.items) }
+    ensures err { IfErr result (IsTroubleOf (bytes_of texts.now) own) }
+{
+    match texts_of(alloc, texts) {
+        Ok(found) => encoded(alloc, &found, own),
         Err(trouble) => Err(trouble),
     }
 }
@@ -162,8 +196,8 @@ pub fn texts_package(alloc: Global, texts: &[NamedText<'_>], own: usize) -> Resu
     ensures ok { IfOk result (λ made. IsPackageOf (bytes_of texts.now) own made.items) }
     ensures err { IfErr result (IsTroubleOf (bytes_of texts.now) own) }
 {
-    match texts_of(alloc, texts) {
-        Ok(found) => encoded(alloc, &found, own),
+    match read_package(alloc, texts, own) {
+        Ok(read) => Ok(read.bytes),
         Err(trouble) => Err(trouble),
     }
 }

@@ -4,4 +4,4 @@
 mod bounded;
 mod texts;
 
-pub use texts::{Within, module_text_within, package_text_within, world_text_within};
+pub use texts::{Within, module_text_within, package_text_within, text_within, world_text_within};

@@ -23,7 +23,7 @@ pub enum Within {
 }
 
 /// The text of a package, with others nested in it, if it has at most so many bytes. No more of it is printed than that, and one piece.
-fn text_within(
+pub fn text_within(
     alloc: Global,
     resolve: &Resolve,
     id: PackageId,

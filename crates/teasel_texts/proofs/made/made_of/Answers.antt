@@ -1,6 +1,9 @@
-use Rattle.std.proofs.Common.{◌∙◌, sym}
-use Rattle.teasel_texts.specs.Made.{IsMade.for_nothing}
+use Rattle.std.proofs.Common.{◌∙◌, refl, sym}
+use Rattle.teasel_texts.specs.Made.{IsMade.for_nothing, IsMade.for_package}
 use Rattle.teasel_texts.proofs.made.made_of.Goals as goal
+
+pub returns-in-Ok : goal.returns-in-Ok
+returns-in-Ok c = for_package _ refl refl c.in-Ok.ensures.ok
 
 pub returns : goal.returns
 returns c =
