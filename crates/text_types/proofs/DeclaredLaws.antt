@@ -1,10 +1,11 @@
 -- What is declared, as definitions grow. Serves declared.
-use Rattle.std.proofs.Common.{◌≡◌, sym, subst, refl, List, Result, Ok, Err, IfOk, Vec, Global}
+use Rattle.std.proofs.Common.{◌≡◌, sym, subst, refl, ℕ, List, Some, slice_get, Result, Ok, Err, IfOk, Vec, Global}
 use Rattle.wit_model.specs.Text.{Text}
 use Rattle.wit_model.specs.declared.model.{TypeDef.TypeDef, TypeDefKind.TypeDefKind, TypeId.TypeId, TypeOwner.TypeOwner, Field.Field, Case.Case}
 use Rattle.print_grammar.specs.Tree.{Prefix, FieldTree, CaseTree, Declared}
 use Rattle.wit_model.specs.declared.model.{Record.Record, Variant.Variant, Flags.Flags, Enum.Enum}
 use Rattle.wit_model.specs.declared.model.TypeDefKind.TheVariants as defined
+use Rattle.wit_model.specs.declared.model.«Type».TheVariants as value
 use Rattle.text_trees.specs.declared.tree.Declared.{Declared as CodeDeclared}
 use Rattle.text_trees.specs.declared.tree.Declared.TheVariants as sorts
 use Rattle.text_trees.specs.declared.tree.{Span.Span, FieldTree.FieldTree as CodeField}
@@ -15,7 +16,7 @@ use Rattle.text_types.specs.Plain.{plain_declared, plain_alias, plain_field, pla
 use Rattle.text_types.specs.Seen.{SeenField, SeenCase, SeenFlag, SeenEnumCase}
 use Rattle.text_types.specs.declared.types.Types.{Types}
 use Rattle.text_types.specs.{Each.EachIs, Stands.KindIs, Kept.defs_of, Kept.Grows, Begins.Begins}
-use Rattle.text_types.specs.Declares.{FieldIs, CaseIs, DeclaredKind, declared_name, IsNamed, DeclaredAt, NamedAt}
+use Rattle.text_types.specs.Declares.{FieldIs, CaseIs, DeclaredKind, declared_name, IsNamed, DeclaredAt, NamedAt, OwnTarget}
 use Rattle.text_types.proofs.Growth.{stands_stays, kind_stays, entry_stays}
 use Rattle.text_types.proofs.EachLaws.{each_weaker, maybe_weaker, each_map}
 
@@ -34,12 +35,17 @@ module _ {old new : List TypeDef} (h : Begins old new) where
   declared_kind_stays (DeclaredKind.an_alias name k) = DeclaredKind.an_alias name (kind_stays h k)
   declared_kind_stays (DeclaredKind.a_resource name members) = DeclaredKind.a_resource name members
 
+  pub own_target_stays : {owner : TypeOwner} {kind : TypeDefKind} → OwnTarget old owner kind → OwnTarget new owner kind
+  own_target_stays k = record {
+    leads = λ target is. (let o = k.leads target is in record { def = o.def; there = entry_stays target.0 o.def h o.there; owned = o.owned });
+  }
+
   pub declared_stays : {owner : TypeOwner} {prefix : Prefix} {declared : Declared} {id : TypeId} → DeclaredAt old owner prefix declared id
       → DeclaredAt new owner prefix declared id
   declared_stays {id = id} k = record {
     def = k.def;
     there = entry_stays id.0 k.def h k.there;
-    stands = record { front = k.stands.front; kind = declared_kind_stays k.stands.kind };
+    stands = record { front = k.stands.front; kind = declared_kind_stays k.stands.kind; own = own_target_stays k.stands.own };
   }
 
 pub plain_name : (declared : Declared) → declared_name (plain_declared declared) ≡ declared_name declared
@@ -53,17 +59,50 @@ plain_name (Declared.ResourceOf name members) = refl
 -- a definition that is added under its name is what the tree declares
 pub declared_added : {a b : Types} (owner : TypeOwner) (prefix : Prefix) {declared : Declared} {name : Text} {kind : TypeDefKind} {E : Type 0}
     (r : Result TypeId E) → Grows a b
-    → DeclaredKind (defs_of a) declared kind → name ≡ declared_name declared → IfOk r (NamedAt (defs_of b) owner prefix name kind)
-    → IfOk r (DeclaredAt (defs_of b) owner prefix declared)
-declared_added {b = b} owner prefix {declared = declared} (Ok id) g k e n = record {
+    → DeclaredKind (defs_of a) declared kind → OwnTarget (defs_of a) owner kind → name ≡ declared_name declared
+    → IfOk r (NamedAt (defs_of b) owner prefix name kind) → IfOk r (DeclaredAt (defs_of b) owner prefix declared)
+declared_added {b = b} owner prefix {declared = declared} (Ok id) g k own e n = record {
   def = n.def;
   there = n.there;
   stands = record {
     front = subst (λ name. IsNamed owner prefix name n.def) e n.front;
     kind = subst (DeclaredKind (defs_of b) declared) (sym n.has) (declared_kind_stays g.defs k);
+    own = subst (OwnTarget (defs_of b) owner) (sym n.has) (own_target_stays g.defs own);
   };
 }
-declared_added owner prefix (Err x) g k e n = tt
+declared_added owner prefix (Err x) g k own e n = tt
+
+same_there : (defs : List TypeDef) (n : ℕ) {a b : TypeDef} → slice_get defs n ≡ Some a → slice_get defs n ≡ Some b → a ≡ b
+same_there defs n e f = cc (e, f)
+
+-- a declared type that is another name for a type is one for a type of its owner
+pub declared_own : {defs : List TypeDef} {owner : TypeOwner} {prefix : Prefix} {declared : Declared} {id : TypeId} → DeclaredAt defs owner prefix declared id
+    → (target : TypeId) (def aliased : TypeDef) → slice_get defs id.0 ≡ Some def → def.kind ≡ defined.Type_ (value.Id target)
+    → slice_get defs target.0 ≡ Some aliased → aliased.owner ≡ owner
+declared_own {defs = defs} {owner = owner} {id = id} k target def aliased here is there =
+    let own = subst (λ (d : TypeDef). OwnTarget defs owner d.kind) (same_there defs id.0 k.there here) k.stands.own in
+    let leads = own.leads target is in
+    subst (λ (d : TypeDef). d.owner ≡ owner) (same_there defs target.0 leads.there there) leads.owned
+
+-- ---- kinds that are no other names
+
+module _ {defs : List TypeDef} {owner : TypeOwner} where
+  pub own_record : {r : Record} → OwnTarget defs owner (defined.Record r)
+  own_record = record { leads = λ target e. absurd (cc e) }
+
+  pub own_variant : {v : Variant} → OwnTarget defs owner (defined.Variant v)
+  own_variant = record { leads = λ target e. absurd (cc e) }
+
+  pub own_flags : {f : Flags} → OwnTarget defs owner (defined.Flags f)
+  own_flags = record { leads = λ target e. absurd (cc e) }
+
+  pub own_enum : {e : Enum} → OwnTarget defs owner (defined.Enum e)
+  own_enum = record { leads = λ target e. absurd (cc e) }
+
+  pub own_resource : OwnTarget defs owner defined.Resource
+  own_resource = record { leads = λ target e. absurd (cc e) }
+
+pub ruleset own_kinds = (own_record, own_variant, own_flags, own_enum, own_resource)
 
 -- ---- from trees of the code
 

@@ -1,13 +1,13 @@
 -- What stands by a list of definitions stands by a longer one.
 use Rattle.std.proofs.Common.{◌≡◌, ◌∙◌, sym, ap, ℕ, List, [], ◌++◌, append-nil, append_assoc, Some, slice_get}
-use Rattle.wit_model.specs.declared.model.{TypeDef.TypeDef, TypeDefKind.TypeDefKind, TypeId.TypeId, «Type».«Type» as ValueType}
+use Rattle.wit_model.specs.declared.model.{TypeDef.TypeDef, TypeDefKind.TypeDefKind, TypeId.TypeId, TypeOwner.TypeOwner, «Type».«Type» as ValueType}
 use Rattle.print_grammar.specs.Tree.{TypeTree, TypeTrees}
 use Rattle.wit_model.specs.Text.{Text}
 use Rattle.base_lemmas.proofs.Lists.{front_at}
 use Rattle.text_types.specs.declared.types.Types.{Types}
 use Rattle.text_types.specs.declared.scope.Scope.{Scope}
 use Rattle.text_types.specs.{Begins.Begins, Kept.defs_of, Kept.Grows, Scopes.IsPlaced, Scopes.id_under}
-use Rattle.text_types.specs.Stands.{NameAt, UnnamedAt, Stands, FormIs, StandAll, KindIs}
+use Rattle.text_types.specs.Stands.{NameAt, OwnNameAt, UnnamedAt, Stands, FormIs, StandAll, KindIs}
 
 -- ---- lists
 
@@ -25,6 +25,12 @@ entry_stays {xs = xs} n x h e = ap (λ l. slice_get l n) h.is ∙ front_at xs h.
 module _ {old new : List TypeDef} (h : Begins old new) where
   pub name_stays : {id : TypeId} {name : Text} → NameAt old id name → NameAt new id name
   name_stays {id = id} k = record { def = k.def; there = entry_stays id.0 k.def h k.there; named = k.named }
+
+  pub own_name_stays : {owner : TypeOwner} {id : TypeId} {name : Text} → OwnNameAt old owner id name → OwnNameAt new owner id name
+  own_name_stays {id = id} k = record {
+    is = record { def = k.is.def; there = entry_stays id.0 k.is.def h k.is.there; named = k.is.named };
+    owned = k.owned;
+  }
 
   pub unnamed_stays : {id : TypeId} {kind : TypeDefKind} → UnnamedAt old id kind → UnnamedAt new id kind
   unnamed_stays {id = id} k = record { def = k.def; there = entry_stays id.0 k.def h k.there; unnamed = k.unnamed; has = k.has }
@@ -71,7 +77,7 @@ pub grows_join : {a b c : Types} → Grows a b → Grows b c → Grows a c
 grows_join h k = record { defs = begins_join h.defs k.defs }
 
 pub placed : {a b : Types} {scope : Scope} → Grows a b → IsPlaced scope (defs_of a) → IsPlaced scope (defs_of b)
-placed h k = record { names = λ name id e. name_stays h.defs (k.names name id e) }
+placed h k = record { names = λ name id e. own_name_stays h.defs (k.names name id e) }
 
 pub stands_on : {a b : Types} {tree : TypeTree} {ty : ValueType} → Grows a b → Stands (defs_of a) tree ty → Stands (defs_of b) tree ty
 stands_on h k = stands_stays h.defs k
@@ -86,6 +92,6 @@ pub name_on : {a b : Types} {id : TypeId} {name : Text} → Grows a b → NameAt
 name_on h k = name_stays h.defs k
 
 pub named : {defs : List TypeDef} {scope : Scope} {name : Text} {id : TypeId} → IsPlaced scope defs → id_under scope name ≡ Some (Some id) → NameAt defs id name
-named h e = h.names _ _ e
+named h e = (h.names _ _ e).is
 
 pub ruleset growing = (grows_none, grows_join, placed, stands_on, all_on, form_on, name_on, named)

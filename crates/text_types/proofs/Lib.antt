@@ -2,7 +2,7 @@
 pub mod EachLaws
 -- Functions that are put into a map, one behind the other. Serves members::add_all, members::add_declared_functions, members::add_functions.
 pub mod AddedFunctions
--- What stands by a list of definitions stands by a longer one. Serves declared, declared::cases_of, declared::fields_of, functions and 10 more; crates above.
+-- What stands by a list of definitions stands by a longer one. Serves declared, declared::cases_of, declared::fields_of, declared::kind_of_declared and 11 more; crates above.
 pub mod Growth
 -- What names stand for, as types are made. Serves members, scope, scope::add, scope::made and 3 more; crates above.
 pub mod ScopeLaws

@@ -11,7 +11,7 @@ use Rattle.base_lemmas.proofs.Lists.{front_or_end}
 use Rattle.print_grammar.specs.Tree.{Prefix, Declared, MemberTree}
 use Rattle.text_types.specs.declared.scope.Scope.{Scope}
 use Rattle.text_types.specs.Scopes.{id_under, made_under, type_name, types_in, AreApartByName, IsCounted, IsFresh, IsPlaced, KeepsPlaced, Places, StaysIn}
-use Rattle.text_types.specs.{Stands.NameAt, Kept.defs_of, Kept.Grows}
+use Rattle.text_types.specs.{Stands.OwnNameAt, Kept.defs_of, Kept.Grows}
 use Rattle.text_types.specs.declared.types.Types.{Types}
 use Rattle.text_types.proofs.Growth.{placed}
 use Rattle.text_types.specs.Declares.{declared_name, DeclaredAt, NamedAt}
@@ -53,7 +53,7 @@ is_placed k = k.placed
 
 -- a type that is placed
 pub placed_made : (a b : Scope) {X E : Type 0} (defs : List TypeDef) (name : Text) (id : TypeId) (r : Result X E) → OnOk r (Places a b name id)
-    → NameAt defs id name → IsPlaced a defs
+    → OwnNameAt defs a.owner id name → IsPlaced a defs
     → OnOk r (StaysIn a b defs)
 placed_made a b defs name id (Ok x) h n p = record { text = h.text; home = h.home; owner = h.owner; placed = h.placed defs n p }
 placed_made a b defs name id (Err x) h n p = tt
@@ -75,21 +75,23 @@ some_case false made o id e = inr e
 abbrev pub Puts : Scope → Scope → Bor Text → Option TypeId → Type 0
 Puts old new key v = (q : Bor Text) → id_under new q.now ≡ cond (text_eq key.now q.now) (Some v) (id_under old q.now)
 
-pub none_put : (old new : Scope) (key : Bor Text) → Puts old new key None → (defs : List TypeDef) → IsPlaced old defs → IsPlaced new defs
-none_put old new key u defs p = record {
-  names = λ n id e. p.names n id (none_case (text_eq key.now n) (id_under old n) id (sym (u (record key
-      { now = n })) ∙ e));
+pub none_put : (old new : Scope) (key : Bor Text) → new.owner ≡ old.owner → Puts old new key None → (defs : List TypeDef)
+    → IsPlaced old defs → IsPlaced new defs
+none_put old new key owner u defs p = record {
+  names = λ n id e. subst (λ o. OwnNameAt defs o id n) (sym owner) (p.names n id (none_case (text_eq key.now n)
+      (id_under old n) id (sym (u (record key { now = n })) ∙ e)));
 }
 
-pub some_put : (old new : Scope) (key : Bor Text) (made : TypeId) → Puts old new key (Some made) → (defs : List TypeDef) → NameAt defs made key.now
-    → IsPlaced old defs → IsPlaced new defs
-some_put old new key made u defs there p = record {
-  names = λ n id e. go n id (some_case (text_eq key.now n) made (id_under old n) id (sym (u (record key
-      { now = n })) ∙ e));
+pub some_put : (old new : Scope) (key : Bor Text) (made : TypeId) → new.owner ≡ old.owner → Puts old new key (Some made) → (defs : List TypeDef)
+    → OwnNameAt defs old.owner made key.now → IsPlaced old defs → IsPlaced new defs
+some_put old new key made owner u defs there p = record {
+  names = λ n id e. subst (λ o. OwnNameAt defs o id n) (sym owner) (go n id (some_case (text_eq key.now n) made (id_under old n) id (sym (u (record key
+      { now = n })) ∙ e)));
 }
   where
-    go : (n : Text) (id : TypeId) → ((text_eq key.now n ≡ true) × (made ≡ id)) ⊎ (id_under old n ≡ Some (Some id)) → NameAt defs id n
-    go n id (inl h) = subst (λ m. NameAt defs id m) ((bytes_eq-Decides key.now n).0 h.0) (subst (λ i. NameAt defs i key.now) h.1 there)
+    go : (n : Text) (id : TypeId) → ((text_eq key.now n ≡ true) × (made ≡ id)) ⊎ (id_under old n ≡ Some (Some id)) → OwnNameAt defs old.owner id n
+    go n id (inl h) = subst (λ m. OwnNameAt defs old.owner id m) ((bytes_eq-Decides key.now n).0 h.0)
+        (subst (λ i. OwnNameAt defs old.owner i key.now) h.1 there)
     go n id (inr h) = p.names n id h
 
 -- one name and one type more
@@ -101,12 +103,12 @@ counted_more names more types others None none grows one same = omega arith
 -- ---- definitions with names
 
 pub declared_there : {defs : List TypeDef} {owner : TypeOwner} {prefix : Prefix} {declared : Declared} {id : TypeId} → DeclaredAt defs owner prefix declared id
-    → NameAt defs id (declared_name declared)
-declared_there k = record { def = k.def; there = k.there; named = k.stands.front.named }
+    → OwnNameAt defs owner id (declared_name declared)
+declared_there k = record { is = record { def = k.def; there = k.there; named = k.stands.front.named }; owned = k.stands.front.owned }
 
 pub named_there : {defs : List TypeDef} {owner : TypeOwner} {prefix : Prefix} {name : Text} {kind : TypeDefKind} {id : TypeId}
-    → NamedAt defs owner prefix name kind id → NameAt defs id name
-named_there k = record { def = k.def; there = k.there; named = k.front.named }
+    → NamedAt defs owner prefix name kind id → OwnNameAt defs owner id name
+named_there k = record { is = record { def = k.def; there = k.there; named = k.front.named }; owned = k.front.owned }
 
 -- ---- what is made, and what isn't
 

@@ -5,6 +5,7 @@ use Rattle.wit_model.specs.declared.model.{TypeDef.TypeDef, TypeDefKind.TypeDefK
 use Rattle.wit_model.specs.declared.model.{Field.Field, Case.Case, Flag.Flag, EnumCase.EnumCase}
 use Rattle.wit_model.specs.declared.model.{Record.Record, Variant.Variant, Flags.Flags, Enum.Enum}
 use Rattle.wit_model.specs.declared.model.TypeDefKind.TheVariants as defined
+use Rattle.wit_model.specs.declared.model.«Type».TheVariants as value
 use Rattle.print_grammar.specs.Tree.{TypeTree, Prefix, FieldTree, CaseTree, LabelTree, ResourceMember, Declared}
 use Rattle.print_grammar.specs.Tree.Declared.{RecordOf, VariantOf, FlagsOf, EnumOf, AliasOf, ResourceOf}
 use Rattle.print_items.specs.Shown.{shown_gates, shown_external_id}
@@ -64,10 +65,21 @@ pub record IsNamed (owner : TypeOwner) (prefix : Prefix) (name : Text) (def : Ty
   pub external_id : shown_external_id def.external_id ≡ prefix.external_id
   pub docs : def.docs.contents ≡ None
 
--- A definition is what a plain tree declares, with what stands in front of it.
+-- The definition of this number is there, and belongs to this owner.
+pub record OwnedAt (defs : List TypeDef) (owner : TypeOwner) (id : TypeId) : Type 0 where
+  pub def : TypeDef
+  pub there : slice_get defs id.0 ≡ Some def
+  pub owned : def.owner ≡ owner
+
+-- A kind that is another name for the type of a number leads to a type of this owner.
+pub record OwnTarget (defs : List TypeDef) (owner : TypeOwner) (kind : TypeDefKind) : Type 0 where
+  pub leads : (target : TypeId) → kind ≡ defined.Type_ (value.Id target) → OwnedAt defs owner target
+
+-- A definition is what a plain tree declares, with what stands in front of it. If it is another name for a type, then for one of the same owner.
 pub record DeclaredStands (defs : List TypeDef) (owner : TypeOwner) (prefix : Prefix) (declared : Declared) (def : TypeDef) : Type 0 where
   pub front : IsNamed owner prefix (declared_name declared) def
   pub kind : DeclaredKind defs declared def.kind
+  pub own : OwnTarget defs owner def.kind
 
 -- The definition of this number is there, and is what a plain tree declares.
 pub record DeclaredAt (defs : List TypeDef) (owner : TypeOwner) (prefix : Prefix) (declared : Declared) (id : TypeId) : Type 0 where

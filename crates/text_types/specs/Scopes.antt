@@ -8,7 +8,7 @@ use Rattle.text_trees.specs.TreesSeen.{declared_of, path_of, prefix_of, used_nam
 use Rattle.text_names.specs.Orders.{AreApart}
 use Rattle.text_types.specs.declared.scope.{Scope.Scope, Own.Own}
 use Rattle.text_types.specs.declared.scope.Own.TheVariants as own
-use Rattle.text_types.specs.{Stands.NameAt, Declares.declared_name, Made.name_here, Made.NameMap}
+use Rattle.text_types.specs.{Stands.OwnNameAt, Declares.declared_name, Made.name_here, Made.NameMap}
 
 -- the text in which a scope stands
 abbrev pub text_in : Scope → Text
@@ -62,9 +62,9 @@ pub record IsFresh (scope : Scope) : Type 0 where
 abbrev pub Agrees : NameMap TypeId → Scope → Type 0
 Agrees types scope = (name : Text) → made_under scope name ≡ get_by_text types name
 
--- The numbers of types that are made are those of definitions with their names.
+-- The numbers of types that are made are those of definitions with their names, which belong to the owner.
 pub record IsPlaced (scope : Scope) (defs : List TypeDef) : Type 0 where
-  pub names : (name : Text) (id : TypeId) → id_under scope name ≡ Some (Some id) → NameAt defs id name
+  pub names : (name : Text) (id : TypeId) → id_under scope name ≡ Some (Some id) → OwnNameAt defs scope.owner id name
 
 -- The text, the package and the owner stay, and what is placed; and a fresh scope stays fresh.
 pub record KeepsPlaced (old new : Scope) : Type 0 where
@@ -90,7 +90,7 @@ pub record Places (old new : Scope) (name : Text) (id : TypeId) : Type 0 where
   pub text : new.text ≡ old.text
   pub home : new.«package» ≡ old.«package»
   pub owner : new.owner ≡ old.owner
-  pub placed : (defs : List TypeDef) → NameAt defs id name → IsPlaced old defs → IsPlaced new defs
+  pub placed : (defs : List TypeDef) → OwnNameAt defs old.owner id name → IsPlaced old defs → IsPlaced new defs
   pub types : types_in new ≡ types_in old
   pub finds : (other : Text) → made_under new other ≡ (if text_eq name other then Some id else made_under old other)
 

@@ -1,7 +1,8 @@
 -- Which trees value types and definitions are, by the list of definitions alone: an unnamed own handle is its resource's name.
 use Rattle.std.specs.Prelude.{◌≡◌, ℕ, List, [], ◌∷◌, Some, None, option_map, slice_get}
 use Rattle.wit_model.specs.Text.{Text, text_of}
-use Rattle.wit_model.specs.declared.model.{TypeDef.TypeDef, TypeDefKind.TypeDefKind, TypeId.TypeId, Tuple.Tuple, «Type».«Type» as ValueType}
+use Rattle.wit_model.specs.declared.model.{TypeDef.TypeDef, TypeDefKind.TypeDefKind, TypeId.TypeId, TypeOwner.TypeOwner, Tuple.Tuple}
+use Rattle.wit_model.specs.declared.model.«Type».{«Type» as ValueType}
 use Rattle.wit_model.specs.declared.model.«Type».TheVariants as value
 use Rattle.wit_model.specs.declared.model.TypeDefKind.TheVariants as defined
 use Rattle.wit_model.specs.declared.model.Handle.TheVariants as handle
@@ -15,6 +16,11 @@ pub record NameAt (defs : List TypeDef) (id : TypeId) (name : Text) : Type 0 whe
   pub def : TypeDef
   pub there : slice_get defs id.0 ≡ Some def
   pub named : option_map text_of def.name ≡ Some name
+
+-- The definition of this number is there, has this name, and belongs to this owner.
+pub record OwnNameAt (defs : List TypeDef) (owner : TypeOwner) (id : TypeId) (name : Text) : Type 0 where
+  pub is : NameAt defs id name
+  pub owned : is.def.owner ≡ owner
 
 -- The definition of this number is there, without a name, and of this kind.
 pub record UnnamedAt (defs : List TypeDef) (id : TypeId) (kind : TypeDefKind) : Type 0 where

@@ -4,7 +4,7 @@
 ghost use Rattle.std.specs.Prelude.{◌≡◌, IfOk};
 ghost use Rattle.text_trees.specs.{Seen.cut, TreesSeen.declared_of, TreesSeen.prefix_of};
 ghost use Rattle.text_types.specs.{Declares.declared_name, Declares.DeclaredAt, Declares.DeclaredKind};
-ghost use Rattle.text_types.specs.{Declares.NamedAt, Each.EachIs, Kept.defs_of, Kept.Grows};
+ghost use Rattle.text_types.specs.{Declares.NamedAt, Declares.OwnTarget, Each.EachIs, Kept.defs_of, Kept.Grows};
 ghost use Rattle.text_types.specs.{Plain.plain_declared, Scopes.text_in, Scopes.IsPlaced, Seen.SeenField, Seen.SeenCase, Seen.SeenFlag, Seen.SeenEnumCase};
 
 use crate::labels::Labels;
@@ -111,6 +111,7 @@ fn enum_cases_of<'t>(
 }
 
 /// What a type is declared as.
+#[tactic(auto, using(crate::proofs::Growth::growing, crate::proofs::DeclaredLaws::own_kinds))]
 fn kind_of_declared<'t>(
     alloc: Global,
     hash: KeyedHash,
@@ -121,6 +122,7 @@ fn kind_of_declared<'t>(
     requires { IsPlaced scope.now (defs_of types.old) }
     ensures grows { Grows types.old types.new }
     ensures is { IfOk result (DeclaredKind (defs_of types.new) (plain_declared (declared_of (text_in scope.now) declared.now))) }
+    ensures own { IfOk result (OwnTarget (defs_of types.new) scope.now.owner) }
 {
     match declared {
         Declared::RecordOf(_, trees) => Ok(TypeDefKind::Record(Record {

@@ -5,7 +5,7 @@ ghost use Rattle.std.specs.Prelude.{◌≡◌, ◌+◌, Some, IfOk, option_map};
 ghost use Rattle.text_trees.specs.Seen.{cut, number_of, primitive_there};
 ghost use Rattle.print_grammar.specs.Tree.TypeTree.{MapOf};
 ghost use Rattle.text_trees.specs.TreesSeen.{type_of};
-ghost use Rattle.text_types.specs.{Each.MaybeIs, Forms.IsForm, Forms.types_seen, Kept.defs_of};
+ghost use Rattle.text_types.specs.{Declares.OwnTarget, Each.MaybeIs, Forms.IsForm, Forms.types_seen, Kept.defs_of};
 ghost use Rattle.text_types.specs.{Kept.Grows, Plain.plain_alias, Plain.plain_type, Plain.plain_types};
 ghost use Rattle.text_types.specs.{Scopes.id_under, Scopes.text_in, Scopes.IsPlaced, Stands.value_of};
 ghost use Rattle.text_types.specs.{Stands.FormIs, Stands.KindIs, Stands.NameAt, Stands.Stands, Stands.StandAll};
@@ -189,7 +189,7 @@ fn form_of(
 ) -> Result<Form, Fault>
     requires { IsPlaced scope.now (defs_of types.old) }
     ensures grows { Grows types.old types.new }
-    ensures is { IfOk result (IsForm (defs_of types.new) (type_of (text_in scope.now) ty.now)) }
+    ensures is { IfOk result (IsForm (defs_of types.new) scope.now.owner (type_of (text_in scope.now) ty.now)) }
 {
     match ty {
         TypeTree::PrimitiveType(primitive) => Ok(Form::Plain(primitive_of(*primitive))),
@@ -286,6 +286,7 @@ pub(crate) fn kind_of(
     requires { IsPlaced scope.now (defs_of types.old) }
     ensures grows { Grows types.old types.new }
     ensures is { IfOk result (KindIs (defs_of types.new) (plain_alias (type_of (text_in scope.now) ty.now))) }
+    ensures own { IfOk result (OwnTarget (defs_of types.new) scope.now.owner) }
 {
     match form_of(alloc, scope, types, LEVELS + 1, at, ty)? {
         Form::Plain(ty) => Ok(TypeDefKind::Type_(ty)),

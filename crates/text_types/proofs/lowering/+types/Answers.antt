@@ -18,7 +18,7 @@ form_of-returns-in-PrimitiveType-clause-is t c = seen (text_in c.args.scope.now)
     c.primitive_of.ensures.value) (IsForm.plain _))
 
 pub form_of-returns-in_ok-id_of-in-Name-clause-is : goal.form_of-returns-in_ok-id_of-in-Name-clause-is
-form_of-returns-in_ok-id_of-in-Name-clause-is t c = seen (text_in c.args.scope.now) c.in-Name.is (IsForm.a_name (named c.requires
+form_of-returns-in_ok-id_of-in-Name-clause-is t c = seen (text_in c.args.scope.now) c.in-Name.is (IsForm.a_name (c.requires.names _ _
     c.in_ok-id_of-in-Name.ensures.found))
 
 pub form_of-returns-in_ok-resource_of-in-Own-clause-is : goal.form_of-returns-in_ok-resource_of-in-Own-clause-is

@@ -20,7 +20,7 @@ returns c =
           text = refl;
           home = refl;
           owner = refl;
-          placed = none_put c.args.self.now _ c.cut-key.result puts;
+          placed = none_put c.args.self.now _ c.cut-key.result refl puts;
           fresh = fresh_more c.args.self.now new c.cut-key.result (member_of_own text c.args.own) puts
               (sym c.contains_key.ensures ∙ c.if-contains_key.false) types
               (c.cut-key.ensures.bytes ∙ c.requires.named) (counted_more _ _ _ _ c.in_ok-insert.field-0 none c.in_ok-insert.ensures.len more);

@@ -11,7 +11,7 @@ returns c =
         text = refl;
         home = refl;
         owner = refl;
-        placed = λ defs there p. some_put c.args.self.now new c.cut.result c.args.id c.in_ok-insert.ensures.updates.0 defs
+        placed = λ defs there p. some_put c.args.self.now new c.cut.result c.args.id refl c.in_ok-insert.ensures.updates.0 defs
             (rw c.cut.ensures.bytes there) p;
         types = refl;
         finds = λ name. rw (← c.cut.ensures.bytes) (some_made c.args.self.now new c.cut.result c.args.id c.in_ok-insert.ensures.updates.0 name);
