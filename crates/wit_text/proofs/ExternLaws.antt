@@ -6,7 +6,7 @@ use Rattle.print_grammar.specs.Tree.{Prefix, PathTree, MemberTree, ExternTree, W
 use Rattle.text_types.specs.{Begins.Begins, Made.FunctionTree}
 use Rattle.text_types.proofs.{EachLaws.each_weaker, MadeLaws.free_stays, MadeLaws.function_carried, MadeLaws.order_weaker, MadeLaws.type_carried}
 use Rattle.wit_text.specs.Items.{WorldEntry}
-use Rattle.wit_text.specs.ShowsWorlds.{ExportsAre, ExternIs, ImportsAre, InterfacesAre, IsBare, IsFunctionEntry, IsOneOf, StandsIn, Stated}
+use Rattle.text_shown.specs.ShowsWorlds.{ExportsAre, ExternIs, ImportsAre, InterfacesAre, IsBare, IsFunctionEntry, IsOneOf, StandsIn, Stated}
 
 module _ {old new : List TypeDef} (h : Begins old new) where
   pub extern_carried : {P Q : PathTree → InterfaceId → Type 0} {I J : List MemberTree → InterfaceId → Type 0}

@@ -20,7 +20,7 @@ use Rattle.text_trees.specs.declared.tree.{PathTree.PathTree as CodePath, Prefix
 use Rattle.text_trees.specs.TreesSeen.{path_of, prefix_of}
 use Rattle.text_types.specs.Targets.{IsKeyed, MeansInterface}
 use Rattle.print_grammar.specs.Tree.WorldMember.{WorldImport}
-use Rattle.wit_text.specs.ShowsWorlds.{import_of, Stated}
+use Rattle.text_shown.specs.ShowsWorlds.{import_of, Stated}
 use Rattle.wit_text.specs.Sides.{one_stated, AddsFronts, AreFronts, Fronts, HasFront, IsStatedPath}
 use Rattle.wit_text.proofs.SideLaws.{contains_nil}
 

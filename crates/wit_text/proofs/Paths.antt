@@ -1,13 +1,14 @@
 -- What paths, names and members mean in a `Resolve` that has what texts declare. Serves read.
-use Rattle.std.proofs.Common.{◌≡◌, ◌∙◌, refl, sym, ap, subst, ℕ, Bool, true, false, true≢false, cond, nat_eq, List, [], ◌∷◌, Option, Some, option_and_then, unwrap_or, Contains, slice_get, length, filter, ◌⊎◌, inl, inr, String, Global, le_refl}
+use Rattle.std.proofs.Common.{◌≡◌, ◌∙◌, refl, sym, ap, subst, ℕ, Bool, true, false, true≢false, cond, nat_eq, List, [], ◌∷◌, Option, Some, option_and_then, unwrap_or, Contains, slice_get, length, filter, ◌⊎◌, inl, inr, String, Global, le_refl, ◌<◌, arith}
 use Rattle.std.specs.List.{AllZip}
 use Rattle.std.specs.Map.{lookup}
-use Rattle.std.proofs.lemmas.Bool.{eq-eqb}
+use Rattle.std.proofs.lemmas.Bool.{eq-eqb, eqb-true}
 use Rattle.std.proofs.lemmas.List.{take_all}
 use Rattle.std.proofs.lemmas.List.Elements.{Contains-append_cases}
 use Rattle.base_lemmas.proofs.Lists.{get_back}
 use Rattle.base_lemmas.proofs.Elements.{filter_keeps, get-contains, last_of, none_in, zip_at_right}
-use Rattle.wit_model.specs.Text.{Text, text_eq, text_of}
+use Rattle.wit_model.specs.{Parts.same_owner, Text.Text, Text.text_eq, Text.text_of}
+use Rattle.wit_model.specs.declared.model.TypeOwner.TheVariants as owner
 use Rattle.wit_model.proofs.TextLemmas.{text_alike, text_same}
 use Rattle.wit_model.specs.declared.model.{InterfaceId.InterfaceId, Package.Package, Resolve.Resolve, TypeId.TypeId}
 use Rattle.print_grammar.specs.Tree.{MemberTree, PackageHead, PathTree}
@@ -18,14 +19,23 @@ use Rattle.text_names.specs.Tables.{interface_key, IsIndex, IsInterface, IsNumbe
 use Rattle.text_types.specs.Each.{EachIs}
 use Rattle.text_types.specs.Targets.{IsKeyed, MeansInterface, TargetIn}
 use Rattle.text_types.proofs.{Growth.begins_none, MadeLaws.members_carried}
-use Rattle.wit_text.specs.{Items.WorldEntry, Listed.is_of, Listed.IsListed, MadeInterfaces.InlineIn, MadeWorlds.PathIn, MadeWorlds.StatedIn}
-use Rattle.wit_text.specs.{Means.HasInterface, Means.PathIs, Means.TargetIs, Puts.number_at, ShowsWorlds.IsInline, ShowsWorlds.Stated, ShowsWorlds.StatedIs}
+use Rattle.wit_text.specs.{Items.WorldEntry, Listed.is_of, Listed.IsListed, MadeInterfaces.InlineIn, MadeInterfaces.UsedIn, MadeWorlds.PathIn, MadeWorlds.StatedIn}
+use Rattle.text_shown.specs.{Means.HasInterface, Means.IsUsed, Means.PathIs, Means.TargetIs, ShowsWorlds.IsInline, ShowsWorlds.Stated, ShowsWorlds.StatedIs}
+use Rattle.wit_text.specs.Puts.{number_at}
 use Rattle.wit_text.specs.SoFar.{IsResolveOf}
 use Rattle.wit_text.proofs.{ExternLaws.extern_carried, Listing.same_interface}
 
 -- the number that an interface has
 pub number_made : (numbers : List (Option ℕ)) (n made : ℕ) → slice_get numbers n ≡ Some (Some made) → number_at numbers n ≡ made
 number_made numbers n made e = ap (λ o. unwrap_or (option_and_then (λ x. x) o) 0) e
+
+-- an interface isn't one that was made before
+apart_below : {number made : ℕ} → made < number → same_owner (owner.Interface (record { 0 = number })) (owner.Interface (record { 0 = made })) ≡ false
+apart_below {number = number} {made = made} low = go (nat_eq number made) refl
+  where
+    go : (b : Bool) → nat_eq number made ≡ b → b ≡ false
+    go false h = refl
+    go true h = let same : number ≡ made = eqb-true number made h in absurd (omega arith)
 
 -- ---- names in a package
 
@@ -117,6 +127,12 @@ module _ (s : Sources) (index : IsIndex s) (items : List Item) (declared : AllZi
     there = ap (λ xs. slice_get xs t.has.made) (sym k.list) ∙ t.has.is.stands;
     has = t.has.has;
   }
+
+  -- the interface of a use isn't the one that uses
+  pub used_shown : (home number : ℕ) (path : PathTree) (name : Text) (id : TypeId) → UsedIn s k.interfaces home number path name id
+      → IsUsed r home (owner.Interface (record { 0 = number })) path name id
+  unfolding target_shown
+  used_shown home number path name id u = record { is = target_shown home path name id u.is; apart = apart_below u.before }
 
   path_in_shown : (home : ℕ) (path : PathTree) (id : InterfaceId) → PathIn s k.interfaces home path id → PathIs r home path id
   path_in_shown home path id p = path_shown home id.0 p.means p.made

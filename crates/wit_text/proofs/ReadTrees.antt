@@ -7,7 +7,8 @@ use Rattle.wit_model.specs.Valid.{IsValid}
 use Rattle.print_grammar.specs.Reading.{IsReading}
 use Rattle.text_trees.specs.declared.tree.FileTree.{FileTree}
 use Rattle.text_names.specs.declared.{error.Fault.Fault, source.Source.Source}
-use Rattle.wit_text.specs.{Mains.files_of, Refusals.AreTreesOf, Refusals.IsTreeOf, Shows.ShowsFiles, Texts.ReadsTexts}
+use Rattle.text_shown.specs.{SamePackages.ShowsPackages, Shows.ShowsFiles}
+use Rattle.wit_text.specs.{Mains.files_of, Refusals.AreTreesOf, Refusals.IsTreeOf, Texts.ReadsTexts}
 
 are_readings : (sources : List Source) → AllZip IsTreeOf (map (λ s. s.text.now) sources) (map (λ s. s.file.now) sources)
     → AllZip IsReading (map (λ s. s.text.now) sources) (files_of sources)
@@ -15,18 +16,21 @@ are_readings [] h = tt
 are_readings (s ∷ ss) h = (h.0.reads, are_readings ss h.1)
 
 -- what is read of texts with their trees
-pub reads_all : (texts : List (Bor (List ℕ))) (trees : List FileTree) (sources list : List Source) → list ≡ sources
+pub reads_all : ShowsPackages → (texts : List (Bor (List ℕ))) (trees : List FileTree) (sources list : List Source) → list ≡ sources
     → map (λ s. s.text.now) sources ≡ map (λ t. t.now) texts → map (λ s. s.file.now) sources ≡ trees → AreTreesOf (map (λ t. t.now) texts) trees
     → (r : Result (Resolve × Vec PackageId Global) Fault) → IfOk r (λ x. IsValid x.0) → IfOk r (λ x. ShowsFiles (files_of list) x.0 x.1.items)
     → IfOk r (λ x. ReadsTexts (map (λ t. t.now) texts) x.0 x.1.items)
-reads_all texts trees sources list same same_texts same_files are (Ok x) valid shows =
+reads_all law texts trees sources list same same_texts same_files are (Ok x) valid shows =
+    let read : AllZip IsReading (map (λ (t : Bor (List ℕ)). t.now) texts) (files_of sources) =
+    subst (λ ts. AllZip IsReading ts (files_of sources)) same_texts
+    (are_readings sources (subst (λ ts. AllZip IsTreeOf ts (map (λ (s : Source). s.file.now) sources)) (sym same_texts)
+    (subst (λ fs. AllZip IsTreeOf (map (λ (t : Bor (List ℕ)). t.now) texts) fs) (sym same_files) are))) in
+    let its : ShowsFiles (files_of sources) x.0 x.1.items = subst (λ l. ShowsFiles (files_of l) x.0 x.1.items) same shows in
     record {
       valid = valid;
       files = files_of sources;
-      read =
-          subst (λ ts. AllZip IsReading ts (files_of sources)) same_texts
-          (are_readings sources (subst (λ ts. AllZip IsTreeOf ts (map (λ (s : Source). s.file.now) sources)) (sym same_texts)
-          (subst (λ fs. AllZip IsTreeOf (map (λ (t : Bor (List ℕ)). t.now) texts) fs) (sym same_files) are)));
-      shows = subst (λ l. ShowsFiles (files_of l) x.0 x.1.items) same shows;
+      read = read;
+      shows = its;
+      printed = λ id p at. law x.0 valid (map (λ (t : Bor (List ℕ)). t.now) texts) (files_of sources) x.1.items read its id p at;
     }
-reads_all texts trees sources list same same_texts same_files are (Err f) valid shows = tt
+reads_all law texts trees sources list same same_texts same_files are (Err f) valid shows = tt

@@ -12,11 +12,11 @@ use Rattle.text_names.specs.Tables.{Declares, IsIndex, IsInterface, IsNumberOf}
 use Rattle.text_types.specs.Each.{EachIs}
 use Rattle.text_types.proofs.{Growth.begins_none, MadeLaws.members_carried}
 use Rattle.wit_text.specs.{Listed.is_of, Listed.is_world_of, Listed.IsListed, Listed.IsWorldListed, Mains.files_of, Mains.numbers_of, SoFar.IsResolveOf}
-use Rattle.wit_text.specs.Shows.{InterfaceTree, ShowsFiles, ShowsInterface, ShowsPackage}
-use Rattle.wit_text.specs.ShowsWorlds.{ShowsWorld, WorldTree}
+use Rattle.text_shown.specs.Shows.{InterfaceTree, ShowsFiles, ShowsInterface, ShowsPackage}
+use Rattle.text_shown.specs.ShowsWorlds.{ShowsWorld, WorldTree}
 use Rattle.wit_text.proofs.ExternLaws.{exports_carried, imports_carried}
 use Rattle.wit_text.proofs.Filtered.{all_heads_there, interface_tree, interfaces_filtered, world_tree, worlds_filtered, IsInterfaceTree, IsWorldTree}
-use Rattle.wit_text.proofs.Paths.{number_made, stated_shown, target_shown}
+use Rattle.wit_text.proofs.Paths.{number_made, stated_shown, target_shown, used_shown}
 
 module _ (s : Sources) (index : IsIndex s) (r : Resolve) (k : IsResolveOf s r) (items : List Item)
     (declared : AllZip (IsInterface s) items s.interfaces.items) where
@@ -37,7 +37,7 @@ module _ (s : Sources) (index : IsIndex s) (r : Resolve) (k : IsResolveOf s r) (
         home = e.stands.home;
         gates = e.stands.gates;
         docs = e.stands.docs;
-        members = members_carried (begins_none r.types.items) (target_shown s index items declared r k source.«package») e.stands.members;
+        members = members_carried (begins_none r.types.items) (used_shown s index items declared r k source.«package» e.number) e.stands.members;
       })))
 
   world_shown : (here : ℕ) (tree : WorldTree) (source : WorldSource) (entry : String Global × WorldId) → IsWorldTree s tree source

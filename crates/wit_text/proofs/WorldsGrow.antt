@@ -7,9 +7,10 @@ use Rattle.text_names.specs.declared.sources.{InterfaceSource.InterfaceSource, S
 use Rattle.text_types.specs.declared.members.Interfaces.{Interfaces}
 use Rattle.text_types.specs.{Begins.Begins, Targets.IsMade, Targets.TargetIn}
 use Rattle.text_types.proofs.{Growth.begins_join, Growth.entry_stays, MadeLaws.members_carried}
-use Rattle.wit_text.specs.MadeInterfaces.{AreAllMade, GrowsInterfaces, InlineIn, IsEachMade, IsInlineMade, IsInterfaceMade}
+use Rattle.wit_text.specs.MadeInterfaces.{AreAllMade, GrowsInterfaces, InlineIn, IsEachMade, IsInlineMade, IsInterfaceMade, UsedIn}
 use Rattle.wit_text.specs.MadeWorlds.{IsWorldMade, PathIn, StatedIn}
-use Rattle.wit_text.specs.{Items.WorldEntry, ShowsWorlds.Stated}
+use Rattle.text_shown.specs.ShowsWorlds.{Stated}
+use Rattle.wit_text.specs.Items.{WorldEntry}
 use Rattle.wit_text.proofs.ExternLaws.{exports_carried, extern_carried, imports_carried}
 
 pub interfaces_join : {a b c : Interfaces} → GrowsInterfaces a b → GrowsInterfaces b c → GrowsInterfaces a c
@@ -27,6 +28,11 @@ module _ (s : Sources) {old new : Interfaces} (g : GrowsInterfaces old new) (hom
     means = k.means;
     has = record { made = k.has.made; interface = k.has.interface; is = made_stays g k.has.is; has = k.has.has };
   }
+
+  pub used_carried : (number : ℕ) (path : PathTree) (name : Text) (id : TypeId) → UsedIn s old home number path name id
+      → UsedIn s new home number path name id
+  unfolding target_carried
+  used_carried number path name id k = record { is = target_carried path name id k.is; before = k.before }
 
   pub path_carried : (path : PathTree) (id : InterfaceId) → PathIn s old home path id → PathIn s new home path id
   path_carried path id k = record { number = k.number; means = k.means; made = g.numbers k.number id.0 k.made }
@@ -51,12 +57,12 @@ module _ (s : Sources) {old new : Interfaces} (g : GrowsInterfaces old new) (hom
 module _ (s : Sources) {old new : Interfaces} (g : GrowsInterfaces old new) {defs more : List TypeDef} (h : Begins defs more) where
   pub interface_carried : {source : InterfaceSource} {number : ℕ} {made : Interface} → IsInterfaceMade s old defs source number made
       → IsInterfaceMade s new more source number made
-  interface_carried {source = source} k = record {
+  interface_carried {source = source} {number = number} k = record {
     named = k.named;
     home = k.home;
     gates = k.gates;
     docs = k.docs;
-    members = members_carried h (target_carried s g source.«package») k.members;
+    members = members_carried h (used_carried s g source.«package» number) k.members;
   }
 
   pub each_carried : {n : ℕ} {source : InterfaceSource} → IsEachMade s old defs n source → IsEachMade s new more n source

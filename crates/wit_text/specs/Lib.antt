@@ -7,11 +7,8 @@ pub mod Puts
 pub mod Refusals
 pub mod Rules
 pub mod Steps
-pub mod Means
-pub mod ShowsWorlds
 pub mod MadeInterfaces
 pub mod MadeWorlds
-pub mod Shows
 pub mod Texts
 pub mod Weights
 pub mod WorldWalks

@@ -1,10 +1,10 @@
 -- Interfaces as they are made, before the packages list them.
-use Rattle.std.specs.Prelude.{◌≡◌, ◌∷◌, ◌++◌, ℕ, List, [], length, map, Some, None, slice_get, option_map}
-use Rattle.wit_model.specs.Text.{text_of}
-use Rattle.wit_model.specs.declared.model.{Interface.Interface, InterfaceId.InterfaceId, TypeDef.TypeDef}
+use Rattle.std.specs.Prelude.{◌≡◌, ◌<◌, ◌∷◌, ◌++◌, ℕ, List, [], length, map, Some, None, slice_get, option_map}
+use Rattle.wit_model.specs.Text.{Text, text_of}
+use Rattle.wit_model.specs.declared.model.{Interface.Interface, InterfaceId.InterfaceId, TypeDef.TypeDef, TypeId.TypeId}
 use Rattle.wit_model.specs.declared.model.TypeOwner.TheVariants as owner
 use Rattle.wit_model.specs.declared.model.Stability.TheVariants as stability
-use Rattle.print_grammar.specs.Tree.{MemberTree}
+use Rattle.print_grammar.specs.Tree.{MemberTree, PathTree}
 use Rattle.print_items.specs.Shown.{shown_gates}
 use Rattle.text_names.specs.declared.sources.{InterfaceSource.InterfaceSource, Sources.Sources}
 use Rattle.text_names.specs.Contents.{text_at}
@@ -14,6 +14,11 @@ use Rattle.text_types.specs.{Begins.Begins, Made.MembersAre, Targets.IsMade, Tar
 
 -- ---- interfaces of the texts
 
+-- For the interface that gets this number, a path and a name mean this type: that of an interface that was made before.
+pub record UsedIn (s : Sources) (interfaces : Interfaces) (home number : ℕ) (path : PathTree) (name : Text) (id : TypeId) : Type 0 where
+  pub is : TargetIn s interfaces home path name id
+  pub before : is.has.made < number
+
 -- The interface that gets this number is that of the texts.
 pub record IsInterfaceMade (s : Sources) (interfaces : Interfaces) (defs : List TypeDef) (source : InterfaceSource) (number : ℕ)
     (made : Interface) : Type 0 where
@@ -21,7 +26,7 @@ pub record IsInterfaceMade (s : Sources) (interfaces : Interfaces) (defs : List 
   pub home : made.«package» ≡ Some (record { 0 = source.«package» })
   pub gates : shown_gates made.stability ≡ gates_of (text_at s.texts.now source.text) source.gates
   pub docs : made.docs.contents ≡ None
-  pub members : MembersAre defs (TargetIn s interfaces source.«package») (owner.Interface (record { 0 = number }))
+  pub members : MembersAre defs (UsedIn s interfaces source.«package» number) (owner.Interface (record { 0 = number }))
       (map (member_of (text_at s.texts.now source.text)) source.members.now.items) made.types made.functions
 
 -- The interface comes behind the others, and is that of the texts.

@@ -11,7 +11,7 @@ use Rattle.text_types.specs.{Each.EachIs, Scopes.Agrees, Targets.TargetIn}
 use Rattle.text_types.specs.Made.{FunctionTree, InSomeOrder, NameMap, TypeIs}
 use Rattle.wit_text.specs.Items.{WorldEntry}
 use Rattle.wit_text.specs.MadeWorlds.{StatedIn}
-use Rattle.wit_text.specs.ShowsWorlds.{world_types, ExportsAre, ImportsAre, IsFunctionEntry, IsTypeEntry}
+use Rattle.text_shown.specs.ShowsWorlds.{world_types, ExportsAre, ImportsAre, IsFunctionEntry, IsTypeEntry}
 use Rattle.wit_text.specs.Sides.{exports_in, home_in, members_in, sources_in}
 use Rattle.wit_text.specs.declared.given.Given.{Given}
 

@@ -7,7 +7,8 @@ ghost use Rattle.print_grammar.specs.Tree.{ExternTree.NamedInterface as Interfac
 ghost use Rattle.print_grammar.specs.Tree.{ExternTree.Path as PathStated, WorldMember.WorldExport as ExportTree};
 ghost use Rattle.text_trees.specs.{Seen.cut, TreesSeen.extern_of, TreesSeen.member_of, TreesSeen.path_of, TreesSeen.prefix_of, TreesSeen.world_member_of};
 ghost use Rattle.text_types.specs.{Kept.defs_of, Kept.Grows, Scopes.IsPlaced};
-ghost use Rattle.wit_text.specs.{MadeInterfaces.AddsInline, Puts.goes_to, ShowsWorlds.export_of, Steps.numbers_of, WorldWalks.PutsExports};
+ghost use Rattle.text_shown.specs.ShowsWorlds.{export_of};
+ghost use Rattle.wit_text.specs.{MadeInterfaces.AddsInline, Puts.goes_to, Steps.numbers_of, WorldWalks.PutsExports};
 ghost use Rattle.wit_text.specs.Sides.{exports_in, home_in, one_stated, sources_in, text_of_world, AddsPaths, AreAmong};
 ghost use Rattle.wit_text.specs.Sides.{Continues, Extends, GrowsInline, IsGiven, IsInText};
 

@@ -7,7 +7,8 @@ ghost use Rattle.print_grammar.specs.Tree.{ExternTree.NamedInterface as Interfac
 ghost use Rattle.print_grammar.specs.Tree.{ExternTree.Path as PathStated, WorldMember.WorldImport as ImportTree};
 ghost use Rattle.text_trees.specs.{Seen.cut, TreesSeen.extern_of, TreesSeen.member_of, TreesSeen.path_of, TreesSeen.prefix_of, TreesSeen.world_member_of};
 ghost use Rattle.text_types.specs.{Kept.defs_of, Kept.Grows};
-ghost use Rattle.wit_text.specs.{MadeInterfaces.AddsInline, Puts.goes_to, ShowsWorlds.import_of, Steps.numbers_of, WorldWalks.PutsImports};
+ghost use Rattle.text_shown.specs.ShowsWorlds.{import_of};
+ghost use Rattle.wit_text.specs.{MadeInterfaces.AddsInline, Puts.goes_to, Steps.numbers_of, WorldWalks.PutsImports};
 ghost use Rattle.wit_text.specs.Sides.{home_in, imports_in, one_stated, sources_in, text_of_world, AddsPaths, AreAmong};
 ghost use Rattle.wit_text.specs.Sides.{Continues, Extends, GrowsInline, IsGiven, IsInText};
 

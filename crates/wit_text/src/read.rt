@@ -7,7 +7,8 @@ ghost use Rattle.wit_model.specs.Valid.{IsValid};
 ghost use Rattle.wit_text.specs.MadeInterfaces.{AreAllMade, GrowsInterfaces};
 ghost use Rattle.wit_text.specs.MadeWorlds.{AreWorldsMade};
 ghost use Rattle.wit_text.specs.SoFar.{AreMadeSoFar, IsResolveOf, MakesNext};
-ghost use Rattle.wit_text.specs.{Mains.files_of, Mains.numbers_of, Refusals.AreTreesOf, Rules.SaysBroken, Shows.ShowsFiles};
+ghost use Rattle.text_shown.specs.Shows.{ShowsFiles};
+ghost use Rattle.wit_text.specs.{Mains.files_of, Mains.numbers_of, Refusals.AreTreesOf, Rules.SaysBroken};
 ghost use Rattle.wit_text.specs.Texts.{ReadsTexts, RefusesTexts};
 
 use crate::interfaces::add_interface;
@@ -16,6 +17,7 @@ use crate::shown::Around;
 use crate::trees::trees_of;
 use crate::worlds::world_of;
 use std::alloc::Global;
+use text_shown::laws::packages_are_shown;
 use text_names::{
     Fault, Need, Order, Refused, Source, Sources, Why, needs_of_interfaces, order_of,
 };
@@ -222,6 +224,7 @@ fn read_trees(
     requires { AreTreesOf (map (λ t. t.now) texts.now) trees.now }
     ensures reads { IfOk result (λ r. ReadsTexts (map (λ t. t.now) texts.now) r.0 r.1.items) }
 {
+    packages_are_shown();
     let list = sources_of(alloc, texts, trees)?;
     read_sources(alloc, &list)
 }

@@ -9,7 +9,7 @@ ghost use Rattle.text_trees.specs.TreesSeen.{world_member_of};
 ghost use Rattle.text_types.specs.{Kept.defs_of, Kept.Grows, Making.IsHere, Scopes.made_under, Scopes.text_in, Scopes.types_in};
 ghost use Rattle.text_types.specs.Scopes.{IsFresh, IsPlaced, StaysIn};
 ghost use Rattle.wit_text.specs.{MadeInterfaces.AreAllMade, MadeInterfaces.GrowsInterfaces, MadeWorlds.IsWorldMade};
-ghost use Rattle.wit_text.specs.ShowsWorlds.{export_of, import_of, world_functions};
+ghost use Rattle.text_shown.specs.ShowsWorlds.{export_of, import_of, world_functions};
 ghost use Rattle.wit_text.specs.Sides.{exports_in, imports_in, members_in, sources_in, text_of_world, AddsPaths};
 ghost use Rattle.wit_text.specs.Sides.{Continues, GrowsInline, IsGiven, IsInText};
 ghost use Rattle.wit_text.specs.Stages.{AddsCalls, AddsTypeEntries, HasItems, MakesTypes};

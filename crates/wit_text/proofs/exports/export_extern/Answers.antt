@@ -4,7 +4,7 @@ use Rattle.std.specs.List.{filter_map}
 use Rattle.print_grammar.specs.Tree.{ExternTree.NamedInterface, WorldMember.WorldExport}
 use Rattle.text_trees.specs.declared.tree.MemberTree.{MemberTree}
 use Rattle.text_trees.specs.{Seen.cut, TreesSeen.extern_of, TreesSeen.member_of, TreesSeen.prefix_of}
-use Rattle.wit_text.specs.ShowsWorlds.{export_of}
+use Rattle.text_shown.specs.ShowsWorlds.{export_of}
 use Rattle.wit_text.specs.Sides.{exports_in, one_stated, text_of_world, AreAmong}
 use Rattle.text_types.specs.{Scopes.text_in}
 use Rattle.text_types.specs.declared.texts.Text.{Text}

@@ -1,7 +1,8 @@
 use Rattle.std.proofs.Common.{ap, sym, subst, OnOk}
 use Rattle.text_trees.specs.{Seen.cut, TreesSeen.extern_of, TreesSeen.prefix_of, TreesSeen.signature_of}
 use Rattle.text_types.specs.{Kept.defs_of, Scopes.made_under, Scopes.text_in}
-use Rattle.wit_text.specs.{ShowsWorlds.extern_functions, Stages.AddsCalls}
+use Rattle.text_shown.specs.ShowsWorlds.{extern_functions}
+use Rattle.wit_text.specs.Stages.{AddsCalls}
 use Rattle.wit_text.proofs.StageLaws.{calls_empty, free_calls}
 use Rattle.wit_text.proofs.externs.add_extern.Goals as goal
 

@@ -1,7 +1,7 @@
 use Rattle.std.proofs.Common.{ap}
 use Rattle.text_trees.specs.TreesSeen.{world_member_of}
 use Rattle.text_types.specs.Scopes.{text_in}
-use Rattle.wit_text.specs.ShowsWorlds.{world_functions}
+use Rattle.text_shown.specs.ShowsWorlds.{world_functions}
 use Rattle.wit_text.proofs.StageLaws.{calls_empty}
 use Rattle.wit_text.proofs.externs.add_functions.Goals as goal
 

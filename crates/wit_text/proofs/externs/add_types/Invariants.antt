@@ -2,7 +2,7 @@ use Rattle.std.proofs.Common.{map, take}
 use Rattle.std.specs.List.{flat_map}
 use Rattle.text_trees.specs.TreesSeen.{world_member_of}
 use Rattle.text_types.specs.Scopes.{text_in, AddsTypes}
-use Rattle.wit_text.specs.ShowsWorlds.{world_types}
+use Rattle.text_shown.specs.ShowsWorlds.{world_types}
 use Rattle.wit_text.proofs.externs.add_types.Given as goal
 
 abbrev pub invariant-loop-member : goal.invariant-loop-member

@@ -1,5 +1,5 @@
 use Rattle.text_trees.specs.TreesSeen.{world_member_of}
-use Rattle.wit_text.specs.ShowsWorlds.{export_of, import_of}
+use Rattle.text_shown.specs.ShowsWorlds.{export_of, import_of}
 use Rattle.wit_text.proofs.FrontLaws.{adds_none}
 use Rattle.wit_text.proofs.StageLaws.{fronts_all, fronts_step, is_at, past_end}
 use Rattle.wit_text.proofs.externs.state_paths.Goals as goal

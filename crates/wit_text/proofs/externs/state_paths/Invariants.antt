@@ -1,7 +1,7 @@
 use Rattle.std.proofs.Common.{map, take}
 use Rattle.std.specs.List.{filter_map}
 use Rattle.text_trees.specs.TreesSeen.{world_member_of}
-use Rattle.wit_text.specs.ShowsWorlds.{export_of, import_of}
+use Rattle.text_shown.specs.ShowsWorlds.{export_of, import_of}
 use Rattle.wit_text.specs.Sides.{AddsFronts}
 use Rattle.wit_text.proofs.externs.state_paths.Given as goal
 

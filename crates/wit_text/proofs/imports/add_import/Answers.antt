@@ -1,7 +1,7 @@
 use Rattle.std.proofs.Common.{◌∷◌, [], subst}
 use Rattle.std.specs.List.{filter_map}
 use Rattle.text_trees.specs.TreesSeen.{world_member_of}
-use Rattle.wit_text.specs.ShowsWorlds.{import_of}
+use Rattle.text_shown.specs.ShowsWorlds.{import_of}
 use Rattle.wit_text.specs.Sides.{imports_in, text_of_world, AreAmong}
 use Rattle.wit_text.proofs.imports.add_import.Goals as goal
 

@@ -3,7 +3,7 @@ use Rattle.std.specs.List.{filter_map}
 use Rattle.print_grammar.specs.Tree.{ExternTree.NamedInterface, WorldMember.WorldImport}
 use Rattle.text_trees.specs.declared.tree.MemberTree.{MemberTree}
 use Rattle.text_trees.specs.{Seen.cut, TreesSeen.extern_of, TreesSeen.member_of, TreesSeen.prefix_of}
-use Rattle.wit_text.specs.ShowsWorlds.{import_of}
+use Rattle.text_shown.specs.ShowsWorlds.{import_of}
 use Rattle.wit_text.specs.Sides.{imports_in, one_stated, text_of_world, AreAmong}
 use Rattle.wit_text.proofs.imports.import_extern.Goals as goal
 

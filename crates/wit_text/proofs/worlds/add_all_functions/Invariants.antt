@@ -2,7 +2,8 @@ use Rattle.std.proofs.Common.{map, take}
 use Rattle.std.specs.List.{flat_map}
 use Rattle.text_trees.specs.TreesSeen.{world_member_of}
 use Rattle.text_types.specs.{Kept.defs_of, Kept.Grows, Scopes.made_under}
-use Rattle.wit_text.specs.{ShowsWorlds.world_functions, Sides.text_of_world, Stages.AddsCalls}
+use Rattle.text_shown.specs.ShowsWorlds.{world_functions}
+use Rattle.wit_text.specs.{Sides.text_of_world, Stages.AddsCalls}
 use Rattle.wit_text.proofs.worlds.add_all_functions.Given as goal
 
 abbrev pub invariant-loop-member : goal.invariant-loop-member

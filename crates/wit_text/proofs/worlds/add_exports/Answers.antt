@@ -1,6 +1,7 @@
 use Rattle.text_trees.specs.TreesSeen.{world_member_of}
 use Rattle.text_types.proofs.Growth.{grows_join, grows_none, placed}
-use Rattle.wit_text.specs.{ShowsWorlds.export_of, Sides.text_of_world}
+use Rattle.text_shown.specs.ShowsWorlds.{export_of}
+use Rattle.wit_text.specs.Sides.{text_of_world}
 use Rattle.wit_text.proofs.SideLaws.{continues_none, given_on, inline_join, inline_none}
 use Rattle.wit_text.proofs.StageLaws.{among_at, is_at, past_end, side_all, side_step}
 use Rattle.wit_text.proofs.worlds.add_exports.Goals as goal

@@ -2,7 +2,7 @@ use Rattle.std.proofs.Common.{map, take}
 use Rattle.std.specs.List.{filter_map}
 use Rattle.text_trees.specs.TreesSeen.{world_member_of}
 use Rattle.text_types.specs.Kept.{defs_of, Grows}
-use Rattle.wit_text.specs.ShowsWorlds.{import_of}
+use Rattle.text_shown.specs.ShowsWorlds.{import_of}
 use Rattle.wit_text.specs.Sides.{imports_in, text_of_world, Continues, GrowsInline}
 use Rattle.wit_text.proofs.worlds.add_imports.Given as goal
 

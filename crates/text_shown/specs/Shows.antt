@@ -11,8 +11,8 @@ use Rattle.print_grammar.specs.Tree.{Gates, MemberTree, ItemTree, ItemTree.Inter
 use Rattle.print_items.specs.Shown.{shown_gates, shown_head}
 use Rattle.text_names.specs.Contents.{AreFirsts}
 use Rattle.text_types.specs.{Each.EachIs, Made.MembersAre}
-use Rattle.wit_text.specs.Means.{TargetIs}
-use Rattle.wit_text.specs.ShowsWorlds.{ShowsWorld, WorldTree}
+use Rattle.text_shown.specs.Means.{IsUsed}
+use Rattle.text_shown.specs.ShowsWorlds.{ShowsWorld, WorldTree}
 
 -- ---- which items texts declare
 
@@ -55,7 +55,7 @@ pub record ShowsInterface (r : Resolve) (here : ℕ) (tree : InterfaceTree) (ent
   pub home : interface.«package» ≡ Some (record { 0 = here })
   pub gates : shown_gates interface.stability ≡ tree.gates
   pub docs : interface.docs.contents ≡ None
-  pub members : MembersAre r.types.items (TargetIs r here) (owner.Interface entry.1) tree.members interface.types interface.functions
+  pub members : MembersAre r.types.items (IsUsed r here (owner.Interface entry.1)) (owner.Interface entry.1) tree.members interface.types interface.functions
 
 -- ---- packages
 

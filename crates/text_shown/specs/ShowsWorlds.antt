@@ -12,10 +12,10 @@ use Rattle.wit_model.specs.declared.model.Stability.TheVariants as stability
 use Rattle.print_grammar.specs.Tree.{PathTree, Gates, Prefix, SignatureTree, MemberTree, MemberTree.UseMember, MemberTree.TypeMember, ExternTree, WorldMember}
 use Rattle.print_grammar.specs.Tree.{ExternTree.Path, ExternTree.NamedFunction, ExternTree.NamedPath, ExternTree.NamedInterface}
 use Rattle.print_grammar.specs.Tree.WorldMember.{WorldUse, WorldType, WorldImport, WorldExport}
-use Rattle.print_items.specs.Shown.{shown_gates, shown_external_id}
+use Rattle.print_items.specs.Shown.{shown_gates, shown_external_id, WorldEntry}
 use Rattle.text_types.specs.{Each.EachIs, Functions.FreeStands, Plain.plain_signature}
 use Rattle.text_types.specs.Made.{functions_of_declared, types_of, FunctionIs, FunctionTree, InSomeOrder, MembersAre, NameMap, TypeIs}
-use Rattle.wit_text.specs.{Items.WorldEntry, Means.PathIs, Means.TargetIs}
+use Rattle.text_shown.specs.{Means.PathIs, Means.TargetIs}
 
 -- a world: its gates, its name, and what it states
 pub record WorldTree : Type 0 where

@@ -1,8 +1,11 @@
 -- What paths and names of a text mean in a `Resolve` (WIT.md, "Item: use").
-use Rattle.std.specs.Prelude.{◌≡◌, ℕ, [], Option, Some, slice_get}
+use Rattle.std.specs.Prelude.{◌≡◌, ℕ, false, [], Option, Some, slice_get}
 use Rattle.std.specs.{HashMap.get_by_text}
 use Rattle.wit_model.specs.Text.{Text}
 use Rattle.wit_model.specs.declared.model.{Resolve.Resolve, Package.Package, Interface.Interface, InterfaceId.InterfaceId, TypeId.TypeId}
+use Rattle.wit_model.specs.Parts.{same_owner}
+use Rattle.wit_model.specs.declared.model.TypeOwner.{TypeOwner}
+use Rattle.wit_model.specs.declared.model.TypeOwner.TheVariants as owner
 use Rattle.print_grammar.specs.Tree.{PathTree, PathTree.Local, PathTree.Full}
 use Rattle.print_items.specs.Shown.{shown_head}
 
@@ -26,3 +29,8 @@ pub record TargetIs (r : Resolve) (here : ℕ) (path : PathTree) (name : Text) (
   pub interface : Interface
   pub there : slice_get r.interfaces.items number.0 ≡ Some interface
   pub has : get_by_text interface.types name ≡ Some id
+
+-- For an owner in the package of this number, a path and a name mean this type, and the interface of the path isn't the owner.
+pub record IsUsed (r : Resolve) (here : ℕ) (own : TypeOwner) (path : PathTree) (name : Text) (id : TypeId) : Type 0 where
+  pub is : TargetIs r here path name id
+  pub apart : same_owner own (owner.Interface is.number) ≡ false

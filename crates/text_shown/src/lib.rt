@@ -1,0 +1,4 @@
+//! What is read of WIT texts is printed as the same declarations.
+#![tactic(auto)]
+
+pub mod laws;
