@@ -14,7 +14,8 @@ use Rattle.print_grammar.specs.Tree.Declared.{RecordOf, VariantOf, FlagsOf, Enum
 use Rattle.print_items.specs.Shown.{belongs_to, declared_with, path_from_owner, shown_declared, shown_prefix, shown_function, shown_resource_member}
 use Rattle.print_items.specs.Shown.{used_of, DeclaredWith, Used}
 use Rattle.print_items.proofs.TypesWell.{label_of}
-use Rattle.text_types.specs.{Each.EachIs, Stands.NameAt, Declares.declared_name, Plain.plain_declared, Plain.plain_resource_member, Scopes.type_name}
+use Rattle.text_types.specs.{Each.EachIs, Stands.NameAt, Plain.plain_declared, Plain.plain_resource_member, Scopes.type_name}
+use Rattle.text_types.proofs.DeclaredLaws.{plain_name}
 use Rattle.text_types.specs.Made.{name_here, FunctionIs, FunctionTree, InSomeOrder, NameMap, TypeIs}
 use Rattle.base_lemmas.proofs.{Bools.both_ways, Bools.left_of, Elements.all-contained, Elements.contains-later, Elements.first-contained}
 use Rattle.base_lemmas.proofs.{Elements.get-contains, Numbers.equal, Numbers.same_count}
@@ -71,14 +72,6 @@ module _ {V : Type 0} where
   one_place (x ∷ xs) distinct (suc n) (suc m) e f at also same = ap suc (one_place xs distinct.1 n m e f at also same)
 
 -- ---- what the types of an interface are called
-
-plain_name : (declared : Declared) → declared_name (plain_declared declared) ≡ declared_name declared
-plain_name (RecordOf name fields) = refl
-plain_name (VariantOf name cases) = refl
-plain_name (FlagsOf name flags) = refl
-plain_name (EnumOf name cases) = refl
-plain_name (AliasOf name ty) = refl
-plain_name (ResourceOf name members) = refl
 
 module _ {defs : List TypeDef} {Target : PathTree → Text → TypeId → Type 0} {of : TypeOwner} where
   -- an entry has the name of its use or its declaration

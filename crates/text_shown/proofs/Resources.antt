@@ -87,11 +87,9 @@ no_text a b h = go (text_eq a b) refl
     go false e = refl
 
 -- by whether the first is kept
-filter_yes : {X : Type 0} (p : X → Bool) (x : X) (xs : List X) → p x ≡ true → filter p (x ∷ xs) ≡ x ∷ filter p xs
-filter_yes p x xs h = ap (λ b. cond b (x ∷ filter p xs) (filter p xs)) h
-
-filter_no : {X : Type 0} (p : X → Bool) (x : X) (xs : List X) → p x ≡ false → filter p (x ∷ xs) ≡ filter p xs
-filter_no p x xs h = ap (λ b. cond b (x ∷ filter p xs) (filter p xs)) h
+pub filter_first : {X : Type 0} (p : X → Bool) (x : X) (xs : List X) {kept : Bool} → p x ≡ kept
+    → filter p (x ∷ xs) ≡ cond kept (x ∷ filter p xs) (filter p xs)
+filter_first p x xs h = ap (λ b. cond b (x ∷ filter p xs) (filter p xs)) h
 
 abbrev FunctionEntry : Type 0
 FunctionEntry = String Global × Function
@@ -103,11 +101,11 @@ module _ (r : Resolve) (valid : IsValid r) (types : Text → Option TypeId) wher
       → flat_map (λ f. plain_members here (shown_function r f)) (filter (λ f. is_freestanding f.kind) (map (λ e. e.1) entries)) ≡ flat_map free_member trees
   free_shown here bare EachIs.no_more = refl
   free_shown here bare (EachIs.one_more {xs = trees} {ys = entries} (FunctionIs.free {prefix = prefix} {f = f} key stands) ks) =
-      ap (flat_map (λ f. plain_members here (shown_function r f))) (filter_yes (λ f. is_freestanding f.kind) f (map (λ e. e.1) entries) stands.free)
+      ap (flat_map (λ f. plain_members here (shown_function r f))) (filter_first (λ f. is_freestanding f.kind) f (map (λ e. e.1) entries) stands.free)
       ∙ (λ i. function_shown r valid here stands (left_of (is_bare prefix.docs) _ bare) i
       ++ free_shown here (right_of (is_bare prefix.docs) (list_all is_bare_tree trees) bare) ks i)
   free_shown here bare (EachIs.one_more {xs = trees} {ys = entries} (FunctionIs.of_resource {member = member} {f = f} key found stands) ks) =
-      ap (flat_map (λ f. plain_members here (shown_function r f))) (filter_no (λ f. is_freestanding f.kind) f (map (λ e. e.1) entries)
+      ap (flat_map (λ f. plain_members here (shown_function r f))) (filter_first (λ f. is_freestanding f.kind) f (map (λ e. e.1) entries)
       (ap is_none (resource_is stands)))
       ∙ free_shown here (right_of (is_bare_function member) (list_all is_bare_tree trees) bare) ks
 
@@ -121,7 +119,7 @@ module _ (r : Resolve) (valid : IsValid r) (types : Text → Option TypeId) wher
     members_shown bare EachIs.no_more = refl
     members_shown bare (EachIs.one_more {xs = trees} {ys = entries} (FunctionIs.free {prefix = prefix} {f = f} key stands) ks) =
         ap (λ fs. map (plain_resource_member name) (map (shown_resource_member r) fs))
-        (filter_no (belongs_to id) f (map (λ e. e.1) entries) (free_of_none (resource_of f.kind) id.0 stands.free))
+        (filter_first (belongs_to id) f (map (λ e. e.1) entries) (free_of_none (resource_of f.kind) id.0 stands.free))
         ∙ members_shown (right_of (is_bare prefix.docs) (list_all is_bare_tree trees) bare) ks
     members_shown bare (EachIs.one_more {xs = trees} {ys = entries}
         (FunctionIs.of_resource {resource = other} {member = member} {id = number} {f = f} key found stands) ks) =
@@ -136,7 +134,7 @@ module _ (r : Resolve) (valid : IsValid r) (types : Text → Option TypeId) wher
             → map (plain_resource_member name) (map (shown_resource_member r) (filter (belongs_to id) (f ∷ map (λ e. e.1) entries)))
             ≡ map (plain_resource_member name) ((if text_eq other name then member ∷ [] else []) ++ flat_map (functions_named name) trees)
         go true e rest = ap (λ fs. map (plain_resource_member name) (map (shown_resource_member r) fs))
-            (filter_yes (belongs_to id) f (map (λ e. e.1) entries) (belongs ∙ e))
+            (filter_first (belongs_to id) f (map (λ e. e.1) entries) (belongs ∙ e))
             ∙ (λ i. plain i ∷ rest i)
             ∙ ap (λ b. map (plain_resource_member name) ((if b then member ∷ [] else []) ++ flat_map (functions_named name) trees)) (sym e)
           where
@@ -148,7 +146,7 @@ module _ (r : Resolve) (valid : IsValid r) (types : Text → Option TypeId) wher
                 (member_shown r valid (subst (λ n. is_label n ≡ true) (sym same) label)
                 (still_bare other member ∙ left_of (is_bare_function member) _ bare) stands)
         go false e rest = ap (λ fs. map (plain_resource_member name) (map (shown_resource_member r) fs))
-            (filter_no (belongs_to id) f (map (λ e. e.1) entries) (belongs ∙ e))
+            (filter_first (belongs_to id) f (map (λ e. e.1) entries) (belongs ∙ e))
             ∙ rest ∙ ap (λ b. map (plain_resource_member name) ((if b then member ∷ [] else []) ++ flat_map (functions_named name) trees)) (sym e)
 
 -- ---- declared types of one name

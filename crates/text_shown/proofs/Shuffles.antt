@@ -6,7 +6,7 @@ use Rattle.std.specs.Prelude.{◌⊎◌, Contains}
 use Rattle.text_names.specs.Orders.{AreApart}
 use Rattle.text_types.specs.Each.{EachIs}
 use Rattle.wit_model.proofs.Elements.{contains-get}
-use Rattle.base_lemmas.proofs.{Elements.get-contains, Lists.none_there}
+use Rattle.base_lemmas.proofs.{Elements.contains-later, Elements.get-contains, Lists.none_there}
 use Rattle.text_shown.specs.Same.{Matched, Shuffled}
 
 -- ---- in the one order or in the other
@@ -27,7 +27,7 @@ turned (Matched.one_more {x = x} {y = y} {xs = xs} before behind same k) =
 abbrev pub Lacks : ℕ → List ℕ → Type 0
 Lacks n ns = (m : ℕ) → Contains ns m → m ≡ n → ⊥
 
-apart_rest : (n : ℕ) (ns : List ℕ) → AreApart (n ∷ ns) → AreApart ns
+pub apart_rest : (n : ℕ) (ns : List ℕ) → AreApart (n ∷ ns) → AreApart ns
 apart_rest n ns apart i j m at also = let e : suc i ≡ suc j = apart (suc i) (suc j) m at also in omega arith
 
 first_alone : (n : ℕ) (ns : List ℕ) → AreApart (n ∷ ns) → Lacks n ns
@@ -48,9 +48,6 @@ once (n ∷ ns) apart = (first_alone n ns apart, once ns (apart_rest n ns apart)
 first_or : (n m : ℕ) (ns : List ℕ) → Contains (n ∷ ns) m → (n ≡ m) ⊎ Contains ns m
 first_or n m ns (zero, within, e) = inl e
 first_or n m ns (suc k, within, e) = inr (k, omega arith, e)
-
-then_more : (n m : ℕ) (ns : List ℕ) → Contains ns m → Contains (n ∷ ns) m
-then_more n m ns (k, within, e) = (suc k, omega arith, e)
 
 -- ---- entries that belong to each other, of which one is taken out
 
@@ -79,7 +76,7 @@ cut_at {Is = Is} ns ys zero n (EachIs.one_more {x = m} {y = y} {xs = more} {ys =
       behind = behind;
       ends = refl;
       each = ks;
-      within = λ q has. then_more m q more has;
+      within = λ q has. contains-later m more q has;
       others = λ q has other. elim (first_or m q more has) [ inl e ↦ absurd (other (sym e ∙ same)) | inr h ↦ h ];
       apart = λ alone. (alone.1, λ q has e. alone.0 q has (e ∙ sym same));
     }
@@ -93,8 +90,8 @@ cut_at ns ys (suc place) n (EachIs.one_more {x = m} {y = y} {xs = more} {ys = la
       behind = c.behind;
       ends = ap (λ zs. y ∷ zs) c.ends;
       each = EachIs.one_more k c.each;
-      within = λ q has. elim (first_or m q c.rest has) [ inl e ↦ (0, omega arith, e) | inr h ↦ then_more m q more (c.within q h) ];
-      others = λ q has other. elim (first_or m q more has) [ inl e ↦ (0, omega arith, e) | inr h ↦ then_more m q c.rest (c.others q h other) ];
+      within = λ q has. elim (first_or m q c.rest has) [ inl e ↦ (0, omega arith, e) | inr h ↦ contains-later m more q (c.within q h) ];
+      others = λ q has other. elim (first_or m q more has) [ inl e ↦ (0, omega arith, e) | inr h ↦ contains-later m c.rest q (c.others q h other) ];
       apart = λ alone. let further = c.apart alone.1 in (
         (λ q has e. alone.0 q (c.within q has) e, further.0),
         λ q has e. elim (first_or m q c.rest has) [ inl h ↦ alone.0 n (get-contains more place n at) (sym e ∙ sym h) | inr h ↦ further.1 q h e ],

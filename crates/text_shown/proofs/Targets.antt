@@ -19,18 +19,14 @@ use Rattle.base_lemmas.proofs.{Bools.left_of, Bools.right_of, Elements.all-conta
 use Rattle.base_lemmas.proofs.{Numbers.same-number}
 use Rattle.text_shown.specs.{Means.HasInterface, Means.PathIs, Means.IsUsed, Members.IsForeign, Same.is_of, Same.plain_path}
 
-home_of : (n : ℕ) (o : Option PackageId) → is_id n (package_number o) ≡ true → (q : PackageId) × (o ≡ Some q) × (q.0 ≡ n)
-home_of n None h = absurd cc
-home_of n (Some q) h = (q, refl, equal q.0 n h)
-
-optional_alike : (t : Option Text) → option_eq text_eq t t ≡ true
-optional_alike None = refl
-optional_alike (Some t) = text_alike t
-
 -- a package is of its own name
 own_package : (here : PackageHead) → is_of here here.namespace here.name here.version ≡ true
 own_package here = both (text_eq here.namespace here.namespace) _ (text_alike here.namespace)
-    (both (text_eq here.name here.name) _ (text_alike here.name) (optional_alike here.version))
+    (both (text_eq here.name here.name) _ (text_alike here.name) (alike here.version))
+  where
+    alike : (t : Option Text) → option_eq text_eq t t ≡ true
+    alike None = refl
+    alike (Some t) = text_alike t
 
 module _ (r : Resolve) (valid : IsValid r) where
   -- ---- interfaces of packages
@@ -70,21 +66,6 @@ module _ (r : Resolve) (valid : IsValid r) where
 
   -- ---- types of interfaces
 
-  listed_interfaces : KeepsIn listings r lists.Interfaces
-  unfolding listings order_of_types
-  listed_interfaces = each_from_all (listings.interface_ r) 0 r.interfaces.items
-      (λ n i e. subst (λ m. listings.interface_ r m i ≡ true) (sym (nothing_more n))
-      (left_of _ _ (interface-passes order_of_types r valid.rules.order_of_types n i e)))
-
-  -- the types of an interface stand under their own names
-  own_names : (n : ℕ) (i : Interface) → interface_at r n ≡ Some i → list_all (λ e. has_name r (λ name. text_eq name (text_of e.0)) e.1.0) i.types.entries ≡ true
-  own_names n i e = go (option_map (λ x. x.1.0) (find (λ x. not (has_name r (λ name. text_eq name (text_of x.0)) x.1.0)) i.types.entries)) refl
-    where
-      go : (o : Option ℕ) → option_map (λ x. x.1.0) (find (λ x. not (has_name r (λ name. text_eq name (text_of x.0)) x.1.0)) i.types.entries) ≡ o
-          → list_all (λ x. has_name r (λ name. text_eq name (text_of x.0)) x.1.0) i.types.entries ≡ true
-      go None q = interface_fits r i q
-      go (Some m) q = absurd (none_breaks r valid.rules 5 lists.Types m (misnamed_in_interface_breaks r n i e listed_interfaces m (sym q)))
-
   -- What is known of a type that an interface has.
   record IsListed (n : ℕ) (name : Text) (id : TypeId) : Type 0 where
     def : TypeDef
@@ -93,7 +74,7 @@ module _ (r : Resolve) (valid : IsValid r) where
     owned : def.owner ≡ as_interface n
 
   listed : (n : ℕ) (i : Interface) → interface_at r n ≡ Some i → (name : Text) (id : TypeId) → get_by_text i.types name ≡ Some id → IsListed n name id
-  unfolding numbers_in_range order_of_types
+  unfolding numbers_in_range order_of_types listings
   listed n i at name id h =
       let place = place_from_lookup _ i.types.entries id h in
       let has = get-contains i.types.entries place.0 (place.1, id) place.2 in
@@ -107,7 +88,7 @@ module _ (r : Resolve) (valid : IsValid r) where
       let own = all-contained (λ e. is_named_of r (as_interface n) e.1.0) i.types.entries (place.1, id)
       (sym (list_all-map (λ id. is_named_of r (as_interface n) id.0) (λ e. e.1) i.types.entries)
       ∙ sym (list_all-map (is_named_of r (as_interface n)) (λ id. id.0) (values i.types)) ∙ all_own) has in
-      let called = all-contained (λ e. has_name r (λ name. text_eq name (text_of e.0)) e.1.0) i.types.entries (place.1, id) (own_names n i at) has in
+      let called = all-contained (λ e. has_name r (λ t. text_eq t (text_of e.0)) e.1.0) i.types.entries (place.1, id) own_names has in
       let own_name = text_named found.0.name (text_of place.1) (subst (λ o. passes (λ def. text_is def.name (text_of place.1)) o ≡ true) found.1 called) in
       record {
         def = found.0;
@@ -116,6 +97,20 @@ module _ (r : Resolve) (valid : IsValid r) where
         owned = owner_same found.0.owner (as_interface n) (right_of (is_some found.0.name) _
             (subst (λ o. passes (λ def. is_some def.name && same_owner def.owner (as_interface n)) o ≡ true) found.1 own));
       }
+    where
+      all_listed : KeepsIn listings r lists.Interfaces
+      all_listed = each_from_all (listings.interface_ r) 0 r.interfaces.items
+          (λ m j e. subst (λ k. listings.interface_ r k j ≡ true) (sym (nothing_more m))
+          (left_of _ _ (interface-passes order_of_types r valid.rules.order_of_types m j e)))
+
+      -- the types of an interface stand under their own names
+      own_names : list_all (λ e. has_name r (λ t. text_eq t (text_of e.0)) e.1.0) i.types.entries ≡ true
+      own_names = go (option_map (λ x. x.1.0) (find (λ x. not (has_name r (λ t. text_eq t (text_of x.0)) x.1.0)) i.types.entries)) refl
+        where
+          go : (o : Option ℕ) → option_map (λ x. x.1.0) (find (λ x. not (has_name r (λ t. text_eq t (text_of x.0)) x.1.0)) i.types.entries) ≡ o
+              → list_all (λ x. has_name r (λ t. text_eq t (text_of x.0)) x.1.0) i.types.entries ≡ true
+          go None q = interface_fits r i q
+          go (Some m) q = absurd (none_breaks r valid.rules 5 lists.Types m (misnamed_in_interface_breaks r n i at all_listed m (sym q)))
 
   -- ---- paths
 
@@ -124,13 +119,17 @@ module _ (r : Resolve) (valid : IsValid r) where
       → shown_path r home id ≡ (if n == home.0 then Local name else full_path name p)
   path_to home n name id p at h =
       let k = placed n name id h in
-      let own = home_of n k.interface.«package» k.home in
+      let own = home_of k.interface.«package» k.home in
       let called = present_name k.interface.name in
       ap (λ o. option_map_or (path_from r home) o (Local [])) k.there
       ∙ ap (λ o. path_from r home (record k.interface { «package» = o })) own.1
       ∙ ap (λ m. if m == home.0 then Local called else option_map_or (full_path called) (package_at r m) (Local called)) own.2
       ∙ ap (λ o. if n == home.0 then Local called else option_map_or (full_path called) o (Local called)) at
       ∙ ap (λ t. if n == home.0 then Local t else full_path t p) k.named
+    where
+      home_of : (o : Option PackageId) → is_id n (package_number o) ≡ true → (q : PackageId) × (o ≡ Some q) × (q.0 ≡ n)
+      home_of None h = absurd cc
+      home_of (Some q) h = (q, refl, equal q.0 n h)
 
   -- Whatever a path means is shown by the same path.
   pub path_shown : (home : PackageId) (p : Package) → package_at r home.0 ≡ Some p → (path : PathTree) (id : InterfaceId) → PathIs r home.0 path id

@@ -97,7 +97,7 @@ module _ (r : Resolve) (own : TypeOwner) (name : Text) (def : TypeDef) where
 
 -- ---- groups
 
-optional_same : (a b : Option Text) → option_eq text_eq a b ≡ true → a ≡ b
+pub optional_same : (a b : Option Text) → option_eq text_eq a b ≡ true → a ≡ b
 optional_same None None h = refl
 optional_same (Some a) (Some b) h = ap Some (text_same a b h)
 optional_same None (Some b) h = absurd cc

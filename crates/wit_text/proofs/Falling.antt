@@ -3,7 +3,7 @@ use Rattle.std.proofs.Common.{◌≡◌, refl, sym, ap, subst, ◌∙◌, ◌<�
 use Rattle.std.proofs.lemmas.List.Sums.{sum_by-append}
 use Rattle.std.proofs.lemmas.Option.{slice_get_within, get_or_from_slice_get}
 use Rattle.std.proofs.Math.Seq.{drop-cons}
-use Rattle.std.proofs.lemmas.List.Elements.{Contains-append_right}
+use Rattle.base_lemmas.proofs.Elements.{contains-later}
 use Rattle.text_names.specs.Orders.{needed}
 use Rattle.wit_text.specs.{Grounds.AreGrounded, Items.WorldEntry, Puts.links, Weights.steps, Weights.frame_steps, Weights.path_steps}
 use Rattle.wit_text.specs.Steps.{Frame, Goes, Goes.is_there, Goes.goes_on, Goes.passes, Goes.is_put}
@@ -15,9 +15,6 @@ contains_got xs i n h = (i, slice_get_within xs i n h, get_or_from_slice_get xs 
 contains_first : (x : ℕ) (xs : List ℕ) → Contains (x ∷ xs) x
 contains_first x xs = (0, omega arith, refl)
 
-contains_rest : (x : ℕ) (xs : List ℕ) (y : ℕ) → Contains xs y → Contains (x ∷ xs) y
-contains_rest x xs y h = Contains-append_right (x ∷ []) xs y h
-
 cons_sum : (f : ℕ → ℕ) (x : ℕ) (xs : List ℕ) → sum_by f (x ∷ xs) ≡ f x + sum_by f xs
 cons_sum f x xs = sum_by-append f (x ∷ []) xs ∙ ap (λ a. a + sum_by f xs) (zero-add (f x))
 
@@ -25,7 +22,7 @@ sums_agree : (f g : ℕ → ℕ) (own : List ℕ) → ((k : ℕ) → Contains ow
 sums_agree f g [] same = refl
 sums_agree f g (x ∷ xs) same =
     let here = same x (contains_first x xs) in
-    let rest = sums_agree f g xs (λ k c. same k (contains_rest x xs k c)) in
+    let rest = sums_agree f g xs (λ k c. same k (contains-later x xs k c)) in
     cons_sum f x xs ∙ (ap (λ a. a + sum_by f xs) here ∙ (ap (λ a. g x + a) rest ∙ sym (cons_sum g x xs)))
 
 pub some_steps : (links : List (List ℕ)) (d : ℕ) (own : List ℕ) → 0 < steps links d own

@@ -20,6 +20,7 @@ use Rattle.text_names.specs.Tables.{head_there, IsIndex, IsInterface, IsNumberOf
 use Rattle.text_types.specs.Each.{EachIs}
 use Rattle.text_shown.specs.Shows.{interface_of, items_of, packages_of, same_head, world_of, InterfaceTree}
 use Rattle.text_shown.specs.ShowsWorlds.{WorldTree}
+use Rattle.text_shown.proofs.{Resources.filter_first, Uses.optional_same}
 use Rattle.wit_text.specs.{Listed.is_of, Listed.is_world_of, Mains.files_of}
 
 -- ---- packages of texts, and their items
@@ -84,12 +85,6 @@ module _ (head : PackageHead) where
 
 -- ---- the same name
 
-same_texts : (a b : Option Text) → option_eq text_eq a b ≡ true → a ≡ b
-same_texts None None h = refl
-same_texts None (Some y) h = absurd (true≢false (sym h))
-same_texts (Some x) None h = absurd (true≢false (sym h))
-same_texts (Some x) (Some y) h = ap Some (text_same x y h)
-
 head_parts : (c d : List Text) (e f g h : Text) (i j : Option Text) → c ≡ d → e ≡ f → g ≡ h → i ≡ j
     → ◌≡◌ {A = PackageHead} (record { docs = c; namespace = e; name = g; version = i }) (record { docs = d; namespace = f; name = h; version = j })
 head_parts c d e f g h i j p q r t = cc
@@ -100,7 +95,7 @@ head_same a b docs h =
     let l = and_parts (text_eq a.namespace b.namespace) (text_eq a.name b.name) k.0 in
     let namespace = text_same a.namespace b.namespace l.0 in
     let name = text_same a.name b.name l.1 in
-    let version = same_texts a.version b.version k.1 in
+    let version = optional_same a.version b.version k.1 in
     head_parts a.docs b.docs a.namespace b.namespace a.name b.name a.version b.version docs namespace name version
 
 head_alike : (a : PackageHead) → same_head a a ≡ true
@@ -166,9 +161,6 @@ IsWorldTree s tree source = tree ≡ world_tree s source
 picked : {X Y : Type 0} (h : X → Option Y) (x : X) (xs : List X) (o : Option Y) → h x ≡ o → filter_map h (x ∷ xs) ≡ cons_option o (filter_map h xs)
 picked h x xs o e = ap (λ o. cons_option o (filter_map h xs)) e
 
-kept : {X : Type 0} (p : X → Bool) (x : X) (xs : List X) (b : Bool) → p x ≡ b → filter p (x ∷ xs) ≡ cond b (x ∷ filter p xs) (filter p xs)
-kept p x xs b e = ap (λ b. cond b (x ∷ filter p xs) (filter p xs)) e
-
 module _ {T S : Type 0} (pick : ItemTree → Option T) (kind : Item → Bool) (IsOf : Item → S → Type 0) (home_of : S → ℕ) (Is : T → S → Type 0) (n : ℕ)
     (head : PackageHead) (taken : (item : Item) (source : S) → IsOf item source → (tree : T) × (pick item.tree ≡ Some tree) × Is tree source)
     (left : (item : Item) → kind item ≡ false → pick item.tree ≡ None)
@@ -183,11 +175,11 @@ module _ {T S : Type 0} (pick : ItemTree → Option T) (kind : Item → Bool) (I
       by : (b : Bool) → same_head item.home head ≡ b → Alike (item ∷ items) sources
       by true f =
           subst (λ is. EachIs Is (filter_map pick (map (λ (i : Item). i.tree) is)) (filter (λ x. nat_eq (home_of x) n) sources))
-          (sym (kept (is_home head) item items true f))
+          (sym (filter_first (is_home head) item items f))
           (subst (λ ts. EachIs Is ts (filter (λ x. nat_eq (home_of x) n) sources)) (sym (picked pick item.tree (trees_home head items) None (left item e))) h)
       by false f =
           subst (λ is. EachIs Is (filter_map pick (map (λ (i : Item). i.tree) is)) (filter (λ x. nat_eq (home_of x) n) sources))
-          (sym (kept (is_home head) item items false f)) h
+          (sym (filter_first (is_home head) item items f)) h
 
   is_picked : (item : Item) (items : List Item) (source : S) (sources : List S) → IsOf item source → Alike items sources → Alike (item ∷ items) (source ∷ sources)
   is_picked item items source sources k h = by (nat_eq (home_of source) n) refl
@@ -195,15 +187,15 @@ module _ {T S : Type 0} (pick : ItemTree → Option T) (kind : Item → Bool) (I
       by : (b : Bool) → nat_eq (home_of source) n ≡ b → Alike (item ∷ items) (source ∷ sources)
       by true e =
           let it = taken item source k in
-          subst (λ ss. EachIs Is (filter_map pick (trees_home head (item ∷ items))) ss) (sym (kept (λ x. nat_eq (home_of x) n) source sources true e))
+          subst (λ ss. EachIs Is (filter_map pick (trees_home head (item ∷ items))) ss) (sym (filter_first (λ x. nat_eq (home_of x) n) source sources e))
           (subst (λ is. EachIs Is (filter_map pick (map (λ (i : Item). i.tree) is)) (source ∷ filter (λ x. nat_eq (home_of x) n) sources))
-          (sym (kept (is_home head) item items true (same item source k ∙ e)))
+          (sym (filter_first (is_home head) item items (same item source k ∙ e)))
           (subst (λ ts. EachIs Is ts (source ∷ filter (λ x. nat_eq (home_of x) n) sources))
           (sym (picked pick item.tree (trees_home head items) (Some it.0) it.1)) (EachIs.one_more it.2 h)))
       by false e =
-          subst (λ ss. EachIs Is (filter_map pick (trees_home head (item ∷ items))) ss) (sym (kept (λ x. nat_eq (home_of x) n) source sources false e))
+          subst (λ ss. EachIs Is (filter_map pick (trees_home head (item ∷ items))) ss) (sym (filter_first (λ x. nat_eq (home_of x) n) source sources e))
           (subst (λ is. EachIs Is (filter_map pick (map (λ (i : Item). i.tree) is)) (filter (λ x. nat_eq (home_of x) n) sources))
-          (sym (kept (is_home head) item items false (same item source k ∙ e))) h)
+          (sym (filter_first (is_home head) item items (same item source k ∙ e))) h)
 
   one_item : (item : Item) (items : List Item) (sources : List S) → ((ss : List S) → AllZip IsOf (filter kind items) ss → Alike items ss)
       → AllZip IsOf (filter kind (item ∷ items)) sources → Alike (item ∷ items) sources
@@ -214,8 +206,8 @@ module _ {T S : Type 0} (pick : ItemTree → Option T) (kind : Item → Bool) (I
       goes (s ∷ ss) k = is_picked item items s ss k.0 (rest ss k.1)
 
       by : (b : Bool) → kind item ≡ b → Alike (item ∷ items) sources
-      by true e = goes sources (subst (λ xs. AllZip IsOf xs sources) (kept kind item items true e) h)
-      by false e = not_picked item items sources e (rest sources (subst (λ xs. AllZip IsOf xs sources) (kept kind item items false e) h))
+      by true e = goes sources (subst (λ xs. AllZip IsOf xs sources) (filter_first kind item items e) h)
+      by false e = not_picked item items sources e (rest sources (subst (λ xs. AllZip IsOf xs sources) (filter_first kind item items e) h))
 
   pub filtered : (items : List Item) (sources : List S) → AllZip IsOf (filter kind items) sources → Alike items sources
   filtered [] [] h = EachIs.no_more

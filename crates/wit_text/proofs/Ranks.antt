@@ -6,6 +6,7 @@ use Rattle.std.proofs.lemmas.Option.{slice_get-get_or, slice_get_past}
 use Rattle.std.proofs.lemmas.Bool.{cases_lt}
 use Rattle.std.specs.List.{list_any, IsDistinct, AllByRecursion}
 use Rattle.text_names.specs.Orders.{needed, Needs, AreApart, IsOrder}
+use Rattle.text_shown.proofs.Shuffles.{apart_rest}
 use Rattle.wit_text.specs.Grounds.{AreGrounded}
 use Rattle.wit_text.proofs.Falling.{contains_got}
 
@@ -68,9 +69,6 @@ none_same x (y ∷ ys) never = (by (x == y) refl, none_same x ys (λ i h. never 
 
 suc-not : (i : ℕ) → 0 ≡ suc i → ⊥
 suc-not i h = omega arith
-
-apart_rest : (x : ℕ) (xs : List ℕ) → AreApart (x ∷ xs) → AreApart xs
-apart_rest x xs apart i j n a b = let e = apart (suc i) (suc j) n a b in omega arith
 
 distinct : (xs : List ℕ) → AreApart xs → IsDistinct ◌==◌ xs
 unfolding IsDistinct
