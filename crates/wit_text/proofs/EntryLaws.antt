@@ -23,10 +23,10 @@ use Rattle.text_trees.specs.declared.tree.MemberTree.{MemberTree as CodeMember}
 use Rattle.text_trees.specs.TreesSeen.{member_of, prefix_of}
 use Rattle.text_types.specs.declared.members.Interfaces.{Interfaces}
 use Rattle.text_types.specs.{Begins.Begins, Targets.MeansInterface}
+use Rattle.text_shown.specs.ShowsWorlds.{ExternIs, IsBare, IsBare.bare, IsFrontOf, IsOneOf, StandsIn, Stated}
 use Rattle.wit_text.specs.{Items.bare_item, Items.has_path, Items.is_path, Items.path_key, Items.IsStated, Items.WorldEntry, Puts.number_at, Puts.IsFrontedBy}
 use Rattle.wit_text.specs.MadeInterfaces.{AddsInline, InlineIn}
 use Rattle.wit_text.specs.MadeWorlds.{PathIn}
-use Rattle.text_shown.specs.ShowsWorlds.{ExternIs, IsBare, IsBare.bare, IsFrontOf, IsOneOf, StandsIn, Stated}
 use Rattle.wit_text.specs.Sides.{home_in, one_stated, sources_in, text_of_world, AddsLabel, AddsPaths, AreAmong, AreFronts, Continues}
 use Rattle.wit_text.specs.Sides.{Extends}
 use Rattle.wit_text.specs.Sides.{GrowsInline, HasLabel, Holds, IsGiven, IsKnown, IsKnown.a_label, IsKnown.a_path, Side}

@@ -5,8 +5,8 @@ use Rattle.wit_model.specs.declared.model.{TypeDef.TypeDef, TypeId.TypeId, TypeO
 use Rattle.print_grammar.specs.Tree.{Prefix, PathTree, MemberTree, ExternTree, WorldMember}
 use Rattle.text_types.specs.{Begins.Begins, Made.FunctionTree}
 use Rattle.text_types.proofs.{EachLaws.each_weaker, MadeLaws.free_stays, MadeLaws.function_carried, MadeLaws.order_weaker, MadeLaws.type_carried}
-use Rattle.wit_text.specs.Items.{WorldEntry}
 use Rattle.text_shown.specs.ShowsWorlds.{ExportsAre, ExternIs, ImportsAre, InterfacesAre, IsBare, IsFunctionEntry, IsOneOf, StandsIn, Stated}
+use Rattle.wit_text.specs.Items.{WorldEntry}
 
 module _ {old new : List TypeDef} (h : Begins old new) where
   pub extern_carried : {P Q : PathTree → InterfaceId → Type 0} {I J : List MemberTree → InterfaceId → Type 0}

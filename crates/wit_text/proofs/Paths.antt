@@ -19,8 +19,8 @@ use Rattle.text_names.specs.Tables.{interface_key, IsIndex, IsInterface, IsNumbe
 use Rattle.text_types.specs.Each.{EachIs}
 use Rattle.text_types.specs.Targets.{IsKeyed, MeansInterface, TargetIn}
 use Rattle.text_types.proofs.{Growth.begins_none, MadeLaws.members_carried}
-use Rattle.wit_text.specs.{Items.WorldEntry, Listed.is_of, Listed.IsListed, MadeInterfaces.InlineIn, MadeInterfaces.UsedIn, MadeWorlds.PathIn, MadeWorlds.StatedIn}
 use Rattle.text_shown.specs.{Means.HasInterface, Means.IsUsed, Means.PathIs, Means.TargetIs, ShowsWorlds.IsInline, ShowsWorlds.Stated, ShowsWorlds.StatedIs}
+use Rattle.wit_text.specs.{Items.WorldEntry, Listed.is_of, Listed.IsListed, MadeInterfaces.InlineIn, MadeInterfaces.UsedIn, MadeWorlds.PathIn, MadeWorlds.StatedIn}
 use Rattle.wit_text.specs.Puts.{number_at}
 use Rattle.wit_text.specs.SoFar.{IsResolveOf}
 use Rattle.wit_text.proofs.{ExternLaws.extern_carried, Listing.same_interface}

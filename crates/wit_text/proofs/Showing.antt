@@ -1,4 +1,6 @@
 -- A `Resolve` that has what texts declare shows their trees. Serves read.
+use Rattle.text_shown.specs.Shows.{InterfaceTree, ShowsFiles, ShowsInterface, ShowsPackage}
+use Rattle.text_shown.specs.ShowsWorlds.{ShowsWorld, WorldTree}
 use Rattle.wit_text.proofs.StageLaws.{each_then}
 use Rattle.std.proofs.Common.{◌≡◌, ◌∙◌, sym, ap, subst, ℕ, List, [], ◌∷◌, Some, option_map, slice_get, length, map, filter, String, Global, le_refl}
 use Rattle.std.specs.List.{AllZip}
@@ -12,8 +14,6 @@ use Rattle.text_names.specs.Tables.{Declares, IsIndex, IsInterface, IsNumberOf}
 use Rattle.text_types.specs.Each.{EachIs}
 use Rattle.text_types.proofs.{Growth.begins_none, MadeLaws.members_carried}
 use Rattle.wit_text.specs.{Listed.is_of, Listed.is_world_of, Listed.IsListed, Listed.IsWorldListed, Mains.files_of, Mains.numbers_of, SoFar.IsResolveOf}
-use Rattle.text_shown.specs.Shows.{InterfaceTree, ShowsFiles, ShowsInterface, ShowsPackage}
-use Rattle.text_shown.specs.ShowsWorlds.{ShowsWorld, WorldTree}
 use Rattle.wit_text.proofs.ExternLaws.{exports_carried, imports_carried}
 use Rattle.wit_text.proofs.Filtered.{all_heads_there, interface_tree, interfaces_filtered, world_tree, worlds_filtered, IsInterfaceTree, IsWorldTree}
 use Rattle.wit_text.proofs.Paths.{number_made, stated_shown, target_shown, used_shown}

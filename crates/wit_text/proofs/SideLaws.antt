@@ -7,8 +7,8 @@ use Rattle.wit_model.specs.declared.model.TypeDef.{TypeDef}
 use Rattle.text_types.specs.declared.members.Interfaces.{Interfaces}
 use Rattle.text_types.specs.{Begins.Begins}
 use Rattle.text_types.proofs.Growth.{begins_join, begins_none}
-use Rattle.wit_text.specs.{Items.WorldEntry, Items.path_key, MadeInterfaces.GrowsInterfaces, Puts.number_at, Puts.IsFrontedBy}
 use Rattle.text_shown.specs.{ShowsWorlds.StandsIn, ShowsWorlds.Stated}
+use Rattle.wit_text.specs.{Items.WorldEntry, Items.path_key, MadeInterfaces.GrowsInterfaces, Puts.number_at, Puts.IsFrontedBy}
 use Rattle.wit_text.specs.MadeWorlds.{StatedIn}
 use Rattle.wit_text.specs.Sides.{home_in, sources_in, AddsPaths, AreNumbered, Continues, GrowsInline, Holds, IsGiven, IsInText}
 use Rattle.wit_text.specs.Sides.{IsKnown, IsKnown.a_label, IsKnown.a_path, IsPut, Side}

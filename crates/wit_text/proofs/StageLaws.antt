@@ -22,8 +22,8 @@ use Rattle.text_types.specs.Made.{FunctionIs, FunctionTree, NameMap}
 use Rattle.text_types.specs.Scopes.{id_under, made_under, text_in, types_in, AddsTypes, Agrees}
 use Rattle.text_types.proofs.{EachLaws.each_append, EachLaws.each_map, EachLaws.each_weaker, ScopeLaws.keeps_none}
 use Rattle.text_shown.specs.{ShowsWorlds.IsFunctionEntry, ShowsWorlds.IsTypeEntry, ShowsWorlds.Stated}
-use Rattle.wit_text.specs.Items.{WorldEntry}
 use Rattle.text_shown.specs.ShowsWorlds.{world_functions, world_types}
+use Rattle.wit_text.specs.Items.{WorldEntry}
 use Rattle.wit_text.specs.Sides.{AddsFronts, AddsNamed, Continues, Fronts, Side}
 use Rattle.wit_text.specs.declared.given.Given.{Given}
 use Rattle.wit_text.proofs.{FrontLaws.adds_join, SideLaws.continues_join}

@@ -1,4 +1,5 @@
 -- What a world is, by its imports, its types, its functions and its exports. Serves exports, worlds.
+use Rattle.text_shown.specs.ShowsWorlds.{export_of, extern_functions, world_functions, world_types, ExportsAre, ExternIs, ImportsAre, IsFunctionEntry, Stated}
 use Rattle.wit_text.proofs.Paths.{number_made}
 use Rattle.base_lemmas.proofs.Lists.{within_there}
 use Rattle.base_lemmas.proofs.Elements.{first-contained}
@@ -24,7 +25,6 @@ use Rattle.text_types.specs.Scopes.{made_under, text_in, types_in, AddsTypes}
 use Rattle.text_types.proofs.{EachLaws.each_weaker, Growth.begins_join}
 use Rattle.wit_text.specs.{Items.WorldEntry, MadeInterfaces.AreAllMade, MadeWorlds.IsWorldMade, MadeWorlds.StatedIn}
 use Rattle.wit_text.specs.Puts.{number_at}
-use Rattle.text_shown.specs.ShowsWorlds.{export_of, extern_functions, world_functions, world_types, ExportsAre, ExternIs, ImportsAre, IsFunctionEntry, Stated}
 use Rattle.wit_text.specs.Sides.{exports_in, home_in, imports_in, members_in, one_stated, sources_in, text_of_world, AreAmong, AreNumbered, Continues}
 use Rattle.wit_text.specs.Sides.{GrowsInline, HasLabel, Holds, IsGiven, IsInText, Side}
 use Rattle.wit_text.specs.Stages.{AddsCalls, HasItems, MakesTypes}

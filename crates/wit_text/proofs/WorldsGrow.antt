@@ -7,9 +7,9 @@ use Rattle.text_names.specs.declared.sources.{InterfaceSource.InterfaceSource, S
 use Rattle.text_types.specs.declared.members.Interfaces.{Interfaces}
 use Rattle.text_types.specs.{Begins.Begins, Targets.IsMade, Targets.TargetIn}
 use Rattle.text_types.proofs.{Growth.begins_join, Growth.entry_stays, MadeLaws.members_carried}
+use Rattle.text_shown.specs.ShowsWorlds.{Stated}
 use Rattle.wit_text.specs.MadeInterfaces.{AreAllMade, GrowsInterfaces, InlineIn, IsEachMade, IsInlineMade, IsInterfaceMade, UsedIn}
 use Rattle.wit_text.specs.MadeWorlds.{IsWorldMade, PathIn, StatedIn}
-use Rattle.text_shown.specs.ShowsWorlds.{Stated}
 use Rattle.wit_text.specs.Items.{WorldEntry}
 use Rattle.wit_text.proofs.ExternLaws.{exports_carried, extern_carried, imports_carried}
 

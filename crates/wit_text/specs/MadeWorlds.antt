@@ -11,8 +11,8 @@ use Rattle.text_names.specs.Contents.{text_at}
 use Rattle.text_trees.specs.{Seen.cut, TreesSeen.gates_of, TreesSeen.world_member_of}
 use Rattle.text_types.specs.declared.members.Interfaces.{Interfaces}
 use Rattle.text_types.specs.{Targets.MeansInterface, Targets.TargetIn}
-use Rattle.wit_text.specs.{Items.WorldEntry, MadeInterfaces.InlineIn}
 use Rattle.text_shown.specs.ShowsWorlds.{export_of, ExportsAre, ExternIs, ImportsAre, Stated}
+use Rattle.wit_text.specs.{Items.WorldEntry, MadeInterfaces.InlineIn}
 
 -- From the package of this number, a path means the interface of the other number of those that are made.
 pub record PathIn (s : Sources) (interfaces : Interfaces) (home : ℕ) (path : PathTree) (id : InterfaceId) : Type 0 where

@@ -13,9 +13,9 @@ use Rattle.text_trees.specs.declared.tree.Prefix.{Prefix as CodePrefix}
 use Rattle.text_trees.specs.TreesSeen.{prefix_of, world_member_of}
 use Rattle.text_types.specs.declared.members.Interfaces.{Interfaces}
 use Rattle.text_types.specs.{Begins.Begins, Targets.MeansInterface}
+use Rattle.text_shown.specs.ShowsWorlds.{export_of, import_of, IsOneOf, StandsIn, Stated}
 use Rattle.wit_text.specs.Items.{path_key, IsStated, WorldEntry}
 use Rattle.wit_text.specs.{MadeWorlds.StatedIn, Puts.number_at, Puts.IsFrontedBy}
-use Rattle.text_shown.specs.ShowsWorlds.{export_of, import_of, IsOneOf, StandsIn, Stated}
 use Rattle.wit_text.specs.declared.given.Given.{Given}
 
 -- ---- what a world states by path

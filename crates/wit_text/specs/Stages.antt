@@ -9,9 +9,9 @@ use Rattle.wit_model.specs.declared.model.WorldItem.TheVariants as item
 use Rattle.text_types.specs.declared.{functions.Callable.Callable, members.Interfaces.Interfaces, scope.Scope.Scope}
 use Rattle.text_types.specs.{Each.EachIs, Scopes.Agrees, Targets.TargetIn}
 use Rattle.text_types.specs.Made.{FunctionTree, InSomeOrder, NameMap, TypeIs}
+use Rattle.text_shown.specs.ShowsWorlds.{world_types, ExportsAre, ImportsAre, IsFunctionEntry, IsTypeEntry}
 use Rattle.wit_text.specs.Items.{WorldEntry}
 use Rattle.wit_text.specs.MadeWorlds.{StatedIn}
-use Rattle.text_shown.specs.ShowsWorlds.{world_types, ExportsAre, ImportsAre, IsFunctionEntry, IsTypeEntry}
 use Rattle.wit_text.specs.Sides.{exports_in, home_in, members_in, sources_in}
 use Rattle.wit_text.specs.declared.given.Given.{Given}
 

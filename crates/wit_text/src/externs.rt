@@ -8,8 +8,8 @@ ghost use Rattle.print_grammar.specs.Tree.{ExternTree.Path as PathStated, WorldM
 ghost use Rattle.text_names.specs.{Contents.text_at, Tables.IsIndex};
 ghost use Rattle.text_trees.specs.TreesSeen.{extern_of, path_of, prefix_of, world_member_of, declared_of};
 ghost use Rattle.text_types.specs.{Kept.defs_of, Kept.Grows, Made.functions_of_declared, Scopes.made_under, Scopes.text_in, Scopes.AddsTypes, Scopes.IsPlaced};
-ghost use Rattle.wit_text.specs.{Added.IsTwice, Stages.AddsCallables, Stages.AddsCalls};
 ghost use Rattle.text_shown.specs.ShowsWorlds.{export_of, extern_functions, import_of, world_functions, world_types};
+ghost use Rattle.wit_text.specs.{Added.IsTwice, Stages.AddsCallables, Stages.AddsCalls};
 ghost use Rattle.wit_text.specs.Sides.{one_stated, AddsFronts, AreFronts};
 
 use crate::parts::{Entries, add_named};

@@ -4,10 +4,10 @@ ghost use Rattle.std.specs.Prelude.{◌≡◌, ◌<◌, ℕ, [], length, map, Co
 ghost use Rattle.text_names.specs.{Orders.links_of, Orders.AreApart, Orders.AreWithin, Orders.IsOrder, Tables.IsIndex};
 ghost use Rattle.text_types.specs.Kept.{defs_of, Grows};
 ghost use Rattle.wit_model.specs.Valid.{IsValid};
+ghost use Rattle.text_shown.specs.Shows.{ShowsFiles};
 ghost use Rattle.wit_text.specs.MadeInterfaces.{AreAllMade, GrowsInterfaces};
 ghost use Rattle.wit_text.specs.MadeWorlds.{AreWorldsMade};
 ghost use Rattle.wit_text.specs.SoFar.{AreMadeSoFar, IsResolveOf, MakesNext};
-ghost use Rattle.text_shown.specs.Shows.{ShowsFiles};
 ghost use Rattle.wit_text.specs.{Mains.files_of, Mains.numbers_of, Refusals.AreTreesOf, Rules.SaysBroken};
 ghost use Rattle.wit_text.specs.Texts.{ReadsTexts, RefusesTexts};
 
@@ -17,10 +17,10 @@ use crate::shown::Around;
 use crate::trees::trees_of;
 use crate::worlds::world_of;
 use std::alloc::Global;
-use text_shown::laws::packages_are_shown;
 use text_names::{
     Fault, Need, Order, Refused, Source, Sources, Why, needs_of_interfaces, order_of,
 };
+use text_shown::laws::packages_are_shown;
 use text_trees::FileTree;
 use text_types::{Interfaces, Types};
 use wit_check::Check;
