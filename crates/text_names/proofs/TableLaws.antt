@@ -249,18 +249,18 @@ module _ (s : Sources) (index : IsIndex s) (hs : List PackageHead) (is : List It
 
 -- ---- an item more
 
-module _ (old : Sources) (index : IsIndex old) (home number : ℕ) (gates : Gates) (name : Span) (members : Bor (Vec MemberTree Global)) where
+module _ (old : Sources) (index : IsIndex old) (home number : ℕ) (docs : Span) (gates : Gates) (name : Span) (members : Bor (Vec MemberTree Global)) where
   abbrev interface_key_there : ℕ × Text
   interface_key_there = (home, cut (text_at old.texts.now number) name)
 
   pub interface_fails : (v : Named) → entry_of old.names.entries interface_key_there ≡ Some v
-      → FailsItems old home number (kinds.InterfaceItem gates name members.now ∷ []) (faults.Refused (record { text = number; at = name; why = Twice }))
+      → FailsItems old home number (kinds.InterfaceItem docs gates name members.now ∷ []) (faults.Refused (record { text = number; at = name; why = Twice }))
   interface_fails v e head is_head hs is ms d =
-      twice old index hs is ms d head home is_head (item_in number (text_at old.texts.now number) head (kinds.InterfaceItem gates name members.now)) refl v e
+      twice old index hs is ms d head home is_head (item_in number (text_at old.texts.now number) head (kinds.InterfaceItem docs gates name members.now)) refl v e
 
   module _ (names : HashMap (ℕ × Bor (List ℕ)) Named KeyedHash) (listed : Vec InterfaceSource Global)
       (put : Puts old.names.entries interface_key_there (named.Interface (length old.interfaces.items)) names.entries)
-      (more : listed.items ≡ old.interfaces.items ++ record { «package» = home; text = number; gates = gates; name = name; members = members } ∷ []) where
+      (more : listed.items ≡ old.interfaces.items ++ record { «package» = home; text = number; docs = docs; gates = gates; name = name; members = members } ∷ []) where
     abbrev with_interface : Sources
     with_interface = record old { names = names; interfaces = listed }
 
@@ -279,7 +279,7 @@ module _ (old : Sources) (index : IsIndex old) (home number : ℕ) (gates : Gate
           (λ n e. world_interface n (length old.interfaces.items) e) index.worlds;
     }
 
-    pub interface_adds : AddsItems old with_interface home number (kinds.InterfaceItem gates name members.now ∷ [])
+    pub interface_adds : AddsItems old with_interface home number (kinds.InterfaceItem docs gates name members.now ∷ [])
     interface_adds = record {
       index = interface_index;
       texts = refl;
@@ -288,8 +288,8 @@ module _ (old : Sources) (index : IsIndex old) (home number : ℕ) (gates : Gate
         texts = refl;
         grows = λ n h e. e;
         declares = λ hs is ms d.
-            let x = item_in number (text_at old.texts.now number) head (kinds.InterfaceItem gates name members.now) in
-            let it : InterfaceSource = record { «package» = home; text = number; gates = gates; name = name; members = members } in
+            let x = item_in number (text_at old.texts.now number) head (kinds.InterfaceItem docs gates name members.now) in
+            let it : InterfaceSource = record { «package» = home; text = number; docs = docs; gates = gates; name = name; members = members } in
             let shown : IsInterface with_interface x it = record { text = refl; home = is_head; at = refl; tree = refl } in
             let same_interface : (a : Item) (b : InterfaceSource) → IsInterface old a b → IsInterface with_interface a b = λ a b i. record { text = i.text; home = i.home; at = i.at; tree = i.tree } in
             let same_world : (a : Item) (b : WorldSource) → IsWorld old a b → IsWorld with_interface a b = λ a b i. record { text = i.text; home = i.home; at = i.at; tree = i.tree } in
@@ -308,18 +308,18 @@ module _ (old : Sources) (index : IsIndex old) (home number : ℕ) (gates : Gate
       };
     }
 
-module _ (old : Sources) (index : IsIndex old) (home number : ℕ) (gates : Gates) (name : Span) (members : Bor (Vec WorldMember Global)) where
+module _ (old : Sources) (index : IsIndex old) (home number : ℕ) (docs : Span) (gates : Gates) (name : Span) (members : Bor (Vec WorldMember Global)) where
   abbrev world_key_there : ℕ × Text
   world_key_there = (home, cut (text_at old.texts.now number) name)
 
   pub world_fails : (v : Named) → entry_of old.names.entries world_key_there ≡ Some v
-      → FailsItems old home number (kinds.WorldItem gates name members.now ∷ []) (faults.Refused (record { text = number; at = name; why = Twice }))
+      → FailsItems old home number (kinds.WorldItem docs gates name members.now ∷ []) (faults.Refused (record { text = number; at = name; why = Twice }))
   world_fails v e head is_head hs is ms d =
-      twice old index hs is ms d head home is_head (item_in number (text_at old.texts.now number) head (kinds.WorldItem gates name members.now)) refl v e
+      twice old index hs is ms d head home is_head (item_in number (text_at old.texts.now number) head (kinds.WorldItem docs gates name members.now)) refl v e
 
   module _ (names : HashMap (ℕ × Bor (List ℕ)) Named KeyedHash) (listed : Vec WorldSource Global)
       (put : Puts old.names.entries world_key_there (named.World (length old.worlds.items)) names.entries)
-      (more : listed.items ≡ old.worlds.items ++ record { «package» = home; text = number; gates = gates; name = name; members = members } ∷ []) where
+      (more : listed.items ≡ old.worlds.items ++ record { «package» = home; text = number; docs = docs; gates = gates; name = name; members = members } ∷ []) where
     abbrev with_world : Sources
     with_world = record old { names = names; worlds = listed }
 
@@ -338,7 +338,7 @@ module _ (old : Sources) (index : IsIndex old) (home number : ℕ) (gates : Gate
           world_one (ap named.World (sym (length_of_map (world_key old.texts.now) old.worlds.items))) index.worlds);
     }
 
-    pub world_adds : AddsItems old with_world home number (kinds.WorldItem gates name members.now ∷ [])
+    pub world_adds : AddsItems old with_world home number (kinds.WorldItem docs gates name members.now ∷ [])
     world_adds = record {
       index = world_index;
       texts = refl;
@@ -347,8 +347,8 @@ module _ (old : Sources) (index : IsIndex old) (home number : ℕ) (gates : Gate
         texts = refl;
         grows = λ n h e. e;
         declares = λ hs is ms d.
-            let x = item_in number (text_at old.texts.now number) head (kinds.WorldItem gates name members.now) in
-            let it : WorldSource = record { «package» = home; text = number; gates = gates; name = name; members = members } in
+            let x = item_in number (text_at old.texts.now number) head (kinds.WorldItem docs gates name members.now) in
+            let it : WorldSource = record { «package» = home; text = number; docs = docs; gates = gates; name = name; members = members } in
             let shown : IsWorld with_world x it = record { text = refl; home = is_head; at = refl; tree = refl } in
             let same_interface : (a : Item) (b : InterfaceSource) → IsInterface old a b → IsInterface with_world a b = λ a b i. record { text = i.text; home = i.home; at = i.at; tree = i.tree } in
             let same_world : (a : Item) (b : WorldSource) → IsWorld old a b → IsWorld with_world a b = λ a b i. record { text = i.text; home = i.home; at = i.at; tree = i.tree } in

@@ -39,8 +39,8 @@ is_interface item = interface item.tree
 
 -- where an item's name stands
 abbrev pub place_of : CodeItem → Span
-place_of (kinds.InterfaceItem gates name members) = name
-place_of (kinds.WorldItem gates name members) = name
+place_of (kinds.InterfaceItem docs gates name members) = name
+place_of (kinds.WorldItem docs gates name members) = name
 
 -- an item of a package
 abbrev pub item_in : ℕ → Text → PackageHead → CodeItem → Item

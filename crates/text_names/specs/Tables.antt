@@ -84,14 +84,14 @@ pub record IsInterface (s : Sources) (item : Item) (it : InterfaceSource) : Type
   pub text : it.text ≡ item.text
   pub home : IsNumberOf s item.home it.«package»
   pub at : it.name ≡ item.at
-  pub tree : item_of (text_at s.texts.now it.text) (kinds.InterfaceItem it.gates it.name it.members.now) ≡ item.tree
+  pub tree : item_of (text_at s.texts.now it.text) (kinds.InterfaceItem it.docs it.gates it.name it.members.now) ≡ item.tree
 
 -- This is the world.
 pub record IsWorld (s : Sources) (item : Item) (it : WorldSource) : Type 0 where
   pub text : it.text ≡ item.text
   pub home : IsNumberOf s item.home it.«package»
   pub at : it.name ≡ item.at
-  pub tree : item_of (text_at s.texts.now it.text) (kinds.WorldItem it.gates it.name it.members.now) ≡ item.tree
+  pub tree : item_of (text_at s.texts.now it.text) (kinds.WorldItem it.docs it.gates it.name it.members.now) ≡ item.tree
 
 -- Packages stand once, in the order in which they come first; interfaces and worlds in theirs; and no name stands twice in a package.
 pub record Declares (s : Sources) (heads : List PackageHead) (items : List Item) (begun : List PackageHead) : Type 0 where

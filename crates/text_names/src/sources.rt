@@ -32,6 +32,8 @@ pub struct PackageSource {
 pub struct InterfaceSource<'t> {
     pub package: u32,
     pub text: u32,
+    /// The gap with the documentation.
+    pub docs: Span,
     pub gates: Gates,
     pub name: Span,
     pub members: &'t Vec<MemberTree>,
@@ -42,6 +44,8 @@ pub struct InterfaceSource<'t> {
 pub struct WorldSource<'t> {
     pub package: u32,
     pub text: u32,
+    /// The gap with the documentation.
+    pub docs: Span,
     pub gates: Gates,
     pub name: Span,
     pub members: &'t Vec<WorldMember>,
@@ -249,11 +253,11 @@ impl<'t> Sources<'t> {
         ensures err { IfErr result (FailsItems self.old home number (item.now ∷ [])) }
     {
         match item {
-            ItemTree::InterfaceItem(gates, name, members) => {
-                self.add_interface(home, number, *gates, *name, members)
+            ItemTree::InterfaceItem(docs, gates, name, members) => {
+                self.add_interface(home, number, *docs, *gates, *name, members)
             }
-            ItemTree::WorldItem(gates, name, members) => {
-                self.add_world(home, number, *gates, *name, members)
+            ItemTree::WorldItem(docs, gates, name, members) => {
+                self.add_world(home, number, *docs, *gates, *name, members)
             }
         }
     }
@@ -262,13 +266,14 @@ impl<'t> Sources<'t> {
         &mut self,
         home: u32,
         number: u32,
+        docs: Span,
         gates: Gates,
         name: Span,
         members: &'t Vec<MemberTree>,
     ) -> Result<(), Fault>
         requires index { IsIndex self.old }
-        ensures ok { OnOk result (AddsItems self.old self.new home number (InterfaceItem gates name members.now ∷ [])) }
-        ensures err { IfErr result (FailsItems self.old home number (InterfaceItem gates name members.now ∷ [])) }
+        ensures ok { OnOk result (AddsItems self.old self.new home number (InterfaceItem docs gates name members.now ∷ [])) }
+        ensures err { IfErr result (FailsItems self.old home number (InterfaceItem docs gates name members.now ∷ [])) }
     {
         let named = Named::Interface(number_behind(self.interfaces.len())?);
         let key = (home, cut(self.text(number), name));
@@ -278,6 +283,7 @@ impl<'t> Sources<'t> {
         self.interfaces.push(InterfaceSource {
             package: home,
             text: number,
+            docs,
             gates,
             name,
             members,
@@ -289,13 +295,14 @@ impl<'t> Sources<'t> {
         &mut self,
         home: u32,
         number: u32,
+        docs: Span,
         gates: Gates,
         name: Span,
         members: &'t Vec<WorldMember>,
     ) -> Result<(), Fault>
         requires index { IsIndex self.old }
-        ensures ok { OnOk result (AddsItems self.old self.new home number (WorldItem gates name members.now ∷ [])) }
-        ensures err { IfErr result (FailsItems self.old home number (WorldItem gates name members.now ∷ [])) }
+        ensures ok { OnOk result (AddsItems self.old self.new home number (WorldItem docs gates name members.now ∷ [])) }
+        ensures err { IfErr result (FailsItems self.old home number (WorldItem docs gates name members.now ∷ [])) }
     {
         let named = Named::World(number_behind(self.worlds.len())?);
         let key = (home, cut(self.text(number), name));
@@ -305,6 +312,7 @@ impl<'t> Sources<'t> {
         self.worlds.push(WorldSource {
             package: home,
             text: number,
+            docs,
             gates,
             name,
             members,

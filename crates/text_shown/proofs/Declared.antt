@@ -1,5 +1,5 @@
 -- What is shown of a declared type is its plain tree. Serves Interfaces.
-use Rattle.std.proofs.Common.{◌≡◌, refl, sym, ap, ◌∙◌, List, [], ◌∷◌, map, filter, None}
+use Rattle.std.proofs.Common.{◌≡◌, refl, ap, ◌∙◌, List, [], ◌∷◌, map, filter, None}
 use Rattle.std.specs.{Option.option_map_or, Str.Lines.lines}
 use Rattle.wit_model.specs.declared.model.{Resolve.Resolve, TypeDef.TypeDef, TypeDefKind.TypeDefKind, TypeId.TypeId, TypeOwner.TypeOwner}
 use Rattle.wit_model.specs.declared.model.{Function.Function, Docs.Docs}
@@ -21,25 +21,20 @@ pub each_mapped : {X Y : Type 0} {Is : X → Y → Type 0} (f : Y → X) → ((x
 each_mapped f same EachIs.no_more = refl
 each_mapped f same (EachIs.one_more {x = x} {y = y} k ks) = λ i. same x y k i ∷ each_mapped f same ks i
 
--- no documentation on both sides
-pub docs_shown : (docs : Docs) (lines : List Text) → docs.contents ≡ None → lines ≡ [] → shown_docs docs ≡ lines
-docs_shown docs others none bare = ap (λ o. option_map_or (λ contents. lines (text_of contents)) o []) none ∙ sym bare
+-- nothing is shown where there is no documentation
+pub none_shown : (docs : Docs) → docs.contents ≡ None → shown_docs docs ≡ []
+none_shown docs none = ap (λ o. option_map_or (λ contents. lines (text_of contents)) o []) none
 
 flag_shown : (tree : LabelTree) (flag : Flag) → FlagIs tree flag → shown_flag flag ≡ tree
-flag_shown tree flag k = λ i. record { docs = docs_shown flag.docs tree.docs k.docs k.bare i; name = k.name i }
+flag_shown tree flag k = λ i. record { docs = k.docs i; name = k.name i }
 
 enum_case_shown : (tree : LabelTree) (case : EnumCase) → EnumCaseIs tree case → shown_enum_case case ≡ tree
-enum_case_shown tree case k = λ i. record { docs = docs_shown case.docs tree.docs k.docs k.bare i; name = k.name i }
+enum_case_shown tree case k = λ i. record { docs = k.docs i; name = k.name i }
 
 -- what stands in front of a definition
-pub front_shown : {owner : TypeOwner} {prefix : Prefix} {name : Text} {def : TypeDef} → IsNamed owner prefix name def → prefix.docs ≡ []
+pub front_shown : {owner : TypeOwner} {prefix : Prefix} {name : Text} {def : TypeDef} → IsNamed owner prefix name def
     → shown_prefix def.docs def.stability def.external_id ≡ prefix
-front_shown {prefix = prefix} {def = def} k bare = λ i. record {
-  docs = docs_shown def.docs prefix.docs k.docs bare i;
-  gates =
-      k.gates i;
-  external_id = k.external_id i;
-}
+front_shown k = λ i. record { docs = k.docs i; gates = k.gates i; external_id = k.external_id i }
 
 -- The functions of a resource are these, in their plain form.
 abbrev pub AreFunctionsOf : List ResourceMember → Declared → Type 0
@@ -78,10 +73,10 @@ module _ (r : Resolve) where
 
   module _ (valid : IsValid r) where
     field_shown : (tree : FieldTree) (field : Field) → FieldIs r.types.items tree field → plain_field (shown_field r field) ≡ tree
-    field_shown tree field k = λ i. record { docs = docs_shown field.docs tree.docs k.docs k.bare i; name = k.name i; ty = type_shown r valid k.ty i }
+    field_shown tree field k = λ i. record { docs = k.docs i; name = k.name i; ty = type_shown r valid k.ty i }
 
     case_shown : (tree : CaseTree) (case : Case) → CaseIs r.types.items tree case → plain_case (shown_case r case) ≡ tree
-    case_shown tree case k = λ i. record { docs = docs_shown case.docs tree.docs k.docs k.bare i; name = k.name i; payload = payload_shown r valid k.payload i }
+    case_shown tree case k = λ i. record { docs = k.docs i; name = k.name i; payload = payload_shown r valid k.payload i }
 
     -- what is shown of a kind under a name
     pub kind_shown : (shown : List ResourceMember) {declared : Declared} {kind : TypeDefKind} → DeclaredKind r.types.items declared kind

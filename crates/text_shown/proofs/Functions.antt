@@ -19,22 +19,13 @@ use Rattle.text_types.specs.Kept.{IsUnnamed}
 use Rattle.text_types.specs.Stands.{Stands, FormIs}
 use Rattle.wit_model.specs.declared.model.Handle.TheVariants as handle
 use Rattle.base_lemmas.proofs.{Bools.left_of, Bools.no-and, Bools.right_of, Numbers.same-number, Elements.joined_well, Lists.map_of_map}
-use Rattle.text_shown.specs.{Members.is_bare, Members.is_bare_function, Same.plain_members}
-use Rattle.text_shown.proofs.{Declared.docs_shown, Declared.each_mapped, Types.payload_shown, Types.type_shown}
+use Rattle.text_shown.specs.Same.{plain_members}
+use Rattle.text_shown.proofs.{Declared.each_mapped, Types.payload_shown, Types.type_shown}
 
 -- ---- what stands in front
 
-pub no_lines : (docs : List Text) → is_bare docs ≡ true → docs ≡ []
-no_lines [] h = refl
-no_lines (line ∷ lines) h = absurd cc
-
-pub prefix_shown : {prefix : Prefix} {f : Function} → HasFront prefix f → is_bare prefix.docs ≡ true → function_prefix f ≡ prefix
-prefix_shown {prefix = prefix} {f = f} k bare = λ i. record {
-  docs = docs_shown f.docs prefix.docs k.docs (no_lines prefix.docs bare) i;
-  gates =
-      k.gates i;
-  external_id = k.external_id i;
-}
+pub prefix_shown : {prefix : Prefix} {f : Function} → HasFront prefix f → function_prefix f ≡ prefix
+prefix_shown k = λ i. record { docs = k.docs i; gates = k.gates i; external_id = k.external_id i }
 
 -- ---- names behind a dot
 
@@ -76,9 +67,9 @@ module _ (r : Resolve) (valid : IsValid r) where
 
   -- what is shown of a function that belongs to no resource
   pub function_shown : (here : PackageHead) {prefix : Prefix} {name : Text} {tree : SignatureTree} {f : Function}
-      → FreeStands r.types.items prefix name tree f → is_bare prefix.docs ≡ true
+      → FreeStands r.types.items prefix name tree f
       → plain_members here (shown_function r f) ≡ FunctionMember prefix name tree ∷ []
-  function_shown here k bare = λ i. FunctionMember (prefix_shown k.front bare i) (k.named i) (signature_shown k.stands i) ∷ []
+  function_shown here k = λ i. FunctionMember (prefix_shown k.front i) (k.named i) (signature_shown k.stands i) ∷ []
 
   -- ---- functions of resources
 
@@ -149,14 +140,14 @@ module _ (r : Resolve) (valid : IsValid r) where
       ∙ ap (λ k. Static (function_prefix f) (after_dot (text_of f.name)) (shown_signature r (record f { kind = k }))) (sym e)
 
   -- What is shown of a function of a resource is its plain tree.
-  pub member_shown : {resource : Text} {id : TypeId} {member : ResourceMember} {f : Function} → is_label resource ≡ true → is_bare_function member ≡ true
+  pub member_shown : {resource : Text} {id : TypeId} {member : ResourceMember} {f : Function} → is_label resource ≡ true
       → MemberStands r.types.items resource id member f → plain_resource_member resource (shown_resource_member r f) ≡ member
-  member_shown {resource = resource} {id = id} {f = f} label bare (MemberStands.a_constructor front named kind params result) =
+  member_shown {resource = resource} {id = id} {f = f} label (MemberStands.a_constructor front named kind params result) =
       ap (plain_resource_member resource) (constructor_is id f kind)
-      ∙ (λ i. Constructor (prefix_shown front bare i) (params_shown params i) (constructed resource id result i))
-  member_shown {resource = resource} {id = id} {f = f} label bare (MemberStands.a_method {name = name} {tree = tree} front named kind stands) =
+      ∙ (λ i. Constructor (prefix_shown front i) (params_shown params i) (constructed resource id result i))
+  member_shown {resource = resource} {id = id} {f = f} label (MemberStands.a_method {name = name} {tree = tree} front named kind stands) =
       ap (plain_resource_member resource) (method_is tree.is_async id f kind)
-      ∙ (λ i. Method (prefix_shown front bare i) ((ap after_dot named ∙ method_behind resource name label) i) (signature_shown stands i))
-  member_shown {resource = resource} {id = id} {f = f} label bare (MemberStands.a_static {name = name} {tree = tree} front named kind stands) =
+      ∙ (λ i. Method (prefix_shown front i) ((ap after_dot named ∙ method_behind resource name label) i) (signature_shown stands i))
+  member_shown {resource = resource} {id = id} {f = f} label (MemberStands.a_static {name = name} {tree = tree} front named kind stands) =
       ap (plain_resource_member resource) (static_is tree.is_async id f kind)
-      ∙ (λ i. Static (prefix_shown front bare i) ((ap after_dot named ∙ static_behind resource name label) i) (signature_shown stands i))
+      ∙ (λ i. Static (prefix_shown front i) ((ap after_dot named ∙ static_behind resource name label) i) (signature_shown stands i))

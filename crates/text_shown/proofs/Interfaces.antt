@@ -12,8 +12,8 @@ use Rattle.text_types.proofs.MadeLaws.{order_weaker, type_carried}
 use Rattle.base_lemmas.proofs.Lists.{append_none}
 use Rattle.text_shown.proofs.Targets.{used_is_foreign}
 use Rattle.text_shown.proofs.Owners.{Owns, functions_shown, types_shown}
-use Rattle.text_shown.proofs.Parts.{bare_singles, one_declaration_shown, one_use_shown, shown_functions, shown_types, stated_functions, stated_types}
-use Rattle.text_shown.proofs.Resources.{bare_trees, of_members}
+use Rattle.text_shown.proofs.Parts.{one_declaration_shown, one_use_shown, shown_functions, shown_types, stated_functions, stated_types}
+use Rattle.text_shown.proofs.Resources.{of_members}
 
 module _ (r : Resolve) (valid : IsValid r) (home : PackageId) (p : Package) (at : package_at r home.0 ≡ Some p) (id : InterfaceId) (i : Interface)
     (members : List MemberTree)
@@ -31,8 +31,6 @@ module _ (r : Resolve) (valid : IsValid r) (home : PackageId) (p : Package) (at 
     has_types = order_weaker (type_carried {old = r.types.items} (record { more = []; is = sym (append_none r.types.items) }) foreign) h.are.has_types;
     has_functions = h.are.has_functions;
     distinct = (valid.distinct_keys.interfaces id.0 i h.there).0;
-    bare_types = bare_singles members h.bare;
-    bare_functions = bare_trees members h.bare;
     resources = λ name. of_members name members;
   }
 

@@ -2,7 +2,7 @@
 pub mod Types
 -- What is shown of a declared type is its plain tree. Serves Externs, Functions, Owners, Worlds.
 pub mod Declared
--- What is shown of functions is their plain trees. Serves Externs, Owners, Resources.
+-- What is shown of functions is their plain trees. Serves Externs, Resources.
 pub mod Functions
 -- The functions that are shown of a resource are those that it has. Serves Interfaces, Owners, Parts, WorldParts; crates above.
 pub mod Resources
@@ -12,7 +12,7 @@ pub mod Uses
 pub mod Parts
 -- Lists that have the same entries in some order. Serves Owners; crates above.
 pub mod Shuffles
--- What is shown of the types and functions of an owner is what states them. Serves Interfaces, Packages, Worlds.
+-- What is shown of the types and functions of an owner is what states them. Serves Interfaces, Worlds.
 pub mod Owners
 -- What paths and names mean is shown by the same paths. Serves Externs, Interfaces, Worlds.
 pub mod Targets
@@ -20,8 +20,6 @@ pub mod Targets
 pub mod Interfaces
 -- What is shown of an import or an export is what states it. Serves WorldParts, Worlds.
 pub mod Externs
--- What is read of a text has no documentation. Serves Packages.
-pub mod Readings
 -- The entries of a world's imports: interfaces, then types, then functions. Serves WorldParts, Worlds.
 pub mod WorldEntries
 -- What is shown of a world, taken apart. Serves Worlds.

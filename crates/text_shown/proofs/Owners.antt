@@ -1,8 +1,8 @@
 -- What is shown of the types and functions of an owner is what states them. Serves Interfaces, Worlds.
-use Rattle.std.proofs.Common.{◌≡◌, refl, sym, ap, subst, ◌∙◌, ℕ, zero, suc, true, false, ◌==◌, ◌&&◌, List, [], ◌∷◌, ◌++◌, map, filter, flat_map, Option}
+use Rattle.std.proofs.Common.{◌≡◌, refl, sym, ap, subst, ◌∙◌, ℕ, zero, suc, true, false, ◌==◌, List, [], ◌∷◌, ◌++◌, map, filter, flat_map, Option}
 use Rattle.std.proofs.Common.{Some, None, option_map, option_and_then, slice_get, String}
 use Rattle.std.proofs.lemmas.{Map.Entries.lookup_from_place, Map.Entries.place_from_lookup, Option.same_Some, Option.slice_get_within}
-use Rattle.std.specs.{Prelude.Contains, Prelude.is_some, Prelude.if◌then◌else◌, List.list_all, List.IsDistinct, List.AllByRecursion, Map.keys_of}
+use Rattle.std.specs.{Prelude.Contains, Prelude.is_some, Prelude.if◌then◌else◌, List.IsDistinct, List.AllByRecursion, Map.keys_of}
 use Rattle.std.specs.{Option.option_map_or, String.string_eq, String.string_eq_equiv, HashMap.get_by_text}
 use Rattle.std.specs.declared.alloc.Global.{Global}
 use Rattle.wit_model.specs.declared.model.{Resolve.Resolve, TypeDef.TypeDef, TypeId.TypeId, TypeOwner.TypeOwner, InterfaceId.InterfaceId}
@@ -17,13 +17,13 @@ use Rattle.print_items.proofs.TypesWell.{label_of}
 use Rattle.text_types.specs.{Each.EachIs, Stands.NameAt, Plain.plain_declared, Plain.plain_resource_member, Scopes.type_name}
 use Rattle.text_types.proofs.DeclaredLaws.{plain_name}
 use Rattle.text_types.specs.Made.{name_here, FunctionIs, FunctionTree, InSomeOrder, NameMap, TypeIs}
-use Rattle.base_lemmas.proofs.{Bools.both_ways, Bools.left_of, Elements.all-contained, Elements.contains-later, Elements.first-contained}
-use Rattle.base_lemmas.proofs.{Elements.get-contains, Numbers.equal, Numbers.same_count}
-use Rattle.text_shown.specs.{Members.IsForeign, Members.is_bare, Members.is_bare_declared, Members.is_bare_member, Same.plain_members}
+use Rattle.base_lemmas.proofs.{Bools.both_ways, Elements.contains-later, Elements.first-contained}
+use Rattle.base_lemmas.proofs.{Numbers.equal, Numbers.same_count}
+use Rattle.text_shown.specs.{Members.IsForeign, Same.plain_members}
 use Rattle.text_shown.specs.{Same.Shuffled}
-use Rattle.text_shown.proofs.{Declared.AreFunctionsOf, Declared.declared_shown, Declared.front_shown, Functions.no_lines}
+use Rattle.text_shown.proofs.{Declared.AreFunctionsOf, Declared.declared_shown, Declared.front_shown}
 use Rattle.text_shown.proofs.Parts.{plain_declaration, shown_declaration, shown_use}
-use Rattle.text_shown.proofs.Resources.{free_member, free_shown, functions_named, is_bare_tree, members_shown, of_one, own_functions}
+use Rattle.text_shown.proofs.Resources.{free_member, free_shown, functions_named, members_shown, of_one, own_functions}
 use Rattle.text_shown.proofs.Shuffles.{shown_in_order, split_at, IsSplit, SplitAt}
 use Rattle.text_shown.proofs.Uses.{no_use, one_use, plain_use, use_at, use_shown}
 
@@ -101,14 +101,12 @@ one_name defs n m a b same k h =
     let def : k.def ≡ h.def = same_Some k.def h.def there in
     same_Some a b (sym k.named ∙ ap (λ d. option_map text_of d.name) def ∙ h.named)
 
--- The types of an owner are those of these uses and declarations, and its functions those of these trees, and none is documented.
+-- The types of an owner are those of these uses and declarations, and its functions those of these trees.
 pub record Owns (r : Resolve) (here : PackageHead) (own : TypeOwner) (home : Option PackageId) (stated : List MemberTree) (trees : List FunctionTree)
     (types : NameMap TypeId) (functions : List (String Global × Function)) : Type 0 where
   pub has_types : InSomeOrder (TypeIs r.types.items (IsForeign r here own home) own) stated types.entries
   pub has_functions : EachIs (FunctionIs r.types.items (get_by_text types)) trees functions
   pub distinct : IsDistinct string_eq (keys_of types.entries)
-  pub bare_types : list_all is_bare_member stated ≡ true
-  pub bare_functions : list_all is_bare_tree trees ≡ true
   pub resources : (name : Text) → flat_map (functions_named name) trees ≡ flat_map (own_functions name) stated
 
 module _ (r : Resolve) (valid : IsValid r) (here : PackageHead) (own : TypeOwner) (home : Option PackageId) (stated : List MemberTree)
@@ -190,7 +188,7 @@ module _ (r : Resolve) (valid : IsValid r) (here : PackageHead) (own : TypeOwner
 
     resource_functions : map (plain_resource_member name) (map (shown_resource_member r) (filter (belongs_to entry.1) all_functions))
         ≡ map (plain_resource_member name) members
-    resource_functions = members_shown r valid (get_by_text types) name resource_label entry.1 known h.bare_functions h.has_functions
+    resource_functions = members_shown r valid (get_by_text types) name resource_label entry.1 known h.has_functions
         ∙ ap (map (plain_resource_member name)) (h.resources name
         ∙ of_one name stated place prefix members at (λ m member also e. one_member m place member (TypeMember prefix (ResourceOf name members)) also at e))
 
@@ -238,10 +236,8 @@ module _ (r : Resolve) (valid : IsValid r) (here : PackageHead) (own : TypeOwner
   type_split place member at n entry there (TypeIs.a_declaration {prefix = prefix} {declared = declared} {name = name} {id = number} named stands) =
       let is : Is (TypeMember prefix declared) (name, number) = TypeIs.a_declaration named stands in
       let none : used_of r own (text_of name) stands.def ≡ None = no_use r own (text_of name) stands.def stands.stands.own in
-      let bare : (is_bare prefix.docs && is_bare_declared declared) ≡ true =
-      all-contained is_bare_member stated (TypeMember prefix declared) h.bare_types (get-contains stated place (TypeMember prefix declared) at) in
       let front : shown_prefix stands.def.docs stands.def.stability stands.def.external_id ≡ prefix =
-      front_shown stands.stands.front (no_lines prefix.docs (left_of _ _ bare)) in
+      front_shown stands.stands.front in
       let what : plain_declared (shown_declared r all_functions number stands.def) ≡ plain_declared declared =
       declared_shown r valid all_functions number stands.stands (declared_functions place prefix declared at n (name, number) there is) in
       IsSplit.by_second refl (use_is name number stands.def stands.there None none)
@@ -266,4 +262,4 @@ module _ (r : Resolve) (valid : IsValid r) (here : PackageHead) (own : TypeOwner
   -- The functions that belong to no resource are shown in their order.
   pub functions_shown : flat_map (λ f. plain_members here (shown_function r f)) (filter (λ f. is_freestanding f.kind) all_functions)
       ≡ flat_map free_member trees
-  functions_shown = free_shown r valid (get_by_text types) here h.bare_functions h.has_functions
+  functions_shown = free_shown r valid (get_by_text types) here h.has_functions

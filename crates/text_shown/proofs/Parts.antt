@@ -1,5 +1,5 @@
 -- What is shown of an interface, taken apart. Serves Interfaces.
-use Rattle.std.proofs.Common.{◌≡◌, refl, sym, ap, ◌∙◌, Bool, true, ◌&&◌, List, [], ◌∷◌, ◌++◌, map, filter, filter_map, flat_map, Option, Some, None}
+use Rattle.std.proofs.Common.{◌≡◌, refl, sym, ap, ◌∙◌, Bool, List, [], ◌∷◌, ◌++◌, map, filter, filter_map, flat_map, Option, Some, None}
 use Rattle.std.proofs.Common.{option_and_then, String}
 use Rattle.std.proofs.lemmas.{Grind.flat_map-append, List.Elements.filter-append, List.Folds.flat_map-map}
 use Rattle.std.specs.{List.list_all, Option.option_map_or}
@@ -7,7 +7,6 @@ use Rattle.std.specs.declared.alloc.Global.{Global}
 use Rattle.wit_model.specs.declared.model.{Resolve.Resolve, TypeId.TypeId, TypeOwner.TypeOwner, Interface.Interface, InterfaceId.InterfaceId, Function.Function}
 use Rattle.wit_model.specs.declared.model.TypeOwner.TheVariants as owner
 use Rattle.wit_model.specs.{Text.text_of, Lookup.type_at, Rules.is_freestanding}
-use Rattle.wit_model.proofs.Functions.{all_flat}
 use Rattle.print_grammar.specs.Tree.{Prefix, PathTree, UsedName, PackageHead, MemberTree, MemberTree.UseMember, MemberTree.TypeMember}
 use Rattle.print_grammar.specs.Tree.{MemberTree.FunctionMember}
 use Rattle.print_grammar.specs.Tree.Declared.{RecordOf, VariantOf, FlagsOf, EnumOf, AliasOf, ResourceOf}
@@ -15,8 +14,8 @@ use Rattle.print_grammar.specs.Tree.{Declared, ResourceMember}
 use Rattle.print_items.specs.Shown.{DeclaredWith, Listed, Used, declared_with, listed_functions, listed_types, path_from_owner, shown_declarations}
 use Rattle.print_items.specs.Shown.{shown_function, shown_interface, shown_uses, used_of}
 use Rattle.text_types.specs.Made.{types_of, functions_of, functions_of_declared, FunctionTree.OfResource}
-use Rattle.base_lemmas.proofs.{Elements.all_weaker, Lists.append_none}
-use Rattle.text_shown.specs.{Members.is_bare_member, Same.is_function_member, Same.is_type_member, Same.plain_members, Same.plain_path, Same.plain_used}
+use Rattle.base_lemmas.proofs.{Lists.append_none}
+use Rattle.text_shown.specs.{Same.is_function_member, Same.is_type_member, Same.plain_members, Same.plain_path, Same.plain_used}
 use Rattle.text_shown.proofs.{Resources.free_member, Uses.grouped_apart, Uses.member_of_use, Uses.plain_use}
 
 -- ---- lists of lists
@@ -48,20 +47,6 @@ given_parts f g (x ∷ xs) = go (f x) (given_parts f g xs)
     go (Some y) rest = ap (λ zs. g y ++ zs) rest
 
 -- ---- what is stated
-
-pub bare_uses : (prefix : Prefix) (path : PathTree) (names : List UsedName)
-    → list_all is_bare_member (map (λ used. UseMember prefix path (used ∷ [])) names) ≡ true
-bare_uses prefix path [] = refl
-bare_uses prefix path (used ∷ names) = bare_uses prefix path names
-
-bare_types : (member : MemberTree) → is_bare_member member ≡ true → list_all is_bare_member (types_of member) ≡ true
-bare_types (UseMember prefix path names) h = bare_uses prefix path names
-bare_types (TypeMember prefix declared) h = ap (λ b. b && true) h
-bare_types (FunctionMember prefix name signature) h = refl
-
--- the uses and the types of members without documentation have none
-pub bare_singles : (members : List MemberTree) → list_all is_bare_member members ≡ true → list_all is_bare_member (flat_map types_of members) ≡ true
-bare_singles members h = all_flat is_bare_member types_of members ∙ all_weaker is_bare_member (λ m. list_all is_bare_member (types_of m)) bare_types members h
 
 no_free : (name : _) (members : List ResourceMember) → flat_map free_member (map (OfResource name) members) ≡ []
 no_free name [] = refl

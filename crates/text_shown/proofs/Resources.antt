@@ -1,53 +1,22 @@
 -- The functions that are shown of a resource are those that it has. Serves Interfaces.
-use Rattle.std.proofs.Common.{◌≡◌, refl, sym, ap, subst, ◌∙◌, ℕ, zero, suc, Bool, true, false, ◌&&◌, ◌==◌, cond, List, [], ◌∷◌, ◌++◌, map, filter}
+use Rattle.std.proofs.Common.{◌≡◌, refl, sym, ap, subst, ◌∙◌, ℕ, zero, suc, Bool, true, false, ◌==◌, cond, List, [], ◌∷◌, ◌++◌, map, filter}
 use Rattle.std.proofs.Common.{flat_map, Option, Some, None, slice_get, String, arith}
-use Rattle.std.proofs.lemmas.{Grind.flat_map-append, List.Folds.list_all-map}
-use Rattle.std.specs.{Prelude.if◌then◌else◌, Prelude.is_none, List.list_all, Option.option_map_or}
+use Rattle.std.proofs.lemmas.{Grind.flat_map-append}
+use Rattle.std.specs.{Prelude.if◌then◌else◌, Prelude.is_none, Option.option_map_or}
 use Rattle.std.specs.declared.alloc.Global.{Global}
 use Rattle.wit_model.specs.declared.model.{Resolve.Resolve, TypeDef.TypeDef, TypeId.TypeId, Function.Function}
 use Rattle.wit_model.specs.{Text.Text, Text.text_eq, Names.is_label, Lookup.resource_of, Rules.is_freestanding, Valid.IsValid}
-use Rattle.wit_model.proofs.{Functions.all_flat, TextLemmas.text_alike, TextLemmas.text_same}
+use Rattle.wit_model.proofs.{TextLemmas.text_alike, TextLemmas.text_same}
 use Rattle.print_grammar.specs.Tree.{Prefix, ResourceMember, Declared, PackageHead}
-use Rattle.print_grammar.specs.Tree.{ResourceMember.Constructor, ResourceMember.Method, ResourceMember.Static}
 use Rattle.print_grammar.specs.Tree.Declared.{RecordOf, VariantOf, FlagsOf, EnumOf, AliasOf, ResourceOf}
 use Rattle.print_grammar.specs.Tree.{UsedName, PathTree, MemberTree, MemberTree.UseMember, MemberTree.TypeMember, MemberTree.FunctionMember}
 use Rattle.print_items.specs.Shown.{belongs_to, shown_function, shown_resource_member}
 use Rattle.text_types.specs.{Each.EachIs, Declares.declared_name, Plain.plain_resource_member, Plain.plain_signature, Scopes.type_name}
 use Rattle.text_types.specs.Functions.{MemberStands, method_kind, static_kind}
 use Rattle.text_types.specs.Made.{types_of, functions_of, functions_of_declared, FunctionIs, FunctionTree, FunctionTree.Free, FunctionTree.OfResource}
-use Rattle.base_lemmas.proofs.{Bools.left_of, Bools.right_of, Elements.all_weaker, Lists.append_none, Lists.none_there}
-use Rattle.text_shown.specs.{Members.is_bare, Members.is_bare_declared, Members.is_bare_function, Members.is_bare_member, Same.plain_members}
+use Rattle.base_lemmas.proofs.{Lists.append_none, Lists.none_there}
+use Rattle.text_shown.specs.Same.{plain_members}
 use Rattle.text_shown.proofs.Functions.{function_shown, member_shown}
-
--- ---- functions without documentation
-
--- whether a function has no documentation
-abbrev pub is_bare_tree : FunctionTree → Bool
-is_bare_tree (Free prefix name signature) = is_bare prefix.docs
-is_bare_tree (OfResource resource member) = is_bare_function member
-
--- in its plain form as well
-still_bare : (resource : Text) (member : ResourceMember) → is_bare_function (plain_resource_member resource member) ≡ is_bare_function member
-still_bare resource (Constructor prefix params result) = refl
-still_bare resource (Method prefix name signature) = refl
-still_bare resource (Static prefix name signature) = refl
-
-pub bare_functions : (declared : Declared) → is_bare_declared declared ≡ true → list_all is_bare_tree (functions_of_declared declared) ≡ true
-bare_functions (ResourceOf name members) h = list_all-map is_bare_tree (OfResource name) members ∙ h
-bare_functions (RecordOf name fields) h = refl
-bare_functions (VariantOf name cases) h = refl
-bare_functions (FlagsOf name flags) h = refl
-bare_functions (EnumOf name cases) h = refl
-bare_functions (AliasOf name ty) h = refl
-
-bare_tree : (member : MemberTree) → is_bare_member member ≡ true → list_all is_bare_tree (functions_of member) ≡ true
-bare_tree (UseMember prefix path names) h = refl
-bare_tree (TypeMember prefix declared) h = bare_functions declared (right_of (is_bare prefix.docs) _ h)
-bare_tree (FunctionMember prefix name signature) h = ap (λ b. b && true) h
-
--- the functions of members without documentation
-pub bare_trees : (members : List MemberTree) → list_all is_bare_member members ≡ true → list_all is_bare_tree (flat_map functions_of members) ≡ true
-bare_trees members h = all_flat is_bare_tree functions_of members ∙ all_weaker is_bare_member (λ m. list_all is_bare_tree (functions_of m)) bare_tree members h
 
 -- ---- functions that belong to no resource, and others
 
@@ -96,34 +65,33 @@ FunctionEntry = String Global × Function
 
 module _ (r : Resolve) (valid : IsValid r) (types : Text → Option TypeId) where
   -- the functions that belong to no resource, among all
-  pub free_shown : (here : PackageHead) {trees : List FunctionTree} {entries : List FunctionEntry} → list_all is_bare_tree trees ≡ true
+  pub free_shown : (here : PackageHead) {trees : List FunctionTree} {entries : List FunctionEntry}
       → EachIs (FunctionIs r.types.items types) trees entries
       → flat_map (λ f. plain_members here (shown_function r f)) (filter (λ f. is_freestanding f.kind) (map (λ e. e.1) entries)) ≡ flat_map free_member trees
-  free_shown here bare EachIs.no_more = refl
-  free_shown here bare (EachIs.one_more {xs = trees} {ys = entries} (FunctionIs.free {prefix = prefix} {f = f} key stands) ks) =
+  free_shown here EachIs.no_more = refl
+  free_shown here (EachIs.one_more {xs = trees} {ys = entries} (FunctionIs.free {prefix = prefix} {f = f} key stands) ks) =
       ap (flat_map (λ f. plain_members here (shown_function r f))) (filter_first (λ f. is_freestanding f.kind) f (map (λ e. e.1) entries) stands.free)
-      ∙ (λ i. function_shown r valid here stands (left_of (is_bare prefix.docs) _ bare) i
-      ++ free_shown here (right_of (is_bare prefix.docs) (list_all is_bare_tree trees) bare) ks i)
-  free_shown here bare (EachIs.one_more {xs = trees} {ys = entries} (FunctionIs.of_resource {member = member} {f = f} key found stands) ks) =
+      ∙ (λ i. function_shown r valid here stands i ++ free_shown here ks i)
+  free_shown here (EachIs.one_more {xs = trees} {ys = entries} (FunctionIs.of_resource {member = member} {f = f} key found stands) ks) =
       ap (flat_map (λ f. plain_members here (shown_function r f))) (filter_first (λ f. is_freestanding f.kind) f (map (λ e. e.1) entries)
       (ap is_none (resource_is stands)))
-      ∙ free_shown here (right_of (is_bare_function member) (list_all is_bare_tree trees) bare) ks
+      ∙ free_shown here ks
 
   -- the functions of the resource of this name and number, among all
   module _ (name : Text) (label : is_label name ≡ true) (id : TypeId) (known : (other : Text) (number : TypeId) → types other ≡ Some number
       → (number.0 == id.0) ≡ text_eq other name) where
-    pub members_shown : {trees : List FunctionTree} {entries : List FunctionEntry} → list_all is_bare_tree trees ≡ true
+    pub members_shown : {trees : List FunctionTree} {entries : List FunctionEntry}
         → EachIs (FunctionIs r.types.items types) trees entries
         → map (plain_resource_member name) (map (shown_resource_member r) (filter (belongs_to id) (map (λ e. e.1) entries)))
         ≡ map (plain_resource_member name) (flat_map (functions_named name) trees)
-    members_shown bare EachIs.no_more = refl
-    members_shown bare (EachIs.one_more {xs = trees} {ys = entries} (FunctionIs.free {prefix = prefix} {f = f} key stands) ks) =
+    members_shown EachIs.no_more = refl
+    members_shown (EachIs.one_more {xs = trees} {ys = entries} (FunctionIs.free {prefix = prefix} {f = f} key stands) ks) =
         ap (λ fs. map (plain_resource_member name) (map (shown_resource_member r) fs))
         (filter_first (belongs_to id) f (map (λ e. e.1) entries) (free_of_none (resource_of f.kind) id.0 stands.free))
-        ∙ members_shown (right_of (is_bare prefix.docs) (list_all is_bare_tree trees) bare) ks
-    members_shown bare (EachIs.one_more {xs = trees} {ys = entries}
+        ∙ members_shown ks
+    members_shown (EachIs.one_more {xs = trees} {ys = entries}
         (FunctionIs.of_resource {resource = other} {member = member} {id = number} {f = f} key found stands) ks) =
-        go (text_eq other name) refl (members_shown (right_of (is_bare_function member) (list_all is_bare_tree trees) bare) ks)
+        go (text_eq other name) refl (members_shown ks)
       where
         belongs : belongs_to id f ≡ text_eq other name
         belongs = ap (λ o. option_map_or (λ n. n == id.0) o false) (resource_is stands) ∙ known other number found
@@ -143,8 +111,7 @@ module _ (r : Resolve) (valid : IsValid r) (types : Text → Option TypeId) wher
 
             plain : plain_resource_member name (shown_resource_member r f) ≡ plain_resource_member name member
             plain = subst (λ n. plain_resource_member n (shown_resource_member r f) ≡ plain_resource_member n member) same
-                (member_shown r valid (subst (λ n. is_label n ≡ true) (sym same) label)
-                (still_bare other member ∙ left_of (is_bare_function member) _ bare) stands)
+                (member_shown r valid (subst (λ n. is_label n ≡ true) (sym same) label) stands)
         go false e rest = ap (λ fs. map (plain_resource_member name) (map (shown_resource_member r) fs))
             (filter_first (belongs_to id) f (map (λ e. e.1) entries) (belongs ∙ e))
             ∙ rest ∙ ap (λ b. map (plain_resource_member name) ((if b then member ∷ [] else []) ++ flat_map (functions_named name) trees)) (sym e)

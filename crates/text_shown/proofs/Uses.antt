@@ -57,7 +57,7 @@ plain_own other (Some own) = go (text_eq own other) refl
 -- what is shown of a use, in its plain form
 module _ (r : Resolve) (here : PackageHead) (own : TypeOwner) (home : Option PackageId) (prefix : Prefix) (path : PathTree)
     (used : UsedName) {id target : TypeId}
-    (at : NamedAt r.types.items own prefix (name_here used) (defined.Type_ (value.Id target)) id)
+    (at : NamedAt r.types.items own (record prefix { docs = [] }) (name_here used) (defined.Type_ (value.Id target)) id)
     (means : IsForeign r here own home path used.other target) where
   pub use_at : used_of r own (name_here used) at.def ≡ Some (one_use means.interface at.def (name_here used) used.other)
   use_at = foreign_use r own (name_here used) used.other at.def means.def target means.interface at.has means.there means.named means.owned means.apart

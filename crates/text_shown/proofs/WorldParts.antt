@@ -1,5 +1,5 @@
 -- What is shown of a world, taken apart. Serves Worlds.
-use Rattle.std.proofs.Common.{◌≡◌, refl, sym, ap, ◌∙◌, Bool, true, false, ◌&&◌, List, [], ◌∷◌, ◌++◌, map, filter_map, flat_map, Option, Some, None, String}
+use Rattle.std.proofs.Common.{◌≡◌, refl, sym, ap, ◌∙◌, Bool, true, false, List, [], ◌∷◌, ◌++◌, map, filter_map, flat_map, Option, Some, None, String}
 use Rattle.std.proofs.lemmas.{Grind.flat_map-append, List.Elements.filter_map-append, List.Folds.flat_map-map}
 use Rattle.std.specs.{Prelude.if◌then◌else◌, Prelude.is_some, List.cons_option, List.list_all, Option.option_map_or}
 use Rattle.std.specs.declared.alloc.Global.{Global}
@@ -7,19 +7,17 @@ use Rattle.wit_model.specs.declared.model.{Resolve.Resolve, PackageId.PackageId,
 use Rattle.wit_model.specs.declared.model.WorldKey.TheVariants as key
 use Rattle.wit_model.specs.declared.model.WorldItem.TheVariants as item
 use Rattle.wit_model.specs.{Text.Text, Text.text_of, Lookup.interface_at}
-use Rattle.wit_model.proofs.Functions.{all_flat}
 use Rattle.print_grammar.specs.Tree.{PathTree, PackageHead, MemberTree, MemberTree.UseMember, MemberTree.TypeMember, WorldMember}
 use Rattle.print_grammar.specs.Tree.ExternTree.{Path, NamedFunction, NamedPath, NamedInterface}
 use Rattle.print_grammar.specs.Tree.WorldMember.{WorldUse, WorldType, WorldImport, WorldExport}
 use Rattle.print_items.specs.Shown.{extern_prefix, is_interface_item, shown_export, shown_function, shown_import, shown_interface, shown_path}
 use Rattle.print_items.specs.Shown.{DeclaredWith, Used, WorldEntry}
-use Rattle.base_lemmas.proofs.{Bools.left_of, Bools.right_of, Elements.all_weaker, Lists.append_none}
-use Rattle.text_shown.specs.{Members.is_bare, Members.is_bare_member, Same.plain_members, SameWorlds.extern_function, SameWorlds.imported_function}
+use Rattle.base_lemmas.proofs.{Bools.left_of, Bools.right_of, Lists.append_none}
+use Rattle.text_shown.specs.{Same.plain_members, SameWorlds.extern_function, SameWorlds.imported_function}
 use Rattle.text_shown.specs.{ShowsWorlds.export_of, ShowsWorlds.import_of, ShowsWorlds.world_functions, ShowsWorlds.world_types}
-use Rattle.text_shown.specs.WorldMembers.{is_bare_world_member}
 use Rattle.text_shown.proofs.{Externs.shown_stated, Uses.member_of_use, WorldEntries.as_entry}
-use Rattle.text_shown.proofs.Parts.{bare_uses, declared_none, use_singles}
-use Rattle.text_shown.proofs.Resources.{bare_functions, free_member, functions_named, is_bare_tree, of_member, own_functions}
+use Rattle.text_shown.proofs.Parts.{declared_none, use_singles}
+use Rattle.text_shown.proofs.Resources.{free_member, functions_named, of_member, own_functions}
 
 -- ---- lists of five parts
 
@@ -64,29 +62,6 @@ pub stated_functions : (members : List WorldMember) → flat_map imported_functi
 stated_functions [] = refl
 stated_functions (m ∷ ms) = (λ i. stated_free m i ++ stated_functions ms i)
     ∙ sym (flat_map-append free_member (world_functions m) (flat_map world_functions ms))
-
-bare_type : (member : WorldMember) → is_bare_world_member member ≡ true → list_all is_bare_member (world_types member) ≡ true
-bare_type (WorldUse prefix path names) h = bare_uses prefix path names
-bare_type (WorldType prefix declared) h = ap (λ b. b && true) h
-bare_type (WorldImport prefix extern) h = refl
-bare_type (WorldExport prefix extern) h = refl
-
-pub bare_types : (members : List WorldMember) → list_all is_bare_world_member members ≡ true → list_all is_bare_member (flat_map world_types members) ≡ true
-bare_types members h = all_flat is_bare_member world_types members ∙ all_weaker is_bare_world_member
-    (λ m. list_all is_bare_member (world_types m)) bare_type members h
-
-bare_function : (member : WorldMember) → is_bare_world_member member ≡ true → list_all is_bare_tree (world_functions member) ≡ true
-bare_function (WorldUse prefix path names) h = refl
-bare_function (WorldType prefix declared) h = bare_functions declared (right_of (is_bare prefix.docs) _ h)
-bare_function (WorldImport prefix (NamedFunction name signature)) h = h
-bare_function (WorldImport prefix (Path path)) h = refl
-bare_function (WorldImport prefix (NamedPath name path)) h = refl
-bare_function (WorldImport prefix (NamedInterface name members)) h = refl
-bare_function (WorldExport prefix extern) h = refl
-
-pub bare_trees : (members : List WorldMember) → list_all is_bare_world_member members ≡ true → list_all is_bare_tree (flat_map world_functions members) ≡ true
-bare_trees members h = all_flat is_bare_tree world_functions members ∙ all_weaker is_bare_world_member
-    (λ m. list_all is_bare_tree (world_functions m)) bare_function members h
 
 module _ (name : Text) where
   resource_of_member : (member : WorldMember) → flat_map (functions_named name) (world_functions member) ≡ flat_map (own_functions name) (world_types member)

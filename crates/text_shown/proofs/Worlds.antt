@@ -1,8 +1,8 @@
 -- What is shown of a world is the members that it has. Serves laws.
-use Rattle.std.proofs.Common.{◌≡◌, refl, sym, ap, subst, ◌∙◌, ℕ, Bool, true, false, ◌&&◌, cond, List, [], ◌∷◌, ◌++◌, map, filter, filter_map, flat_map}
+use Rattle.std.proofs.Common.{◌≡◌, refl, sym, ap, subst, ◌∙◌, ℕ, Bool, true, false, cond, List, [], ◌∷◌, ◌++◌, map, filter, filter_map, flat_map}
 use Rattle.std.proofs.Common.{Some, None, String, inl, inr}
 use Rattle.std.proofs.lemmas.Option.{same_Some}
-use Rattle.std.specs.{Prelude.Contains, List.IsDistinct, List.list_all, Map.keys_of, Option.option_map_or}
+use Rattle.std.specs.{List.IsDistinct, List.list_all, Map.keys_of, Option.option_map_or}
 use Rattle.std.specs.declared.alloc.Global.{Global}
 use Rattle.wit_model.specs.declared.model.{Resolve.Resolve, Package.Package, PackageId.PackageId, TypeId.TypeId, TypeOwner.TypeOwner, InterfaceId.InterfaceId}
 use Rattle.wit_model.specs.declared.model.{World.World, WorldId.WorldId, WorldItem.WorldItem as Item, Function.Function}
@@ -15,39 +15,20 @@ use Rattle.print_grammar.specs.Tree.WorldMember.{WorldUse, WorldType, WorldImpor
 use Rattle.print_items.specs.Shown.{is_freestanding_item, is_interface_item, shown_declarations, shown_export, shown_function, shown_head, shown_import}
 use Rattle.print_items.specs.Shown.{shown_path, shown_uses, shown_world, shown_world_in, type_of_entry, DeclaredWith, Used, WorldEntry}
 use Rattle.text_types.proofs.MadeLaws.{order_weaker, type_carried}
-use Rattle.base_lemmas.proofs.{Elements.all_get, Elements.all_pass, Elements.contains-map, Elements.filter_map_from, Elements.map_from, Lists.append_none}
-use Rattle.text_shown.specs.{Means.TargetIs, Means.PathIs, Members.is_bare, Members.IsForeign, Same.plain_members, Same.Shuffled}
+use Rattle.base_lemmas.proofs.{Elements.all_pass, Elements.contains-map, Elements.filter_map_from, Elements.map_from, Lists.append_none}
+use Rattle.text_shown.specs.{Means.TargetIs, Means.PathIs, Members.IsForeign, Same.plain_members, Same.Shuffled}
 use Rattle.text_shown.specs.ShowsWorlds.{export_of, import_of, world_functions, world_types, ExternIs, IsBare, IsFrontOf, IsInline, IsOneOf, Stated, StatedIs}
 use Rattle.text_shown.specs.SameWorlds.{imported_function, AreSame, IsBareImport, SameStated, SameWorlds}
-use Rattle.text_shown.specs.WorldMembers.{is_bare_extern, is_bare_world_member, HasWorldMembers, ShowsWorldMembers}
-use Rattle.text_shown.proofs.{Declared.docs_shown, Externs.extern_same, Externs.shown_stated, Targets.used_is_foreign}
+use Rattle.text_shown.specs.WorldMembers.{HasWorldMembers, ShowsWorldMembers}
+use Rattle.text_shown.proofs.{Declared.none_shown, Externs.extern_same, Externs.shown_stated, Targets.used_is_foreign}
 use Rattle.text_shown.proofs.Owners.{Owns, functions_shown, types_shown}
 use Rattle.text_shown.proofs.Parts.{plain_declarations, plain_uses}
 use Rattle.text_shown.proofs.WorldEntries.{as_entry, entries_of, listed_entry, listed_free, listed_functions, listed_interfaces, listed_types}
 use Rattle.text_shown.proofs.WorldEntries.{types_apart as names_apart}
-use Rattle.text_shown.proofs.WorldParts.{all_members, bare_trees, bare_types, exports_apart, functions_apart, imports_apart, resource_of_members}
+use Rattle.text_shown.proofs.WorldParts.{all_members, exports_apart, functions_apart, imports_apart, resource_of_members}
 use Rattle.text_shown.proofs.WorldParts.{stated_functions, types_apart}
 
--- ---- imports and exports without documentation
-
-import_bare : (member : WorldMember) (one : Stated) → is_bare_world_member member ≡ true → import_of member ≡ Some one
-    → (is_bare one.prefix.docs && is_bare_extern one.extern) ≡ true
-import_bare (WorldUse prefix path names) one h e = absurd cc
-import_bare (WorldType prefix declared) one h e = absurd cc
-import_bare (WorldImport prefix (NamedFunction name signature)) one h e = absurd cc
-import_bare (WorldImport prefix (Path path)) one h e = subst (λ (s : Stated). (is_bare s.prefix.docs && is_bare_extern s.extern) ≡ true) (same_Some _ one e) h
-import_bare (WorldImport prefix (NamedPath name path)) one h e = subst (λ (s : Stated). (is_bare s.prefix.docs && is_bare_extern s.extern) ≡ true)
-    (same_Some _ one e) h
-import_bare (WorldImport prefix (NamedInterface name members)) one h e =
-    subst (λ (s : Stated). (is_bare s.prefix.docs && is_bare_extern s.extern) ≡ true) (same_Some _ one e) h
-import_bare (WorldExport prefix extern) one h e = absurd cc
-
-export_bare : (member : WorldMember) (one : Stated) → is_bare_world_member member ≡ true → export_of member ≡ Some one
-    → (is_bare one.prefix.docs && is_bare_extern one.extern) ≡ true
-export_bare (WorldUse prefix path names) one h e = absurd cc
-export_bare (WorldType prefix declared) one h e = absurd cc
-export_bare (WorldImport prefix extern) one h e = absurd cc
-export_bare (WorldExport prefix extern) one h e = subst (λ (s : Stated). (is_bare s.prefix.docs && is_bare_extern s.extern) ≡ true) (same_Some _ one e) h
+-- ---- imports and exports
 
 -- whether it is no function
 abbrev no_function : ExternTree → Bool
@@ -113,24 +94,13 @@ module _ (r : Resolve) (valid : IsValid r) (home : PackageId) (p : Package) (at 
   are_interfaces = all_pass (λ e. is_interface_item e.1) h.imports.interfaces
       (λ entry has. elim (h.imports.has_interfaces.only entry has) [ inl k ↦ item_of entry k | inr k ↦ bare_item entry k ])
 
-  stated_import : (one : Stated) → Contains (filter_map import_of members) one → (is_bare one.prefix.docs && is_bare_extern one.extern) ≡ true
-  stated_import one has =
-      let from = filter_map_from import_of members one has in
-      import_bare from.1 one (all_get is_bare_world_member members from.0 from.1 h.bare from.2) from.3
-
-  stated_export : (one : Stated) → Contains (filter_map export_of members) one → (is_bare one.prefix.docs && is_bare_extern one.extern) ≡ true
-  stated_export one has =
-      let from = filter_map_from export_of members one has in
-      export_bare from.1 one (all_get is_bare_world_member members from.0 from.1 h.bare from.2) from.3
-
-  same_stated : (one : Stated) (entry : WorldEntry) → (is_bare one.prefix.docs && is_bare_extern one.extern) ≡ true → StatedIs r home.0 one entry
-      → SameStated here (shown_stated r home entry) one
-  same_stated one entry bare k = extern_same r valid home p at h.no_docs one entry bare k
+  same_stated : (one : Stated) (entry : WorldEntry) → StatedIs r home.0 one entry → SameStated here (shown_stated r home entry) one
+  same_stated one entry k = extern_same r valid home p at one entry k
 
   bare_import : (entry : WorldEntry) → IsBare entry → IsBareImport (shown_stated r home entry)
   bare_import entry (IsBare.bare id {docs = docs} none) =
       subst (λ ls. IsBareImport (record { prefix = record { docs = ls; gates = Ungated; external_id = None }; extern = Path (shown_path r home id) }))
-      (sym (docs_shown docs [] none refl))
+      (sym (none_shown docs none))
       (IsBareImport.bare_import (shown_path r home id))
 
   imports_same : AreSame here IsBareImport (map (shown_stated r home) h.imports.interfaces) (filter_map import_of members)
@@ -140,7 +110,7 @@ module _ (r : Resolve) (valid : IsValid r) (home : PackageId) (p : Package) (at 
           one = shown_stated r home k.entry;
           there = contains-map (shown_stated r home) h.imports.interfaces k.entry k.there;
           same =
-              same_stated one k.entry (stated_import one has) k.is;
+              same_stated one k.entry k.is;
         };
     shown_stated = λ one has. let from = map_from (shown_stated r home) h.imports.interfaces one has in
         elim (h.imports.has_interfaces.only from.0 from.1) [
@@ -148,7 +118,7 @@ module _ (r : Resolve) (valid : IsValid r) (home : PackageId) (p : Package) (at 
             one = k.one;
             there = k.stated;
             same =
-                subst (λ s. SameStated here s k.one) from.2 (same_stated k.one from.0 (stated_import k.one k.stated) k.is);
+                subst (λ s. SameStated here s k.one) from.2 (same_stated k.one from.0 k.is);
           })
           | inr k ↦ inr (subst IsBareImport from.2 (bare_import from.0 k))
         ];
@@ -161,7 +131,7 @@ module _ (r : Resolve) (valid : IsValid r) (home : PackageId) (p : Package) (at 
           one = shown_stated r home k.entry;
           there = contains-map (shown_stated r home) w.exports.entries k.entry k.there;
           same =
-              same_stated one k.entry (stated_export one has) k.is;
+              same_stated one k.entry k.is;
         };
     shown_stated = λ one has. let from = map_from (shown_stated r home) w.exports.entries one has in
         let k = h.exports.only from.0 from.1 in
@@ -169,7 +139,7 @@ module _ (r : Resolve) (valid : IsValid r) (home : PackageId) (p : Package) (at 
           one = k.one;
           there = k.stated;
           same = subst (λ s. SameStated here s k.one) from.2
-              (same_stated k.one from.0 (stated_export k.one k.stated) k.is);
+              (same_stated k.one from.0 k.is);
         });
   }
 
@@ -190,8 +160,6 @@ module _ (r : Resolve) (valid : IsValid r) (home : PackageId) (p : Package) (at 
     has_functions = (entries_of h.imports.has_functions).each;
     distinct = names_apart h.imports.interfaces h.imports.types h.imports.functions h.imports.types_are
         (subst (λ es. IsDistinct key_eq (keys_of es)) h.imports.are (valid.distinct_keys.worlds id.0 w h.there).0);
-    bare_types = bare_types members h.bare;
-    bare_functions = bare_trees members h.bare;
     resources = λ name. resource_of_members name members;
   }
 

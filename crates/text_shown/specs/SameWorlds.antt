@@ -20,10 +20,18 @@ pub data SameExtern (here : PackageHead) : ExternTree → ExternTree → Type 0 
   same_named_path : {name : Text} {a b : PathTree} → plain_path here a ≡ plain_path here b → SameExtern here (NamedPath name a) (NamedPath name b)
   same_inline : {name : Text} {xs ys : List MemberTree} → SameMembers here xs ys → SameExtern here (NamedInterface name xs) (NamedInterface name ys)
 
--- They are, with what stands in front of them.
-pub record SameStated (here : PackageHead) (a b : Stated) : Type 0 where
-  pub prefix : a.prefix ≡ b.prefix
-  pub extern : SameExtern here a.extern b.extern
+-- The documentation that is shown in front of an import or an export is what is stated. But where none is stated in front of an interface by its path under
+-- a label, that of the interface is shown, and left open here.
+pub data SameDocs : ExternTree → List Text → List Text → Type 0 where
+  as_stated : {extern : ExternTree} {lines : List Text} → SameDocs extern lines lines
+  of_interface : {name : Text} {path : PathTree} {lines : List Text} → SameDocs (NamedPath name path) lines []
+
+-- What is shown is the same as what is stated, with what stands in front of both.
+pub record SameStated (here : PackageHead) (shown stated : Stated) : Type 0 where
+  pub docs : SameDocs stated.extern shown.prefix.docs stated.prefix.docs
+  pub gates : shown.prefix.gates ≡ stated.prefix.gates
+  pub external_id : shown.prefix.external_id ≡ stated.prefix.external_id
+  pub extern : SameExtern here shown.extern stated.extern
 
 -- One of these is the same.
 pub record IsAmong (Same : Stated → Type 0) (all : List Stated) : Type 0 where

@@ -8,7 +8,7 @@ use Rattle.wit_model.specs.declared.model.{Resolve.Resolve, Package.Package, Int
 use Rattle.wit_model.specs.declared.model.{PackageId.PackageId}
 use Rattle.wit_model.specs.declared.model.TypeOwner.TheVariants as owner
 use Rattle.print_grammar.specs.Tree.{Gates, MemberTree, ItemTree, ItemTree.InterfaceItem, ItemTree.WorldItem, PackageHead, PackageTree, FileTree}
-use Rattle.print_items.specs.Shown.{shown_gates, shown_head}
+use Rattle.print_items.specs.Shown.{shown_docs, shown_gates, shown_head}
 use Rattle.text_names.specs.Contents.{AreFirsts}
 use Rattle.text_types.specs.{Each.EachIs, Made.MembersAre}
 use Rattle.text_shown.specs.Means.{IsUsed}
@@ -20,6 +20,10 @@ use Rattle.text_shown.specs.ShowsWorlds.{ShowsWorld, WorldTree}
 abbrev pub packages_of : List FileTree → List PackageTree
 packages_of files = flat_map (λ f. f.main ∷ f.nested) files
 
+-- what names a package: its documentation isn't kept
+abbrev pub bare_head : PackageHead → PackageHead
+bare_head head = record head { docs = [] }
+
 -- whether two packages have the same name
 abbrev pub same_head : PackageHead → PackageHead → Bool
 same_head a b = text_eq a.namespace b.namespace && text_eq a.name b.name && option_eq text_eq a.version b.version
@@ -28,25 +32,26 @@ same_head a b = text_eq a.namespace b.namespace && text_eq a.name b.name && opti
 abbrev pub items_of : List FileTree → PackageHead → List ItemTree
 items_of files head = flat_map (λ p. if same_head p.head head then p.items else []) (packages_of files)
 
--- an interface: its gates, its name, and what it has
+-- an interface: its documentation, its gates, its name, and what it has
 pub record InterfaceTree : Type 0 where
+  pub docs : List Text
   pub gates : Gates
   pub name : Text
   pub members : List MemberTree
 
 -- the interface that an item is
 abbrev pub interface_of : ItemTree → Option InterfaceTree
-interface_of (InterfaceItem docs gates name members) = Some (record { gates = gates; name = name; members = members })
+interface_of (InterfaceItem docs gates name members) = Some (record { docs = docs; gates = gates; name = name; members = members })
 interface_of (WorldItem docs gates name members) = None
 
 -- the world that an item is
 abbrev pub world_of : ItemTree → Option WorldTree
 world_of (InterfaceItem docs gates name members) = None
-world_of (WorldItem docs gates name members) = Some (record { gates = gates; name = name; members = members })
+world_of (WorldItem docs gates name members) = Some (record { docs = docs; gates = gates; name = name; members = members })
 
 -- ---- interfaces
 
--- The entry is an interface of the package of this number, as the tree has it, without documentation.
+-- The entry is an interface of the package of this number, as the tree has it.
 pub record ShowsInterface (r : Resolve) (here : ℕ) (tree : InterfaceTree) (entry : String Global × InterfaceId) : Type 0 where
   pub interface : Interface
   pub listed : text_of entry.0 ≡ tree.name
@@ -54,7 +59,7 @@ pub record ShowsInterface (r : Resolve) (here : ℕ) (tree : InterfaceTree) (ent
   pub named : option_map text_of interface.name ≡ Some tree.name
   pub home : interface.«package» ≡ Some (record { 0 = here })
   pub gates : shown_gates interface.stability ≡ tree.gates
-  pub docs : interface.docs.contents ≡ None
+  pub docs : shown_docs interface.docs ≡ tree.docs
   pub members : MembersAre r.types.items (IsUsed r here (owner.Interface entry.1)) (owner.Interface entry.1) tree.members interface.types interface.functions
 
 -- ---- packages
@@ -64,8 +69,8 @@ pub record ShowsPackage (r : Resolve) (files : List FileTree) (n : ℕ) (p : Pac
   pub interfaces : EachIs (ShowsInterface r n) (filter_map interface_of (items_of files (shown_head p))) p.interfaces.entries
   pub worlds : EachIs (ShowsWorld r n) (filter_map world_of (items_of files (shown_head p))) p.worlds.entries
 
--- The packages are those of the texts, each once, and with each text goes the one that it begins with.
+-- The packages are those of the texts, each once and without its documentation, and with each text goes the one that it begins with.
 pub record ShowsFiles (files : List FileTree) (r : Resolve) (mains : List PackageId) : Type 0 where
-  pub packages : AreFirsts (map (λ p. p.head) (packages_of files)) (map shown_head r.packages.items)
-  pub mains_are : EachIs (λ file id. slice_get (map shown_head r.packages.items) id.0 ≡ Some file.main.head) files mains
+  pub packages : AreFirsts (map (λ p. bare_head p.head) (packages_of files)) (map shown_head r.packages.items)
+  pub mains_are : EachIs (λ file id. slice_get (map shown_head r.packages.items) id.0 ≡ Some (bare_head file.main.head)) files mains
   pub each : (n : ℕ) (p : Package) → slice_get r.packages.items n ≡ Some p → ShowsPackage r files n p

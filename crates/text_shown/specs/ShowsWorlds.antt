@@ -12,13 +12,14 @@ use Rattle.wit_model.specs.declared.model.Stability.TheVariants as stability
 use Rattle.print_grammar.specs.Tree.{PathTree, Gates, Prefix, SignatureTree, MemberTree, MemberTree.UseMember, MemberTree.TypeMember, ExternTree, WorldMember}
 use Rattle.print_grammar.specs.Tree.{ExternTree.Path, ExternTree.NamedFunction, ExternTree.NamedPath, ExternTree.NamedInterface}
 use Rattle.print_grammar.specs.Tree.WorldMember.{WorldUse, WorldType, WorldImport, WorldExport}
-use Rattle.print_items.specs.Shown.{shown_gates, shown_external_id, WorldEntry}
+use Rattle.print_items.specs.Shown.{shown_docs, shown_gates, shown_external_id, WorldEntry}
 use Rattle.text_types.specs.{Each.EachIs, Functions.FreeStands, Plain.plain_signature}
 use Rattle.text_types.specs.Made.{functions_of_declared, types_of, FunctionIs, FunctionTree, InSomeOrder, MembersAre, NameMap, TypeIs}
 use Rattle.text_shown.specs.{Means.PathIs, Means.TargetIs}
 
--- a world: its gates, its name, and what it states
+-- a world: its documentation, its gates, its name, and what it states
 pub record WorldTree : Type 0 where
+  pub docs : List Text
   pub gates : Gates
   pub name : Text
   pub members : List WorldMember
@@ -70,10 +71,10 @@ export_of (WorldType prefix declared) = None
 
 -- ---- what is made of them
 
--- The item is this interface, with what stands in front of it, and without documentation.
+-- The item is this interface, with what stands in front of it.
 abbrev pub IsFrontOf : Prefix → InterfaceId → WorldItem → Type 0
 IsFrontOf prefix id (item.Interface own gates docs external_id) =
-    (own ≡ id) × (shown_gates gates ≡ prefix.gates) × (docs.contents ≡ None) × (shown_external_id external_id ≡ prefix.external_id)
+    (own ≡ id) × (shown_gates gates ≡ prefix.gates) × (shown_docs docs ≡ prefix.docs) × (shown_external_id external_id ≡ prefix.external_id)
 IsFrontOf prefix id (item.Function f) = ⊥
 IsFrontOf prefix id (item.Type_ other) = ⊥
 
@@ -140,7 +141,7 @@ pub record ImportsAre (defs : List TypeDef) (Target : PathTree → Text → Type
 
 -- ---- worlds of a `Resolve`
 
--- The interface of this number stands in a world of the package of this number: it has no name of its own, and what the members say.
+-- The interface of this number stands in a world of the package of this number: it has no name and no documentation of its own, and what the members say.
 pub record IsInline (r : Resolve) (here : ℕ) (members : List MemberTree) (id : InterfaceId) : Type 0 where
   pub interface : Interface
   pub there : slice_get r.interfaces.items id.0 ≡ Some interface
@@ -154,7 +155,7 @@ pub record IsInline (r : Resolve) (here : ℕ) (members : List MemberTree) (id :
 abbrev pub StatedIs : Resolve → ℕ → Stated → WorldEntry → Type 0
 StatedIs r here stated entry = ExternIs r.types.items (PathIs r here) (IsInline r here) stated.prefix stated.extern entry
 
--- The entry is a world of the package of this number, as the tree has it, without documentation.
+-- The entry is a world of the package of this number, as the tree has it.
 pub record ShowsWorld (r : Resolve) (here : ℕ) (tree : WorldTree) (entry : String Global × WorldId) : Type 0 where
   pub world : World
   pub listed : text_of entry.0 ≡ tree.name
@@ -162,6 +163,6 @@ pub record ShowsWorld (r : Resolve) (here : ℕ) (tree : WorldTree) (entry : Str
   pub named : text_of world.name ≡ tree.name
   pub home : world.«package» ≡ Some (record { 0 = here })
   pub gates : shown_gates world.stability ≡ tree.gates
-  pub docs : world.docs.contents ≡ None
+  pub docs : shown_docs world.docs ≡ tree.docs
   pub imports : ImportsAre r.types.items (TargetIs r here) (StatedIs r here) (owner.World entry.1) tree.members world.imports.entries
   pub exports : ExportsAre (StatedIs r here) (filter_map export_of tree.members) world.exports.entries

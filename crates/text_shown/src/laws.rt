@@ -14,7 +14,7 @@ pub fn worlds_are_shown()
     ensures { ShowsWorldMembers }
 {}
 
-/// Where a valid `Resolve` shows what texts are read as, what is printed of each of its packages is what the texts declare under its name.
+/// Where a valid `Resolve` shows what texts declare, what is printed of each of its packages is what they declare under its name.
 pub fn packages_are_shown()
     ensures { ShowsPackages }
 {}

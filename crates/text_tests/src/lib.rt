@@ -2,6 +2,8 @@
 #![tactic(auto)]
 
 #[cfg(test)]
+mod documented;
+#[cfg(test)]
 mod refused;
 #[cfg(test)]
 mod refused_trees;

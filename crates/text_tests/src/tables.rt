@@ -1,7 +1,7 @@
 //! Texts and what they are, by hand.
 
 /// Texts and their tokens: where each starts and ends, and what it is.
-pub static CASES: [(&str, &str); 33] = [
+pub static CASES: [(&str, &str); 43] = [
     // ---- blanks and comments
     ("", ""),
     (" \t\r\n", ""),
@@ -11,6 +11,17 @@ pub static CASES: [(&str, &str); 33] = [
     ("a//b\nc", "0-1:Word 5-6:Word"),
     ("a/b///b", "0-1:Word 1-2:Punctuation(Slash) 2-3:Word"),
     ("/ /", "0-1:Punctuation(Slash) 2-3:Punctuation(Slash)"),
+    // ---- comments in `/* */`, with others within
+    ("/**/", ""),
+    ("/* a */b", "7-8:Word"),
+    ("a/*b*/c", "0-1:Word 6-7:Word"),
+    ("/* /* */ */ x", "12-13:Word"),
+    ("/*/*/**/*/*/x", "12-13:Word"),
+    ("/*/ */x", "6-7:Word"),
+    ("/***/x", "5-6:Word"),
+    ("/* // */ x", "9-10:Word"),
+    ("// /*\nx", "6-7:Word"),
+    ("/*\u{e9}\n*/x", "7-8:Word"),
     // ---- marks
     (
         "{}()<>:;,.=/@->_",
@@ -108,8 +119,40 @@ pub static CASES: [(&str, &str); 33] = [
     ),
 ];
 
+/// Gaps between tokens, and the documentation in each.
+pub static DOCUMENTED: [(&str, Option<&str>); 26] = [
+    ("", None),
+    (" \n\t", None),
+    // ---- comments in `//`
+    ("// a\n", None),
+    ("/// a\n", Some("a")),
+    ("///a", Some("a")),
+    ("///  a \n", Some(" a ")),
+    ("//// a\n", None),
+    ("///\n", Some("\n")),
+    ("/// a\n///\n", Some("a\n\n")),
+    ("///\n/// a\n", Some("\na")),
+    ("/// a\r\n  /// b\r\r\n", Some("a\nb")),
+    ("/// \u{e9}\n", Some("\u{e9}")),
+    ("/// a\n// b\n/* c */\n/// d\n", Some("a\nd")),
+    // ---- comments in `/* */`
+    ("/* a */", None),
+    ("/** a */", Some("a")),
+    ("/*** a */", None),
+    ("/**/", None),
+    ("/** */", None),
+    ("/** * */", Some("*")),
+    ("/**\n  a\r\n  b\n*/", Some("a\n  b")),
+    ("/**a*/ /**b*/", Some("a\nb")),
+    ("/** a /* b */ c */", Some("a /* b */ c")),
+    ("/*\n/// a\n*/ /// b", Some("b")),
+    ("/// a /* b\n/** c\n\n d */// e\n", Some("a /* b\nc\n\n d")),
+    ("/** \u{e9} */\u{e9}", Some("\u{e9}")),
+    ("/** a", None),
+];
+
 /// Texts, and the first byte of each at which no token begins.
-pub static REFUSED: [(&str, usize); 44] = [
+pub static REFUSED: [(&str, usize); 50] = [
     ("#", 0),
     ("a #", 2),
     ("\u{e9}", 0),
@@ -117,7 +160,13 @@ pub static REFUSED: [(&str, usize); 44] = [
     ("\u{a0}", 0),
     ("\u{feff}a", 0),
     ("\u{b}", 0),
-    ("/*", 1),
+    ("/*", 0),
+    ("/*/", 0),
+    ("a /* b", 2),
+    ("/* /* */", 0),
+    ("/* a *\u{e9}/", 0),
+    ("*/", 0),
+    ("/* */ /* */ */", 12),
     ("// a\n*", 5),
     ("+", 0),
     ("-", 0),

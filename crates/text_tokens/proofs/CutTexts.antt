@@ -1,12 +1,12 @@
 -- The tokens up to a place are those of the text that is cut there.
-use Rattle.std.proofs.Common.{◌≡◌, refl, sym, ap, ◌∙◌, ℕ, zero, suc, ◌+◌, ◌-◌, ◌<◌, ◌≤◌, Bool, true, false, ◌==◌, if◌then◌else◌, List, [], ◌∷◌, length, Option, Some, None, take, drop, arith, length-drop}
-use Rattle.std.proofs.lemmas.List.{drop_all, drop-take, length-take, take_all, take-take}
+use Rattle.std.proofs.Common.{◌≡◌, refl, sym, ap, ◌∙◌, subst, ℕ, zero, suc, ◌+◌, ◌-◌, ◌<◌, ◌≤◌, Bool, true, false, ◌==◌, if◌then◌else◌, List, [], ◌∷◌, length, Option, Some, None, take, drop, slice_range, arith, length-drop}
+use Rattle.std.proofs.lemmas.List.{drop-take, length-take, take_all, take-take}
 use Rattle.std.proofs.lemmas.{Bool.Decides.nat_tests}
 use Rattle.base_lemmas.proofs.Bools.{no-and, right_of}
 use Rattle.print_grammar.specs.Token as grammar
 use Rattle.print_grammar.specs.Token.Front.{Skipped, Found, Unknown}
-use Rattle.print_grammar.specs.Token.{Front, Taken, Tokens, after_comment, begins_comment, found, front_of_text, is_blank, longest, spelled}
-use Rattle.print_grammar.specs.Token.Tokens.{no_tokens, skip, token}
+use Rattle.print_grammar.specs.Token.{after_comment, begins_comment, found, is_blank, longest, spelled}
+use Rattle.text_tokens.specs.Comments.{after_block, begins_block, behind_one, front_in_text, skipped}
 use Rattle.text_tokens.specs.declared.state.State.{State}
 use Rattle.text_tokens.specs.declared.state.State.TheVariants.{Start}
 use Rattle.text_tokens.specs.declared.token.Token.{Token}
@@ -14,8 +14,10 @@ use Rattle.text_tokens.specs.Places.Placed.{none_placed, skip_placed, one_placed
 use Rattle.text_tokens.specs.Places.{HasNoTokenAt, Placed}
 use Rattle.text_tokens.specs.States.{is_dead, is_ok, reach, step, taken}
 use Rattle.text_tokens.specs.Steps.{IsUnknown}
+use Rattle.text_tokens.proofs.CommentFacts.{block_all, block_more, block_on, block_short, block_whole, closes, opens}
+use Rattle.text_tokens.proofs.Fronts.{front_is, never_found, never_skipped, same_bytes, skipped_some}
 use Rattle.text_tokens.proofs.EndFacts.{reach_some, reach_within}
-use Rattle.text_tokens.proofs.PlaceFacts.{SoFar, longest-some, no_others, token_of}
+use Rattle.text_tokens.proofs.PlaceFacts.{SoFar, longest-some, no_others, placed_follows, token_of}
 use Rattle.base_lemmas.proofs.{Bools.no-and}
 use Rattle.text_tokens.proofs.TokenScans.{dead_not_ok, longest_scan}
 
@@ -79,7 +81,7 @@ reach_cut (c ∷ cs) s (suc k) n e w = reach-onward s c (take k cs) ∙ go (is_d
 
 -- ---- what stands at the front of less text
 
-after_shorter : (cs : List ℕ) → length (after_comment cs) ≤ length cs
+pub after_shorter : (cs : List ℕ) → length (after_comment cs) ≤ length cs
 after_shorter [] = omega arith
 after_shorter (c ∷ cs) = go (c == 10) (after_shorter cs)
   where
@@ -104,40 +106,80 @@ after_cut (c ∷ cs) k j e w = go (c == 10) refl k w e (after_shorter cs) (after
         let z : i - (j - 1) ≡ suc i - j = omega arith in
         ap (λ b. if b then c ∷ take i cs else after_comment (take i cs)) f ∙ (h i (j - 1) (omega arith) (omega arith) ∙ ap (λ n. take n (after_comment cs)) z)
 
--- What stands at the front of a text that begins with a byte, by its tests.
-abbrev front_by : Bool → Bool → List ℕ → List ℕ → Front
-front_by true b cs text = Skipped cs
-front_by false true cs text = Skipped (after_comment cs)
-front_by false false cs text = found (longest [] text)
+-- what follows a comment in `/* */` is shorter by its end at least
+pub block_shorter : (cs : List ℕ) (inner : ℕ) (rest : List ℕ) → after_block inner cs ≡ Some rest → length rest + 2 ≤ length cs
+block_shorter [] inner rest e = absurd (cc (e, block_short inner [] (omega arith)))
+block_shorter (c ∷ []) inner rest e = absurd (cc (e, block_short inner (c ∷ []) (omega arith)))
+block_shorter (c ∷ d ∷ cs) inner rest e = go (closes c d) refl (opens c d) refl inner e (block_shorter cs) (block_shorter (d ∷ cs))
+  where
+    whole : Some cs ≡ Some rest → length rest + 2 ≤ length (c ∷ d ∷ cs)
+    whole e = let x : cs ≡ rest = cc in let l = ap length x in omega arith
 
-front_is : (c : ℕ) (cs : List ℕ) (a b : Bool) → is_blank c ≡ a → begins_comment (c ∷ cs) ≡ b → front_of_text (c ∷ cs) ≡ front_by a b cs (c ∷ cs)
-front_is c cs true b e f = rw (e, front_of_text) refl
-front_is c cs false true e f = rw (e, f, front_of_text) refl
-front_is c cs false false e f = rw (e, f, front_of_text) refl
+    go : (a : Bool) → closes c d ≡ a → (b : Bool) → opens c d ≡ b → (inner : ℕ) → after_block inner (c ∷ d ∷ cs) ≡ Some rest
+        → ((n : ℕ) (r : List ℕ) → after_block n cs ≡ Some r → length r + 2 ≤ length cs)
+        → ((n : ℕ) (r : List ℕ) → after_block n (d ∷ cs) ≡ Some r → length r + 2 ≤ length (d ∷ cs)) → length rest + 2 ≤ length (c ∷ d ∷ cs)
+    go true f b g zero e h k = whole (sym (block_whole c d cs f) ∙ e)
+    go true f b g (suc n) e h k = let l = h n rest (sym (block_all n c d cs f) ∙ e) in omega arith
+    go false f true g n e h k = let l = h (suc n) rest (sym (block_more n c d cs f g) ∙ e) in omega arith
+    go false f false g n e h k = let l = k n rest (sym (block_on n c d cs f g) ∙ e) in omega arith
 
-never_skipped : (o : Option Taken) (rest : List ℕ) → found o ≡ Skipped rest → ⊥
-never_skipped None rest e = cc
-never_skipped (Some t) rest e = cc
+-- A comment in `/* */` is closed in less text that has its end.
+abbrev BlockCuts : List ℕ → Type 0
+BlockCuts cs = (inner k j : ℕ) (rest : List ℕ) → after_block inner cs ≡ Some rest → j + length rest ≡ length cs → j ≤ k → after_block inner (take k cs) ≡ Some (take (k - j) rest)
 
-same_bytes : (cs rest : List ℕ) → Skipped cs ≡ Skipped rest → cs ≡ rest
-same_bytes cs rest e = cc
+block_cut : (cs : List ℕ) → BlockCuts cs
+block_cut [] inner k j rest e f w = absurd (cc (e, block_short inner [] (omega arith)))
+block_cut (c ∷ []) inner k j rest e f w = absurd (cc (e, block_short inner (c ∷ []) (omega arith)))
+block_cut (c ∷ d ∷ cs) inner k j rest e f w = at k w (block_cut cs) (block_cut (d ∷ cs))
+  where
+    behind : j ≡ 2 + (j - 2)
+    behind = let s = block_shorter (c ∷ d ∷ cs) inner rest e in omega arith
+
+    fewer : (i : ℕ) → i - (j - 2) ≡ suc (suc i) - j
+    fewer i = let b = behind in omega arith
+
+    same : (m n : ℕ) → m ≡ n → Some (take m rest) ≡ Some (take n rest)
+    same m n h = ap (λ x. Some (take x rest)) h
+
+    whole : (i : ℕ) → Some cs ≡ Some rest → Some (take i cs) ≡ Some (take (suc (suc i) - j) rest)
+    whole i h = let x : cs ≡ rest = cc in let l = ap length x in ap (λ y. Some (take i y)) x ∙ same i (suc (suc i) - j) (omega arith)
+
+    go : (a : Bool) → closes c d ≡ a → (b : Bool) → opens c d ≡ b → (n : ℕ) → after_block n (c ∷ d ∷ cs) ≡ Some rest → (i : ℕ) → j ≤ suc (suc i) → BlockCuts cs → BlockCuts (d ∷ cs)
+        → after_block n (c ∷ d ∷ take i cs) ≡ Some (take (suc (suc i) - j) rest)
+    go true p b q zero e i v h g = block_whole c d (take i cs) p ∙ whole i (sym (block_whole c d cs p) ∙ e)
+    go true p b q (suc n) e i v h g =
+        let z = behind in
+        block_all n c d (take i cs) p ∙ (h n i (j - 2) rest (sym (block_all n c d cs p) ∙ e) (omega arith) (omega arith) ∙ same (i - (j - 2)) (suc (suc i) - j) (fewer i))
+    go false p true q n e i v h g =
+        let z = behind in
+        block_more n c d (take i cs) p q
+        ∙ (h (suc n) i (j - 2) rest (sym (block_more n c d cs p q) ∙ e) (omega arith) (omega arith) ∙ same (i - (j - 2)) (suc (suc i) - j) (fewer i))
+    go false p false q n e i v h g =
+        let z = behind in
+        block_on n c d (take i cs) p q
+        ∙ (g n (suc i) (j - 1) rest (sym (block_on n c d cs p q) ∙ e) (omega arith) (omega arith) ∙ same (suc i - (j - 1)) (suc (suc i) - j) (omega arith))
+
+    at : (k : ℕ) → j ≤ k → BlockCuts cs → BlockCuts (d ∷ cs) → after_block inner (take k (c ∷ d ∷ cs)) ≡ Some (take (k - j) rest)
+    at zero v h g = let z = behind in absurd (omega arith)
+    at (suc zero) v h g = let z = behind in absurd (omega arith)
+    at (suc (suc i)) v h g = go (closes c d) refl (opens c d) refl inner e i v h g
 
 slash_no_line_feed : (d : ℕ) → (d == 47) ≡ true → (d == 10) ≡ false
 slash_no_line_feed d h = grind (arith, nat_tests)
 
-cut_skip : (x : List ℕ) (k j : ℕ) (rest : List ℕ) → front_of_text x ≡ Skipped rest → j + length rest ≡ length x → j ≤ k → front_of_text (take k x) ≡ Skipped (take (k - j) rest)
+cut_skip : (x : List ℕ) (k j : ℕ) (rest : List ℕ) → front_in_text x ≡ Skipped rest → j + length rest ≡ length x → j ≤ k → front_in_text (take k x) ≡ Skipped (take (k - j) rest)
 cut_skip [] k j rest e f w = absurd cc
-cut_skip (c ∷ cs) k j rest e f w = go (is_blank c) refl (begins_comment (c ∷ cs)) refl
+cut_skip (c ∷ cs) k j rest e f w = go (is_blank c) refl (begins_comment (c ∷ cs)) refl (begins_block (c ∷ cs)) refl
   where
-    blank : (i : ℕ) → is_blank c ≡ true → cs ≡ rest → j ≤ i → front_of_text (take i (c ∷ cs)) ≡ Skipped (take (i - j) rest)
+    blank : (i : ℕ) → is_blank c ≡ true → cs ≡ rest → j ≤ i → front_in_text (take i (c ∷ cs)) ≡ Skipped (take (i - j) rest)
     blank zero h p v = let l = ap length p in absurd (omega arith)
     blank (suc i) h p v =
         let l = ap length p in
         let z : i ≡ suc i - j = omega arith in
-        front_is c (take i cs) true (begins_comment (c ∷ take i cs)) h refl ∙ ap Skipped (ap (take i) p ∙ ap (λ n. take n rest) z)
+        front_is c (take i cs) true (begins_comment (c ∷ take i cs)) (begins_block (c ∷ take i cs)) h refl refl ∙ ap Skipped (ap (take i) p ∙ ap (λ n. take n rest) z)
 
     comment : (ds : List ℕ) (i : ℕ) → is_blank c ≡ false → begins_comment (c ∷ ds) ≡ true → after_comment ds ≡ rest → j + length rest ≡ length (c ∷ ds) → j ≤ i
-        → front_of_text (take i (c ∷ ds)) ≡ Skipped (take (i - j) rest)
+        → front_in_text (take i (c ∷ ds)) ≡ Skipped (take (i - j) rest)
     comment [] i h b p g v = absurd (cc (b, no-and (c == 47)))
     comment (d ∷ ds) i h b p g v = go_on i v
       where
@@ -147,36 +189,59 @@ cut_skip (c ∷ cs) k j rest e f w = go (is_blank c) refl (begins_comment (c ∷
         shorter : length rest ≤ length ds
         shorter = let l = ap length p in let m = ap (λ y. length (if y then d ∷ ds else after_comment ds)) (slash_no_line_feed d slash) in let n = after_shorter ds in omega arith
 
-        go_on : (i : ℕ) → j ≤ i → front_of_text (take i (c ∷ d ∷ ds)) ≡ Skipped (take (i - j) rest)
+        go_on : (i : ℕ) → j ≤ i → front_in_text (take i (c ∷ d ∷ ds)) ≡ Skipped (take (i - j) rest)
         go_on zero v = let s = shorter in absurd (omega arith)
         go_on (suc zero) v = let s = shorter in absurd (omega arith)
         go_on (suc (suc i)) v =
             let s = shorter in
             let l = ap length p in
             let z : suc i - (j - 1) ≡ suc (suc i) - j = omega arith in
-            front_is c (d ∷ take i ds) false true h b
+            front_is c (d ∷ take i ds) false true (begins_block (c ∷ d ∷ take i ds)) h b refl
             ∙ ap Skipped (after_cut (d ∷ ds) (suc i) (j - 1) (omega arith) (omega arith) ∙ (ap (take (suc i - (j - 1))) p ∙ ap (λ n. take n rest) z))
 
-    go : (a : Bool) → is_blank c ≡ a → (b : Bool) → begins_comment (c ∷ cs) ≡ b → front_of_text (take k (c ∷ cs)) ≡ Skipped (take (k - j) rest)
-    go true g b h = blank k g (same_bytes cs rest (sym (front_is c cs true b g h) ∙ e)) w
-    go false g true h = comment cs k g h (same_bytes (after_comment cs) rest (sym (front_is c cs false true g h) ∙ e)) f w
-    go false g false h = absurd (never_skipped (longest [] (c ∷ cs)) rest (sym (front_is c cs false false g h) ∙ e))
+    block : (ds : List ℕ) (i : ℕ) → is_blank c ≡ false → begins_comment (c ∷ ds) ≡ false → begins_block (c ∷ ds) ≡ true → after_block 0 (behind_one ds) ≡ Some rest
+        → j + length rest ≡ length (c ∷ ds) → j ≤ i → front_in_text (take i (c ∷ ds)) ≡ Skipped (take (i - j) rest)
+    block [] i h n b p g v = absurd (cc (b, no-and (c == 47)))
+    block (d ∷ ds) i h n b p g v = go_on i v
+      where
+        shorter : length rest + 2 ≤ length ds
+        shorter = block_shorter ds 0 rest p
+
+        go_on : (i : ℕ) → j ≤ i → front_in_text (take i (c ∷ d ∷ ds)) ≡ Skipped (take (i - j) rest)
+        go_on zero v = let s = shorter in absurd (omega arith)
+        go_on (suc zero) v = let s = shorter in absurd (omega arith)
+        go_on (suc (suc i)) v =
+            let s = shorter in
+            let z : i - (j - 2) ≡ suc (suc i) - j = omega arith in
+            front_is c (d ∷ take i ds) false false true h n b
+            ∙ (ap skipped (block_cut ds 0 i (j - 2) rest p (omega arith) (omega arith)) ∙ ap (λ n. Skipped (take n rest)) z)
+
+    go : (a : Bool) → is_blank c ≡ a → (b : Bool) → begins_comment (c ∷ cs) ≡ b → (d : Bool) → begins_block (c ∷ cs) ≡ d → front_in_text (take k (c ∷ cs)) ≡ Skipped (take (k - j) rest)
+    go true g b h d i = blank k g (same_bytes cs rest (sym (front_is c cs true b d g h i) ∙ e)) w
+    go false g true h d i = comment cs k g h (same_bytes (after_comment cs) rest (sym (front_is c cs false true d g h i) ∙ e)) f w
+    go false g false h true i = block cs k g h i (skipped_some (after_block 0 (behind_one cs)) rest (sym (front_is c cs false false true g h i) ∙ e)) f w
+    go false g false h false i = absurd (never_skipped (longest [] (c ∷ cs)) rest (sym (front_is c cs false false false g h i) ∙ e))
 
 no_comment_cut : (c : ℕ) (cs : List ℕ) (i : ℕ) → begins_comment (c ∷ cs) ≡ false → begins_comment (c ∷ take i cs) ≡ false
 no_comment_cut c cs zero h = no-and (c == 47)
 no_comment_cut c [] (suc i) h = h
 no_comment_cut c (d ∷ ds) (suc i) h = h
 
+no_block_cut : (c : ℕ) (cs : List ℕ) (i : ℕ) → begins_block (c ∷ cs) ≡ false → begins_block (c ∷ take i cs) ≡ false
+no_block_cut c cs zero h = no-and (c == 47)
+no_block_cut c [] (suc i) h = h
+no_block_cut c (d ∷ ds) (suc i) h = h
+
 same_found : (t u : grammar.Token) (xs ys : List ℕ) → Found t xs ≡ Found u ys → (t ≡ u) × (xs ≡ ys)
 same_found t u xs ys e = (cc, cc)
 
-cut_found : (x : List ℕ) (k j : ℕ) (t : grammar.Token) (rest : List ℕ) → front_of_text x ≡ Found t rest → j + length rest ≡ length x → j ≤ k → front_of_text (take k x) ≡ Found t (take (k - j) rest)
+cut_found : (x : List ℕ) (k j : ℕ) (t : grammar.Token) (rest : List ℕ) → front_in_text x ≡ Found t rest → j + length rest ≡ length x → j ≤ k → front_in_text (take k x) ≡ Found t (take (k - j) rest)
 cut_found [] k j t rest e f w = absurd cc
-cut_found (c ∷ cs) k j t rest e f w = go (is_blank c) refl (begins_comment (c ∷ cs)) refl
+cut_found (c ∷ cs) k j t rest e f w = go (is_blank c) refl (begins_comment (c ∷ cs)) refl (begins_block (c ∷ cs)) refl
   where
-    at : (i n : ℕ) → front_of_text (c ∷ cs) ≡ found (longest [] (c ∷ cs)) → is_blank c ≡ false → begins_comment (c ∷ cs) ≡ false → reach Start (c ∷ cs) ≡ Some n → j ≤ i
-        → front_of_text (take i (c ∷ cs)) ≡ Found t (take (i - j) rest)
-    at i n g b h r v = go_on i v
+    at : (i n : ℕ) → front_in_text (c ∷ cs) ≡ found (longest [] (c ∷ cs)) → is_blank c ≡ false → begins_comment (c ∷ cs) ≡ false → begins_block (c ∷ cs) ≡ false → reach Start (c ∷ cs) ≡ Some n → j ≤ i
+        → front_in_text (take i (c ∷ cs)) ≡ Found t (take (i - j) rest)
+    at i n g b h y r v = go_on i v
       where
         u : (x : grammar.Token) × (spelled (take n (c ∷ cs)) ≡ Some x)
         u = token_of (c ∷ cs) n r
@@ -187,7 +252,7 @@ cut_found (c ∷ cs) k j t rest e f w = go (is_blank c) refl (begins_comment (c 
         count : j ≡ n
         count = let l = ap length same.1 in let w = reach_within (c ∷ cs) Start n r in omega (arith, length-drop n (c ∷ cs))
 
-        go_on : (i : ℕ) → j ≤ i → front_of_text (take i (c ∷ cs)) ≡ Found t (take (i - j) rest)
+        go_on : (i : ℕ) → j ≤ i → front_in_text (take i (c ∷ cs)) ≡ Found t (take (i - j) rest)
         go_on zero v = let s = reach_some (c ∷ cs) n r in let m = count in absurd (omega arith)
         go_on (suc i) v =
             let m = count in
@@ -195,19 +260,20 @@ cut_found (c ∷ cs) k j t rest e f w = go (is_blank c) refl (begins_comment (c 
             let z : n + (suc i - j) ≡ suc i = omega arith in
             let spell = ap spelled (take-take n (suc i) (c ∷ cs) w) ∙ u.1 in
             let behind = ap (λ y. drop n (take y (c ∷ cs))) (sym z) ∙ (drop-take n (suc i - j) (c ∷ cs) ∙ ap (take (suc i - j)) same.1) in
-            front_is c (take i cs) false false b (no_comment_cut c cs i h)
+            front_is c (take i cs) false false false b (no_comment_cut c cs i h) (no_block_cut c cs i y)
             ∙ (ap found (longest-some (take (suc i) (c ∷ cs)) n u.0 (reach_cut (c ∷ cs) Start (suc i) n r w) spell)
             ∙ (ap (λ y. Found y (drop n (take (suc i) (c ∷ cs)))) same.0 ∙ ap (Found t) behind))
 
-    reached : (o : Option ℕ) → reach Start (c ∷ cs) ≡ o → front_of_text (c ∷ cs) ≡ found (longest [] (c ∷ cs)) → is_blank c ≡ false → begins_comment (c ∷ cs) ≡ false
-        → front_of_text (take k (c ∷ cs)) ≡ Found t (take (k - j) rest)
-    reached None r g b h = let x : Unknown ≡ Found t rest = sym (g ∙ ap found (longest_scan (c ∷ cs) ∙ ap (taken [] (c ∷ cs)) r)) ∙ e in absurd (cc x)
-    reached (Some n) r g b h = at k n g b h r w
+    reached : (o : Option ℕ) → reach Start (c ∷ cs) ≡ o → front_in_text (c ∷ cs) ≡ found (longest [] (c ∷ cs)) → is_blank c ≡ false → begins_comment (c ∷ cs) ≡ false → begins_block (c ∷ cs) ≡ false
+        → front_in_text (take k (c ∷ cs)) ≡ Found t (take (k - j) rest)
+    reached None r g b h y = let x : Unknown ≡ Found t rest = sym (g ∙ ap found (longest_scan (c ∷ cs) ∙ ap (taken [] (c ∷ cs)) r)) ∙ e in absurd (cc x)
+    reached (Some n) r g b h y = at k n g b h y r w
 
-    go : (a : Bool) → is_blank c ≡ a → (b : Bool) → begins_comment (c ∷ cs) ≡ b → front_of_text (take k (c ∷ cs)) ≡ Found t (take (k - j) rest)
-    go true g b h = let x : Skipped cs ≡ Found t rest = sym (front_is c cs true b g h) ∙ e in absurd (cc x)
-    go false g true h = let x : Skipped (after_comment cs) ≡ Found t rest = sym (front_is c cs false true g h) ∙ e in absurd (cc x)
-    go false g false h = reached (reach Start (c ∷ cs)) refl (front_is c cs false false g h) g h
+    go : (a : Bool) → is_blank c ≡ a → (b : Bool) → begins_comment (c ∷ cs) ≡ b → (d : Bool) → begins_block (c ∷ cs) ≡ d → front_in_text (take k (c ∷ cs)) ≡ Found t (take (k - j) rest)
+    go true g b h d i = let x : Skipped cs ≡ Found t rest = sym (front_is c cs true b d g h i) ∙ e in absurd (cc x)
+    go false g true h d i = let x : Skipped (after_comment cs) ≡ Found t rest = sym (front_is c cs false true d g h i) ∙ e in absurd (cc x)
+    go false g false h true i = absurd (never_found (after_block 0 (behind_one cs)) t rest (sym (front_is c cs false false true g h i) ∙ e))
+    go false g false h false i = reached (reach Start (c ∷ cs)) refl (front_is c cs false false false g h i) g h i
 
 -- ---- tokens with places
 
@@ -226,28 +292,43 @@ taken_bytes text at next h w = omega (arith, length-drop at text, length-drop ne
 rest_part : (text : List ℕ) (at next to : ℕ) → at < next → next ≤ to → take ((to - at) - (next - at)) (drop next text) ≡ drop next (take to text)
 rest_part text at next to h w = let z : (to - at) - (next - at) ≡ to - next = omega arith in ap (λ n. take n (drop next text)) z ∙ part text next to w
 
--- The tokens up to a place are those of the text that is cut there.
-pub cut_tokens : {text : List ℕ} {from to : ℕ} {places : List Token} {tokens : List grammar.Token} → Placed text from to places tokens → Tokens (drop from (take to text)) tokens
-cut_tokens {text} {from} none_placed = no_tokens (ap front_of_text (drop_all from (take from text) (omega (arith, length-take from text))))
-cut_tokens {text} {from} {to} (skip_placed {next = next} e l w more) =
+cut_range : (text : List ℕ) (start end to : ℕ) → start ≤ end → end ≤ to → slice_range (take to text) start end ≡ slice_range text start end
+cut_range text start end to h k =
+    ap (take (end - start)) (sym (part text start to (omega arith))) ∙ take-take (end - start) (to - start) (drop start text) (omega arith)
+
+-- Tokens with places up to a byte are at these places in the text that is cut there.
+cut_placed : {text : List ℕ} {from to : ℕ} {places : List Token} {tokens : List grammar.Token} → to ≤ length text → Placed text from to places tokens
+    → Placed (take to text) from to places tokens
+cut_placed u none_placed = none_placed
+cut_placed {text} {from} {to} u (skip_placed {next = next} e l w more) =
     let h = placed_order more in
     let f = cut_skip (drop from text) (to - from) (next - from) (drop next text) e (taken_bytes text from next l w) (omega arith) in
-    skip (ap front_of_text (sym (part text from to (omega arith))) ∙ (f ∙ ap Skipped (rest_part text from next to l h))) (cut_tokens more)
-cut_tokens {text} {from} {to} (one_placed place t s more) =
+    skip_placed (ap front_in_text (sym (part text from to (omega arith))) ∙ (f ∙ ap Skipped (rest_part text from next to l h))) l (omega (arith, length-take to text)) (cut_placed u more)
+cut_placed {text} {from} {to} u (one_placed place t s more) =
     let h = placed_order more in
     let l = s.longer in
     let f = cut_found (drop place.start text) (to - place.start) (place.end - place.start) t (drop place.end text) s.found (taken_bytes text place.start place.end l s.within) (omega arith) in
-    token (ap front_of_text (sym (part text place.start to (omega arith))) ∙ (f ∙ ap (Found t) (rest_part text place.start place.end to l h))) (cut_tokens more)
+    one_placed place t
+    (record {
+      found = ap front_in_text (sym (part text place.start to (omega arith))) ∙ (f ∙ ap (Found t) (rest_part text place.start place.end to l h));
+      spelled = ap spelled (cut_range text place.start place.end to (omega arith) h) ∙ s.spelled;
+      kind = s.kind;
+      longer = l;
+      within = omega (arith, length-take to text);
+    }) (cut_placed u more)
 
 -- ---- a place where none begins
 
 pub has_no_token : (text : List ℕ) (at : ℕ) (places : List Token) → SoFar text at places → IsUnknown text at → HasNoTokenAt text at
-has_no_token text at places s u = record {
-  places = places;
-  tokens = s.tokens;
-  before = cut_tokens s.placed;
-  placed = s.placed;
-  within = u.within;
-  unknown = u.unknown;
-  none = λ others x. no_others u.unknown s.placed x;
-}
+has_no_token text at places s u =
+    let w = s.within in
+    let i = placed_follows 0 (omega arith) (omega (arith, length-take at text)) (cut_placed w s.placed) in
+    record {
+      places = places;
+      found = i.found;
+      before = i.follows;
+      placed = subst (λ x. Placed text 0 at places x) (sym i.tokens) s.placed;
+      within = u.within;
+      unknown = u.unknown;
+      none = λ others x. no_others u.unknown s.placed x;
+    }

@@ -3,7 +3,8 @@ use Rattle.std.proofs.Common.{◌≡◌, refl, sym, ap, ◌∙◌, subst, ℕ, �
 use Rattle.std.proofs.lemmas.List.{drop_all}
 use Rattle.print_grammar.specs.Token as grammar
 use Rattle.print_grammar.specs.Token.Front.{Ended, Skipped, Found, Unknown}
-use Rattle.print_grammar.specs.Token.{Front, front_of_text}
+use Rattle.print_grammar.specs.Token.{Front}
+use Rattle.text_tokens.specs.Comments.{front_in_text}
 use Rattle.text_tokens.specs.declared.token.Kind.{Kind}
 use Rattle.text_tokens.specs.declared.token.Token.{Token}
 use Rattle.text_tokens.specs.Kinds.{kind_here}
@@ -28,7 +29,7 @@ same_token p q a b c =
     ap (λ x. token_of x p.end p.kind) a ∙ (ap (λ x. token_of q.start x p.kind) b ∙ ap (λ x. token_of q.start q.end x) c)
 
 -- where tokens end, there are none
-inverse_none : {text : List ℕ} {from to : ℕ} {places : List Token} {tokens : List grammar.Token} → stops (front_of_text (drop from text)) ≡ true → Placed text from to places tokens
+inverse_none : {text : List ℕ} {from to : ℕ} {places : List Token} {tokens : List grammar.Token} → stops (front_in_text (drop from text)) ≡ true → Placed text from to places tokens
     → (from ≡ to) × (places ≡ [])
 inverse_none h none_placed = (refl, refl)
 inverse_none h (skip_placed f l w more) = absurd (cc (h, ap stops f))
@@ -42,7 +43,7 @@ record Skips (text rest : List ℕ) (to : ℕ) (places : List Token) : Type 0 wh
   within : next ≤ length text
   more : Placed text next to places tokens
 
-inverse_skip : {text rest : List ℕ} {from to : ℕ} {places : List Token} {tokens : List grammar.Token} → front_of_text (drop from text) ≡ Skipped rest → stops (front_of_text (drop to text)) ≡ true
+inverse_skip : {text rest : List ℕ} {from to : ℕ} {places : List Token} {tokens : List grammar.Token} → front_in_text (drop from text) ≡ Skipped rest → stops (front_in_text (drop to text)) ≡ true
     → Placed text from to places tokens → Skips text rest to places
 inverse_skip h k none_placed = absurd (cc (k, ap stops h))
 inverse_skip h k (skip_placed {next = next} {tokens = tokens} f l w more) = record { next = next; tokens = tokens; here = cc; within = w; more = more }
@@ -60,8 +61,8 @@ record Begins (text rest : List ℕ) (from to : ℕ) (t : grammar.Token) (places
   within : place.end ≤ length text
   more : Placed text place.end to behind tokens
 
-inverse_token : {text rest : List ℕ} {from to : ℕ} {t : grammar.Token} {places : List Token} {tokens : List grammar.Token} → front_of_text (drop from text) ≡ Found t rest
-    → stops (front_of_text (drop to text)) ≡ true → Placed text from to places tokens → Begins text rest from to t places
+inverse_token : {text rest : List ℕ} {from to : ℕ} {t : grammar.Token} {places : List Token} {tokens : List grammar.Token} → front_in_text (drop from text) ≡ Found t rest
+    → stops (front_in_text (drop to text)) ≡ true → Placed text from to places tokens → Begins text rest from to t places
 inverse_token h k none_placed = absurd (cc (k, ap stops h))
 inverse_token h k (skip_placed f l w more) = absurd (cc (h, f))
 inverse_token {t = t} h k (one_placed {places = behind} {tokens = tokens} place other s more) =
@@ -79,8 +80,8 @@ inverse_token {t = t} h k (one_placed {places = behind} {tokens = tokens} place 
     }
 
 -- Tokens from one place on end at one place, and are the same.
-one_end : {text : List ℕ} {from to other_to : ℕ} {places others : List Token} {tokens other_tokens : List grammar.Token} → stops (front_of_text (drop to text)) ≡ true
-    → stops (front_of_text (drop other_to text)) ≡ true → Placed text from to places tokens → Placed text from other_to others other_tokens → (to ≡ other_to) × (places ≡ others)
+one_end : {text : List ℕ} {from to other_to : ℕ} {places others : List Token} {tokens other_tokens : List grammar.Token} → stops (front_in_text (drop to text)) ≡ true
+    → stops (front_in_text (drop other_to text)) ≡ true → Placed text from to places tokens → Placed text from other_to others other_tokens → (to ≡ other_to) × (places ≡ others)
 one_end h k none_placed y = let i = inverse_none h y in (i.0, sym i.1)
 one_end {text} {other_to = other_to} {others = others} h k (skip_placed {next = next} f l w more) y =
     let i = inverse_skip f k y in
@@ -92,8 +93,8 @@ one_end {text} {other_to = other_to} {others = others} h k (one_placed {places =
     let j = one_end h k more (subst (λ x. Placed text x other_to i.behind i.tokens) e i.more) in
     (j.0, ap (λ x. x ∷ behind) (same_token place i.place (sym i.start) (sym e) (s.kind ∙ sym i.kind)) ∙ (ap (λ x. i.place ∷ x) j.1 ∙ sym i.all))
 
-stops_at_end : (text : List ℕ) → stops (front_of_text (drop (length text) text)) ≡ true
-stops_at_end text = ap (λ x. stops (front_of_text x)) (drop_all (length text) text (omega arith))
+stops_at_end : (text : List ℕ) → stops (front_in_text (drop (length text) text)) ≡ true
+stops_at_end text = ap (λ x. stops (front_in_text x)) (drop_all (length text) text (omega arith))
 
 pub one_list : (text : List ℕ) (xs ys : List Token) → HasTokensAt text xs → HasTokensAt text ys → xs ≡ ys
 one_list text xs ys x y = (one_end (stops_at_end text) (stops_at_end text) x.placed y.placed).1

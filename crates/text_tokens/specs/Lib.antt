@@ -3,5 +3,9 @@ pub mod Words
 pub mod Numbers
 pub mod Quotes
 pub mod States
+pub mod Comments
+pub mod Gaps
+pub mod Documentation
+pub mod Gathered
 pub mod Places
 pub mod Steps

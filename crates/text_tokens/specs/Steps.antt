@@ -5,11 +5,11 @@ use Rattle.print_grammar.specs.Token.{Front as front}
 use Rattle.text_tokens.specs.declared.lexer.Front.{Front}
 use Rattle.text_tokens.specs.declared.lexer.Front.TheVariants.{Ended, Skipped, Found, Unknown}
 use Rattle.text_tokens.specs.declared.token.Token.{Token}
-use Rattle.text_tokens.specs.Places.{StandsAt}
+use Rattle.text_tokens.specs.{Comments.front_in_text, Places.StandsAt}
 
 -- a blank or a comment up to before this byte
 pub record SkipsTo (text : List ℕ) (at next : ℕ) : Type 0 where
-  pub skipped : grammar.front_of_text (drop at text) ≡ front.Skipped (drop next text)
+  pub skipped : front_in_text (drop at text) ≡ front.Skipped (drop next text)
   pub further : at < next
   pub within : next ≤ length text
 
@@ -21,7 +21,7 @@ pub record BeginsHere (text : List ℕ) (at : ℕ) (place : Token) : Type 0 wher
 
 -- nothing that may stand there
 pub record IsUnknown (text : List ℕ) (at : ℕ) : Type 0 where
-  pub unknown : grammar.front_of_text (drop at text) ≡ front.Unknown
+  pub unknown : front_in_text (drop at text) ≡ front.Unknown
   pub within : at < length text
 
 -- what stands at a place of a text

@@ -1,17 +1,19 @@
 -- Readers find exactly what is there.
-use Rattle.std.proofs.Common.{◌≡◌, refl, sym, ap, ◌∙◌, subst, ℕ, Bool, true, false, List, [], ◌++◌}
+use Rattle.std.proofs.Common.{◌≡◌, refl, sym, ap, ◌∙◌, ℕ, Bool, true, false, List, [], ◌++◌}
 use Rattle.text_trees.specs.Places.{window}
-use Rattle.text_trees.proofs.{Steady.SteadyAt, SteadyFiles.file-steady}
-use Rattle.print_grammar.specs.{Token.Token, Token.Tokens, Token.Mark.Less, Tree.FileTree, Reading.IsReading, Reading.OneReading, Grammar.ReadsFile}
-use Rattle.print_grammar.specs.Grammar.{ReadsType, ReadsResourceMember, ReadsDeclared, ReadsMember, ReadsExtern, ReadsWorldMember, ReadsItem, ReadsNested}
+use Rattle.text_trees.proofs.{Steady.SteadyAt, SteadyFiles.nothing, SteadyFiles.file-steady, Stopping.refused_with_any}
+use Rattle.print_grammar.specs.{Token.Token, Token.Mark.Less, Tree.FileTree}
+use Rattle.print_grammar.specs.Grammar.{ReadsType}
+use Rattle.text_trees.specs.Grammar.{Documentation, ReadsFile, ReadsResourceMember, ReadsDeclared, ReadsMember, ReadsExtern, ReadsWorldMember, ReadsItem, ReadsNested}
 use Rattle.text_trees.specs.Reading.{Reading, Reading.Found, Reading.Refused, Wanted, Wanted.Shallower, begins}
 use Rattle.text_trees.specs.{ReadTypes.type_in_front, ReadDeclared.resource_member_in_front, ReadDeclared.declared_in_front}
 use Rattle.text_trees.specs.ReadFiles.{member_in_front, extern_in_front, world_member_in_front, item_in_front, nested_in_front, file_in_front}
 use Rattle.text_trees.specs.Levels.{fits_type, fits_resource_member, fits_declared, fits_member, fits_extern, fits_world_member, fits_item, fits_package, levels}
-use Rattle.text_trees.specs.Laws.{FindsWhatIsRead, FindsNothingElse, FindsBefore, FilesAreRead, FoundFilesAreOnly, RefusedAreNoFiles, ShallowFilesAreFound, RefusalsStandAtPlaces, NoFileBeginsSo, TextsAreRead, RefusedTextsAreNotRead}
-use Rattle.print_grammar.specs.{Token.Mark.Arrow, Token.Mark.At, Token.Mark.Colon, Grammar.ReadsPath, Grammar.ReadsPrefix, Grammar.ReadsSignature}
+use Rattle.text_trees.specs.Laws.{FindsWhatIsRead, FindsNothingElse, FindsBefore, FilesAreRead, FoundFilesAreOnly, RefusedAreNoFiles, ShallowFilesAreFound, RefusalsStandAtPlaces, NoFileBeginsSo}
+use Rattle.print_grammar.specs.{Token.Mark.Arrow, Token.Mark.At, Token.Mark.Colon, Grammar.ReadsPath, Grammar.ReadsSignature}
+use Rattle.text_trees.specs.Grammar.{ReadsPrefix}
 use Rattle.text_trees.specs.{ReadTypes.signature_in_front, ReadDeclared.path_in_front, ReadDeclared.prefix_in_front, Levels.fits_signature}
-use Rattle.text_trees.proofs.{DeclaredFound.prefix-sound, DeclaredFound.path-sound, TypesFound.signature-sound, Fitting.signature-fits, DeclaredComplete.prefix-complete, DeclaredComplete.path-complete, TypesComplete.signature-complete}
+use Rattle.text_trees.proofs.{MarksFound.prefix-sound, DeclaredFound.path-sound, TypesFound.signature-sound, Fitting.signature-fits, MarksComplete.prefix-complete, DeclaredComplete.path-complete, TypesComplete.signature-complete}
 use Rattle.text_trees.proofs.Finding.{Sound, is_there}
 use Rattle.text_trees.proofs.Fitting.{Passes, type-fits, resource_member-fits, declared-fits, member-fits, extern-fits, world_member-fits, item-fits, nested-fits, file-fits}
 use Rattle.text_trees.proofs.{TypesFound.type-sound, TypesComplete.type-complete, DeclaredFound.resource_member-sound, DeclaredFound.declared-sound, DeclaredComplete.resource_member-complete, DeclaredComplete.declared-complete}
@@ -36,26 +38,27 @@ module _ (room : ℕ) where
   pub types_there : FindsBefore (λ rest. begins Less rest ≡ false) ReadsType (fits_type room) (type_in_front room)
   types_there ts rest ty r e h = type-complete room r e (leb-true (levels ty) room h)
 
-  pub declared_exact : FindsWhatIsRead ReadsDeclared (fits_declared room) (declared_in_front room)
-  declared_exact = exactly (declared-sound room) (declared-fits room) (λ ts rest declared r h. declared-complete room r h)
+module _ (docs : Documentation) (room : ℕ) where
+  pub declared_exact : FindsWhatIsRead (ReadsDeclared docs) (fits_declared room) (declared_in_front docs room)
+  declared_exact = exactly (declared-sound docs room) (declared-fits docs room) (λ ts rest declared r h. declared-complete docs room r h)
 
-  pub resource_members_exact : FindsWhatIsRead ReadsResourceMember (fits_resource_member room) (resource_member_in_front room)
-  resource_members_exact = exactly (resource_member-sound room) (resource_member-fits room) (resource_member-complete room)
+  pub resource_members_exact : FindsWhatIsRead (ReadsResourceMember docs) (fits_resource_member room) (resource_member_in_front docs room)
+  resource_members_exact = exactly (resource_member-sound docs room) (resource_member-fits docs room) (resource_member-complete docs room)
 
-  pub members_exact : FindsWhatIsRead ReadsMember (fits_member room) (member_in_front room)
-  members_exact = exactly (member-sound room) (member-fits room) (member-complete room)
+  pub members_exact : FindsWhatIsRead (ReadsMember docs) (fits_member room) (member_in_front docs room)
+  members_exact = exactly (member-sound docs room) (member-fits docs room) (member-complete docs room)
 
-  pub externs_exact : FindsWhatIsRead ReadsExtern (fits_extern room) (extern_in_front room)
-  externs_exact = exactly (extern-sound room) (extern-fits room) (extern-complete room)
+  pub externs_exact : FindsWhatIsRead (ReadsExtern docs) (fits_extern room) (extern_in_front docs room)
+  externs_exact = exactly (extern-sound docs room) (extern-fits docs room) (extern-complete docs room)
 
-  pub world_members_exact : FindsWhatIsRead ReadsWorldMember (fits_world_member room) (world_member_in_front room)
-  world_members_exact = exactly (world_member-sound room) (world_member-fits room) (world_member-complete room)
+  pub world_members_exact : FindsWhatIsRead (ReadsWorldMember docs) (fits_world_member room) (world_member_in_front docs room)
+  world_members_exact = exactly (world_member-sound docs room) (world_member-fits docs room) (world_member-complete docs room)
 
-  pub items_exact : FindsWhatIsRead ReadsItem (fits_item room) (item_in_front room)
-  items_exact = exactly (item-sound room) (item-fits room) (item-complete room)
+  pub items_exact : FindsWhatIsRead (ReadsItem docs) (fits_item room) (item_in_front docs room)
+  items_exact = exactly (item-sound docs room) (item-fits docs room) (item-complete docs room)
 
-  pub packages_exact : FindsWhatIsRead ReadsNested (fits_package room) (nested_in_front room)
-  packages_exact = exactly (nested-sound room) (nested-fits room) (nested-complete room)
+  pub packages_exact : FindsWhatIsRead (ReadsNested docs) (fits_package room) (nested_in_front docs room)
+  packages_exact = exactly (nested-sound docs room) (nested-fits docs room) (nested-complete docs room)
 
 -- ---- parts
 
@@ -63,11 +66,11 @@ module _ (room : ℕ) where
 any_found : {X : Type 0} {Reads : List Token → X → List Token → Type 0} {read : List Token → Reading X} → Sound Reads read → FindsNothingElse Reads (λ x. true) read
 any_found sound ts rest x e = (is_there sound ts rest x e, refl)
 
-pub prefixes_found : FindsNothingElse ReadsPrefix (λ prefix. true) prefix_in_front
-prefixes_found = any_found prefix-sound
+pub prefixes_found : (docs : Documentation) → FindsNothingElse (ReadsPrefix docs) (λ prefix. true) (prefix_in_front docs)
+prefixes_found docs = any_found prefix-sound
 
-pub prefixes_there : FindsBefore (λ rest. begins At rest ≡ false) ReadsPrefix (λ prefix. true) prefix_in_front
-prefixes_there ts rest prefix r e h = prefix-complete r e
+pub prefixes_there : (docs : Documentation) → FindsBefore (λ rest. begins At rest ≡ false) (ReadsPrefix docs) (λ prefix. true) (prefix_in_front docs)
+prefixes_there docs ts rest prefix r e h = prefix-complete r e
 
 pub paths_found : FindsNothingElse ReadsPath (λ path. true) path_in_front
 paths_found = any_found path-sound
@@ -84,9 +87,9 @@ signatures_there room ts rest signature r e h = signature-complete room r e.0 e.
 -- ---- files
 
 pub files_are_read : FilesAreRead
-files_are_read room ts rest file = (
-  λ e. let r = is_there (file-sound room) ts rest file e in (r.0, is_there (file-fits room) ts rest file e, r.1),
-  λ r. file-complete room r.0 r.1 ∙ ap (Found file) (sym r.2),
+files_are_read docs room ts rest file = (
+  λ e. let r = is_there (file-sound docs room) ts rest file e in (r.0, is_there (file-fits docs room) ts rest file e, r.1),
+  λ r. file-complete docs room r.0 r.1 ∙ ap (Found file) (sym r.2),
 )
 
 -- what is found with some room is found with more
@@ -100,19 +103,24 @@ refused_with_more same e n = e
 refused_with_more too_deep e n = absurd (n (cc e))
 
 pub found_files_are_only : FoundFilesAreOnly
-found_files_are_only room ts rest file other e r =
+found_files_are_only docs room ts rest file other e r =
     let (more, above, enough) = file-room room other in
-    let found = found_with_more ((file-extends room more above).at ts) e in
-    let again = file-complete more r enough in cc (found, again)
+    let found = found_with_more ((file-extends docs room more above).at ts) e in
+    let again = file-complete docs more r enough in cc (found, again)
+
+-- a list of tokens is one file at most
+pub one_file : (docs : Documentation) (ts : List Token) (one other : FileTree) → ReadsFile docs ts one → ReadsFile docs ts other → one ≡ other
+one_file docs ts one other r s =
+    let (room, above, enough) = file-room 0 other in found_files_are_only docs room ts [] other one (file-complete docs room s enough) r
 
 pub refused_are_no_files : RefusedAreNoFiles
-refused_are_no_files room ts rest wanted file e r n =
+refused_are_no_files docs room ts rest wanted file e r n =
     let (more, above, enough) = file-room room file in
-    let refused = refused_with_more ((file-extends room more above).at ts) e n in
-    let found = file-complete more r enough in absurd (cc (refused, found))
+    let refused = refused_with_more ((file-extends docs room more above).at ts) e n in
+    let found = file-complete docs more r enough in absurd (cc (refused, found))
 
 pub shallow_files_are_found : ShallowFilesAreFound
-shallow_files_are_found room ts rest wanted file e r h = let found = file-complete room r h in absurd (cc (e, found))
+shallow_files_are_found docs room ts rest wanted file e r h = let found = file-complete docs room r h in absurd (cc (e, found))
 
 -- ---- places
 
@@ -125,24 +133,12 @@ refused_at {rest = rest} (Refused w after) s e =
 refused_at (Found x after) s e = absurd (cc e)
 
 pub refusals_stand_at_places : RefusalsStandAtPlaces
-refusals_stand_at_places room ts rest wanted e = refused_at (file_in_front room ts) ((file-steady room).at ts) e
+refusals_stand_at_places docs others room ts rest wanted e =
+    let bare = refused_with_any docs nothing room ts rest wanted e in
+    let (front, before, alike) = refused_at (file_in_front nothing room ts) ((file-steady room).at ts) bare in
+    (front, before, λ other h. refused_with_any nothing others room (front ++ other) other wanted (alike other h))
 
 pub no_file_begins_so : NoFileBeginsSo
-no_file_begins_so room ts rest wanted e n =
-    let (front, before, alike) = refusals_stand_at_places room ts rest wanted e in
-    (front, before, λ other file h r. refused_are_no_files room (front ++ other) other wanted file (alike other h) r n)
-
--- ---- texts
-
--- a text that is read as a file has no other tokens
-read_tokens : OneReading → {text : List ℕ} {ts : List Token} {file : FileTree} → Tokens text ts → IsReading text file → ReadsFile ts file
-read_tokens one {text} {ts} {file} t r = subst (λ us. ReadsFile us file) (one.0 text r.tokens ts r.spelled t) r.parsed
-
-pub texts_are_read : OneReading → TextsAreRead
-texts_are_read one room text ts file t = (
-  λ e. let r = (files_are_read room ts [] file).0 e in (record { tokens = ts; spelled = t; parsed = r.0 }, r.1),
-  λ r. (files_are_read room ts [] file).1 (read_tokens one t r.0, r.1, refl),
-)
-
-pub refused_texts_are_not_read : OneReading → RefusedTextsAreNotRead
-refused_texts_are_not_read one room text ts rest wanted file t e n r = refused_are_no_files room ts rest wanted file e (read_tokens one t r) n
+no_file_begins_so docs others room ts rest wanted e n =
+    let (front, before, alike) = refusals_stand_at_places docs others room ts rest wanted e in
+    (front, before, λ other file h r. refused_are_no_files others room (front ++ other) other wanted file (alike other h) r n)

@@ -4,10 +4,12 @@ use Rattle.wit_model.specs.Text.{Text}
 use Rattle.print_grammar.specs.{Keyword.Keyword, Token.Token, Token.Mark}
 use Rattle.print_grammar.specs.Token.Token.{Word, Escaped, Key}
 use Rattle.print_grammar.specs.Tree.{TypeTree, SignatureTree}
+use Rattle.text_trees.specs.Grammar.{Documentation}
 use Rattle.text_trees.specs.Reading.{Wanted.Shallower, Reading, Reading.Found, Reading.Refused, then_read, made, behind, begins, behind_mark, if_mark, begins_key, behind_key, if_key, if_id, things_in_front, until, repeated, listed_in_front, listed}
 use Rattle.text_trees.specs.ReadTypes.{payload_in_front, form_in_front, type_by, level_in_front, type_in_front, params_in_front, result_in_front, signature_in_front}
-use Rattle.text_trees.specs.ReadDeclared.{function_behind, resource_member_in_front, declared_in_front}
+use Rattle.text_trees.specs.ReadDeclared.{function_behind, field_in_front, case_in_front, resource_member_in_front, declared_in_front}
 use Rattle.text_trees.specs.ReadFiles.{member_in_front, extern_in_front, world_member_in_front, item_in_front, nested_in_front, file_in_front}
+use Rattle.text_trees.proofs.FilesFound.{item_by, nested_by, file_by}
 
 -- ---- readings
 
@@ -76,6 +78,11 @@ module _ {X : Type 0} where
   by_a_test : (test : List Token → Bool) {read more other less : List Token → Reading X} → Extended read more → Extended other less
       → Extended (λ ts. if test ts then read ts else other ts) (λ ts. if test ts then more ts else less ts)
   by_a_test test e f = record { at = λ ts. either_extends (test ts) (e.at ts) (f.at ts) }
+
+  -- a reader that looks at the documentation in front of what it reads
+  by_docs : (docs : Documentation) (read more : List Text → List Token → Reading X) → ((lines : List Text) → Extended (read lines) (more lines))
+      → Extended (λ ts. read (docs ts) ts) (λ ts. more (docs ts) ts)
+  by_docs docs read more e = record { at = λ ts. (e (docs ts)).at ts }
 
 -- ---- lists
 
@@ -162,49 +169,62 @@ module _ (room more : ℕ) (h : room ≤ more) where
   function-extends : {X : Type 0} (function_of : SignatureTree → X) → Extended (function_behind room function_of) (function_behind more function_of)
   function-extends function_of = then_read_on signature-extends (λ signature. as_it_is)
 
-  resource_member-extends : Extended (resource_member_in_front room) (resource_member_in_front more)
+module _ (docs : Documentation) (room more : ℕ) (h : room ≤ more) where
+  field-extends : Extended (field_in_front docs room) (field_in_front docs more)
+  field-extends =
+      by_docs docs (λ lines. field_in_front (λ us. lines) room) (λ lines. field_in_front (λ us. lines) more) (λ lines.
+      then_read_on as_it_is (λ name. behind_a_mark _ (then_read_on (type-extends room more h) (λ ty. as_it_is))))
+
+  case-extends : Extended (case_in_front docs room) (case_in_front docs more)
+  case-extends =
+      by_docs docs (λ lines. case_in_front (λ us. lines) room) (λ lines. case_in_front (λ us. lines) more) (λ lines.
+      then_read_on as_it_is (λ name. if_a_mark _ (then_read_on (type-extends room more h) (λ ty. as_it_is)) as_it_is))
+
+  resource_member-extends : Extended (resource_member_in_front docs room) (resource_member_in_front docs more)
   resource_member-extends =
       then_read_on as_it_is (λ pre.
-      if_a_key _ (then_read_on params-extend (λ params. then_read_on result-extends (λ result. as_it_is)))
-      (then_read_on as_it_is (λ name. behind_a_mark _ (if_a_key _ (function-extends _) (function-extends _)))))
+      if_a_key _ (then_read_on (params-extend room more h) (λ params. then_read_on (result-extends room more h) (λ result. as_it_is)))
+      (then_read_on as_it_is (λ name. behind_a_mark _ (if_a_key _ (function-extends room more h _) (function-extends room more h _)))))
 
-  declared-extends : Extended (declared_in_front room) (declared_in_front more)
+  declared-extends : Extended (declared_in_front docs room) (declared_in_front docs more)
   declared-extends =
-      if_a_key _ (then_read_on as_it_is (λ name. behind_a_mark _ (making _ (listed_extends
-      (then_read_on as_it_is (λ name. behind_a_mark _ (then_read_on type-extends (λ ty. as_it_is)))) _))))
-      (if_a_key _ (then_read_on as_it_is (λ name. behind_a_mark _ (making _ (listed_extends
-      (then_read_on as_it_is (λ name. if_a_mark _ (then_read_on type-extends (λ ty. as_it_is)) as_it_is)) _))))
+      if_a_key _ (then_read_on as_it_is (λ name. behind_a_mark _ (making _ (listed_extends field-extends _))))
+      (if_a_key _ (then_read_on as_it_is (λ name. behind_a_mark _ (making _ (listed_extends case-extends _))))
       (if_a_key _ as_it_is
       (if_a_key _ as_it_is
-      (if_a_key _ (then_read_on as_it_is (λ name. behind_a_mark _ (then_read_on alias-extends (λ ty. as_it_is))))
+      (if_a_key _ (then_read_on as_it_is (λ name. behind_a_mark _ (then_read_on (alias-extends room more h) (λ ty. as_it_is))))
       (if_a_key _ (then_read_on as_it_is (λ name. if_a_mark _ as_it_is (behind_a_mark _ (making _ (repeated_extends resource_member-extends _))))) as_it_is)))))
 
   -- ---- what interfaces, worlds and packages have
 
-  member-extends : Extended (member_in_front room) (member_in_front more)
+  member-extends : Extended (member_in_front docs room) (member_in_front docs more)
   member-extends =
-      then_read_on as_it_is (λ pre. if_an_id (λ name. behind_a_mark _ (function-extends _)) (if_a_key _ as_it_is (making _ declared-extends)))
+      then_read_on as_it_is (λ pre. if_an_id (λ name. behind_a_mark _ (function-extends room more h _)) (if_a_key _ as_it_is (making _ declared-extends)))
 
-  extern-extends : Extended (extern_in_front room) (extern_in_front more)
+  extern-extends : Extended (extern_in_front docs room) (extern_in_front docs more)
   extern-extends =
-      then_read_on as_it_is (λ name. if_a_mark _ as_it_is (behind_a_mark _ (by_a_test _ (function-extends _)
+      then_read_on as_it_is (λ name. if_a_mark _ as_it_is (behind_a_mark _ (by_a_test _ (function-extends room more h _)
       (if_a_key _ (making _ (behind_a_mark _ (repeated_extends member-extends _))) as_it_is))))
 
-  world_member-extends : Extended (world_member_in_front room) (world_member_in_front more)
+  world_member-extends : Extended (world_member_in_front docs room) (world_member_in_front docs more)
   world_member-extends =
       then_read_on as_it_is (λ pre. if_a_key _ (making _ extern-extends) (if_a_key _ (making _ extern-extends) (if_a_key _ as_it_is (making _ declared-extends))))
 
-  item-extends : Extended (item_in_front room) (item_in_front more)
+  item-extends : Extended (item_in_front docs room) (item_in_front docs more)
   item-extends =
+      by_docs docs (item_by docs room) (item_by docs more) (λ lines.
       then_read_on as_it_is (λ gates.
       if_a_key _ (then_read_on as_it_is (λ name. making _ (behind_a_mark _ (repeated_extends member-extends _))))
-      (if_a_key _ (then_read_on as_it_is (λ name. making _ (behind_a_mark _ (repeated_extends world_member-extends _)))) as_it_is))
+      (if_a_key _ (then_read_on as_it_is (λ name. making _ (behind_a_mark _ (repeated_extends world_member-extends _)))) as_it_is)))
 
-  nested-extends : Extended (nested_in_front room) (nested_in_front more)
-  nested-extends = behind_a_key _ (then_read_on as_it_is (λ head. behind_a_mark _ (making _ (repeated_extends item-extends _))))
+  nested-extends : Extended (nested_in_front docs room) (nested_in_front docs more)
+  nested-extends =
+      by_docs docs (nested_by docs room) (nested_by docs more) (λ lines.
+      behind_a_key _ (then_read_on as_it_is (λ head. behind_a_mark _ (making _ (repeated_extends item-extends _)))))
 
   -- With more room the same files are found, and the same is refused but what had too many levels.
-  pub file-extends : Extended (file_in_front room) (file_in_front more)
+  pub file-extends : Extended (file_in_front docs room) (file_in_front docs more)
   file-extends =
+      by_docs docs (file_by docs room) (file_by docs more) (λ lines.
       behind_a_key _ (then_read_on as_it_is (λ head. behind_a_mark _ (then_read_on (until_extends item-extends _) (λ items.
-      making _ (until_extends nested-extends _)))))
+      making _ (until_extends nested-extends _))))))

@@ -1,13 +1,15 @@
 -- What readers find, by the steps that they are made of, and by lists.
-use Rattle.std.proofs.Common.{◌≡◌, refl, sym, subst, ℕ, Bool, true, false, List, [], ◌∷◌, zero, suc, if◌then◌else◌, ◌⊎◌, inl, inr}
+use Rattle.std.proofs.Common.{◌≡◌, refl, sym, subst, ℕ, Bool, true, false, List, [], ◌∷◌, zero, suc, if◌then◌else◌, ◌⊎◌, inl, inr, ◌&&◌}
+use Rattle.base_lemmas.proofs.Bools.{left_of, right_of}
 use Rattle.wit_model.specs.Text.{Text}
 use Rattle.print_grammar.specs.{Keyword.Keyword, Token.Token, Token.Mark, Grammar.IsId, Grammar.Repeated, Grammar.CommaList}
 use Rattle.print_grammar.specs.{Grammar.IsId.plain, Grammar.IsId.with_percent, Grammar.Repeated.closed, Grammar.Repeated.again}
 use Rattle.print_grammar.specs.Grammar.CommaList.{last, last_with_comma, next}
-use Rattle.print_grammar.specs.Token.Mark.{At, Comma}
+use Rattle.print_grammar.specs.Token.Mark.{Comma}
 use Rattle.print_grammar.specs.Token.Token.{Word, Escaped, Key, VersionText, Digits, Quoted, Punctuation}
-use Rattle.text_trees.specs.Reading.{Wanted, Reading, Reading.Found, Reading.Refused, then_read, made, behind, begins, behind_mark, if_mark, begins_key, behind_key, if_key, id_in_front, if_id, version_in_front, digits_in_front, quoted_in_front, begins_word, if_word, begins_attribute, if_attribute, things_in_front, until, repeated, more_in_front, thing_and_more, listed_in_front, listed}
-use Rattle.text_trees.proofs.Fronts.{begins_is, begins_key_is, begins_word_is, begins_attribute_is}
+use Rattle.text_trees.specs.{Grammar.Documentation, ReadDeclared.if_free}
+use Rattle.text_trees.specs.Reading.{Wanted, Reading, Reading.Found, Reading.Refused, then_read, made, behind, begins, behind_mark, if_mark, begins_key, behind_key, if_key, id_in_front, if_id, version_in_front, digits_in_front, quoted_in_front, begins_word, if_word, things_in_front, until, repeated, more_in_front, thing_and_more, listed_in_front, listed}
+use Rattle.text_trees.proofs.Fronts.{begins_is, begins_key_is, begins_word_is}
 
 -- ---- one reading
 
@@ -37,12 +39,12 @@ finds_as : {X : Type 0} {r : Reading X} {P Q : X → List Token → Type 0} → 
 finds_as f g = record { found = λ x rest e. g x rest (f.found x rest e) }
 
 -- a choice by a test, of which each side knows the test's value
-either_finds : {X : Type 0} (b : Bool) {x y : Reading X} {P : X → List Token → Type 0} → (b ≡ true → Finds x P) → (b ≡ false → Finds y P) → Finds (if b then x else y) P
+pub either_finds : {X : Type 0} (b : Bool) {x y : Reading X} {P : X → List Token → Type 0} → (b ≡ true → Finds x P) → (b ≡ false → Finds y P) → Finds (if b then x else y) P
 either_finds true f g = f refl
 either_finds false f g = g refl
 
 -- tokens that are others
-as_begun : {X : Type 0} (Q : List Token → X → List Token → Type 0) {r : Reading X} {ts us : List Token} → ts ≡ us → Finds r (Q us) → Finds r (Q ts)
+pub as_begun : {X : Type 0} (Q : List Token → X → List Token → Type 0) {r : Reading X} {ts us : List Token} → ts ≡ us → Finds r (Q us) → Finds r (Q ts)
 as_begun Q {r = r} e f = subst (λ ts. Finds r (Q ts)) (sym e) f
 
 -- ---- a reader
@@ -80,6 +82,15 @@ module _ {X : Type 0} {Q : List Token → X → List Token → Type 0} where
       → ((ts rest : List Token) (x : X) → R ts x rest → Q ts x rest) → Sound Q read
   sound_as f g = record { at = λ ts. finds_as (f.at ts) (λ x rest r. g ts rest x r) }
 
+  -- a reader that looks at the documentation in front of what it reads
+  pub by_docs_sound : (docs : Documentation) (read : List Text → List Token → Reading X)
+      → ((lines : List Text) → Sound (λ ts x rest. docs ts ≡ lines → Q ts x rest) (read lines)) → Sound Q (λ ts. read (docs ts) ts)
+  by_docs_sound docs read f = record { at = λ ts. finds_as ((f (docs ts)).at ts) (λ x rest q. q refl) }
+
+  -- the same, where it makes no difference which documentation it is
+  pub any_docs_sound : (docs : Documentation) (read : List Text → List Token → Reading X) → ((lines : List Text) → Sound Q (read lines)) → Sound Q (λ ts. read (docs ts) ts)
+  any_docs_sound docs read f = record { at = λ ts. (f (docs ts)).at ts }
+
   -- ---- marks, keywords, words
 
   pub mark_sound : (mark : Mark) {read_on : List Token → Reading X} → Sound (λ rest. Q (Punctuation mark ∷ rest)) read_on → Sound Q (behind_mark mark read_on)
@@ -105,11 +116,14 @@ module _ {X : Type 0} {Q : List Token → X → List Token → Type 0} where
   unfolding if_word
   if_word_sound text f g = record { at = λ ts. either_finds (begins_word text ts) (λ h. as_begun Q (begins_word_is text ts h) (f.at (behind ts))) (λ h. g.at ts) }
 
-  pub if_attribute_sound : (text : Text) {read_on other : List Token → Reading X} → Sound (λ rest. Q (Punctuation At ∷ Word text ∷ rest)) read_on → Sound Q other
-      → Sound Q (if_attribute text read_on other)
-  unfolding if_attribute
-  if_attribute_sound text f g =
-      record { at = λ ts. either_finds (begins_attribute text ts) (λ h. as_begun Q (begins_attribute_is text ts h) (f.at (behind (behind ts)))) (λ h. g.at ts) }
+  pub if_free_sound : (free : Bool) (text : Text) {read_on other : List Token → Reading X} → (free ≡ true → Sound (λ rest. Q (Word text ∷ rest)) read_on)
+      → Sound Q other → Sound Q (if_free free text read_on other)
+  unfolding if_free
+  if_free_sound free text f g = record {
+    at = λ ts.
+        either_finds (free && begins_word text ts)
+        (λ h. as_begun Q (begins_word_is text ts (right_of free _ h)) ((f (left_of free _ h)).at (behind ts))) (λ h. g.at ts);
+  }
 
   -- ---- names, versions, numbers, strings
 

@@ -14,7 +14,9 @@ use Rattle.text_trees.specs.ReadTypes.{tuple_types, payload_in_front, result_par
 use Rattle.text_trees.specs.ReadDeclared.{prefix_in_front, gates_in_front, full_path_behind, path_behind, path_in_front, use_behind, used_name_in_front, field_in_front, case_in_front, label_in_front, function_behind, resource_member_in_front, declared_in_front}
 use Rattle.text_trees.specs.ReadFiles.{member_in_front, extern_in_front, world_member_in_front, item_in_front, head_in_front, nested_in_front, file_in_front}
 use Rattle.text_trees.specs.Levels.{levels, deepest, fits_type, fits_param, fits_signature, fits_field, fits_case, fits_resource_member, fits_declared, fits_member, fits_extern, fits_world_member, fits_item, fits_package, fits_file}
-use Rattle.text_trees.proofs.Finding.{Sound, Finds, finds, refuses, found_sound, refused_sound, then_sound, made_sound, sound_as, mark_sound, if_mark_sound, key_sound, if_key_sound, either_sound, id_sound, if_id_sound, digits_sound, until_sound, repeated_sound, listed_sound}
+use Rattle.text_trees.specs.Grammar.{Documentation}
+use Rattle.text_trees.proofs.FilesFound.{item_by, nested_by, file_by}
+use Rattle.text_trees.proofs.Finding.{Sound, Finds, finds, refuses, found_sound, refused_sound, then_sound, made_sound, sound_as, any_docs_sound, mark_sound, if_mark_sound, key_sound, if_key_sound, either_sound, id_sound, if_id_sound, digits_sound, until_sound, repeated_sound, listed_sound}
 
 -- what is found passes a test
 abbrev pub Passes : {X : Type 0} → (X → Bool) → List Token → X → List Token → Type 0
@@ -129,78 +131,86 @@ module _ (room : ℕ) where
       → Sound (Passes test) (function_behind room function_of)
   function-fits function_of f = then_sound signature-fits (λ signature. mark_sound _ (found_sound (λ rest ts h. f signature h)))
 
-  -- ---- declared types
-
   use-fits : {X : Type 0} {test : X → Bool} (use_of : PathTree → List UsedName → X) → ((path : PathTree) (names : List UsedName) → test (use_of path names) ≡ true)
       → Sound (Passes test) (use_behind use_of)
   use-fits use_of f =
       then_sound (anything path_in_front) (λ path. mark_sound _ (mark_sound _ (then_sound (anything (listed used_name_in_front _)) (λ names.
       mark_sound _ (found_sound (λ rest us k ts h. f path names))))))
 
-  field-fits : Sound (Passes (fits_field room)) (field_in_front room)
-  field-fits = id_sound (λ t name i. mark_sound _ (then_sound type-fits (λ ty. found_sound (λ rest ts h. h))))
+-- ---- declared types
 
-  case-fits : Sound (Passes (fits_case room)) (case_in_front room)
-  case-fits = id_sound (λ t name i. if_mark_sound _ (then_sound type-fits (λ ty. mark_sound _ (found_sound (λ rest ts h. h)))) (found_sound (λ rest. refl)))
+module _ (docs : Documentation) (room : ℕ) where
+  field-fits : Sound (Passes (fits_field room)) (field_in_front docs room)
+  field-fits =
+      any_docs_sound docs (λ lines. field_in_front (λ us. lines) room) (λ lines.
+      id_sound (λ t name i. mark_sound _ (then_sound (type-fits room) (λ ty. found_sound (λ rest ts h. h)))))
 
-  pub resource_member-fits : Sound (Passes (fits_resource_member room)) (resource_member_in_front room)
+  case-fits : Sound (Passes (fits_case room)) (case_in_front docs room)
+  case-fits =
+      any_docs_sound docs (λ lines. case_in_front (λ us. lines) room) (λ lines.
+      id_sound (λ t name i. if_mark_sound _ (then_sound (type-fits room) (λ ty. mark_sound _ (found_sound (λ rest ts h. h)))) (found_sound (λ rest. refl))))
+
+  pub resource_member-fits : Sound (Passes (fits_resource_member room)) (resource_member_in_front docs room)
   resource_member-fits =
-      then_sound (anything prefix_in_front) (λ pre.
-      if_key_sound _ (then_sound params-fit (λ params. then_sound result-fit (λ result. mark_sound _ (found_sound (λ rest vs k us h ts u. and_from _ _ h k)))))
+      then_sound (anything (prefix_in_front docs)) (λ pre.
+      if_key_sound _ (then_sound (params-fit room) (λ params. then_sound (result-fit room) (λ result. mark_sound _ (found_sound (λ rest vs k us h ts u. and_from _ _ h k)))))
       (id_sound (λ t name i. mark_sound _ (if_key_sound _
-      (sound_as (function-fits {test = fits_resource_member room} _ (λ signature h. h)) (λ us rest member h ts u. h))
-      (sound_as (function-fits {test = fits_resource_member room} _ (λ signature h. h)) (λ us rest member h ts u. h))))))
+      (sound_as (function-fits room {test = fits_resource_member room} _ (λ signature h. h)) (λ us rest member h ts u. h))
+      (sound_as (function-fits room {test = fits_resource_member room} _ (λ signature h. h)) (λ us rest member h ts u. h))))))
 
-  pub declared-fits : Sound (Passes (fits_declared room)) (declared_in_front room)
+  pub declared-fits : Sound (Passes (fits_declared room)) (declared_in_front docs room)
   declared-fits =
       if_key_sound _ (id_sound (λ t name i. mark_sound _ (made_sound _ (sound_as (listed-fit (fits_field room) field-fits _) (λ ts rest xs h. h)))))
       (if_key_sound _ (id_sound (λ t name i. mark_sound _ (made_sound _ (sound_as (listed-fit (fits_case room) case-fits _) (λ ts rest xs h. h)))))
-      (if_key_sound _ (id_sound (λ t name i. mark_sound _ (made_sound _ (sound_as (anything (listed label_in_front _)) (λ ts rest xs h. refl)))))
-      (if_key_sound _ (id_sound (λ t name i. mark_sound _ (made_sound _ (sound_as (anything (listed label_in_front _)) (λ ts rest xs h. refl)))))
-      (if_key_sound _ (id_sound (λ t name i. mark_sound _ (then_sound alias-fits (λ ty. mark_sound _ (found_sound (λ rest ts h. h))))))
+      (if_key_sound _ (id_sound (λ t name i. mark_sound _ (made_sound _ (sound_as (anything (listed (label_in_front docs) _)) (λ ts rest xs h. refl)))))
+      (if_key_sound _ (id_sound (λ t name i. mark_sound _ (made_sound _ (sound_as (anything (listed (label_in_front docs) _)) (λ ts rest xs h. refl)))))
+      (if_key_sound _ (id_sound (λ t name i. mark_sound _ (then_sound (alias-fits room) (λ ty. mark_sound _ (found_sound (λ rest ts h. h))))))
       (if_key_sound _ (id_sound (λ t name i. if_mark_sound _ (found_sound (λ rest. refl))
       (mark_sound _ (made_sound _ (sound_as (repeated-fit (fits_resource_member room) resource_member-fits _) (λ ts rest xs h. h)))))) refused_sound)))))
 
   -- ---- what interfaces, worlds and packages have
 
-  pub member-fits : Sound (Passes (fits_member room)) (member_in_front room)
+  pub member-fits : Sound (Passes (fits_member room)) (member_in_front docs room)
   member-fits =
-      then_sound (anything prefix_in_front) (λ pre.
-      if_id_sound (λ t name i. mark_sound _ (sound_as (function-fits {test = fits_member room} _ (λ signature h. h)) (λ us rest member h ts u. h)))
-      (if_key_sound _ (sound_as (use-fits {test = fits_member room} _ (λ path names. refl)) (λ us rest member h ts u. h))
+      then_sound (anything (prefix_in_front docs)) (λ pre.
+      if_id_sound (λ t name i. mark_sound _ (sound_as (function-fits room {test = fits_member room} _ (λ signature h. h)) (λ us rest member h ts u. h)))
+      (if_key_sound _ (sound_as (use-fits room {test = fits_member room} _ (λ path names. refl)) (λ us rest member h ts u. h))
       (made_sound _ (sound_as declared-fits (λ us rest declared h ts u. h)))))
 
-  pub extern-fits : Sound (Passes (fits_extern room)) (extern_in_front room)
+  pub extern-fits : Sound (Passes (fits_extern room)) (extern_in_front docs room)
   extern-fits =
       id_sound (λ t name i.
       if_mark_sound _ (found_sound (λ rest. refl))
-      (mark_sound _ (either_sound _ (function-fits {test = fits_extern room} _ (λ signature h. h))
+      (mark_sound _ (either_sound _ (function-fits room {test = fits_extern room} _ (λ signature h. h))
       (if_key_sound _ (made_sound _ (mark_sound _ (sound_as (repeated-fit (fits_member room) member-fits _) (λ ts rest xs h. h))))
       (id_sound (λ u second j.
       either_sound _ (then_sound (anything (full_path_behind name second)) (λ path. mark_sound _ (found_sound (λ rest ts u. refl))))
       (then_sound (anything (path_behind second)) (λ path. mark_sound _ (found_sound (λ rest ts u. refl))))))))))
 
-  pub world_member-fits : Sound (Passes (fits_world_member room)) (world_member_in_front room)
+  pub world_member-fits : Sound (Passes (fits_world_member room)) (world_member_in_front docs room)
   world_member-fits =
-      then_sound (anything prefix_in_front) (λ pre.
+      then_sound (anything (prefix_in_front docs)) (λ pre.
       if_key_sound _ (made_sound _ (sound_as extern-fits (λ us rest e h ts u. h)))
       (if_key_sound _ (made_sound _ (sound_as extern-fits (λ us rest e h ts u. h)))
-      (if_key_sound _ (sound_as (use-fits {test = fits_world_member room} _ (λ path names. refl)) (λ us rest member h ts u. h))
+      (if_key_sound _ (sound_as (use-fits room {test = fits_world_member room} _ (λ path names. refl)) (λ us rest member h ts u. h))
       (made_sound _ (sound_as declared-fits (λ us rest declared h ts u. h))))))
 
-  pub item-fits : Sound (Passes (fits_item room)) (item_in_front room)
+  pub item-fits : Sound (Passes (fits_item room)) (item_in_front docs room)
   item-fits =
+      any_docs_sound docs (item_by docs room) (λ lines.
       then_sound (anything gates_in_front) (λ gates.
       if_key_sound _ (id_sound (λ t name i. made_sound _ (mark_sound _ (sound_as (repeated-fit (fits_member room) member-fits _) (λ us rest xs h ts u. h)))))
       (if_key_sound _ (id_sound (λ t name i. made_sound _ (mark_sound _ (sound_as (repeated-fit (fits_world_member room) world_member-fits _) (λ us rest xs h ts u. h)))))
-      (if_mark_sound _ refused_sound refused_sound)))
+      refused_sound)))
 
-  pub nested-fits : Sound (Passes (fits_package room)) (nested_in_front room)
+  pub nested-fits : Sound (Passes (fits_package room)) (nested_in_front docs room)
   nested-fits =
-      key_sound _ (then_sound (anything head_in_front) (λ head. mark_sound _ (made_sound _ (sound_as (repeated-fit (fits_item room) item-fits _) (λ us rest items h ts u. h)))))
+      any_docs_sound docs (nested_by docs room) (λ lines.
+      key_sound _ (then_sound (anything head_in_front) (λ head. mark_sound _ (made_sound _ (sound_as (repeated-fit (fits_item room) item-fits _) (λ us rest items h ts u. h))))))
 
   -- No type of a file that is found has more levels than there is room for.
-  pub file-fits : Sound (Passes (fits_file room)) (file_in_front room)
+  pub file-fits : Sound (Passes (fits_file room)) (file_in_front docs room)
   file-fits =
+      any_docs_sound docs (file_by docs room) (λ lines.
       key_sound _ (then_sound (anything head_in_front) (λ head. mark_sound _ (then_sound (until-fit (fits_item room) item-fits _) (λ items.
-      made_sound _ (sound_as (until-fit (fits_package room) nested-fits _) (λ vs rest nested k us h ts u. and_from _ _ h k))))))
+      made_sound _ (sound_as (until-fit (fits_package room) nested-fits _) (λ vs rest nested k us h ts u. and_from _ _ h k)))))))

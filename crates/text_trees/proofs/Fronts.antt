@@ -8,7 +8,7 @@ use Rattle.print_grammar.specs.Token.Token.{Word, Key, Punctuation}
 use Rattle.print_grammar.specs.Keyword.PrimitiveName.{Bool_, U8, U16, U32, U64, S8, S16, S32, S64, F32, F64, Char, String, ErrorContext}
 use Rattle.wit_model.specs.Text.{Text}
 use Rattle.wit_model.proofs.TextLemmas.{text_same}
-use Rattle.text_trees.specs.Reading.{behind, begins, is_mark, mark_number, begins_key, is_key, primitive_number, keyword_number, begins_word, begins_attribute}
+use Rattle.text_trees.specs.Reading.{behind, begins, is_mark, mark_number, begins_key, is_key, primitive_number, keyword_number, begins_word}
 
 -- ---- each mark and each keyword has a number of its own
 
@@ -65,7 +65,3 @@ begins_key_is keyword (t ∷ ts) h = ap (λ x. x ∷ ts) (key_is keyword t h)
 pub begins_word_is : (text : Text) (ts : List Token) → begins_word text ts ≡ true → ts ≡ Word text ∷ behind ts
 begins_word_is text (Word word ∷ ts) h = ap (λ x. Word x ∷ ts) (text_same word text h)
 begins_word_is text _ h = absurd (cc h)
-
-pub begins_attribute_is : (text : Text) (ts : List Token) → begins_attribute text ts ≡ true → ts ≡ Punctuation At ∷ Word text ∷ behind (behind ts)
-begins_attribute_is text (Punctuation At ∷ ts) h = ap (λ x. Punctuation At ∷ x) (begins_word_is text ts h)
-begins_attribute_is text _ h = absurd (cc h)

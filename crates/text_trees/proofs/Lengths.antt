@@ -1,24 +1,27 @@
 -- What follows a thing is shorter than what it stands in front of.
-use Rattle.std.proofs.Common.{ℕ, ◌<◌, ◌≤◌, List, length, arith, Option}
+use Rattle.std.proofs.Common.{◌<◌, ◌≤◌, List, length, arith, Option}
 use Rattle.wit_model.specs.Text.{Text}
 use Rattle.print_grammar.specs.Token.{Token}
 use Rattle.print_grammar.specs.Tree.{TypeTree, TypeTrees, Gates, Prefix, PathTree, UsedName}
-use Rattle.print_grammar.specs.Grammar.{CommaList, Repeated, ReadsType, ReadsTypes, ReadsParam, ReadsParams, ReadsResult, ReadsSignature, ReadsVersion, ReadsVersionArgument, ReadsDeprecated, ReadsGates, ReadsExternalId, ReadsPrefix, ReadsPath, ReadsUsedName, ReadsUse, ReadsField, ReadsCase, ReadsLabel, ReadsResourceMember, ReadsDeclared, ReadsMember, ReadsExtern, ReadsWorldMember, ReadsItem, ReadsHead, ReadsNested}
+use Rattle.print_grammar.specs.Grammar.{CommaList, Repeated, ReadsType, ReadsTypes, ReadsParam, ReadsParams, ReadsResult, ReadsSignature, ReadsVersion, ReadsVersionArgument, ReadsPath, ReadsUsedName, ReadsUse, ReadsHead}
+use Rattle.text_trees.specs.Grammar.{Documentation, Marks, ReadsMarks, ReadsGates, ReadsPrefix, ReadsField, ReadsCase, ReadsLabel, ReadsResourceMember, ReadsDeclared, ReadsMember, ReadsExtern, ReadsWorldMember, ReadsItem, ReadsNested}
 use Rattle.print_grammar.specs.Grammar.ReadsType.{primitive, named, named_with_percent, own, borrow, tuple, option, map, list, fixed_list, future, future_of, stream, stream_of, result, result_ok, result_of, result_err}
 use Rattle.print_grammar.specs.Grammar.ReadsTypes.{last_type, last_type_with_comma, next_type}
 use Rattle.print_grammar.specs.Grammar.CommaList.{last, last_with_comma, next}
 use Rattle.print_grammar.specs.Grammar.Repeated.{closed, again}
 use Rattle.print_grammar.specs.Grammar.{ReadsParam.param, ReadsParams.no_params, ReadsParams.params, ReadsResult.no_result, ReadsResult.with_result, ReadsSignature.func, ReadsSignature.async_func}
-use Rattle.print_grammar.specs.Grammar.{ReadsVersion.no_version, ReadsVersion.with_version, ReadsVersionArgument.version_argument, ReadsDeprecated.not_deprecated, ReadsDeprecated.deprecated}
-use Rattle.print_grammar.specs.Grammar.{ReadsGates.no_gates, ReadsGates.since, ReadsGates.unstable, ReadsExternalId.no_external_id, ReadsExternalId.external_id, ReadsPrefix.prefix}
+use Rattle.print_grammar.specs.Grammar.{ReadsVersion.no_version, ReadsVersion.with_version, ReadsVersionArgument.version_argument}
+use Rattle.text_trees.specs.Grammar.ReadsMarks.{no_more, since, unstable, deprecated, external_id}
+use Rattle.text_trees.specs.Grammar.{ReadsGates.gates, ReadsPrefix.prefix}
 use Rattle.print_grammar.specs.Grammar.{ReadsPath.local, ReadsPath.full, ReadsUsedName.same_name, ReadsUsedName.other_name, ReadsUse.use_names}
-use Rattle.print_grammar.specs.Grammar.{ReadsField.field, ReadsCase.case_alone, ReadsCase.case_of, ReadsLabel.label}
-use Rattle.print_grammar.specs.Grammar.ReadsResourceMember.{constructor_, method, static}
-use Rattle.print_grammar.specs.Grammar.ReadsDeclared.{record_, variant, flags, enum, alias, resource, resource_with}
-use Rattle.print_grammar.specs.Grammar.ReadsMember.{member_use, member_type, member_function}
-use Rattle.print_grammar.specs.Grammar.ReadsExtern.{extern_path, extern_function, extern_named_path, extern_interface}
-use Rattle.print_grammar.specs.Grammar.ReadsWorldMember.{world_use, world_type, world_import, world_export}
-use Rattle.print_grammar.specs.Grammar.{ReadsItem.interface_item, ReadsItem.world_item, ReadsHead.head, ReadsNested.nested_package}
+use Rattle.text_trees.specs.Grammar.{ReadsField.field, ReadsCase.case_alone, ReadsCase.case_of, ReadsLabel.label}
+use Rattle.text_trees.specs.Grammar.ReadsResourceMember.{constructor_, method, static}
+use Rattle.text_trees.specs.Grammar.ReadsDeclared.{record_, variant, flags, enum, alias, resource, resource_with}
+use Rattle.text_trees.specs.Grammar.ReadsMember.{member_use, member_type, member_function}
+use Rattle.text_trees.specs.Grammar.ReadsExtern.{extern_path, extern_function, extern_named_path, extern_interface}
+use Rattle.text_trees.specs.Grammar.ReadsWorldMember.{world_use, world_type, world_import, world_export}
+use Rattle.print_grammar.specs.Grammar.{ReadsHead.head}
+use Rattle.text_trees.specs.Grammar.{ReadsItem.interface_item, ReadsItem.world_item, ReadsNested.nested_package}
 
 -- what follows a thing is shorter
 abbrev pub Shortens : {X : Type 0} → (List Token → X → List Token → Type 0) → Type 0
@@ -84,24 +87,21 @@ version-shortens : {ts rest : List Token} {version : Option Text} → ReadsVersi
 version-shortens no_version = omega arith
 version-shortens with_version = omega arith
 
-argument-shortens : Shortens ReadsVersionArgument
+pub argument-shortens : Shortens ReadsVersionArgument
 argument-shortens _ _ _ (version_argument e) = omega arith
 
-deprecated-shortens : {ts rest : List Token} {version : Option Text} → ReadsDeprecated ts version rest → length rest ≤ length ts
-deprecated-shortens not_deprecated = omega arith
-deprecated-shortens (deprecated e r) = let h = argument-shortens _ _ _ r in omega (arith, h)
+marks-shorten : {ts rest : List Token} {marks all : Marks} → ReadsMarks marks ts all rest → length rest ≤ length ts
+marks-shorten no_more = omega arith
+marks-shorten (since e a b r m) = let h = argument-shortens _ _ _ r in let k = marks-shorten m in omega (arith, h, k)
+marks-shorten (unstable e f i a b m) = let k = marks-shorten m in omega (arith, k)
+marks-shorten (deprecated e a r m) = let h = argument-shortens _ _ _ r in let k = marks-shorten m in omega (arith, h, k)
+marks-shorten (external_id e a m) = let k = marks-shorten m in omega (arith, k)
 
-gates-shorten : {ts rest : List Token} {gates : Gates} → ReadsGates ts gates rest → length rest ≤ length ts
-gates-shorten no_gates = omega arith
-gates-shorten (since e r d) = let h = argument-shortens _ _ _ r in let k = deprecated-shortens d in omega (arith, h, k)
-gates-shorten (unstable e f i d) = let k = deprecated-shortens d in omega (arith, k)
+gates-shorten : {ts rest : List Token} {given : Gates} → ReadsGates ts given rest → length rest ≤ length ts
+gates-shorten (gates marks m n e) = marks-shorten m
 
-external_id-shortens : {ts rest : List Token} {id : Option (List ℕ)} → ReadsExternalId ts id rest → length rest ≤ length ts
-external_id-shortens no_external_id = omega arith
-external_id-shortens (external_id e) = omega arith
-
-prefix-shortens : {ts rest : List Token} {pre : Prefix} → ReadsPrefix ts pre rest → length rest ≤ length ts
-prefix-shortens (prefix g x) = let h = gates-shorten g in let k = external_id-shortens x in omega (arith, h, k)
+prefix-shortens : {docs : Documentation} {ts rest : List Token} {pre : Prefix} → ReadsPrefix docs ts pre rest → length rest ≤ length ts
+prefix-shortens (prefix marks m e) = marks-shorten m
 
 -- ---- paths, uses and declared types
 
@@ -116,23 +116,23 @@ used_name-shortens _ _ _ (other_name i j) = omega arith
 use-shortens : {ts rest : List Token} {path : PathTree} {names : List UsedName} → ReadsUse ts path names rest → length rest < length ts
 use-shortens (use_names p l) = let h = path-shortens _ _ _ p in let k = listed-shortens used_name-shortens _ _ _ l in omega (arith, h, k)
 
-pub field-shortens : Shortens ReadsField
+pub field-shortens : {docs : Documentation} → Shortens (ReadsField docs)
 field-shortens _ _ _ (field i r) = let h = type-shortens r in omega (arith, h)
 
-pub case-shortens : Shortens ReadsCase
+pub case-shortens : {docs : Documentation} → Shortens (ReadsCase docs)
 case-shortens _ _ _ (case_alone i) = omega arith
 case-shortens _ _ _ (case_of i r) = let h = type-shortens r in omega (arith, h)
 
-pub label-shortens : Shortens ReadsLabel
+pub label-shortens : {docs : Documentation} → Shortens (ReadsLabel docs)
 label-shortens _ _ _ (label i) = omega arith
 
-pub resource_member-shortens : Shortens ReadsResourceMember
+pub resource_member-shortens : {docs : Documentation} → Shortens (ReadsResourceMember docs)
 resource_member-shortens _ _ _ (constructor_ p a r) =
     let h = prefix-shortens p in let k = params-shorten _ _ _ a in let l = result-shortens r in omega (arith, h, k, l)
 resource_member-shortens _ _ _ (method p i s) = let h = prefix-shortens p in let k = signature-shortens _ _ _ s in omega (arith, h, k)
 resource_member-shortens _ _ _ (static p i s) = let h = prefix-shortens p in let k = signature-shortens _ _ _ s in omega (arith, h, k)
 
-declared-shortens : Shortens ReadsDeclared
+declared-shortens : {docs : Documentation} → Shortens (ReadsDeclared docs)
 declared-shortens _ _ _ (record_ i l) = let h = listed-shortens field-shortens _ _ _ l in omega (arith, h)
 declared-shortens _ _ _ (variant i l) = let h = listed-shortens case-shortens _ _ _ l in omega (arith, h)
 declared-shortens _ _ _ (flags i l) = let h = listed-shortens label-shortens _ _ _ l in omega (arith, h)
@@ -143,29 +143,29 @@ declared-shortens _ _ _ (resource_with i l) = let h = repeated-shortens resource
 
 -- ---- what interfaces, worlds and packages have
 
-pub member-shortens : Shortens ReadsMember
+pub member-shortens : {docs : Documentation} → Shortens (ReadsMember docs)
 member-shortens _ _ _ (member_use p u) = let h = prefix-shortens p in let k = use-shortens u in omega (arith, h, k)
 member-shortens _ _ _ (member_type p d) = let h = prefix-shortens p in let k = declared-shortens _ _ _ d in omega (arith, h, k)
 member-shortens _ _ _ (member_function p i s) = let h = prefix-shortens p in let k = signature-shortens _ _ _ s in omega (arith, h, k)
 
-extern-shortens : Shortens ReadsExtern
+extern-shortens : {docs : Documentation} → Shortens (ReadsExtern docs)
 extern-shortens _ _ _ (extern_path p) = let h = path-shortens _ _ _ p in omega (arith, h)
 extern-shortens _ _ _ (extern_function i s) = let h = signature-shortens _ _ _ s in omega (arith, h)
 extern-shortens _ _ _ (extern_named_path i p) = let h = path-shortens _ _ _ p in omega (arith, h)
 extern-shortens _ _ _ (extern_interface i l) = let h = repeated-shortens member-shortens _ _ _ l in omega (arith, h)
 
-pub world_member-shortens : Shortens ReadsWorldMember
+pub world_member-shortens : {docs : Documentation} → Shortens (ReadsWorldMember docs)
 world_member-shortens _ _ _ (world_use p u) = let h = prefix-shortens p in let k = use-shortens u in omega (arith, h, k)
 world_member-shortens _ _ _ (world_type p d) = let h = prefix-shortens p in let k = declared-shortens _ _ _ d in omega (arith, h, k)
 world_member-shortens _ _ _ (world_import p e) = let h = prefix-shortens p in let k = extern-shortens _ _ _ e in omega (arith, h, k)
 world_member-shortens _ _ _ (world_export p e) = let h = prefix-shortens p in let k = extern-shortens _ _ _ e in omega (arith, h, k)
 
-pub item-shortens : Shortens ReadsItem
+pub item-shortens : {docs : Documentation} → Shortens (ReadsItem docs)
 item-shortens _ _ _ (interface_item g i l) = let h = gates-shorten g in let k = repeated-shortens member-shortens _ _ _ l in omega (arith, h, k)
 item-shortens _ _ _ (world_item g i l) = let h = gates-shorten g in let k = repeated-shortens world_member-shortens _ _ _ l in omega (arith, h, k)
 
 head-shortens : Shortens ReadsHead
 head-shortens _ _ _ (head i j v) = let h = version-shortens v in omega (arith, h)
 
-pub nested-shortens : Shortens ReadsNested
+pub nested-shortens : {docs : Documentation} → Shortens (ReadsNested docs)
 nested-shortens _ _ _ (nested_package h l) = let j = head-shortens _ _ _ h in let k = repeated-shortens item-shortens _ _ _ l in omega (arith, j, k)

@@ -2,7 +2,7 @@
 use Rattle.std.proofs.Common.{◌≡◌, refl, sym, ap, ◌∙◌, subst, ℕ, ◌==◌, List, [], ◌∷◌, length, drop, zero, suc, length-drop, arith, if◌then◌else◌}
 use Rattle.std.proofs.lemmas.List.{length-map}
 use Rattle.wit_model.specs.Text.{Text}
-use Rattle.print_grammar.specs.{Token.Token, Reading.OneReading}
+use Rattle.print_grammar.specs.Token.{Token}
 use Rattle.text_tokens.specs.Kinds.{primitive_here, keyword_here, mark_here}
 use Rattle.text_tokens.specs.Places.{HasTokensAt, Placed}
 use Rattle.text_tokens.specs.declared.keyword.Primitive.{Primitive}
@@ -19,7 +19,8 @@ use Rattle.text_trees.specs.declared.refusal.Wanted.TheVariants as wanted
 use Rattle.text_trees.specs.Reading.{Reading.Refused, Wanted as wants}
 use Rattle.text_trees.specs.Reads.{StopsAt, StopsReading, first_byte}
 use Rattle.text_trees.specs.Seen.{primitive_there, keyword_there, mark_there, said, word_text, wanted_there}
-use Rattle.text_trees.proofs.Saying.{placed_said}
+use Rattle.text_trees.specs.Laws.{tokens_here}
+use Rattle.text_trees.proofs.{Saying.placed_said, Texts.one_tokens}
 
 -- ---- wants
 
@@ -113,6 +114,7 @@ want_of wants.AType = wanted.«Type»
 want_of wants.AMember = wanted.Member
 want_of wants.AnItem = wanted.Item
 want_of wants.AnAttribute = wanted.Attribute
+want_of wants.AGate = wanted.Gate
 want_of wants.Shallower = wanted.Shallower
 
 want_back : (w : Wanted) → want_of (wanted_there w) ≡ w
@@ -128,6 +130,7 @@ want_back wanted.«Type» = refl
 want_back wanted.Member = refl
 want_back wanted.Item = refl
 want_back wanted.Attribute = refl
+want_back wanted.Gate = refl
 want_back wanted.Shallower = refl
 
 same_want : (w v : Wanted) → wanted_there w ≡ wanted_there v → w ≡ v
@@ -163,10 +166,11 @@ same_stop text places ts w v a b l s t =
     let g : drop s.before ts ≡ drop t.before ts = cc e in
     (same_want w v f, s.byte ∙ same_byte text places ts l s.before t.before g ∙ sym t.byte)
 
-pub one_refusal : ((text : List ℕ) (xs ys : List PlacedToken) → HasTokensAt text xs → HasTokensAt text ys → xs ≡ ys) → OneReading
+pub one_refusal : ((text : List ℕ) (xs ys : List PlacedToken) → HasTokensAt text xs → HasTokensAt text ys → xs ≡ ys)
     → (text : List ℕ) (w v : Wanted) (a b : ℕ) → StopsReading text w a → StopsReading text v b → (w ≡ v) × (a ≡ b)
-one_refusal places one text w v a b s t =
+one_refusal places text w v a b s t =
     let ps : t.places ≡ s.places = places text t.places s.places t.has s.has in
-    let ts : t.has.tokens ≡ s.has.tokens = one.0 text t.has.tokens s.has.tokens t.has.spelled s.has.spelled in
-    let there : StopsAt text s.places t.has.tokens v b = subst (λ ps. StopsAt text ps t.has.tokens v b) ps t.stops in
-    same_stop text s.places s.has.tokens w v a b (as_many text s.places s.has.tokens s.has.placed) s.stops (subst (λ ts. StopsAt text s.places ts v b) ts there)
+    let ts : t.has.found ≡ s.has.found = one_tokens t.has.spelled s.has.spelled in
+    let there : StopsAt text s.places (tokens_here t.has.found) v b = subst (λ ps. StopsAt text ps (tokens_here t.has.found) v b) ps t.stops in
+    same_stop text s.places (tokens_here s.has.found) w v a b (as_many text s.places (tokens_here s.has.found) s.has.placed) s.stops
+    (subst (λ us. StopsAt text s.places (tokens_here us) v b) ts there)

@@ -1,16 +1,19 @@
 -- Worked examples: what is found in front of tokens, and what is wanted where.
-use Rattle.std.proofs.Common.{◌≡◌, refl, ℕ, false, List, [], ◌∷◌, None, Some, codes}
+use Rattle.std.proofs.Common.{◌≡◌, refl, ℕ, false, List, [], ◌∷◌, length, None, Some, codes}
+use Rattle.wit_model.specs.Text.{Text}
 use Rattle.print_grammar.specs.{Keyword.Keyword, Keyword.PrimitiveName.U8, Token.Token}
-use Rattle.print_grammar.specs.Token.Mark.{OpenBrace, CloseBrace, OpenParen, CloseParen, Less, Greater, Colon, Semi, Comma, Slash, At}
-use Rattle.print_grammar.specs.Token.Token.{Word, Escaped, Key, VersionText, Punctuation}
-use Rattle.print_grammar.specs.Tree.{FileTree, Gates.Ungated, PathTree.Full, ExternTree.Path, MemberTree.FunctionMember, WorldMember.WorldImport, ItemTree.InterfaceItem, ItemTree.WorldItem, TypeTree.ListOf, TypeTree.PrimitiveType, TypeTree.Future}
-use Rattle.text_trees.specs.Reading.{Wanted, Reading.Found, Reading.Refused, then_read, made, behind_mark, if_mark, behind_key, if_key, if_id, if_word, if_attribute, id_in_front, version_in_front, digits_in_front, quoted_in_front, things_in_front, until, repeated, listed_in_front, listed}
+use Rattle.print_grammar.specs.Token.Mark.{OpenBrace, CloseBrace, OpenParen, CloseParen, Less, Greater, Colon, Semi, Comma, Equals, Slash, At}
+use Rattle.print_grammar.specs.Token.Token.{Word, Escaped, Key, VersionText, Quoted, Punctuation}
+use Rattle.print_grammar.specs.Tree.{FileTree, Gates.Ungated, Gates.Since, PathTree.Full, ExternTree.Path, MemberTree.FunctionMember, WorldMember.WorldImport, ItemTree.InterfaceItem, ItemTree.WorldItem, TypeTree.ListOf, TypeTree.PrimitiveType, TypeTree.Future}
+use Rattle.text_trees.specs.Grammar.{Documentation}
+use Rattle.text_trees.specs.Reading.{Wanted, Reading.Found, Reading.Refused, then_read, made, behind, behind_mark, if_mark, behind_key, if_key, if_id, if_word, id_in_front, version_in_front, digits_in_front, quoted_in_front, things_in_front, until, repeated, listed_in_front, listed}
+use Rattle.text_trees.specs.ReadDeclared.{if_free, marks_from, marks_in_front, gates_in_front, prefix_in_front}
 use Rattle.text_trees.specs.{ReadTypes.level_in_front, ReadTypes.type_in_front, ReadFiles.file_in_front}
 
 -- what computes in the examples
 computes : ℕ
-unfolding then_read made behind_mark if_mark behind_key if_key if_id if_word if_attribute id_in_front version_in_front digits_in_front quoted_in_front things_in_front until repeated
-    listed_in_front listed level_in_front
+unfolding then_read made behind_mark if_mark behind_key if_key if_id if_word if_free marks_from marks_in_front id_in_front version_in_front
+    digits_in_front quoted_in_front things_in_front until repeated listed_in_front listed level_in_front
 computes = 0
 
 -- `list<u8>` has one level
@@ -47,34 +50,77 @@ whole_file =
     ∷ Key Keyword.Import ∷ Word (codes "d") ∷ Punctuation Colon ∷ Word (codes "e") ∷ Punctuation Slash ∷ Word (codes "h")
     ∷ Punctuation At ∷ VersionText (codes "1.0.0") ∷ Punctuation Semi ∷ Punctuation CloseBrace ∷ []
 
+-- documentation that says how many tokens are left
+counted : Documentation
+counted ts = (length ts ∷ []) ∷ []
+
+-- the package has documentation in front of 35 tokens, the interface of 30, its function of 27, the world of 13 and its import of 10
 whole_tree : FileTree
 whole_tree = record {
   main = record {
-    head = record { docs = []; namespace = codes "a"; name = codes "b"; version = None };
+    head = record { docs = (35 ∷ []) ∷ []; namespace = codes "a"; name = codes "b"; version = None };
     items =
-        InterfaceItem [] Ungated (codes "c")
-        (FunctionMember (record { docs = []; gates = Ungated; external_id = None }) (codes "f")
+        InterfaceItem ((30 ∷ []) ∷ []) Ungated (codes "c")
+        (FunctionMember (record { docs = (27 ∷ []) ∷ []; gates = Ungated; external_id = None }) (codes "f")
         (record { is_async = false; params = record { name = codes "g"; ty = ListOf (PrimitiveType U8) } ∷ []; result = None }) ∷ [])
-        ∷ WorldItem [] Ungated (codes "w")
-        (WorldImport (record { docs = []; gates = Ungated; external_id = None }) (Path (Full (codes "d") (codes "e") (codes "h") (Some (codes "1.0.0")))) ∷ []) ∷ [];
+        ∷ WorldItem ((13 ∷ []) ∷ []) Ungated (codes "w")
+        (WorldImport (record { docs = (10 ∷ []) ∷ []; gates = Ungated; external_id = None })
+        (Path (Full (codes "d") (codes "e") (codes "h") (Some (codes "1.0.0")))) ∷ []) ∷ [];
   };
   nested = [];
 }
 
-file_found : file_in_front 1 whole_file ≡ Found whole_tree []
-unfolding computes whole_file whole_tree
+file_found : file_in_front counted 1 whole_file ≡ Found whole_tree []
+unfolding computes whole_file whole_tree counted
 file_found = refl
 
 -- package a:b; interface c { f: }: `func` is wanted at `}`
 func_wanted :
-    file_in_front 1 (Key Keyword.Package ∷ Word (codes "a") ∷ Punctuation Colon ∷ Word (codes "b") ∷ Punctuation Semi ∷ Key Keyword.Interface ∷ Word (codes "c") ∷ Punctuation OpenBrace
-    ∷ Word (codes "f") ∷ Punctuation Colon ∷ Punctuation CloseBrace ∷ []) ≡ Refused (Wanted.AKeyword Keyword.Func) (Punctuation CloseBrace ∷ [])
+    file_in_front counted 1 (Key Keyword.Package ∷ Word (codes "a") ∷ Punctuation Colon ∷ Word (codes "b") ∷ Punctuation Semi ∷ Key Keyword.Interface
+    ∷ Word (codes "c") ∷ Punctuation OpenBrace ∷ Word (codes "f") ∷ Punctuation Colon ∷ Punctuation CloseBrace ∷ [])
+    ≡ Refused (Wanted.AKeyword Keyword.Func) (Punctuation CloseBrace ∷ [])
 unfolding computes
 func_wanted = refl
 
--- package a:b; @until: a gate is wanted behind `@`
-gate_wanted :
-    file_in_front 1 (Key Keyword.Package ∷ Word (codes "a") ∷ Punctuation Colon ∷ Word (codes "b") ∷ Punctuation Semi ∷ Punctuation At ∷ Word (codes "until") ∷ [])
-    ≡ Refused Wanted.AnAttribute (Word (codes "until") ∷ [])
+-- package a:b; @until: an attribute is wanted behind `@`
+attribute_wanted :
+    file_in_front counted 1 (Key Keyword.Package ∷ Word (codes "a") ∷ Punctuation Colon ∷ Word (codes "b") ∷ Punctuation Semi ∷ Punctuation At
+    ∷ Word (codes "until") ∷ []) ≡ Refused Wanted.AnAttribute (Word (codes "until") ∷ [])
 unfolding computes
-gate_wanted = refl
+attribute_wanted = refl
+
+-- ---- attributes
+
+-- @NAME(version = TEXT)
+with_version : Text → Text → List Token → List Token
+with_version name version rest =
+    Punctuation At ∷ Word name ∷ Punctuation OpenParen ∷ Word (codes "version") ∷ Punctuation Equals ∷ VersionText version ∷ Punctuation CloseParen ∷ rest
+
+-- @external-id("x")
+with_id : List Token → List Token
+with_id rest = Punctuation At ∷ Word (codes "external-id") ∷ Punctuation OpenParen ∷ Quoted (codes "x") ∷ Punctuation CloseParen ∷ rest
+
+-- @deprecated(version = 1.2.0) @external-id("x") @since(version = 1.0.0) f: attributes in any order, and the documentation in front of the first
+any_order :
+    prefix_in_front counted (with_version (codes "deprecated") (codes "1.2.0") (with_id (with_version (codes "since") (codes "1.0.0") (Word (codes "f") ∷ []))))
+    ≡ Found (record { docs = (20 ∷ []) ∷ []; gates = Since (codes "1.0.0") (Some (codes "1.2.0")); external_id = Some (codes "x") }) (Word (codes "f") ∷ [])
+unfolding computes counted with_version with_id
+any_order = refl
+
+-- @deprecated(version = 1.2.0) f: a gate is wanted at `f`
+deprecated_alone :
+    prefix_in_front counted (with_version (codes "deprecated") (codes "1.2.0") (Word (codes "f") ∷ [])) ≡ Refused Wanted.AGate (Word (codes "f") ∷ [])
+unfolding computes counted with_version
+deprecated_alone = refl
+
+-- @since(version = 1.0.0) @unstable: another attribute is wanted at `unstable`
+two_gates :
+    prefix_in_front counted (with_version (codes "since") (codes "1.0.0") (Punctuation At ∷ Word (codes "unstable") ∷ []))
+    ≡ Refused Wanted.AnAttribute (Word (codes "unstable") ∷ [])
+unfolding computes counted with_version
+two_gates = refl
+
+-- @external-id("x") in front of an interface: another attribute is wanted at `external-id`
+no_id_there : gates_in_front (with_id (Key Keyword.Interface ∷ [])) ≡ Refused Wanted.AnAttribute (behind (with_id (Key Keyword.Interface ∷ [])))
+unfolding computes with_id
+no_id_there = refl

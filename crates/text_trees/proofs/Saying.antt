@@ -3,23 +3,29 @@ use Rattle.std.proofs.Common.{◌≡◌, refl, sym, ap, ◌∙◌, subst, ℕ, s
 use Rattle.std.specs.{Option.option_map, Option.option_map_or, Char.is_ascii_alphabetic, Char.is_ascii_digit, Str.Parse.digits_value}
 use Rattle.print_grammar.specs.Keyword.{PrimitiveName as names, Keyword as keywords, keyword_of}
 use Rattle.print_grammar.specs.Token.{Token as toks, Front, Front.Skipped, Front.Found, StringState.Between}
-use Rattle.print_grammar.specs.Token.{Taken, after_comment, begins_comment, found, front_of_text, is_blank, longest, mark_of, mark_texts, number_token, spelled, string_characters, word_token}
+use Rattle.print_grammar.specs.Token.{Taken, after_comment, begins_comment, found, is_blank, longest, mark_of, mark_texts, number_token, spelled, string_characters, word_token}
 use Rattle.semver.specs.Order.{is_numeric}
 use Rattle.wit_model.specs.{Text.text_eq, Names.is_label, Names.is_numeral, Names.is_version_of}
 use Rattle.text_tokens.specs.declared.token.Token.{Token}
+use Rattle.text_tokens.specs.Comments.{after_block, begins_block, behind_one, front_in_text, skipped}
 use Rattle.text_tokens.specs.Kinds.{kind_here, keyword_here, primitive_here}
 use Rattle.text_tokens.specs.Places.Placed.{none_placed, skip_placed, one_placed}
 use Rattle.text_tokens.specs.Places.{Placed, StandsAt}
 use Rattle.text_trees.specs.Seen.{keyword_there, primitive_there, said, spelled_as}
 
-front_found : (cs : List ℕ) (t : toks) (rest : List ℕ) → front_of_text cs ≡ Found t rest → found (longest [] cs) ≡ Found t rest
+front_found : (cs : List ℕ) (t : toks) (rest : List ℕ) → front_in_text cs ≡ Found t rest → found (longest [] cs) ≡ Found t rest
 front_found [] t rest e = absurd (cc e)
-front_found (c ∷ cs) t rest e = go (is_blank c) (begins_comment (c ∷ cs)) (found (longest [] (c ∷ cs))) e
+front_found (c ∷ cs) t rest e =
+    go (is_blank c) (begins_comment (c ∷ cs)) (begins_block (c ∷ cs)) (after_block 0 (behind_one cs)) (found (longest [] (c ∷ cs))) e
   where
-    go : (b k : Bool) (f : Front) → (elim b [ true ↦ Skipped cs | false ↦ elim k [ true ↦ Skipped (after_comment cs) | false ↦ f ] ]) ≡ Found t rest → f ≡ Found t rest
-    go true k f e = absurd (cc e)
-    go false true f e = absurd (cc e)
-    go false false f e = e
+    go : (b k n : Bool) (o : Option (List ℕ)) (f : Front)
+        → (elim b [ true ↦ Skipped cs | false ↦ elim k [ true ↦ Skipped (after_comment cs) | false ↦ elim n [ true ↦ skipped o | false ↦ f ] ] ]) ≡ Found t rest
+        → f ≡ Found t rest
+    go true k n o f e = absurd (cc e)
+    go false true n o f e = absurd (cc e)
+    go false false true None f e = absurd (cc e)
+    go false false true (Some r) f e = absurd (cc e)
+    go false false false o f e = e
 
 abbrev token_or : toks → Option Taken → toks
 token_or t (Some x) = x.token

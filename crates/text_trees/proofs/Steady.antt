@@ -1,10 +1,11 @@
 -- A reader answers alike for tokens that begin alike: up to the place where it stops, and at the first token there, or at `@` and the token behind it.
-use Rattle.std.proofs.Common.{◌≡◌, refl, sym, ap, ◌∙◌, ℕ, Bool, true, false, List, [], ◌∷◌, ◌++◌, append_assoc, if◌then◌else◌, Option, Some, None}
+use Rattle.std.proofs.Common.{◌≡◌, refl, sym, ap, ◌∙◌, ℕ, Bool, true, false, List, [], ◌∷◌, ◌++◌, append_assoc, ◌&&◌, if◌then◌else◌, Option, Some, None}
 use Rattle.wit_model.specs.Text.{Text}
 use Rattle.print_grammar.specs.{Keyword.Keyword, Token.Token, Token.Mark}
 use Rattle.print_grammar.specs.Token.Mark.{At}
 use Rattle.print_grammar.specs.Token.Token.{Word, Escaped, VersionText, Digits, Quoted, Punctuation}
-use Rattle.text_trees.specs.Reading.{Wanted, Reading, Reading.Found, Reading.Refused, then_read, made, behind, begins, behind_mark, if_mark, begins_key, behind_key, if_key, id_in_front, if_id, version_in_front, digits_in_front, quoted_in_front, begins_word, if_word, begins_attribute, if_attribute}
+use Rattle.text_trees.specs.Reading.{Wanted, Reading, Reading.Found, Reading.Refused, then_read, made, behind, begins, behind_mark, if_mark, begins_key, behind_key, if_key, id_in_front, if_id, version_in_front, digits_in_front, quoted_in_front, begins_word, if_word}
+use Rattle.text_trees.specs.ReadDeclared.{if_free}
 use Rattle.text_trees.specs.Places.{first_alone, window, rest_of, put}
 
 -- ---- windows
@@ -42,13 +43,8 @@ begins_word_first text [] = refl
 begins_word_first text (Word word ∷ ts) = refl
 begins_word_first text (t ∷ ts) = refl
 
-begins_attribute_window : (text : Text) (ts : List Token) → begins_attribute text (window ts) ≡ begins_attribute text ts
-begins_attribute_window text [] = refl
-begins_attribute_window text (Punctuation At ∷ ts) = begins_word_first text ts
-begins_attribute_window text (t ∷ ts) = refl
-
-begins_attribute_windowed : (text : Text) → Windowed (begins_attribute text)
-begins_attribute_windowed text a b e = sym (begins_attribute_window text a) ∙ (ap (begins_attribute text) e ∙ begins_attribute_window text b)
+begins_word_windowed : (text : Text) → Windowed (begins_word text)
+begins_word_windowed text = of_first (begins_word text) (begins_word_first text)
 
 no_front : (front rest : List Token) → [] ≡ front ++ rest → rest ≡ []
 no_front [] rest e = sym e
@@ -169,11 +165,12 @@ module _ {X : Type 0} where
 
   pub if_word_steady : (text : Text) {read other : List Token → Reading X} → Steady read → Steady other → Steady (if_word text read other)
   unfolding if_word
-  if_word_steady text s t = either_steady (begins_word text) (of_first (begins_word text) (begins_word_first text)) (behind_steady s) t
+  if_word_steady text s t = either_steady (begins_word text) (begins_word_windowed text) (behind_steady s) t
 
-  pub if_attribute_steady : (text : Text) {read other : List Token → Reading X} → Steady read → Steady other → Steady (if_attribute text read other)
-  unfolding if_attribute
-  if_attribute_steady text s t = either_steady (begins_attribute text) (begins_attribute_windowed text) (behind_steady (behind_steady s)) t
+  pub if_free_steady : (free : Bool) (text : Text) {read other : List Token → Reading X} → Steady read → Steady other → Steady (if_free free text read other)
+  unfolding if_free
+  if_free_steady free text s t =
+      either_steady (λ ts. free && begins_word text ts) (λ a b e. ap (λ x. free && x) (begins_word_windowed text a b e)) (behind_steady s) t
 
 -- ---- one token
 

@@ -6,15 +6,16 @@ use Rattle.print_grammar.specs.Token.Token.{Word, Escaped, Key}
 use Rattle.print_grammar.specs.Tree.{TypeTree, TypeTree.PrimitiveType, TypeTree.Name, SignatureTree, PathTree, UsedName}
 use Rattle.text_trees.specs.Reading.{Wanted, Reading, Reading.Refused, begins, listed}
 use Rattle.text_trees.specs.ReadTypes.{payload_in_front, form_in_front, type_by, level_in_front, type_in_front, param_in_front, params_in_front, result_in_front, begins_signature, signature_in_front}
-use Rattle.text_trees.specs.ReadDeclared.{at_version_in_front, version_argument_in_front, deprecated_in_front, gates_in_front, external_id_in_front, prefix_in_front, full_path_behind, path_behind, used_name_in_front, use_behind, field_in_front, case_in_front, label_in_front, function_behind, resource_member_in_front, declared_in_front}
+use Rattle.text_trees.specs.ReadDeclared.{at_version_in_front, full_path_behind, path_behind, used_name_in_front, use_behind, field_in_front, case_in_front, label_in_front, function_behind, resource_member_in_front, declared_in_front}
 use Rattle.text_trees.specs.ReadFiles.{member_in_front, extern_in_front, world_member_in_front, item_in_front, head_in_front, nested_in_front, is_end, ends_items, file_in_front}
-use Rattle.text_trees.specs.Places.{first_alone}
+use Rattle.text_trees.specs.{Grammar.Documentation, Places.first_alone}
 use Rattle.text_trees.proofs.Finding.{Sound, is_there}
 use Rattle.text_trees.proofs.Lengths.{Shortens, type-shortens, param-shortens, used_name-shortens, field-shortens, case-shortens, label-shortens, resource_member-shortens, member-shortens, world_member-shortens, item-shortens, nested-shortens}
 use Rattle.text_trees.proofs.TypesFound.{type-sound, by-sound, level-sound, param-sound}
 use Rattle.text_trees.proofs.DeclaredFound.{used_name-sound, field-sound, case-sound, label-sound, resource_member-sound}
 use Rattle.text_trees.proofs.FilesFound.{member-sound, world_member-sound, item-sound, nested-sound}
-use Rattle.text_trees.proofs.Steady.{Steady, Windowed, of_first, begins_windowed, found_steady, refused_steady, then_steady, made_steady, either_steady, steady_as, mark_steady, if_mark_steady, key_steady, if_key_steady, if_word_steady, if_attribute_steady, taken, taken_steady, id_steady, version_steady, digits_steady, quoted_steady, if_id_steady}
+use Rattle.text_trees.proofs.Steady.{Steady, Windowed, of_first, begins_windowed, found_steady, refused_steady, then_steady, made_steady, either_steady, steady_as, mark_steady, if_mark_steady, key_steady, if_key_steady, taken, taken_steady, id_steady, version_steady, digits_steady, if_id_steady}
+use Rattle.text_trees.proofs.SteadyMarks.{gates-steady, prefix-steady}
 use Rattle.text_trees.proofs.SteadyLists.{Shrinks, until_steady, repeated_steady, listed_steady}
 
 -- what is found leaves fewer tokens, if what stands there does
@@ -103,30 +104,10 @@ level-steady zero = refused_steady
 level-steady (suc room) =
     form-steady (by-steady (level-steady room)) (shrinks (by-sound (level-sound room)) (λ ts rest ty r. type-shortens r))
 
--- ---- in front of an item
+-- ---- paths and uses
 
 at_version-steady : Steady at_version_in_front
 at_version-steady = if_mark_steady _ (then_steady version_steady (λ version. found_steady)) found_steady
-
-argument-steady : Steady version_argument_in_front
-argument-steady = mark_steady _ (if_word_steady _ (mark_steady _ (then_steady version_steady (λ version. mark_steady _ found_steady))) refused_steady)
-
-deprecated-steady : Steady deprecated_in_front
-deprecated-steady = if_attribute_steady _ (made_steady _ argument-steady) found_steady
-
-gates-steady : Steady gates_in_front
-gates-steady =
-    if_attribute_steady _ (then_steady argument-steady (λ version. then_steady deprecated-steady (λ deprecated. found_steady)))
-    (if_attribute_steady _ (mark_steady _ (if_word_steady _ (mark_steady _ (then_steady id_steady (λ feature.
-    mark_steady _ (then_steady deprecated-steady (λ deprecated. found_steady))))) refused_steady)) found_steady)
-
-external_id-steady : Steady external_id_in_front
-external_id-steady = if_mark_steady _ (if_word_steady _ (mark_steady _ (then_steady quoted_steady (λ characters. mark_steady _ found_steady))) refused_steady) found_steady
-
-prefix-steady : Steady prefix_in_front
-prefix-steady = then_steady gates-steady (λ gates. then_steady external_id-steady (λ id. found_steady))
-
--- ---- paths and uses
 
 full_path-steady : (namespace name : List ℕ) → Steady (full_path_behind namespace name)
 full_path-steady namespace name = mark_steady _ (then_steady id_steady (λ interface. then_steady at_version-steady (λ version. found_steady)))
@@ -147,14 +128,40 @@ use-steady use_of =
 
 -- ---- declared types
 
-label-steady : Steady label_in_front
+-- no documentation
+abbrev pub nothing : Documentation
+nothing ts = []
+
+label-steady : Steady (label_in_front nothing)
 label-steady = then_steady id_steady (λ name. found_steady)
 
-pub label-shrinks : Shrinks label_in_front
-label-shrinks = shrinks label-sound label-shortens
+pub label-shrinks : (docs : Documentation) → Shrinks (label_in_front docs)
+label-shrinks docs = shrinks (label-sound docs) label-shortens
 
-labels-steady : Steady (listed label_in_front CloseBrace)
-labels-steady = listed_steady label-steady label-shrinks CloseBrace
+labels-steady : Steady (listed (label_in_front nothing) CloseBrace)
+labels-steady = listed_steady label-steady (label-shrinks nothing) CloseBrace
+
+module _ (docs : Documentation) (room : ℕ) where
+  pub field-shrinks : Shrinks (field_in_front docs room)
+  field-shrinks = shrinks (field-sound docs room) field-shortens
+
+  pub case-shrinks : Shrinks (case_in_front docs room)
+  case-shrinks = shrinks (case-sound docs room) case-shortens
+
+  pub resource_member-shrinks : Shrinks (resource_member_in_front docs room)
+  resource_member-shrinks = shrinks (resource_member-sound docs room) resource_member-shortens
+
+  pub member-shrinks : Shrinks (member_in_front docs room)
+  member-shrinks = shrinks (member-sound docs room) member-shortens
+
+  pub world_member-shrinks : Shrinks (world_member_in_front docs room)
+  world_member-shrinks = shrinks (world_member-sound docs room) world_member-shortens
+
+  pub item-shrinks : Shrinks (item_in_front docs room)
+  item-shrinks = shrinks (item-sound docs room) item-shortens
+
+  pub nested-shrinks : Shrinks (nested_in_front docs room)
+  nested-shrinks = shrinks (nested-sound docs room) nested-shortens
 
 module _ (room : ℕ) where
   type-steady : Steady (type_in_front room)
@@ -186,90 +193,69 @@ module _ (room : ℕ) where
   function-steady : {X : Type 0} (function_of : SignatureTree → X) → Steady (function_behind room function_of)
   function-steady function_of = then_steady signature-steady (λ signature. mark_steady _ found_steady)
 
-  field-steady : Steady (field_in_front room)
+  field-steady : Steady (field_in_front nothing room)
   field-steady = then_steady id_steady (λ name. mark_steady _ (then_steady type-steady (λ ty. found_steady)))
 
-  pub field-shrinks : Shrinks (field_in_front room)
-  field-shrinks = shrinks (field-sound room) field-shortens
-
-  case-steady : Steady (case_in_front room)
+  case-steady : Steady (case_in_front nothing room)
   case-steady = then_steady id_steady (λ name. if_mark_steady _ (then_steady type-steady (λ ty. mark_steady _ found_steady)) found_steady)
 
-  pub case-shrinks : Shrinks (case_in_front room)
-  case-shrinks = shrinks (case-sound room) case-shortens
-
-  resource_member-steady : Steady (resource_member_in_front room)
+  resource_member-steady : Steady (resource_member_in_front nothing room)
   resource_member-steady =
       then_steady prefix-steady (λ pre.
       if_key_steady _ (then_steady params-steady (λ params. then_steady result-steady (λ result. mark_steady _ found_steady)))
       (then_steady id_steady (λ name. mark_steady _ (if_key_steady _ (function-steady _) (function-steady _)))))
 
-  pub resource_member-shrinks : Shrinks (resource_member_in_front room)
-  resource_member-shrinks = shrinks (resource_member-sound room) resource_member-shortens
-
-  declared-steady : Steady (declared_in_front room)
+  declared-steady : Steady (declared_in_front nothing room)
   declared-steady =
-      if_key_steady _ (then_steady id_steady (λ name. mark_steady _ (made_steady _ (listed_steady field-steady field-shrinks _))))
-      (if_key_steady _ (then_steady id_steady (λ name. mark_steady _ (made_steady _ (listed_steady case-steady case-shrinks _))))
+      if_key_steady _ (then_steady id_steady (λ name. mark_steady _ (made_steady _ (listed_steady field-steady (field-shrinks nothing room) _))))
+      (if_key_steady _ (then_steady id_steady (λ name. mark_steady _ (made_steady _ (listed_steady case-steady (case-shrinks nothing room) _))))
       (if_key_steady _ (then_steady id_steady (λ name. mark_steady _ (made_steady _ labels-steady)))
       (if_key_steady _ (then_steady id_steady (λ name. mark_steady _ (made_steady _ labels-steady)))
       (if_key_steady _ (then_steady id_steady (λ name. mark_steady _ (then_steady alias-steady (λ ty. mark_steady _ found_steady))))
       (if_key_steady _ (then_steady id_steady (λ name. if_mark_steady _ found_steady (mark_steady _ (made_steady _
-      (repeated_steady resource_member-steady resource_member-shrinks _))))) refused_steady)))))
+      (repeated_steady resource_member-steady (resource_member-shrinks nothing room) _))))) refused_steady)))))
 
   -- ---- what interfaces, worlds and packages have
 
-  member-steady : Steady (member_in_front room)
+  member-steady : Steady (member_in_front nothing room)
   member-steady =
       then_steady prefix-steady (λ pre.
       if_id_steady (λ name. mark_steady _ (function-steady _)) (if_key_steady _ (use-steady _) (made_steady _ declared-steady)))
 
-  pub member-shrinks : Shrinks (member_in_front room)
-  member-shrinks = shrinks (member-sound room) member-shortens
-
-  extern-steady : Steady (extern_in_front room)
+  extern-steady : Steady (extern_in_front nothing room)
   extern-steady =
       then_steady id_steady (λ name.
       if_mark_steady _ found_steady
       (mark_steady _ (either_steady begins_signature signature_windowed (function-steady _)
-      (if_key_steady _ (made_steady _ (mark_steady _ (repeated_steady member-steady member-shrinks _)))
+      (if_key_steady _ (made_steady _ (mark_steady _ (repeated_steady member-steady (member-shrinks nothing room) _)))
       (then_steady id_steady (λ second.
       either_steady (begins Slash) (begins_windowed Slash) (then_steady (full_path-steady name second) (λ path. mark_steady _ found_steady))
       (then_steady (path_behind-steady second) (λ path. mark_steady _ found_steady))))))))
 
-  world_member-steady : Steady (world_member_in_front room)
+  world_member-steady : Steady (world_member_in_front nothing room)
   world_member-steady =
       then_steady prefix-steady (λ pre.
       if_key_steady _ (made_steady _ extern-steady)
       (if_key_steady _ (made_steady _ extern-steady)
       (if_key_steady _ (use-steady _) (made_steady _ declared-steady))))
 
-  pub world_member-shrinks : Shrinks (world_member_in_front room)
-  world_member-shrinks = shrinks (world_member-sound room) world_member-shortens
-
-  item-steady : Steady (item_in_front room)
+  item-steady : Steady (item_in_front nothing room)
   item-steady =
       then_steady gates-steady (λ gates.
-      if_key_steady _ (then_steady id_steady (λ name. made_steady _ (mark_steady _ (repeated_steady member-steady member-shrinks _))))
+      if_key_steady _ (then_steady id_steady (λ name. made_steady _ (mark_steady _ (repeated_steady member-steady (member-shrinks nothing room) _))))
       (if_key_steady _ (then_steady id_steady (λ name. made_steady _ (mark_steady _
-      (repeated_steady world_member-steady world_member-shrinks _)))) (if_mark_steady _ refused_steady refused_steady)))
-
-  pub item-shrinks : Shrinks (item_in_front room)
-  item-shrinks = shrinks (item-sound room) item-shortens
+      (repeated_steady world_member-steady (world_member-shrinks nothing room) _)))) refused_steady))
 
   head-steady : Steady head_in_front
   head-steady = then_steady id_steady (λ namespace. mark_steady _ (then_steady id_steady (λ name. made_steady _ at_version-steady)))
 
-  nested-steady : Steady (nested_in_front room)
+  nested-steady : Steady (nested_in_front nothing room)
   nested-steady =
-      key_steady _ (then_steady head-steady (λ head. mark_steady _ (made_steady _ (repeated_steady item-steady item-shrinks _))))
+      key_steady _ (then_steady head-steady (λ head. mark_steady _ (made_steady _ (repeated_steady item-steady (item-shrinks nothing room) _))))
 
-  pub nested-shrinks : Shrinks (nested_in_front room)
-  nested-shrinks = shrinks (nested-sound room) nested-shortens
-
-  -- The reader of a file answers alike for tokens that begin alike.
-  pub file-steady : Steady (file_in_front room)
+  -- The reader of a file, without documentation, answers alike for tokens that begin alike.
+  pub file-steady : Steady (file_in_front nothing room)
   file-steady =
       key_steady _ (then_steady head-steady (λ head. mark_steady _ (then_steady
-      (until_steady item-steady item-shrinks ends_items ends_windowed) (λ items.
-      made_steady _ (until_steady nested-steady nested-shrinks is_end end_windowed)))))
+      (until_steady item-steady (item-shrinks nothing room) ends_items ends_windowed) (λ items.
+      made_steady _ (until_steady nested-steady (nested-shrinks nothing room) is_end end_windowed)))))

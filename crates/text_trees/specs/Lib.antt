@@ -1,4 +1,5 @@
 pub mod Reading
+pub mod Grammar
 pub mod ReadTypes
 pub mod ReadDeclared
 pub mod ReadFiles

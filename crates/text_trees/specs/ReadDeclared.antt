@@ -1,13 +1,15 @@
 -- Reading what stands in front of items, paths, uses and declared types (WIT.md, Item: use, Feature gates, Item: type).
-use Rattle.std.specs.Prelude.{List, [], ℕ, suc, Option, Some, None, codes}
+use Rattle.std.specs.Prelude.{◌&&◌, Bool, true, false, List, [], ℕ, zero, suc, length, Option, Some, None, is_none, codes, if◌then◌else◌}
+use Rattle.std.specs.Option.{option_map_or}
 use Rattle.wit_model.specs.Text.{Text}
 use Rattle.print_grammar.specs.{Keyword.Keyword, Token.Token}
 use Rattle.print_grammar.specs.Token.Mark.{OpenBrace, CloseBrace, OpenParen, CloseParen, Colon, Semi, Dot, Equals, Slash, At}
 use Rattle.print_grammar.specs.Tree.{Gates, Prefix, FieldTree, CaseTree, LabelTree, SignatureTree, ResourceMember, Declared, PathTree, UsedName}
-use Rattle.print_grammar.specs.Tree.{Gates.Ungated, Gates.Since, Gates.Unstable, ResourceMember.Constructor, ResourceMember.Method, ResourceMember.Static}
+use Rattle.print_grammar.specs.Tree.{ResourceMember.Constructor, ResourceMember.Method, ResourceMember.Static}
 use Rattle.print_grammar.specs.Tree.{PathTree.Local, PathTree.Full}
 use Rattle.print_grammar.specs.Tree.Declared.{RecordOf, VariantOf, FlagsOf, EnumOf, AliasOf, ResourceOf}
-use Rattle.text_trees.specs.Reading.{Wanted, Reading, Reading.Found, Reading.Refused, then_read, made, behind_mark, if_mark, if_key, id_in_front, version_in_front, quoted_in_front, behind_word, if_word, if_attribute, repeated, listed}
+use Rattle.text_trees.specs.Grammar.{Documentation, Marks, gates_of_marks, no_marks}
+use Rattle.text_trees.specs.Reading.{Wanted, Reading, Reading.Found, Reading.Refused, then_read, made, begins, begins_word, behind, behind_mark, if_mark, if_key, id_in_front, version_in_front, quoted_in_front, behind_word, repeated, listed}
 use Rattle.text_trees.specs.ReadTypes.{type_in_front, params_in_front, result_in_front, signature_in_front}
 
 -- ---- in front of an item
@@ -22,38 +24,57 @@ version_argument_in_front =
     behind_mark OpenParen (behind_word (codes "version") (behind_mark Equals (λ rest.
     then_read (version_in_front rest) (λ version rest. behind_mark CloseParen (Found version) rest))))
 
--- a deprecation and its version, or nothing
-abbrev pub deprecated_in_front : List Token → Reading (Option Text)
-deprecated_in_front = if_attribute (codes "deprecated") (λ rest. made (λ version. Some version) (version_argument_in_front rest)) (Found None)
-
--- what follows `@since`
-abbrev pub since_in_front : List Token → Reading Gates
-since_in_front ts =
-    then_read (version_argument_in_front ts) (λ version rest.
-    then_read (deprecated_in_front rest) (λ deprecated rest. Found (Since version deprecated) rest))
-
--- what follows `@unstable`: a feature in parentheses, `(feature = name)`, and perhaps a deprecation
-abbrev pub unstable_in_front : List Token → Reading Gates
-unstable_in_front =
+-- a feature in parentheses: `(feature = name)`
+abbrev pub feature_argument_in_front : List Token → Reading Text
+feature_argument_in_front =
     behind_mark OpenParen (behind_word (codes "feature") (behind_mark Equals (λ rest.
-    then_read (id_in_front rest) (λ feature rest.
-    behind_mark CloseParen (λ rest. then_read (deprecated_in_front rest) (λ deprecated rest. Found (Unstable feature deprecated) rest)) rest))))
+    then_read (id_in_front rest) (λ feature rest. behind_mark CloseParen (Found feature) rest))))
 
--- feature gates, or none
+-- a string in parentheses: `("..")`
+abbrev pub id_argument_in_front : List Token → Reading (List ℕ)
+id_argument_in_front =
+    behind_mark OpenParen (λ rest. then_read (quoted_in_front rest) (λ characters rest. behind_mark CloseParen (Found characters) rest))
+
+-- what is read behind a word where it may stand and stands in front, or else something else
+unfoldable pub if_free : {X : Type 0} → Bool → Text → (List Token → Reading X) → (List Token → Reading X) → List Token → Reading X
+if_free free text next other ts = if free && begins_word text ts then next (behind ts) else other ts
+
+-- whether neither a version nor a feature has been read
+abbrev pub is_ungated : Marks → Bool
+is_ungated marks = is_none marks.since && is_none marks.unstable
+
+-- an attribute behind its `@`, and what those before it say; an external id where one may stand
+abbrev pub mark_behind : Bool → Marks → List Token → Reading Marks
+mark_behind ids marks =
+    if_free (is_ungated marks) (codes "since") (λ rest. made (λ version. record marks { since = Some version }) (version_argument_in_front rest))
+    (if_free (is_ungated marks) (codes "unstable") (λ rest. made (λ feature. record marks { unstable = Some feature }) (feature_argument_in_front rest))
+    (if_free (is_none marks.deprecated) (codes "deprecated")
+    (λ rest. made (λ version. record marks { deprecated = Some version }) (version_argument_in_front rest))
+    (if_free (ids && is_none marks.external_id) (codes "external-id")
+    (λ rest. made (λ characters. record marks { external_id = Some characters }) (id_argument_in_front rest)) (Refused Wanted.AnAttribute))))
+
+-- Attributes, and what those before them say. The number counts down; it is more than there are tokens.
+unfoldable pub marks_from : Bool → ℕ → Marks → List Token → Reading Marks
+marks_from ids zero marks ts = Refused Wanted.AnAttribute ts
+marks_from ids (suc n) marks ts = if begins At ts then then_read (mark_behind ids marks (behind ts)) (marks_from ids n) else Found marks ts
+
+-- attributes
+unfoldable pub marks_in_front : Bool → List Token → Reading Marks
+marks_in_front ids ts = marks_from ids (suc (length ts)) no_marks ts
+
+-- the gates that attributes are, behind them
+abbrev pub gates_behind : Marks → List Token → Reading Gates
+gates_behind marks ts = option_map_or (λ gates. Found gates ts) (gates_of_marks marks) (Refused Wanted.AGate ts)
+
+-- gates alone
 abbrev pub gates_in_front : List Token → Reading Gates
-gates_in_front = if_attribute (codes "since") since_in_front (if_attribute (codes "unstable") unstable_in_front (Found Ungated))
+gates_in_front ts = then_read (marks_in_front false ts) gates_behind
 
--- an external id, or nothing: `@external-id("..")`
-abbrev pub external_id_in_front : List Token → Reading (Option (List ℕ))
-external_id_in_front =
-    if_mark At (if_word (codes "external-id") (behind_mark OpenParen (λ rest.
-    then_read (quoted_in_front rest) (λ characters rest. behind_mark CloseParen (Found (Some characters)) rest))) (Refused Wanted.AnAttribute)) (Found None)
-
--- what stands in front of an item: gates and an external id
-abbrev pub prefix_in_front : List Token → Reading Prefix
-prefix_in_front ts =
-    then_read (gates_in_front ts) (λ gates rest.
-    then_read (external_id_in_front rest) (λ external_id rest. Found (record { docs = []; gates = gates; external_id = external_id }) rest))
+-- what stands in front of an item: documentation, gates and an external id
+abbrev pub prefix_in_front : Documentation → List Token → Reading Prefix
+prefix_in_front docs ts =
+    then_read (marks_in_front true ts) (λ marks rest.
+    made (λ gates. record { docs = docs ts; gates = gates; external_id = marks.external_id }) (gates_behind marks rest))
 
 -- ---- paths and uses
 
@@ -89,22 +110,22 @@ use_behind use_of ts =
 -- ---- declared types
 
 -- a record's field: a name, a colon and a type
-abbrev pub field_in_front : ℕ → List Token → Reading FieldTree
-field_in_front room ts =
+abbrev pub field_in_front : Documentation → ℕ → List Token → Reading FieldTree
+field_in_front docs room ts =
     then_read (id_in_front ts) (λ name rest.
-    behind_mark Colon (λ rest. then_read (type_in_front room rest) (λ ty rest. Found (record { docs = []; name = name; ty = ty }) rest)) rest)
+    behind_mark Colon (λ rest. then_read (type_in_front room rest) (λ ty rest. Found (record { docs = docs ts; name = name; ty = ty }) rest)) rest)
 
 -- a variant's case: a name, and perhaps a payload in parentheses
-abbrev pub case_in_front : ℕ → List Token → Reading CaseTree
-case_in_front room ts =
+abbrev pub case_in_front : Documentation → ℕ → List Token → Reading CaseTree
+case_in_front docs room ts =
     then_read (id_in_front ts) (λ name rest.
     if_mark OpenParen (λ rest.
-    then_read (type_in_front room rest) (λ ty rest. behind_mark CloseParen (Found (record { docs = []; name = name; payload = Some ty })) rest))
-    (Found (record { docs = []; name = name; payload = None })) rest)
+    then_read (type_in_front room rest) (λ ty rest. behind_mark CloseParen (Found (record { docs = docs ts; name = name; payload = Some ty })) rest))
+    (Found (record { docs = docs ts; name = name; payload = None })) rest)
 
 -- a flag or a case of an enum: a name
-abbrev pub label_in_front : List Token → Reading LabelTree
-label_in_front ts = then_read (id_in_front ts) (λ name rest. Found (record { docs = []; name = name }) rest)
+abbrev pub label_in_front : Documentation → List Token → Reading LabelTree
+label_in_front docs ts = then_read (id_in_front ts) (λ name rest. Found (record { docs = docs ts; name = name }) rest)
 
 -- a signature and its `;`
 abbrev pub function_behind : {X : Type 0} → ℕ → (SignatureTree → X) → List Token → Reading X
@@ -124,26 +145,26 @@ resource_member_behind room prefix =
     behind_mark Colon (if_key Keyword.Static (function_behind room (Static prefix name)) (function_behind room (Method prefix name))) rest))
 
 -- a function of a resource
-abbrev pub resource_member_in_front : ℕ → List Token → Reading ResourceMember
-resource_member_in_front room ts = then_read (prefix_in_front ts) (resource_member_behind room)
+abbrev pub resource_member_in_front : Documentation → ℕ → List Token → Reading ResourceMember
+resource_member_in_front docs room ts = then_read (prefix_in_front docs ts) (resource_member_behind room)
 
 -- a name, and what is read behind it
 abbrev pub named : {X : Type 0} → (Text → List Token → Reading X) → List Token → Reading X
 named next ts = then_read (id_in_front ts) next
 
 -- what follows the name of a resource: `;`, or its functions in braces
-abbrev pub resource_behind : ℕ → Text → List Token → Reading Declared
-resource_behind room name =
+abbrev pub resource_behind : Documentation → ℕ → Text → List Token → Reading Declared
+resource_behind docs room name =
     if_mark Semi (Found (ResourceOf name [])) (behind_mark OpenBrace
-    (λ rest. made (ResourceOf name) (repeated (resource_member_in_front room) CloseBrace rest)))
+    (λ rest. made (ResourceOf name) (repeated (resource_member_in_front docs room) CloseBrace rest)))
 
 -- A declared type. What `type` gives a name may have one level more than a type where it is used (`fits_declared`).
-abbrev pub declared_in_front : ℕ → List Token → Reading Declared
-declared_in_front room =
-    if_key Keyword.Record (named (λ name. behind_mark OpenBrace (λ rest. made (RecordOf name) (listed (field_in_front room) CloseBrace rest))))
-    (if_key Keyword.Variant (named (λ name. behind_mark OpenBrace (λ rest. made (VariantOf name) (listed (case_in_front room) CloseBrace rest))))
-    (if_key Keyword.Flags (named (λ name. behind_mark OpenBrace (λ rest. made (FlagsOf name) (listed label_in_front CloseBrace rest))))
-    (if_key Keyword.Enum (named (λ name. behind_mark OpenBrace (λ rest. made (EnumOf name) (listed label_in_front CloseBrace rest))))
+abbrev pub declared_in_front : Documentation → ℕ → List Token → Reading Declared
+declared_in_front docs room =
+    if_key Keyword.Record (named (λ name. behind_mark OpenBrace (λ rest. made (RecordOf name) (listed (field_in_front docs room) CloseBrace rest))))
+    (if_key Keyword.Variant (named (λ name. behind_mark OpenBrace (λ rest. made (VariantOf name) (listed (case_in_front docs room) CloseBrace rest))))
+    (if_key Keyword.Flags (named (λ name. behind_mark OpenBrace (λ rest. made (FlagsOf name) (listed (label_in_front docs) CloseBrace rest))))
+    (if_key Keyword.Enum (named (λ name. behind_mark OpenBrace (λ rest. made (EnumOf name) (listed (label_in_front docs) CloseBrace rest))))
     (if_key Keyword.Type_ (named (λ name. behind_mark Equals (λ rest.
     then_read (type_in_front (suc room) rest) (λ ty rest. behind_mark Semi (Found (AliasOf name ty)) rest))))
-    (if_key Keyword.Resource (named (resource_behind room)) (Refused Wanted.AMember))))))
+    (if_key Keyword.Resource (named (resource_behind docs room)) (Refused Wanted.AMember))))))

@@ -18,8 +18,10 @@ pub data Wanted : Type 0 where
   AMember : Wanted
   -- an interface or a world
   AnItem : Wanted
-  -- a gate or an external id, behind `@`
+  -- a gate or an external id that may stand there, behind `@`
   AnAttribute : Wanted
+  -- a version since which, or a feature under which, something is deprecated
+  AGate : Wanted
   -- a type of fewer levels
   Shallower : Wanted
 

@@ -1,5 +1,5 @@
 -- What tokens of the code are by the grammar: a token is what its kind and its part of the text make it.
-use Rattle.std.specs.Prelude.{◌≡◌, ◌-◌, ℕ, List, [], length, map, drop, take, codes}
+use Rattle.std.specs.Prelude.{◌≡◌, ◌-◌, ℕ, List, [], length, map, drop, take, codes, slice_get, zero, suc}
 use Rattle.std.specs.Str.Parse.{digits_value}
 use Rattle.std.specs.Option.{option_map_or}
 use Rattle.wit_model.specs.Text.{Text}
@@ -22,6 +22,7 @@ use Rattle.text_trees.specs.declared.refusal.Wanted.{Wanted}
 use Rattle.text_trees.specs.declared.refusal.Wanted.TheVariants as wanted
 use Rattle.text_trees.specs.declared.refusal.Refusal.{Refusal}
 use Rattle.text_trees.specs.declared.refusal.Refusal.TheVariants as refusal
+use Rattle.text_tokens.specs.{Documentation.docs_in, Places.gaps_from}
 use Rattle.text_trees.specs.Reading.{Reading, Reading.Refused, Wanted as wants}
 
 -- ---- keywords and marks of the grammar
@@ -140,6 +141,21 @@ count_of them = length them.places.now
 unfoldable pub ahead : Tokens → ℕ → List tokens
 ahead them at = drop at (map (said (text_of them)) them.places.now)
 
+-- ---- documentation
+
+-- the documentation in front of the tokens that are left, by the gaps in front of all
+abbrev pub docs_by : List Text → List tokens → List Text
+docs_by gaps rest = option_map_or docs_in (slice_get gaps (length gaps - length rest)) []
+
+-- where the gap in front of a place begins: where the place before it ends, or at the first byte
+abbrev pub gap_start : List Token → ℕ → ℕ
+gap_start places zero = 0
+gap_start places (suc n) = option_map_or (λ p. p.end) (slice_get places n) 0
+
+-- the documentation in front of the tokens that are left
+abbrev pub docs_ahead : Tokens → List tokens → List Text
+docs_ahead them = docs_by (gaps_from (text_of them) 0 them.places.now)
+
 -- ---- refusals
 
 -- a word
@@ -160,6 +176,7 @@ wanted_there wanted.«Type» = wants.AType
 wanted_there wanted.Member = wants.AMember
 wanted_there wanted.Item = wants.AnItem
 wanted_there wanted.Attribute = wants.AnAttribute
+wanted_there wanted.Gate = wants.AGate
 wanted_there wanted.Shallower = wants.Shallower
 
 -- A refusal is that of a reading, want of memory aside.

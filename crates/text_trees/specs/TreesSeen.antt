@@ -32,10 +32,13 @@ use Rattle.print_grammar.specs.Tree.TypeTrees.{NoTypes, AndTypes}
 use Rattle.text_trees.specs.declared.tree.TypeTree.{TypeTree as CodeTree, PrimitiveType as PrimitiveType', Name as Name', Own as Own', Borrow as Borrow', Result as Result', Future as Future', Stream as Stream', TupleOf', OptionOf', ListOf', FixedListOf', MapOf', ResultOk', ResultErr', ResultOf', FutureOf', StreamOf', Row_of-TypeTree, end_of-TypeTree, more_of-TypeTree}
 use Rattle.print_grammar.specs.Token.{Token, Mark.Less, Mark.Greater, Mark.Colon, Mark.Semi, Mark.Equals, Mark.OpenBrace, Mark.CloseBrace}
 use Rattle.print_grammar.specs.Keyword.{Keyword}
+use Rattle.text_tokens.specs.Documentation.{docs_in}
+use Rattle.text_trees.specs.Grammar.{Documentation, Marks}
+use Rattle.text_trees.specs.declared.{prefix.Marks.Marks as CodeMarks, tree.Span.Span}
 use Rattle.text_trees.specs.ReadDeclared.{case_in_front, declared_in_front, use_behind, field_in_front, function_behind, label_in_front, named, resource_behind}
 use Rattle.text_trees.specs.Reading.{Reading, Reading.Found, begins, behind_mark, id_in_front, if_key, if_mark, listed, made, repeated, then_read, until}
 use Rattle.text_trees.specs.ReadTypes.{type_in_front, in_brackets, list_in_front, map_in_front, payload_in_front, result_parts_in_front, tuple_types}
-use Rattle.text_trees.specs.ReadFiles.{ends_items, extern_path_behind, is_end, item_in_front, members_in_front, nested_in_front, world_members_in_front}
+use Rattle.text_trees.specs.ReadFiles.{ends_items, extern_path_behind, is_end, item_in_front, members_in_front, nested_in_front, package_with, world_members_in_front}
 use Rattle.text_trees.specs.declared.lists.Ends.{Ends}
 use Rattle.text_trees.specs.declared.lists.Ends.TheVariants as ends
 use Rattle.text_trees.specs.declared.types.Form.{Form}
@@ -120,10 +123,22 @@ gates_of text gates.Ungated = Ungated
 gates_of text (gates.Since version deprecated) = Since (cut text version) (option_map (cut text) deprecated)
 gates_of text (gates.Unstable feature deprecated) = Unstable (cut text feature) (option_map (cut text) deprecated)
 
+-- what attributes say so far
+abbrev pub marks_of : Text → CodeMarks → Marks
+marks_of text marks =
+    record {
+      since = option_map (cut text) marks.since; unstable = option_map (cut text) marks.unstable; deprecated = option_map (cut text) marks.deprecated;
+      external_id = option_map (λ span. characters_of (cut text span)) marks.external_id
+    }
+
+-- the lines of documentation in a gap
+abbrev pub docs_of : Text → Span → List Text
+docs_of text gap = docs_in (cut text gap)
+
 -- what stands in front of an item
 abbrev pub prefix_of : Text → CodePrefix → Prefix
 prefix_of text prefix =
-    record { docs = []; gates = gates_of text prefix.gates; external_id = option_map (λ span. characters_of (cut text span)) prefix.external_id }
+    record { docs = docs_of text prefix.docs; gates = gates_of text prefix.gates; external_id = option_map (λ span. characters_of (cut text span)) prefix.external_id }
 
 -- ---- paths and uses
 
@@ -140,15 +155,15 @@ used_name_of text used = record { other = cut text used.other; own = option_map 
 
 -- a field of a record
 abbrev pub field_of : Text → CodeField → FieldTree
-field_of text field = record { docs = []; name = cut text field.name; ty = type_of text field.ty }
+field_of text field = record { docs = docs_of text field.docs; name = cut text field.name; ty = type_of text field.ty }
 
 -- a case of a variant
 abbrev pub case_of : Text → CodeCase → CaseTree
-case_of text c = record { docs = []; name = cut text c.name; payload = option_map (type_of text) c.payload }
+case_of text c = record { docs = docs_of text c.docs; name = cut text c.name; payload = option_map (type_of text) c.payload }
 
 -- a flag, or a case of an enum
 abbrev pub label_of : Text → CodeLabel → LabelTree
-label_of text label = record { docs = []; name = cut text label.name }
+label_of text label = record { docs = docs_of text label.docs; name = cut text label.name }
 
 -- what a resource has
 abbrev pub resource_member_of : Text → CodeResourceMember → ResourceMember
@@ -182,17 +197,17 @@ alias_in_front room =
     named (λ name. behind_mark Equals (λ rest. then_read (type_in_front (suc room) rest) (λ ty rest. behind_mark Semi (Found (AliasOf name ty)) rest)))
 
 -- what follows `resource`
-abbrev pub resource_in_front : ℕ → List Token → Reading Declared
-resource_in_front room = named (resource_behind room)
+abbrev pub resource_in_front : Documentation → ℕ → List Token → Reading Declared
+resource_in_front docs room = named (resource_behind docs room)
 
 -- what follows the word of a sort
-abbrev pub declared_behind : Sort → ℕ → List Token → Reading Declared
-declared_behind sort.Record room = braced RecordOf (field_in_front room)
-declared_behind sort.Variant room = braced VariantOf (case_in_front room)
-declared_behind sort.Flags room = braced FlagsOf label_in_front
-declared_behind sort.Enum room = braced EnumOf label_in_front
-declared_behind sort.Alias room = alias_in_front room
-declared_behind sort.Resource room = resource_in_front room
+abbrev pub declared_behind : Sort → Documentation → ℕ → List Token → Reading Declared
+declared_behind sort.Record docs room = braced RecordOf (field_in_front docs room)
+declared_behind sort.Variant docs room = braced VariantOf (case_in_front docs room)
+declared_behind sort.Flags docs room = braced FlagsOf (label_in_front docs)
+declared_behind sort.Enum docs room = braced EnumOf (label_in_front docs)
+declared_behind sort.Alias docs room = alias_in_front room
+declared_behind sort.Resource docs room = resource_in_front docs room
 
 -- ---- interfaces, worlds, packages and files
 
@@ -218,8 +233,8 @@ world_member_of text (world.WorldExport prefix it) = WorldExport (prefix_of text
 
 -- an interface or a world
 abbrev pub item_of : Text → CodeItem → ItemTree
-item_of text (item.InterfaceItem gates name members) = InterfaceItem [] (gates_of text gates) (cut text name) (map (member_of text) members.items)
-item_of text (item.WorldItem gates name members) = WorldItem [] (gates_of text gates) (cut text name) (map (world_member_of text) members.items)
+item_of text (item.InterfaceItem docs gates name members) = InterfaceItem (docs_of text docs) (gates_of text gates) (cut text name) (map (member_of text) members.items)
+item_of text (item.WorldItem docs gates name members) = WorldItem (docs_of text docs) (gates_of text gates) (cut text name) (map (world_member_of text) members.items)
 
 -- what names a package
 abbrev pub head_of : Text → CodeHead → PackageHead
@@ -227,41 +242,44 @@ head_of text head = record { docs = []; namespace = cut text head.namespace; nam
 
 -- a package
 abbrev pub package_of : Text → CodePackage → PackageTree
-package_of text it = record { head = head_of text it.head; items = map (item_of text) it.items.items }
+package_of text it = package_with (docs_of text it.docs) (head_of text it.head) (map (item_of text) it.items.items)
 
 -- a file
 abbrev pub file_of : Text → CodeFile → FileTree
 file_of text file = record { main = package_of text file.main; nested = map (package_of text) file.nested.items }
 
 -- what an interface has that begins with no name, behind what stands in front of it
-abbrev pub other_behind : ℕ → Prefix → List Token → Reading MemberTree
-other_behind room prefix = if_key Keyword.Use (use_behind (UseMember prefix)) (λ rest. made (TypeMember prefix) (declared_in_front room rest))
+abbrev pub other_behind : Documentation → ℕ → Prefix → List Token → Reading MemberTree
+other_behind docs room prefix = if_key Keyword.Use (use_behind (UseMember prefix)) (λ rest. made (TypeMember prefix) (declared_in_front docs room rest))
 
 -- what follows a name and a colon in a world and begins with no signature: an interface or a path
-abbrev pub extern_other_behind : ℕ → Text → List Token → Reading ExternTree
-extern_other_behind room name = if_key Keyword.Interface (λ rest. made (NamedInterface name) (members_in_front room rest)) (named (extern_path_behind name))
+abbrev pub extern_other_behind : Documentation → ℕ → Text → List Token → Reading ExternTree
+extern_other_behind docs room name =
+    if_key Keyword.Interface (λ rest. made (NamedInterface name) (members_in_front docs room rest)) (named (extern_path_behind name))
 
 -- what a world has that is no import and no export, behind what stands in front of it
-abbrev pub world_other_behind : ℕ → Prefix → List Token → Reading WorldMember
-world_other_behind room prefix = if_key Keyword.Use (use_behind (WorldUse prefix)) (λ rest. made (WorldType prefix) (declared_in_front room rest))
+abbrev pub world_other_behind : Documentation → ℕ → Prefix → List Token → Reading WorldMember
+world_other_behind docs room prefix = if_key Keyword.Use (use_behind (WorldUse prefix)) (λ rest. made (WorldType prefix) (declared_in_front docs room rest))
 
 -- an interface, behind its word
-abbrev pub interface_in_front : ℕ → Gates → List Token → Reading ItemTree
-interface_in_front room gates = named (λ name rest. made (InterfaceItem [] gates name) (members_in_front room rest))
+abbrev pub interface_in_front : Documentation → ℕ → List Text → Gates → List Token → Reading ItemTree
+interface_in_front docs room lines gates = named (λ name rest. made (InterfaceItem lines gates name) (members_in_front docs room rest))
 
 -- a world, behind its word
-abbrev pub world_in_front : ℕ → Gates → List Token → Reading ItemTree
-world_in_front room gates = named (λ name rest. made (WorldItem [] gates name) (world_members_in_front room rest))
+abbrev pub world_in_front : Documentation → ℕ → List Text → Gates → List Token → Reading ItemTree
+world_in_front docs room lines gates = named (λ name rest. made (WorldItem lines gates name) (world_members_in_front docs room rest))
 
 -- a nested package, behind what names it
-abbrev pub package_behind : ℕ → PackageHead → List Token → Reading PackageTree
-package_behind room head = behind_mark OpenBrace (λ rest. made (λ items. record { head = head; items = items }) (repeated (item_in_front room) CloseBrace rest))
+abbrev pub package_behind : Documentation → ℕ → List Text → PackageHead → List Token → Reading PackageTree
+package_behind docs room lines head =
+    behind_mark OpenBrace (λ rest. made (package_with lines head) (repeated (item_in_front docs room) CloseBrace rest))
 
 -- the packages nested in a file, behind the items of its own
-abbrev pub nested_behind : ℕ → PackageHead → List ItemTree → List Token → Reading FileTree
-nested_behind room head items rest =
-    made (λ nested. record { main = record { head = head; items = items }; nested = nested }) (until is_end (nested_in_front room) rest)
+abbrev pub nested_behind : Documentation → ℕ → List Text → PackageHead → List ItemTree → List Token → Reading FileTree
+nested_behind docs room lines head items rest =
+    made (λ nested. record { main = package_with lines head items; nested = nested }) (until is_end (nested_in_front docs room) rest)
 
 -- a file, behind what names its package
-abbrev pub file_behind : ℕ → PackageHead → List Token → Reading FileTree
-file_behind room head = behind_mark Semi (λ rest. then_read (until ends_items (item_in_front room) rest) (nested_behind room head))
+abbrev pub file_behind : Documentation → ℕ → List Text → PackageHead → List Token → Reading FileTree
+file_behind docs room lines head =
+    behind_mark Semi (λ rest. then_read (until ends_items (item_in_front docs room) rest) (nested_behind docs room lines head))

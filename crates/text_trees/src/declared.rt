@@ -8,7 +8,7 @@ ghost use Rattle.text_trees.specs.ReadDeclared.{case_in_front, constructor_behin
 ghost use Rattle.text_trees.specs.Seen.{RefusesAs, ahead, count_of, text_of};
 ghost use Rattle.text_trees.specs.TreesSeen.{case_of, field_of, label_of, method_in_front, prefix_of, resource_member_of};
 
-use crate::front::{Tokens, begins, begins_key, mark_at, name_at};
+use crate::front::{Tokens, begins, begins_key, gap_at, mark_at, name_at};
 use crate::lists::Form;
 use crate::prefix::prefix_at;
 use crate::refusal::Refusal;
@@ -21,29 +21,32 @@ use text_tokens::{Keyword, Mark};
 impl Form for FieldTree {
     ghost Tree = { GrammarField };
 
-    ghost reader = { field_in_front 100 };
+    ghost reader = { λ docs. field_in_front docs 100 };
 
     ghost view = { field_of };
 
     fn read(alloc: Global, tokens: &Tokens<'_>, at: usize) -> Result<(FieldTree, usize), Refusal> {
+        let docs = gap_at(tokens, at);
         let (name, end) = name_at(tokens, at)?;
         let from = mark_at(tokens, Mark::Colon, end)?;
         let (ty, behind) = type_at(alloc, tokens, from, LEVELS)?;
-        Ok((FieldTree { name, ty }, behind))
+        Ok((FieldTree { docs, name, ty }, behind))
     }
 }
 
 impl Form for CaseTree {
     ghost Tree = { GrammarCase };
 
-    ghost reader = { case_in_front 100 };
+    ghost reader = { λ docs. case_in_front docs 100 };
 
     ghost view = { case_of };
 
     fn read(alloc: Global, tokens: &Tokens<'_>, at: usize) -> Result<(CaseTree, usize), Refusal> {
+        let docs = gap_at(tokens, at);
         let (name, end) = name_at(tokens, at)?;
         if !begins(tokens, Mark::OpenParen, end) {
             let alone = CaseTree {
+                docs,
                 name,
                 payload: None,
             };
@@ -52,6 +55,7 @@ impl Form for CaseTree {
         let (ty, end) = type_at(alloc, tokens, end + 1, LEVELS)?;
         let behind = mark_at(tokens, Mark::CloseParen, end)?;
         let case = CaseTree {
+            docs,
             name,
             payload: Some(ty),
         };
@@ -67,8 +71,9 @@ impl Form for LabelTree {
     ghost view = { label_of };
 
     fn read(_alloc: Global, tokens: &Tokens<'_>, at: usize) -> Result<(LabelTree, usize), Refusal> {
+        let docs = gap_at(tokens, at);
         let (name, behind) = name_at(tokens, at)?;
-        Ok((LabelTree { name }, behind))
+        Ok((LabelTree { docs, name }, behind))
     }
 }
 
@@ -142,7 +147,7 @@ fn resource_member_at(
 impl Form for ResourceMember {
     ghost Tree = { GrammarResourceMember };
 
-    ghost reader = { resource_member_in_front 100 };
+    ghost reader = { λ docs. resource_member_in_front docs 100 };
 
     ghost view = { resource_member_of };
 

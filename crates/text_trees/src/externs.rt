@@ -7,7 +7,7 @@ ghost use Rattle.text_trees.specs.Reading.{Reading.Found};
 ghost use Rattle.text_trees.specs.ReadTypes.{begins_signature as begins_signature_lem};
 ghost use Rattle.text_trees.specs.ReadDeclared.{function_behind};
 ghost use Rattle.text_trees.specs.ReadFiles.{extern_behind, extern_in_front, extern_path_behind};
-ghost use Rattle.text_trees.specs.Seen.{RefusesAs, ahead, count_of, cut, text_of};
+ghost use Rattle.text_trees.specs.Seen.{RefusesAs, ahead, count_of, cut, docs_ahead, text_of};
 ghost use Rattle.text_trees.specs.TreesSeen.{extern_of, extern_other_behind};
 
 use crate::front::{Tokens, begins, begins_key, mark_at, name_at};
@@ -80,9 +80,9 @@ fn extern_other_at(
     at: usize,
 ) -> Result<(ExternTree, usize), Refusal>
     requires { at ≤ count_of tokens.now }
-    ensures ok { IfOk result (λ r. extern_other_behind 100 (cut (text_of tokens.now) name) (ahead tokens.now at)
+    ensures ok { IfOk result (λ r. extern_other_behind (docs_ahead tokens.now) 100 (cut (text_of tokens.now) name) (ahead tokens.now at)
         ≡ Found (extern_of (text_of tokens.now) r.0) (ahead tokens.now r.1)) }
-    ensures err { IfErr result (λ e. RefusesAs tokens.now e (extern_other_behind 100 (cut (text_of tokens.now) name) (ahead tokens.now at))) }
+    ensures err { IfErr result (λ e. RefusesAs tokens.now e (extern_other_behind (docs_ahead tokens.now) 100 (cut (text_of tokens.now) name) (ahead tokens.now at))) }
     ensures goes { IfOk result (λ r. at < r.1) }
     ensures within { IfOk result (λ r. r.1 ≤ count_of tokens.now) }
 {
@@ -104,9 +104,9 @@ fn extern_behind_at(
     at: usize,
 ) -> Result<(ExternTree, usize), Refusal>
     requires { at ≤ count_of tokens.now }
-    ensures ok { IfOk result (λ r. extern_behind 100 (cut (text_of tokens.now) name) (ahead tokens.now at)
+    ensures ok { IfOk result (λ r. extern_behind (docs_ahead tokens.now) 100 (cut (text_of tokens.now) name) (ahead tokens.now at)
         ≡ Found (extern_of (text_of tokens.now) r.0) (ahead tokens.now r.1)) }
-    ensures err { IfErr result (λ e. RefusesAs tokens.now e (extern_behind 100 (cut (text_of tokens.now) name) (ahead tokens.now at))) }
+    ensures err { IfErr result (λ e. RefusesAs tokens.now e (extern_behind (docs_ahead tokens.now) 100 (cut (text_of tokens.now) name) (ahead tokens.now at))) }
     ensures goes { IfOk result (λ r. at < r.1) }
     ensures within { IfOk result (λ r. r.1 ≤ count_of tokens.now) }
 {
@@ -124,9 +124,9 @@ pub(crate) fn extern_at(
     at: usize,
 ) -> Result<(ExternTree, usize), Refusal>
     requires { at ≤ count_of tokens.now }
-    ensures ok { IfOk result (λ r. extern_in_front 100 (ahead tokens.now at)
+    ensures ok { IfOk result (λ r. extern_in_front (docs_ahead tokens.now) 100 (ahead tokens.now at)
         ≡ Found (extern_of (text_of tokens.now) r.0) (ahead tokens.now r.1)) }
-    ensures err { IfErr result (λ e. RefusesAs tokens.now e (extern_in_front 100 (ahead tokens.now at))) }
+    ensures err { IfErr result (λ e. RefusesAs tokens.now e (extern_in_front (docs_ahead tokens.now) 100 (ahead tokens.now at))) }
     ensures goes { IfOk result (λ r. at < r.1) }
     ensures within { IfOk result (λ r. r.1 ≤ count_of tokens.now) }
 {

@@ -7,7 +7,8 @@ ghost use Rattle.text_trees.specs.declared.refusal.Refusal.TheVariants.{Wanted a
 ghost use Rattle.text_trees.specs.declared.refusal.Wanted.TheVariants as wanted;
 ghost use Rattle.text_trees.specs.ReadFiles.{is_end as is_end_lem};
 ghost use Rattle.text_trees.specs.Reads.{first_byte};
-ghost use Rattle.text_trees.specs.Seen.{RefusesAs, ahead, characters_of, count_of, cut, number_of, keyword_there, mark_there, part as part_lem, said, text_of};
+ghost use Rattle.text_trees.specs.TreesSeen.{docs_of};
+ghost use Rattle.text_trees.specs.Seen.{RefusesAs, ahead, characters_of, count_of, cut, docs_ahead, gap_start as gap_start_lem, number_of, keyword_there, mark_there, part as part_lem, said, text_of};
 
 use crate::keywords::same_keyword;
 use crate::refusal::{Refusal, Wanted};
@@ -227,6 +228,33 @@ pub(crate) fn version_at(tokens: &Tokens<'_>, at: usize) -> Result<(Span, usize)
         Kind::Punctuation(_) => Err(Refusal::Wanted(Wanted::Version, at)),
         Kind::Digits => Err(Refusal::Wanted(Wanted::Version, at)),
         Kind::Quoted => Err(Refusal::Wanted(Wanted::Version, at)),
+    }
+}
+
+/// Where the gap in front of the token at a place begins: where the token before it ends, or where the text begins.
+fn gap_start(tokens: &Tokens<'_>, at: usize) -> u32
+    ensures { result ≡ gap_start_lem tokens.now.places.now at }
+{
+    if at == 0 {
+        return 0;
+    }
+    match place_at(tokens, at - 1) {
+        Some(place) => place.end,
+        None => 0,
+    }
+}
+
+/// The gap in front of the token at a place, in which its documentation stands. Empty at the end of the text.
+pub(crate) fn gap_at(tokens: &Tokens<'_>, at: usize) -> Span
+    requires { at ≤ count_of tokens.now }
+    ensures { docs_of (text_of tokens.now) result ≡ docs_ahead tokens.now (ahead tokens.now at) }
+{
+    match place_at(tokens, at) {
+        Some(place) => Span {
+            start: gap_start(tokens, at),
+            end: place.start,
+        },
+        None => Span { start: 0, end: 0 },
     }
 }
 

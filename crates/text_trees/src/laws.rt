@@ -7,15 +7,16 @@ ghost use Rattle.text_tokens.specs.declared.token.Token.{Token as PlacedToken};
 ghost use Rattle.text_trees.specs.{Reads.StopsReading, Seen.said};
 ghost use Rattle.text_trees.specs.declared.refusal.Wanted.{Wanted};
 ghost use Rattle.print_grammar.specs.{Token.Mark.Arrow, Token.Mark.At, Token.Mark.CloseBrace, Token.Mark.CloseParen, Token.Mark.Colon, Token.Mark.Greater, Token.Mark.Less, Token.Token};
-ghost use Rattle.print_grammar.specs.Grammar.{ReadsDeclared, ReadsExtern, ReadsItem, ReadsMember, ReadsNested, ReadsPath, ReadsPrefix, ReadsResourceMember, ReadsSignature, ReadsType, ReadsWorldMember};
+ghost use Rattle.print_grammar.specs.Grammar.{ReadsPath, ReadsSignature, ReadsType};
+ghost use Rattle.text_trees.specs.Grammar.{Documentation, ReadsDeclared, ReadsExtern, ReadsItem, ReadsMember, ReadsNested, ReadsPrefix, ReadsResourceMember, ReadsWorldMember};
 ghost use Rattle.text_trees.specs.{Reading.begins, ReadTypes.param_in_front, ReadTypes.signature_in_front, ReadTypes.type_in_front};
 ghost use Rattle.text_trees.specs.ReadDeclared.{case_in_front, declared_in_front, field_in_front, label_in_front, path_in_front, prefix_in_front, resource_member_in_front, used_name_in_front};
 ghost use Rattle.text_trees.specs.ReadFiles.{ends_items, extern_in_front, is_end, item_in_front, member_in_front, nested_in_front, world_member_in_front};
 ghost use Rattle.text_trees.specs.Levels.{fits_declared, fits_extern, fits_item, fits_member, fits_package, fits_resource_member, fits_signature, fits_type, fits_world_member};
-ghost use Rattle.text_trees.specs.Laws.{FilesAreRead, FindsBefore, FindsNothingElse, FindsWhatIsRead, FoundFilesAreOnly, ListedOneByOne, NoFileBeginsSo, OneByOne, PrintedFilesAreFound, RefusalsStandAtPlaces, RefusedAreNoFiles, RefusedTextsAreNotRead, ShallowFilesAreFound, TextsAreRead};
+ghost use Rattle.text_trees.specs.Laws.{FilesAreRead, FindsBefore, FindsNothingElse, FindsWhatIsRead, FoundFilesAreOnly, ListedOneByOne, NoFileBeginsSo, OneByOne, OneReading, PrintedFilesAreFound, PrintedTextsAreRead, RefusalsStandAtPlaces, RefusedAreNoFiles, RefusedTextsAreNotRead, ShallowFilesAreFound, TextsAreRead};
 
-use print_grammar::laws::{one_reading, well_named_file_reads};
-use text_tokens::laws::one_answer;
+use print_grammar::laws::well_named_file_reads;
+use text_tokens::laws::{one_answer, printed_tokens_stay};
 
 /// A type that is found is there and has at most so many levels, and one that is there is found, where no `<` goes on with it.
 pub fn types_are_read()
@@ -23,11 +24,12 @@ pub fn types_are_read()
     ensures there { (room : ℕ) → FindsBefore (λ rest. begins Less rest ≡ false) ReadsType (fits_type room) (type_in_front room) }
 {}
 
-/// A prefix of gates and an external id, a path and a function's type that are found are there, and those that are there are found, where
-/// what follows doesn't go on with them.
+/// A prefix of documentation, gates and an external id, a path and a function's type that are found are there, and those that are there
+/// are found, where what follows doesn't go on with them.
 pub fn parts_are_read()
-    ensures prefixes { FindsNothingElse ReadsPrefix (λ prefix. true) prefix_in_front }
-    ensures prefixes_there { FindsBefore (λ rest. begins At rest ≡ false) ReadsPrefix (λ prefix. true) prefix_in_front }
+    ensures prefixes { (docs : Documentation) → FindsNothingElse (ReadsPrefix docs) (λ prefix. true) (prefix_in_front docs) }
+    ensures prefixes_there { (docs : Documentation)
+        → FindsBefore (λ rest. begins At rest ≡ false) (ReadsPrefix docs) (λ prefix. true) (prefix_in_front docs) }
     ensures paths { FindsNothingElse ReadsPath (λ path. true) path_in_front }
     ensures paths_there { FindsBefore (λ rest. (begins Colon rest ≡ false) × (begins At rest ≡ false)) ReadsPath (λ path. true) path_in_front }
     ensures signatures { (room : ℕ) → FindsNothingElse ReadsSignature (fits_signature room) (signature_in_front room) }
@@ -39,35 +41,37 @@ pub fn parts_are_read()
 pub fn lists_are_read_one_by_one()
     ensures types { (room : ℕ) → ListedOneByOne (type_in_front room) Greater }
     ensures params { (room : ℕ) → ListedOneByOne (param_in_front room) CloseParen }
-    ensures fields { (room : ℕ) → ListedOneByOne (field_in_front room) CloseBrace }
-    ensures cases { (room : ℕ) → ListedOneByOne (case_in_front room) CloseBrace }
-    ensures labels { ListedOneByOne label_in_front CloseBrace }
+    ensures fields { (docs : Documentation) (room : ℕ) → ListedOneByOne (field_in_front docs room) CloseBrace }
+    ensures cases { (docs : Documentation) (room : ℕ) → ListedOneByOne (case_in_front docs room) CloseBrace }
+    ensures labels { (docs : Documentation) → ListedOneByOne (label_in_front docs) CloseBrace }
     ensures used { ListedOneByOne used_name_in_front CloseBrace }
-    ensures functions { (room : ℕ) → OneByOne (begins CloseBrace) (resource_member_in_front room) }
-    ensures members { (room : ℕ) → OneByOne (begins CloseBrace) (member_in_front room) }
-    ensures world_members { (room : ℕ) → OneByOne (begins CloseBrace) (world_member_in_front room) }
-    ensures nested_items { (room : ℕ) → OneByOne (begins CloseBrace) (item_in_front room) }
-    ensures items { (room : ℕ) → OneByOne ends_items (item_in_front room) }
-    ensures packages { (room : ℕ) → OneByOne is_end (nested_in_front room) }
+    ensures functions { (docs : Documentation) (room : ℕ) → OneByOne (begins CloseBrace) (resource_member_in_front docs room) }
+    ensures members { (docs : Documentation) (room : ℕ) → OneByOne (begins CloseBrace) (member_in_front docs room) }
+    ensures world_members { (docs : Documentation) (room : ℕ) → OneByOne (begins CloseBrace) (world_member_in_front docs room) }
+    ensures nested_items { (docs : Documentation) (room : ℕ) → OneByOne (begins CloseBrace) (item_in_front docs room) }
+    ensures items { (docs : Documentation) (room : ℕ) → OneByOne ends_items (item_in_front docs room) }
+    ensures packages { (docs : Documentation) (room : ℕ) → OneByOne is_end (nested_in_front docs room) }
 {}
 
 /// Declared types and the functions of resources are found exactly where they are there.
 pub fn declared_types_are_read()
-    ensures declared { (room : ℕ) → FindsWhatIsRead ReadsDeclared (fits_declared room) (declared_in_front room) }
-    ensures functions { (room : ℕ) → FindsWhatIsRead ReadsResourceMember (fits_resource_member room) (resource_member_in_front room) }
+    ensures declared { (docs : Documentation) (room : ℕ) → FindsWhatIsRead (ReadsDeclared docs) (fits_declared room) (declared_in_front docs room) }
+    ensures functions { (docs : Documentation) (room : ℕ)
+        → FindsWhatIsRead (ReadsResourceMember docs) (fits_resource_member room) (resource_member_in_front docs room) }
 {}
 
 /// What interfaces and worlds have is found exactly where it is there.
 pub fn members_are_read()
-    ensures interfaces { (room : ℕ) → FindsWhatIsRead ReadsMember (fits_member room) (member_in_front room) }
-    ensures externs { (room : ℕ) → FindsWhatIsRead ReadsExtern (fits_extern room) (extern_in_front room) }
-    ensures worlds { (room : ℕ) → FindsWhatIsRead ReadsWorldMember (fits_world_member room) (world_member_in_front room) }
+    ensures interfaces { (docs : Documentation) (room : ℕ) → FindsWhatIsRead (ReadsMember docs) (fits_member room) (member_in_front docs room) }
+    ensures externs { (docs : Documentation) (room : ℕ) → FindsWhatIsRead (ReadsExtern docs) (fits_extern room) (extern_in_front docs room) }
+    ensures worlds { (docs : Documentation) (room : ℕ)
+        → FindsWhatIsRead (ReadsWorldMember docs) (fits_world_member room) (world_member_in_front docs room) }
 {}
 
 /// Interfaces, worlds and nested packages are found exactly where they are there.
 pub fn items_are_read()
-    ensures items { (room : ℕ) → FindsWhatIsRead ReadsItem (fits_item room) (item_in_front room) }
-    ensures packages { (room : ℕ) → FindsWhatIsRead ReadsNested (fits_package room) (nested_in_front room) }
+    ensures items { (docs : Documentation) (room : ℕ) → FindsWhatIsRead (ReadsItem docs) (fits_item room) (item_in_front docs room) }
+    ensures packages { (docs : Documentation) (room : ℕ) → FindsWhatIsRead (ReadsNested docs) (fits_package room) (nested_in_front docs room) }
 {}
 
 /// Tokens are found to be a file exactly where they are that file and no other, and are refused where they are none.
@@ -84,20 +88,26 @@ pub fn refusals_stand()
     ensures begins { NoFileBeginsSo }
 {}
 
-/// The tokens of a text are found to be a file exactly where the text is read as that file, and a text whose tokens are refused has no
-/// reading, unless a type has too many levels.
+/// The tokens of a text are found to be a file exactly where the text is read as that file. A text has one reading at most, and one
+/// whose tokens are refused has none, unless a type has too many levels.
 pub fn texts_are_read()
     ensures found { TextsAreRead }
     ensures refused { RefusedTextsAreNotRead }
+    ensures one { OneReading }
+{}
+
+/// What the grammar of printed text reads is read here, as the same tree but for documentation.
+pub fn printed_texts_are_read()
+    ensures { PrintedTextsAreRead }
 {
-    one_reading();
+    printed_tokens_stay();
 }
 
-/// What is printed of a tree of well-formed names is found again.
+/// What is printed of a tree of well-formed names is found again, but for its documentation.
 pub fn printed_files_are_found()
     ensures { PrintedFilesAreFound }
 {
-    one_reading();
+    printed_texts_are_read();
     well_named_file_reads();
 }
 
@@ -106,7 +116,6 @@ pub fn one_refusal()
     ensures { (text : List ℕ) (w v : Wanted) (a b : ℕ) → StopsReading text w a → StopsReading text v b → (w ≡ v) × (a ≡ b) }
 {
     one_answer();
-    one_reading();
 }
 
 /// Tokens that stand at places of a text are those that the places say.

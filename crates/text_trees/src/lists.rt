@@ -2,8 +2,9 @@
 
 ghost use Rattle.std.specs.Prelude.{◌≡◌, ◌<◌, ◌≤◌, ℕ, List, IfErr, IfOk, map, true};
 ghost use Rattle.print_grammar.specs.Token.{Token as GrammarToken};
+ghost use Rattle.text_trees.specs.Grammar.{Documentation};
 ghost use Rattle.text_trees.specs.Reading.{Reading, Reading.Found, listed, repeated, until};
-ghost use Rattle.text_trees.specs.Seen.{RefusesAs, ahead, count_of, mark_there, text_of};
+ghost use Rattle.text_trees.specs.Seen.{RefusesAs, ahead, count_of, docs_ahead, mark_there, text_of};
 ghost use Rattle.text_trees.specs.TreesSeen.{ends_as};
 
 use crate::front::{Tokens, begins, begins_key, is_end, mark_at, more_at};
@@ -16,16 +17,16 @@ pub(crate) trait Form {
     /// What it is by the grammar.
     ghost Tree: { Type 0 };
 
-    /// The reader that finds it.
-    ghost reader: { List GrammarToken → Reading Tree };
+    /// The reader that finds it, by what documentation stands in front of the tokens that are left.
+    ghost reader: { Documentation → List GrammarToken → Reading Tree };
 
     /// What a value of it is by the grammar, in a text.
     ghost view: { List ℕ → Self → Tree };
 
     fn read(alloc: Global, tokens: &Tokens<'_>, at: usize) -> Result<(Self, usize), Refusal>
         requires { at ≤ count_of tokens.now }
-        ensures ok { IfOk result (λ r. reader (ahead tokens.now at) ≡ Found (view (text_of tokens.now) r.0) (ahead tokens.now r.1)) }
-        ensures err { IfErr result (λ e. RefusesAs tokens.now e (reader (ahead tokens.now at))) }
+        ensures ok { IfOk result (λ r. reader (docs_ahead tokens.now) (ahead tokens.now at) ≡ Found (view (text_of tokens.now) r.0) (ahead tokens.now r.1)) }
+        ensures err { IfErr result (λ e. RefusesAs tokens.now e (reader (docs_ahead tokens.now) (ahead tokens.now at))) }
         ensures goes { IfOk result (λ r. at < r.1) }
         ensures within { IfOk result (λ r. r.1 ≤ count_of tokens.now) };
 }
@@ -38,9 +39,9 @@ pub(crate) fn listed_at<T: Form + Drop>(
     at: usize,
 ) -> Result<(Vec<T>, usize), Refusal>
     requires { at ≤ count_of tokens.now }
-    ensures ok { IfOk result (λ r. listed T.reader (mark_there close) (ahead tokens.now at)
+    ensures ok { IfOk result (λ r. listed (T.reader (docs_ahead tokens.now)) (mark_there close) (ahead tokens.now at)
         ≡ Found (map (T.view (text_of tokens.now)) r.0.items) (ahead tokens.now r.1)) }
-    ensures err { IfErr result (λ e. RefusesAs tokens.now e (listed T.reader (mark_there close) (ahead tokens.now at))) }
+    ensures err { IfErr result (λ e. RefusesAs tokens.now e (listed (T.reader (docs_ahead tokens.now)) (mark_there close) (ahead tokens.now at))) }
     ensures goes { IfOk result (λ r. at < r.1) }
     ensures within { IfOk result (λ r. r.1 ≤ count_of tokens.now) }
 {
@@ -91,9 +92,9 @@ pub(crate) fn until_at<T: Form + Drop>(
     at: usize,
 ) -> Result<(Vec<T>, usize), Refusal>
     requires { at ≤ count_of tokens.now }
-    ensures ok { IfOk result (λ r. until (ends_as ends) T.reader (ahead tokens.now at)
+    ensures ok { IfOk result (λ r. until (ends_as ends) (T.reader (docs_ahead tokens.now)) (ahead tokens.now at)
         ≡ Found (map (T.view (text_of tokens.now)) r.0.items) (ahead tokens.now r.1)) }
-    ensures err { IfErr result (λ e. RefusesAs tokens.now e (until (ends_as ends) T.reader (ahead tokens.now at))) }
+    ensures err { IfErr result (λ e. RefusesAs tokens.now e (until (ends_as ends) (T.reader (docs_ahead tokens.now)) (ahead tokens.now at))) }
     ensures ended { IfOk result (λ r. ends_as ends (ahead tokens.now r.1) ≡ true) }
     ensures goes { IfOk result (λ r. at ≤ r.1) }
     ensures within { IfOk result (λ r. r.1 ≤ count_of tokens.now) }
@@ -119,9 +120,9 @@ pub(crate) fn repeated_at<T: Form + Drop>(
     at: usize,
 ) -> Result<(Vec<T>, usize), Refusal>
     requires { at ≤ count_of tokens.now }
-    ensures ok { IfOk result (λ r. repeated T.reader (mark_there close) (ahead tokens.now at)
+    ensures ok { IfOk result (λ r. repeated (T.reader (docs_ahead tokens.now)) (mark_there close) (ahead tokens.now at)
         ≡ Found (map (T.view (text_of tokens.now)) r.0.items) (ahead tokens.now r.1)) }
-    ensures err { IfErr result (λ e. RefusesAs tokens.now e (repeated T.reader (mark_there close) (ahead tokens.now at))) }
+    ensures err { IfErr result (λ e. RefusesAs tokens.now e (repeated (T.reader (docs_ahead tokens.now)) (mark_there close) (ahead tokens.now at))) }
     ensures goes { IfOk result (λ r. at < r.1) }
     ensures within { IfOk result (λ r. r.1 ≤ count_of tokens.now) }
 {

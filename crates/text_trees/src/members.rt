@@ -7,7 +7,7 @@ ghost use Rattle.text_trees.specs.Reading.{Reading.Found, behind_mark};
 ghost use Rattle.text_trees.specs.ReadDeclared.{function_behind};
 ghost use Rattle.print_grammar.specs.Token.Mark.{Colon};
 ghost use Rattle.text_trees.specs.ReadFiles.{member_behind, member_in_front, members_in_front};
-ghost use Rattle.text_trees.specs.Seen.{RefusesAs, ahead, count_of, cut, text_of};
+ghost use Rattle.text_trees.specs.Seen.{RefusesAs, ahead, count_of, cut, docs_ahead, text_of};
 ghost use Rattle.text_trees.specs.TreesSeen.{member_of, other_behind, prefix_of};
 
 use crate::front::{Tokens, begins_key, mark_at, name_there};
@@ -54,9 +54,9 @@ fn other_at(
     at: usize,
 ) -> Result<(MemberTree, usize), Refusal>
     requires { at ≤ count_of tokens.now }
-    ensures ok { IfOk result (λ r. other_behind 100 (prefix_of (text_of tokens.now) prefix) (ahead tokens.now at)
+    ensures ok { IfOk result (λ r. other_behind (docs_ahead tokens.now) 100 (prefix_of (text_of tokens.now) prefix) (ahead tokens.now at)
         ≡ Found (member_of (text_of tokens.now) r.0) (ahead tokens.now r.1)) }
-    ensures err { IfErr result (λ e. RefusesAs tokens.now e (other_behind 100 (prefix_of (text_of tokens.now) prefix) (ahead tokens.now at))) }
+    ensures err { IfErr result (λ e. RefusesAs tokens.now e (other_behind (docs_ahead tokens.now) 100 (prefix_of (text_of tokens.now) prefix) (ahead tokens.now at))) }
     ensures goes { IfOk result (λ r. at < r.1) }
     ensures within { IfOk result (λ r. r.1 ≤ count_of tokens.now) }
 {
@@ -77,9 +77,9 @@ fn member_behind_at(
     at: usize,
 ) -> Result<(MemberTree, usize), Refusal>
     requires { at ≤ count_of tokens.now }
-    ensures ok { IfOk result (λ r. member_behind 100 (prefix_of (text_of tokens.now) prefix) (ahead tokens.now at)
+    ensures ok { IfOk result (λ r. member_behind (docs_ahead tokens.now) 100 (prefix_of (text_of tokens.now) prefix) (ahead tokens.now at)
         ≡ Found (member_of (text_of tokens.now) r.0) (ahead tokens.now r.1)) }
-    ensures err { IfErr result (λ e. RefusesAs tokens.now e (member_behind 100 (prefix_of (text_of tokens.now) prefix) (ahead tokens.now at))) }
+    ensures err { IfErr result (λ e. RefusesAs tokens.now e (member_behind (docs_ahead tokens.now) 100 (prefix_of (text_of tokens.now) prefix) (ahead tokens.now at))) }
     ensures goes { IfOk result (λ r. at < r.1) }
     ensures within { IfOk result (λ r. r.1 ≤ count_of tokens.now) }
 {
@@ -92,7 +92,7 @@ fn member_behind_at(
 impl Form for MemberTree {
     ghost Tree = { GrammarMember };
 
-    ghost reader = { member_in_front 100 };
+    ghost reader = { λ docs. member_in_front docs 100 };
 
     ghost view = { member_of };
 
@@ -110,8 +110,8 @@ pub(crate) fn members_at(
     at: usize,
 ) -> Result<(Vec<MemberTree>, usize), Refusal>
     requires { at ≤ count_of tokens.now }
-    ensures ok { IfOk result (λ r. members_in_front 100 (ahead tokens.now at) ≡ Found (map (member_of (text_of tokens.now)) r.0.items) (ahead tokens.now r.1)) }
-    ensures err { IfErr result (λ e. RefusesAs tokens.now e (members_in_front 100 (ahead tokens.now at))) }
+    ensures ok { IfOk result (λ r. members_in_front (docs_ahead tokens.now) 100 (ahead tokens.now at) ≡ Found (map (member_of (text_of tokens.now)) r.0.items) (ahead tokens.now r.1)) }
+    ensures err { IfErr result (λ e. RefusesAs tokens.now e (members_in_front (docs_ahead tokens.now) 100 (ahead tokens.now at))) }
     ensures goes { IfOk result (λ r. at < r.1) }
     ensures within { IfOk result (λ r. r.1 ≤ count_of tokens.now) }
 {

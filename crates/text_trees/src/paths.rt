@@ -74,7 +74,7 @@ fn path_at(tokens: &Tokens<'_>, at: usize) -> Result<(PathTree, usize), Refusal>
 impl Form for UsedName {
     ghost Tree = { GrammarUsed };
 
-    ghost reader = { used_name_in_front };
+    ghost reader = { λ docs. used_name_in_front };
 
     ghost view = { used_name_of };
 

@@ -30,8 +30,10 @@ pub enum Wanted {
     Member,
     /// An interface or a world.
     Item,
-    /// A gate or an external id, behind `@`.
+    /// A gate or an external id that may stand there, behind `@`.
     Attribute,
+    /// `@since` or `@unstable`, beside `@deprecated`.
+    Gate,
     /// A type of fewer levels.
     Shallower,
 }
@@ -149,6 +151,7 @@ fn wanted_text(wanted: Wanted) -> &'static str {
         Wanted::Member => "an item of an interface, a world or a resource",
         Wanted::Item => "an interface or a world",
         Wanted::Attribute => "an attribute that may stand here",
+        Wanted::Gate => "`@since` or `@unstable` beside `@deprecated`",
         Wanted::Shallower => "a type of fewer levels",
     }
 }

@@ -19,7 +19,7 @@ use text_tokens::{Keyword, Mark};
 impl Form for ParamTree {
     ghost Tree = { GrammarParam };
 
-    ghost reader = { param_in_front 100 };
+    ghost reader = { λ docs. param_in_front 100 };
 
     ghost view = { param_of };
 

@@ -5,7 +5,7 @@ ghost use Rattle.std.specs.Prelude.{◌≡◌, ◌+◌, ◌<◌, ◌≤◌, IfEr
 ghost use Rattle.print_grammar.specs.Tree.Declared.{RecordOf, VariantOf, FlagsOf, EnumOf};
 ghost use Rattle.text_trees.specs.Reading.{Reading.Found, Reading.Refused, Wanted.AMember};
 ghost use Rattle.text_trees.specs.ReadDeclared.{case_in_front, declared_in_front, field_in_front, label_in_front, resource_behind};
-ghost use Rattle.text_trees.specs.Seen.{RefusesAs, ahead, count_of, cut, text_of};
+ghost use Rattle.text_trees.specs.Seen.{RefusesAs, ahead, count_of, cut, docs_ahead, text_of};
 ghost use Rattle.text_trees.specs.TreesSeen.{alias_in_front, braced, declared_behind, declared_of, resource_in_front};
 
 use crate::front::{Tokens, begins, begins_key, mark_at, name_at};
@@ -19,9 +19,9 @@ use text_tokens::{Keyword, Mark};
 /// What follows `record`: a name, and fields in braces.
 fn record_at(alloc: Global, tokens: &Tokens<'_>, at: usize) -> Result<(Declared, usize), Refusal>
     requires { at ≤ count_of tokens.now }
-    ensures ok { IfOk result (λ r. braced RecordOf (field_in_front 100) (ahead tokens.now at)
+    ensures ok { IfOk result (λ r. braced RecordOf (field_in_front (docs_ahead tokens.now) 100) (ahead tokens.now at)
         ≡ Found (declared_of (text_of tokens.now) r.0) (ahead tokens.now r.1)) }
-    ensures err { IfErr result (λ e. RefusesAs tokens.now e (braced RecordOf (field_in_front 100) (ahead tokens.now at))) }
+    ensures err { IfErr result (λ e. RefusesAs tokens.now e (braced RecordOf (field_in_front (docs_ahead tokens.now) 100) (ahead tokens.now at))) }
     ensures goes { IfOk result (λ r. at < r.1) }
     ensures within { IfOk result (λ r. r.1 ≤ count_of tokens.now) }
 {
@@ -34,9 +34,9 @@ fn record_at(alloc: Global, tokens: &Tokens<'_>, at: usize) -> Result<(Declared,
 /// What follows `variant`: a name, and cases in braces.
 fn variant_at(alloc: Global, tokens: &Tokens<'_>, at: usize) -> Result<(Declared, usize), Refusal>
     requires { at ≤ count_of tokens.now }
-    ensures ok { IfOk result (λ r. braced VariantOf (case_in_front 100) (ahead tokens.now at)
+    ensures ok { IfOk result (λ r. braced VariantOf (case_in_front (docs_ahead tokens.now) 100) (ahead tokens.now at)
         ≡ Found (declared_of (text_of tokens.now) r.0) (ahead tokens.now r.1)) }
-    ensures err { IfErr result (λ e. RefusesAs tokens.now e (braced VariantOf (case_in_front 100) (ahead tokens.now at))) }
+    ensures err { IfErr result (λ e. RefusesAs tokens.now e (braced VariantOf (case_in_front (docs_ahead tokens.now) 100) (ahead tokens.now at))) }
     ensures goes { IfOk result (λ r. at < r.1) }
     ensures within { IfOk result (λ r. r.1 ≤ count_of tokens.now) }
 {
@@ -49,9 +49,9 @@ fn variant_at(alloc: Global, tokens: &Tokens<'_>, at: usize) -> Result<(Declared
 /// What follows `flags`: a name, and flags in braces.
 fn flags_at(alloc: Global, tokens: &Tokens<'_>, at: usize) -> Result<(Declared, usize), Refusal>
     requires { at ≤ count_of tokens.now }
-    ensures ok { IfOk result (λ r. braced FlagsOf label_in_front (ahead tokens.now at)
+    ensures ok { IfOk result (λ r. braced FlagsOf (label_in_front (docs_ahead tokens.now)) (ahead tokens.now at)
         ≡ Found (declared_of (text_of tokens.now) r.0) (ahead tokens.now r.1)) }
-    ensures err { IfErr result (λ e. RefusesAs tokens.now e (braced FlagsOf label_in_front (ahead tokens.now at))) }
+    ensures err { IfErr result (λ e. RefusesAs tokens.now e (braced FlagsOf (label_in_front (docs_ahead tokens.now)) (ahead tokens.now at))) }
     ensures goes { IfOk result (λ r. at < r.1) }
     ensures within { IfOk result (λ r. r.1 ≤ count_of tokens.now) }
 {
@@ -64,9 +64,9 @@ fn flags_at(alloc: Global, tokens: &Tokens<'_>, at: usize) -> Result<(Declared, 
 /// What follows `enum`: a name, and cases in braces.
 fn enum_at(alloc: Global, tokens: &Tokens<'_>, at: usize) -> Result<(Declared, usize), Refusal>
     requires { at ≤ count_of tokens.now }
-    ensures ok { IfOk result (λ r. braced EnumOf label_in_front (ahead tokens.now at)
+    ensures ok { IfOk result (λ r. braced EnumOf (label_in_front (docs_ahead tokens.now)) (ahead tokens.now at)
         ≡ Found (declared_of (text_of tokens.now) r.0) (ahead tokens.now r.1)) }
-    ensures err { IfErr result (λ e. RefusesAs tokens.now e (braced EnumOf label_in_front (ahead tokens.now at))) }
+    ensures err { IfErr result (λ e. RefusesAs tokens.now e (braced EnumOf (label_in_front (docs_ahead tokens.now)) (ahead tokens.now at))) }
     ensures goes { IfOk result (λ r. at < r.1) }
     ensures within { IfOk result (λ r. r.1 ≤ count_of tokens.now) }
 {
@@ -100,9 +100,9 @@ fn resource_behind_at(
     at: usize,
 ) -> Result<(Declared, usize), Refusal>
     requires { at ≤ count_of tokens.now }
-    ensures ok { IfOk result (λ r. resource_behind 100 (cut (text_of tokens.now) name) (ahead tokens.now at)
+    ensures ok { IfOk result (λ r. resource_behind (docs_ahead tokens.now) 100 (cut (text_of tokens.now) name) (ahead tokens.now at)
         ≡ Found (declared_of (text_of tokens.now) r.0) (ahead tokens.now r.1)) }
-    ensures err { IfErr result (λ e. RefusesAs tokens.now e (resource_behind 100 (cut (text_of tokens.now) name) (ahead tokens.now at))) }
+    ensures err { IfErr result (λ e. RefusesAs tokens.now e (resource_behind (docs_ahead tokens.now) 100 (cut (text_of tokens.now) name) (ahead tokens.now at))) }
     ensures goes { IfOk result (λ r. at < r.1) }
     ensures within { IfOk result (λ r. r.1 ≤ count_of tokens.now) }
 {
@@ -117,9 +117,9 @@ fn resource_behind_at(
 /// What follows `resource`: a name, and `;` or functions in braces.
 fn resource_at(alloc: Global, tokens: &Tokens<'_>, at: usize) -> Result<(Declared, usize), Refusal>
     requires { at ≤ count_of tokens.now }
-    ensures ok { IfOk result (λ r. resource_in_front 100 (ahead tokens.now at)
+    ensures ok { IfOk result (λ r. resource_in_front (docs_ahead tokens.now) 100 (ahead tokens.now at)
         ≡ Found (declared_of (text_of tokens.now) r.0) (ahead tokens.now r.1)) }
-    ensures err { IfErr result (λ e. RefusesAs tokens.now e (resource_in_front 100 (ahead tokens.now at))) }
+    ensures err { IfErr result (λ e. RefusesAs tokens.now e (resource_in_front (docs_ahead tokens.now) 100 (ahead tokens.now at))) }
     ensures goes { IfOk result (λ r. at < r.1) }
     ensures within { IfOk result (λ r. r.1 ≤ count_of tokens.now) }
 {
@@ -142,8 +142,8 @@ enum Sort {
 /// The sort of declared type that begins at a place, if one does.
 #[tactic(auto, using(crate::proofs::Going::going), unfolding(crate::specs::Reading::if_key))]
 fn sort_of(tokens: &Tokens<'_>, at: usize) -> Option<Sort>
-    ensures some { IfSome result (λ sort. declared_in_front 100 (ahead tokens.now at) ≡ declared_behind sort 100 (ahead tokens.now (at + 1))) }
-    ensures none { result ≡ None → declared_in_front 100 (ahead tokens.now at) ≡ Refused AMember (ahead tokens.now at) }
+    ensures some { IfSome result (λ sort. declared_in_front (docs_ahead tokens.now) 100 (ahead tokens.now at) ≡ declared_behind sort (docs_ahead tokens.now) 100 (ahead tokens.now (at + 1))) }
+    ensures none { result ≡ None → declared_in_front (docs_ahead tokens.now) 100 (ahead tokens.now at) ≡ Refused AMember (ahead tokens.now at) }
     ensures within { IfSome result (λ sort. at < count_of tokens.now) }
 {
     if begins_key(tokens, Keyword::Record, at) {
@@ -171,9 +171,9 @@ pub(crate) fn declared_at(
     at: usize,
 ) -> Result<(Declared, usize), Refusal>
     requires { at ≤ count_of tokens.now }
-    ensures ok { IfOk result (λ r. declared_in_front 100 (ahead tokens.now at)
+    ensures ok { IfOk result (λ r. declared_in_front (docs_ahead tokens.now) 100 (ahead tokens.now at)
         ≡ Found (declared_of (text_of tokens.now) r.0) (ahead tokens.now r.1)) }
-    ensures err { IfErr result (λ e. RefusesAs tokens.now e (declared_in_front 100 (ahead tokens.now at))) }
+    ensures err { IfErr result (λ e. RefusesAs tokens.now e (declared_in_front (docs_ahead tokens.now) 100 (ahead tokens.now at))) }
     ensures goes { IfOk result (λ r. at < r.1) }
     ensures within { IfOk result (λ r. r.1 ≤ count_of tokens.now) }
 {

@@ -1,4 +1,5 @@
-//! Trees of WIT text. Names, numbers, versions and strings are spans of the text that was read.
+//! Trees of WIT text. Names, numbers, versions and strings are spans of the text that was read; so are the gaps in which documentation stands, in front of
+//! what it belongs to.
 
 use text_tokens::Primitive;
 
@@ -58,9 +59,10 @@ pub enum Gates {
     Unstable(Span, Option<Span>),
 }
 
-/// What stands in front of an item: gates, and an external id with its quotation marks.
+/// What stands in front of an item: the gap with its documentation, gates, and an external id with its quotation marks.
 #[derive(Clone, Copy, Debug, PartialEq, Eq)]
 pub struct Prefix {
+    pub docs: Span,
     pub gates: Gates,
     pub external_id: Option<Span>,
 }
@@ -82,6 +84,7 @@ pub struct UsedName {
 /// A field of a record.
 #[derive(Drop)]
 pub struct FieldTree {
+    pub docs: Span,
     pub name: Span,
     pub ty: TypeTree,
 }
@@ -89,6 +92,7 @@ pub struct FieldTree {
 /// A case of a variant, with its payload where it has one.
 #[derive(Drop)]
 pub struct CaseTree {
+    pub docs: Span,
     pub name: Span,
     pub payload: Option<TypeTree>,
 }
@@ -96,6 +100,7 @@ pub struct CaseTree {
 /// A flag, or a case of an enum.
 #[derive(Clone, Copy, Debug, PartialEq, Eq)]
 pub struct LabelTree {
+    pub docs: Span,
     pub name: Span,
 }
 
@@ -144,11 +149,11 @@ pub enum WorldMember {
     WorldExport(Prefix, ExternTree),
 }
 
-/// An interface or a world: its gates, its name, and what it has.
+/// An interface or a world: the gap with its documentation, its gates, its name, and what it has.
 #[derive(Drop)]
 pub enum ItemTree {
-    InterfaceItem(Gates, Span, Vec<MemberTree>),
-    WorldItem(Gates, Span, Vec<WorldMember>),
+    InterfaceItem(Span, Gates, Span, Vec<MemberTree>),
+    WorldItem(Span, Gates, Span, Vec<WorldMember>),
 }
 
 /// A package's namespace, name and version (WIT.md, Package declaration).
@@ -159,9 +164,10 @@ pub struct PackageHead {
     pub version: Option<Span>,
 }
 
-/// A package: what names it, and items.
+/// A package: the gap with its documentation, what names it, and items.
 #[derive(Drop)]
 pub struct PackageTree {
+    pub docs: Span,
     pub head: PackageHead,
     pub items: Vec<ItemTree>,
 }

@@ -1,15 +1,15 @@
 //! Words that are no keywords.
 
-ghost use Rattle.std.specs.Prelude.{◌≡◌, ◌+◌, ◌<◌, IfErr, IfOk, codes, false, true};
+ghost use Rattle.std.specs.Prelude.{◌≡◌, ◌+◌, ◌<◌, IfErr, IfOk, false, true};
 ghost use Rattle.wit_model.specs.Text.{text_eq};
-ghost use Rattle.text_trees.specs.Reading.{begins_attribute as begins_attribute_lem, begins_word as begins_word_lem};
+ghost use Rattle.text_trees.specs.Reading.{begins_word as begins_word_lem};
 ghost use Rattle.text_trees.specs.declared.refusal.Refusal.TheVariants.{Wanted as NotThere};
 ghost use Rattle.text_trees.specs.declared.refusal.Wanted.TheVariants as wanted;
 ghost use Rattle.text_trees.specs.Seen.{ahead, count_of, part as part_lem, word_text as word_text_lem};
 
-use crate::front::{Tokens, begins, token_at};
+use crate::front::{Tokens, token_at};
 use crate::refusal::{Refusal, Wanted, Word};
-use text_tokens::{Kind, Mark};
+use text_tokens::Kind;
 
 /// The bytes of a text from one place on, up to before another.
 fn part<'a>(text: &'a str, start: u32, end: u32) -> &'a [u8]
@@ -28,7 +28,7 @@ fn same_text(a: &[u8], b: &str) -> bool
 }
 
 /// Whether this word stands at a place.
-fn begins_word(tokens: &Tokens<'_>, word: &str, at: usize) -> bool
+pub(crate) fn begins_word(tokens: &Tokens<'_>, word: &str, at: usize) -> bool
     ensures is { result ≡ begins_word_lem word.now (ahead tokens.now at) }
     ensures within { result ≡ true → at < count_of tokens.now }
 {
@@ -68,28 +68,4 @@ pub(crate) fn word_at(tokens: &Tokens<'_>, word: Word, at: usize) -> Result<usiz
     } else {
         Err(Refusal::Wanted(Wanted::Word(word), at))
     }
-}
-
-/// The place behind the word of an external id. Behind `@`, where no gate stands, nothing else may follow.
-pub(crate) fn external_id_word_at(tokens: &Tokens<'_>, at: usize) -> Result<usize, Refusal>
-    ensures ok { IfOk result (λ r. begins_word_lem (codes "external-id") (ahead tokens.now at) ≡ true) }
-    ensures err { IfErr result (λ e. e ≡ NotThere wanted.Attribute at) }
-    ensures none { IfErr result (λ e. begins_word_lem (codes "external-id") (ahead tokens.now at) ≡ false) }
-    ensures goes { IfOk result (λ r. r ≡ at + 1) }
-    ensures within { IfOk result (λ r. at < count_of tokens.now) }
-{
-    if begins_word(tokens, "external-id", at) {
-        Ok(at + 1)
-    } else {
-        Err(Refusal::Wanted(Wanted::Attribute, at))
-    }
-}
-
-/// Whether `@` and this word stand at a place.
-#[tactic(auto, using(crate::proofs::Attributes::attributes))]
-pub(crate) fn begins_attribute(tokens: &Tokens<'_>, word: &str, at: usize) -> bool
-    ensures is { result ≡ begins_attribute_lem word.now (ahead tokens.now at) }
-    ensures within { result ≡ true → at + 1 < count_of tokens.now }
-{
-    begins(tokens, Mark::At, at) && begins_word(tokens, word, at + 1)
 }

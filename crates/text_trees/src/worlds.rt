@@ -5,7 +5,7 @@ ghost use Rattle.std.specs.Prelude.{◌≡◌, ◌<◌, ◌≤◌, IfErr, IfOk, 
 ghost use Rattle.print_grammar.specs.Tree.{WorldMember as GrammarWorldMember};
 ghost use Rattle.text_trees.specs.Reading.{Reading.Found};
 ghost use Rattle.text_trees.specs.ReadFiles.{world_member_behind, world_member_in_front, world_members_in_front};
-ghost use Rattle.text_trees.specs.Seen.{RefusesAs, ahead, count_of, text_of};
+ghost use Rattle.text_trees.specs.Seen.{RefusesAs, ahead, count_of, docs_ahead, text_of};
 ghost use Rattle.text_trees.specs.TreesSeen.{prefix_of, world_member_of, world_other_behind};
 
 use crate::externs::extern_at;
@@ -27,9 +27,9 @@ fn world_other_at(
     at: usize,
 ) -> Result<(WorldMember, usize), Refusal>
     requires { at ≤ count_of tokens.now }
-    ensures ok { IfOk result (λ r. world_other_behind 100 (prefix_of (text_of tokens.now) prefix) (ahead tokens.now at)
+    ensures ok { IfOk result (λ r. world_other_behind (docs_ahead tokens.now) 100 (prefix_of (text_of tokens.now) prefix) (ahead tokens.now at)
         ≡ Found (world_member_of (text_of tokens.now) r.0) (ahead tokens.now r.1)) }
-    ensures err { IfErr result (λ e. RefusesAs tokens.now e (world_other_behind 100 (prefix_of (text_of tokens.now) prefix) (ahead tokens.now at))) }
+    ensures err { IfErr result (λ e. RefusesAs tokens.now e (world_other_behind (docs_ahead tokens.now) 100 (prefix_of (text_of tokens.now) prefix) (ahead tokens.now at))) }
     ensures goes { IfOk result (λ r. at < r.1) }
     ensures within { IfOk result (λ r. r.1 ≤ count_of tokens.now) }
 {
@@ -49,9 +49,9 @@ fn world_member_at(
     at: usize,
 ) -> Result<(WorldMember, usize), Refusal>
     requires { at ≤ count_of tokens.now }
-    ensures ok { IfOk result (λ r. world_member_behind 100 (prefix_of (text_of tokens.now) prefix) (ahead tokens.now at)
+    ensures ok { IfOk result (λ r. world_member_behind (docs_ahead tokens.now) 100 (prefix_of (text_of tokens.now) prefix) (ahead tokens.now at)
         ≡ Found (world_member_of (text_of tokens.now) r.0) (ahead tokens.now r.1)) }
-    ensures err { IfErr result (λ e. RefusesAs tokens.now e (world_member_behind 100 (prefix_of (text_of tokens.now) prefix) (ahead tokens.now at))) }
+    ensures err { IfErr result (λ e. RefusesAs tokens.now e (world_member_behind (docs_ahead tokens.now) 100 (prefix_of (text_of tokens.now) prefix) (ahead tokens.now at))) }
     ensures goes { IfOk result (λ r. at < r.1) }
     ensures within { IfOk result (λ r. r.1 ≤ count_of tokens.now) }
 {
@@ -71,7 +71,7 @@ fn world_member_at(
 impl Form for WorldMember {
     ghost Tree = { GrammarWorldMember };
 
-    ghost reader = { world_member_in_front 100 };
+    ghost reader = { λ docs. world_member_in_front docs 100 };
 
     ghost view = { world_member_of };
 
@@ -94,9 +94,9 @@ pub(crate) fn world_members_at(
     at: usize,
 ) -> Result<(Vec<WorldMember>, usize), Refusal>
     requires { at ≤ count_of tokens.now }
-    ensures ok { IfOk result (λ r. world_members_in_front 100 (ahead tokens.now at)
+    ensures ok { IfOk result (λ r. world_members_in_front (docs_ahead tokens.now) 100 (ahead tokens.now at)
         ≡ Found (map (world_member_of (text_of tokens.now)) r.0.items) (ahead tokens.now r.1)) }
-    ensures err { IfErr result (λ e. RefusesAs tokens.now e (world_members_in_front 100 (ahead tokens.now at))) }
+    ensures err { IfErr result (λ e. RefusesAs tokens.now e (world_members_in_front (docs_ahead tokens.now) 100 (ahead tokens.now at))) }
     ensures goes { IfOk result (λ r. at < r.1) }
     ensures within { IfOk result (λ r. r.1 ≤ count_of tokens.now) }
 {

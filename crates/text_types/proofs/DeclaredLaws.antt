@@ -1,8 +1,9 @@
 -- What is declared, as definitions grow. Serves declared.
-use Rattle.std.proofs.Common.{◌≡◌, sym, subst, refl, ℕ, List, Some, slice_get, Result, Ok, Err, IfOk, Vec, Global}
+use Rattle.std.proofs.Common.{◌≡◌, ◌∙◌, sym, ap, subst, refl, ℕ, List, Some, slice_get, Result, Ok, Err, IfOk, Vec, Global}
 use Rattle.wit_model.specs.Text.{Text}
-use Rattle.wit_model.specs.declared.model.{TypeDef.TypeDef, TypeDefKind.TypeDefKind, TypeId.TypeId, TypeOwner.TypeOwner, Field.Field, Case.Case}
+use Rattle.wit_model.specs.declared.model.{TypeDef.TypeDef, TypeDefKind.TypeDefKind, TypeId.TypeId, TypeOwner.TypeOwner, Docs.Docs, Field.Field, Case.Case}
 use Rattle.print_grammar.specs.Tree.{Prefix, FieldTree, CaseTree, Declared}
+use Rattle.print_items.specs.Shown.{shown_docs}
 use Rattle.wit_model.specs.declared.model.{Record.Record, Variant.Variant, Flags.Flags, Enum.Enum}
 use Rattle.wit_model.specs.declared.model.TypeDefKind.TheVariants as defined
 use Rattle.wit_model.specs.declared.model.«Type».TheVariants as value
@@ -16,16 +17,16 @@ use Rattle.text_types.specs.Plain.{plain_declared, plain_alias, plain_field, pla
 use Rattle.text_types.specs.Seen.{SeenField, SeenCase, SeenFlag, SeenEnumCase}
 use Rattle.text_types.specs.declared.types.Types.{Types}
 use Rattle.text_types.specs.{Each.EachIs, Stands.KindIs, Kept.defs_of, Kept.Grows, Begins.Begins}
-use Rattle.text_types.specs.Declares.{FieldIs, CaseIs, DeclaredKind, declared_name, IsNamed, DeclaredAt, NamedAt, OwnTarget}
+use Rattle.text_types.specs.Declares.{FieldIs, CaseIs, DeclaredKind, declared_name, with_docs, DeclaredAt, NamedAt, OwnTarget}
 use Rattle.text_types.proofs.Growth.{stands_stays, kind_stays, entry_stays}
 use Rattle.text_types.proofs.EachLaws.{each_weaker, maybe_weaker, each_map}
 
 module _ {old new : List TypeDef} (h : Begins old new) where
   pub field_stays : (tree : FieldTree) (field : Field) → FieldIs old tree field → FieldIs new tree field
-  field_stays tree field k = record { name = k.name; ty = stands_stays h k.ty; docs = k.docs; bare = k.bare }
+  field_stays tree field k = record { name = k.name; ty = stands_stays h k.ty; docs = k.docs }
 
   pub case_stays : (tree : CaseTree) (case : Case) → CaseIs old tree case → CaseIs new tree case
-  case_stays tree case k = record { name = k.name; payload = maybe_weaker (λ t ty s. stands_stays h s) k.payload; docs = k.docs; bare = k.bare }
+  case_stays tree case k = record { name = k.name; payload = maybe_weaker (λ t ty s. stands_stays h s) k.payload; docs = k.docs }
 
   pub declared_kind_stays : {declared : Declared} {kind : TypeDefKind} → DeclaredKind old declared kind → DeclaredKind new declared kind
   declared_kind_stays (DeclaredKind.a_record name k) = DeclaredKind.a_record name (each_weaker field_stays k)
@@ -56,21 +57,27 @@ plain_name (Declared.EnumOf name cases) = refl
 plain_name (Declared.AliasOf name ty) = refl
 plain_name (Declared.ResourceOf name members) = refl
 
--- a definition that is added under its name is what the tree declares
+-- a definition that is added under its name, with its documentation, is what the tree declares
 pub declared_added : {a b : Types} (owner : TypeOwner) (prefix : Prefix) {declared : Declared} {name : Text} {kind : TypeDefKind} {E : Type 0}
-    (r : Result TypeId E) → Grows a b
+    (docs : Docs) (r : Result TypeId E) → Grows a b → shown_docs docs ≡ prefix.docs
     → DeclaredKind (defs_of a) declared kind → OwnTarget (defs_of a) owner kind → name ≡ declared_name declared
-    → IfOk r (NamedAt (defs_of b) owner prefix name kind) → IfOk r (DeclaredAt (defs_of b) owner prefix declared)
-declared_added {b = b} owner prefix {declared = declared} (Ok id) g k own e n = record {
+    → IfOk r (NamedAt (defs_of b) owner (with_docs (shown_docs docs) prefix) name kind) → IfOk r (DeclaredAt (defs_of b) owner prefix declared)
+declared_added {b = b} owner prefix {declared = declared} docs (Ok id) g d k own e n = record {
   def = n.def;
   there = n.there;
   stands = record {
-    front = subst (λ name. IsNamed owner prefix name n.def) e n.front;
+    front = record {
+      named = n.front.named ∙ ap Some e;
+      owned = n.front.owned;
+      docs = n.front.docs ∙ d;
+      gates = n.front.gates;
+      external_id = n.front.external_id;
+    };
     kind = subst (DeclaredKind (defs_of b) declared) (sym n.has) (declared_kind_stays g.defs k);
     own = subst (OwnTarget (defs_of b) owner) (sym n.has) (own_target_stays g.defs own);
   };
 }
-declared_added owner prefix (Err x) g k own e n = tt
+declared_added owner prefix docs (Err x) g d k own e n = tt
 
 same_there : (defs : List TypeDef) (n : ℕ) {a b : TypeDef} → slice_get defs n ≡ Some a → slice_get defs n ≡ Some b → a ≡ b
 same_there defs n e f = cc (e, f)

@@ -1,29 +1,36 @@
 -- Types of a scope, as they are made one by one. Serves members::add_used, scope::make, scope::make_all, scope::make_used.
-use Rattle.std.proofs.Common.{◌≡◌, ◌∙◌, sym, subst, ℕ, List, [], ◌∷◌, Some, slice_get, Result, Ok, Err, IfOk, String, Global}
+use Rattle.std.proofs.Common.{◌≡◌, ◌∙◌, sym, ap, subst, ℕ, List, [], ◌∷◌, None, Some, slice_get, Result, Ok, Err, IfOk, String, Global}
 use Rattle.wit_model.specs.Text.{Text, text_of}
-use Rattle.wit_model.specs.declared.model.{TypeDef.TypeDef, TypeId.TypeId}
+use Rattle.std.specs.{Option.option_map_or, Str.Lines.lines}
+use Rattle.wit_model.specs.declared.model.{Docs.Docs, TypeDef.TypeDef, TypeId.TypeId}
+use Rattle.print_items.specs.Shown.{shown_docs}
 use Rattle.wit_model.specs.declared.model.TypeDefKind.TheVariants as defined
 use Rattle.wit_model.specs.declared.model.«Type».TheVariants as value
 use Rattle.print_grammar.specs.Tree.{Prefix, Declared, PathTree, UsedName, MemberTree, MemberTree.UseMember, MemberTree.TypeMember}
 use Rattle.text_names.specs.declared.sources.Sources.{Sources}
 use Rattle.text_types.specs.declared.{members.Interfaces.Interfaces, scope.Scope.Scope}
-use Rattle.text_types.specs.{Declares.declared_name, Declares.DeclaredAt, Declares.NamedAt, Plain.plain_declared}
+use Rattle.text_types.specs.{Declares.declared_name, Declares.with_docs, Declares.DeclaredAt, Declares.NamedAt, Plain.plain_declared}
 use Rattle.text_types.specs.Made.{name_here, IsOfPlace, TypeIs}
 use Rattle.text_types.specs.Making.{IsTypeOf, UsesType}
 use Rattle.text_types.specs.Targets.{TargetIn}
 
 -- ---- types of used names
 
+pub nothing_shown : (docs : Docs) → docs.contents ≡ None → shown_docs docs ≡ []
+nothing_shown docs none = ap (λ c. option_map_or (λ contents. lines (text_of contents)) c []) none
+
 module _ {E : Type 0} (s : Sources) (interfaces : Interfaces) (defs : List TypeDef) (scope : Scope) (prefix : Prefix) (path : PathTree) (used : UsedName) where
   -- one is added, whose target is what the path and the name mean
-  pub use_added : {name : Text} {target : TypeId} (r : Result TypeId E) → IfOk r (NamedAt defs scope.owner prefix name (defined.Type_ (value.Id target)))
+  pub use_added : {name : Text} {target : TypeId} (docs : Docs) (r : Result TypeId E) → docs.contents ≡ None
+      → IfOk r (NamedAt defs scope.owner (with_docs (shown_docs docs) prefix) name (defined.Type_ (value.Id target)))
       → name ≡ name_here used → TargetIn s interfaces scope.«package» path used.other target → IfOk r (UsesType s interfaces defs scope prefix path used)
-  use_added {target = target} (Ok id) there same means = record {
+  use_added {name = own} {target = target} docs (Ok id) none there same means = record {
     target = target;
-    there = subst (λ name. NamedAt defs scope.owner prefix name (defined.Type_ (value.Id target)) id) same there;
+    there = subst (λ name. NamedAt defs scope.owner (with_docs [] prefix) name (defined.Type_ (value.Id target)) id) same
+        (subst (λ lines. NamedAt defs scope.owner (with_docs lines prefix) own (defined.Type_ (value.Id target)) id) (nothing_shown docs none) there);
     means = means;
   }
-  use_added (Err x) there same means = tt
+  use_added docs (Err x) none there same means = tt
 
   -- it is placed under its name
   pub use_made : {name : Text} {id : TypeId} (r : Result (String Global × TypeId) E) → IfOk r (λ entry. text_of entry.0 ≡ name) → IfOk r (λ entry. entry.1 ≡ id)

@@ -1,5 +1,5 @@
 -- Which trees declared types are, by the list of definitions alone.
-use Rattle.std.specs.Prelude.{◌≡◌, List, [], Some, None, option_map, slice_get}
+use Rattle.std.specs.Prelude.{◌≡◌, List, Some, option_map, slice_get}
 use Rattle.wit_model.specs.Text.{Text, text_of}
 use Rattle.wit_model.specs.declared.model.{TypeDef.TypeDef, TypeDefKind.TypeDefKind, TypeId.TypeId, TypeOwner.TypeOwner}
 use Rattle.wit_model.specs.declared.model.{Field.Field, Case.Case, Flag.Flag, EnumCase.EnumCase}
@@ -8,34 +8,30 @@ use Rattle.wit_model.specs.declared.model.TypeDefKind.TheVariants as defined
 use Rattle.wit_model.specs.declared.model.«Type».TheVariants as value
 use Rattle.print_grammar.specs.Tree.{TypeTree, Prefix, FieldTree, CaseTree, LabelTree, ResourceMember, Declared}
 use Rattle.print_grammar.specs.Tree.Declared.{RecordOf, VariantOf, FlagsOf, EnumOf, AliasOf, ResourceOf}
-use Rattle.print_items.specs.Shown.{shown_gates, shown_external_id}
+use Rattle.print_items.specs.Shown.{shown_docs, shown_gates, shown_external_id}
 use Rattle.text_types.specs.{Each.EachIs, Each.MaybeIs, Stands.Stands, Stands.KindIs}
 
--- A field is this plain tree, and has no documentation.
+-- A field is this plain tree.
 pub record FieldIs (defs : List TypeDef) (tree : FieldTree) (field : Field) : Type 0 where
   pub name : text_of field.name ≡ tree.name
   pub ty : Stands defs tree.ty field.ty
-  pub docs : field.docs.contents ≡ None
-  pub bare : tree.docs ≡ []
+  pub docs : shown_docs field.docs ≡ tree.docs
 
--- A case is this plain tree, and has no documentation.
+-- A case is this plain tree.
 pub record CaseIs (defs : List TypeDef) (tree : CaseTree) (case : Case) : Type 0 where
   pub name : text_of case.name ≡ tree.name
   pub payload : MaybeIs (Stands defs) tree.payload case.ty
-  pub docs : case.docs.contents ≡ None
-  pub bare : tree.docs ≡ []
+  pub docs : shown_docs case.docs ≡ tree.docs
 
--- A flag is this tree, and has no documentation.
+-- A flag is this tree.
 pub record FlagIs (tree : LabelTree) (flag : Flag) : Type 0 where
   pub name : text_of flag.name ≡ tree.name
-  pub docs : flag.docs.contents ≡ None
-  pub bare : tree.docs ≡ []
+  pub docs : shown_docs flag.docs ≡ tree.docs
 
--- A case of an enum is this tree, and has no documentation.
+-- A case of an enum is this tree.
 pub record EnumCaseIs (tree : LabelTree) (case : EnumCase) : Type 0 where
   pub name : text_of case.name ≡ tree.name
-  pub docs : case.docs.contents ≡ None
-  pub bare : tree.docs ≡ []
+  pub docs : shown_docs case.docs ≡ tree.docs
 
 -- A kind is what a plain tree declares. A resource may have any functions.
 pub data DeclaredKind (defs : List TypeDef) : Declared → TypeDefKind → Type 0 where
@@ -57,13 +53,17 @@ declared_name (EnumOf name cases) = name
 declared_name (AliasOf name ty) = name
 declared_name (ResourceOf name members) = name
 
--- A definition has this name, these gates and this external id, belongs to this owner, and has no documentation.
+-- what stands in front of an item, with these lines of documentation
+abbrev pub with_docs : List Text → Prefix → Prefix
+with_docs lines prefix = record prefix { docs = lines }
+
+-- A definition has this name, this documentation, these gates and this external id, and belongs to this owner.
 pub record IsNamed (owner : TypeOwner) (prefix : Prefix) (name : Text) (def : TypeDef) : Type 0 where
   pub named : option_map text_of def.name ≡ Some name
   pub owned : def.owner ≡ owner
+  pub docs : shown_docs def.docs ≡ prefix.docs
   pub gates : shown_gates def.stability ≡ prefix.gates
   pub external_id : shown_external_id def.external_id ≡ prefix.external_id
-  pub docs : def.docs.contents ≡ None
 
 -- The definition of this number is there, and belongs to this owner.
 pub record OwnedAt (defs : List TypeDef) (owner : TypeOwner) (id : TypeId) : Type 0 where

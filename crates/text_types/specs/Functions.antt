@@ -11,7 +11,7 @@ use Rattle.wit_model.specs.declared.model.Handle.TheVariants as handle
 use Rattle.print_grammar.specs.Tree.{TypeTree, Prefix, ParamTree, SignatureTree, ResourceMember}
 use Rattle.print_grammar.specs.Tree.ResourceMember.{Constructor, Method, Static}
 use Rattle.print_grammar.specs.Tree.TypeTree.{ResultOk, ResultOf}
-use Rattle.print_items.specs.Shown.{shown_gates, shown_external_id}
+use Rattle.print_items.specs.Shown.{shown_docs, shown_gates, shown_external_id}
 use Rattle.print_items.specs.ItemCalls.{written_params}
 use Rattle.text_types.specs.{Each.EachIs, Each.MaybeIs, Stands.Stands, Kept.IsUnnamed}
 
@@ -20,11 +20,11 @@ pub record ParamIs (defs : List TypeDef) (tree : ParamTree) (param : Param) : Ty
   pub name : text_of param.name ≡ tree.name
   pub ty : Stands defs tree.ty param.ty
 
--- A function has these gates and this external id, and no documentation.
+-- A function has this documentation, these gates and this external id.
 pub record HasFront (prefix : Prefix) (f : Function) : Type 0 where
+  pub docs : shown_docs f.docs ≡ prefix.docs
   pub gates : shown_gates f.stability ≡ prefix.gates
   pub external_id : shown_external_id f.external_id ≡ prefix.external_id
-  pub docs : f.docs.contents ≡ None
 
 -- A function is of this plain type.
 pub record FunctionStands (defs : List TypeDef) (tree : SignatureTree) (f : Function) : Type 0 where

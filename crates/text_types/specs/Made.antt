@@ -11,7 +11,7 @@ use Rattle.print_grammar.specs.Tree.{Prefix, SignatureTree, ResourceMember, Decl
 use Rattle.print_grammar.specs.Tree.{MemberTree.UseMember, MemberTree.TypeMember, MemberTree.FunctionMember}
 use Rattle.print_grammar.specs.Tree.Declared.{RecordOf, VariantOf, FlagsOf, EnumOf, AliasOf, ResourceOf}
 use Rattle.text_names.specs.Orders.{AreApart}
-use Rattle.text_types.specs.{Each.EachIs, Declares.declared_name, Declares.DeclaredAt, Declares.NamedAt}
+use Rattle.text_types.specs.{Each.EachIs, Declares.declared_name, Declares.with_docs, Declares.DeclaredAt, Declares.NamedAt}
 use Rattle.text_types.specs.{Functions.FreeStands, Functions.MemberStands, Plain.plain_declared, Plain.plain_resource_member, Plain.plain_signature}
 
 -- a map from names
@@ -53,9 +53,10 @@ name_here used = unwrap_or used.own used.other
 -- ---- what is made of them
 
 -- The name and the number are those of the type of a use, or of a declaration. Which type a path and a name mean is said by `Target`.
+-- The documentation of a use isn't kept.
 pub data TypeIs (defs : List TypeDef) (Target : PathTree → Text → TypeId → Type 0) (owner : TypeOwner) : MemberTree → String Global × TypeId → Type 0 where
   a_use : {prefix : Prefix} {path : PathTree} {used : UsedName} {name : String Global} {id target : TypeId} → text_of name ≡ name_here used
-      → NamedAt defs owner prefix (name_here used) (defined.Type_ (value.Id target)) id → Target path used.other target
+      → NamedAt defs owner (with_docs [] prefix) (name_here used) (defined.Type_ (value.Id target)) id → Target path used.other target
       → TypeIs defs Target owner (UseMember prefix path (used ∷ [])) (name, id)
   a_declaration : {prefix : Prefix} {declared : Declared} {name : String Global} {id : TypeId} → text_of name ≡ declared_name declared
       → DeclaredAt defs owner prefix (plain_declared declared) id → TypeIs defs Target owner (TypeMember prefix declared) (name, id)

@@ -11,7 +11,7 @@ use Rattle.text_names.specs.declared.sources.Sources.{Sources}
 use Rattle.text_names.specs.Contents.{text_at}
 use Rattle.text_types.specs.declared.scope.Scope.{Scope}
 use Rattle.text_types.specs.declared.{members.Interfaces.Interfaces, members.Members.Members, functions.Callable.Callable}
-use Rattle.text_types.specs.{Declares.NamedAt, Each.EachIs}
+use Rattle.text_types.specs.{Declares.with_docs, Declares.NamedAt, Each.EachIs}
 use Rattle.text_types.specs.Made.{name_here, FunctionIs, FunctionTree, InSomeOrder, MembersAre, NameMap, TypeIs}
 use Rattle.text_types.specs.{Scopes.made_under, Scopes.text_in, Scopes.types_in, Targets.TargetIn}
 
@@ -23,11 +23,11 @@ IsHere s scope = text_at s.texts.now scope.text.number ≡ text_in scope
 abbrev pub IsTypeOf : Sources → Interfaces → List TypeDef → Scope → MemberTree → String Global × TypeId → Type 0
 IsTypeOf s interfaces defs scope member entry = TypeIs defs (TargetIn s interfaces scope.«package») scope.owner member entry
 
--- A type is made for a used name: another name for the type that the path and the name mean.
+-- A type is made for a used name: another name for the type that the path and the name mean, without documentation.
 pub record UsesType (s : Sources) (interfaces : Interfaces) (defs : List TypeDef) (scope : Scope) (prefix : Prefix) (path : PathTree) (used : UsedName)
     (id : TypeId) : Type 0 where
   pub target : TypeId
-  pub there : NamedAt defs scope.owner prefix (name_here used) (defined.Type_ (value.Id target)) id
+  pub there : NamedAt defs scope.owner (with_docs [] prefix) (name_here used) (defined.Type_ (value.Id target)) id
   pub means : TargetIn s interfaces scope.«package» path used.other target
 
 -- The name stands for the type of this number from now on, the others for what they stood for, and the types of the scope stay.

@@ -2,22 +2,23 @@
 #![tactic(auto, using(crate::proofs::Growth::growing, crate::proofs::EachLaws::each_laws))]
 
 ghost use Rattle.std.specs.Prelude.{◌≡◌, IfOk};
+ghost use Rattle.print_items.specs.Shown.{shown_docs};
 ghost use Rattle.text_trees.specs.{Seen.cut, TreesSeen.declared_of, TreesSeen.prefix_of};
-ghost use Rattle.text_types.specs.{Declares.declared_name, Declares.DeclaredAt, Declares.DeclaredKind};
+ghost use Rattle.text_types.specs.{Declares.declared_name, Declares.with_docs, Declares.DeclaredAt, Declares.DeclaredKind};
 ghost use Rattle.text_types.specs.{Declares.NamedAt, Declares.OwnTarget, Each.EachIs, Kept.defs_of, Kept.Grows};
 ghost use Rattle.text_types.specs.{Plain.plain_declared, Scopes.text_in, Scopes.IsPlaced, Seen.SeenField, Seen.SeenCase, Seen.SeenFlag, Seen.SeenEnumCase};
 
 use crate::labels::Labels;
 use crate::lowering::{LEVELS, kind_of, lowered, lowered_if_given};
 use crate::scope::{Scope, name_of};
-use crate::texts::{external_id_of, no_docs, stability_of, string_of};
+use crate::texts::{docs_of, external_id_of, stability_of, string_of};
 use crate::types::Types;
 use keyed_hash::KeyedHash;
 use std::alloc::Global;
 use text_names::Fault;
 use text_trees::{CaseTree, Declared, FieldTree, LabelTree, Prefix, Span};
 use wit_model::{
-    Case, Enum, EnumCase, Field, Flag, Flags, Record, TypeDef, TypeDefKind, TypeId, Variant,
+    Case, Docs, Enum, EnumCase, Field, Flag, Flags, Record, TypeDef, TypeDefKind, TypeId, Variant,
 };
 
 fn fields_of<'t>(
@@ -39,7 +40,7 @@ fn fields_of<'t>(
         fields.push(Field {
             name: string_of(alloc, &scope.text, tree.name)?,
             ty,
-            docs: no_docs(),
+            docs: docs_of(alloc, scope.text.text, tree.docs)?,
         })?;
     }
     Ok(fields)
@@ -64,7 +65,7 @@ fn cases_of<'t>(
         cases.push(Case {
             name: string_of(alloc, &scope.text, tree.name)?,
             ty,
-            docs: no_docs(),
+            docs: docs_of(alloc, scope.text.text, tree.docs)?,
         })?;
     }
     Ok(cases)
@@ -84,7 +85,7 @@ fn flags_of<'t>(
         labels.add(&scope.text, tree.name)?;
         flags.push(Flag {
             name: string_of(alloc, &scope.text, tree.name)?,
-            docs: no_docs(),
+            docs: docs_of(alloc, scope.text.text, tree.docs)?,
         })?;
     }
     Ok(flags)
@@ -104,7 +105,7 @@ fn enum_cases_of<'t>(
         labels.add(&scope.text, tree.name)?;
         cases.push(EnumCase {
             name: string_of(alloc, &scope.text, tree.name)?,
-            docs: no_docs(),
+            docs: docs_of(alloc, scope.text.text, tree.docs)?,
         })?;
     }
     Ok(cases)
@@ -142,23 +143,25 @@ fn kind_of_declared<'t>(
     }
 }
 
-/// Adds a type of a name.
+/// Adds a type of a name, with this documentation.
 pub(crate) fn add_named<'t>(
     alloc: Global,
     scope: &Scope<'t>,
     types: &mut Types,
+    docs: Docs,
     prefix: &Prefix,
     name: Span,
     kind: TypeDefKind,
 ) -> Result<TypeId, Fault>
     ensures grows { Grows types.old types.new }
-    ensures added { IfOk result (NamedAt (defs_of types.new) scope.now.owner (prefix_of (text_in scope.now) prefix.now) (cut (text_in scope.now) name) kind) }
+    ensures added { IfOk result (NamedAt (defs_of types.new) scope.now.owner (with_docs (shown_docs docs) (prefix_of (text_in scope.now) prefix.now))
+        (cut (text_in scope.now) name) kind) }
 {
     let def = TypeDef {
         name: Some(string_of(alloc, &scope.text, name)?),
         kind,
         owner: scope.owner,
-        docs: no_docs(),
+        docs,
         stability: stability_of(alloc, &scope.text, prefix.gates)?,
         external_id: external_id_of(alloc, &scope.text, prefix.external_id)?,
     };
@@ -179,6 +182,7 @@ pub(crate) fn add_declared<'t>(
     ensures added { IfOk result (DeclaredAt (defs_of types.new) scope.now.owner (prefix_of (text_in scope.now) prefix.now)
         (plain_declared (declared_of (text_in scope.now) declared.now))) }
 {
+    let docs = docs_of(alloc, scope.text.text, prefix.docs)?;
     let kind = kind_of_declared(alloc, hash, scope, types, declared)?;
-    add_named(alloc, scope, types, prefix, name_of(declared), kind)
+    add_named(alloc, scope, types, docs, prefix, name_of(declared), kind)
 }

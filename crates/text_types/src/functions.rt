@@ -16,7 +16,7 @@ ghost use Rattle.text_types.specs.Plain.{plain_result, plain_signature, plain_ty
 use crate::labels::Labels;
 use crate::lowering::{LEVELS, lowered, lowered_if_given};
 use crate::scope::Scope;
-use crate::texts::{external_id_of, no_docs, stability_of, string_of};
+use crate::texts::{docs_of, external_id_of, stability_of, string_of};
 use crate::types::Types;
 use keyed_hash::KeyedHash;
 use std::alloc::Global;
@@ -81,7 +81,7 @@ fn made(
         kind,
         params,
         result: returned,
-        docs: no_docs(),
+        docs: docs_of(alloc, scope.text.text, prefix.docs)?,
         stability: stability_of(alloc, &scope.text, prefix.gates)?,
         external_id: external_id_of(alloc, &scope.text, prefix.external_id)?,
     })

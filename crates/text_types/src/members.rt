@@ -17,7 +17,7 @@ ghost use Rattle.text_types.specs.Targets.{HasType};
 use crate::declared::{add_declared, add_named};
 use crate::functions::{Callable, function_of, functions_of_resource};
 use crate::scope::{Own, Scope, name_of, own_name};
-use crate::texts::string_of;
+use crate::texts::{no_docs, string_of};
 use crate::types::Types;
 use std::alloc::Global;
 use text_names::{Fault, Sources, Why};
@@ -75,7 +75,7 @@ fn add_used<'t>(
     let interface = sources.interface_of(scope.text.number, scope.package, path)?;
     let target = interfaces.type_of(scope, interface, used)?;
     let kind = TypeDefKind::Type_(Type::Id(target));
-    add_named(alloc, scope, types, prefix, own_name(used), kind)
+    add_named(alloc, scope, types, no_docs(), prefix, own_name(used), kind)
 }
 
 impl<'t> Scope<'t> {

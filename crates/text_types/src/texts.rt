@@ -1,17 +1,18 @@
-//! Names, versions, gates and external ids, as a `Resolve` has them.
+//! Names, documentation, versions, gates and external ids, as a `Resolve` has them.
 
 ghost use Rattle.std.specs.Prelude.{◌≡◌, IfOk, IfErr, None, option_map};
 ghost use Rattle.semver.specs.Identifiers.{version_text};
 ghost use Rattle.wit_model.specs.{Lookup.optional_version_text, Text.text_of};
 ghost use Rattle.text_trees.specs.Seen.{cut as cut_lem};
-ghost use Rattle.text_trees.specs.{Seen.characters_of as characters_lem, TreesSeen.gates_of};
-ghost use Rattle.print_items.specs.Shown.{shown_gates, shown_external_id};
+ghost use Rattle.text_trees.specs.{Seen.characters_of as characters_lem, TreesSeen.docs_of as docs_lem, TreesSeen.gates_of};
+ghost use Rattle.print_items.specs.Shown.{shown_docs, shown_gates, shown_external_id};
 ghost use Rattle.text_types.specs.Refusals.{RefusesAt};
 
 use crate::strings::characters_of;
 use semver::Version;
 use std::alloc::{AllocError, Global};
 use text_names::{Fault, Refused, Why, cut, part};
+use text_tokens::documentation;
 use text_trees::{Gates, Span};
 use wit_model::{Docs, Stability};
 
@@ -49,6 +50,16 @@ impl<'t> Text<'t> {
             at,
             why,
         }))
+    }
+}
+
+/// The documentation in a gap in front of an item. Takes time linear in the gap.
+pub fn docs_of(alloc: Global, text: &str, gap: Span) -> Result<Docs, Fault>
+    ensures docs { IfOk result (λ docs. shown_docs docs ≡ docs_lem text.now gap) }
+{
+    match part(text, gap) {
+        Some(part) => Ok(documentation(alloc, part)?),
+        None => Err(Fault::Size),
     }
 }
 

@@ -11,28 +11,28 @@ use Rattle.wit_model.specs.Text.{Text, text_eq}
 use Rattle.wit_model.proofs.TextLemmas.{text_alike, text_same}
 use Rattle.print_grammar.specs.Tree.{ItemTree, ItemTree.InterfaceItem, ItemTree.WorldItem, PackageHead, PackageTree}
 use Rattle.text_trees.specs.declared.tree.{ItemTree.ItemTree as CodeItem, PackageTree.PackageTree as CodePackage, Span.Span}
-use Rattle.text_trees.specs.TreesSeen.{gates_of, head_of, item_of, member_of, package_of, world_member_of}
+use Rattle.text_trees.specs.TreesSeen.{docs_of, gates_of, head_of, item_of, member_of, package_of, world_member_of}
 use Rattle.text_trees.specs.Seen.{cut}
 use Rattle.text_names.specs.declared.source.Source.{Source}
 use Rattle.text_names.specs.declared.sources.{InterfaceSource.InterfaceSource, PackageSource.PackageSource, Sources.Sources, WorldSource.WorldSource}
 use Rattle.text_names.specs.Contents.{all_heads, all_items, heads_in, is_interface, item_in, items_in, items_of as items_in_text, packages_in, text_at, Item}
 use Rattle.text_names.specs.Tables.{head_there, IsIndex, IsInterface, IsNumberOf, IsWorld}
 use Rattle.text_types.specs.Each.{EachIs}
-use Rattle.text_shown.specs.Shows.{interface_of, items_of, packages_of, same_head, world_of, InterfaceTree}
+use Rattle.text_shown.specs.Shows.{bare_head, interface_of, items_of, packages_of, same_head, world_of, InterfaceTree}
 use Rattle.text_shown.specs.ShowsWorlds.{WorldTree}
 use Rattle.text_shown.proofs.{Resources.filter_first, Uses.optional_same}
 use Rattle.wit_text.specs.{Listed.is_of, Listed.is_world_of, Mains.files_of}
 
 -- ---- packages of texts, and their items
 
-pub all_heads_there : (texts : List Source) → map (λ p. p.head) (packages_of (files_of texts)) ≡ all_heads texts
+pub all_heads_there : (texts : List Source) → map (λ p. bare_head p.head) (packages_of (files_of texts)) ≡ all_heads texts
 all_heads_there [] = refl
 all_heads_there (t ∷ ts) =
-    map-append (λ (p : PackageTree). p.head) (map (package_of t.text.now) (packages_in t)) (packages_of (files_of ts))
-    ∙ (ap (λ hs. hs ++ map (λ (p : PackageTree). p.head) (packages_of (files_of ts))) (heads t.text.now (packages_in t))
+    map-append (λ (p : PackageTree). bare_head p.head) (map (package_of t.text.now) (packages_in t)) (packages_of (files_of ts))
+    ∙ (ap (λ hs. hs ++ map (λ (p : PackageTree). bare_head p.head) (packages_of (files_of ts))) (heads t.text.now (packages_in t))
     ∙ ap (λ hs. heads_in t ++ hs) (all_heads_there ts))
   where
-    heads : (text : Text) (its : List CodePackage) → map (λ (p : PackageTree). p.head) (map (package_of text) its) ≡ map (λ it. head_of text it.head) its
+    heads : (text : Text) (its : List CodePackage) → map (λ (p : PackageTree). bare_head p.head) (map (package_of text) its) ≡ map (λ it. head_of text it.head) its
     heads text [] = refl
     heads text (it ∷ its) = ap (λ hs. head_of text it.head ∷ hs) (heads text its)
 
@@ -108,8 +108,8 @@ head_alike a =
     versions (Some x) = text_alike x
 
 -- packages that are listed have no documentation
-bare_head : (s : Sources) (n : ℕ) (head : PackageHead) → IsNumberOf s head n → head.docs ≡ []
-bare_head s n head is = by (slice_get s.packages.items n) (sym (slice_get-map (head_there s.texts.now) s.packages.items n) ∙ is)
+no_head_docs : (s : Sources) (n : ℕ) (head : PackageHead) → IsNumberOf s head n → head.docs ≡ []
+no_head_docs s n head is = by (slice_get s.packages.items n) (sym (slice_get-map (head_there s.texts.now) s.packages.items n) ∙ is)
   where
     by : (o : Option PackageSource) → option_map (head_there s.texts.now) o ≡ Some head → head.docs ≡ []
     by None e = absurd (cc e)
@@ -129,12 +129,13 @@ module _ (s : Sources) (index : IsIndex s) (n : ℕ) (head : PackageHead) (is : 
           let alike : same_head home head ≡ true = ap (λ h. same_head h head) name ∙ head_alike head in
           absurd (true≢false (sym alike ∙ f))
       by false e true f =
-          let name : home ≡ head = head_same home head (bare_head s m home its ∙ sym (bare_head s n head is)) f in
+          let name : home ≡ head = head_same home head (no_head_docs s m home its ∙ sym (no_head_docs s n head is)) f in
           absurd (eqb-false m n e (index.apart m n head (its ∙ ap Some name) is))
 
 -- the tree of an interface
 abbrev pub interface_tree : Sources → InterfaceSource → InterfaceTree
 interface_tree s source = record {
+  docs = docs_of (text_at s.texts.now source.text) source.docs;
   gates = gates_of (text_at s.texts.now source.text) source.gates;
   name = cut (text_at s.texts.now source.text) source.name;
   members = map (member_of (text_at s.texts.now source.text)) source.members.now.items;
@@ -143,6 +144,7 @@ interface_tree s source = record {
 -- the tree of a world
 abbrev pub world_tree : Sources → WorldSource → WorldTree
 world_tree s source = record {
+  docs = docs_of (text_at s.texts.now source.text) source.docs;
   gates = gates_of (text_at s.texts.now source.text) source.gates;
   name = cut (text_at s.texts.now source.text) source.name;
   members = map (world_member_of (text_at s.texts.now source.text)) source.members.now.items;

@@ -1,5 +1,5 @@
 -- A `Resolve` that has what texts declare shows their trees. Serves read.
-use Rattle.text_shown.specs.Shows.{InterfaceTree, ShowsFiles, ShowsInterface, ShowsPackage}
+use Rattle.text_shown.specs.Shows.{bare_head, InterfaceTree, ShowsFiles, ShowsInterface, ShowsPackage}
 use Rattle.text_shown.specs.ShowsWorlds.{ShowsWorld, WorldTree}
 use Rattle.wit_text.proofs.StageLaws.{each_then}
 use Rattle.std.proofs.Common.{◌≡◌, ◌∙◌, sym, ap, subst, ℕ, List, [], ◌∷◌, Some, option_map, slice_get, length, map, filter, String, Global, le_refl}
@@ -83,7 +83,7 @@ module _ (s : Sources) (index : IsIndex s) (r : Resolve) (k : IsResolveOf s r) (
       }
 
   mains_shown : (ts : List Source) (mains : List PackageId) → AllZip (IsNumberOf s) (all_mains ts) (numbers_of mains)
-      → EachIs (λ file id. slice_get (map shown_head r.packages.items) id.0 ≡ Some file.main.head) (files_of ts) mains
+      → EachIs (λ file id. slice_get (map shown_head r.packages.items) id.0 ≡ Some (bare_head file.main.head)) (files_of ts) mains
   mains_shown [] [] h = EachIs.no_more
   mains_shown [] (m ∷ ms) h = absurd h
   mains_shown (t ∷ ts) [] h = absurd h

@@ -3,7 +3,7 @@ use Rattle.text_shown.specs.ShowsWorlds.{export_of, extern_functions, world_func
 use Rattle.wit_text.proofs.Paths.{number_made}
 use Rattle.base_lemmas.proofs.Lists.{within_there}
 use Rattle.base_lemmas.proofs.Elements.{first-contained}
-use Rattle.std.proofs.Common.{◌≡◌, ◌∙◌, refl, sym, ap, subst, ℕ, ◌<◌, List, [], ◌∷◌, ◌++◌, Option, Some, None, slice_get, length, map}
+use Rattle.std.proofs.Common.{◌≡◌, ◌∙◌, refl, sym, ap, subst, ℕ, ◌<◌, List, [], ◌∷◌, ◌++◌, Option, Some, slice_get, length, map}
 use Rattle.std.proofs.Common.{option_map, unwrap_or}
 use Rattle.std.specs.{List.filter_map, List.flat_map}
 use Rattle.wit_model.specs.Text.{Text, text_of}
@@ -11,13 +11,13 @@ use Rattle.wit_model.specs.declared.model.{Interface.Interface, PackageId.Packag
 use Rattle.wit_model.specs.declared.model.{World.World}
 use Rattle.wit_model.specs.declared.model.TypeOwner.TheVariants as owner
 use Rattle.print_grammar.specs.Tree.{ExternTree.NamedFunction, Prefix, SignatureTree, WorldMember.WorldExport}
-use Rattle.print_items.specs.Shown.{shown_gates}
+use Rattle.print_items.specs.Shown.{shown_docs, shown_gates}
 use Rattle.text_names.specs.declared.sources.{InterfaceSource.InterfaceSource, Sources.Sources}
 use Rattle.text_names.specs.{Contents.text_at, Tables.IsIndex}
 use Rattle.text_trees.specs.declared.tree.{ExternTree.ExternTree as CodeExtern, Prefix.Prefix as CodePrefix, SignatureTree.SignatureTree as CodeSignature}
 use Rattle.text_trees.specs.declared.tree.{Span.Span, WorldMember.WorldMember as CodeWorldMember}
 use Rattle.text_trees.specs.declared.tree.ExternTree.TheVariants as extern
-use Rattle.text_trees.specs.{Seen.cut, TreesSeen.extern_of, TreesSeen.gates_of, TreesSeen.prefix_of, TreesSeen.signature_of, TreesSeen.world_member_of}
+use Rattle.text_trees.specs.{Seen.cut, TreesSeen.docs_of, TreesSeen.extern_of, TreesSeen.gates_of, TreesSeen.prefix_of, TreesSeen.signature_of, TreesSeen.world_member_of}
 use Rattle.text_types.specs.declared.{members.Interfaces.Interfaces, scope.Scope.Scope, texts.Text.Text as CodeText}
 use Rattle.text_types.specs.{Begins.Begins, Each.EachIs, Making.AreTypesOf, Making.IsHere, Targets.TargetIn}
 use Rattle.text_types.specs.Made.{FunctionIs, FunctionTree, InSomeOrder, NameMap, TypeIs}
@@ -152,7 +152,7 @@ module _ {given : Given} {a b c : Interfaces} (g : IsGiven given a) (first : Gro
 
 pub world_made : {given : Given} {a : Interfaces} {defs : List TypeDef} (number : ℕ) (made : World) (imports exports : List WorldEntry) → IsInText given
     → text_of made.name ≡ cut (text_of_world given) given.world.now.name → made.«package» ≡ Some (record { 0 = home_in given })
-    → shown_gates made.stability ≡ gates_of (text_of_world given) given.world.now.gates → made.docs.contents ≡ None
+    → shown_gates made.stability ≡ gates_of (text_of_world given) given.world.now.gates → shown_docs made.docs ≡ docs_of (text_of_world given) given.world.now.docs
     → made.imports.entries ≡ imports → made.exports.entries ≡ exports → HasItems given a defs (owner.World (record { 0 = number })) imports exports
     → IsWorldMade (sources_in given) a defs given.world.now number made
 world_made {given = given} {a = a} {defs = defs} number made imports exports here named home gates docs in_list out_list has =
@@ -162,7 +162,7 @@ world_made {given = given} {a = a} {defs = defs} number made imports exports her
       named = subst (λ t. text_of made.name ≡ cut t given.world.now.name) text named;
       home = home;
       gates = subst (λ t. shown_gates made.stability ≡ gates_of t given.world.now.gates) text gates;
-      docs = docs;
+      docs = subst (λ t. shown_docs made.docs ≡ docs_of t given.world.now.docs) text docs;
       imports =
           subst (λ t. ImportsAre defs (TargetIn (sources_in given) a (home_in given)) (StatedIn (sources_in given) a defs (home_in given))
           (owner.World (record { 0 = number })) (map (world_member_of t) members) made.imports.entries) text

@@ -2,8 +2,8 @@
 use Rattle.std.specs.Prelude.{◌≡◌, ◌==◌, Bool, false, ℕ, List, None, option_map}
 use Rattle.std.specs.List.{list_any}
 use Rattle.text_trees.specs.declared.tree.Prefix.{Prefix}
-use Rattle.text_trees.specs.{Seen.cut, Seen.characters_of, TreesSeen.gates_of}
-use Rattle.print_items.specs.Shown.{shown_gates, shown_external_id}
+use Rattle.text_trees.specs.{Seen.cut, Seen.characters_of, TreesSeen.docs_of, TreesSeen.gates_of}
+use Rattle.print_items.specs.Shown.{shown_docs, shown_gates, shown_external_id}
 use Rattle.wit_model.specs.declared.model.{WorldKey.WorldKey, WorldItem.WorldItem}
 use Rattle.wit_model.specs.contracts.model.WorldKeyPartialEq.TheImpl as world_key
 use Rattle.wit_model.specs.declared.model.WorldKey.TheVariants as key
@@ -35,10 +35,10 @@ has_path es n = list_any (λ e. is_path n e.0) es
 abbrev pub bare_item : ℕ → WorldItem
 bare_item n = item.Interface (record { 0 = n }) gates.Unknown (record { contents = None }) None
 
--- The item is the interface of this number, with what a prefix of the text says, and without documentation.
+-- The item is the interface of this number, with what a prefix of the text says.
 abbrev pub IsStated : List ℕ → Prefix → ℕ → WorldItem → Type 0
 IsStated text prefix n (item.Interface id stability docs external_id) =
-    (id.0 ≡ n) × (shown_gates stability ≡ gates_of text prefix.gates) × (docs.contents ≡ None)
+    (id.0 ≡ n) × (shown_gates stability ≡ gates_of text prefix.gates) × (shown_docs docs ≡ docs_of text prefix.docs)
     × (shown_external_id external_id ≡ option_map (λ span. characters_of (cut text span)) prefix.external_id)
 IsStated text prefix n (item.Function f) = ⊥
 IsStated text prefix n (item.Type_ id) = ⊥

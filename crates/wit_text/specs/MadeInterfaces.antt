@@ -5,10 +5,10 @@ use Rattle.wit_model.specs.declared.model.{Interface.Interface, InterfaceId.Inte
 use Rattle.wit_model.specs.declared.model.TypeOwner.TheVariants as owner
 use Rattle.wit_model.specs.declared.model.Stability.TheVariants as stability
 use Rattle.print_grammar.specs.Tree.{MemberTree, PathTree}
-use Rattle.print_items.specs.Shown.{shown_gates}
+use Rattle.print_items.specs.Shown.{shown_docs, shown_gates}
 use Rattle.text_names.specs.declared.sources.{InterfaceSource.InterfaceSource, Sources.Sources}
 use Rattle.text_names.specs.Contents.{text_at}
-use Rattle.text_trees.specs.{Seen.cut, TreesSeen.gates_of, TreesSeen.member_of}
+use Rattle.text_trees.specs.{Seen.cut, TreesSeen.docs_of, TreesSeen.gates_of, TreesSeen.member_of}
 use Rattle.text_types.specs.declared.members.Interfaces.{Interfaces}
 use Rattle.text_types.specs.{Begins.Begins, Made.MembersAre, Targets.IsMade, Targets.TargetIn}
 
@@ -25,7 +25,7 @@ pub record IsInterfaceMade (s : Sources) (interfaces : Interfaces) (defs : List 
   pub named : option_map text_of made.name ≡ Some (cut (text_at s.texts.now source.text) source.name)
   pub home : made.«package» ≡ Some (record { 0 = source.«package» })
   pub gates : shown_gates made.stability ≡ gates_of (text_at s.texts.now source.text) source.gates
-  pub docs : made.docs.contents ≡ None
+  pub docs : shown_docs made.docs ≡ docs_of (text_at s.texts.now source.text) source.docs
   pub members : MembersAre defs (UsedIn s interfaces source.«package» number) (owner.Interface (record { 0 = number }))
       (map (member_of (text_at s.texts.now source.text)) source.members.now.items) made.types made.functions
 
@@ -54,7 +54,7 @@ AreAllMade s interfaces defs = (n : ℕ) (source : InterfaceSource) → slice_ge
 
 -- ---- interfaces in worlds
 
--- The interface of this number stands in a world of the package of this number: it has no name of its own, and what the members say.
+-- The interface of this number stands in a world of the package of this number: it has no name and no documentation of its own, and what the members say.
 pub record IsInlineMade (s : Sources) (interfaces : Interfaces) (defs : List TypeDef) (home : ℕ) (members : List MemberTree) (number : ℕ)
     (made : Interface) : Type 0 where
   pub unnamed : made.name ≡ None

@@ -1,14 +1,14 @@
 -- Worlds as they are made, before the packages list them.
-use Rattle.std.specs.Prelude.{◌≡◌, ℕ, List, length, map, Some, None, slice_get}
+use Rattle.std.specs.Prelude.{◌≡◌, ℕ, List, length, map, Some, slice_get}
 use Rattle.std.specs.{List.filter_map}
 use Rattle.wit_model.specs.Text.{text_of}
 use Rattle.wit_model.specs.declared.model.{InterfaceId.InterfaceId, TypeDef.TypeDef, World.World}
 use Rattle.wit_model.specs.declared.model.TypeOwner.TheVariants as owner
 use Rattle.print_grammar.specs.Tree.{PathTree}
-use Rattle.print_items.specs.Shown.{shown_gates}
+use Rattle.print_items.specs.Shown.{shown_docs, shown_gates}
 use Rattle.text_names.specs.declared.sources.{Sources.Sources, WorldSource.WorldSource}
 use Rattle.text_names.specs.Contents.{text_at}
-use Rattle.text_trees.specs.{Seen.cut, TreesSeen.gates_of, TreesSeen.world_member_of}
+use Rattle.text_trees.specs.{Seen.cut, TreesSeen.docs_of, TreesSeen.gates_of, TreesSeen.world_member_of}
 use Rattle.text_types.specs.declared.members.Interfaces.{Interfaces}
 use Rattle.text_types.specs.{Targets.MeansInterface, Targets.TargetIn}
 use Rattle.text_shown.specs.ShowsWorlds.{export_of, ExportsAre, ExternIs, ImportsAre, Stated}
@@ -30,7 +30,7 @@ pub record IsWorldMade (s : Sources) (interfaces : Interfaces) (defs : List Type
   pub named : text_of made.name ≡ cut (text_at s.texts.now source.text) source.name
   pub home : made.«package» ≡ Some (record { 0 = source.«package» })
   pub gates : shown_gates made.stability ≡ gates_of (text_at s.texts.now source.text) source.gates
-  pub docs : made.docs.contents ≡ None
+  pub docs : shown_docs made.docs ≡ docs_of (text_at s.texts.now source.text) source.docs
   pub imports : ImportsAre defs (TargetIn s interfaces source.«package») (StatedIn s interfaces defs source.«package») (owner.World (record { 0 = number }))
       (map (world_member_of (text_at s.texts.now source.text)) source.members.now.items) made.imports.entries
   pub exports : ExportsAre (StatedIn s interfaces defs source.«package»)

@@ -1,18 +1,17 @@
 -- What refusals of texts say.
 use Rattle.std.specs.Prelude.{◌≡◌, true, ℕ, List, take, slice_get, Some}
 use Rattle.std.specs.List.{AllZip}
-use Rattle.print_grammar.specs.Reading.{IsReading}
 use Rattle.text_names.specs.declared.error.{Fault.Fault, Why.Why, Refused.Refused}
 use Rattle.text_names.specs.declared.error.Fault.TheVariants as fault
 use Rattle.text_names.specs.declared.error.Why.TheVariants as why
 use Rattle.text_tokens.specs.Places.{HasNoTokenAt}
-use Rattle.text_trees.specs.{Levels.fits_file, Reads.StopsReading, TreesSeen.file_of}
+use Rattle.text_trees.specs.{Levels.fits_file, Reads.IsReadAs, Reads.StopsReading, TreesSeen.file_of}
 use Rattle.text_trees.specs.declared.tree.FileTree.{FileTree}
 use Rattle.text_trees.specs.declared.refusal.Wanted.TheVariants as wanted
 
 -- The tree is what the text reads as, and no type has more than 100 levels.
 pub record IsTreeOf (text : List ℕ) (file : FileTree) : Type 0 where
-  pub reads : IsReading text (file_of text file)
+  pub reads : IsReadAs text (file_of text file)
   pub fits : fits_file 100 (file_of text file) ≡ true
 
 -- The trees are those of the texts.

@@ -1,7 +1,8 @@
 -- What texts are read as, and why they aren't.
 use Rattle.std.specs.Prelude.{◌≡◌, ◌⊎◌, ℕ, List, Some}
 use Rattle.std.specs.List.{AllZip}
-use Rattle.print_grammar.specs.{Reading.IsReading, Tree.FileTree}
+use Rattle.print_grammar.specs.Tree.{FileTree}
+use Rattle.text_trees.specs.Reads.{IsReadAs}
 use Rattle.text_names.specs.declared.error.Fault.{Fault}
 use Rattle.print_items.specs.Shown.{shown_package}
 use Rattle.wit_model.specs.declared.model.{Package.Package, PackageId.PackageId, Resolve.Resolve}
@@ -14,7 +15,7 @@ use Rattle.wit_text.specs.{Refusals.HaveTrees, Refusals.RefusesTrees}
 pub record ReadsTexts (texts : List (List ℕ)) (r : Resolve) (mains : List PackageId) : Type 0 where
   pub valid : IsValid r
   pub files : List FileTree
-  pub read : AllZip IsReading texts files
+  pub read : AllZip IsReadAs texts files
   pub shows : ShowsFiles files r mains
   pub printed : (id : PackageId) (p : Package) → package_at r id.0 ≡ Some p → IsPrinted files p (shown_package r id)
 

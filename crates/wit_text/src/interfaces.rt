@@ -10,7 +10,9 @@ ghost use Rattle.wit_text.specs.MadeInterfaces.{AddsInline, AddsInterface};
 use std::alloc::Global;
 use text_names::{Fault, InterfaceSource, Sources, WorldSource};
 use text_trees::MemberTree;
-use text_types::{Interfaces, Scope, Text, Types, members_of, no_docs, stability_of, string_of};
+use text_types::{
+    Interfaces, Scope, Text, Types, docs_of, members_of, no_docs, stability_of, string_of,
+};
 use wit_model::{Interface, InterfaceId, PackageId, Stability, TypeOwner};
 
 fn next(interfaces: &Interfaces) -> Result<u32, Fault>
@@ -61,14 +63,14 @@ pub(crate) fn add_interface<'t>(
         name: Some(string_of(alloc, &text, source.name)?),
         types: members.types,
         functions: members.functions,
-        docs: no_docs(),
+        docs: docs_of(alloc, text.text, source.docs)?,
         stability: stability_of(alloc, &text, source.gates)?,
         package: Some(PackageId(source.package)),
     })?;
     Ok(number)
 }
 
-/// Makes an interface that stands in a world.
+/// Makes an interface that stands in a world. Its documentation is that of the import or the export.
 pub(crate) fn add_inline<'t>(
     alloc: Global,
     sources: &Sources<'t>,

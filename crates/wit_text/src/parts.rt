@@ -9,7 +9,7 @@ ghost use Rattle.wit_text.specs.Sides.{AddsLabel, AddsNamed};
 use std::alloc::Global;
 use text_names::{Fault, Why};
 use text_trees::{Prefix, Span};
-use text_types::{Text, external_id_of, no_docs, stability_of};
+use text_types::{Text, docs_of, external_id_of, no_docs, stability_of};
 use wit_model::{InterfaceId, Map, Stability, WorldItem, WorldKey};
 
 /// The imports, or the exports, of a world.
@@ -39,7 +39,7 @@ pub(crate) fn stated(
     Ok(WorldItem::Interface {
         id: InterfaceId(number),
         stability: stability_of(alloc, text, prefix.gates)?,
-        docs: no_docs(),
+        docs: docs_of(alloc, text.text, prefix.docs)?,
         external_id: external_id_of(alloc, text, prefix.external_id)?,
     })
 }

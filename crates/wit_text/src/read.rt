@@ -233,7 +233,7 @@ fn read_trees(
 ///
 /// All packages that are used stand among the texts, in any order, each a text's own or nested in one; several texts may have one package. Packages,
 /// worlds and interfaces come in the order of the texts, but that an interface comes behind those that it needs, and a world's imports are completed by
-/// those that its items need. Documentation is left out. Takes time linear in the texts and in what each world's items need, beside the time that the
+/// those that its items need. The documentation of packages and of uses is left out. Takes time linear in the texts and in what each world's items need, beside the time that the
 /// test of validity takes. Errors: `Memory` where a growth is refused, `Size` for a text of 2^32 bytes or more, or 2^32 of something; `Refused` with a
 /// place; `Broken` where what the texts declare breaks a rule of validity for which no place is named. Source: WIT.md.
 pub fn read_texts(alloc: Global, texts: &[&str]) -> Result<(Resolve, Vec<PackageId>), Fault>

@@ -23,7 +23,7 @@ use crate::parts::{Entries, add_named};
 use crate::shown::{Around, Marks, Places};
 use std::alloc::Global;
 use text_names::{Fault, WorldSource};
-use text_types::{Interfaces, Scope, Text, Types, no_docs, stability_of, string_of};
+use text_types::{Interfaces, Scope, Text, Types, docs_of, stability_of, string_of};
 use wit_model::{Map, PackageId, TypeId, TypeOwner, World, WorldId, WorldItem};
 
 fn add_imports<'t>(
@@ -224,7 +224,7 @@ fn made<'t>(
         name: string_of(alloc, &given.text, world.name)?,
         imports,
         exports,
-        docs: no_docs(),
+        docs: docs_of(alloc, given.text.text, world.docs)?,
         stability: stability_of(alloc, &given.text, world.gates)?,
         package: Some(PackageId(world.package)),
     })

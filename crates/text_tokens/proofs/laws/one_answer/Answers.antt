@@ -8,4 +8,4 @@ pub returns-clause-refusal : goal.returns-clause-refusal
 returns-clause-refusal c = one_refusal
 
 pub returns-clause-either : goal.returns-clause-either
-returns-clause-either c = λ text xs at has lacks. lacks.none has.tokens has.spelled
+returns-clause-either c = λ text xs at has lacks. lacks.none has.found has.spelled

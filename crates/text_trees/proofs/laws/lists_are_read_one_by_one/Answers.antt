@@ -11,31 +11,31 @@ pub returns-clause-params : goal.returns-clause-params
 returns-clause-params c = λ room. listed_one_by_one (param-shrinks room) CloseParen
 
 pub returns-clause-fields : goal.returns-clause-fields
-returns-clause-fields c = λ room. listed_one_by_one (field-shrinks room) CloseBrace
+returns-clause-fields c = λ docs room. listed_one_by_one (field-shrinks docs room) CloseBrace
 
 pub returns-clause-cases : goal.returns-clause-cases
-returns-clause-cases c = λ room. listed_one_by_one (case-shrinks room) CloseBrace
+returns-clause-cases c = λ docs room. listed_one_by_one (case-shrinks docs room) CloseBrace
 
 pub returns-clause-labels : goal.returns-clause-labels
-returns-clause-labels c = listed_one_by_one label-shrinks CloseBrace
+returns-clause-labels c = λ docs. listed_one_by_one (label-shrinks docs) CloseBrace
 
 pub returns-clause-used : goal.returns-clause-used
 returns-clause-used c = listed_one_by_one used_name-shrinks CloseBrace
 
 pub returns-clause-functions : goal.returns-clause-functions
-returns-clause-functions c = λ room. until_one_by_one (resource_member-shrinks room) (begins CloseBrace)
+returns-clause-functions c = λ docs room. until_one_by_one (resource_member-shrinks docs room) (begins CloseBrace)
 
 pub returns-clause-members : goal.returns-clause-members
-returns-clause-members c = λ room. until_one_by_one (member-shrinks room) (begins CloseBrace)
+returns-clause-members c = λ docs room. until_one_by_one (member-shrinks docs room) (begins CloseBrace)
 
 pub returns-clause-world_members : goal.returns-clause-world_members
-returns-clause-world_members c = λ room. until_one_by_one (world_member-shrinks room) (begins CloseBrace)
+returns-clause-world_members c = λ docs room. until_one_by_one (world_member-shrinks docs room) (begins CloseBrace)
 
 pub returns-clause-nested_items : goal.returns-clause-nested_items
-returns-clause-nested_items c = λ room. until_one_by_one (item-shrinks room) (begins CloseBrace)
+returns-clause-nested_items c = λ docs room. until_one_by_one (item-shrinks docs room) (begins CloseBrace)
 
 pub returns-clause-items : goal.returns-clause-items
-returns-clause-items c = λ room. until_one_by_one (item-shrinks room) ends_items
+returns-clause-items c = λ docs room. until_one_by_one (item-shrinks docs room) ends_items
 
 pub returns-clause-packages : goal.returns-clause-packages
-returns-clause-packages c = λ room. until_one_by_one (nested-shrinks room) is_end
+returns-clause-packages c = λ docs room. until_one_by_one (nested-shrinks docs room) is_end

@@ -1,28 +1,28 @@
 use Rattle.std.proofs.Common.{rules, sym, ◌∙◌}
-use Rattle.text_trees.specs.Seen.{text_of}
+use Rattle.text_trees.specs.Seen.{docs_ahead, text_of}
 use Rattle.text_trees.specs.TreesSeen.{ends_as}
 use Rattle.text_trees.proofs.Untils.{reaching_begins, reaching_refuses, reaching_ends, reaching_goes_on}
 use Rattle.text_trees.proofs.lists.until_at.Goals as goal
 
 pub items-init : goal.items-init
 items-init g c =
-    let begun = reaching_begins c.args.tokens.now g.T.Form.reader (ends_as c.args.ends) (g.T.Form.view (text_of c.args.tokens.now)) c.args.at (search rules) in search (rules, begun)
+    let begun = reaching_begins c.args.tokens.now (g.T.Form.reader (docs_ahead c.args.tokens.now)) (ends_as c.args.ends) (g.T.Form.view (text_of c.args.tokens.now)) c.args.at (search rules) in search (rules, begun)
 
 pub returns-in_err-item-clause-err : goal.returns-in_err-item-clause-err
 returns-in_err-item-clause-err g c =
     search (
       rules,
-      reaching_refuses c.args.tokens.now g.T.Form.reader (ends_as c.args.ends) (g.T.Form.view (text_of c.args.tokens.now)) c.args.at c.items.from c.items.items.items
+      reaching_refuses c.args.tokens.now (g.T.Form.reader (docs_ahead c.args.tokens.now)) (ends_as c.args.ends) (g.T.Form.view (text_of c.args.tokens.now)) c.args.at c.items.from c.items.items.items
           c.items.invariant (sym c.ends_at.ensures ∙ c.if-ends_at.false),
     )
 
 pub returns-then-ends_at-clause-ok : goal.returns-then-ends_at-clause-ok
 returns-then-ends_at-clause-ok g c =
-    reaching_ends c.args.tokens.now g.T.Form.reader (ends_as c.args.ends) (g.T.Form.view (text_of c.args.tokens.now)) c.args.at c.items.from c.items.items.items
+    reaching_ends c.args.tokens.now (g.T.Form.reader (docs_ahead c.args.tokens.now)) (ends_as c.args.ends) (g.T.Form.view (text_of c.args.tokens.now)) c.args.at c.items.from c.items.items.items
     c.items.invariant (sym c.ends_at.ensures ∙ c.if-ends_at.true)
 
 pub items-preserved : goal.items-preserved
 items-preserved g c =
-    reaching_goes_on c.args.tokens.now g.T.Form.reader (ends_as c.args.ends) (g.T.Form.view (text_of c.args.tokens.now)) c.args.at c.items.from c.in_ok-item.behind
+    reaching_goes_on c.args.tokens.now (g.T.Form.reader (docs_ahead c.args.tokens.now)) (ends_as c.args.ends) (g.T.Form.view (text_of c.args.tokens.now)) c.args.at c.items.from c.in_ok-item.behind
     c.items.items.items c.in_ok-item.item c.items.invariant (sym c.ends_at.ensures ∙ c.if-ends_at.false) c.in_ok-item.ensures.ok c.in_ok-item.ensures.goes
     c.in_ok-item.ensures.within _ (search rules)

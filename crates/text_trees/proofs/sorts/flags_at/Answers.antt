@@ -1,7 +1,7 @@
 use Rattle.std.proofs.Common.{rules}
 use Rattle.print_grammar.specs.Tree.Declared.{FlagsOf}
 use Rattle.text_trees.specs.ReadDeclared.{label_in_front}
-use Rattle.text_trees.specs.Seen.{cut, text_of}
+use Rattle.text_trees.specs.Seen.{cut, docs_ahead, text_of}
 use Rattle.text_trees.proofs.Going.{braced_refuses}
 use Rattle.text_trees.proofs.sorts.flags_at.Goals as goal
 
@@ -10,6 +10,6 @@ returns-in_err-flags-clause-err c =
     let them = c.args.tokens.now in
     search (
       rules,
-      braced_refuses them FlagsOf label_in_front c.args.at c.in_ok-name.end c.in_ok-from.from (cut (text_of them) c.in_ok-name.name) c.in_ok-name.ensures.ok
+      braced_refuses them FlagsOf (label_in_front (docs_ahead them)) c.args.at c.in_ok-name.end c.in_ok-from.from (cut (text_of them) c.in_ok-name.name) c.in_ok-name.ensures.ok
           c.in_ok-from.ensures.ok c.in_ok-from.ensures.goes,
     )
