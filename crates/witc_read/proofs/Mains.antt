@@ -6,7 +6,8 @@ use Rattle.std.specs.List.{AllZip, list_all}
 use Rattle.base_lemmas.proofs.{Elements.all_get, Lists.slice_take}
 use Rattle.wit_model.specs.Rules.{in_list}
 use Rattle.wit_model.specs.declared.model.{PackageId.PackageId, Resolve.Resolve}
-use Rattle.print_grammar.specs.{Reading.IsReading, Tree.FileTree}
+use Rattle.print_grammar.specs.Tree.{FileTree}
+use Rattle.text_trees.specs.Reads.{IsReadAs}
 use Rattle.print_items.specs.Shown.{shown_head}
 use Rattle.text_types.specs.Each.{EachIs}
 use Rattle.wit_text.specs.Texts.{ReadsTexts}
@@ -29,7 +30,7 @@ none-begins : (r : Resolve) {files : List FileTree} {mains : List PackageId}
 none-begins r EachIs.no_more none = refl
 none-begins r (EachIs.one_more h hs) none = absurd (omega (arith, ap length none))
 
-no-texts : (texts : List (List ℕ)) (files : List FileTree) → files ≡ [] → AllZip IsReading texts files → texts ≡ []
+no-texts : (texts : List (List ℕ)) (files : List FileTree) → files ≡ [] → AllZip IsReadAs texts files → texts ≡ []
 no-texts [] files none read = refl
 no-texts (text ∷ texts) [] none read = absurd read
 no-texts (text ∷ texts) (file ∷ files) none read = absurd (omega (arith, ap length none))
