@@ -8,7 +8,7 @@ use Rattle.wit_model.specs.declared.{error.Error.Error, model.Resolve.Resolve}
 use Rattle.teasel_answers.specs.Checks.{RefusesModule}
 use Rattle.teasel_answers.specs.declared.forms.Form.{Form}
 use Rattle.teasel_answers.specs.declared.forms.Form.TheVariants as forms
-use Rattle.teasel_files.specs.declared.{answer.Input.Input, read.Read.Read}
+use Rattle.teasel_texts.specs.declared.input.{Input.Input, Read.Read}
 use Rattle.teasel_messages.specs.{Looks.begins_as_module, Reasons.is_memory}
 use Rattle.teasel_words.specs.declared.choices.Kind.{Kind}
 use Rattle.teasel_words.specs.declared.choices.Kind.TheVariants as kinds

@@ -4,7 +4,7 @@ use Rattle.teasel_answers.specs.{Answers.Answers, Refusals.AnswersNothing}
 use Rattle.teasel_files.specs.{Contents.files_of, Delivered.IsDelivered}
 use Rattle.teasel_messages.proofs.ReasonLaws.{refused-by}
 use Rattle.teasel_messages.specs.Reasons.{for_reason}
-use Rattle.teasel_files.specs.declared.answer.Input.{Input}
+use Rattle.teasel_texts.specs.declared.input.Input.{Input}
 use Rattle.teasel_words.specs.Given.{given_of}
 use Rattle.teasel_run.specs.Runs.{AreInputs, colored_by, named_twice, nameless, unanswered, unread, unwritten}
 use Rattle.teasel_run.proofs.RunLaws.{has-its-files}
