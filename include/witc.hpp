@@ -48,6 +48,9 @@ enum class code : std::uint32_t {
     no_such_section = WITC_NO_SUCH_SECTION,
     text_too_long = WITC_TEXT_TOO_LONG,
     null_with_length = WITC_NULL_WITH_LENGTH,
+    bad_text = WITC_BAD_TEXT,
+    two_packages = WITC_TWO_PACKAGES,
+    bad_count = WITC_BAD_COUNT,
 };
 
 /// Why bytes mean no package, or no single world. Take it as advice.
@@ -97,8 +100,9 @@ class refusal : public std::runtime_error {
     }
     /// Whether this is the answer no of require_compatible(): the worlds are read, and one can't replace the other.
     [[nodiscard]] bool is_no() const noexcept { return witc_is_no(why_.code) != 0; }
-    /// The code as a number, one of WITC_TOO_LARGE .. WITC_NULL_WITH_LENGTH.
+    /// The code as a number, one of WITC_TOO_LARGE .. WITC_BAD_COUNT.
     [[nodiscard]] std::uint32_t number() const noexcept { return why_.code; }
+    /// The detail as a number: of bad_text and two_packages, and of not_utf8 for texts, the number of the text, from 0.
     [[nodiscard]] std::uint32_t detail() const noexcept { return why_.detail; }
     [[nodiscard]] bool has_offset() const noexcept { return why_.offset != WITC_NOWHERE; }
     [[nodiscard]] std::size_t offset() const noexcept { return why_.offset; }
@@ -116,6 +120,8 @@ inline void look_at_interface() {
     if (!met) throw std::runtime_error("libwitc has another interface than witc.h: install both from one version");
 }
 inline const std::uint8_t *at(std::string_view b) { return reinterpret_cast<const std::uint8_t *>(b.data()); }
+/// The same, or a pointer that isn't null where there are no bytes.
+inline const std::uint8_t *some(std::string_view b) { return b.empty() ? witc_some(nullptr) : at(b); }
 }  // namespace detail
 
 /// Bytes made by the library. They are moved, not copied, and freed with the last value that owns them.
@@ -237,6 +243,21 @@ inline void require_compatible(std::string_view b, std::string_view prev, std::s
         throw;
     }
 }
+
+/// A WIT text in UTF-8, behind the name by which messages call it, as a path. A text with an empty name is called `text N`, by its number from 0.
+struct text {
+    std::string_view name, bytes;
+};
+/// The bytes of the package with which the first `own` texts begin. The others are of packages that these use. Where a text is refused, this throws
+/// code::bad_text: the message names the text, the line and the column, detail() is the number of the text, and offset() is in it.
+[[nodiscard]] inline bytes texts_package(const std::vector<text> &texts, std::size_t own) {
+    std::vector<witc_text> raw;
+    raw.reserve(texts.size());
+    for (const text &t : texts) raw.push_back({detail::some(t.bytes), t.bytes.size(), detail::some(t.name), t.name.size()});
+    return bytes::of([&](witc_answer *a) { return witc_texts_package(raw.data(), raw.size(), own, a); });
+}
+/// The same where all texts are own ones.
+[[nodiscard]] inline bytes texts_package(const std::vector<text> &texts) { return texts_package(texts, texts.size()); }
 
 /// What bytes are: none of the three, or one or more of them.
 struct kind_set {

@@ -50,11 +50,42 @@ static uint8_t other_service(const uint8_t *bytes, size_t length, witc_answer *a
     return witc_same_world(bytes, length, "service", 7, bytes, length, "service-next", 12, answer);
 }
 
+/* The input as a WIT text, or as the name of one. */
+static uint8_t package_of_input(const uint8_t *bytes, size_t length, witc_answer *answer) {
+    witc_text texts[1];
+    texts[0].at = bytes, texts[0].length = length;
+    texts[0].name = (const uint8_t *)"input", texts[0].name_length = 5;
+    return witc_texts_package(texts, 1, 1, answer);
+}
+
+static uint8_t package_named_input(const uint8_t *bytes, size_t length, witc_answer *answer) {
+    static const char text[] = "package a:b;";
+    witc_text texts[1];
+    texts[0].at = (const uint8_t *)text, texts[0].length = sizeof text - 1;
+    texts[0].name = bytes, texts[0].name_length = length;
+    return witc_texts_package(texts, 1, 1, answer);
+}
+
+/* A package of two texts, of which one uses the other, and the second has no name. */
+static const char APP[] = "package a:app;\n\nworld app {\n  import a:log/log;\n  use a:log/log.{level};\n  import at: func() -> level;\n}\n";
+static const char LOG[] = "package a:log;\n\ninterface log {\n  enum level { low, high }\n  write: func(level: level, line: string);\n}\n";
+
+static uint8_t package_of_two(const uint8_t *bytes, size_t length, witc_answer *answer) {
+    witc_text texts[2];
+    (void)bytes, (void)length;
+    texts[0].at = (const uint8_t *)APP, texts[0].length = sizeof APP - 1;
+    texts[0].name = (const uint8_t *)"app.wit", texts[0].name_length = 7;
+    texts[1].at = (const uint8_t *)LOG, texts[1].length = sizeof LOG - 1;
+    texts[1].name = NULL, texts[1].name_length = 0;
+    return witc_texts_package(texts, 2, 1, answer);
+}
+
 static plain_call *const CALLS[] = {
     witc_package_text,    witc_package_json,    canonical_bytes,      short_package_text,   witc_world_text,      witc_world_json,
     witc_world_package,   short_world_text,     witc_module_text,     witc_module_json,     short_module_text,    witc_module_package,
     witc_module_strip,    first_section,        witc_module_sections, service_embedded,     nobody_embedded,      service_attached,
-    same_service,         other_service,        compat_of_services,   compat_with_nobody,   compat_of_no_names,
+    same_service,         other_service,        compat_of_services,   compat_with_nobody,   compat_of_no_names,   package_of_input,
+    package_named_input,  package_of_two,
 };
 enum { CALLS_COUNT = sizeof CALLS / sizeof *CALLS };
 

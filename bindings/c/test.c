@@ -51,6 +51,12 @@ static void null_pointers(void) {
     want(refuses_null(witc_compat(EMPTY, 8, world, 7, NULL, 7, &answer), &answer));
     want(refuses_null(witc_same_world(EMPTY, 8, world, 7, NULL, 8, world, 7, &answer), &answer));
     want(refuses_null(witc_same_world(EMPTY, 8, world, 7, EMPTY, 8, NULL, 7, &answer), &answer));
+    want(refuses_null(witc_texts_package(NULL, 1, 1, &answer), &answer));
+    for (int n = 0; n < 2; n++) {
+        witc_text texts[2] = {{EMPTY, 8, EMPTY, 1}, {EMPTY, 8, EMPTY, 1}};
+        *(n ? &texts[1].at : &texts[1].name) = NULL;
+        want(refuses_null(witc_texts_package(texts, 2, 2, &answer), &answer));
+    }
     want(witc_kinds(NULL, 1) == WITC_KIND_UNKNOWN && witc_kinds(NULL, 0) == 0);
     want(witc_package_text(NULL, 0, &answer) == WITC_REFUSED && answer.why.code == WITC_NO_READING);
     witc_free(&answer);
@@ -171,6 +177,60 @@ static void bounds(const char *text, const char *bytes, uint8_t (*call)(const ui
     free(wanted.at);
 }
 
+static witc_text text_of(const char *text, size_t length, const char *name) {
+    witc_text it = {(const uint8_t *)text, length, (const uint8_t *)name, name ? strlen(name) : 0};
+    return it;
+}
+
+/* Whether texts are refused so. */
+static int refuses_texts(const witc_text *texts, size_t count, size_t own, uint8_t status, witc_why why, const char *message) {
+    witc_answer answer = WITC_NO_ANSWER;
+    int held = witc_texts_package(texts, count, own, &answer) == status && is(&answer, message, strlen(message)) && answer.why.code == why.code &&
+               answer.why.detail == why.detail && answer.why.offset == why.offset && answer.why.subject == 0;
+    witc_free(&answer);
+    return held;
+}
+
+static witc_why why_of(uint32_t code, uint32_t detail, size_t offset) {
+    witc_why why = {0, 0, 0, 0};
+    why.offset = offset, why.code = code, why.detail = detail;
+    return why;
+}
+
+/* A package of its text, and of two texts of which one uses the other, in either order and nested. */
+static void texts(void) {
+    input clock = sample("packages/clock.wit"), files = sample("packages/files.wit"), package = sample("packages/clock.wasm");
+    witc_answer answer = WITC_NO_ANSWER, printed = WITC_NO_ANSWER;
+    witc_text both[2] = {text_of((const char *)files.at, files.length, "files.wit"), text_of((const char *)clock.at, clock.length, NULL)};
+    want(witc_texts_package(&both[1], 1, 1, &answer) == WITC_DONE && is(&answer, package.at, package.length));
+    witc_free(&answer);
+    want(witc_texts_package(both, 2, 1, &answer) == WITC_DONE);
+    want(witc_package_text(answer.at, answer.length, &printed) == WITC_DONE && is(&printed, files.at, files.length));
+    witc_free(&answer);
+    witc_free(&printed);
+    want(refuses_texts(both, 1, 1, WITC_REFUSED, why_of(WITC_BAD_TEXT, 0, 54), "files.wit: line 4, column 7: no text has this package"));
+    want(refuses_texts(both, 2, 2, WITC_REFUSED, why_of(WITC_TWO_PACKAGES, 1, WITC_NOWHERE), "files.wit and text 1 begin with two packages"));
+    free(clock.at);
+    free(files.at);
+    free(package.at);
+}
+
+/* The names are looked at first, then the number of own texts, then the texts. */
+static void refused_texts(void) {
+    const char *bad = "package a:b;\n// \xc3\xa9\ninterface \xc3\xa9 {}", *count = "the number of own texts isn't 1 to the number of all texts";
+    witc_text it[3] = {text_of("package a:b;", 12, "a.wit"), text_of("\xff", 1, ""), text_of("", 0, "\xff")};
+    witc_text place = text_of(bad, strlen(bad), NULL), empty = text_of(NULL, 0, "empty.wit");
+    want(refuses_texts(it, 3, 4, WITC_BAD_ARGUMENT, why_of(WITC_NOT_UTF8, 2, WITC_NOWHERE), "the name of text 2 isn't UTF-8"));
+    want(refuses_texts(it, 2, 3, WITC_BAD_ARGUMENT, why_of(WITC_BAD_COUNT, 0, WITC_NOWHERE), count));
+    want(refuses_texts(it, 2, 0, WITC_BAD_ARGUMENT, why_of(WITC_BAD_COUNT, 0, WITC_NOWHERE), count));
+    want(refuses_texts(NULL, 0, 0, WITC_BAD_ARGUMENT, why_of(WITC_BAD_COUNT, 0, WITC_NOWHERE), count));
+    want(refuses_texts(NULL, 0, 1, WITC_BAD_ARGUMENT, why_of(WITC_BAD_COUNT, 0, WITC_NOWHERE), count));
+    want(refuses_texts(it, 2, SIZE_MAX, WITC_BAD_ARGUMENT, why_of(WITC_BAD_COUNT, 0, WITC_NOWHERE), count));
+    want(refuses_texts(it, 2, 2, WITC_BAD_ARGUMENT, why_of(WITC_NOT_UTF8, 1, WITC_NOWHERE), "text 1 isn't UTF-8"));
+    want(refuses_texts(&place, 1, 1, WITC_REFUSED, why_of(WITC_BAD_TEXT, 0, 29), "text 0: line 3, column 11: no token begins here"));
+    want(refuses_texts(&empty, 1, 1, WITC_REFUSED, why_of(WITC_BAD_TEXT, 0, 0), "empty.wit: line 1, column 1: expected `package`"));
+}
+
 int main(int count, char **words) {
     if (count != 2) return 2;
     folder = words[1];
@@ -180,6 +240,8 @@ int main(int count, char **words) {
     subjects();
     sections();
     sections_of_bytes();
+    texts();
+    refused_texts();
     bounds("packages/files.wit", "packages/files.wasm", witc_package_text_within);
     bounds("modules/service.wit", "modules/service.wasm", witc_module_text_within);
     puts("c: passed");

@@ -109,6 +109,25 @@ static void carried(std::string_view package, std::string_view empty) {
     bounded(package, made, data);
 }
 
+// Packages of texts, and texts that are refused.
+static void texts() {
+    const std::string clock = sample("packages/clock.wit"), files = sample("packages/files.wit");
+    want(witc::texts_package({{"clock.wit", clock}}).view() == sample("packages/clock.wasm"), "the package of a text");
+    const std::vector<witc::text> both = {{"files.wit", files}, {"", clock}};
+    want(witc::package_text(witc::texts_package(both, 1)).view() == files, "the package of a text that uses another");
+    const witc::refusal alone = refusal_of(witc::code::bad_text, [&] { return witc::texts_package({both[0]}); });
+    want(alone.what() == std::string("files.wit: line 4, column 7: no text has this package"), "the message of a text");
+    want(alone.detail() == 0 && alone.has_offset() && alone.offset() == 54 && alone.subject().empty() && !alone.is_no(), "the place of a text");
+    const witc::refusal two = refusal_of(witc::code::two_packages, [&] { return witc::texts_package(both); });
+    want(two.what() == std::string("files.wit and text 1 begin with two packages") && two.detail() == 1 && !two.has_offset(), "two packages");
+    for (std::size_t own : {std::size_t(0), std::size_t(3)}) refusal_of(witc::code::bad_count, [&] { return witc::texts_package(both, own); });
+    refusal_of(witc::code::bad_count, [&] { return witc::texts_package({}); });
+    const witc::refusal no_text = refusal_of(witc::code::not_utf8, [&] { return witc::texts_package({both[1], {"bad.wit", "\xff"}}); });
+    want(no_text.what() == std::string("bad.wit isn't UTF-8") && no_text.detail() == 1, "a text that isn't UTF-8");
+    want(refusal_of(witc::code::not_utf8, [&] { return witc::texts_package({{"\xff", clock}}); }).detail() == 0, "a name that isn't UTF-8");
+    refusal_of(witc::code::bad_text, [&] { return witc::texts_package({{{}, {}}}); });
+}
+
 int main(int count, char **words) {
     if (count != 2) return 2;
     folder = words[1];
@@ -123,5 +142,6 @@ int main(int count, char **words) {
     compared(package);
     refused(package, empty);
     carried(package, empty);
+    texts();
     std::cout << "c++: passed\n";
 }

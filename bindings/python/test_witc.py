@@ -213,6 +213,60 @@ class Calls(unittest.TestCase):
                 self.assertRaises(OverflowError, call, data, most)
             self.assertNotEqual(refusal_of(call, data[:20], 0).code, "TEXT_TOO_LONG")
 
+    def test_texts(self):
+        """The package of a text, and of texts that use another."""
+        clock, files = sample("packages/clock.wit"), sample("packages/files.wit")
+        for name in "clock", "services":
+            text = sample(f"packages/{name}.wit")
+            for given in text, bytearray(text), text.decode():
+                self.assertEqual(witc.texts_package([(f"{name}.wit", given)]), sample(f"packages/{name}.wasm"))
+        package = witc.texts_package([("files.wit", files), ("clock.wit", clock)], 1)
+        self.assertEqual(witc.package_text(package).encode(), files)
+        self.assertTrue(witc.same_world(package, "browser", sample("packages/files.wasm"), "browser"))
+        own = b"package example:clock@1.2.0;\n\ninterface hands {\n  use wall-clock.{datetime};\n}\n"
+        package = witc.texts_package([(b"a.wit", own), ("clock.wit", clock)])
+        self.assertRegex(witc.package_text(package), r"interface hands \{\n  use wall-clock\.\{datetime\};")
+        nested = clock.replace(b"package example:clock@1.2.0;", b"package example:clock@1.2.0 {") + b"}\n"
+        self.assertEqual(witc.package_text(witc.texts_package([("", files + nested)])).encode(), files)
+
+    def test_texts_refused(self):
+        clock, files, count = sample("packages/clock.wit"), sample("packages/files.wit"), "the number of own texts isn't 1 to the number of all texts"
+        place = "package a:b;\n// \u00e9\ninterface \u00e9 {}"
+        refusals = {
+            (23, 0, 54, "files.wit: line 4, column 7: no text has this package"): [[("files.wit", files)]],
+            (23, 1, 29, "text 1: line 3, column 11: no token begins here"): [[("clock.wit", clock), ("", place)]],
+            (23, 0, 0, "text 0: line 1, column 1: expected `package`"): [[("", "")]],
+            (24, 1, None, "files.wit and clock.wit begin with two packages"): [[("files.wit", files), ("clock.wit", clock)]],
+            (18, 0, None, "text 0 isn't UTF-8"): [[("", b"package a:b; \xff"), ("b", b"\xff")]],
+            (18, 1, None, "b.wit isn't UTF-8"): [[("", "package a:b; oh"), ("b.wit", b"\xff")]],
+            (18, 1, None, "the name of text 1 isn't UTF-8"): [[("", b"\xff"), (b"\xff", ""), (b"\xff", "")], 9],
+            (25, 0, None, count): [[("", b"\xff")], 2],
+        }
+        for (number, detail, offset, message), given in refusals.items():
+            refusal = refusal_of(witc.texts_package, *given)
+            self.assertEqual((refusal.number, refusal.detail, refusal.offset, str(refusal)), (number, detail, offset, message))
+            self.assertIsNone(refusal.subject)
+            self.assertFalse(refusal.is_no)
+        for texts, own in ([], None), ([], 0), ([], 1), ([("", clock)], 0), ([("", clock)], 2), ([("", clock)], 2**64 - 1):
+            self.refused("BAD_COUNT", None, witc.texts_package, texts, own)
+        for own in -1, 2**64:
+            self.assertRaises(OverflowError, witc.texts_package, [("", clock)], own)
+        for given in 7, None, [1], [("a", "b", "c")], [("a", 7)]:
+            self.assertRaises((TypeError, ValueError), witc.texts_package, given)
+
+    def test_damaged_texts(self):
+        """Each beginning of a text, and a text with each byte changed: a package or a refusal at a place."""
+        text = sample("packages/clock.wit")
+        for at in range(len(text)):
+            for given in text[:at], text[:at] + bytes([text[at] ^ 1]) + text[at + 1 :], text[:at] + b"\xc3\xa9" + text[at:]:
+                try:
+                    self.assertEqual(witc.texts_package([("it.wit", given)])[:8], b"\0asm\x0d\0\x01\0")
+                except witc.Refusal as refusal:
+                    before = given[: refusal.offset].decode()
+                    line, column = before.count("\n") + 1, len(before) - before.rfind("\n")
+                    self.assertEqual((refusal.code, refusal.detail), ("BAD_TEXT", 0))
+                    self.assertTrue(str(refusal).startswith(f"it.wit: line {line}, column {column}: "), str(refusal))
+
     def test_text_that_never_ends(self):
         """The text of a tower doubles with each level: with 22 it has 54 MB, and with 60 no disk could hold it."""
         for levels in 1, 2, 12:
@@ -321,6 +375,7 @@ class Calls(unittest.TestCase):
             refusal_of(witc.embed, package, "nobody"),
             refusal_of(witc.embed, package, "service", "utf-8"),
             refusal_of(witc.package_text, package, 0),
+            refusal_of(witc.texts_package, [("a.wit", "package a:b; oh")]),
         ]
         for refusal in refusals:
             self.assertIsInstance(refusal, ValueError)
@@ -368,9 +423,10 @@ class Calls(unittest.TestCase):
 
     def test_threads(self):
         module, text, wrong = sample("modules/service.wasm"), sample("modules/service.wit"), []
+        texts, package = [("clock.wit", sample("packages/clock.wit"))], sample("packages/clock.wasm")
 
         def run():
-            wrong.extend(1 for _ in range(20) if witc.module_text(module).encode() != text)
+            wrong.extend(1 for _ in range(20) if witc.module_text(module).encode() != text or witc.texts_package(texts) != package)
 
         threads = [threading.Thread(target=run) for _ in range(4)]
         for thread in threads:

@@ -14,13 +14,13 @@ from __future__ import annotations
 
 import ctypes
 import os
-from typing import Any, List, Optional, Sequence, Set, Union
+from typing import Any, List, Optional, Sequence, Set, Tuple, Union
 
 __version__ = "0.262.0"
 __all__ = [
     "CAUSES", "CLASHES", "CODES", "ENCODINGS", "LibraryError", "Refusal", "attach", "compatible", "embed", "kinds", "module_json", "module_package",
     "module_section", "module_sections", "module_strip", "module_text", "package_bytes", "package_json", "package_text", "require_compatible", "same_world",
-    "world_json", "world_package", "world_text",
+    "texts_package", "world_json", "world_package", "world_text",
 ]  # fmt: skip
 
 Buffer = Union[bytes, bytearray, memoryview]
@@ -30,7 +30,8 @@ DONE, REFUSED, BAD_ARGUMENT, NO_MEMORY = range(4)
 ENCODINGS = {"utf8": 0, "utf16": 1, "latin1+utf16": 2}
 CODES = (
     "OK OUT_OF_MEMORY TOO_LARGE CANONICAL_CLASH NO_READING ENCODING_MISSING ENCODING_UNKNOWN_FORMAT ENCODING_VERSION BAD_STRING_ENCODING HISTORICAL NOT_A_MODULE "
-    "BAD_MODULE CLASH OTHER_PACKAGE TWICE_WITHOUT_VERSION MISSING DIFFERS NO_SUCH_WORLD NOT_UTF8 BAD_ENCODING NO_SUCH_SECTION TEXT_TOO_LONG NULL_WITH_LENGTH"
+    "BAD_MODULE CLASH OTHER_PACKAGE TWICE_WITHOUT_VERSION MISSING DIFFERS NO_SUCH_WORLD NOT_UTF8 BAD_ENCODING NO_SUCH_SECTION TEXT_TOO_LONG NULL_WITH_LENGTH "
+    "BAD_TEXT TWO_PACKAGES BAD_COUNT"
 ).split()
 CAUSES = "- TRUNCATED BAD_NUMBER BAD_UTF8 BAD_PREAMBLE UNKNOWN_SECTION UNKNOWN_FORM OUT_OF_SCOPE BAD_NAME NOT_WIT DISAGREE TOO_DEEP TRAILING NO_PACKAGE".split()
 CLASHES = "- INTERFACE WORLD IMPORT EXPORT ENCODING".split()
@@ -50,8 +51,9 @@ class Refusal(ValueError):
 
     code     the name of the refusal, one of CODES
     number   its number, as in witc.h
-    detail   of NO_READING one of CAUSES, of CLASH one of CLASHES, else a number, which is 0 if there is nothing to say
-    offset   where in the bytes, or None
+    detail   of NO_READING one of CAUSES, of CLASH one of CLASHES, of BAD_TEXT and TWO_PACKAGES the number of the text, else a number, which is 0 if there is
+             nothing to say
+    offset   where in the bytes, or in the text, or None
     subject  the name that it is about, or None
     """
 
@@ -92,6 +94,10 @@ class _Answer(ctypes.Structure):
 
 class _Why(ctypes.Structure):
     _fields_ = [("offset", ctypes.c_size_t), ("subject", ctypes.c_size_t), ("code", ctypes.c_uint32), ("detail", ctypes.c_uint32)]
+
+
+class _Text(ctypes.Structure):
+    _fields_ = [("at", ctypes.c_char_p), ("length", ctypes.c_size_t), ("name", ctypes.c_char_p), ("name_length", ctypes.c_size_t)]
 
 
 def _path() -> str:
@@ -156,6 +162,7 @@ _embed = _call("witc_embed_slices", *_slice, *_slice, _flag, _flag)
 _attach = _call("witc_attach_slices", *_slice, *_slice, *_slice, _flag, _flag)
 _compat = _call("witc_compat_slices", *_slice, *_slice, *_slice)
 _same_world = _call("witc_same_world_slices", *_slice, *_slice, *_slice, *_slice)
+_texts_package = _call("witc_texts_package_slice", ctypes.POINTER(_Text), _size, _size)
 
 
 def _plain(data: Buffer) -> bytes:
@@ -170,7 +177,7 @@ def _name(name: Name) -> bytes:
 def _count(number: int) -> int:
     """A number that the library can be given: ctypes would cut one that is too large, or below 0."""
     if not 0 <= number <= _NOWHERE:
-        raise OverflowError(f"{number} is no length and no number of a section")
+        raise OverflowError(f"{number} is no length, no count and no number of a section")
     return number
 
 
@@ -186,10 +193,14 @@ def _refusal(message: bytes, why: _Why) -> Refusal:
 
 
 def _ask(call: Any, slices: Sequence[bytes], *numbers: int) -> bytes:
-    """What a call answers to these bytes and numbers. The answer is freed, also if it is a refusal's message."""
+    """What a call answers to these bytes and numbers."""
+    return _answered(call, *(word for it in slices for word in (it, len(it))), *numbers)
+
+
+def _answered(call: Any, *words: Any) -> bytes:
+    """What a call answers to these words. The answer is freed, also if it is a refusal's message."""
     answer, why = _Answer(), _Why()
-    words = [word for it in slices for word in (it, len(it))]
-    status = call(*words, *numbers, ctypes.byref(answer), ctypes.byref(why))
+    status = call(*words, ctypes.byref(answer), ctypes.byref(why))
     try:
         if status == NO_MEMORY:
             raise MemoryError("out of memory")
@@ -255,6 +266,16 @@ def module_package(module: Buffer) -> bytes:
 def module_strip(module: Buffer) -> bytes:
     """The core module without the sections that carry worlds."""
     return _ask(_module_strip, [_plain(module)])
+
+
+def texts_package(texts: Sequence[Tuple[Name, Name]], own: Optional[int] = None) -> bytes:
+    """The package with which the first `own` WIT texts begin, or all of them if `own` is None. Each is a pair: the name by which messages call it, and the text.
+
+    The other texts are of packages that the own ones use. A text that is refused raises BAD_TEXT: `detail` is its number, from 0, and `offset` is in it.
+    """
+    plain = [(_name(name), _name(text)) for name, text in texts]
+    raw = (_Text * max(1, len(plain)))(*(_Text(text, len(text), name, len(name)) for name, text in plain))
+    return _answered(_texts_package, raw, len(plain), len(plain) if own is None else _count(own))
 
 
 def module_section(module: Buffer, number: int) -> bytes:

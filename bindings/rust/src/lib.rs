@@ -15,6 +15,8 @@
 //! - a *world*: the data of one `component-type` section, as bindings carry it, which is one world with all that it uses;
 //! - a *module*: a core module, with what its `component-type` sections bind together.
 //!
+//! [`texts_package`] makes a package of WIT texts.
+//!
 //! Bound the text of bytes from strangers by a call with `within` in its name: a package of 160 bytes can have a text of 46 MB.
 //!
 //! When out of memory, a call ends the program as `Vec` does (`std::alloc::handle_alloc_error`). The first call panics if the library that is loaded has
@@ -180,6 +182,38 @@ pub fn package_bytes(package: &[u8], canonical: bool) -> Result<Vec<u8>, Refusal
             why,
         )
     })
+}
+
+/// The package with which the first `own` of these WIT texts begin, as bytes. Each text has in front of it the name by which messages call it, as a path.
+///
+/// The other texts are of packages that the own ones use. All packages that are used stand among the texts, in any order, each as a text's own or nested in one.
+/// A text that is refused has [`Code::BadText`] with its number, from 0: the refusal's offset is in that text, and its message names the text, the line and the
+/// column.
+///
+/// ```no_run
+/// let log = "package a:log; interface log { write: func(line: string); }";
+/// let app = "package a:app; world app { import a:log/log; }";
+/// let package: Vec<u8> = witc::texts_package(&[("app.wit", app), ("log.wit", log)], 1)?;
+/// # Ok::<(), witc::Refusal>(())
+/// ```
+pub fn texts_package(texts: &[(&str, &str)], own: usize) -> Result<Vec<u8>, Refusal> {
+    let raw: Vec<sys::Text> = texts
+        .iter()
+        .map(|(name, text)| raw_text(name, text))
+        .collect();
+    // SAFETY: each pointer and its length are of one text, which is borrowed for the call, and so is the list of them.
+    ask(|answer, why| unsafe {
+        sys::witc_texts_package_slice(raw.as_ptr(), raw.len(), own, answer, why)
+    })
+}
+
+fn raw_text(name: &str, text: &str) -> sys::Text {
+    sys::Text {
+        at: text.as_ptr(),
+        length: text.len(),
+        name: name.as_ptr(),
+        name_length: name.len(),
+    }
 }
 
 /// The data of the section of this number, from 0, among those of a core module that carry worlds. To take all of them, [`module_sections`] is better, since

@@ -120,6 +120,12 @@ pub enum Code {
     NoSuchSection,
     /// The text is longer than the length that the caller has set.
     TextTooLong,
+    /// The WIT text of this number is refused, at the offset; or all texts together are, without an offset.
+    BadText(u32),
+    /// The own WIT text of this number begins with another package than the first.
+    TwoPackages(u32),
+    /// The number of own WIT texts isn't 1 to the number of all texts.
+    BadCount,
     /// A number that this version of the crate doesn't know.
     Unknown(u32),
 }
@@ -145,6 +151,9 @@ impl Code {
             17 => Code::NoSuchWorld,
             20 => Code::NoSuchSection,
             21 => Code::TextTooLong,
+            23 => Code::BadText(detail),
+            24 => Code::TwoPackages(detail),
+            25 => Code::BadCount,
             n => Code::Unknown(n),
         }
     }
@@ -155,7 +164,7 @@ impl Code {
 pub struct Refusal {
     /// Which refusal it is.
     pub code: Code,
-    /// Where in the bytes, at most their length.
+    /// Where in the bytes, or in the WIT text, at most their length.
     pub offset: Option<usize>,
     /// The name that the refusal is about.
     pub subject: Option<String>,
@@ -192,7 +201,7 @@ impl Refusal {
         self.number
     }
 
-    /// The detail, as in `witc.h`: the number of a cause or of a kind of clash, a byte, or 0.
+    /// The detail, as in `witc.h`: the number of a cause, of a kind of clash or of a WIT text, a byte, or 0.
     pub fn detail(&self) -> u32 {
         self.detail
     }
@@ -231,6 +240,9 @@ mod tests {
         assert_eq!(Cause::of(14), Cause::Unknown(14));
         assert_eq!(ClashKind::of(6).number(), 6);
         assert_eq!(Code::of(22, 0), Code::Unknown(22));
+        assert_eq!(Code::of(23, 7), Code::BadText(7));
+        assert_eq!(Code::of(24, 1), Code::TwoPackages(1));
+        assert_eq!(Code::of(26, 0), Code::Unknown(26));
     }
 
     #[test]

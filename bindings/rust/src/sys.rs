@@ -8,6 +8,14 @@ pub struct Answer {
 }
 
 #[repr(C)]
+pub struct Text {
+    pub at: *const u8,
+    pub length: usize,
+    pub name: *const u8,
+    pub name_length: usize,
+}
+
+#[repr(C)]
 pub struct Why {
     pub offset: usize,
     pub subject: usize,
@@ -162,6 +170,13 @@ unsafe extern "C" {
         other_length: usize,
         other_name: *const u8,
         other_name_length: usize,
+        answer: *mut Answer,
+        why: *mut Why,
+    ) -> u8;
+    pub fn witc_texts_package_slice(
+        texts: *const Text,
+        count: usize,
+        own: usize,
         answer: *mut Answer,
         why: *mut Why,
     ) -> u8;

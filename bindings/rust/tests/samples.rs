@@ -213,6 +213,58 @@ fn bad_bytes_are_refused() {
     );
 }
 
+/// The package of a text, and of a text that uses another.
+#[test]
+fn packages_of_texts() {
+    let [clock, files] =
+        ["clock.wit", "files.wit"].map(|name| String::from_utf8(sample(name)).unwrap());
+    let package = witc::texts_package(&[("clock.wit", &clock)], 1).unwrap();
+    assert_eq!(package, sample("clock.wasm"));
+    let both = [("files.wit", files.as_str()), ("", &clock)];
+    let package = witc::texts_package(&both, 1).unwrap();
+    assert_eq!(package_text(&package).unwrap(), files);
+    let alone = witc::texts_package(&both[..1], 1).unwrap_err();
+    assert_eq!((alone.code, alone.offset), (Code::BadText(0), Some(54)));
+    assert_eq!(
+        (alone.number(), alone.detail(), &alone.subject),
+        (23, 0, &None)
+    );
+    assert_eq!(
+        alone.message(),
+        "files.wit: line 4, column 7: no text has this package"
+    );
+    let two = witc::texts_package(&both, 2).unwrap_err();
+    assert_eq!((two.code, two.offset), (Code::TwoPackages(1), None));
+    assert_eq!(
+        two.message(),
+        "files.wit and text 1 begin with two packages"
+    );
+    for (texts, own) in [(&both[..], 0), (&both, 3), (&[], 0), (&[], 1)] {
+        let refusal = witc::texts_package(texts, own).unwrap_err();
+        assert_eq!((refusal.code, refusal.number()), (Code::BadCount, 25));
+    }
+    let empty = witc::texts_package(&[("", "")], 1).unwrap_err();
+    assert_eq!((empty.code, empty.offset), (Code::BadText(0), Some(0)));
+}
+
+/// Each beginning of a text, and a text with each byte changed: an answer or a refusal at a place.
+#[test]
+fn damaged_texts() {
+    let text = String::from_utf8(sample("clock.wit")).unwrap();
+    for at in 0..text.len() {
+        let changed = format!("{}~{}", &text[..at], &text[at + 1..]);
+        for text in [&text[..at], &changed] {
+            match witc::texts_package(&[("it.wit", text)], 1) {
+                Ok(package) => assert!(package.starts_with(b"\0asm\x0d\0\x01\0"), "{at}"),
+                Err(refusal) => {
+                    assert_eq!(refusal.code, Code::BadText(0), "{at}");
+                    assert!(refusal.offset.unwrap() <= text.len(), "{at}");
+                }
+            }
+        }
+    }
+}
+
 /// Each beginning of a package, and a package with each byte changed: an answer or a refusal.
 #[test]
 fn damaged_bytes() {

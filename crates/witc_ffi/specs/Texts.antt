@@ -1,7 +1,7 @@
 -- What is answered of WIT texts: the package with which the own ones begin, or why there is none.
 use Rattle.std.specs.Prelude.{◌≡◌, ◌<◌, ◌≤◌, ◌++◌, true, min, ℕ, List, codes, length, map}
 use Rattle.std.specs.{Fmt.decimal, List.list_all, Str.is_utf8}
-use Rattle.wit_model.specs.declared.{error.Error.Error, error.Error.TheVariants.Size, model.EntryList.EntryList}
+use Rattle.wit_model.specs.declared.error.{EntryList.EntryList, Error.Error, Error.TheVariants.Size}
 use Rattle.text_names.specs.declared.error.Refused.{Refused}
 use Rattle.text_names.specs.declared.error.Fault.TheVariants as faults
 use Rattle.wit_text.specs.Texts.{RefusesTexts}
@@ -18,6 +18,12 @@ names_in texts = map (λ t. t.name.now) texts
 -- their bytes
 abbrev pub bytes_in : List Text → List (List ℕ)
 bytes_in texts = map (λ t. t.bytes.now) texts
+
+-- All names are UTF-8, and what is found has the same names and bytes.
+pub record AreNamed (names texts names_found texts_found : List (List ℕ)) : Type 0 where
+  pub names_are : names_found ≡ names
+  pub texts_are : texts_found ≡ texts
+  pub named : list_all is_utf8 names ≡ true
 
 -- All names are UTF-8, and there are as many own texts as are said, one at least.
 pub record AreAsked (names texts : List (List ℕ)) (own : ℕ) : Type 0 where
@@ -42,8 +48,11 @@ no_text_of names n = label_of names n ++ codes " isn't UTF-8"
 abbrev pub bad_count : List ℕ
 bad_count = codes "the number of own texts isn't 1 to the number of all texts"
 
+abbrev pub two_packages : List ℕ → List ℕ → List ℕ
+two_packages first other = first ++ (codes " and " ++ (other ++ codes " begin with two packages"))
+
 abbrev pub two_packages_of : List (List ℕ) → ℕ → List ℕ
-two_packages_of names n = label_of names 0 ++ (codes " and " ++ (label_of names n ++ codes " begin with two packages"))
+two_packages_of names n = two_packages (label_of names 0) (label_of names n)
 
 -- The bytes are the package with which the own texts begin.
 pub record IsTextsPackage (names texts : List (List ℕ)) (own : ℕ) (bytes : List ℕ) : Type 0 where
@@ -80,11 +89,3 @@ pub data AnswersTexts (names texts : List (List ℕ)) (own : ℕ) (status : ℕ)
 -- the same of an outcome
 abbrev pub TellsTexts : List (List ℕ) → List (List ℕ) → ℕ → Outcome → Type 0
 TellsTexts names texts own o = AnswersTexts names texts own o.status o.text.items o.why
-
--- ---- parts of texts that are refused
-
--- The texts that are found have these names and bytes, and all names are UTF-8.
-pub record AreNamed (names texts : List (List ℕ)) (names_found texts_found : List (List ℕ)) : Type 0 where
-  pub names_are : names_found ≡ names
-  pub texts_are : texts_found ≡ texts
-  pub named : list_all is_utf8 names ≡ true

@@ -1,6 +1,6 @@
 //! What comes of WIT texts: the package with which the own ones begin.
 
-ghost use Rattle.std.specs.{List.list_all, Prelude.◌≡◌, Prelude.true, Prelude.ℕ, Prelude.IfOk, Prelude.MatchResult, Str.is_utf8};
+ghost use Rattle.std.specs.{List.list_all, Prelude.◌≡◌, Prelude.◌<◌, Prelude.◌≤◌, Prelude.false, Prelude.length, Prelude.true, Prelude.ℕ, Prelude.IfOk, Prelude.MatchResult, Str.is_utf8};
 ghost use Rattle.text_names.specs.declared.error.Fault.TheVariants as faults;
 ghost use Rattle.wit_text.specs.Texts.{RefusesTexts};
 ghost use Rattle.witc_ffi.specs.Outcomes.{IsOutcome};
@@ -64,14 +64,22 @@ fn named<'a>(
     Ok(Ok(found))
 }
 
+/// Whether so many own texts there can be.
+fn is_count(texts: &[NamedText<'_>], own: usize) -> bool
+    ensures yes { result ≡ true → (0 < own) × (own ≤ length (bytes_of texts.now)) }
+    ensures no { result ≡ false → 0 < own → own ≤ length (bytes_of texts.now) → ⊥ }
+{
+    own > 0 && own <= texts.len()
+}
+
 fn counted(alloc: Global, texts: &[NamedText<'_>], own: usize) -> Result<Outcome, AllocError>
     requires { list_all is_utf8 (names_of texts.now) ≡ true }
     ensures { IfOk result (TellsTexts (names_of texts.now) (bytes_of texts.now) own) }
 {
-    if own == 0 || own > texts.len() {
-        no_count(alloc)
-    } else {
+    if is_count(texts, own) {
         packed_texts(alloc, texts, own)
+    } else {
+        no_count(alloc)
     }
 }
 
@@ -105,11 +113,7 @@ fn of_trouble(
 }
 
 /// The outcome of texts that are refused.
-fn of_fault(
-    alloc: Global,
-    texts: &[NamedText<'_>],
-    fault: &Fault,
-) -> Result<Outcome, AllocError>
+fn of_fault(alloc: Global, texts: &[NamedText<'_>], fault: &Fault) -> Result<Outcome, AllocError>
     ensures { (own : ℕ) → AreAsked (names_of texts.now) (bytes_of texts.now) own → RefusesTexts (bytes_of texts.now) fault.now
         → IfOk result (TellsTexts (names_of texts.now) (bytes_of texts.now) own) }
 {
@@ -122,11 +126,7 @@ fn of_fault(
 }
 
 /// The outcome of a text that is refused at a place.
-fn at_place(
-    alloc: Global,
-    texts: &[NamedText<'_>],
-    at: &Refused,
-) -> Result<Outcome, AllocError>
+fn at_place(alloc: Global, texts: &[NamedText<'_>], at: &Refused) -> Result<Outcome, AllocError>
     ensures message { IfOk result (λ o. TellsPlace (names_of texts.now) (bytes_of texts.now) at.now o.text.items) }
     ensures status { IfOk result (λ o. o.status ≡ 1) }
     ensures why { IfOk result (λ o. o.why ≡ record { offset = at.now.at.start; subject = 0; code = 23; detail = at.now.text }) }
@@ -145,7 +145,8 @@ fn at_place(
 
 /// The outcome of texts of which what they declare breaks a rule, and no place is named.
 fn for_rule(alloc: Global, fault: &Fault) -> Result<Outcome, AllocError>
-    ensures { IfOk result (λ o. (o.status ≡ 1) × (o.why ≡ plain_why 23)) }
+    ensures status { IfOk result (λ o. o.status ≡ 1) }
+    ensures why { IfOk result (λ o. o.why ≡ plain_why 23) }
 {
     let message = format!(in alloc; "{fault}")?;
     Ok(refused(message, Why::plain(BAD_TEXT)))
@@ -166,11 +167,7 @@ fn two_packages(
 }
 
 /// The outcome where a text isn't UTF-8.
-fn no_text(
-    alloc: Global,
-    texts: &[NamedText<'_>],
-    number: usize,
-) -> Result<Outcome, AllocError>
+fn no_text(alloc: Global, texts: &[NamedText<'_>], number: usize) -> Result<Outcome, AllocError>
     ensures { IfOk result (IsOutcome 2 (no_text_of (names_of texts.now) number) (text_why 18 number)) }
 {
     let called = label(alloc, texts, number)?;

@@ -189,9 +189,9 @@ pub fn read_package(
 
 /// The package with which so many of the texts begin, the first ones, in binary form.
 ///
-/// All packages that are used stand among the texts, in any order. Errors: `Memory` where a growth is refused; `NoText` with the first text that isn't
-/// UTF-8; `Text` as `read_texts` refuses; `Nothing` where there is no text; `Apart` with the first own text that begins with another package than the
-/// first one; `Bytes` as `encode` refuses.
+/// All packages that are used stand among the texts, in any order. Errors: `Memory` where a growth is refused, and `Nothing` where there is no text.
+/// `NoText` has the first text that isn't UTF-8. `Text` is what `read_texts` refuses the texts for, and `Bytes` what `encode` refuses the package for.
+/// `Apart` has the first own text that begins with another package than the first one.
 pub fn texts_package(alloc: Global, texts: &[NamedText<'_>], own: usize) -> Result<Vec<u8>, Trouble>
     ensures ok { IfOk result (λ made. IsPackageOf (bytes_of texts.now) own made.items) }
     ensures err { IfErr result (IsTroubleOf (bytes_of texts.now) own) }
