@@ -56,7 +56,7 @@ MakesShown form (Some kinds.World) bytes = MakesWorld form bytes
 MakesShown form (Some kinds.Module) bytes = MakesModule form bytes
 MakesShown form None bytes = MakesFound form bytes
 
--- the text of a package, within the bound: where it stands in the place of texts, of the package that they were read as, with no others nested; else as of bytes
+-- the text of a package within the bound: in the place of texts, of the package that they were read as, with no others nested; else as of bytes
 abbrev pub MakesText : ℕ → Option Kind → List ℕ → Option Read → Within → Type 0
 MakesText most kind bytes None = MakesShown (forms.Text most) kind bytes
 MakesText most kind bytes (Some r) = TextWithin (IsTextOf r.resolve r.main []) most

@@ -5,7 +5,7 @@ use Rattle.teasel_files.specs.Delivered.{IsDelivered}
 use Rattle.teasel_messages.proofs.ReasonLaws.{refused-by}
 use Rattle.teasel_messages.specs.Reasons.{for_reason}
 use Rattle.teasel_words.specs.Given.{given_of}
-use Rattle.teasel_run.specs.Runs.{colored_by, named_twice, nameless, unanswered, unread, unwritten}
+use Rattle.teasel_run.specs.Runs.{named_twice, nameless, unanswered, unread, unwritten}
 use Rattle.teasel_run.proofs.RunLaws.{has-its-files}
 use Rattle.teasel_run.proofs.run.carry_out.Goals as goal
 
