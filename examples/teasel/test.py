@@ -139,6 +139,109 @@ class Texts(Room):
             self.assertEqual(self.answer("check", text).split(b": ", 1)[1], self.answer("check", path).split(b": ", 1)[1])
         self.assertEqual(self.answer("embed", STRIPPED, CLOCK.with_suffix(".wit")), self.answer("embed", STRIPPED, CLOCK))
 
+    # A text with gates, as it is written.
+    GATED = """package a:b@1.2.0;
+
+@since(version = 1.0.0)
+interface i {
+  @since(version = 1.1.0)
+  @deprecated(version = 1.2.0)
+  record r {
+    a: u8,
+  }
+
+  resource s {
+    @unstable(feature = later)
+    m: func();
+  }
+
+  @unstable(feature = later)
+  f: func() -> r;
+}
+
+@since(version = 1.0.0)
+world w {
+  @since(version = 1.0.0)
+  import i;
+
+  @unstable(feature = soon)
+  export g: func();
+}
+"""
+
+    # A text with documentation, as it is written.
+    DOCUMENTED = """package a:b;
+
+/// an interface
+///
+/// of two items
+interface i {
+  /// a record
+  record r {
+    /// a field
+    a: u8,
+  }
+
+  /// a function
+  f: func() -> r;
+}
+
+/// a world
+world w {
+  /// an import
+  import i;
+
+  /// an export
+  export g: func();
+}
+"""
+
+    def test_gates_are_kept(self):
+        """The text of a text has its gates, though its bytes, which all else is made of, have none."""
+        file = self.store("gated.wit", self.GATED.encode())
+        for words in ["text", file], ["text", "--as", "package", file]:
+            self.assertEqual(self.answer(*words).decode(), self.GATED)
+        self.assertEqual(self.answer("text", stdin=self.GATED.encode()).decode(), self.GATED)
+        (self.room / "wit").mkdir()
+        (self.room / "wit/a.wit").write_text(self.GATED)
+        self.assertEqual(self.answer("text", "wit").decode(), self.GATED)
+        self.assertEqual(self.answer("wasm", file, "-o", "gated.wasm"), b"")
+        bare = "".join(it for it in self.GATED.splitlines(True) if not it.strip().startswith("@"))
+        self.assertEqual(self.answer("text", "gated.wasm").decode(), bare)
+        self.assertEqual(self.answer("json", file), self.answer("json", "gated.wasm"))
+        self.refused(f"{file}: {NO_CORE}", "`teasel kind` says what a file is", "text", "--as", "module", file)
+        length = len(self.GATED)
+        self.assertEqual(self.answer("text", file, "--most", str(length)).decode(), self.GATED)
+        for most in length - 1, 1, 0:
+            self.refused(f"{file}: its text is longer than {most} bytes", "--most SIZE allows more", "text", file, "--most", str(most))
+
+    def test_gates_differ(self):
+        """Texts that differ in a gate alone differ, though their bytes are the same."""
+        old = self.store("old.wit", self.GATED.encode())
+        new = self.store("new.wit", self.GATED.replace("since(version = 1.1.0)", "since(version = 1.1.1)").encode())
+        self.assertEqual(self.answer("wasm", old), self.answer("wasm", new))
+        shown = self.answer("diff", old, new, status=1).decode()
+        lines = [it for it in shown.splitlines()[2:] if it[0] in "+-"]
+        self.assertEqual(lines, ["-  @since(version = 1.1.0)", "+  @since(version = 1.1.1)"])
+        self.assertEqual(self.answer("diff", old, old), b"")
+        self.assertEqual(self.answer("wasm", old, "-o", "old.wasm"), b"")
+        shown = self.answer("diff", old, "old.wasm", status=1).decode()
+        lines = [it for it in shown.splitlines()[2:] if it[0] in "+-"]
+        self.assertEqual(lines, ["-" + it for it in self.GATED.splitlines() if it.strip().startswith("@")])
+
+    # Take this line away once the documentation of texts is read.
+    @unittest.skip("the documentation of texts isn't read")
+    def test_documentation_is_kept(self):
+        """The text of a text has its documentation, though its bytes have none."""
+        file = self.store("documented.wit", self.DOCUMENTED.encode())
+        self.assertEqual(self.answer("text", file).decode(), self.DOCUMENTED)
+        self.assertEqual(self.answer("wasm", file, "-o", "documented.wasm"), b"")
+        bare = "".join(it for it in self.DOCUMENTED.splitlines(True) if not it.strip().startswith("///"))
+        self.assertEqual(self.answer("text", "documented.wasm").decode(), bare)
+        other = self.store("other.wit", self.DOCUMENTED.replace("a field", "another field").encode())
+        shown = self.answer("diff", file, other, status=1).decode()
+        self.assertEqual([it for it in shown.splitlines()[2:] if it[0] in "+-"], ["-    /// a field", "+    /// another field"])
+
     def test_a_text_that_is_typed(self):
         bytes_ = self.answer("wasm", stdin=b"package a:b; interface i { f: func(); }")
         self.assertEqual(self.answer("text", stdin=bytes_), b"package a:b;\n\ninterface i {\n  f: func();\n}\n\n")
@@ -151,21 +254,28 @@ class Texts(Room):
         self.assertEqual(self.answer("text", stdin=text), wanted)
 
     def test_golden_texts(self):
-        """The texts of packages without gates that the golden tests have are read: written again, they have the same lines, in another order at most."""
+        """The texts of packages that the golden tests have are read: written again, they have the same lines, in another order at most. So they have by way of
+        their bytes, if they have no gates."""
         golden = (TOP.parent / "crates/cases/stdout").read_text().splitlines()
         unquoted = re.compile(r"\\u\{([0-9a-f]+)\}|\\(.)")
         ends = {"n": "\n", "r": "\r", "t": "\t", "0": "\0"}
-        count = 0
+        count = gated = 0
         for line in golden:
-            if not line.startswith('text "package ') or re.search(r"\\npackage |[\w-]+:%?[\w-]+/|@since|@unstable", line):
+            if not line.startswith('text "package ') or re.search(r"\\npackage |[\w-]+:%?[\w-]+/", line):
                 continue
             text = unquoted.sub(lambda it: chr(int(it[1], 16)) if it[1] else ends.get(it[2], it[2]), line[6:-1])
             bare = [it for it in text.splitlines() if not it.strip().startswith("///")]
             if any(it.lstrip("%").startswith(("interface ", "world ")) for it in bare):
-                written = self.answer("text", stdin=self.answer("wasm", stdin=text.encode())).decode()
-                self.assertEqual(sorted(written.splitlines()), sorted(bare), text)
+                read = self.answer("text", stdin=text.encode()).decode().splitlines()
+                self.assertEqual(sorted(it for it in read if not it.strip().startswith("///")), sorted(bare), text)
                 count += 1
+                if re.search("@since|@unstable", text):
+                    gated += 1
+                else:
+                    written = self.answer("text", stdin=self.answer("wasm", stdin=text.encode())).decode()
+                    self.assertEqual(sorted(written.splitlines()), sorted(bare), text)
         self.assertGreater(count, 200)
+        self.assertGreater(gated, 20)
 
     def test_packages_of_one_text(self):
         text = b"package a:b; world w { import c:d/i; export f: func(); } package c:d { interface i { use j.{t}; f: func() -> t; } interface j { type t = u8; } }"

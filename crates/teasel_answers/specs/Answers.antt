@@ -11,7 +11,8 @@ use Rattle.teasel_answers.specs.{Checks.IsChecked, Forms.Shows, Kinds.IsKnown, W
 use Rattle.teasel_answers.specs.declared.forms.Form.{Form}
 use Rattle.teasel_answers.specs.declared.forms.Form.TheVariants as forms
 use Rattle.teasel_files.specs.AllTell.{AllTell}
-use Rattle.teasel_files.specs.declared.answer.{Answer.Answer, Input.Input}
+use Rattle.teasel_files.specs.declared.answer.Answer.{Answer}
+use Rattle.teasel_texts.specs.declared.input.Input.{Input}
 use Rattle.teasel_words.specs.{Given.Given, Given.has_equals, Given.is_equals, Table.Text}
 use Rattle.teasel_words.specs.declared.choices.Encoding.{Encoding}
 use Rattle.teasel_words.specs.declared.choices.Encoding.TheVariants as encodings

@@ -4,7 +4,7 @@ use Rattle.wit_component.specs.{Binding.Binding, Bound.IsBound, Bound.RefusesBin
 use Rattle.wit_component.specs.{Decoded.IsDecoded, Decoded.MeansNothing, DecodedWorlds.IsDecodedWorld, DecodedWorlds.MeansNoWorld}
 use Rattle.wit_model.specs.declared.{error.Error.Error, model.Resolve.Resolve}
 use Rattle.wit_model.specs.declared.error.Error.TheVariants as errors
-use Rattle.teasel_files.specs.declared.answer.Input.{Input}
+use Rattle.teasel_texts.specs.declared.input.Input.{Input}
 use Rattle.teasel_messages.specs.{Looks.begins_as_module, Reasons.is_memory}
 
 -- Bytes mean a package, or else one world.

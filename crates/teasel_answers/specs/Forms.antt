@@ -8,7 +8,7 @@ use Rattle.wit_model.specs.declared.{error.Error.Error, model.Resolve.Resolve}
 use Rattle.teasel_answers.specs.Checks.{RefusesModule}
 use Rattle.teasel_answers.specs.declared.forms.Form.{Form}
 use Rattle.teasel_answers.specs.declared.forms.Form.TheVariants as forms
-use Rattle.teasel_files.specs.declared.{answer.Input.Input, read.Read.Read}
+use Rattle.teasel_texts.specs.declared.input.{Input.Input, Read.Read}
 use Rattle.teasel_messages.specs.{Looks.begins_as_module, Reasons.is_memory}
 use Rattle.teasel_words.specs.declared.choices.Kind.{Kind}
 use Rattle.teasel_words.specs.declared.choices.Kind.TheVariants as kinds
@@ -56,7 +56,7 @@ MakesShown form (Some kinds.World) bytes = MakesWorld form bytes
 MakesShown form (Some kinds.Module) bytes = MakesModule form bytes
 MakesShown form None bytes = MakesFound form bytes
 
--- the text of a package, within the bound: where it stands in the place of texts, of the package that they were read as, with no others nested; else as of bytes
+-- the text of a package within the bound: in the place of texts, of the package that they were read as, with no others nested; else as of bytes
 abbrev pub MakesText : ℕ → Option Kind → List ℕ → Option Read → Within → Type 0
 MakesText most kind bytes None = MakesShown (forms.Text most) kind bytes
 MakesText most kind bytes (Some r) = TextWithin (IsTextOf r.resolve r.main []) most

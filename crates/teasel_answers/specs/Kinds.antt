@@ -1,6 +1,6 @@
 -- What is told of a file's kind.
 use Rattle.std.specs.Prelude.{◌≡◌, ℕ, Bool, true, false, ◌||◌, nat_lt, List}
-use Rattle.teasel_files.specs.declared.answer.Input.{Input}
+use Rattle.teasel_texts.specs.declared.input.Input.{Input}
 use Rattle.teasel_messages.specs.Looks.{begins_as_component, begins_as_module}
 use Rattle.witc_alike.specs.Kinds.{AreKinds}
 

@@ -7,7 +7,7 @@ use Rattle.wit_metadata.specs.Modules.{IsFrontData, IsFrontless, IsNoModule, mod
 use Rattle.wit_model.specs.declared.error.Error.{Error}
 use Rattle.teasel_answers.specs.{Answers.encoding_of, Answers.is_answer_no, Answers.pair_of, Checks.RefusesModule, Forms.Shows, Forms.ShowsNothing, Worlds.HasNoOneWorld, Worlds.IsChosen, Worlds.last_of}
 use Rattle.teasel_answers.specs.declared.forms.Form.TheVariants as forms
-use Rattle.teasel_files.specs.declared.answer.Input.{Input}
+use Rattle.teasel_texts.specs.declared.input.Input.{Input}
 use Rattle.teasel_messages.specs.{Looks.begins_as_module, Reasons.is_memory}
 use Rattle.teasel_words.specs.{Choices.shell_named, Given.Given, Table.Text, Table.all_words, Table.first_word}
 use Rattle.teasel_words.specs.declared.table.Word.{Word}

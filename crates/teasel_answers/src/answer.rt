@@ -15,9 +15,9 @@ use crate::forms::{Form, shown_of};
 use crate::kinds::kinds;
 use crate::sections::{refusal_of, sections};
 use std::alloc::Global;
-use teasel_files::{Answer, Input};
+use teasel_files::Answer;
 use teasel_messages::{Refusal, told};
-use teasel_texts::unmade;
+use teasel_texts::{Input, unmade};
 use teasel_words::{Asked, Word, completion, man, shell_named, usage, usage_of, word_named};
 use witc_within::Within;
 
@@ -189,11 +189,8 @@ fn answer_to(
     }
 }
 
-/// What a word answers to its files, which are as many as it takes; or how it is used, where that is asked for. `color` says whether the answer is
-/// coloured.
-///
-/// Refuses what it can't read or make, with the file, the place and the reason; or for want of memory.
-pub fn answer_of(
+/// The same, or how the word is used, where that is asked for.
+fn answer_or_usage(
     alloc: Global,
     asked: &Asked<'_>,
     inputs: &[Input<'_>],
@@ -208,4 +205,21 @@ pub fn answer_of(
     } else {
         answer_to(alloc, asked, inputs, color)
     }
+}
+
+/// What a word answers to its files, which are as many as it takes; or how it is used, where that is asked for. `color` says whether the answer is
+/// coloured.
+///
+/// Refuses what it can't read or make, with the file, the place and the reason; or for want of memory.
+pub fn answer_of(
+    alloc: Global,
+    asked: &Asked<'_>,
+    inputs: Vec<Input<'_>>,
+    color: bool,
+) -> Result<Answer, Refusal>
+    requires { HasItsFiles (given_of asked.now) inputs.items }
+    ensures answers { IfOk result (Answers (given_of asked.now) color inputs.entry.items) }
+    ensures refused { IfErr result (RefusedFor (AnswersNothing (given_of asked.now) inputs.entry.items)) }
+{
+    answer_or_usage(alloc, asked, &inputs, color)
 }

@@ -13,9 +13,9 @@ use crate::names::{Names, package_names, world_name};
 use crate::report::{Report, Value, both, put_object};
 use crate::sections::refusal_of;
 use std::alloc::{AllocError, Global};
-use teasel_files::{Answer, Input};
+use teasel_files::Answer;
 use teasel_messages::{Refusal, about, is_module, push, push_mark};
-use teasel_texts::unmade;
+use teasel_texts::{Input, unmade};
 use wit_component::Error;
 use witc_texts::strip;
 

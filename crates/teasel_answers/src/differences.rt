@@ -8,8 +8,9 @@ ghost use Rattle.teasel_words.specs.Given.{given_of};
 use crate::answer::{made, text_form};
 use line_diff::unified;
 use std::alloc::Global;
-use teasel_files::{Answer, Input};
+use teasel_files::Answer;
 use teasel_messages::Refusal;
+use teasel_texts::Input;
 use teasel_words::Asked;
 
 /// The difference of the texts of two files, line by line. The answer is no where they differ.

@@ -9,12 +9,14 @@ ghost use Rattle.teasel_messages.specs.Reasons.{is_memory as is_want_of_memory};
 use crate::checks::is_memory;
 use crate::names::package_names;
 use std::alloc::Global;
-use teasel_files::Input;
 use teasel_messages::is_module;
+use teasel_texts::Input;
 use teasel_words::Kind;
 use wit_component::Error;
 use witc_listed::{module_json, package_json, world_json};
-use witc_within::{Within, module_text_within, package_text_within, text_within, world_text_within};
+use witc_within::{
+    Within, module_text_within, package_text_within, text_within, world_text_within,
+};
 use witc_written::{module_package, package_bytes, world_package};
 
 /// What is written of a file.

@@ -8,8 +8,9 @@ ghost use Rattle.teasel_messages.specs.Reasons.{RefusedFor, is_memory};
 use crate::report::{Report, Value, both, put_object};
 use crate::sections::refusal_of;
 use std::alloc::{AllocError, Global};
-use teasel_files::{Answer, Input};
+use teasel_files::Answer;
 use teasel_messages::{Refusal, is_component, is_module, push};
+use teasel_texts::Input;
 use wit_component::Error;
 use witc_alike::kinds_of;
 

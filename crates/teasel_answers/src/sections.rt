@@ -11,9 +11,9 @@ ghost use Rattle.teasel_messages.specs.declared.refusal.Refusal.TheVariants.{Mem
 use crate::names::world_name;
 use crate::report::{Report, Value, put_object};
 use std::alloc::{AllocError, Global};
-use teasel_files::{Answer, Input};
+use teasel_files::Answer;
 use teasel_messages::{Refusal, is_module, of_error};
-use teasel_texts::unmade;
+use teasel_texts::{Input, unmade};
 use teasel_words::Asked;
 use wit_component::Error;
 use wit_metadata::{carried_in, sections_of};

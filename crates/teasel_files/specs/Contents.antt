@@ -1,6 +1,6 @@
 -- What is read of files.
-use Rattle.std.specs.Prelude.{◌≡◌, ℕ, Bool, true, false, None, List, [], ◌∷◌, codes, if◌then◌else◌}
-use Rattle.teasel_files.specs.declared.{answer.Input.Input, input.Content.Content}
+use Rattle.std.specs.Prelude.{◌≡◌, ℕ, Bool, true, false, List, [], ◌∷◌, codes, if◌then◌else◌}
+use Rattle.teasel_files.specs.declared.{input.Content.Content, source.File.File}
 use Rattle.teasel_messages.specs.{Looks.has_preamble, Reasons.is_memory_fault, declared.faults.ReadFault.ReadFault}
 use Rattle.teasel_words.specs.{Given.Given, Table.Text}
 use Rattle.teasel_words.specs.declared.table.Word.{Word}
@@ -15,9 +15,9 @@ AreBytes Holds bytes false = has_preamble bytes ≡ false
 abbrev pub IsContent : (List ℕ → Type 0) → Content → Type 0
 IsContent Holds c = AreBytes Holds c.bytes.items c.whole
 
--- the same of an input, which is in no texts' place
-abbrev pub IsInput : (List ℕ → Type 0) → Input → Type 0
-IsInput Holds i = AreBytes Holds i.bytes.items i.whole × (i.read ≡ None)
+-- the same with the file's name
+abbrev pub IsFile : (List ℕ → Type 0) → File → Type 0
+IsFile Holds f = AreBytes Holds f.bytes.items f.whole
 
 -- memory was wanting, or this is so of the fault for which a file or a folder isn't read
 abbrev pub UnreadFor : (ReadFault → Type 0) → ReadFault → Type 0

@@ -2,7 +2,7 @@
 use Rattle.std.specs.Prelude.{◌≡◌, ◌≢◌, ◌⊎◌, ℕ, Bool, false, not, Any, List, [], codes, map, string_bytes, String}
 use Rattle.std.specs.List.{AllZip}
 use Rattle.std.specs.declared.alloc.Global.{Global}
-use Rattle.teasel_files.specs.Contents.{AreBytes, IsInput}
+use Rattle.teasel_files.specs.Contents.{AreBytes, IsFile}
 use Rattle.teasel_files.specs.declared.source.{Folder.Folder, FolderText.FolderText, Source.Source}
 use Rattle.teasel_files.specs.declared.source.Source.TheVariants as sources
 use Rattle.teasel_messages.specs.declared.faults.ReadFault.{ReadFault}
@@ -29,7 +29,7 @@ pub record IsFolder (holds : Text → List ℕ → Type 0) (lists : Text → Lis
 
 -- this is what is read of the file or the folder of this name
 abbrev pub IsRead : (Text → List ℕ → Type 0) → (Text → List Text → List Text → Type 0) → Text → Source → Type 0
-IsRead holds lists name (sources.File i) = IsInput (holds name) i
+IsRead holds lists name (sources.File f) = IsFile (holds name) f
 IsRead holds lists name (sources.Folder f) = IsFolder holds lists name f
 
 -- The sources are what is read of the files and folders of these names, one by one.

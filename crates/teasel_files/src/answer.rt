@@ -1,23 +1,6 @@
-//! What a word is given, and what it answers.
+//! What a word answers.
 
 ghost use Rattle.std.specs.Prelude.{◌≡◌};
-
-use crate::read::Read;
-use teasel_messages::Refusal;
-
-/// What is read of a file: its bytes; or, where it is neither WebAssembly nor WIT text, some of the first ones. Or the package that stands in the place of
-/// WIT text, or of a folder of texts.
-#[derive(Drop)]
-pub struct Input<'a> {
-    pub name: &'a str,
-    pub bytes: Vec<u8>,
-    /// Whether these are all of its bytes.
-    pub whole: bool,
-    /// Why no package is made of the WIT text, or the folder, in whose place this is.
-    pub refusal: Option<Refusal>,
-    /// What the texts were read as in whose place the package is, if it is in the place of texts.
-    pub read: Option<Read>,
-}
 
 /// What a word answers: yes or no, and a text or bytes.
 #[derive(Drop)]

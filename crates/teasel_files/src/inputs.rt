@@ -1,18 +1,17 @@
 //! The files and folders of a command line, read.
 
-ghost use Rattle.std.specs.Prelude.{◌≡◌, ◌≢◌, [], None, Any, IfErr, IfOk};
+ghost use Rattle.std.specs.Prelude.{◌≡◌, ◌≢◌, [], Any, IfErr, IfOk};
 ghost use Rattle.std.specs.List.{AllZip};
-ghost use Rattle.teasel_files.specs.Contents.{IsInput, files_of, has_files as is_about_files};
+ghost use Rattle.teasel_files.specs.Contents.{files_of, has_files as is_about_files};
 ghost use Rattle.teasel_files.specs.Folders.{AreRead, HasUnread, IsFolder, IsRead, IsText, IsUnread, is_folder as is_folder_so, paths_of};
 ghost use Rattle.teasel_messages.specs.Reasons.{RefusedFor};
 ghost use Rattle.teasel_messages.specs.declared.refusal.Refusal.TheVariants.{Memory};
 ghost use Rattle.teasel_words.specs.Given.{given_of, texts_of};
 
-use crate::answer::Input;
 use crate::delivery::note;
 use crate::input::Content;
 use crate::setting::Setting;
-use crate::source::{Folder, FolderText, Source};
+use crate::source::{File, Folder, FolderText, Source};
 use crate::store::{Listed, Store};
 use std::alloc::Global;
 use std::io::Write;
@@ -133,14 +132,14 @@ fn read_folder<'a, S: Store>(
     }
 }
 
-/// What is read of a file, as an input. At a terminal it is said that a large one is read.
-fn input_of<'a, E: Write>(
+/// What is read of the file of this name. At a terminal it is said that a large one is read.
+fn file_of<'a, E: Write>(
     name: &'a str,
     content: Content,
     setting: Setting,
     errors: &mut E,
-) -> Input<'a>
-    ensures { (result.bytes ≡ content.bytes) × (result.whole ≡ content.whole) × (result.read ≡ None) }
+) -> File<'a>
+    ensures { (result.bytes ≡ content.bytes) × (result.whole ≡ content.whole) }
 {
     if setting.error_terminal && content.bytes.len() > LARGE {
         note(
@@ -148,12 +147,10 @@ fn input_of<'a, E: Write>(
             "the file is read; what it means is being worked out",
         );
     }
-    Input {
+    File {
         name: shown_name(name),
         bytes: content.bytes,
         whole: content.whole,
-        refusal: None,
-        read: None,
     }
 }
 
@@ -175,7 +172,7 @@ fn read_source<'a, S: Store, E: Write>(
         note(errors, "reading standard input; end it by Ctrl-D");
     }
     match store.read(alloc, name, most) {
-        Ok(content) => Ok(Source::File(input_of(name, content, setting, errors))),
+        Ok(content) => Ok(Source::File(file_of(name, content, setting, errors))),
         Err(fault) => {
             if is_folder(name, fault) {
                 read_folder(alloc, name, most, store)

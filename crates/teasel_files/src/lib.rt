@@ -5,16 +5,14 @@ mod answer;
 mod delivery;
 mod input;
 mod inputs;
-mod read;
 mod setting;
 mod source;
 mod store;
 
-pub use answer::{Answer, Input};
+pub use answer::Answer;
 pub use delivery::{deliver, note, tell};
 pub use input::{Content, read_within};
 pub use inputs::read_inputs;
-pub use read::Read;
 pub use setting::Setting;
-pub use source::{Folder, FolderText, Source};
+pub use source::{File, Folder, FolderText, Source};
 pub use store::{Listed, Store, Unlisted};

@@ -1,6 +1,13 @@
 //! What is read under the names of a command line: files, and folders of WIT texts.
 
-use crate::answer::Input;
+/// What is read of a file: its bytes; or, where it is neither WebAssembly nor WIT text, some of the first ones.
+#[derive(Drop)]
+pub struct File<'a> {
+    pub name: &'a str,
+    pub bytes: Vec<u8>,
+    /// Whether these are all of its bytes.
+    pub whole: bool,
+}
 
 /// A text of a folder: its path, and what is read of it.
 #[derive(Drop)]
@@ -23,6 +30,6 @@ pub struct Folder<'a> {
 /// What is read under a name.
 #[derive(Drop)]
 pub enum Source<'a> {
-    File(Input<'a>),
+    File(File<'a>),
     Folder(Folder<'a>),
 }

@@ -4,7 +4,8 @@ use Rattle.std.proofs.Common.{◌≡◌, ◌≤◌, ◌&&◌, ◌||◌, ◌∙�
 use Rattle.teasel_answers.specs.Refusals.{HasItsFiles, takes}
 use Rattle.teasel_files.specs.Contents.{files_of, has_files, or_input}
 use Rattle.teasel_files.specs.Folders.{IsRead}
-use Rattle.teasel_files.specs.declared.{answer.Input.Input, setting.Setting.Setting}
+use Rattle.teasel_files.specs.declared.setting.Setting.{Setting}
+use Rattle.teasel_texts.specs.declared.input.Input.{Input}
 use Rattle.teasel_messages.specs.{Reasons.RefusedFor, declared.faults.ReadFault.ReadFault, declared.refusal.Refusal.Refusal}
 use Rattle.teasel_words.specs.{Given.Given, Spelling.Spells, Spelling.fits, Table.Text, Table.least_of, Table.most_of}
 use Rattle.teasel_words.specs.declared.table.Word.{Word}

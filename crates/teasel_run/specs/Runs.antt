@@ -4,9 +4,9 @@ use Rattle.std.specs.declared.alloc.Global.{Global}
 use Rattle.std.specs.Str.{IsUtf8}
 use Rattle.teasel_answers.specs.{Answers.Answers, Refusals.AnswersNothing}
 use Rattle.teasel_files.specs.{Contents.files_of, Delivered.IsDelivered, Folders.AreRead, Folders.IsUnread}
-use Rattle.teasel_files.specs.declared.{answer.Answer.Answer, answer.Input.Input, setting.Setting.Setting, source.Source.Source}
+use Rattle.teasel_files.specs.declared.{answer.Answer.Answer, setting.Setting.Setting, source.Source.Source}
 use Rattle.teasel_messages.specs.{Reasons.RefusedFor, declared.faults.ReadFault.ReadFault, declared.refusal.Refusal.Refusal}
-use Rattle.teasel_texts.specs.Made.{AreTaken}
+use Rattle.teasel_texts.specs.{Made.AreTaken, declared.input.Input.Input}
 use Rattle.teasel_words.specs.{Given.Given, Spelling.IsMisspelt, Spelling.Spells, Table.Text, Table.is_same}
 use Rattle.teasel_words.specs.declared.choices.Color.{Color}
 use Rattle.teasel_words.specs.declared.choices.Color.TheVariants as colors

@@ -9,9 +9,9 @@ ghost use Rattle.teasel_words.specs.{Given.given_of, Given.text_if, Given.texts_
 use std::alloc::{AllocError, Global};
 use std::io::Write;
 use teasel_answers::answer_of;
-use teasel_files::{Answer, Input, Setting, Store, deliver, note, read_inputs, tell};
+use teasel_files::{Answer, Setting, Store, deliver, note, read_inputs, tell};
 use teasel_messages::{Refusal, of_misuse, plain};
-use teasel_texts::made_of_sources;
+use teasel_texts::{Input, made_of_sources};
 use teasel_words::{Asked, Color, read_words};
 
 /// The exit status where the work is done, or the answer is yes.
@@ -123,7 +123,7 @@ fn carry_out<S: Store, W: Write, E: Write>(
     check_names(alloc, asked)?;
     let inputs = take_inputs(alloc, asked, setting, store, errors)?;
     let color = is_colored(asked.color, asked.output, setting);
-    let answer = answer_of(alloc, asked, &inputs, color)?;
+    let answer = answer_of(alloc, asked, inputs, color)?;
     note_made(errors, setting, &answer);
     deliver(alloc, asked, setting, &answer, store, writer)?;
     Ok(answer.yes)

@@ -1,10 +1,11 @@
 -- What comes in the place of WIT text, and of folders of texts.
-use Rattle.std.specs.Prelude.{◌≡◌, ◌||◌, ◌++◌, not, Bool, true, false, ℕ, Some, List, [], ◌∷◌, length, map}
+use Rattle.std.specs.Prelude.{◌≡◌, ◌||◌, ◌++◌, not, Bool, true, false, ℕ, None, Some, List, [], ◌∷◌, length, map}
 use Rattle.std.specs.List.{AllZip, list_any}
 use Rattle.witc_read.specs.Packages.{IsPackageAs, IsUnmade}
-use Rattle.teasel_files.specs.declared.{answer.Input.Input, read.Read.Read, source.Folder.Folder, source.FolderText.FolderText, source.Source.Source}
+use Rattle.teasel_files.specs.declared.source.{File.File, Folder.Folder, FolderText.FolderText, Source.Source}
 use Rattle.teasel_files.specs.declared.source.Source.TheVariants as sources
 use Rattle.teasel_messages.specs.Looks.{begins_as_text}
+use Rattle.teasel_texts.specs.declared.input.{Input.Input, Read.Read}
 
 -- the bytes of a folder's texts
 abbrev pub bytes_in : List FolderText → List (List ℕ)
@@ -16,11 +17,11 @@ pub data IsMade (texts : List (List ℕ)) (own : ℕ) (taken : Input) : Type 0 w
       → IsMade texts own taken
   for_nothing : taken.whole ≡ false → IsUnmade texts own → IsMade texts own taken
 
--- One input is taken for another: for itself, where it isn't text, or isn't whole; or for what is made of its text.
-pub data IsFileTaken (i taken : Input) : Type 0 where
-  for_itself : begins_as_text i.bytes.items ≡ false → taken.bytes ≡ i.bytes → taken.whole ≡ i.whole → taken.read ≡ i.read → IsFileTaken i taken
-  in_part : i.whole ≡ false → taken.whole ≡ false → IsFileTaken i taken
-  for_text : begins_as_text i.bytes.items ≡ true → IsMade (i.bytes.items ∷ []) 1 taken → IsFileTaken i taken
+-- A file is taken for itself, where it isn't text, or isn't whole; or for what is made of its text.
+pub data IsFileTaken (f : File) (taken : Input) : Type 0 where
+  for_itself : begins_as_text f.bytes.items ≡ false → taken.bytes ≡ f.bytes → taken.whole ≡ f.whole → taken.read ≡ None → IsFileTaken f taken
+  in_part : f.whole ≡ false → taken.whole ≡ false → IsFileTaken f taken
+  for_text : begins_as_text f.bytes.items ≡ true → IsMade (f.bytes.items ∷ []) 1 taken → IsFileTaken f taken
 
 -- whether a file of a folder isn't read whole, or doesn't begin as text does
 abbrev pub is_foreign : FolderText → Bool
@@ -34,7 +35,7 @@ pub data IsFolderTaken (f : Folder) (taken : Input) : Type 0 where
 
 -- what is taken for what is read
 abbrev pub IsTaken : Source → Input → Type 0
-IsTaken (sources.File i) taken = IsFileTaken i taken
+IsTaken (sources.File f) taken = IsFileTaken f taken
 IsTaken (sources.Folder f) taken = IsFolderTaken f taken
 
 -- the same of each

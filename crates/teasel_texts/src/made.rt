@@ -1,13 +1,14 @@
 //! What stands in the place of texts: their packages.
 
-ghost use Rattle.std.specs.Prelude.{◌≡◌, ◌++◌, ℕ, List, length, false, true, IfNone, IfOk, IfSome, OnOk};
+ghost use Rattle.std.specs.Prelude.{◌≡◌, ◌++◌, ℕ, List, length, false, true, None, IfNone, IfOk, IfSome, OnOk};
 ghost use Rattle.std.specs.List.{list_any};
 ghost use Rattle.witc_read.specs.Packages.{bytes_of, is_memory as is_memory_so};
 ghost use Rattle.teasel_texts.specs.Made.{AreTaken, IsFileTaken, IsFolderTaken, IsMade, IsTaken, bytes_in, is_foreign as is_foreign_so};
 
+use crate::input::{Input, Read};
 use crate::refusals::{again, no_text, refusal_of};
 use std::alloc::{AllocError, Global};
-use teasel_files::{Folder, FolderText, Input, Read, Source};
+use teasel_files::{File, Folder, FolderText, Source};
 use teasel_messages::{Refusal, foreign, is_text};
 use witc_read::{NamedText, ReadPackage, Trouble, read_package};
 
@@ -71,18 +72,31 @@ fn made_of<'a>(
     }
 }
 
-/// The input with the package that its text declares, if it is a text.
-fn made_of_file<'a>(alloc: Global, input: Input<'a>) -> Result<Input<'a>, AllocError>
-    ensures { IfOk result (IsFileTaken input.entry) }
+/// A file as it is.
+fn as_it_is<'a>(file: File<'a>) -> Input<'a>
+    ensures { (result.bytes ≡ file.entry.bytes) × (result.whole ≡ file.entry.whole) × (result.read ≡ None) }
 {
-    if !input.whole || !is_text(&input.bytes) {
-        return Ok(input);
+    Input {
+        name: file.name,
+        bytes: file.bytes,
+        whole: file.whole,
+        refusal: None,
+        read: None,
+    }
+}
+
+/// The package that a file's text declares, if it is a text, or the file as it is.
+fn made_of_file<'a>(alloc: Global, file: File<'a>) -> Result<Input<'a>, AllocError>
+    ensures { IfOk result (IsFileTaken file.entry) }
+{
+    if !file.whole || !is_text(&file.bytes) {
+        return Ok(as_it_is(file));
     }
     let text = NamedText {
-        name: input.name,
-        bytes: &input.bytes,
+        name: file.name,
+        bytes: &file.bytes,
     };
-    made_of(alloc, input.name, &[text], 1)
+    made_of(alloc, file.name, &[text], 1)
 }
 
 /// Whether a file of a folder is no WIT text by its first bytes.
@@ -154,7 +168,7 @@ fn made_of_source<'a>(alloc: Global, source: Source<'a>) -> Result<Input<'a>, Al
     ensures { IfOk result (IsTaken source.entry) }
 {
     match source {
-        Source::File(input) => made_of_file(alloc, input),
+        Source::File(file) => made_of_file(alloc, file),
         Source::Folder(folder) => made_of_folder(alloc, folder),
     }
 }

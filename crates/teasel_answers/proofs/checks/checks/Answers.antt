@@ -1,7 +1,8 @@
 use Rattle.std.proofs.Common.{◌≡◌, ◌+◌, drop, sym, subst, true, Bool}
 use Rattle.base_lemmas.proofs.Options.{if_ok as if-ok}
 use Rattle.teasel_answers.specs.{Checks.IsChecked}
-use Rattle.teasel_files.specs.{AllTell.AllTell, declared.answer.Answer.Answer, declared.answer.Input.Input}
+use Rattle.teasel_files.specs.{AllTell.AllTell, declared.answer.Answer.Answer}
+use Rattle.teasel_texts.specs.declared.input.Input.{Input}
 use Rattle.teasel_files.proofs.TellLaws.{tell-end, tell-step}
 use Rattle.teasel_answers.proofs.checks.checks.Goals as goal
 

@@ -1,7 +1,8 @@
 use Rattle.std.proofs.Common.{◌≡◌, ◌+◌, drop, sym, subst, true, Any, Bool}
 use Rattle.base_lemmas.proofs.Options.{err_said as err-said, if_ok as if-ok}
 use Rattle.teasel_answers.specs.{Kinds.IsKnown, Refusals.Outgrows}
-use Rattle.teasel_files.specs.{AllTell.AllTell, declared.answer.Answer.Answer, declared.answer.Input.Input}
+use Rattle.teasel_files.specs.{AllTell.AllTell, declared.answer.Answer.Answer}
+use Rattle.teasel_texts.specs.declared.input.Input.{Input}
 use Rattle.teasel_files.proofs.{AnyLaws.any-at, TellLaws.tell-end, TellLaws.tell-step}
 use Rattle.teasel_messages.proofs.ReasonLaws.{refused-by}
 use Rattle.teasel_messages.specs.Reasons.{RefusedFor, for_memory}

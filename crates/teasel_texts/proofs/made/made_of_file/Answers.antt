@@ -6,6 +6,6 @@ use Rattle.teasel_texts.proofs.made.made_of_file.Goals as goal
 
 pub returns : goal.returns
 returns c =
-    let text : begins_as_text c.args.input.bytes.items ≡ true = search rules in
-    if_ok (IsMade (c.deref-2.result.now ∷ []) 1) (IsFileTaken c.args.input)
+    let text : begins_as_text c.args.file.bytes.items ≡ true = search rules in
+    if_ok (IsMade (c.deref-2.result.now ∷ []) 1) (IsFileTaken c.args.file)
     (λ taken made. for_text text (subst (λ (bytes : List ℕ). IsMade (bytes ∷ []) 1 taken) c.deref-2.ensures.value made)) c.made_of.result c.made_of.ensures

@@ -1,8 +1,8 @@
 use Rattle.std.proofs.Common.{sym, subst, ◌∙◌, ◌∷◌, ◌++◌, [], map-id, List}
 use Rattle.std.proofs.lemmas.{Iterator.Adapters.YieldsList-from_vec, Iterator.Consumers.YieldsList-end}
 use Rattle.base_lemmas.proofs.Elements.{zip-append}
-use Rattle.teasel_files.specs.declared.{answer.Input.Input, source.Source.Source}
-use Rattle.teasel_texts.specs.Made.{AreTaken, IsTaken}
+use Rattle.teasel_files.specs.declared.source.Source.{Source}
+use Rattle.teasel_texts.specs.{Made.AreTaken, Made.IsTaken, declared.input.Input.Input}
 use Rattle.teasel_texts.proofs.made.made_of_sources.Goals as goal
 
 pub loop-source-preserved : goal.loop-source-preserved
