@@ -2,7 +2,7 @@
 use Rattle.std.proofs.Common.{◌≡◌, refl, sym, ap, ◌∙◌, Bool, List, [], ◌∷◌, ◌++◌, map, filter, filter_map, flat_map, Option, Some, None}
 use Rattle.std.proofs.Common.{option_and_then, String}
 use Rattle.std.proofs.lemmas.{Grind.flat_map-append, List.Elements.filter-append, List.Folds.flat_map-map}
-use Rattle.std.specs.{List.list_all, Option.option_map_or}
+use Rattle.std.specs.{Option.option_map_or}
 use Rattle.std.specs.declared.alloc.Global.{Global}
 use Rattle.wit_model.specs.declared.model.{Resolve.Resolve, TypeId.TypeId, TypeOwner.TypeOwner, Interface.Interface, InterfaceId.InterfaceId, Function.Function}
 use Rattle.wit_model.specs.declared.model.TypeOwner.TheVariants as owner

@@ -1,7 +1,7 @@
 //! Texts without a tree, by hand from the grammar of WIT text.
 
 /// A text in two parts, and what is wanted where the second begins.
-pub static REFUSED_TREES: [(&str, &str, &str); 121] = [
+pub static REFUSED_TREES: [(&str, &str, &str); 100] = [
     ("", "", "`package`"),
     ("", "interface i {}", "`package`"),
     ("package ", ";", "an identifier"),
@@ -31,89 +31,6 @@ pub static REFUSED_TREES: [(&str, &str, &str); 121] = [
         "package a:b; interface i {} package c:d {",
         "",
         "an interface or a world",
-    ),
-    (
-        "package a:b; @",
-        "until(version = 1.0.0) interface i {}",
-        "an attribute that may stand here",
-    ),
-    (
-        "package a:b; @",
-        "external-id(\"e\") interface i {}",
-        "an attribute that may stand here",
-    ),
-    (
-        "package a:b; @",
-        "deprecated(version = 1.0.0) interface i {}",
-        "an attribute that may stand here",
-    ),
-    ("package a:b; @", "", "an attribute that may stand here"),
-    (
-        "package a:b; @since(version = 1.0.0) @",
-        "unstable(feature = x) interface i {}",
-        "an attribute that may stand here",
-    ),
-    ("package a:b; @since ", "interface i {}", "`(`"),
-    (
-        "package a:b; @since(",
-        "feature = x) interface i {}",
-        "`version`",
-    ),
-    (
-        "package a:b; @since(",
-        "%version = 1.0.0) interface i {}",
-        "`version`",
-    ),
-    (
-        "package a:b; @since(version ",
-        "1.0.0) interface i {}",
-        "`=`",
-    ),
-    (
-        "package a:b; @since(version = ",
-        "1) interface i {}",
-        "a version",
-    ),
-    (
-        "package a:b; @since(version = 1.0.0 ",
-        "interface i {}",
-        "`)`",
-    ),
-    (
-        "package a:b; @unstable(",
-        "version = 1.0.0) interface i {}",
-        "`feature`",
-    ),
-    (
-        "package a:b; @unstable(feature = ",
-        "1.0.0) interface i {}",
-        "an identifier",
-    ),
-    (
-        "package a:b; @since(version = 1.0.0) @deprecated",
-        "",
-        "`(`",
-    ),
-    (
-        "package a:b; interface i { @",
-        "version(1) f: func(); }",
-        "an attribute that may stand here",
-    ),
-    ("package a:b; interface i { @external-id", "; }", "`(`"),
-    (
-        "package a:b; interface i { @external-id(",
-        "1) f: func(); }",
-        "a string",
-    ),
-    (
-        "package a:b; interface i { @external-id(\"e\"",
-        "; }",
-        "`)`",
-    ),
-    (
-        "package a:b; interface i { @since(version = 1.0.0) @external-id(\"e\") ",
-        "@external-id(\"f\") f: func(); }",
-        "an item of an interface, a world or a resource",
     ),
     (
         "package a:b; interface i { ",
@@ -244,11 +161,6 @@ pub static REFUSED_TREES: [(&str, &str, &str); 121] = [
         ".{x}; }",
         "an identifier",
     ),
-    (
-        "package a:b; interface i { use a:b/i@",
-        "x.{x}; }",
-        "a version",
-    ),
     ("package a:b; interface i { use i", "; }", "`.`"),
     ("package a:b; interface i { use i.", "a; }", "`{`"),
     (
@@ -272,7 +184,6 @@ pub static REFUSED_TREES: [(&str, &str, &str); 121] = [
     ("package a:b; world w { export n: ", "; }", "an identifier"),
     ("package a:b; world w { import n: i ", "}", "`;`"),
     ("package a:b; world w { import a:b/", "; }", "an identifier"),
-    ("package a:b; world w { import a:b/i@", "; }", "a version"),
     ("package a:b; world w { import a:b/i ", "}", "`;`"),
     ("package a:b; world w { import n: a:b", "; }", "`/`"),
     ("package a:b; world w { import n: interface ", "; }", "`{`"),
@@ -375,6 +286,139 @@ pub static REFUSED_TREES: [(&str, &str, &str); 121] = [
         "; }",
         "`>`",
     ),
+];
+
+/// Texts that are refused at what stands in front of an item, in two parts, and what is wanted where the second begins.
+pub static REFUSED_PREFIXES: [(&str, &str, &str); 29] = [
+    (
+        "package a:b; @",
+        "until(version = 1.0.0) interface i {}",
+        "an attribute that may stand here",
+    ),
+    (
+        "package a:b; @",
+        "external-id(\"e\") interface i {}",
+        "an attribute that may stand here",
+    ),
+    (
+        "package a:b; @deprecated(version = 1.0.0) ",
+        "interface i {}",
+        "`@since` or `@unstable` beside `@deprecated`",
+    ),
+    (
+        "package a:b; @deprecated(version = 1.0.0)",
+        "",
+        "`@since` or `@unstable` beside `@deprecated`",
+    ),
+    (
+        "package a:b; @since(version = 1.0.0) @",
+        "since(version = 2.0.0) interface i {}",
+        "an attribute that may stand here",
+    ),
+    (
+        "package a:b; @unstable(feature = x) @",
+        "since(version = 2.0.0) interface i {}",
+        "an attribute that may stand here",
+    ),
+    (
+        "package a:b; @deprecated(version = 1.0.0) @",
+        "deprecated(version = 2.0.0) interface i {}",
+        "an attribute that may stand here",
+    ),
+    (
+        "package a:b; @since(version = 1.0.0) @",
+        "external-id(\"e\") interface i {}",
+        "an attribute that may stand here",
+    ),
+    (
+        "package a:b; interface i { @deprecated(version = 1.0.0) ",
+        "f: func(); }",
+        "`@since` or `@unstable` beside `@deprecated`",
+    ),
+    (
+        "package a:b; interface i { @deprecated(version = 1.0.0) @external-id(\"e\") ",
+        "f: func(); }",
+        "`@since` or `@unstable` beside `@deprecated`",
+    ),
+    (
+        "package a:b; interface i { @since(version = 1.0.0) @",
+        "since; }",
+        "an attribute that may stand here",
+    ),
+    ("package a:b; @", "", "an attribute that may stand here"),
+    (
+        "package a:b; @since(version = 1.0.0) @",
+        "unstable(feature = x) interface i {}",
+        "an attribute that may stand here",
+    ),
+    ("package a:b; @since ", "interface i {}", "`(`"),
+    (
+        "package a:b; @since(",
+        "feature = x) interface i {}",
+        "`version`",
+    ),
+    (
+        "package a:b; @since(",
+        "%version = 1.0.0) interface i {}",
+        "`version`",
+    ),
+    (
+        "package a:b; @since(version ",
+        "1.0.0) interface i {}",
+        "`=`",
+    ),
+    (
+        "package a:b; @since(version = ",
+        "1) interface i {}",
+        "a version",
+    ),
+    (
+        "package a:b; @since(version = 1.0.0 ",
+        "interface i {}",
+        "`)`",
+    ),
+    (
+        "package a:b; @unstable(",
+        "version = 1.0.0) interface i {}",
+        "`feature`",
+    ),
+    (
+        "package a:b; @unstable(feature = ",
+        "1.0.0) interface i {}",
+        "an identifier",
+    ),
+    (
+        "package a:b; @since(version = 1.0.0) @deprecated",
+        "",
+        "`(`",
+    ),
+    (
+        "package a:b; interface i { @",
+        "version(1) f: func(); }",
+        "an attribute that may stand here",
+    ),
+    ("package a:b; interface i { @external-id", "; }", "`(`"),
+    (
+        "package a:b; interface i { @external-id(",
+        "1) f: func(); }",
+        "a string",
+    ),
+    (
+        "package a:b; interface i { @external-id(\"e\"",
+        "; }",
+        "`)`",
+    ),
+    (
+        "package a:b; interface i { @since(version = 1.0.0) @external-id(\"e\") @",
+        "external-id(\"f\") f: func(); }",
+        "an attribute that may stand here",
+    ),
+    (
+        "package a:b; interface i { use a:b/i@",
+        "x.{x}; }",
+        "a version",
+    ),
+    ("package a:b; world w { import a:b/i@", "; }", "a version"),
 ];
 
 /// A text before and behind a type of options of so many levels, and the byte where the first level too many begins: 7 bytes for each level before it.

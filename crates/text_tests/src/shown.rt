@@ -1,7 +1,7 @@
-//! Trees, written with brackets.
+//! Trees, written with brackets, and documentation between number signs.
 
 use std::alloc::{AllocError, Global};
-use text_tokens::Primitive;
+use text_tokens::{Primitive, documentation};
 use text_trees::{
     CaseTree, Declared, ExternTree, FieldTree, FileTree, Gates, ItemTree, LabelTree, MemberTree,
     PackageHead, PackageTree, ParamTree, PathTree, Prefix, ResourceMember, SignatureTree, Span,
@@ -45,6 +45,22 @@ fn put_option(
 ) -> Written {
     match span {
         Some(span) => put_with(alloc, page, before, span, after),
+        None => Ok(()),
+    }
+}
+
+// The documentation in a gap, if there is any, between number signs.
+fn put_docs(alloc: Global, page: &mut Page<'_>, gap: Span) -> Written {
+    let Some(text) = page.text.get(gap.start as usize..gap.end as usize) else {
+        return page.written.push_str("?");
+    };
+    let docs = documentation(alloc, text)?;
+    match &docs.contents {
+        Some(contents) => {
+            page.written.push_str("#")?;
+            page.written.push_str(contents)?;
+            page.written.push_str("# ")
+        }
         None => Ok(()),
     }
 }
@@ -166,6 +182,7 @@ fn put_gates(alloc: Global, page: &mut Page<'_>, gates: Gates) -> Written {
 }
 
 fn put_prefix(alloc: Global, page: &mut Page<'_>, prefix: Prefix) -> Written {
+    put_docs(alloc, page, prefix.docs)?;
     put_gates(alloc, page, prefix.gates)?;
     put_option(alloc, page, "id ", prefix.external_id, " ")
 }
@@ -197,7 +214,9 @@ fn put_use(alloc: Global, page: &mut Page<'_>, path: PathTree, names: &[UsedName
 
 fn put_fields(alloc: Global, page: &mut Page<'_>, fields: &[FieldTree]) -> Written {
     for field in fields {
-        put_with(alloc, page, " ", field.name, "=")?;
+        page.written.push_str(" ")?;
+        put_docs(alloc, page, field.docs)?;
+        put_with(alloc, page, "", field.name, "=")?;
         put_type(alloc, page, &field.ty)?;
     }
     Ok(())
@@ -205,7 +224,9 @@ fn put_fields(alloc: Global, page: &mut Page<'_>, fields: &[FieldTree]) -> Writt
 
 fn put_cases(alloc: Global, page: &mut Page<'_>, cases: &[CaseTree]) -> Written {
     for case in cases {
-        put_with(alloc, page, " ", case.name, "")?;
+        page.written.push_str(" ")?;
+        put_docs(alloc, page, case.docs)?;
+        put_span(alloc, page, case.name)?;
         put_arrow(alloc, page, &case.payload)?;
     }
     Ok(())
@@ -213,7 +234,9 @@ fn put_cases(alloc: Global, page: &mut Page<'_>, cases: &[CaseTree]) -> Written 
 
 fn put_labels(alloc: Global, page: &mut Page<'_>, labels: &[LabelTree]) -> Written {
     for label in labels {
-        put_with(alloc, page, " ", label.name, "")?;
+        page.written.push_str(" ")?;
+        put_docs(alloc, page, label.docs)?;
+        put_span(alloc, page, label.name)?;
     }
     Ok(())
 }
@@ -358,12 +381,14 @@ fn put_world_members(alloc: Global, page: &mut Page<'_>, members: &[WorldMember]
 
 fn put_item(alloc: Global, page: &mut Page<'_>, item: &ItemTree) -> Written {
     match item {
-        ItemTree::InterfaceItem(gates, name, members) => {
+        ItemTree::InterfaceItem(docs, gates, name, members) => {
+            put_docs(alloc, page, *docs)?;
             put_gates(alloc, page, *gates)?;
             put_with(alloc, page, "interface ", *name, "")?;
             put_members(alloc, page, members)
         }
-        ItemTree::WorldItem(gates, name, members) => {
+        ItemTree::WorldItem(docs, gates, name, members) => {
+            put_docs(alloc, page, *docs)?;
             put_gates(alloc, page, *gates)?;
             put_with(alloc, page, "world ", *name, "")?;
             put_world_members(alloc, page, members)
@@ -380,6 +405,7 @@ fn put_head(alloc: Global, page: &mut Page<'_>, head: PackageHead) -> Written {
 }
 
 fn put_package(alloc: Global, page: &mut Page<'_>, package: &PackageTree) -> Written {
+    put_docs(alloc, page, package.docs)?;
     put_head(alloc, page, package.head)?;
     for item in &package.items {
         page.written.push_str(" {")?;

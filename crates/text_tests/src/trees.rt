@@ -1,7 +1,7 @@
 //! Parts of texts and their trees, by hand from the grammar of WIT text. A tree is written as `shown` does it: what belongs together stands in brackets.
 
 /// Texts and their trees.
-pub static FILES: [(&str, &str); 10] = [
+pub static FILES: [(&str, &str); 14] = [
     ("package a:b;", "a b"),
     ("package a:b@1.2.3;", "a b 1.2.3"),
     ("package %use:%b@0.1.0-rc.1+x;", "use b 0.1.0-rc.1+x"),
@@ -28,7 +28,25 @@ pub static FILES: [(&str, &str); 10] = [
     ),
     (
         "/// d\npackage a:b; // e\n/// f\ninterface i { /// g\n}",
-        "a b {interface i}",
+        "#d# a b {#f# interface i}",
+    ),
+    // ---- gates in any order
+    (
+        "package a:b; @deprecated(version = 2.0.0) @since(version = 1.0.0) interface i {}",
+        "a b {since 1.0.0 until 2.0.0 interface i}",
+    ),
+    (
+        "package a:b; @deprecated(version = 2.0.0) @unstable(feature = f) world w {}",
+        "a b {unstable f until 2.0.0 world w}",
+    ),
+    // ---- documentation
+    (
+        "/** p\n q */ package a:b; /* c */ /// n\npackage c:d { /// w\n@since(version = 1.0.0) /// no\nworld w {} }",
+        "#p\n q# a b | #n# c d {#w# since 1.0.0 world w}",
+    ),
+    (
+        "package a:b; interface i { /// f\n@since(version = 1.0.0) /// no\nf: func(/// no\n); }",
+        "a b {interface i {#f# since 1.0.0 func f ()}}",
     ),
 ];
 
@@ -78,7 +96,7 @@ pub static TYPES: [(&str, &str); 38] = [
 ];
 
 /// What an interface has.
-pub static MEMBERS: [(&str, &str); 29] = [
+pub static MEMBERS: [(&str, &str); 38] = [
     ("f: func();", "{func f ()}"),
     ("f: func(a: u8);", "{func f (a=U8)}"),
     ("f: func(a: u8,);", "{func f (a=U8)}"),
@@ -89,12 +107,22 @@ pub static MEMBERS: [(&str, &str); 29] = [
     ("%f: async func() -> u8;", "{func f async()->U8}"),
     ("record r { a: u8 }", "{record r a=U8}"),
     ("record r { a: u8, %b: x, }", "{record r a=U8 b=x}"),
+    (
+        "record r { /// one\na: u8, /** two */ %b: /// no\nx, /// no\n}",
+        "{record r #one# a=U8 #two# b=x}",
+    ),
     ("variant v { a }", "{variant v a}"),
     ("variant v { a, b(u8), %c(x), }", "{variant v a b->U8 c->x}"),
+    (
+        "variant v { a, /// b\n/// c\nb(u8), }",
+        "{variant v a #b\nc# b->U8}",
+    ),
     ("flags f { a }", "{flags f a}"),
+    ("flags f { /// a\na, /* b */ b }", "{flags f #a# a b}"),
     ("flags f { a, %b, }", "{flags f a b}"),
     ("enum e { a }", "{enum e a}"),
     ("enum e { a, %enum, }", "{enum e a enum}"),
+    ("enum e { a, /// e\n%enum, }", "{enum e a #e# enum}"),
     ("type t = u8;", "{type t=U8}"),
     ("resource r;", "{resource r}"),
     ("resource r {}", "{resource r}"),
@@ -123,6 +151,26 @@ pub static MEMBERS: [(&str, &str); 29] = [
         "@unstable(feature = %x) @deprecated(version = 2.0.0) use i.{a};",
         "{unstable x until 2.0.0 use i a}",
     ),
+    (
+        "@deprecated(version = 2.0.0) @since(version = 1.0.0) type t = u8;",
+        "{since 1.0.0 until 2.0.0 type t=U8}",
+    ),
+    (
+        "@external-id(\"e\") @since(version = 1.0.0) f: func();",
+        "{since 1.0.0 id \"e\" func f ()}",
+    ),
+    (
+        "@deprecated(version = 2.0.0) @external-id(\"e\") @unstable(feature = x) resource r;",
+        "{unstable x until 2.0.0 id \"e\" resource r}",
+    ),
+    (
+        "/// a\n/** b */ @external-id(\"e\") f: func(); /// u\nuse i.{/// no\na};",
+        "{#a\nb# id \"e\" func f ()} {#u# use i a}",
+    ),
+    (
+        "resource r { /// new\nconstructor(); /// m\nm: func(); s: static func(); }",
+        "{resource r {#new# new()} {#m# method m ()} {static s ()}}",
+    ),
     ("@external-id(\"e\") f: func();", "{id \"e\" func f ()}"),
     (
         "@since(version = 1.0.0) @external-id(\"\") resource r;",
@@ -135,7 +183,7 @@ pub static MEMBERS: [(&str, &str); 29] = [
 ];
 
 /// What a world has.
-pub static WORLD_MEMBERS: [(&str, &str); 16] = [
+pub static WORLD_MEMBERS: [(&str, &str); 17] = [
     ("import i;", "{import i}"),
     ("export %i;", "{export i}"),
     ("import a:b/i;", "{import [a b i]}"),
@@ -161,6 +209,10 @@ pub static WORLD_MEMBERS: [(&str, &str); 16] = [
         "{id \"e\" export func f ()}",
     ),
     ("@unstable(feature = x) use i.{a};", "{unstable x use i a}"),
+    (
+        "/// i\nimport i; /// e\nexport n: interface { /// f\nf: func(); }",
+        "{#i# import i} {#e# export interface n {#f# func f ()}}",
+    ),
 ];
 
 /// A text before and behind a type of options of so many levels.

@@ -1,6 +1,6 @@
 //! Each text has the tree that the table says, or is refused at the place and for the want that the table says.
 
-use crate::refused_trees::{REFUSED_TOWERS, REFUSED_TREES};
+use crate::refused_trees::{REFUSED_PREFIXES, REFUSED_TOWERS, REFUSED_TREES};
 use crate::shown::shown;
 use crate::trees::{FILES, MEMBERS, TOWERS, TYPES, WORLD_MEMBERS};
 use std::alloc::{AllocError, Global};
@@ -70,18 +70,35 @@ fn each_world_member(rt: HostRuntime) -> Result<(), Fail> {
     Ok(())
 }
 
+// Whether a text in two parts is refused where the second begins, for this want.
+fn is_refused(alloc: Global, before: &str, behind: &str, wanted: &str) -> Result<bool, AllocError> {
+    let text = format!(in alloc; "{before}{behind}")?;
+    let expected = format!(in alloc; "expected {wanted} at byte {}", before.len())?;
+    let found = answer(alloc, text.as_str())?;
+    Ok(found.as_str() == expected.as_str())
+}
+
 #[test]
 fn each_refusal(rt: HostRuntime) -> Result<(), Fail> {
-    let alloc = rt.alloc();
     for (before, behind, wanted) in &REFUSED_TREES {
-        let text = format!(in alloc; "{}{}", *before, *behind)?;
-        let expected = format!(in alloc; "expected {} at byte {}", *wanted, before.len())?;
-        let found = answer(alloc, text.as_str())?;
         assert!(rt;
-            found.as_str() == expected.as_str(),
-            "{}: {}",
-            text.as_str(),
-            found.as_str()
+            is_refused(rt.alloc(), *before, *behind, *wanted)?,
+            "{}{}",
+            *before,
+            *behind
+        );
+    }
+    Ok(())
+}
+
+#[test]
+fn each_refused_prefix(rt: HostRuntime) -> Result<(), Fail> {
+    for (before, behind, wanted) in &REFUSED_PREFIXES {
+        assert!(rt;
+            is_refused(rt.alloc(), *before, *behind, *wanted)?,
+            "{}{}",
+            *before,
+            *behind
         );
     }
     Ok(())

@@ -1,15 +1,12 @@
 -- The gap in front of a place is the one in front of the token there, and its documentation that of the tokens from there on.
-use Rattle.std.proofs.Common.{◌≡◌, refl, ap, sym, ◌∙◌, ℕ, ◌+◌, ◌-◌, ◌<◌, ◌≤◌, List, [], ◌∷◌, map, drop, length, Option, Some, None, slice_get, zero, suc, length-drop, arith}
+use Rattle.std.proofs.Common.{◌≡◌, refl, ap, sym, ◌∙◌, ℕ, ◌-◌, ◌≤◌, List, [], ◌∷◌, length, Some, None, slice_get, zero, suc, arith}
 use Rattle.std.specs.Prelude.{slice_range}
 use Rattle.std.specs.Option.{option_map_or}
-use Rattle.std.proofs.lemmas.List.{length-map}
-use Rattle.std.proofs.lemmas.Grind.{common_steps}
 use Rattle.text_tokens.specs.declared.token.Token.{Token}
 use Rattle.text_tokens.specs.{Documentation.docs_from, Documentation.docs_in, Places.gaps_from}
 use Rattle.text_trees.specs.declared.front.Tokens.{Tokens}
-use Rattle.text_trees.specs.declared.tree.Span.{Span}
 use Rattle.text_trees.specs.TreesSeen.{docs_of}
-use Rattle.text_trees.specs.Seen.{ahead, count_of, docs_ahead, docs_by, gap_start, said, text_of}
+use Rattle.text_trees.specs.Seen.{ahead, count_of, docs_ahead, gap_start, text_of}
 use Rattle.text_trees.proofs.Ahead.{length_ahead}
 
 -- where the gap begins, if that in front of the first begins here

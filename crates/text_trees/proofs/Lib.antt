@@ -1,8 +1,10 @@
+-- What stands among tokens from a place on. Serves front::byte_at, front::token_at.
+pub mod Ahead
 -- Tokens that pass the test for a mark, a keyword or a word begin with it. Serves Complete, FilesComplete, Finding, MarksFound.
 pub mod Fronts
 -- What follows a thing is shorter than what it stands in front of. Serves Complete, DeclaredComplete, FilesComplete, MarksComplete and 3 more.
 pub mod Lengths
--- What is there is found: the steps that readers are made of, and lists. Serves DeclaredComplete, FilesComplete, MarksComplete, TypesComplete.
+-- What is there is found: the steps that readers are made of, and lists. Serves DeclaredComplete, FilesComplete, Going, MarksComplete and 1 more.
 pub mod Complete
 -- Attributes, gates and what stands in front of items that are there by the grammar are found. Serves DeclaredComplete, Exact, FilesComplete.
 pub mod MarksComplete
@@ -41,6 +43,14 @@ pub mod SteadyFiles
 pub mod Stopping
 -- Readers find exactly what is there. Serves laws::declared_types_are_read, laws::files_are_read, laws::items_are_read, laws::members_are_read and 3 more.
 pub mod Exact
+-- The gap in front of a place is the one in front of the token there, and its documentation that of the tokens from there on. Serves front::gap_at.
+pub mod Gaps
+-- Readings that go on, or are refused, as their first steps are. Serves declared, externs, externs::extern_behind_at, externs::extern_other_at and 30 more.
+pub mod Going
+-- Loops over lists with commas between. Serves lists::listed_at, types.
+pub mod Listings
+-- Loops over attributes. Serves prefix::marks_at.
+pub mod Marking
 -- Lists are read thing by thing: how far the number in their definitions counts makes no difference. Serves laws::lists_are_read_one_by_one.
 pub mod OneByOne
 -- Tokens that stand at places are those that the places say. Serves laws::places_say_tokens.
@@ -55,19 +65,9 @@ pub mod Printed
 pub mod PrintedTexts
 -- Worked examples: what is found in front of tokens, and what is wanted where. Serves no function.
 mod ReaderExamples
--- A tree that is found is what the text's tokens are by the grammar. Serves no function.
-pub mod Trees
--- What stands among tokens from a place on. Serves front::byte_at, front::token_at.
-pub mod Ahead
--- The gap in front of the token at a place. Serves front::gap_at.
-pub mod Gaps
--- Readings that go on, or are refused, as their first steps are. Serves declared, externs, externs::extern_behind_at, externs::extern_other_at and 29 more.
-pub mod Going
--- Loops over lists with commas between. Serves lists::listed_at, types.
-pub mod Listings
--- Loops over attributes. Serves prefix::marks_at.
-pub mod Marking
 -- The types of a tuple, as a row and as a list. Serves types::tuple_of.
 pub mod Rows
+-- A tree that is found is what the text's tokens are by the grammar. Serves read::read_tree, read::tree_of.
+pub mod Trees
 -- Loops over things up to what ends them. Serves lists::until_at.
 pub mod Untils

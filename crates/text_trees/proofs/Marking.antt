@@ -1,10 +1,10 @@
 -- Loops over attributes.
-use Rattle.std.proofs.Common.{◌≡◌, refl, ap, sym, ◌∙◌, subst, ℕ, ◌+◌, ◌≤◌, ◌<◌, List, length, zero, suc, Bool, true, false, if◌then◌else◌, arith}
-use Rattle.print_grammar.specs.Token.{Token, Mark.At}
+use Rattle.std.proofs.Common.{◌≡◌, refl, ap, sym, ◌∙◌, subst, ℕ, ◌+◌, ◌≤◌, ◌<◌, length, zero, suc, Bool, true, false, if◌then◌else◌, arith}
+use Rattle.print_grammar.specs.Token.{Mark.At}
 use Rattle.text_trees.specs.Grammar.{Marks, no_marks}
 use Rattle.text_trees.specs.declared.front.Tokens.{Tokens}
 use Rattle.text_trees.specs.declared.refusal.Refusal.{Refusal}
-use Rattle.text_trees.specs.Reading.{Reading, Reading.Found, then_read, begins, behind}
+use Rattle.text_trees.specs.Reading.{Reading.Found, then_read, begins, behind}
 use Rattle.text_trees.specs.ReadDeclared.{mark_behind, marks_from, marks_in_front}
 use Rattle.text_trees.specs.Seen.{RefusesAs, ahead, count_of}
 use Rattle.text_trees.proofs.Ahead.{behind_ahead, length_ahead}

@@ -127,8 +127,10 @@ gates_of text (gates.Unstable feature deprecated) = Unstable (cut text feature) 
 abbrev pub marks_of : Text → CodeMarks → Marks
 marks_of text marks =
     record {
-      since = option_map (cut text) marks.since; unstable = option_map (cut text) marks.unstable; deprecated = option_map (cut text) marks.deprecated;
-      external_id = option_map (λ span. characters_of (cut text span)) marks.external_id
+      since = option_map (cut text) marks.since;
+      unstable = option_map (cut text) marks.unstable;
+      deprecated = option_map (cut text) marks.deprecated;
+      external_id = option_map (λ span. characters_of (cut text span)) marks.external_id;
     }
 
 -- the lines of documentation in a gap

@@ -46,9 +46,11 @@ fn package_at(
     at: usize,
 ) -> Result<(PackageTree, usize), Refusal>
     requires { at ≤ count_of tokens.now }
-    ensures ok { IfOk result (λ r. package_behind (docs_ahead tokens.now) 100 (docs_of (text_of tokens.now) docs) (head_of (text_of tokens.now) head) (ahead tokens.now at)
+    ensures ok { IfOk result (λ r.
+        package_behind (docs_ahead tokens.now) 100 (docs_of (text_of tokens.now) docs) (head_of (text_of tokens.now) head) (ahead tokens.now at)
         ≡ Found (package_of (text_of tokens.now) r.0) (ahead tokens.now r.1)) }
-    ensures err { IfErr result (λ e. RefusesAs tokens.now e (package_behind (docs_ahead tokens.now) 100 (docs_of (text_of tokens.now) docs) (head_of (text_of tokens.now) head) (ahead tokens.now at))) }
+    ensures err { IfErr result (λ e. RefusesAs tokens.now e
+        (package_behind (docs_ahead tokens.now) 100 (docs_of (text_of tokens.now) docs) (head_of (text_of tokens.now) head) (ahead tokens.now at))) }
     ensures goes { IfOk result (λ r. at < r.1) }
     ensures within { IfOk result (λ r. r.1 ≤ count_of tokens.now) }
 {
@@ -86,9 +88,11 @@ fn file_behind_at(
     at: usize,
 ) -> Result<(FileTree, usize), Refusal>
     requires { at ≤ count_of tokens.now }
-    ensures ok { IfOk result (λ r. file_behind (docs_ahead tokens.now) 100 (docs_of (text_of tokens.now) docs) (head_of (text_of tokens.now) head) (ahead tokens.now at)
+    ensures ok { IfOk result (λ r.
+        file_behind (docs_ahead tokens.now) 100 (docs_of (text_of tokens.now) docs) (head_of (text_of tokens.now) head) (ahead tokens.now at)
         ≡ Found (file_of (text_of tokens.now) r.0) (ahead tokens.now r.1)) }
-    ensures err { IfErr result (λ e. RefusesAs tokens.now e (file_behind (docs_ahead tokens.now) 100 (docs_of (text_of tokens.now) docs) (head_of (text_of tokens.now) head) (ahead tokens.now at))) }
+    ensures err { IfErr result (λ e. RefusesAs tokens.now e
+        (file_behind (docs_ahead tokens.now) 100 (docs_of (text_of tokens.now) docs) (head_of (text_of tokens.now) head) (ahead tokens.now at))) }
     ensures goes { IfOk result (λ r. at < r.1) }
     ensures within { IfOk result (λ r. r.1 ≤ count_of tokens.now) }
 {

@@ -27,9 +27,11 @@ fn interface_at(
     at: usize,
 ) -> Result<(ItemTree, usize), Refusal>
     requires { at ≤ count_of tokens.now }
-    ensures ok { IfOk result (λ r. interface_in_front (docs_ahead tokens.now) 100 (docs_of (text_of tokens.now) docs) (gates_of (text_of tokens.now) gates) (ahead tokens.now at)
+    ensures ok { IfOk result (λ r.
+        interface_in_front (docs_ahead tokens.now) 100 (docs_of (text_of tokens.now) docs) (gates_of (text_of tokens.now) gates) (ahead tokens.now at)
         ≡ Found (item_of (text_of tokens.now) r.0) (ahead tokens.now r.1)) }
-    ensures err { IfErr result (λ e. RefusesAs tokens.now e (interface_in_front (docs_ahead tokens.now) 100 (docs_of (text_of tokens.now) docs) (gates_of (text_of tokens.now) gates) (ahead tokens.now at))) }
+    ensures err { IfErr result (λ e. RefusesAs tokens.now e
+        (interface_in_front (docs_ahead tokens.now) 100 (docs_of (text_of tokens.now) docs) (gates_of (text_of tokens.now) gates) (ahead tokens.now at))) }
     ensures goes { IfOk result (λ r. at < r.1) }
     ensures within { IfOk result (λ r. r.1 ≤ count_of tokens.now) }
 {
@@ -47,9 +49,11 @@ fn world_at(
     at: usize,
 ) -> Result<(ItemTree, usize), Refusal>
     requires { at ≤ count_of tokens.now }
-    ensures ok { IfOk result (λ r. world_in_front (docs_ahead tokens.now) 100 (docs_of (text_of tokens.now) docs) (gates_of (text_of tokens.now) gates) (ahead tokens.now at)
+    ensures ok { IfOk result (λ r.
+        world_in_front (docs_ahead tokens.now) 100 (docs_of (text_of tokens.now) docs) (gates_of (text_of tokens.now) gates) (ahead tokens.now at)
         ≡ Found (item_of (text_of tokens.now) r.0) (ahead tokens.now r.1)) }
-    ensures err { IfErr result (λ e. RefusesAs tokens.now e (world_in_front (docs_ahead tokens.now) 100 (docs_of (text_of tokens.now) docs) (gates_of (text_of tokens.now) gates) (ahead tokens.now at))) }
+    ensures err { IfErr result (λ e. RefusesAs tokens.now e
+        (world_in_front (docs_ahead tokens.now) 100 (docs_of (text_of tokens.now) docs) (gates_of (text_of tokens.now) gates) (ahead tokens.now at))) }
     ensures goes { IfOk result (λ r. at < r.1) }
     ensures within { IfOk result (λ r. r.1 ≤ count_of tokens.now) }
 {
@@ -68,9 +72,11 @@ fn item_at(
     at: usize,
 ) -> Result<(ItemTree, usize), Refusal>
     requires { at ≤ count_of tokens.now }
-    ensures ok { IfOk result (λ r. item_behind (docs_ahead tokens.now) 100 (docs_of (text_of tokens.now) docs) (gates_of (text_of tokens.now) gates) (ahead tokens.now at)
+    ensures ok { IfOk result (λ r.
+        item_behind (docs_ahead tokens.now) 100 (docs_of (text_of tokens.now) docs) (gates_of (text_of tokens.now) gates) (ahead tokens.now at)
         ≡ Found (item_of (text_of tokens.now) r.0) (ahead tokens.now r.1)) }
-    ensures err { IfErr result (λ e. RefusesAs tokens.now e (item_behind (docs_ahead tokens.now) 100 (docs_of (text_of tokens.now) docs) (gates_of (text_of tokens.now) gates) (ahead tokens.now at))) }
+    ensures err { IfErr result (λ e. RefusesAs tokens.now e
+        (item_behind (docs_ahead tokens.now) 100 (docs_of (text_of tokens.now) docs) (gates_of (text_of tokens.now) gates) (ahead tokens.now at))) }
     ensures goes { IfOk result (λ r. at < r.1) }
     ensures within { IfOk result (λ r. r.1 ≤ count_of tokens.now) }
 {

@@ -56,7 +56,8 @@ fn other_at(
     requires { at ≤ count_of tokens.now }
     ensures ok { IfOk result (λ r. other_behind (docs_ahead tokens.now) 100 (prefix_of (text_of tokens.now) prefix) (ahead tokens.now at)
         ≡ Found (member_of (text_of tokens.now) r.0) (ahead tokens.now r.1)) }
-    ensures err { IfErr result (λ e. RefusesAs tokens.now e (other_behind (docs_ahead tokens.now) 100 (prefix_of (text_of tokens.now) prefix) (ahead tokens.now at))) }
+    ensures err { IfErr result (λ e. RefusesAs tokens.now e
+        (other_behind (docs_ahead tokens.now) 100 (prefix_of (text_of tokens.now) prefix) (ahead tokens.now at))) }
     ensures goes { IfOk result (λ r. at < r.1) }
     ensures within { IfOk result (λ r. r.1 ≤ count_of tokens.now) }
 {
@@ -79,7 +80,8 @@ fn member_behind_at(
     requires { at ≤ count_of tokens.now }
     ensures ok { IfOk result (λ r. member_behind (docs_ahead tokens.now) 100 (prefix_of (text_of tokens.now) prefix) (ahead tokens.now at)
         ≡ Found (member_of (text_of tokens.now) r.0) (ahead tokens.now r.1)) }
-    ensures err { IfErr result (λ e. RefusesAs tokens.now e (member_behind (docs_ahead tokens.now) 100 (prefix_of (text_of tokens.now) prefix) (ahead tokens.now at))) }
+    ensures err { IfErr result (λ e. RefusesAs tokens.now e
+        (member_behind (docs_ahead tokens.now) 100 (prefix_of (text_of tokens.now) prefix) (ahead tokens.now at))) }
     ensures goes { IfOk result (λ r. at < r.1) }
     ensures within { IfOk result (λ r. r.1 ≤ count_of tokens.now) }
 {
@@ -110,7 +112,9 @@ pub(crate) fn members_at(
     at: usize,
 ) -> Result<(Vec<MemberTree>, usize), Refusal>
     requires { at ≤ count_of tokens.now }
-    ensures ok { IfOk result (λ r. members_in_front (docs_ahead tokens.now) 100 (ahead tokens.now at) ≡ Found (map (member_of (text_of tokens.now)) r.0.items) (ahead tokens.now r.1)) }
+    ensures ok { IfOk result (λ r.
+        members_in_front (docs_ahead tokens.now) 100 (ahead tokens.now at)
+        ≡ Found (map (member_of (text_of tokens.now)) r.0.items) (ahead tokens.now r.1)) }
     ensures err { IfErr result (λ e. RefusesAs tokens.now e (members_in_front (docs_ahead tokens.now) 100 (ahead tokens.now at))) }
     ensures goes { IfOk result (λ r. at < r.1) }
     ensures within { IfOk result (λ r. r.1 ≤ count_of tokens.now) }

@@ -111,19 +111,43 @@ fn mark_at_word(
 {
     if is_ungated(marks) && begins_word(tokens, "since", at) {
         let (version, behind) = version_argument_at(tokens, at + 1)?;
-        return Ok((Marks { since: Some(version), ..marks }, behind));
+        return Ok((
+            Marks {
+                since: Some(version),
+                ..marks
+            },
+            behind,
+        ));
     }
     if is_ungated(marks) && begins_word(tokens, "unstable", at) {
         let (feature, behind) = feature_argument_at(tokens, at + 1)?;
-        return Ok((Marks { unstable: Some(feature), ..marks }, behind));
+        return Ok((
+            Marks {
+                unstable: Some(feature),
+                ..marks
+            },
+            behind,
+        ));
     }
     if marks.deprecated.is_none() && begins_word(tokens, "deprecated", at) {
         let (version, behind) = version_argument_at(tokens, at + 1)?;
-        return Ok((Marks { deprecated: Some(version), ..marks }, behind));
+        return Ok((
+            Marks {
+                deprecated: Some(version),
+                ..marks
+            },
+            behind,
+        ));
     }
     if ids && marks.external_id.is_none() && begins_word(tokens, "external-id", at) {
         let (characters, behind) = id_argument_at(tokens, at + 1)?;
-        return Ok((Marks { external_id: Some(characters), ..marks }, behind));
+        return Ok((
+            Marks {
+                external_id: Some(characters),
+                ..marks
+            },
+            behind,
+        ));
     }
     Err(Refusal::Wanted(Wanted::Attribute, at))
 }

@@ -102,7 +102,8 @@ fn resource_behind_at(
     requires { at ≤ count_of tokens.now }
     ensures ok { IfOk result (λ r. resource_behind (docs_ahead tokens.now) 100 (cut (text_of tokens.now) name) (ahead tokens.now at)
         ≡ Found (declared_of (text_of tokens.now) r.0) (ahead tokens.now r.1)) }
-    ensures err { IfErr result (λ e. RefusesAs tokens.now e (resource_behind (docs_ahead tokens.now) 100 (cut (text_of tokens.now) name) (ahead tokens.now at))) }
+    ensures err { IfErr result (λ e. RefusesAs tokens.now e
+        (resource_behind (docs_ahead tokens.now) 100 (cut (text_of tokens.now) name) (ahead tokens.now at))) }
     ensures goes { IfOk result (λ r. at < r.1) }
     ensures within { IfOk result (λ r. r.1 ≤ count_of tokens.now) }
 {
@@ -142,7 +143,9 @@ enum Sort {
 /// The sort of declared type that begins at a place, if one does.
 #[tactic(auto, using(crate::proofs::Going::going), unfolding(crate::specs::Reading::if_key))]
 fn sort_of(tokens: &Tokens<'_>, at: usize) -> Option<Sort>
-    ensures some { IfSome result (λ sort. declared_in_front (docs_ahead tokens.now) 100 (ahead tokens.now at) ≡ declared_behind sort (docs_ahead tokens.now) 100 (ahead tokens.now (at + 1))) }
+    ensures some { IfSome result (λ sort.
+        declared_in_front (docs_ahead tokens.now) 100 (ahead tokens.now at)
+        ≡ declared_behind sort (docs_ahead tokens.now) 100 (ahead tokens.now (at + 1))) }
     ensures none { result ≡ None → declared_in_front (docs_ahead tokens.now) 100 (ahead tokens.now at) ≡ Refused AMember (ahead tokens.now at) }
     ensures within { IfSome result (λ sort. at < count_of tokens.now) }
 {

@@ -190,7 +190,9 @@ fn form_at(
     room: u32,
 ) -> Result<(TypeTree, usize), Refusal>
     requires { at ≤ count_of tokens.now }
-    ensures ok { IfOk result (λ r. form_in_front (type_in_front room) (ahead tokens.now at) ≡ Found (type_of (text_of tokens.now) r.0) (ahead tokens.now r.1)) }
+    ensures ok { IfOk result (λ r.
+        form_in_front (type_in_front room) (ahead tokens.now at)
+        ≡ Found (type_of (text_of tokens.now) r.0) (ahead tokens.now r.1)) }
     ensures err { IfErr result (λ e. RefusesAs tokens.now e (form_in_front (type_in_front room) (ahead tokens.now at))) }
     ensures goes { IfOk result (λ r. at < r.1) }
     ensures within { IfOk result (λ r. r.1 ≤ count_of tokens.now) }
@@ -265,7 +267,9 @@ fn list_at(
     room: u32,
 ) -> Result<(TypeTree, usize), Refusal>
     requires { at ≤ count_of tokens.now }
-    ensures ok { IfOk result (λ r. list_in_front (type_in_front room) (ahead tokens.now at) ≡ Found (type_of (text_of tokens.now) r.0) (ahead tokens.now r.1)) }
+    ensures ok { IfOk result (λ r.
+        list_in_front (type_in_front room) (ahead tokens.now at)
+        ≡ Found (type_of (text_of tokens.now) r.0) (ahead tokens.now r.1)) }
     ensures err { IfErr result (λ e. RefusesAs tokens.now e (list_in_front (type_in_front room) (ahead tokens.now at))) }
     ensures goes { IfOk result (λ r. at < r.1) }
     ensures within { IfOk result (λ r. r.1 ≤ count_of tokens.now) }
@@ -290,7 +294,9 @@ fn map_at(
     room: u32,
 ) -> Result<(TypeTree, usize), Refusal>
     requires { at ≤ count_of tokens.now }
-    ensures ok { IfOk result (λ r. map_in_front (type_in_front room) (ahead tokens.now at) ≡ Found (type_of (text_of tokens.now) r.0) (ahead tokens.now r.1)) }
+    ensures ok { IfOk result (λ r.
+        map_in_front (type_in_front room) (ahead tokens.now at)
+        ≡ Found (type_of (text_of tokens.now) r.0) (ahead tokens.now r.1)) }
     ensures err { IfErr result (λ e. RefusesAs tokens.now e (map_in_front (type_in_front room) (ahead tokens.now at))) }
     ensures goes { IfOk result (λ r. at < r.1) }
     ensures within { IfOk result (λ r. r.1 ≤ count_of tokens.now) }

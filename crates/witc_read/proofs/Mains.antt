@@ -6,7 +6,7 @@ use Rattle.std.specs.List.{AllZip, list_all}
 use Rattle.base_lemmas.proofs.{Elements.all_get, Lists.slice_take}
 use Rattle.wit_model.specs.Rules.{in_list}
 use Rattle.wit_model.specs.declared.model.{PackageId.PackageId, Resolve.Resolve}
-use Rattle.print_grammar.specs.Tree.{FileTree}
+use Rattle.print_grammar.specs.Tree.{FileTree, PackageHead}
 use Rattle.text_trees.specs.Reads.{IsReadAs}
 use Rattle.print_items.specs.Shown.{shown_head}
 use Rattle.text_types.specs.Each.{EachIs}
@@ -25,8 +25,8 @@ apart-in mains own main n first among =
     record { main = main; first = first; within = within; other = (other.0, sym (slice_take mains own n within) ∙ other.1, other.2) }
 
 -- texts that begin with no package are none
-none-begins : (r : Resolve) {files : List FileTree} {mains : List PackageId}
-    → EachIs (λ file id. slice_get (map shown_head r.packages.items) id.0 ≡ Some file.main.head) files mains → mains ≡ [] → files ≡ []
+none-begins : (r : Resolve) {head : FileTree → PackageHead} {files : List FileTree} {mains : List PackageId}
+    → EachIs (λ file id. slice_get (map shown_head r.packages.items) id.0 ≡ Some (head file)) files mains → mains ≡ [] → files ≡ []
 none-begins r EachIs.no_more none = refl
 none-begins r (EachIs.one_more h hs) none = absurd (omega (arith, ap length none))
 
@@ -49,8 +49,8 @@ no-main texts own r mains reads (troubles.Apart n) h = record { resolve = r; mai
 no-main texts own r mains reads (troubles.Bytes e) h = absurd h
 
 -- the packages that texts begin with are among those that are read
-ranged : (r : Resolve) {files : List FileTree} {mains : List PackageId}
-    → EachIs (λ file id. slice_get (map shown_head r.packages.items) id.0 ≡ Some file.main.head) files mains
+ranged : (r : Resolve) {head : FileTree → PackageHead} {files : List FileTree} {mains : List PackageId}
+    → EachIs (λ file id. slice_get (map shown_head r.packages.items) id.0 ≡ Some (head file)) files mains
     → list_all (λ id. in_list r.packages.items id.0) mains ≡ true
 ranged r EachIs.no_more = refl
 ranged r (EachIs.one_more {y = m} {ys = ms} h hs) =

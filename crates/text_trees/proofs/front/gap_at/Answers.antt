@@ -1,4 +1,4 @@
-use Rattle.std.proofs.Common.{rules, sym, ◌∙◌}
+use Rattle.std.proofs.Common.{sym, ◌∙◌}
 use Rattle.text_trees.proofs.Gaps.{docs_none, docs_some}
 use Rattle.text_trees.proofs.front.gap_at.Goals as goal
 

@@ -6,23 +6,27 @@ use Rattle.text_trees.proofs.lists.until_at.Goals as goal
 
 pub items-init : goal.items-init
 items-init g c =
-    let begun = reaching_begins c.args.tokens.now (g.T.Form.reader (docs_ahead c.args.tokens.now)) (ends_as c.args.ends) (g.T.Form.view (text_of c.args.tokens.now)) c.args.at (search rules) in search (rules, begun)
+    let them = c.args.tokens.now in
+    let begun = reaching_begins them (g.T.Form.reader (docs_ahead them)) (ends_as c.args.ends) (g.T.Form.view (text_of them)) c.args.at (search rules) in search (rules, begun)
 
 pub returns-in_err-item-clause-err : goal.returns-in_err-item-clause-err
 returns-in_err-item-clause-err g c =
+    let them = c.args.tokens.now in
     search (
       rules,
-      reaching_refuses c.args.tokens.now (g.T.Form.reader (docs_ahead c.args.tokens.now)) (ends_as c.args.ends) (g.T.Form.view (text_of c.args.tokens.now)) c.args.at c.items.from c.items.items.items
+      reaching_refuses them (g.T.Form.reader (docs_ahead them)) (ends_as c.args.ends) (g.T.Form.view (text_of them)) c.args.at c.items.from c.items.items.items
           c.items.invariant (sym c.ends_at.ensures ∙ c.if-ends_at.false),
     )
 
 pub returns-then-ends_at-clause-ok : goal.returns-then-ends_at-clause-ok
 returns-then-ends_at-clause-ok g c =
-    reaching_ends c.args.tokens.now (g.T.Form.reader (docs_ahead c.args.tokens.now)) (ends_as c.args.ends) (g.T.Form.view (text_of c.args.tokens.now)) c.args.at c.items.from c.items.items.items
+    let them = c.args.tokens.now in
+    reaching_ends them (g.T.Form.reader (docs_ahead them)) (ends_as c.args.ends) (g.T.Form.view (text_of them)) c.args.at c.items.from c.items.items.items
     c.items.invariant (sym c.ends_at.ensures ∙ c.if-ends_at.true)
 
 pub items-preserved : goal.items-preserved
 items-preserved g c =
-    reaching_goes_on c.args.tokens.now (g.T.Form.reader (docs_ahead c.args.tokens.now)) (ends_as c.args.ends) (g.T.Form.view (text_of c.args.tokens.now)) c.args.at c.items.from c.in_ok-item.behind
+    let them = c.args.tokens.now in
+    reaching_goes_on them (g.T.Form.reader (docs_ahead them)) (ends_as c.args.ends) (g.T.Form.view (text_of them)) c.args.at c.items.from c.in_ok-item.behind
     c.items.items.items c.in_ok-item.item c.items.invariant (sym c.ends_at.ensures ∙ c.if-ends_at.false) c.in_ok-item.ensures.ok c.in_ok-item.ensures.goes
     c.in_ok-item.ensures.within _ (search rules)

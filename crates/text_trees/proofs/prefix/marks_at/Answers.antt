@@ -1,4 +1,4 @@
-use Rattle.std.proofs.Common.{◌≡◌, rules, sym, ◌∙◌, true, false}
+use Rattle.std.proofs.Common.{◌≡◌, rules, true, false}
 use Rattle.print_grammar.specs.Token.{Mark.At}
 use Rattle.text_trees.specs.{Reading.begins, Seen.ahead, Seen.text_of, TreesSeen.marks_of}
 use Rattle.text_trees.proofs.Marking.{marking_begins, marking_ends, marking_goes_on, marking_refuses}
