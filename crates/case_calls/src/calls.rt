@@ -285,7 +285,7 @@ fn lent(alloc: Global, texts: &[String]) -> Result<Vec<&str>, AllocError> {
 /// The packages of texts; and the number of the one that each text begins with, and how many types there are.
 pub fn packages_of_texts(alloc: Global, texts: &[String]) -> Result<(Resolve, Answer), Answer> {
     let all = lent(alloc, texts)?;
-    let (resolve, mains) = read_texts(alloc, &all)?;
+    let (resolve, mains) = read_texts(alloc, &all, all.len())?;
     let words = numbers(alloc, &mains, resolve.types.len())?;
     Ok((resolve, Answer::Words(words)))
 }

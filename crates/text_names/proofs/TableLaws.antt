@@ -14,8 +14,9 @@ use Rattle.indexmap.specs.IndexMap.{insert_entry}
 use Rattle.print_grammar.specs.Tree.{PackageHead}
 use Rattle.text_trees.specs.Seen.{cut}
 use Rattle.text_trees.specs.TreesSeen.{head_of}
-use Rattle.text_trees.specs.declared.tree.{Gates.Gates, ItemTree.ItemTree as CodeItem, MemberTree.MemberTree, PackageTree.PackageTree as CodePackage, PackageHead.PackageHead as CodeHead, Span.Span, WorldMember.WorldMember}
-use Rattle.text_trees.specs.declared.tree.ItemTree.TheVariants as kinds
+use Rattle.text_plain.specs.declared.files.{ItemTree.ItemTree as CodeItem, PackageTree.PackageTree as CodePackage}
+use Rattle.text_trees.specs.declared.tree.{Gates.Gates, MemberTree.MemberTree, PackageHead.PackageHead as CodeHead, Span.Span, WorldMember.WorldMember}
+use Rattle.text_plain.specs.declared.files.ItemTree.TheVariants as kinds
 use Rattle.text_names.specs.contracts.sources.PackageTextsPartialEq.TheImpl as texts_eq
 use Rattle.text_names.specs.declared.sources.{InterfaceSource.InterfaceSource, Named.Named, PackageSource.PackageSource, PackageTexts.PackageTexts, Sources.Sources, WorldSource.WorldSource}
 use Rattle.text_names.specs.declared.sources.Named.TheVariants as named

@@ -4,9 +4,11 @@ use Rattle.std.specs.List.{enumerate_from, flat_map}
 use Rattle.std.specs.Option.{option_map_or}
 use Rattle.wit_model.specs.Text.{Text}
 use Rattle.print_grammar.specs.Tree.{ItemTree, ItemTree.InterfaceItem, ItemTree.WorldItem, PackageHead}
-use Rattle.text_trees.specs.declared.tree.{ItemTree.ItemTree as CodeItem, PackageTree.PackageTree as CodePackage, Span.Span}
-use Rattle.text_trees.specs.declared.tree.ItemTree.TheVariants as kinds
-use Rattle.text_trees.specs.TreesSeen.{head_of, item_of}
+use Rattle.text_plain.specs.declared.files.{ItemTree.ItemTree as CodeItem, PackageTree.PackageTree as CodePackage}
+use Rattle.text_trees.specs.declared.tree.Span.{Span}
+use Rattle.text_plain.specs.declared.files.ItemTree.TheVariants as kinds
+use Rattle.text_plain.specs.FilesSeen.{item_of}
+use Rattle.text_trees.specs.TreesSeen.{head_of}
 use Rattle.text_names.specs.declared.error.Fault.{Fault}
 use Rattle.text_names.specs.declared.error.Fault.TheVariants.{Memory, Size, Refused, Broken}
 use Rattle.text_names.specs.declared.error.{Refused.Refused as Refusal}

@@ -7,10 +7,11 @@ use Rattle.std.specs.Option.{option_map}
 use Rattle.std.specs.Borrow.{Bor}
 use Rattle.wit_model.specs.Text.{Text, text_eq}
 use Rattle.print_grammar.specs.Tree.{PackageHead}
-use Rattle.text_trees.specs.declared.tree.{ItemTree.ItemTree as CodeItem, PackageTree.PackageTree as CodePackage}
-use Rattle.text_trees.specs.declared.tree.ItemTree.TheVariants as kinds
+use Rattle.text_plain.specs.declared.files.{ItemTree.ItemTree as CodeItem, PackageTree.PackageTree as CodePackage}
+use Rattle.text_plain.specs.declared.files.ItemTree.TheVariants as kinds
 use Rattle.text_trees.specs.Seen.{cut}
-use Rattle.text_trees.specs.TreesSeen.{head_of, item_of}
+use Rattle.text_plain.specs.FilesSeen.{item_of}
+use Rattle.text_trees.specs.TreesSeen.{head_of}
 use Rattle.text_names.specs.declared.source.Source.{Source}
 use Rattle.text_names.specs.declared.sources.{InterfaceSource.InterfaceSource, Named.Named, WorldSource.WorldSource}
 use Rattle.text_names.specs.declared.sources.{PackageSource.PackageSource, PackageTexts.PackageTexts, Sources.Sources}

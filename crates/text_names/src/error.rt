@@ -18,12 +18,21 @@ pub enum Why {
     /// Something else is wanted here.
     #[error("expected {0}")]
     Wanted(Wanted),
+    /// No text of the folder names its package.
+    #[error("no text of the folder names its package")]
+    NoHead,
     /// No text has this package.
     #[error("no text has this package")]
     NoPackage,
     /// The package has no interface of this name.
     #[error("the package has no interface of this name")]
     NoInterface,
+    /// The package has no world of this name.
+    #[error("the package has no world of this name")]
+    NoWorld,
+    /// What is included has nothing of this name.
+    #[error("what is included has nothing of this name")]
+    NoName,
     /// There is no type of this name here.
     #[error("there is no type of this name here")]
     NoType,

@@ -4,7 +4,8 @@ ghost use Rattle.std.specs.Prelude.{◌≡◌, ◌<◌, ◌≤◌, ◌^◌, IfOk
 ghost use Rattle.text_trees.specs.Seen.{cut as cut_lem};
 
 use crate::error::{Fault, Refused, Why};
-use text_trees::{FileTree, Span};
+use text_plain::FileTree;
+use text_trees::Span;
 
 /// A text, and the tree that was read of it.
 #[derive(Clone, Copy)]

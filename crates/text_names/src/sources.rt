@@ -1,7 +1,7 @@
 //! The packages, interfaces and worlds that texts declare.
 
 ghost use Rattle.std.specs.Prelude.{◌≡◌, ℕ, ◌∷◌, [], option_map, IfOk, IfErr, OnOk};
-ghost use Rattle.text_trees.specs.declared.tree.ItemTree.TheVariants.{InterfaceItem, WorldItem};
+ghost use Rattle.text_plain.specs.declared.files.ItemTree.TheVariants.{InterfaceItem, WorldItem};
 ghost use Rattle.text_trees.specs.Seen.{cut as cut_lem};
 ghost use Rattle.text_trees.specs.TreesSeen.{head_of as head_seen};
 ghost use Rattle.text_names.specs.Contents.{all_heads, all_items, all_mains, heads_in, items_of, main_of, text_at, IsFaultOf};
@@ -16,9 +16,8 @@ use crate::source::{Source, cut, number_behind, refused};
 use indexmap::{IndexMap, IndexSet};
 use keyed_hash::KeyedHash;
 use std::alloc::{AllocError, Global};
-use text_trees::{
-    Gates, ItemTree, MemberTree, PackageHead, PackageTree, PathTree, Span, WorldMember,
-};
+use text_plain::{ItemTree, PackageTree};
+use text_trees::{Gates, MemberTree, PackageHead, PathTree, Span, WorldMember};
 
 /// A package, by the first text that declares it, and what names it there.
 #[derive(Clone, Copy)]

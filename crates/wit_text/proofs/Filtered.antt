@@ -10,8 +10,10 @@ use Rattle.std.proofs.lemmas.Option.{slice_get-map}
 use Rattle.wit_model.specs.Text.{Text, text_eq}
 use Rattle.wit_model.proofs.TextLemmas.{text_alike, text_same}
 use Rattle.print_grammar.specs.Tree.{ItemTree, ItemTree.InterfaceItem, ItemTree.WorldItem, PackageHead, PackageTree}
-use Rattle.text_trees.specs.declared.tree.{ItemTree.ItemTree as CodeItem, PackageTree.PackageTree as CodePackage, Span.Span}
-use Rattle.text_trees.specs.TreesSeen.{docs_of, gates_of, head_of, item_of, member_of, package_of, world_member_of}
+use Rattle.text_plain.specs.declared.files.{ItemTree.ItemTree as CodeItem, PackageTree.PackageTree as CodePackage}
+use Rattle.text_trees.specs.declared.tree.{Span.Span}
+use Rattle.text_plain.specs.FilesSeen.{item_of, package_of}
+use Rattle.text_trees.specs.TreesSeen.{docs_of, gates_of, head_of, member_of, world_member_of}
 use Rattle.text_trees.specs.Seen.{cut}
 use Rattle.text_names.specs.declared.source.Source.{Source}
 use Rattle.text_names.specs.declared.sources.{InterfaceSource.InterfaceSource, PackageSource.PackageSource, Sources.Sources, WorldSource.WorldSource}

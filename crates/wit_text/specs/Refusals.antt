@@ -5,23 +5,23 @@ use Rattle.text_names.specs.declared.error.{Fault.Fault, Why.Why, Refused.Refuse
 use Rattle.text_names.specs.declared.error.Fault.TheVariants as fault
 use Rattle.text_names.specs.declared.error.Why.TheVariants as why
 use Rattle.text_tokens.specs.Places.{HasNoTokenAt}
-use Rattle.text_trees.specs.{Levels.fits_file, Reads.IsReadAs, Reads.StopsReading, TreesSeen.file_of}
-use Rattle.text_trees.specs.declared.tree.FileTree.{FileTree}
+use Rattle.text_trees.specs.{Levels.fits_text, Reads.IsReadAs, Reads.StopsReading, TextTreesSeen.tree_of}
+use Rattle.text_trees.specs.declared.tree.TextTree.{TextTree}
 use Rattle.text_trees.specs.declared.refusal.Wanted.TheVariants as wanted
 
 -- The tree is what the text reads as, and no type has more than 100 levels.
-pub record IsTreeOf (text : List ℕ) (file : FileTree) : Type 0 where
-  pub reads : IsReadAs text (file_of text file)
-  pub fits : fits_file 100 (file_of text file) ≡ true
+pub record IsTreeOf (text : List ℕ) (tree : TextTree) : Type 0 where
+  pub reads : IsReadAs text (tree_of text tree)
+  pub fits : fits_text 100 (tree_of text tree) ≡ true
 
 -- The trees are those of the texts.
-abbrev pub AreTreesOf : List (List ℕ) → List FileTree → Type 0
-AreTreesOf texts files = AllZip IsTreeOf texts files
+abbrev pub AreTreesOf : List (List ℕ) → List TextTree → Type 0
+AreTreesOf texts trees = AllZip IsTreeOf texts trees
 
 -- Each of the texts has a tree.
 pub record HaveTrees (texts : List (List ℕ)) : Type 0 where
-  pub files : List FileTree
-  pub are : AreTreesOf texts files
+  pub trees : List TextTree
+  pub are : AreTreesOf texts trees
 
 -- Why a text that has no tree is refused at this byte.
 abbrev pub SaysOf : List ℕ → ℕ → Why → Type 0

@@ -1,6 +1,9 @@
 //! Reading texts.
 
-ghost use Rattle.std.specs.Prelude.{◌≡◌, ◌<◌, ℕ, [], length, map, Contains, IfErr, IfOk, OnOk};
+ghost use Rattle.std.specs.Prelude.{◌≡◌, ◌<◌, ℕ, [], length, map, string_bytes, Contains, IfErr, IfOk, OnOk};
+ghost use Rattle.std.specs.List.{AllZip};
+ghost use Rattle.text_plain.specs.{FilesSeen.file_of, Places.folder_text_of};
+ghost use Rattle.text_trees.specs.Reads.{IsReadAs};
 ghost use Rattle.text_names.specs.{Orders.links_of, Orders.AreApart, Orders.AreWithin, Orders.IsOrder, Tables.IsIndex};
 ghost use Rattle.text_types.specs.Kept.{defs_of, Grows};
 ghost use Rattle.wit_model.specs.Valid.{IsValid};
@@ -8,8 +11,8 @@ ghost use Rattle.text_shown.specs.Shows.{ShowsFiles};
 ghost use Rattle.wit_text.specs.MadeInterfaces.{AreAllMade, GrowsInterfaces};
 ghost use Rattle.wit_text.specs.MadeWorlds.{AreWorldsMade};
 ghost use Rattle.wit_text.specs.SoFar.{AreMadeSoFar, IsResolveOf, MakesNext};
-ghost use Rattle.wit_text.specs.{Mains.files_of, Mains.numbers_of, Refusals.AreTreesOf, Rules.SaysBroken};
-ghost use Rattle.wit_text.specs.Texts.{ReadsTexts, RefusesTexts};
+ghost use Rattle.wit_text.specs.{Mains.files_of, Mains.numbers_of, Mains.trees_in, Refusals.AreTreesOf, Rules.SaysBroken};
+ghost use Rattle.wit_text.specs.Texts.{folder_of as folder_of_lem, in_folders, ReadsTexts, RefusesTexts};
 
 use crate::interfaces::add_interface;
 use crate::packages::packages_of;
@@ -20,25 +23,23 @@ use std::alloc::Global;
 use text_names::{
     Fault, Need, Order, Refused, Source, Sources, Why, needs_of_interfaces, order_of,
 };
+use text_plain::{FileTree, FolderText, Plain, Why as NotPlain, plain_files};
 use text_shown::laws::packages_are_shown;
-use text_trees::FileTree;
+use text_trees::{Span, TextTree};
 use text_types::{Interfaces, Types};
 use wit_check::Check;
 use wit_model::{Fault as Unsound, PackageId, Resolve, World};
 
-fn sources_of<'t>(
+fn sources_of<'p>(
     alloc: Global,
-    texts: &[&'t str],
-    trees: &'t [FileTree],
-) -> Result<Vec<Source<'t>>, Fault>
-    requires { length trees.now ≡ length texts.now }
-    ensures texts { IfOk result (λ sources. map (λ s. s.text.now) sources.items ≡ map (λ t. t.now) texts.now) }
-    ensures files { IfOk result (λ sources. map (λ s. s.file.now) sources.items ≡ trees.now) }
+    whole: &'p str,
+    files: &'p [FileTree],
+) -> Result<Vec<Source<'p>>, Fault>
+    ensures { IfOk result (λ sources. files_of sources.items ≡ map (file_of whole.now) files.now) }
 {
-    let mut sources = Vec::with_capacity(alloc, texts.len())?;
-    for (number, text) in texts.iter().enumerate() {
-        let file = &trees[number];
-        sources.push(Source { text: *text, file })?;
+    let mut sources = Vec::with_capacity(alloc, files.len())?;
+    for file in files {
+        sources.push(Source { text: whole, file })?;
     }
     Ok(sources)
 }
@@ -216,32 +217,137 @@ fn read_sources(alloc: Global, list: &[Source<'_>]) -> Result<(Resolve, Vec<Pack
     Ok((resolve, mains))
 }
 
+/// The fault of a place in the whole text, at the place of its own text.
+fn located(bases: &[u32], fault: Fault) -> Fault {
+    let Fault::Refused(refused) = fault else {
+        return fault;
+    };
+    let mut text = 0u32;
+    let mut base = 0u32;
+    let mut number = 0u32;
+    for begin in bases {
+        if *begin <= refused.at.start {
+            text = number;
+            base = *begin;
+        }
+        number = number.saturating_add(1);
+    }
+    Fault::Refused(Refused {
+        text,
+        at: Span {
+            start: refused.at.start.saturating_sub(base),
+            end: refused.at.end.saturating_sub(base),
+        },
+        why: refused.why,
+    })
+}
+
+/// What files declare.
+fn read_plain(alloc: Global, plain: &Plain) -> Result<(Resolve, Vec<PackageId>), Fault>
+    ensures valid { IfOk result (λ r. IsValid r.0) }
+    ensures shows { IfOk result (λ r. ShowsFiles (map (file_of (string_bytes plain.now.whole)) plain.now.files.items) r.0 r.1.items) }
+{
+    let list = sources_of(alloc, &plain.whole, &plain.files)?;
+    match read_sources(alloc, &list) {
+        Ok(read) => Ok(read),
+        Err(fault) => Err(located(&plain.bases, fault)),
+    }
+}
+
+fn why_not_plain(why: NotPlain) -> Why {
+    match why {
+        NotPlain::NoHead => Why::NoHead,
+        NotPlain::Twice => Why::Twice,
+        NotPlain::NoPackage => Why::NoPackage,
+        NotPlain::NoWorld => Why::NoWorld,
+        NotPlain::NoName => Why::NoName,
+        NotPlain::Cycle => Why::Cycle,
+    }
+}
+
+/// The fault of texts that aren't written out as files.
+fn not_plain(fault: text_plain::Fault) -> Fault {
+    match fault {
+        text_plain::Fault::Memory => Fault::Memory,
+        text_plain::Fault::Size => Fault::Size,
+        text_plain::Fault::Refused(refused) => Fault::Refused(Refused {
+            text: refused.text,
+            at: refused.at,
+            why: why_not_plain(refused.why),
+        }),
+    }
+}
+
+fn folder_of(own: usize, number: usize) -> Result<u32, Fault>
+    ensures { IfOk result (λ n. n ≡ folder_of_lem own number) }
+{
+    if number < own {
+        return Ok(0);
+    }
+    match u32::try_from(number) {
+        Ok(number) => Ok(number),
+        Err(_) => Err(Fault::Size),
+    }
+}
+
+/// Texts with their trees, in folders.
+fn folder_texts_of<'t>(
+    alloc: Global,
+    texts: &[&'t str],
+    trees: &'t [TextTree],
+    own: usize,
+) -> Result<Vec<FolderText<'t>>, Fault>
+    requires many { length trees.now ≡ length texts.now }
+    requires trees { AreTreesOf (map (λ t. t.now) texts.now) trees.now }
+    ensures folders { IfOk result (λ list. map folder_text_of list.items ≡ in_folders own (trees_in list.items)) }
+    ensures read { IfOk result (λ list. AllZip IsReadAs (map (λ t. t.now) texts.now) (trees_in list.items)) }
+{
+    let mut list = Vec::with_capacity(alloc, texts.len())?;
+    for (number, tree) in trees.iter().enumerate() {
+        list.push(FolderText {
+            folder: folder_of(own, number)?,
+            text: texts[number],
+            tree,
+        })?;
+    }
+    Ok(list)
+}
+
 fn read_trees(
     alloc: Global,
     texts: &[&str],
-    trees: &[FileTree],
+    trees: &[TextTree],
+    own: usize,
 ) -> Result<(Resolve, Vec<PackageId>), Fault>
     requires { AreTreesOf (map (λ t. t.now) texts.now) trees.now }
-    ensures reads { IfOk result (λ r. ReadsTexts (map (λ t. t.now) texts.now) r.0 r.1.items) }
+    ensures reads { IfOk result (λ r. ReadsTexts (map (λ t. t.now) texts.now) own r.0 r.1.items) }
 {
     packages_are_shown();
-    let list = sources_of(alloc, texts, trees)?;
-    read_sources(alloc, &list)
+    let list = folder_texts_of(alloc, texts, trees, own)?;
+    match plain_files(alloc, &list) {
+        Ok(plain) => read_plain(alloc, &plain),
+        Err(fault) => Err(not_plain(fault)),
+    }
 }
 
 /// The packages of WIT texts, and the package that each text begins with.
 ///
-/// All packages that are used stand among the texts, in any order, each a text's own or nested in one; several texts may have one package. Packages,
-/// worlds and interfaces come in the order of the texts, but that an interface comes behind those that it needs, and a world's imports are completed by
+/// So many texts, the first ones, stand in one folder, and each other one by itself: one that names no package is of that which another text of its folder
+/// names. All packages that are used stand among the texts, in any order, each a text's own or nested in one; several texts may have one package. What a
+/// world includes is written out, with the other names that it has there. Packages, worlds and interfaces come in the order of the texts, but that an interface comes behind those that it needs, and a world's imports are completed by
 /// those that its items need. The documentation of packages and of uses is left out. Takes time linear in the texts and in what each world's items need, beside the time that the
 /// test of validity takes. Errors: `Memory` where a growth is refused, `Size` for a text of 2^32 bytes or more, or 2^32 of something; `Refused` with a
 /// place; `Broken` where what the texts declare breaks a rule of validity for which no place is named. Source: WIT.md.
-pub fn read_texts(alloc: Global, texts: &[&str]) -> Result<(Resolve, Vec<PackageId>), Fault>
-    ensures reads { IfOk result (λ r. ReadsTexts (map (λ t. t.now) texts.now) r.0 r.1.items) }
+pub fn read_texts(
+    alloc: Global,
+    texts: &[&str],
+    own: usize,
+) -> Result<(Resolve, Vec<PackageId>), Fault>
+    ensures reads { IfOk result (λ r. ReadsTexts (map (λ t. t.now) texts.now) own r.0 r.1.items) }
     ensures refuses { IfErr result (RefusesTexts (map (λ t. t.now) texts.now)) }
 {
     match trees_of(alloc, texts) {
-        Ok(trees) => read_trees(alloc, texts, &trees),
+        Ok(trees) => read_trees(alloc, texts, &trees, own),
         Err(fault) => Err(fault),
     }
 }

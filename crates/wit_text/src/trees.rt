@@ -6,7 +6,7 @@ ghost use Rattle.wit_text.specs.Refusals.{AreTreesOf, IsTreeOf, RefusesTree, Ref
 
 use std::alloc::Global;
 use text_names::{Fault, Refused, Why};
-use text_trees::{FileTree, Span, TreeError, Wanted, read_tree};
+use text_trees::{Span, TextTree, TreeError, Wanted, read_tree};
 
 fn place(number: u32, at: usize, why: Why) -> Fault
     ensures { (text : List ℕ) → SaysOf text at why → RefusesTree number text result }
@@ -52,7 +52,7 @@ fn number_of(count: usize) -> Result<u32, Fault>
 }
 
 /// The tree of the text of this number.
-fn tree_at(alloc: Global, number: usize, text: &str) -> Result<FileTree, Fault>
+fn tree_at(alloc: Global, number: usize, text: &str) -> Result<TextTree, Fault>
     ensures ok { IfOk result (IsTreeOf text.now) }
     ensures err { IfErr result (RefusesTree number text.now) }
 {
@@ -66,7 +66,7 @@ fn tree_at(alloc: Global, number: usize, text: &str) -> Result<FileTree, Fault>
 }
 
 /// The tree of each text. Takes time linear in the texts, and memory for the trees. Refused where a text has none.
-pub(crate) fn trees_of(alloc: Global, texts: &[&str]) -> Result<Vec<FileTree>, Fault>
+pub(crate) fn trees_of(alloc: Global, texts: &[&str]) -> Result<Vec<TextTree>, Fault>
     ensures ok { IfOk result (λ trees. AreTreesOf (map (λ t. t.now) texts.now) trees.items) }
     ensures err { IfErr result (RefusesTrees (map (λ t. t.now) texts.now)) }
 {

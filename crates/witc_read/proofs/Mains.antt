@@ -7,10 +7,11 @@ use Rattle.base_lemmas.proofs.{Elements.all_get, Lists.slice_take}
 use Rattle.wit_model.specs.Rules.{in_list}
 use Rattle.wit_model.specs.declared.model.{PackageId.PackageId, Resolve.Resolve}
 use Rattle.print_grammar.specs.Tree.{FileTree, PackageHead}
-use Rattle.text_trees.specs.Reads.{IsReadAs}
+use Rattle.text_plain.specs.Plain.{FilesAre}
+use Rattle.text_trees.specs.{Reads.IsReadAs, TextTree.TextTree}
 use Rattle.print_items.specs.Shown.{shown_head}
 use Rattle.text_types.specs.Each.{EachIs}
-use Rattle.wit_text.specs.Texts.{ReadsTexts}
+use Rattle.wit_text.specs.Texts.{in_folders, ReadsTexts}
 use Rattle.witc_read.specs.Packages.{IsApart, IsNoMainOf, IsOther, IsTroubleOf}
 use Rattle.witc_read.specs.declared.packages.Trouble.{Trouble}
 use Rattle.witc_read.specs.declared.packages.Trouble.TheVariants as troubles
@@ -30,21 +31,23 @@ none-begins : (r : Resolve) {head : FileTree → PackageHead} {files : List File
 none-begins r EachIs.no_more none = refl
 none-begins r (EachIs.one_more h hs) none = absurd (omega (arith, ap length none))
 
-no-texts : (texts : List (List ℕ)) (files : List FileTree) → files ≡ [] → AllZip IsReadAs texts files → texts ≡ []
-no-texts [] files none read = refl
-no-texts (text ∷ texts) [] none read = absurd read
-no-texts (text ∷ texts) (file ∷ files) none read = absurd (omega (arith, ap length none))
+no-texts : (own : ℕ) (texts : List (List ℕ)) (trees : List TextTree) (files : List FileTree) → files ≡ [] → AllZip IsReadAs texts trees
+    → FilesAre (in_folders own trees) files → texts ≡ []
+no-texts own [] trees files none read are = refl
+no-texts own (text ∷ texts) [] files none read are = absurd read
+no-texts own (text ∷ texts) (tree ∷ trees) [] none read are = absurd are
+no-texts own (text ∷ texts) (tree ∷ trees) (file ∷ files) none read are = absurd (omega (arith, ap length none))
 
-nothing : (texts : List (List ℕ)) (r : Resolve) → ReadsTexts texts r [] → texts ≡ []
-nothing texts r reads = no-texts texts reads.files (none-begins r reads.shows.mains_are refl) reads.read
+nothing : (texts : List (List ℕ)) (own : ℕ) (r : Resolve) → ReadsTexts texts own r [] → texts ≡ []
+nothing texts own r reads = no-texts own texts reads.trees reads.files (none-begins r reads.shows.mains_are refl) reads.read reads.plain
 
 -- what stands in the way of the package, where texts are read
-pub no-main : (texts : List (List ℕ)) (own : ℕ) (r : Resolve) (mains : List PackageId) → ReadsTexts texts r mains → (t : Trouble) → IsNoMainOf mains own t
+pub no-main : (texts : List (List ℕ)) (own : ℕ) (r : Resolve) (mains : List PackageId) → ReadsTexts texts own r mains → (t : Trouble) → IsNoMainOf mains own t
     → IsTroubleOf texts own t
 no-main texts own r mains reads troubles.Memory h = absurd h
 no-main texts own r mains reads (troubles.NoText n) h = absurd h
 no-main texts own r mains reads (troubles.Text fault) h = absurd h
-no-main texts own r mains reads troubles.Nothing h = nothing texts r (subst (λ (ids : List PackageId). ReadsTexts texts r ids) h reads)
+no-main texts own r mains reads troubles.Nothing h = nothing texts own r (subst (λ (ids : List PackageId). ReadsTexts texts own r ids) h reads)
 no-main texts own r mains reads (troubles.Apart n) h = record { resolve = r; mains = mains; reads = reads; apart = h }
 no-main texts own r mains reads (troubles.Bytes e) h = absurd h
 
@@ -59,7 +62,7 @@ ranged r (EachIs.one_more {y = m} {ys = ms} h hs) =
     let first : in_list r.packages.items m.0 ≡ true = lt-ltb m.0 (length r.packages.items) low in
     ap (λ b. b && list_all (λ (id : PackageId). in_list r.packages.items id.0) ms) first ∙ ranged r hs
 
-pub main-in-range : (texts : List (List ℕ)) (r : Resolve) (mains : List PackageId) (n : ℕ) (main : PackageId) → ReadsTexts texts r mains → slice_get mains n ≡ Some main
+pub main-in-range : (texts : List (List ℕ)) (own : ℕ) (r : Resolve) (mains : List PackageId) (n : ℕ) (main : PackageId) → ReadsTexts texts own r mains → slice_get mains n ≡ Some main
     → main.0 < length r.packages.items
-main-in-range texts r mains n main reads is =
+main-in-range texts own r mains n main reads is =
     ltb-true main.0 (length r.packages.items) (all_get (λ id. in_list r.packages.items id.0) mains n main (ranged r reads.shows.mains_are) is)

@@ -38,7 +38,7 @@ pub record IsApart (mains : List PackageId) (own : ℕ) (n : ℕ) : Type 0 where
 -- The packages of texts, and the one with which all own ones begin, which are so many and the first ones.
 pub record IsReadOf (texts : List (List ℕ)) (own : ℕ) (r : Resolve) (main : PackageId) : Type 0 where
   pub mains : List PackageId
-  pub reads : ReadsTexts texts r mains
+  pub reads : ReadsTexts texts own r mains
   pub is_main : IsMainOf mains own main
 
 -- The bytes are those of the package with which the own texts begin: they mean exactly it, in the one spelling that is written, without canonical names.
@@ -86,7 +86,7 @@ pub record IsNoText (texts : List (List ℕ)) (n : ℕ) : Type 0 where
 pub record AreApart (texts : List (List ℕ)) (own : ℕ) (n : ℕ) : Type 0 where
   pub resolve : Resolve
   pub mains : List PackageId
-  pub reads : ReadsTexts texts resolve mains
+  pub reads : ReadsTexts texts own resolve mains
   pub apart : IsApart mains own n
 
 -- The texts are read, and the package with which the own ones begin is refused by the encoder.

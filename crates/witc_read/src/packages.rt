@@ -138,7 +138,7 @@ fn read(alloc: Global, texts: &[&str], own: usize) -> Result<(Resolve, PackageId
     ensures in_range { IfOk result (λ r. r.1.0 < length r.0.packages.items) }
     ensures err { IfErr result (IsTroubleOf (map (λ t. t.now) texts.now) own) }
 {
-    match read_texts(alloc, texts) {
+    match read_texts(alloc, texts, own) {
         Ok((resolve, mains)) => match main_of(&mains, own) {
             Ok(main) => Ok((resolve, main)),
             Err(trouble) => Err(trouble),

@@ -17,4 +17,4 @@ returns-in-Err-clause-err c =
 pub returns-in-Ok-main_of-clause-in_range : goal.returns-in-Ok-main_of-clause-in_range
 returns-in-Ok-main_of-clause-in_range c =
     let mains = subst (λ (ids : List PackageId). IsMainOf ids c.args.own c.in-Ok-main_of.main) c.deref.ensures.value c.in-Ok-main_of.ensures.ok in
-    main-in-range (map (λ t. t.now) c.args.texts.now) c.in-Ok.resolve c.in-Ok.mains.items 0 c.in-Ok-main_of.main c.in-Ok.ensures.reads mains.first
+    main-in-range (map (λ t. t.now) c.args.texts.now) c.args.own c.in-Ok.resolve c.in-Ok.mains.items 0 c.in-Ok-main_of.main c.in-Ok.ensures.reads mains.first
