@@ -306,6 +306,13 @@ world w {
 }
 """
 
+    INCLUDING = {
+        "a.wit": "use c:d/x;\n\n/* without a package */\ninterface i {\n  use x.{t};\n}\n",
+        "b.wit": "package a:b;\n\nworld w {\n  include c:d/v with { f as g }\n  export i;\n}\n",
+        "deps/c.wit": "package c:d;\n\ninterface x {\n  type t = u8;\n}\n\nworld v {\n  import x;\n  import f: func();\n}\n",
+    }
+    INCLUDED = "package a:b;\n\ninterface i {\n  use c:d/x.{t};\n}\n\nworld w {\n  import c:d/x;\n  import g: func();\n\n  export i;\n}\n"
+
     def folder(self, texts, name="wit"):
         """A folder of these texts."""
         for path, text in texts.items():
@@ -313,6 +320,11 @@ world w {
             file.parent.mkdir(parents=True, exist_ok=True)
             file.write_bytes(text if isinstance(text, bytes) else text.encode())
         return name
+
+    def test_an_inclusion_and_a_text_without_a_package(self):
+        self.assertEqual(self.answer("text", self.folder(self.INCLUDING)).decode(), self.INCLUDED)
+        bad = {**self.INCLUDING, "b.wit": self.INCLUDING["b.wit"].replace("f as g", "e as g")}
+        self.refused("wit/b.wit: line 4, column 24: what is included has nothing of this name", "  include c:d/v with { e as g }\n                       ^", "text", self.folder(bad))
 
     def test_a_folder_is_its_package(self):
         wit = self.folder({**self.OWN, **self.USED})
