@@ -51,8 +51,8 @@ class Refusal(ValueError):
 
     code     the name of the refusal, one of CODES
     number   its number, as in witc.h
-    detail   of NO_READING one of CAUSES, of CLASH one of CLASHES, of BAD_TEXT and TWO_PACKAGES the number of the text, else a number, which is 0 if there is
-             nothing to say
+    detail   of NO_READING one of CAUSES, of CLASH one of CLASHES, of BAD_TEXT and TWO_PACKAGES the number of the text, else a number, which is 0 if there
+             is nothing to say
     offset   where in the bytes, or in the text, or None
     subject  the name that it is about, or None
     """
