@@ -269,7 +269,7 @@ def module_strip(module: Buffer) -> bytes:
 
 
 def texts_package(texts: Sequence[Tuple[Name, Name]], own: Optional[int] = None) -> bytes:
-    """The package with which the first `own` WIT texts begin, or all of them if `own` is None. Each is a pair: the name by which messages call it, and the text.
+    """The package with which the first `own` WIT texts begin, or all of them if `own` is None. Each is a pair: its name in messages, and the text.
 
     The other texts are of packages that the own ones use. A text that is refused raises BAD_TEXT: `detail` is its number, from 0, and `offset` is in it.
     """
