@@ -121,7 +121,8 @@ extern "C" {
 
 /* Why a call returns its status. */
 typedef struct witc_why {
-    size_t offset;  /* in the bytes, at most their length, or WITC_NOWHERE; WITC_NO_READING of a module: in the data of the section; WITC_BAD_TEXT: in the text */
+    size_t offset;  /* in the bytes, at most their length, or WITC_NOWHERE; WITC_NO_READING of a module: in the data of the section; WITC_BAD_TEXT: in
+                     * the text */
     size_t subject; /* the last `subject` bytes of the message are the name that it is about */
     uint32_t code;
     uint32_t detail;
@@ -333,8 +334,8 @@ static inline uint8_t witc_same_world(const uint8_t *bytes, size_t length, const
                                   other_world_length, answer, &answer->why);
 }
 
-/* Turns WIT texts into the bytes of a package: the one with which the first `own` of them begin. The others are of packages that these use. All packages that are
- * used stand among the texts, in any order, each as a text's own or nested in one. An own text may name no package, if another one does. A text that is
+/* Turns WIT texts into the bytes of a package: the one with which the first `own` of them begin. The others are of packages that these use. All packages that
+ * are used stand among the texts, in any order, each as a text's own or nested in one. An own text may name no package, if another one does. A text that is
  * refused has WITC_BAD_TEXT, and the message names the text, the line and the column. The names are looked at first, then `own`, and then the texts. Without
  * own texts the code is WITC_BAD_COUNT.
  *

@@ -51,8 +51,8 @@ class Refusal(ValueError):
 
     code     the name of the refusal, one of CODES
     number   its number, as in witc.h
-    detail   of NO_READING one of CAUSES, of CLASH one of CLASHES, of BAD_TEXT and TWO_PACKAGES the number of the text, else a number, which is 0 if there is
-             nothing to say
+    detail   of NO_READING one of CAUSES, of CLASH one of CLASHES, of BAD_TEXT and TWO_PACKAGES the number of the text, else a number, which is 0 if there
+             is nothing to say
     offset   where in the bytes, or in the text, or None
     subject  the name that it is about, or None
     """
@@ -269,7 +269,7 @@ def module_strip(module: Buffer) -> bytes:
 
 
 def texts_package(texts: Sequence[Tuple[Name, Name]], own: Optional[int] = None) -> bytes:
-    """The package with which the first `own` WIT texts begin, or all of them if `own` is None. Each is a pair: the name by which messages call it, and the text.
+    """The package with which the first `own` WIT texts begin, or all of them if `own` is None. Each is a pair: its name in messages, and the text.
 
     The other texts are of packages that the own ones use. A text that is refused raises BAD_TEXT: `detail` is its number, from 0, and `offset` is in it.
     """
